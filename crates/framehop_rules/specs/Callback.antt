@@ -1,0 +1,23 @@
+-- The callback that reads the stack, as one partial map from addresses to words.
+use Rattle.std.specs.Prelude.{ℕ, ◌≡◌, ◌<◌, ◌^◌, List, [], ◌∷◌, Option, Some, None, Result, Ok, Err}
+
+-- The words of the stack: what stands at an address, None where it can't be read.
+abbrev pub Words : Type 0
+Words = ℕ → Option ℕ
+
+-- What a read answers by these words.
+abbrev pub answer_of : Option ℕ → Result ℕ (Unit {0})
+answer_of (Some word) = Ok word
+answer_of None = Err tt
+
+-- From the state `first`, reads at these addresses, one after the other, may leave `last`.
+abbrev pub Leads : {S : Type 0} → (S → ℕ → Result ℕ (Unit {0}) → S → Type 0) → S → List ℕ → S → Type 0
+Leads step first [] last = first ≡ last
+Leads {S} step first (at ∷ more) last =
+    (at < 2 ^ 64) × (r : Result ℕ (Unit {0})) × (mid : S) × step first at r mid × Leads step mid more last
+
+-- The callback in the state `first` answers by these words, now and after any reads.
+abbrev pub AnswersBy : {S : Type 0} → (S → ℕ → Result ℕ (Unit {0}) → S → Type 0) → S → Words → Type 0
+AnswersBy {S} step first words =
+    (reads : List ℕ) (last : S) → Leads step first reads last
+    → (at : ℕ) (r : Result ℕ (Unit {0})) (next : S) → at < 2 ^ 64 → step last at r next → r ≡ answer_of (words at)

@@ -1,0 +1,68 @@
+//! What the unwind rules of every architecture have.
+ghost use Rattle.std.specs.Prelude.{◌≡◌, ℕ, Bool, Option, IfErr, OnErr};
+ghost use Rattle.framehop_rules.specs.Callback.{Words, AnswersBy};
+ghost use Rattle.framehop_rules.specs.Outcome.{Outcome, Caller, answer_of_outcome, registers_after, outcome_of, word, IsOfRule};
+
+use crate::error::Error;
+use std::fmt::Debug;
+
+/// A step of a stack walk in a compact form, and its execution.
+pub trait UnwindRule: Copy + Debug {
+    /// The registers that a step of a walk carries.
+    type UnwindRegs;
+
+    ghost meaning: { Self → Bool → Self.UnwindRegs → Words → Outcome (Caller Self.UnwindRegs) };
+
+    ghost stub_rule: { Self };
+
+    ghost start_rule: { Self };
+
+    ghost fallback: { Self };
+
+    /// Makes the step from a frame with these registers: answers the return address and leaves the
+    /// caller's registers, or answers `None` at the end of the stack. `None` and an error leave the
+    /// registers as they were. `read_stack` reads a word of the stack at an address.
+    fn exec<F: FnMut(u64) -> Result<u64, ()>>(
+        self,
+        is_first_frame: bool,
+        regs: &mut Self::UnwindRegs,
+        read_stack: &mut F,
+    ) -> Result<Option<u64>, Error>
+        requires { F.IsAlwaysCallable read_stack.old }
+        ensures callable { F.IsAlwaysCallable read_stack.new }
+        ensures answer { (words : Words) → AnswersBy F.step read_stack.old words → result ≡ answer_of_outcome (meaning self is_first_frame regs.old words) }
+        ensures registers { (words : Words) → AnswersBy F.step read_stack.old words → regs.new ≡ registers_after regs.old (meaning self is_first_frame regs.old words) }
+        ensures still { (words : Words) → AnswersBy F.step read_stack.old words → AnswersBy F.step read_stack.new words }
+        ensures none_keeps { result ≡ Ok None → regs.new ≡ regs.old }
+        ensures error_keeps { OnErr result (regs.new ≡ regs.old) }
+        ensures refusals { IfErr result IsOfRule };
+
+    /// The rule inside a stub of a linker, where nothing is on the stack but the return address.
+    fn rule_for_stub_functions() -> Self
+        ensures { result ≡ stub_rule };
+
+    /// The rule at a function's first instruction.
+    fn rule_for_function_start() -> Self
+        ensures { result ≡ start_rule };
+
+    /// The rule where nothing else is known.
+    fn fallback_rule() -> Self
+        ensures { result ≡ fallback };
+}
+
+/// The word at an address; where it can't be read, the error says so.
+pub(crate) fn read_word<F: FnMut(u64) -> Result<u64, ()>>(
+    read_stack: &mut F,
+    at: u64,
+) -> Result<u64, Error>
+    requires { F.IsAlwaysCallable read_stack.old }
+    ensures callable { F.IsAlwaysCallable read_stack.new }
+    ensures answer { (words : Words) → AnswersBy F.step read_stack.old words → outcome_of result ≡ word words at }
+    ensures still { (words : Words) → AnswersBy F.step read_stack.old words → AnswersBy F.step read_stack.new words }
+    ensures refusals { IfErr result IsOfRule }
+{
+    match read_stack(at) {
+        Ok(word) => Ok(word),
+        Err(()) => Err(Error::CouldNotReadStack(at)),
+    }
+}

@@ -1,0 +1,255 @@
+//! The unwind rules of x86_64, and their execution.
+ghost use Rattle.std.specs.Prelude.{◌≡◌, ◌*◌, ◌<◌, ◌^◌, pos, ◌*ℤ◌, ◌+ℤ◌, IfErr, OnErr};
+ghost use Rattle.framehop_rules.specs.Callback.{Words, AnswersBy};
+ghost use Rattle.framehop_rules.specs.Outcome.{outcome_of, outcome_or_end_of, address, IsOfRule};
+ghost use Rattle.framehop_rules.specs.RuleMeaning.{raised, by_frame_pointer, stored_bp, restored, moves, return_address, rule_meaning};
+ghost use Rattle.framehop_rules.specs.declared.x86_64.unwind_rule.UnwindRuleX86_64.TheVariants.{JustReturn, UseFramePointer};
+
+use crate::error::Error;
+use crate::unwind_rule::{UnwindRule, read_word};
+use crate::x86_64::unwindregs::UnwindRegsX86_64;
+
+/// One step of a stack walk on x86_64: how the caller's stack pointer and frame pointer follow from
+/// this frame's. The return address is always the word below the caller's stack pointer. Offsets
+/// are in words of 8 bytes.
+#[derive(Clone, Copy, Debug, PartialEq, Eq)]
+pub enum UnwindRuleX86_64 {
+    /// The walk ends here.
+    EndOfStack,
+    /// (sp, bp) = (sp + 8, bp)
+    JustReturn,
+    /// `JustReturn` in a first frame, else (sp, bp) = (bp + 16, word at bp)
+    JustReturnIfFirstFrameOtherwiseFp,
+    /// (sp, bp) = (sp + 8x, bp)
+    OffsetSp {
+        /// x
+        sp_offset_by_8: u16,
+    },
+    /// (sp, bp) = (sp + 8x, word at sp + 8y)
+    OffsetSpAndRestoreBp {
+        /// x
+        sp_offset_by_8: u16,
+        /// y
+        bp_storage_offset_from_sp_by_8: i16,
+    },
+    /// (sp, bp) = (bp + 16, word at bp); the walk ends where bp is 0.
+    UseFramePointer,
+}
+
+/// An offset in words of 8 bytes, in bytes.
+fn bytes_of(words: u16) -> u64
+    ensures { result ≡ 8 * words }
+{
+    u64::from(words) * 8
+}
+
+/// A signed offset in words of 8 bytes, in bytes.
+fn signed_bytes_of(words: i16) -> i64
+    ensures { result ≡ pos 8 *ℤ words }
+{
+    i64::from(words) * 8
+}
+
+/// The sum of an address and an offset in bytes.
+fn offset_address(base: u64, offset: i64) -> Result<u64, Error>
+    ensures sum { outcome_of result ≡ address (pos base +ℤ offset) }
+    ensures refusals { IfErr result IsOfRule }
+{
+    base.checked_add_signed(offset)
+        .ok_or(Error::IntegerOverflow)
+}
+
+/// The caller's stack pointer and frame pointer where the former is `bytes` higher and the latter
+/// is still in its register.
+fn raise_sp(regs: &UnwindRegsX86_64, bytes: u64) -> Result<(u64, u64), Error>
+    ensures moves { outcome_of result ≡ raised regs.now bytes }
+    ensures refusals { IfErr result IsOfRule }
+{
+    let new_sp = regs.sp().checked_add(bytes).ok_or(Error::IntegerOverflow)?;
+    Ok((new_sp, regs.bp()))
+}
+
+/// The caller's stack pointer and frame pointer in code with frame pointers, where RBP points at
+/// the caller's RBP and the return address stands above that.
+fn follow_frame_pointer<F: FnMut(u64) -> Result<u64, ()>>(
+    regs: &UnwindRegsX86_64,
+    read_stack: &mut F,
+) -> Result<(u64, u64), Error>
+    requires { F.IsAlwaysCallable read_stack.old }
+    ensures callable { F.IsAlwaysCallable read_stack.new }
+    ensures moves { (words : Words) → AnswersBy F.step read_stack.old words → outcome_of result ≡ by_frame_pointer regs.now words }
+    ensures still { (words : Words) → AnswersBy F.step read_stack.old words → AnswersBy F.step read_stack.new words }
+    ensures refusals { IfErr result IsOfRule }
+{
+    let bp = regs.bp();
+    let new_sp = bp.checked_add(16).ok_or(Error::IntegerOverflow)?;
+    if new_sp <= regs.sp() {
+        return Err(Error::FramepointerUnwindingMovedBackwards);
+    }
+    let new_bp = read_word(read_stack, bp)?;
+    Ok((new_sp, new_bp))
+}
+
+/// The caller's frame pointer, stored at an address.
+///
+/// In a first frame an epilogue may have popped it already, while the unwind information still
+/// names its place. That place is then below the stack pointer, where a recorded stack has no
+/// bytes, and the register holds the caller's value.
+fn read_stored_bp<F: FnMut(u64) -> Result<u64, ()>>(
+    is_first_frame: bool,
+    regs: &UnwindRegsX86_64,
+    read_stack: &mut F,
+    at: u64,
+) -> Result<u64, Error>
+    requires { F.IsAlwaysCallable read_stack.old }
+    ensures callable { F.IsAlwaysCallable read_stack.new }
+    ensures bp { (words : Words) → AnswersBy F.step read_stack.old words → outcome_of result ≡ stored_bp is_first_frame regs.now words at }
+    ensures still { (words : Words) → AnswersBy F.step read_stack.old words → AnswersBy F.step read_stack.new words }
+    ensures refusals { IfErr result IsOfRule }
+{
+    match read_word(read_stack, at) {
+        Ok(bp) => Ok(bp),
+        Err(error) => {
+            if is_first_frame && at < regs.sp() {
+                Ok(regs.bp())
+            } else {
+                Err(error)
+            }
+        }
+    }
+}
+
+/// The caller's stack pointer, `bytes` higher, and its frame pointer, stored at `bp_offset` from
+/// this frame's stack pointer.
+fn raise_sp_and_restore_bp<F: FnMut(u64) -> Result<u64, ()>>(
+    is_first_frame: bool,
+    regs: &UnwindRegsX86_64,
+    read_stack: &mut F,
+    bytes: u64,
+    bp_offset: i64,
+) -> Result<(u64, u64), Error>
+    requires { F.IsAlwaysCallable read_stack.old }
+    ensures callable { F.IsAlwaysCallable read_stack.new }
+    ensures moves { (words : Words) → AnswersBy F.step read_stack.old words → outcome_of result ≡ restored is_first_frame regs.now words bytes bp_offset }
+    ensures still { (words : Words) → AnswersBy F.step read_stack.old words → AnswersBy F.step read_stack.new words }
+    ensures refusals { IfErr result IsOfRule }
+{
+    let (new_sp, _) = raise_sp(regs, bytes)?;
+    let bp_location = offset_address(regs.sp(), bp_offset)?;
+    let new_bp = read_stored_bp(is_first_frame, regs, read_stack, bp_location)?;
+    Ok((new_sp, new_bp))
+}
+
+/// The return address where the caller's stack pointer is `new_sp`; `None` where it is 0.
+fn read_return_address<F: FnMut(u64) -> Result<u64, ()>>(
+    regs: &UnwindRegsX86_64,
+    new_sp: u64,
+    read_stack: &mut F,
+) -> Result<Option<u64>, Error>
+    requires { F.IsAlwaysCallable read_stack.old }
+    ensures callable { F.IsAlwaysCallable read_stack.new }
+    ensures address { (words : Words) → AnswersBy F.step read_stack.old words → outcome_or_end_of result ≡ return_address regs.now words new_sp }
+    ensures still { (words : Words) → AnswersBy F.step read_stack.old words → AnswersBy F.step read_stack.new words }
+    ensures refusals { IfErr result IsOfRule }
+{
+    let location = new_sp.checked_sub(8).ok_or(Error::IntegerOverflow)?;
+    let return_address = read_word(read_stack, location)?;
+    if return_address == 0 {
+        return Ok(None);
+    }
+    if new_sp == regs.sp() && return_address == regs.ip() {
+        return Err(Error::DidNotAdvance);
+    }
+    Ok(Some(return_address))
+}
+
+impl UnwindRuleX86_64 {
+    /// What the rule makes of the stack pointer and the frame pointer; `None` at the stack's end.
+    fn moved<F: FnMut(u64) -> Result<u64, ()>>(
+        self,
+        is_first_frame: bool,
+        regs: &UnwindRegsX86_64,
+        read_stack: &mut F,
+    ) -> Result<Option<(u64, u64)>, Error>
+        requires { F.IsAlwaysCallable read_stack.old }
+        ensures callable { F.IsAlwaysCallable read_stack.new }
+        ensures moves { (words : Words) → AnswersBy F.step read_stack.old words → outcome_or_end_of result ≡ moves self is_first_frame regs.now words }
+        ensures still { (words : Words) → AnswersBy F.step read_stack.old words → AnswersBy F.step read_stack.new words }
+        ensures refusals { IfErr result IsOfRule }
+    {
+        match self {
+            UnwindRuleX86_64::EndOfStack => Ok(None),
+            UnwindRuleX86_64::JustReturn => raise_sp(regs, 8).map(Some),
+            UnwindRuleX86_64::JustReturnIfFirstFrameOtherwiseFp => {
+                if is_first_frame {
+                    raise_sp(regs, 8).map(Some)
+                } else {
+                    follow_frame_pointer(regs, read_stack).map(Some)
+                }
+            }
+            UnwindRuleX86_64::OffsetSp { sp_offset_by_8 } => {
+                raise_sp(regs, bytes_of(sp_offset_by_8)).map(Some)
+            }
+            UnwindRuleX86_64::OffsetSpAndRestoreBp {
+                sp_offset_by_8,
+                bp_storage_offset_from_sp_by_8,
+            } => raise_sp_and_restore_bp(
+                is_first_frame,
+                regs,
+                read_stack,
+                bytes_of(sp_offset_by_8),
+                signed_bytes_of(bp_storage_offset_from_sp_by_8),
+            )
+            .map(Some),
+            UnwindRuleX86_64::UseFramePointer => {
+                if regs.bp() == 0 {
+                    Ok(None)
+                } else {
+                    follow_frame_pointer(regs, read_stack).map(Some)
+                }
+            }
+        }
+    }
+}
+
+impl UnwindRule for UnwindRuleX86_64 {
+    type UnwindRegs = UnwindRegsX86_64;
+
+    ghost meaning = { rule_meaning };
+
+    ghost stub_rule = { JustReturn };
+
+    ghost start_rule = { JustReturn };
+
+    ghost fallback = { UseFramePointer };
+
+    fn exec<F: FnMut(u64) -> Result<u64, ()>>(
+        self,
+        is_first_frame: bool,
+        regs: &mut UnwindRegsX86_64,
+        read_stack: &mut F,
+    ) -> Result<Option<u64>, Error> {
+        let Some((new_sp, new_bp)) = self.moved(is_first_frame, regs, read_stack)? else {
+            return Ok(None);
+        };
+        let Some(return_address) = read_return_address(regs, new_sp, read_stack)? else {
+            return Ok(None);
+        };
+        regs.set_ip(return_address);
+        regs.set_sp(new_sp);
+        regs.set_bp(new_bp);
+        Ok(Some(return_address))
+    }
+
+    fn rule_for_stub_functions() -> Self {
+        UnwindRuleX86_64::JustReturn
+    }
+
+    fn rule_for_function_start() -> Self {
+        UnwindRuleX86_64::JustReturn
+    }
+
+    fn fallback_rule() -> Self {
+        UnwindRuleX86_64::UseFramePointer
+    }
+}
