@@ -1,0 +1,2 @@
+mod WorkedRows
+mod WorkedSteps

@@ -1,0 +1,304 @@
+-- The commands of a document, each decoded from its JSON value. Each field is checked by itself, and of the
+-- faults of a command the one of the first class counts.
+use Rattle.std.specs.Prelude.{◌≡◌, ◌≢◌, ◌<◌, ℕ, ◌+◌, ◌-◌, ◌*◌, ◌^◌, ◌==◌, ◌&&◌, Bool, true, false, not, nat_lt, if◌then◌else◌, List, [], ◌∷◌, ◌++◌, length, codes, bytes_eq, slice_set, Option, Some, None, option_and_then, Ok, Err}
+use Rattle.std.specs.List.{list_any, slice_index_or}
+use Rattle.std.specs.Option.{ok_or, option_to_list}
+use Rattle.serde_json.specs.Data.{Data, Items, no_items, item}
+use Rattle.serde_json.specs.Find.{get, as_str, as_array}
+use Rattle.serde_json.specs.Written.{has_float}
+use Rattle.unwind_commands.specs.declared.document.fault.FaultName.TheVariants.{FloatNumber, BadCommand, BadNumber, UnknownNumber}
+use Rattle.unwind_commands.specs.declared.document.command.FrameKind.{FrameKind}
+use Rattle.unwind_commands.specs.declared.document.command.FrameKind.TheVariants.{Ip, Ra}
+use Rattle.unwind_commands.specs.declared.document.command.AddressRange.{AddressRange}
+use Rattle.unwind_commands.specs.declared.document.step.Registers.{Registers}
+use Rattle.unwind_commands.specs.declared.document.command.Verb.{Verb}
+use Rattle.unwind_commands.specs.declared.document.command.Verb.TheVariants as verb
+use Rattle.unwind_commands.specs.Faults.{Checked, ◌⊛◌, both, ◌>>=◌}
+use Rattle.unwind_commands.specs.Json.{text_in, address_in, number_in, bytes_in, field, optional_value, list_of, has_only}
+
+-- ---- what is decoded
+
+-- a section of a module: its name, where it lies as the file states it, and its bytes
+pub record SectionData : Type 0 where
+  pub name : List ℕ
+  pub range : Option AddressRange
+  pub bytes : Option (List ℕ)
+
+-- a module for an unwinder: where it lies in memory, its base there and in the file, and its sections
+pub record Loading : Type 0 where
+  pub unwinder : ℕ
+  pub name : List ℕ
+  pub start : ℕ
+  pub end : ℕ
+  pub base : ℕ
+  pub base_svma : ℕ
+  pub sections : List SectionData
+
+-- the words of a stack, eight bytes each, from an address on
+pub record Words : Type 0 where
+  pub start : ℕ
+  pub words : List ℕ
+
+-- one step of an unwinder with a cache: the frame's address and how it is meant, the registers and the stack
+pub record Stepping : Type 0 where
+  pub unwinder : ℕ
+  pub cache : ℕ
+  pub kind : FrameKind
+  pub address : ℕ
+  pub ip : ℕ
+  pub sp : ℕ
+  pub bp : ℕ
+  pub stack : Words
+
+-- a command
+pub data Task : Type 0 where
+  make_unwinder : Task
+  make_cache : Task
+  load_module : Loading → Task
+  take_step : Stepping → Task
+
+-- what earlier commands made: for each unwinder whether it has a module, and how many caches
+pub record Made : Type 0 where
+  pub loaded : List Bool
+  pub caches : ℕ
+
+-- ---- steps
+
+-- a number that is below a count
+abbrev pub number_below : ℕ → ℕ → Checked ℕ
+number_below count n = if nat_lt n count then Ok n else Err UnknownNumber
+
+-- the number in a field, of something that an earlier command made
+abbrev pub made_number : ℕ → List ℕ → Data → Checked ℕ
+made_number count name d = field number_in name d >>= number_below count
+
+-- how the address of a frame is meant
+abbrev pub kind_of : List ℕ → Option FrameKind
+kind_of text = if bytes_eq text (codes "ip") then Some Ip else if bytes_eq text (codes "ra") then Some Ra else None
+
+-- a value that has to say so
+abbrev pub kind_in : Data → Checked FrameKind
+kind_in d = do
+  text ← text_in d
+  ok_or (kind_of text) BadCommand
+
+-- the address of a frame: no return address is 0
+abbrev pub frame_at : FrameKind → ℕ → Checked (FrameKind × ℕ)
+frame_at Ip address = Ok (Ip, address)
+frame_at Ra address = if address == 0 then Err BadNumber else Ok (Ra, address)
+
+-- the fields of a step that name its frame
+abbrev pub frame_in : Data → Checked (FrameKind × ℕ)
+frame_in d = do
+  frame ← both (field kind_in (codes "kind") d) (field address_in (codes "address") d)
+  frame_at frame.0 frame.1
+
+-- the fields of the registers
+abbrev pub register_names : List (List ℕ)
+register_names = codes "ip" ∷ codes "sp" ∷ codes "bp" ∷ []
+
+-- a value that has to be the registers
+abbrev pub registers_in : Data → Checked Registers
+registers_in d =
+    if has_only register_names d
+    then Ok (λ ip sp bp. record { ip = ip; sp = sp; bp = bp })
+    ⊛ field address_in (codes "ip") d ⊛ field address_in (codes "sp") d ⊛ field address_in (codes "bp") d
+    else Err BadCommand
+
+-- the words of a stack, of which the last has an address below 2^64 too
+abbrev pub stack_at : ℕ → List ℕ → Checked Words
+stack_at start words =
+    if nat_lt (start + 8 * (length words - 1)) (2 ^ 64) then Ok (record { start = start; words = words }) else Err BadNumber
+
+-- a value that has to be a list of words
+abbrev pub words_in : Data → Checked (List ℕ)
+words_in d = ok_or (as_array d) BadCommand >>= list_of address_in
+
+-- the fields of a stack
+abbrev pub stack_names : List (List ℕ)
+stack_names = codes "start" ∷ codes "words" ∷ []
+
+-- a value that has to be a stack
+abbrev pub stack_in : Data → Checked Words
+stack_in d =
+    if has_only stack_names d
+    then (both (field address_in (codes "start") d) (field words_in (codes "words") d) >>= λ stack. stack_at stack.0 stack.1)
+    else Err BadCommand
+
+-- the fields of a step
+abbrev pub step_names : List (List ℕ)
+step_names = codes "do" ∷ codes "unwinder" ∷ codes "cache" ∷ codes "kind" ∷ codes "address" ∷ codes "regs" ∷ codes "stack" ∷ []
+
+-- the step of these parts
+abbrev pub stepping_of : ℕ → ℕ → FrameKind × ℕ → Registers → Words → Stepping
+stepping_of unwinder cache frame regs stack = record {
+  unwinder = unwinder;
+  cache = cache;
+  kind = frame.0;
+  address = frame.1;
+  ip = regs.ip;
+  sp = regs.sp;
+  bp = regs.bp;
+  stack = stack;
+}
+
+-- a value that has to be a step
+abbrev pub step_in : Made → Data → Checked Stepping
+step_in made d =
+    if has_only step_names d
+    then Ok stepping_of ⊛ made_number (length made.loaded) (codes "unwinder") d ⊛ made_number made.caches (codes "cache") d
+    ⊛ frame_in d ⊛ field registers_in (codes "regs") d ⊛ field stack_in (codes "stack") d
+    else Err BadCommand
+
+-- ---- loads
+
+-- the section names that are not taken yet
+abbrev pub refused_names : List (List ℕ)
+refused_names =
+    codes ".debug_frame" ∷ codes ".eh_frame_hdr" ∷ codes "__eh_frame_hdr" ∷ codes "__unwind_info" ∷ codes "__stubs"
+    ∷ codes "__stub_helper" ∷ codes ".pdata" ∷ codes ".rdata" ∷ codes ".xdata" ∷ []
+
+-- the text is one of them
+unfoldable pub is_refused : List ℕ → Bool
+is_refused text = list_any (λ name. bytes_eq name text) refused_names
+
+-- a value that has to be the name of a section
+abbrev pub section_name_in : Data → Checked (List ℕ)
+section_name_in d = do
+  text ← text_in d
+  if is_refused text then Err BadCommand else Ok text
+
+-- where a section lies: a start with its end, or neither
+abbrev pub range_between : Option Data → Option Data → Checked (Option AddressRange)
+range_between None None = Ok None
+range_between (Some start) None = Err BadCommand
+range_between None (Some end) = Err BadCommand
+range_between (Some start) (Some end) =
+    Ok (λ start end. Some (record { start = start; end = end })) ⊛ address_in start ⊛ address_in end
+
+-- the fields of a section
+abbrev pub section_names : List (List ℕ)
+section_names = codes "name" ∷ codes "start" ∷ codes "end" ∷ codes "data" ∷ []
+
+-- a value that has to be a section
+abbrev pub section_in : Data → Checked SectionData
+section_in d =
+    if has_only section_names d
+    then Ok (λ name range bytes. record { name = name; range = range; bytes = bytes })
+    ⊛ field section_name_in (codes "name") d ⊛ range_between (get (codes "start") d) (get (codes "end") d)
+    ⊛ optional_value bytes_in (get (codes "data") d)
+    else Err BadCommand
+
+-- the names of the sections that have one
+abbrev pub names_of : Items → List (List ℕ)
+names_of no_items = []
+names_of (item d ds) = option_to_list (option_and_then as_str (get (codes "name") d)) ++ names_of ds
+
+-- no text stands twice, or among those that stand before
+abbrev pub are_new : List (List ℕ) → List (List ℕ) → Bool
+are_new before [] = true
+are_new before (text ∷ texts) = not (list_any (λ other. bytes_eq other text) before) && are_new (text ∷ before) texts
+
+-- no text stands twice
+abbrev pub are_distinct : List (List ℕ) → Bool
+are_distinct texts = are_new [] texts
+
+-- sections, of which no two have one name
+abbrev pub sections_at : Items → Checked (List SectionData)
+sections_at ds = if are_distinct (names_of ds) then list_of section_in ds else Err BadCommand
+
+-- a value that has to be the list of the sections
+abbrev pub sections_in : Data → Checked (List SectionData)
+sections_in d = ok_or (as_array d) BadCommand >>= sections_at
+
+-- the number of an unwinder that has no module: a second one is not taken yet
+abbrev pub free_unwinder : List Bool → ℕ → Checked ℕ
+free_unwinder loaded n = if slice_index_or loaded n false then Err BadCommand else number_below (length loaded) n
+
+-- the unwinder that a module is for
+abbrev pub unwinder_to_load : List Bool → Data → Checked ℕ
+unwinder_to_load loaded d = field number_in (codes "unwinder") d >>= free_unwinder loaded
+
+-- the fields of a load
+abbrev pub load_names : List (List ℕ)
+load_names =
+    codes "do" ∷ codes "unwinder" ∷ codes "name" ∷ codes "start" ∷ codes "end" ∷ codes "base" ∷ codes "base_svma"
+    ∷ codes "sections" ∷ []
+
+-- the load of these parts
+abbrev pub loading_of : ℕ → List ℕ → ℕ → ℕ → ℕ → ℕ → List SectionData → Loading
+loading_of unwinder name start end base base_svma sections = record {
+  unwinder = unwinder;
+  name = name;
+  start = start;
+  end = end;
+  base = base;
+  base_svma = base_svma;
+  sections = sections;
+}
+
+-- a value that has to be a load
+abbrev pub load_in : Made → Data → Checked Loading
+load_in made d =
+    if has_only load_names d
+    then Ok loading_of ⊛ unwinder_to_load made.loaded d ⊛ field text_in (codes "name") d
+    ⊛ field address_in (codes "start") d ⊛ field address_in (codes "end") d
+    ⊛ field address_in (codes "base") d ⊛ field address_in (codes "base_svma") d
+    ⊛ field sections_in (codes "sections") d
+    else Err BadCommand
+
+-- ---- commands
+
+-- what a command does
+abbrev pub verb_of : List ℕ → Option Verb
+verb_of text =
+    if bytes_eq text (codes "unwinder") then Some verb.Unwinder
+    else if bytes_eq text (codes "cache") then Some verb.Cache
+    else if bytes_eq text (codes "load") then Some verb.Load
+    else if bytes_eq text (codes "step") then Some verb.Step
+    else None
+
+-- a value that has to say so
+abbrev pub verb_in : Data → Checked Verb
+verb_in d = do
+  text ← text_in d
+  ok_or (verb_of text) BadCommand
+
+-- the command that does it
+abbrev pub task_in : Made → Data → Verb → Checked Task
+task_in made d verb.Unwinder = if has_only (codes "do" ∷ []) d then Ok make_unwinder else Err BadCommand
+task_in made d verb.Cache = if has_only (codes "do" ∷ []) d then Ok make_cache else Err BadCommand
+task_in made d verb.Load = Ok load_module ⊛ load_in made d
+task_in made d verb.Step = Ok take_step ⊛ step_in made d
+
+-- one command, after what earlier ones made
+abbrev pub command_in : Made → Data → Checked Task
+command_in made d = if has_float d then Err FloatNumber else field verb_in (codes "do") d >>= task_in made d
+
+-- what is made once a command is done
+abbrev pub made_after : Made → Task → Made
+made_after made make_unwinder = record { loaded = made.loaded ++ false ∷ []; caches = made.caches }
+made_after made make_cache = record { loaded = made.loaded; caches = made.caches + 1 }
+made_after made (load_module load) = record { loaded = slice_set made.loaded load.unwinder true; caches = made.caches }
+made_after made (take_step step) = made
+
+-- ---- what holds of decoded commands
+
+-- what a step names was made before it, no return address is 0, and the last word of the stack has an address
+pub record IsSoundStep (made : Made) (step : Stepping) : Type 0 where
+  pub unwinder : step.unwinder < length made.loaded
+  pub cache : step.cache < made.caches
+  pub address : step.kind ≡ Ra → step.address ≢ 0
+  pub words : step.stack.start + 8 * (length step.stack.words - 1) < 2 ^ 64
+
+-- what a command names was made before it
+abbrev pub IsSound : Made → Task → Type 0
+IsSound made make_unwinder = Unit {0}
+IsSound made make_cache = Unit {0}
+IsSound made (load_module load) = load.unwinder < length made.loaded
+IsSound made (take_step step) = IsSoundStep made step
+
+-- each of the commands, one after the other
+abbrev pub AreSound : Made → List Task → Type 0
+AreSound made [] = Unit {0}
+AreSound made (task ∷ tasks) = IsSound made task × AreSound (made_after made task) tasks

@@ -1,0 +1,95 @@
+-- What the bytes of a document say: its commands, or its first fault.
+use Rattle.std.specs.Prelude.{ℕ, ◌+◌, ◌&&◌, ◌||◌, Bool, false, nat_lt, nat_le, is_some, if◌then◌else◌, List, [], ◌∷◌, length, codes, bytes_eq, Option, None, option_and_then, ok_or, Result, Ok, Err}
+use Rattle.std.specs.Option.{option_map_or}
+use Rattle.std.specs.Str.{is_utf8}
+use Rattle.serde_json.specs.Data.{Data, null, boolean, number, string, array, object, Items, no_items, item, Members, no_members, member}
+use Rattle.serde_json.specs.Find.{get, as_str, as_array, is_float}
+use Rattle.serde_json.specs.Events.{items_len}
+use Rattle.serde_json.specs.Read.{read}
+use Rattle.serde_json.specs.Written.{has_float}
+use Rattle.unwind_commands.specs.declared.document.fault.FaultName.TheVariants.{TooLong, NotJson, FloatNumber, BadDocument}
+use Rattle.unwind_commands.specs.declared.document.fault.Fault.{Fault}
+use Rattle.unwind_commands.specs.Faults.{Checked, ◌>>=◌}
+use Rattle.unwind_commands.specs.Json.{has_only}
+use Rattle.unwind_commands.specs.Commands.{Task, Made, command_in, made_after}
+
+-- the value that bytes spell, which are UTF-8 (RFC 3629) and JSON (RFC 8259) as the reader takes it
+unfoldable pub json_of : List ℕ → Option Data
+json_of bytes = if is_utf8 bytes then read bytes else None
+
+-- a member has a float that is the document's: the elements of the list of commands are units of their own
+abbrev pub has_own_float : List ℕ → Data → Bool
+has_own_float name d = if bytes_eq name (codes "commands") && is_some (as_array d) then false else has_float d
+
+-- some member has one
+abbrev pub have_own_float : Members → Bool
+have_own_float no_members = false
+have_own_float (member name d ms) = has_own_float name d || have_own_float ms
+
+-- a number outside the commands is a float
+unfoldable pub has_float_outside : Data → Bool
+has_float_outside null = false
+has_float_outside (boolean b) = false
+has_float_outside (number n) = is_float n
+has_float_outside (string s) = false
+has_float_outside (array ds) = has_float (array ds)
+has_float_outside (object ms) = have_own_float ms
+
+-- a field is this text
+abbrev pub is_text : List ℕ → List ℕ → Data → Bool
+is_text text name d = option_map_or (λ s. bytes_eq s text) (option_and_then as_str (get name d)) false
+
+-- the fields of a document
+abbrev pub document_names : List (List ℕ)
+document_names = codes "arch" ∷ codes "policy" ∷ codes "commands" ∷ []
+
+-- the fields beside the commands are as they have to be
+unfoldable pub is_supported : Data → Bool
+is_supported d =
+    has_only document_names d && is_text (codes "x86_64") (codes "arch") d
+    && (is_text (codes "may") (codes "policy") d || is_text (codes "must") (codes "policy") d)
+
+-- the most commands that a document may have
+abbrev pub max_commands : ℕ
+max_commands = 65536
+
+-- the commands, if they are not more
+unfoldable pub few_commands : Items → Checked Items
+few_commands ds = if nat_le (items_len ds) max_commands then Ok ds else Err BadDocument
+
+-- the commands that are still to be decoded, of a document whose own fields are as they have to be
+unfoldable pub document_in : Data → Checked Items
+document_in d =
+    if has_float_outside d then Err FloatNumber
+    else if is_supported d then ok_or (option_and_then as_array (get (codes "commands") d)) BadDocument >>= few_commands
+    else Err BadDocument
+
+-- a fault is that of the unit of this number
+abbrev pub in_unit : {A : Type 0} → ℕ → Checked A → Result A Fault
+in_unit n (Ok x) = Ok x
+in_unit n (Err name) = Err (record { name = name; number = n })
+
+-- a command before the others
+abbrev pub with_task : Task → Result (List Task) Fault → Result (List Task) Fault
+with_task task (Ok tasks) = Ok (task ∷ tasks)
+with_task task (Err fault) = Err fault
+
+-- the commands from the one of this number on, or their first fault
+abbrev pub commands_from : ℕ → Made → Items → Result (List Task) Fault
+commands_from n made no_items = Ok []
+commands_from n made (item d ds) =
+    in_unit n (command_in made d) >>= λ task. with_task task (commands_from (n + 1) (made_after made task) ds)
+
+-- before the first command
+abbrev pub nothing_made : Made
+nothing_made = record { loaded = []; caches = 0 }
+
+-- the most bytes that a document may have
+abbrev pub max_len : ℕ
+max_len = 16777216
+
+-- the commands of a document's bytes, or their first fault: unit 0 is the document itself, the commands count from 1
+abbrev pub decoded : List ℕ → Result (List Task) Fault
+decoded bytes =
+    if nat_lt max_len (length bytes) then Err (record { name = TooLong; number = 0 })
+    else in_unit 0 (ok_or (json_of bytes) NotJson >>= document_in) >>= commands_from 1 nothing_made

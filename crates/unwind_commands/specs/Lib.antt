@@ -1,0 +1,17 @@
+pub mod Place
+pub mod Leb128
+pub mod Entries
+pub mod Instructions
+pub mod Rows
+pub mod ScaledRow
+pub mod RowAnswer
+pub mod EntryFor
+pub mod ModuleFound
+pub mod Attempt
+pub mod Judge
+pub mod Faults
+pub mod Json
+pub mod Commands
+pub mod Document
+pub mod Lines
+pub mod Text

@@ -1,0 +1,47 @@
+-- The lines that a run writes, as bytes of ASCII text.
+use Rattle.std.specs.Prelude.{ℕ, List, [], ◌∷◌, ◌++◌, codes, Option, Some, None, Result, Ok, Err, false}
+use Rattle.std.specs.Fmt.{digits}
+use Rattle.framehop_rules.specs.Outcome.{Outcome, Caller, answer_of_outcome, registers_after}
+use Rattle.framehop_rules.specs.Registers.{ip_of, sp_of, bp_of}
+use Rattle.framehop_rules.specs.declared.error.Error.{Error}
+use Rattle.framehop_rules.specs.declared.error.Error.TheVariants.{CouldNotReadStack, FramepointerUnwindingMovedBackwards, DidNotAdvance, IntegerOverflow, ReturnAddressIsNull, OutOfMemory}
+use Rattle.framehop_rules.specs.declared.x86_64.unwindregs.UnwindRegsX86_64.{UnwindRegsX86_64}
+
+-- 0x and the hexadecimal digits of a number, in lower case and without leading zeros
+abbrev pub hexadecimal : ℕ → List ℕ
+hexadecimal number = codes "0x" ++ digits 16 false number
+
+-- the name of an error, and the address that couldn't be read
+abbrev pub error_name : Error → List ℕ
+error_name (CouldNotReadStack address) = codes "CouldNotReadStack(" ++ hexadecimal address ++ codes ")"
+error_name FramepointerUnwindingMovedBackwards = codes "FramepointerUnwindingMovedBackwards"
+error_name DidNotAdvance = codes "DidNotAdvance"
+error_name IntegerOverflow = codes "IntegerOverflow"
+error_name ReturnAddressIsNull = codes "ReturnAddressIsNull"
+error_name OutOfMemory = codes "OutOfMemory"
+
+-- the return address that a step gives, that there is none, or why it failed
+abbrev pub answer_text : Result (Option ℕ) Error → List ℕ
+answer_text (Ok (Some address)) = codes "some " ++ hexadecimal address
+answer_text (Ok None) = codes "none"
+answer_text (Err error) = codes "error " ++ error_name error
+
+-- the registers of x86_64 that a step leaves, each after its name
+abbrev pub registers_text : UnwindRegsX86_64 → List ℕ
+registers_text registers = codes " ip " ++ hexadecimal (ip_of registers) ++ codes " sp " ++ hexadecimal (sp_of registers) ++ codes " bp " ++ hexadecimal (bp_of registers)
+
+-- what a step answers, and the registers that it leaves
+abbrev pub step_text : Result (Option ℕ) Error → UnwindRegsX86_64 → List ℕ
+step_text answer registers = answer_text answer ++ registers_text registers
+
+-- a text and the line feed that ends its line
+abbrev pub line : List ℕ → List ℕ
+line text = text ++ 10 ∷ []
+
+-- the line of a step
+abbrev pub step_line : Result (Option ℕ) Error → UnwindRegsX86_64 → List ℕ
+step_line answer registers = line (step_text answer registers)
+
+-- the line of a step that comes to an outcome, from registers
+abbrev pub outcome_line : UnwindRegsX86_64 → Outcome (Caller UnwindRegsX86_64) → List ℕ
+outcome_line registers outcome = step_line (answer_of_outcome outcome) (registers_after registers outcome)

@@ -1,0 +1,97 @@
+-- What a run writes for a document: a line for each step, or one for the first fault.
+use Rattle.std.specs.Prelude.{ℕ, ◌+◌, ◌-◌, ◌/◌, ◌%◌, List, [], ◌∷◌, ◌++◌, Bool, true, false, ◌&&◌, codes, bytes_eq, slice_get, slice_set, replicate, Option, Some, None, Result, Ok, Err, ◌==◌, nat_le, if◌then◌else◌}
+use Rattle.std.specs.List.{slice_index_or}
+use Rattle.framehop_rules.specs.Callback.{Words}
+use Rattle.framehop_rules.specs.Registers.{new_registers}
+use Rattle.framehop_rules.specs.declared.x86_64.unwindregs.UnwindRegsX86_64.{UnwindRegsX86_64}
+use Rattle.unwind_commands.specs.declared.document.command.FrameKind.{FrameKind}
+use Rattle.unwind_commands.specs.declared.document.command.FrameKind.TheVariants.{Ip, Ra}
+use Rattle.unwind_commands.specs.declared.document.fault.Fault.{Fault}
+use Rattle.unwind_commands.specs.declared.status.Outcome.{Outcome}
+use Rattle.unwind_commands.specs.declared.status.Outcome.TheVariants.{Completed, Faulted}
+use Rattle.unwind_commands.specs.Commands as commands
+use Rattle.unwind_commands.specs.Commands.{SectionData, Loading, Stepping, Task, make_unwinder, make_cache, load_module, take_step}
+use Rattle.unwind_commands.specs.Document.{decoded}
+use Rattle.unwind_commands.specs.Faults.{fault_line}
+use Rattle.unwind_commands.specs.Judge.{judge_at}
+use Rattle.unwind_commands.specs.Lines.{line, outcome_line}
+use Rattle.unwind_commands.specs.ModuleFound.{Loaded, inserted}
+
+-- the first that there is
+abbrev pub first_of : {A : Type 0} → Option A → Option A → Option A
+first_of (Some x) other = Some x
+first_of None other = other
+
+-- the data of the first section that has this name and data
+abbrev pub data_named : List ℕ → List SectionData → Option (List ℕ)
+data_named name [] = None
+data_named name (section ∷ sections) = first_of (if bytes_eq section.name name then section.bytes else None) (data_named name sections)
+
+-- the bytes of call frame information, by its name in ELF or in Mach-O
+abbrev pub eh_frame_of : List SectionData → Option (List ℕ)
+eh_frame_of sections = first_of (data_named (codes ".eh_frame") sections) (data_named (codes "__eh_frame") sections)
+
+-- the module that a command loads
+abbrev pub loaded_by : Loading → Loaded
+loaded_by l = record { start = l.start; end = l.end; base = l.base; base_svma = l.base_svma; eh_frame = eh_frame_of l.sections }
+
+-- the words of a stack: one at each eighth byte from its start, as far as they go
+abbrev pub words_of : commands.Words → Words
+words_of stack at =
+    if nat_le stack.start at && ((at - stack.start) % 8 == 0) then slice_get stack.words ((at - stack.start) / 8) else None
+
+-- the modules of an unwinder, by its number
+abbrev pub modules_at : List (List Loaded) → ℕ → List Loaded
+modules_at unwinders n = slice_index_or unwinders n []
+
+-- the modules of each unwinder after a command
+abbrev pub unwinders_after : List (List Loaded) → Task → List (List Loaded)
+unwinders_after unwinders make_unwinder = unwinders ++ [] ∷ []
+unwinders_after unwinders (load_module l) = slice_set unwinders l.unwinder (inserted (loaded_by l) (modules_at unwinders l.unwinder))
+unwinders_after unwinders _ = unwinders
+
+-- an instruction pointer is the address of a first frame
+abbrev pub is_first_kind : FrameKind → Bool
+is_first_kind Ip = true
+is_first_kind Ra = false
+
+-- a first frame is looked up by its address, a later one by the byte before its return address
+abbrev pub lookup_address_at : FrameKind → ℕ → ℕ
+lookup_address_at Ip address = address
+lookup_address_at Ra address = address - 1
+
+-- the registers that a step begins with
+abbrev pub registers_of : Stepping → UnwindRegsX86_64
+registers_of s = new_registers s.ip s.sp s.bp
+
+-- the line of a step over modules
+abbrev pub line_at : List Loaded → Stepping → List ℕ
+line_at modules s = outcome_line (registers_of s) (judge_at modules (is_first_kind s.kind) (lookup_address_at s.kind s.address) (registers_of s) (words_of s.stack))
+
+-- what a command writes
+abbrev pub line_of : List (List Loaded) → Task → List ℕ
+line_of unwinders (take_step s) = line_at (modules_at unwinders s.unwinder) s
+line_of unwinders _ = []
+
+-- what commands write, one after another
+abbrev pub lines_of : List (List Loaded) → List Task → List ℕ
+lines_of unwinders [] = []
+lines_of unwinders (task ∷ tasks) = line_of unwinders task ++ lines_of (unwinders_after unwinders task) tasks
+
+-- what is written for the commands of a document, or for its fault
+abbrev pub answer_to : Result (List Task) Fault → List ℕ
+answer_to (Ok tasks) = lines_of [] tasks
+answer_to (Err fault) = line (fault_line fault)
+
+-- what is written for the bytes of a document
+abbrev pub text_of : List ℕ → List ℕ
+text_of bytes = answer_to (decoded bytes)
+
+-- how the run ends
+abbrev pub ending_of : Result (List Task) Fault → Outcome
+ending_of (Ok tasks) = Completed
+ending_of (Err fault) = Faulted
+
+-- how the run of a document ends
+abbrev pub outcome_of : List ℕ → Outcome
+outcome_of bytes = ending_of (decoded bytes)
