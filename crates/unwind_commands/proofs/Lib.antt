@@ -1,2 +1,26 @@
-mod WorkedRows
-mod WorkedSteps
+pub mod Behind
+pub mod DecodedNumbers
+pub mod DocumentLemmas
+pub mod EntryIndex
+pub mod EntryLists
+pub mod Fronts
+pub mod InstructionLists
+pub mod LebLemmas
+pub mod LebReads
+pub mod Lengths
+pub mod LoadedModules
+pub mod ModulesInOrder
+pub mod Places
+pub mod RowsFor
+pub mod RowsOfRules
+pub mod RuleLists
+pub mod Runs
+pub mod SignedReads
+pub mod Steps
+pub mod TableSteps
+pub mod WholeDocument
+pub mod WorkedRows
+pub mod WorkedSteps
+pub mod SectionData
+pub mod StillCallback
+pub mod StepLines

@@ -1,10 +1,7 @@
 -- The definitions on a section that pushes and sets a frame pointer.
-use Rattle.std.proofs.Common.{◌≡◌, ℕ, List, [], ◌∷◌, refl, ap, map, Option, Some, None, Result, Ok, Err}
-use Rattle.std.specs.Prelude.{pos, negsuc}
-use Rattle.unwind_commands.specs.Entries
-use Rattle.unwind_commands.specs.Entries.{Fde, entries_of, Listing}
-use Rattle.unwind_commands.specs.Rows.{rows_of, row_for, Row, cfa_of, rules_written, last_rule}
-use Rattle.unwind_commands.specs.declared.call_frames.rows.CfaRule.TheVariants.{RegisterAndOffset}
+use Rattle.std.proofs.Common.{◌≡◌, ℕ, List, [], ◌∷◌, refl}
+use Rattle.unwind_commands.specs.Entries.{Fde, entries_of}
+use Rattle.unwind_commands.specs.Rows.{rows_of, Row}
 
 section : List ℕ
 section = 16 ∷ 0 ∷ 0 ∷ 0 ∷ 0 ∷ 0 ∷ 0 ∷ 0 ∷ 1 ∷ 0 ∷ 1 ∷ 120 ∷ 16 ∷ 12 ∷ 7 ∷ 8 ∷ 144 ∷ 1 ∷ 0 ∷ 0 ∷ 28 ∷ 0 ∷ 0 ∷ 0 ∷ 24 ∷ 0 ∷ 0 ∷ 0 ∷ 0 ∷ 16 ∷ 0 ∷ 0 ∷ 0 ∷ 0 ∷ 0 ∷ 0 ∷ 16 ∷ 0 ∷ 0 ∷ 0 ∷ 0 ∷ 0 ∷ 0 ∷ 0 ∷ 65 ∷ 14 ∷ 16 ∷ 134 ∷ 2 ∷ 67 ∷ 13 ∷ 6 ∷ 0 ∷ 0 ∷ 0 ∷ 0 ∷ []

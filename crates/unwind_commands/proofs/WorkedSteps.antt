@@ -1,8 +1,8 @@
 -- The definition of a step, computed on worked examples: one section, words of a stack and registers.
-use Rattle.std.proofs.Common.{◌≡◌, ℕ, ◌/◌, ◌%◌, List, [], ◌∷◌, refl, Option, Some, None, Bool, true, false, replicate, ◌++◌}
-use Rattle.std.specs.Prelude.{slice_get, ◌==◌, if◌then◌else◌, nat_lt}
+use Rattle.std.proofs.Common.{◌≡◌, ℕ, ◌/◌, ◌%◌, List, [], ◌∷◌, refl, Some, None}
+use Rattle.std.specs.Prelude.{slice_get, ◌==◌, if◌then◌else◌}
 use Rattle.framehop_rules.specs.Callback.{Words}
-use Rattle.framehop_rules.specs.Outcome.{Outcome, Ends, Refuses, Gives, Caller}
+use Rattle.framehop_rules.specs.Outcome.{Outcome, Refuses, Gives, Caller}
 use Rattle.framehop_rules.specs.Registers.{ip_of, sp_of, bp_of}
 use Rattle.framehop_rules.specs.declared.error.Error.TheVariants.{IntegerOverflow}
 use Rattle.framehop_rules.specs.declared.code_address.FrameAddress.TheVariants.{InstructionPointer}

@@ -5,7 +5,7 @@ use Rattle.std.specs.Int.{w8, w32, w64}
 use Rattle.dwarf_constants.specs.declared.common.Register.{Register}
 use Rattle.dwarf_constants.specs.declared.error.Error.{Error}
 use Rattle.dwarf_constants.specs.declared.error.Error.TheVariants.{UnknownReservedLength, UnknownVersion, UnknownAugmentation, OffsetOutOfBounds, NotCieId, NotCiePointer, NoEntryAtGivenOffset}
-use Rattle.unwind_commands.specs.Place.{Stretch, whole, behind, ◌>>=◌, number_at, split_at, given}
+use Rattle.unwind_commands.specs.Place.{Stretch, whole, ◌>>=◌, number_at, split_at, given}
 use Rattle.unwind_commands.specs.Leb128.{unsigned_at, signed_at}
 
 -- a common information entry, and where it stands

@@ -2,7 +2,7 @@
 use Rattle.std.specs.Prelude.{◌≡◌, ℕ, ◌-◌, List, Bool, true, false, Option, Some, None}
 use Rattle.framehop_rules.specs.Callback.{Words}
 use Rattle.framehop_rules.specs.FrameAddress.{lookup_address_of}
-use Rattle.framehop_rules.specs.Outcome.{Outcome, Ends, Refuses, Gives, Caller}
+use Rattle.framehop_rules.specs.Outcome.{Outcome, Gives, Caller}
 use Rattle.framehop_rules.specs.RuleMeaning.{rule_meaning}
 use Rattle.framehop_rules.specs.declared.code_address.FrameAddress.{FrameAddress}
 use Rattle.framehop_rules.specs.declared.code_address.FrameAddress.TheVariants.{InstructionPointer, ReturnAddress}

@@ -1,12 +1,12 @@
 -- The rows of a frame description entry (DWARF 5, 6.4.1 to 6.4.3).
-use Rattle.std.specs.Prelude.{ℕ, ◌+◌, ◌*◌, ◌%◌, ◌^◌, ℤ, ◌*ℤ◌, pos, List, [], ◌∷◌, ◌++◌, Bool, ◌&&◌, Option, Some, None, is_some, unwrap_or, Result, Ok, Err, ◌==◌, nat_lt, nat_le, if◌then◌else◌}
+use Rattle.std.specs.Prelude.{ℕ, ◌+◌, ◌*◌, ◌%◌, ◌^◌, ℤ, pos, List, [], ◌∷◌, ◌++◌, Bool, ◌&&◌, Option, Some, None, is_some, unwrap_or, Result, Ok, Err, ◌==◌, nat_lt, nat_le, if◌then◌else◌}
 use Rattle.std.specs.List.{filter_map, find}
 use Rattle.std.specs.Int.{w64, cast_signed, cast_unsigned}
 use Rattle.dwarf_constants.specs.declared.common.Register.{Register}
 use Rattle.dwarf_constants.specs.declared.error.Error.{Error}
 use Rattle.dwarf_constants.specs.declared.error.Error.TheVariants.{AddressOverflow, TooManyRegisterRules, NoUnwindInfoForAddress}
 use Rattle.unwind_commands.specs.declared.call_frames.instructions.CallFrameInstruction.{CallFrameInstruction}
-use Rattle.unwind_commands.specs.declared.call_frames.instructions.CallFrameInstruction.TheVariants.{AdvanceLoc, DefCfa, DefCfaRegister, DefCfaOffset, Offset, Nop}
+use Rattle.unwind_commands.specs.declared.call_frames.instructions.CallFrameInstruction.TheVariants.{AdvanceLoc, DefCfa, DefCfaRegister, DefCfaOffset, Offset}
 use Rattle.unwind_commands.specs.declared.call_frames.rows.CfaRule.{CfaRule}
 use Rattle.unwind_commands.specs.declared.call_frames.rows.CfaRule.TheVariants.{RegisterAndOffset}
 use Rattle.unwind_commands.specs.declared.call_frames.rows.RegisterRule.{RegisterRule}

@@ -1,5 +1,5 @@
 -- The rows of x86_64 that an unwind rule says exactly. Registers are numbered as in the System V ABI for AMD64, figure 3.36.
-use Rattle.std.specs.Prelude.{ℕ, ◌-◌, ◌%◌, ◌^◌, ℤ, pos, negsuc, ◌+ℤ◌, Bool, ◌&&◌, Option, Some, None, option_and_then, option_map, ◌==◌, nat_lt, nat_le, unsigned_abs, int_div, if◌then◌else◌}
+use Rattle.std.specs.Prelude.{ℕ, ◌%◌, ◌^◌, ℤ, pos, negsuc, ◌+ℤ◌, Bool, ◌&&◌, Option, Some, None, option_and_then, option_map, ◌==◌, nat_lt, unsigned_abs, int_div, if◌then◌else◌}
 use Rattle.std.specs.Ordering.{int_eq}
 use Rattle.dwarf_constants.specs.declared.common.Register.{Register}
 use Rattle.framehop_rules.specs.declared.x86_64.unwind_rule.UnwindRuleX86_64.{UnwindRuleX86_64}

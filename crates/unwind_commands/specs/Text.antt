@@ -1,6 +1,7 @@
 -- What a run writes for a document: a line for each step, or one for the first fault.
-use Rattle.std.specs.Prelude.{ℕ, ◌+◌, ◌-◌, ◌/◌, ◌%◌, List, [], ◌∷◌, ◌++◌, Bool, true, false, ◌&&◌, codes, bytes_eq, slice_get, slice_set, replicate, Option, Some, None, Result, Ok, Err, ◌==◌, nat_le, if◌then◌else◌}
+use Rattle.std.specs.Prelude.{ℕ, ◌-◌, ◌/◌, ◌%◌, List, [], ◌∷◌, ◌++◌, Bool, true, false, ◌&&◌, codes, bytes_eq, slice_get, slice_set, Option, None, Result, Ok, Err, ◌==◌, nat_le, if◌then◌else◌}
 use Rattle.std.specs.List.{slice_index_or}
+use Rattle.std.specs.Option.{option_or}
 use Rattle.framehop_rules.specs.Callback.{Words}
 use Rattle.framehop_rules.specs.Registers.{new_registers}
 use Rattle.framehop_rules.specs.declared.x86_64.unwindregs.UnwindRegsX86_64.{UnwindRegsX86_64}
@@ -17,19 +18,14 @@ use Rattle.unwind_commands.specs.Judge.{judge_at}
 use Rattle.unwind_commands.specs.Lines.{line, outcome_line}
 use Rattle.unwind_commands.specs.ModuleFound.{Loaded, inserted}
 
--- the first that there is
-abbrev pub first_of : {A : Type 0} → Option A → Option A → Option A
-first_of (Some x) other = Some x
-first_of None other = other
-
 -- the data of the first section that has this name and data
 abbrev pub data_named : List ℕ → List SectionData → Option (List ℕ)
 data_named name [] = None
-data_named name (section ∷ sections) = first_of (if bytes_eq section.name name then section.bytes else None) (data_named name sections)
+data_named name (section ∷ sections) = option_or (if bytes_eq section.name name then section.bytes else None) (data_named name sections)
 
 -- the bytes of call frame information, by its name in ELF or in Mach-O
 abbrev pub eh_frame_of : List SectionData → Option (List ℕ)
-eh_frame_of sections = first_of (data_named (codes ".eh_frame") sections) (data_named (codes "__eh_frame") sections)
+eh_frame_of sections = option_or (data_named (codes ".eh_frame") sections) (data_named (codes "__eh_frame") sections)
 
 -- the module that a command loads
 abbrev pub loaded_by : Loading → Loaded

@@ -1,3 +1,14 @@
 //! Call frame information in `.eh_frame` (DWARF 5, 6.4; LSB 5.0, 10.6).
+
+mod entries;
 mod instructions;
 mod rows;
+mod table;
+
+pub use entries::{
+    CfiEntriesIter, CieOrFde, CommonInformationEntry, EhFrame, FrameDescriptionEntry,
+    PartialFrameDescriptionEntry,
+};
+pub use instructions::{CallFrameInstruction, CallFrameInstructionIter};
+pub use rows::{CfaRule, RegisterRule, UnwindTableRow};
+pub use table::{UnwindContext, UnwindTable};

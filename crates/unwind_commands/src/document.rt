@@ -1,4 +1,182 @@
 //! The document: JSON text in, typed commands or the first fault out.
+ghost use Rattle.std.specs.Prelude.{◌≡◌, IfErr, IfOk};
+ghost use Rattle.serde_json.specs.View.{items_view, members_view, view};
+ghost use Rattle.unwind_commands.specs.Document.{have_own_float, commands_from, decoded, document_in, has_float_outside, few_commands, is_supported, json_of, nothing_made, has_own_float, is_text};
+ghost use Rattle.unwind_commands.specs.Commands.{AreSound};
+ghost use Rattle.unwind_commands.specs.CommandViews.{OnFault, result_map, tasks_of};
+
+mod address;
 mod command;
 mod fault;
+mod field;
+mod float;
+mod load;
+mod made;
 mod step;
+#[cfg(test)]
+mod tests;
+
+use command::command_in;
+pub use command::{AddressRange, Command, FrameKind, Load, Section, Stack, Step};
+use fault::Checked;
+pub use fault::{DecodeError, Fault, FaultName};
+use field::has_only;
+use float::has_float;
+use made::{Made, add};
+use serde_json::{Category, Map, Value};
+use std::alloc::Global;
+
+/// The most bytes that a document may have.
+pub const MAX_LEN: usize = 16_777_216;
+/// The most commands that a document may have.
+pub const MAX_COMMANDS: usize = 65_536;
+
+/// Whether a member has a float that is the document's: the elements of a list
+/// of commands are units of their own.
+fn has_own_float(name: &str, member: &Value) -> bool
+    ensures { result ≡ has_own_float name.now (view member.now) }
+{
+    if name == "commands" && member.is_array() {
+        return false;
+    }
+    has_float(member)
+}
+
+/// Whether a number of the document's own is a float.
+fn have_own_float(members: &Map<String, Value>) -> bool
+    ensures { result ≡ have_own_float (members_view members.now.entries) }
+{
+    for (name, member) in members.iter() {
+        if has_own_float(name.as_str(), member) {
+            return true;
+        }
+    }
+    false
+}
+
+/// Whether a number outside the commands is a float.
+#[tactic(auto, unfolding(crate::specs::Document::has_float_outside))]
+fn has_float_outside(document: &Value) -> bool
+    ensures { result ≡ has_float_outside (view document.now) }
+{
+    match document.as_object() {
+        Some(members) => have_own_float(members),
+        None => has_float(document),
+    }
+}
+
+/// Whether a field is this text.
+fn is_text(object: &Value, name: &str, text: &str) -> bool
+    ensures { result ≡ is_text text.now name.now (view object.now) }
+{
+    match object.get(name) {
+        Some(value) => match value.as_str() {
+            Some(found) => found == text,
+            None => false,
+        },
+        None => false,
+    }
+}
+
+/// Whether the fields beside the commands are as they have to be.
+#[tactic(auto, unfolding(crate::specs::Document::is_supported))]
+fn is_supported(document: &Value) -> bool
+    ensures { result ≡ is_supported (view document.now) }
+{
+    has_only(document, &["arch", "policy", "commands"])
+        && is_text(document, "arch", "x86_64")
+        && (is_text(document, "policy", "may") || is_text(document, "policy", "must"))
+}
+
+/// The commands, of which there may not be too many.
+fn few_commands(items: &Vec<Value>) -> Checked<&Vec<Value>>
+    ensures { result_map (λ v. items_view v.now.items) result
+        ≡ few_commands (items_view items.now.items) }
+{
+    if items.len() > MAX_COMMANDS {
+        return Err(FaultName::BadDocument);
+    }
+    Ok(items)
+}
+
+/// The commands of a document whose own fields are as they have to be.
+#[tactic(auto, unfolding(crate::specs::Document::document_in))]
+fn document_in(document: &Value) -> Checked<&Vec<Value>>
+    ensures { result_map (λ v. items_view v.now.items) result ≡ document_in (view document.now) }
+{
+    if has_float_outside(document) {
+        return Err(FaultName::FloatNumber);
+    }
+    if !is_supported(document) {
+        return Err(FaultName::BadDocument);
+    }
+    match document.get("commands") {
+        Some(value) => match value.as_array() {
+            Some(items) => few_commands(items),
+            None => Err(FaultName::BadDocument),
+        },
+        None => Err(FaultName::BadDocument),
+    }
+}
+
+/// The commands, or the first fault among them.
+fn commands(alloc: Global, items: &Vec<Value>) -> Result<Vec<Command>, DecodeError>
+    ensures ok { IfOk result (λ v. commands_from 1 nothing_made (items_view items.now.items)
+        ≡ Ok (tasks_of v.items)) }
+    ensures err { IfErr result (λ e. OnFault e
+        (λ f. commands_from 1 nothing_made (items_view items.now.items) ≡ Err f)) }
+{
+    let mut made = Made {
+        loaded: Vec::new(alloc),
+        caches: 0,
+    };
+    let mut commands = Vec::new(alloc);
+    let mut number: u64 = 1;
+    for item in items {
+        match command_in(alloc, item, &made)? {
+            Ok(command) => {
+                add(&mut made, &command)?;
+                commands.push(command)?;
+            }
+            Err(name) => return Err(DecodeError::Fault(Fault { name, number })),
+        }
+        number += 1;
+    }
+    Ok(commands)
+}
+
+/// The JSON value that bytes spell.
+fn read(alloc: Global, text: &[u8]) -> Result<Value, DecodeError>
+    ensures ok { IfOk result (λ d. json_of text.now ≡ Some (view d)) }
+    ensures err { IfErr result (λ e. OnFault e (λ f. (json_of text.now ≡ None)
+        × (f ≡ record { name = FaultName.NotJson; number = 0 }))) }
+{
+    match Value::from_slice(alloc, text) {
+        Ok(document) => Ok(document),
+        Err(e) => match e.classify() {
+            Category::Memory => Err(DecodeError::OutOfMemory),
+            _ => Err(DecodeError::Fault(Fault::of_document(FaultName::NotJson))),
+        },
+    }
+}
+
+/// The commands of a document's bytes, or their first fault: a text of JSON (RFC 8259)
+/// with the fields `arch`, `policy` and `commands`. Unit 0 is the document itself, and the
+/// commands count from 1. The units are checked one after the other, and of the faults of a
+/// unit the one of the first class counts. Memory may run out on any document.
+pub fn decode(alloc: Global, text: &[u8]) -> Result<Vec<Command>, DecodeError>
+    ensures ok { IfOk result (λ v. decoded text.now ≡ Ok (tasks_of v.items)) }
+    ensures err { IfErr result (λ e. OnFault e (λ f. decoded text.now ≡ Err f)) }
+
+    // What a command names was made by those before it.
+    ensures sound { IfOk result (λ v. AreSound nothing_made (tasks_of v.items)) }
+{
+    if text.len() > MAX_LEN {
+        return Err(DecodeError::Fault(Fault::of_document(FaultName::TooLong)));
+    }
+    let document = read(alloc, text)?;
+    match document_in(&document) {
+        Ok(items) => commands(alloc, items),
+        Err(name) => Err(DecodeError::Fault(Fault::of_document(name))),
+    }
+}

@@ -1,3 +1,12 @@
 //! The unwinder: modules, and a step of a stack walk over them.
+
 mod dwarf;
 mod error;
+mod unwinder;
+mod x86_64;
+
+pub use unwinder::Module;
+pub use x86_64::{CacheX86_64, UnwinderX86_64};
+
+#[cfg(test)]
+mod tests;

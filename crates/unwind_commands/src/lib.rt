@@ -1,7 +1,20 @@
-//! The definitions of the unwinder: the types of its layers, and in `specs/` what its steps and its text are.
+//! The program's run over one document, and, as private modules, the layers that it stands on: reading of sections,
+//! call frame information, and the unwinder.
 #![tactic(auto)]
 
 mod call_frames;
 mod document;
 mod framehop;
+mod lines;
+mod program;
+mod read_core;
+mod session;
 mod status;
+mod stream;
+#[cfg(test)]
+mod tests;
+mod transfer;
+
+pub use program::run;
+pub use status::{Outcome, RunError};
+pub use stream::{Sink, Source, StreamError, Streamed};

@@ -1,4 +1,49 @@
 //! How a run of the program ends.
+ghost use Rattle.std.specs.Prelude.{◌≡◌};
+ghost use Rattle.unwind_commands.specs.declared.status.RunError.TheVariants.{OutOfMemory};
+
+use std::alloc::{AllocError, AllocFailed};
+use std::error::Error;
+use std::fmt;
+
+/// Why a run of the program stopped before its end.
+#[derive(Clone, Copy, Debug, PartialEq, Eq, Hash)]
+pub enum RunError {
+    /// The document couldn't be read to its end.
+    Read,
+    /// An answer couldn't be written.
+    Write,
+    /// Memory ran out.
+    OutOfMemory,
+}
+
+impl fmt::Display for RunError {
+    fn fmt<W: fmt::Write>(&self, f: &mut fmt::Formatter<W>) -> fmt::Result {
+        f.write_str(match self {
+            RunError::Read => "the document couldn't be read",
+            RunError::Write => "an answer couldn't be written",
+            RunError::OutOfMemory => "out of memory",
+        })
+    }
+}
+
+impl Error for RunError {}
+
+impl From<AllocError> for RunError {
+    ghost from_gives = { λ _ error. error ≡ OutOfMemory };
+
+    fn from(_error: AllocError) -> RunError {
+        RunError::OutOfMemory
+    }
+}
+
+impl<T: Drop> From<AllocFailed<T>> for RunError {
+    ghost from_gives = { λ _ error. error ≡ OutOfMemory };
+
+    fn from(_error: AllocFailed<T>) -> RunError {
+        RunError::OutOfMemory
+    }
+}
 
 /// How a run that wrote all its answers ended.
 #[derive(Clone, Copy, Debug, PartialEq, Eq, Hash)]
@@ -7,4 +52,32 @@ pub enum Outcome {
     Completed,
     /// The document has a fault, and nothing was run.
     Faulted,
+}
+
+impl Outcome {
+    /// The exit status of the process.
+    pub fn status(self) -> u8
+        ensures completed { self ≡ Outcome.Completed → result ≡ 0 }
+        ensures faulted { self ≡ Outcome.Faulted → result ≡ 2 }
+    {
+        match self {
+            Outcome::Completed => 0,
+            Outcome::Faulted => 2,
+        }
+    }
+}
+
+#[cfg(test)]
+mod tests {
+    use super::*;
+    use std::test::Fail;
+
+    #[test]
+    fn prints_why_a_run_stopped(rt: HostRuntime) -> Result<(), Fail> {
+        let text = RunError::Read.to_string(rt.alloc())?;
+        assert_eq!(rt; text.as_str(), "the document couldn't be read");
+        assert_eq!(rt; Outcome::Completed.status(), 0);
+        assert_eq!(rt; Outcome::Faulted.status(), 2);
+        Ok(())
+    }
 }

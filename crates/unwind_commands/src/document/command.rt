@@ -1,4 +1,18 @@
 //! The commands of a document.
+ghost use Rattle.std.specs.Prelude.{◌≡◌, IfOk, codes};
+ghost use Rattle.serde_json.specs.View.{view};
+ghost use Rattle.unwind_commands.specs.Commands.{command_in, task_in, verb_in};
+ghost use Rattle.unwind_commands.specs.Json.{field};
+ghost use Rattle.unwind_commands.specs.CommandViews.{made_view, result_map, task_of};
+
+use super::fault::{Checked, FaultName};
+use super::field::{has_only, text_field};
+use super::float::has_float;
+use super::load::load_in;
+use super::made::Made;
+use super::step::step_in;
+use serde_json::Value;
+use std::alloc::{AllocError, Global};
 
 /// A command of a document.
 #[derive(Debug, Drop)]
@@ -85,4 +99,69 @@ pub(crate) enum Verb {
     Cache,
     Load,
     Step,
+}
+
+/// What a command does.
+fn verb_field(object: &Value) -> Checked<Verb>
+    ensures { result ≡ field verb_in (codes "do") (view object.now) }
+{
+    match text_field(object, "do")? {
+        "unwinder" => Ok(Verb::Unwinder),
+        "cache" => Ok(Verb::Cache),
+        "load" => Ok(Verb::Load),
+        "step" => Ok(Verb::Step),
+        _ => Err(FaultName::BadCommand),
+    }
+}
+
+/// The command that does it.
+fn task_in(
+    alloc: Global,
+    object: &Value,
+    verb: Verb,
+    made: &Made,
+) -> Result<Checked<Command>, AllocError>
+    ensures { IfOk result (λ r. result_map task_of r
+        ≡ task_in (made_view made.now) (view object.now) verb) }
+{
+    match verb {
+        Verb::Unwinder => {
+            if !has_only(object, &["do"]) {
+                return Ok(Err(FaultName::BadCommand));
+            }
+            Ok(Ok(Command::Unwinder))
+        }
+        Verb::Cache => {
+            if !has_only(object, &["do"]) {
+                return Ok(Err(FaultName::BadCommand));
+            }
+            Ok(Ok(Command::Cache))
+        }
+        Verb::Load => match load_in(alloc, object, made)? {
+            Ok(load) => Ok(Ok(Command::Load(load))),
+            Err(name) => Ok(Err(name)),
+        },
+        Verb::Step => match step_in(alloc, object, made)? {
+            Ok(step) => Ok(Ok(Command::Step(step))),
+            Err(name) => Ok(Err(name)),
+        },
+    }
+}
+
+/// One command, after what earlier ones made.
+pub(crate) fn command_in(
+    alloc: Global,
+    value: &Value,
+    made: &Made,
+) -> Result<Checked<Command>, AllocError>
+    ensures { IfOk result (λ r. result_map task_of r
+        ≡ command_in (made_view made.now) (view value.now)) }
+{
+    if has_float(value) {
+        return Ok(Err(FaultName::FloatNumber));
+    }
+    match verb_field(value) {
+        Ok(verb) => task_in(alloc, value, verb, made),
+        Err(name) => Ok(Err(name)),
+    }
 }

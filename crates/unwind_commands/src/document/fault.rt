@@ -1,4 +1,9 @@
 //! The faults of a document.
+ghost use Rattle.std.specs.Prelude.{◌≡◌};
+ghost use Rattle.unwind_commands.specs.Faults.{class, first_fault, both, fault_name, with_fault};
+
+use std::alloc::{AllocError, AllocFailed};
+use std::fmt;
 
 /// What is wrong with a document or a command. In one unit, the document's own
 /// fields or one command, the fault counts whose name stands first here.
@@ -22,6 +27,51 @@ pub enum FaultName {
     UnknownNumber,
 }
 
+impl FaultName {
+    /// The name as a fault's line prints it.
+    pub fn name(&self) -> &'static str
+        ensures { result.now ≡ fault_name self.now }
+    {
+        match self {
+            FaultName::TooLong => "TooLong",
+            FaultName::NotJson => "NotJson",
+            FaultName::FloatNumber => "FloatNumber",
+            FaultName::BadDocument => "BadDocument",
+            FaultName::BadCommand => "BadCommand",
+            FaultName::BadNumber => "BadNumber",
+            FaultName::BadHex => "BadHex",
+            FaultName::UnknownNumber => "UnknownNumber",
+        }
+    }
+
+    /// The place of the fault in the order of the classes.
+    fn class(self) -> u8
+        ensures { result ≡ class self }
+    {
+        match self {
+            FaultName::TooLong => 0,
+            FaultName::NotJson => 1,
+            FaultName::FloatNumber => 2,
+            FaultName::BadDocument => 3,
+            FaultName::BadCommand => 4,
+            FaultName::BadNumber => 5,
+            FaultName::BadHex => 6,
+            FaultName::UnknownNumber => 7,
+        }
+    }
+
+    /// Of two faults of one unit the one that counts.
+    pub(crate) fn first_fault(self, other: FaultName) -> FaultName
+        ensures { result ≡ first_fault self other }
+    {
+        if self.class() <= other.class() {
+            self
+        } else {
+            other
+        }
+    }
+}
+
 /// The fault of a document: its name, and the unit that has it, 0 for the
 /// document itself and from 1 on for the commands.
 #[derive(Clone, Copy, Debug, PartialEq, Eq)]
@@ -32,6 +82,27 @@ pub struct Fault {
     pub number: u64,
 }
 
+impl Fault {
+    /// A fault of the document itself.
+    pub(crate) fn of_document(name: FaultName) -> Fault
+        ensures { result ≡ record { name = name; number = 0 } }
+    {
+        Fault { name, number: 0 }
+    }
+}
+
+impl fmt::Display for Fault {
+    ghost use Rattle.unwind_commands.specs.Faults.{fault_line};
+    ghost use Rattle.std.specs.Prelude.{Some};
+
+    ghost output = { λ f. Some (fault_line f) };
+
+    /// The line of a fault, without its line feed.
+    fn fmt<W: fmt::Write>(&self, f: &mut fmt::Formatter<W>) -> fmt::Result {
+        write!(f, "fault {} {}", self.name.name(), self.number)
+    }
+}
+
 /// Why a document is not decoded.
 #[derive(Debug, Drop)]
 pub enum DecodeError {
@@ -39,4 +110,49 @@ pub enum DecodeError {
     Fault(Fault),
     /// Memory ran out.
     OutOfMemory,
+}
+
+impl From<AllocError> for DecodeError {
+    ghost use Rattle.unwind_commands.specs.declared.document.fault.DecodeError.TheVariants.{OutOfMemory};
+
+    ghost from_gives = { λ _ e. e ≡ OutOfMemory };
+
+    fn from(_e: AllocError) -> DecodeError {
+        DecodeError::OutOfMemory
+    }
+}
+
+impl<T: Drop> From<AllocFailed<T>> for DecodeError {
+    ghost use Rattle.unwind_commands.specs.declared.document.fault.DecodeError.TheVariants.{OutOfMemory};
+
+    ghost from_gives = { λ _ e. e ≡ OutOfMemory };
+
+    fn from(_e: AllocFailed<T>) -> DecodeError {
+        DecodeError::OutOfMemory
+    }
+}
+
+/// A value, or the fault that stands in its place.
+pub(crate) type Checked<T> = Result<T, FaultName>;
+
+/// Both values, or the fault that counts.
+pub(crate) fn both<A: Drop, B: Drop>(a: Checked<A>, b: Checked<B>) -> Checked<(A, B)>
+    ensures { result ≡ both a b }
+{
+    match (a, b) {
+        (Ok(a), Ok(b)) => Ok((a, b)),
+        (Ok(_), Err(name)) => Err(name),
+        (Err(name), Ok(_)) => Err(name),
+        (Err(first), Err(second)) => Err(first.first_fault(second)),
+    }
+}
+
+/// The fault that counts, of those so far and one more.
+pub(crate) fn with_fault(fault: Option<FaultName>, name: FaultName) -> Option<FaultName>
+    ensures { result ≡ with_fault fault name }
+{
+    match fault {
+        None => Some(name),
+        Some(first) => Some(first.first_fault(name)),
+    }
 }

@@ -1,4 +1,16 @@
-//! Steps of a document.
+//! Steps.
+ghost use Rattle.std.specs.Prelude.{◌≡◌, codes, IfOk};
+ghost use Rattle.serde_json.specs.View.{view, items_view};
+ghost use Rattle.unwind_commands.specs.Json.{address_in, list_of, field};
+ghost use Rattle.unwind_commands.specs.Commands.{made_number, kind_in, frame_in, registers_in, words_in, stack_at, stack_in, step_in};
+ghost use Rattle.unwind_commands.specs.CommandViews.{result_map, words_view, step_view, made_view};
+
+use super::command::{FrameKind, Stack, Step};
+use super::fault::{Checked, FaultName, both, with_fault};
+use super::field::{address_field, address_in, has_only, needed, number_field, text_field};
+use super::made::Made;
+use serde_json::Value;
+use std::alloc::{AllocError, Global};
 
 /// The registers of a step.
 #[derive(Clone, Copy, Debug, PartialEq, Eq)]
@@ -6,4 +18,175 @@ pub(crate) struct Registers {
     pub(crate) ip: u64,
     pub(crate) sp: u64,
     pub(crate) bp: u64,
+}
+
+/// The number in a field, of something that earlier commands made.
+fn made_number(object: &Value, name: &str, count: usize) -> Checked<usize>
+    ensures { result ≡ made_number count name.now (view object.now) }
+{
+    let number = number_field(object, name)?;
+    if number < count as u64 {
+        Ok(number as usize)
+    } else {
+        Err(FaultName::UnknownNumber)
+    }
+}
+
+/// How the address of the frame is meant.
+fn kind_field(object: &Value) -> Checked<FrameKind>
+    ensures { result ≡ field kind_in (codes "kind") (view object.now) }
+{
+    match text_field(object, "kind")? {
+        "ip" => Ok(FrameKind::Ip),
+        "ra" => Ok(FrameKind::Ra),
+        _ => Err(FaultName::BadCommand),
+    }
+}
+
+/// The address of the frame and how it is meant: no return address is 0.
+fn frame_in(object: &Value) -> Checked<(FrameKind, u64)>
+    ensures { result ≡ frame_in (view object.now) }
+{
+    let (kind, address) = both(kind_field(object), address_field(object, "address"))?;
+    if kind == FrameKind::Ra && address == 0 {
+        return Err(FaultName::BadNumber);
+    }
+    Ok((kind, address))
+}
+
+/// A value that has to be the registers.
+fn registers_in(value: &Value) -> Checked<Registers>
+    ensures { result ≡ registers_in (view value.now) }
+{
+    if !has_only(value, &["ip", "sp", "bp"]) {
+        return Err(FaultName::BadCommand);
+    }
+    let ip = address_field(value, "ip");
+    let sp = address_field(value, "sp");
+    let bp = address_field(value, "bp");
+    match both(both(ip, sp), bp) {
+        Ok(((ip, sp), bp)) => Ok(Registers { ip, sp, bp }),
+        Err(name) => Err(name),
+    }
+}
+
+/// The registers of a step.
+fn registers_field(object: &Value) -> Checked<Registers>
+    ensures { result ≡ field registers_in (codes "regs") (view object.now) }
+{
+    registers_in(needed(object, "regs")?)
+}
+
+/// A value that has to be a list of words.
+fn words_in(alloc: Global, value: &Value) -> Result<Checked<Vec<u64>>, AllocError>
+    ensures { IfOk result (λ r. result_map (λ v. v.items) r ≡ words_in (view value.now)) }
+{
+    match value.as_array() {
+        Some(items) => addresses(alloc, items),
+        None => Ok(Err(FaultName::BadCommand)),
+    }
+}
+
+/// Each element has to be the text of an address.
+fn addresses(alloc: Global, items: &Vec<Value>) -> Result<Checked<Vec<u64>>, AllocError>
+    ensures { IfOk result (λ r. result_map (λ v. v.items) r
+        ≡ list_of address_in (items_view items.now.items)) }
+{
+    let mut addresses = Vec::new(alloc);
+    let mut fault = None;
+    for item in items {
+        match address_in(item) {
+            Ok(address) => addresses.push(address)?,
+            Err(name) => fault = with_fault(fault, name),
+        }
+    }
+    match fault {
+        None => Ok(Ok(addresses)),
+        Some(name) => Ok(Err(name)),
+    }
+}
+
+/// The words of a stack.
+fn words_field(alloc: Global, object: &Value) -> Result<Checked<Vec<u64>>, AllocError>
+    ensures { IfOk result (λ r. result_map (λ v. v.items) r
+        ≡ field words_in (codes "words") (view object.now)) }
+{
+    match needed(object, "words") {
+        Ok(value) => words_in(alloc, value),
+        Err(name) => Ok(Err(name)),
+    }
+}
+
+/// A value that has to be a stack.
+fn stack_in(alloc: Global, value: &Value) -> Result<Checked<Stack>, AllocError>
+    ensures { IfOk result (λ r. result_map words_view r ≡ stack_in (view value.now)) }
+{
+    if !has_only(value, &["start", "words"]) {
+        return Ok(Err(FaultName::BadCommand));
+    }
+    let words = words_field(alloc, value)?;
+    match both(address_field(value, "start"), words) {
+        Ok((start, words)) => Ok(stack_at(start, words)),
+        Err(name) => Ok(Err(name)),
+    }
+}
+
+/// The words at their addresses, of which the last has to be one too.
+fn stack_at(start: u64, words: Vec<u64>) -> Checked<Stack>
+    ensures { result_map words_view result ≡ stack_at start words.items }
+{
+    let above = 8 * (words.len() as u64).saturating_sub(1);
+    if above <= u64::MAX - start {
+        Ok(Stack { start, words })
+    } else {
+        Err(FaultName::BadNumber)
+    }
+}
+
+/// The stack of a step.
+fn stack_field(alloc: Global, object: &Value) -> Result<Checked<Stack>, AllocError>
+    ensures { IfOk result (λ r. result_map words_view r
+        ≡ field stack_in (codes "stack") (view object.now)) }
+{
+    match needed(object, "stack") {
+        Ok(value) => stack_in(alloc, value),
+        Err(name) => Ok(Err(name)),
+    }
+}
+
+/// A step of an unwinder with a cache that earlier commands made.
+pub(crate) fn step_in(
+    alloc: Global,
+    object: &Value,
+    made: &Made,
+) -> Result<Checked<Step>, AllocError>
+    ensures { IfOk result (λ r. result_map step_view r
+        ≡ step_in (made_view made.now) (view object.now)) }
+{
+    if !has_only(
+        object,
+        &[
+            "do", "unwinder", "cache", "kind", "address", "regs", "stack",
+        ],
+    ) {
+        return Ok(Err(FaultName::BadCommand));
+    }
+    let unwinder = made_number(object, "unwinder", made.loaded.len());
+    let cache = made_number(object, "cache", made.caches);
+    let frame = frame_in(object);
+    let registers = registers_field(object);
+    let stack = stack_field(alloc, object)?;
+    match both(both(both(both(unwinder, cache), frame), registers), stack) {
+        Ok(((((unwinder, cache), (kind, address)), registers), stack)) => Ok(Ok(Step {
+            unwinder,
+            cache,
+            kind,
+            address,
+            ip: registers.ip,
+            sp: registers.sp,
+            bp: registers.bp,
+            stack,
+        })),
+        Err(name) => Ok(Err(name)),
+    }
 }

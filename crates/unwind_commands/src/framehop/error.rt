@@ -12,3 +12,14 @@ pub(crate) enum UnwinderError {
     /// Each entry of the section starts above the address.
     DwarfCfiIndexCouldNotFindAddress,
 }
+
+impl From<DwarfUnwinderError> for UnwinderError {
+    ghost use Rattle.std.specs.Prelude.{◌≡◌};
+    ghost use Rattle.unwind_commands.specs.declared.framehop.error.UnwinderError.TheVariants.{Dwarf};
+
+    ghost from_gives = { λ error result. result ≡ Dwarf error };
+
+    fn from(error: DwarfUnwinderError) -> Self {
+        UnwinderError::Dwarf(error)
+    }
+}

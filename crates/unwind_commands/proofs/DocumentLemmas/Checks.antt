@@ -1,0 +1,87 @@
+-- Laws of checks: which fault counts, and checks of values that lie in memory.
+use Rattle.std.proofs.Common.{◌≡◌, List, [], ◌∷◌, ◌++◌, Option, Some, None, Ok, Err, refl, sym, ap, ◌∙◌, arith, append_assoc}
+use Rattle.std.proofs.lemmas.List.{append-nil}
+use Rattle.std.proofs.lemmas.Bool.Decides.{nat_tests}
+use Rattle.unwind_commands.specs.declared.document.fault.FaultName.{FaultName}
+use Rattle.unwind_commands.specs.Faults.{Checked, first_fault, with_fault, ◌⊛◌, both}
+use Rattle.unwind_commands.specs.CommandViews.{result_map}
+
+-- two checks of values in memory are the checks of what the values show
+pub both-views : {A B C D : Type 0} (f : A → C) (g : B → D) (a : Checked A) (b : Checked B)
+    → result_map (λ p. (f p.0, g p.1)) (both a b) ≡ both (result_map f a) (result_map g b)
+both-views f g (Ok a) (Ok b) = refl
+both-views f g (Ok a) (Err n) = refl
+both-views f g (Err m) (Ok b) = refl
+both-views f g (Err m) (Err n) = refl
+
+-- a function of two values, one after the other
+pub ⊛-both : {A B C : Type 0} (f : A → B → C) (a : Checked A) (b : Checked B)
+    → Ok f ⊛ a ⊛ b ≡ result_map (λ p. f p.0 p.1) (both a b)
+⊛-both f (Ok a) (Ok b) = refl
+⊛-both f (Ok a) (Err n) = refl
+⊛-both f (Err m) (Ok b) = refl
+⊛-both f (Err m) (Err n) = refl
+
+-- ---- lists
+
+-- the values so far, or the fault so far
+abbrev pub so_far : {A : Type 0} → Option FaultName → List A → Checked (List A)
+so_far None xs = Ok xs
+so_far (Some n) xs = Err n
+
+-- what stands before, and what comes behind it
+abbrev pub joined : {A : Type 0} → Checked (List A) → Checked (List A) → Checked (List A)
+joined a b = Ok (λ xs ys. xs ++ ys) ⊛ a ⊛ b
+
+-- of three faults it does not matter which two are compared first
+pub first_fault-assoc : (a b c : FaultName) → first_fault (first_fault a b) c ≡ first_fault a (first_fault b c)
+first_fault-assoc a b c = grind (arith, nat_tests)
+
+abbrev pub first : {A : Type 0} → Checked A → Checked (List A) → Checked (List A)
+first a b = Ok (λ x xs. x ∷ xs) ⊛ a ⊛ b
+
+-- one more value goes behind those so far
+pub joined-good : {A : Type 0} (fault : Option FaultName) (xs : List A) (x : A) (rest : Checked (List A))
+    → joined (so_far fault xs) (first (Ok x) rest) ≡ joined (so_far fault (xs ++ x ∷ [])) rest
+joined-good None xs x (Ok ys) = ap (λ zs. Ok zs) (sym (append_assoc xs (x ∷ []) ys))
+joined-good None xs x (Err n) = refl
+joined-good (Some m) xs x (Ok ys) = refl
+joined-good (Some m) xs x (Err n) = refl
+
+-- one more fault is compared with the fault so far
+pub joined-bad : {A : Type 0} (fault : Option FaultName) (xs : List A) (name : FaultName) (rest : Checked (List A))
+    → joined (so_far fault xs) (first (Err name) rest) ≡ joined (so_far (with_fault fault name) xs) rest
+joined-bad None xs name (Ok ys) = refl
+joined-bad None xs name (Err n) = refl
+joined-bad (Some m) xs name (Ok ys) = refl
+joined-bad (Some m) xs name (Err n) = ap (λ f. Err f) (sym (first_fault-assoc m name n))
+
+pub joined-end : {A : Type 0} (checked : Checked (List A)) → joined checked (Ok []) ≡ checked
+joined-end (Ok xs) = ap (λ zs. Ok zs) (append-nil xs)
+joined-end (Err n) = refl
+
+-- ---- several fields
+
+seen : {A B C X : Type 0} (f : X → A → B) (g : C → A) (x : Checked X) (y : Checked C)
+    → result_map (λ p. f p.0 (g p.1)) (both x y) ≡ result_map f x ⊛ result_map g y
+seen f g (Ok a) (Ok b) = refl
+seen f g (Ok a) (Err n) = refl
+seen f g (Err m) (Ok b) = refl
+seen f g (Err m) (Err n) = refl
+
+-- a value that the logic sees as it is
+pub as_it_is : {A : Type 0} (x a : Checked A) → x ≡ a → result_map (λ v. v) x ≡ a
+as_it_is (Ok v) a is = is
+as_it_is (Err n) a is = is
+
+-- the first field
+pub first-field : {A B C : Type 0} (f : A → B) (g : C → A) (x : Checked C) (a : Checked A) → result_map g x ≡ a → result_map (λ v. f (g v)) x ≡ Ok f ⊛ a
+first-field f g (Ok v) a is = ap (λ r. Ok f ⊛ r) is
+first-field f g (Err n) a is = ap (λ r. Ok f ⊛ r) is
+
+-- one more field: what the fields before it give, seen by f, is a, and what this one gives, seen by g, is b
+pub and-field : {A B C X : Type 0} (f : X → A → B) (g : C → A) (x : Checked X) (y : Checked C) (z : Checked (X × C))
+    (a : Checked (A → B)) (b : Checked A) → result_map f x ≡ a → result_map g y ≡ b → z ≡ both x y
+    → result_map (λ p. f p.0 (g p.1)) z ≡ a ⊛ b
+and-field f g x y z a b before here is =
+    ap (result_map (λ p. f p.0 (g p.1))) is ∙ seen f g x y ∙ ap (λ r. r ⊛ result_map g y) before ∙ ap (λ r. a ⊛ r) here

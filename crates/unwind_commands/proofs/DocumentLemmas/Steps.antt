@@ -1,0 +1,40 @@
+-- The fields of a step.
+use Rattle.std.proofs.Common.{◌≡◌, ℕ, Bool, true, cond, Ok, sym, ap, ◌∙◌}
+use Rattle.unwind_commands.specs.declared.document.command.FrameKind.{FrameKind}
+use Rattle.unwind_commands.specs.declared.document.command.Stack.{Stack}
+use Rattle.unwind_commands.specs.declared.document.step.Registers.{Registers}
+use Rattle.unwind_commands.specs.Faults.{Checked, ◌⊛◌, both}
+use Rattle.unwind_commands.specs.Commands.{stepping_of, Words}
+use Rattle.unwind_commands.specs.CommandViews.{result_map, words_view}
+use Rattle.unwind_commands.proofs.DocumentLemmas.Checks.{first-field, and-field, as_it_is}
+
+-- what stands under a test that holds
+pub under : {A : Type 0} (has : Bool) (x y z : A) → has ≡ true → x ≡ y → x ≡ cond has y z
+under has x y z holds is = is ∙ ap (λ b. cond b y z) (sym holds)
+
+abbrev pub registers : ℕ → ℕ → ℕ → Registers
+registers ip sp bp = record { ip = ip; sp = sp; bp = bp }
+
+pub three_registers : (ip sp bp : Checked ℕ) (one : Checked (ℕ × ℕ)) (two : Checked ((ℕ × ℕ) × ℕ)) (a b c : Checked ℕ)
+    → ip ≡ a → sp ≡ b → bp ≡ c → one ≡ both ip sp → two ≡ both one bp
+    → result_map (λ p. registers p.0.0 p.0.1 p.1) two ≡ Ok registers ⊛ a ⊛ b ⊛ c
+three_registers ip sp bp one two a b c ip_is sp_is bp_is one_is two_is =
+    and-field (λ p. registers p.0 p.1) (λ v. v) one bp two _ c
+    (and-field registers (λ v. v) ip sp one _ b (first-field registers (λ v. v) ip a (as_it_is ip a ip_is)) (as_it_is sp b sp_is) one_is)
+    (as_it_is bp c bp_is) two_is
+
+pub five_fields : (u c : Checked ℕ) (f : Checked (FrameKind × ℕ)) (r : Checked Registers) (s : Checked Stack)
+    (one : Checked (ℕ × ℕ)) (two : Checked ((ℕ × ℕ) × (FrameKind × ℕ))) (three : Checked (((ℕ × ℕ) × (FrameKind × ℕ)) × Registers))
+    (four : Checked ((((ℕ × ℕ) × (FrameKind × ℕ)) × Registers) × Stack))
+    (U C : Checked ℕ) (F : Checked (FrameKind × ℕ)) (R : Checked Registers) (S : Checked Words)
+    → u ≡ U → c ≡ C → f ≡ F → r ≡ R → result_map words_view s ≡ S
+    → one ≡ both u c → two ≡ both one f → three ≡ both two r → four ≡ both three s
+    → result_map (λ p. stepping_of p.0.0.0.0 p.0.0.0.1 p.0.0.1 p.0.1 (words_view p.1)) four ≡ Ok stepping_of ⊛ U ⊛ C ⊛ F ⊛ R ⊛ S
+five_fields u c f r s one two three four U C F R S u_is c_is f_is r_is s_is one_is two_is three_is four_is =
+    and-field (λ p. stepping_of p.0.0.0 p.0.0.1 p.0.1 p.1) words_view three s four _ S
+    (and-field (λ p. stepping_of p.0.0 p.0.1 p.1) (λ v. v) two r three _ R
+    (and-field (λ p. stepping_of p.0 p.1) (λ v. v) one f two _ F
+    (and-field stepping_of (λ v. v) u c one _ C (first-field stepping_of (λ v. v) u U (as_it_is u U u_is)) (as_it_is c C c_is) one_is)
+    (as_it_is f F f_is) two_is)
+    (as_it_is r R r_is) three_is)
+    s_is four_is

@@ -1,0 +1,70 @@
+-- Commands, one after the other.
+use Rattle.std.proofs.Common.{◌≡◌, ℕ, ◌+◌, List, [], ◌∷◌, ◌++◌, length, true, false, cond, Option, Some, None, Result, Ok, Err, refl, sym, ap, ◌∙◌, append_assoc}
+use Rattle.std.specs.Prelude.{nat_lt, ok_or}
+use Rattle.unwind_commands.specs.declared.document.fault.FaultName.TheVariants.{TooLong, NotJson}
+use Rattle.serde_json.specs.Data.{Data, Items, item}
+use Rattle.unwind_commands.specs.declared.document.fault.FaultName.{FaultName}
+use Rattle.unwind_commands.specs.declared.document.fault.Fault.{Fault}
+use Rattle.unwind_commands.specs.Faults.{Checked, ◌>>=◌}
+use Rattle.unwind_commands.specs.Commands.{Task, Made, command_in, made_after}
+use Rattle.unwind_commands.specs.Document.{commands_from, in_unit, with_task, decoded, document_in, json_of, max_len, nothing_made}
+
+-- commands that are decoded, and what the rest gives
+abbrev pub behind : List Task → Result (List Task) Fault → Result (List Task) Fault
+behind tasks (Ok more) = Ok (tasks ++ more)
+behind tasks (Err fault) = Err fault
+
+behind-with_task : (tasks : List Task) (task : Task) (rest : Result (List Task) Fault) → behind tasks (with_task task rest) ≡ behind (tasks ++ task ∷ []) rest
+behind-with_task tasks task (Ok more) = ap (λ ts. Ok ts) (sym (append_assoc tasks (task ∷ []) more))
+behind-with_task tasks task (Err fault) = refl
+
+-- what one command and those after it give
+abbrev go_on : ℕ → Made → Items → Checked Task → Result (List Task) Fault
+go_on n made ds checked = in_unit n checked >>= λ task. with_task task (commands_from (n + 1) (made_after made task) ds)
+
+-- one more command is decoded
+pub behind-more : (tasks : List Task) (n : ℕ) (made : Made) (d : Data) (ds : Items) (task : Task) → command_in made d ≡ Ok task
+    → behind tasks (commands_from n made (item d ds)) ≡ behind (tasks ++ task ∷ []) (commands_from (n + 1) (made_after made task) ds)
+behind-more tasks n made d ds task good =
+    ap (λ r. behind tasks (go_on n made ds r)) good ∙ behind-with_task tasks task (commands_from (n + 1) (made_after made task) ds)
+
+-- the same, where what is made and what is done are known by equations
+pub behind-step : (all : Result (List Task) Fault) (done later : List Task) (n : ℕ) (made next : Made) (d : Data) (ds : Items) (task : Task)
+    → all ≡ behind done (commands_from n made (item d ds)) → command_in made d ≡ Ok task → next ≡ made_after made task → later ≡ done ++ task ∷ []
+    → all ≡ behind later (commands_from (n + 1) next ds)
+behind-step all done later n made next d ds task is good makes more =
+    is ∙ behind-more done n made d ds task good
+    ∙ ap (λ m. behind (done ++ task ∷ []) (commands_from (n + 1) m ds)) (sym makes)
+    ∙ ap (λ ts. behind ts (commands_from (n + 1) next ds)) (sym more)
+
+-- one command has a fault
+pub behind-fault : (tasks : List Task) (n : ℕ) (made : Made) (d : Data) (ds : Items) (name : FaultName) → command_in made d ≡ Err name
+    → behind tasks (commands_from n made (item d ds)) ≡ Err (record { name = name; number = n })
+behind-fault tasks n made d ds name bad = ap (λ r. behind tasks (go_on n made ds r)) bad
+
+-- ---- the whole document
+
+-- what a document of a good length gives
+abbrev of_json : Option Data → Result (List Task) Fault
+of_json d = in_unit 0 (ok_or d NotJson >>= document_in) >>= commands_from 1 nothing_made
+
+pub decoded-long : (bytes : List ℕ) → nat_lt max_len (length bytes) ≡ true → decoded bytes ≡ Err (record { name = TooLong; number = 0 })
+decoded-long bytes long = ap (λ b. cond b (Err (record { name = TooLong; number = 0 })) (of_json (json_of bytes))) long
+
+pub decoded-short : (bytes : List ℕ) (d : Option Data) → nat_lt max_len (length bytes) ≡ false → json_of bytes ≡ d → decoded bytes ≡ of_json d
+decoded-short bytes d short is =
+    ap (λ b. cond b (Err (record { name = TooLong; number = 0 })) (of_json (json_of bytes))) short ∙ ap of_json is
+
+pub decoded-no-json : (bytes : List ℕ) → nat_lt max_len (length bytes) ≡ false → json_of bytes ≡ None
+    → decoded bytes ≡ Err (record { name = NotJson; number = 0 })
+decoded-no-json bytes short none = decoded-short bytes None short none
+
+pub decoded-bad : (bytes : List ℕ) (d : Data) (name : FaultName) → nat_lt max_len (length bytes) ≡ false → json_of bytes ≡ Some d → document_in d ≡ Err name
+    → decoded bytes ≡ Err (record { name = name; number = 0 })
+decoded-bad bytes d name short is bad =
+    decoded-short bytes (Some d) short is ∙ ap (λ r. in_unit 0 r >>= commands_from 1 nothing_made) bad
+
+pub decoded-good : (bytes : List ℕ) (d : Data) (ds : Items) → nat_lt max_len (length bytes) ≡ false → json_of bytes ≡ Some d → document_in d ≡ Ok ds
+    → decoded bytes ≡ commands_from 1 nothing_made ds
+decoded-good bytes d ds short is good =
+    decoded-short bytes (Some d) short is ∙ ap (λ r. in_unit 0 r >>= commands_from 1 nothing_made) good

@@ -1,0 +1,73 @@
+-- What a run has written, and what is left to write.
+use Rattle.std.proofs.Common.{◌≡◌, ℕ, List, [], ◌∷◌, ◌++◌, length, take, reverse, Bool, true, false, ◌↔◌, IsTrue, Result, Ok, Err, Option, Some, None, refl, sym, ◌∙◌, ap, subst, append_assoc}
+use Rattle.std.proofs.Math.Seq.{take-append_seam}
+use Rattle.std.proofs.lemmas.List.{append-nil, reverse-append, length-append, length-set}
+use Rattle.std.specs.Io.KnownBytes.{Appends}
+use Rattle.std.specs.Prelude.{IsErrOf}
+use Rattle.unwind_commands.specs.declared.status.RunError.{RunError}
+use Rattle.unwind_commands.specs.declared.status.RunError.TheVariants.{Write}
+use Rattle.unwind_commands.specs.declared.document.command.Command.{Command}
+use Rattle.unwind_commands.specs.Commands.{Task, make_unwinder, make_cache, load_module, take_step}
+use Rattle.unwind_commands.specs.ModuleFound.{Loaded}
+use Rattle.unwind_commands.specs.Numbered.{AreNumbered, unwinder_count_after, caches_after}
+use Rattle.unwind_commands.specs.Text.{unwinders_after, line_of, lines_of}
+use Rattle.unwind_commands.specs.CommandViews.{tasks_of, task_of}
+use Rattle.unwind_commands.specs.Stream.{AppendsFront}
+
+-- a front of all the lines is written, and these are left
+abbrev pub IsWritten : Option (List ℕ) → Option (List ℕ) → List ℕ → List ℕ → Type 0
+IsWritten old now left all = (front : List ℕ) × Appends old now front × (front ++ left ≡ all)
+
+-- nothing is written yet
+pub written_none : (old : Option (List ℕ)) (all : List ℕ) → IsWritten old old all all
+written_none None all = ([], tt, refl)
+written_none (Some xs) all = ([], sym (append-nil xs), refl)
+
+-- one append after another
+pub appends_both : (old mid new : Option (List ℕ)) (xs ys : List ℕ) → Appends old mid xs → Appends mid new ys → Appends old new (xs ++ ys)
+appends_both None mid new xs ys h k = tt
+appends_both (Some us) None new xs ys h k = absurd h
+appends_both (Some us) (Some vs) None xs ys h k = absurd k
+appends_both (Some us) (Some vs) (Some ws) xs ys h k = k ∙ (ap (λ (zs : List ℕ). zs ++ ys) h ∙ append_assoc us xs ys)
+
+-- a line more is written
+pub written_more : (old mid new : Option (List ℕ)) (line left all : List ℕ) → IsWritten old mid (line ++ left) all → Appends mid new line → IsWritten old new left all
+written_more old mid new line left all (front, added, whole) h = (front ++ line, appends_both old mid new front line added h, append_assoc front line left ∙ whole)
+
+-- all is written
+pub written_all : (old new : Option (List ℕ)) (all : List ℕ) → IsWritten old new [] all → Appends old new all
+written_all old new all (front, added, whole) = subst (λ (xs : List ℕ). Appends old new xs) (sym (append-nil front) ∙ whole) added
+
+-- a front is written
+pub written_front : (old new : Option (List ℕ)) (left all : List ℕ) → IsWritten old new left all → AppendsFront old new all
+written_front old new left all (front, added, whole) = (length front, subst (λ (xs : List ℕ). Appends old new xs) (sym (take-append_seam front left) ∙ ap (take (length front)) whole) added)
+
+-- the last of the commands that are kept in reverse is the next
+pub next_task : (all kept : List Command) (command : Command) → all ≡ kept ++ command ∷ [] → tasks_of (reverse all) ≡ task_of command ∷ tasks_of (reverse kept)
+next_task all kept command h = ap (λ (cs : List Command). tasks_of (reverse cs)) h ∙ ap tasks_of (reverse-append kept (command ∷ []))
+
+-- what a write that succeeds answers
+abbrev pub succeeded : Result (Unit {0}) RunError
+succeeded = Ok tt
+
+-- after a write that succeeds the sink hasn't failed
+pub not_failed : (failed : Bool) → (IsErrOf succeeded Write ↔ IsTrue failed) → failed ≡ false
+not_failed true h = let e : succeeded ≡ Err Write = h.1 refl in cc
+not_failed false h = refl
+
+-- a command makes as many unwinders as are counted
+pub length-unwinders_after : (unwinders : List (List Loaded)) (task : Task) → length (unwinders_after unwinders task) ≡ unwinder_count_after (length unwinders) task
+length-unwinders_after unwinders make_unwinder = length-append unwinders ([] ∷ [])
+length-unwinders_after unwinders make_cache = refl
+length-unwinders_after unwinders (load_module l) = simp length-set
+length-unwinders_after unwinders (take_step s) = refl
+
+-- the commands after one that was carried out are numbered by what there is then
+pub numbered_after : (old new : List (List Loaded)) (caches caches_now : ℕ) (task : Task) (tasks : List Task) → new ≡ unwinders_after old task → caches_now ≡ caches_after caches task → AreNumbered (length old) caches (task ∷ tasks) → AreNumbered (length new) caches_now tasks
+numbered_after old new caches caches_now task tasks made counted h =
+    subst (λ (n : ℕ). AreNumbered n caches_now tasks) (sym (ap length made ∙ length-unwinders_after old task)) (subst (λ (k : ℕ). AreNumbered (unwinder_count_after (length old) task) k tasks) (sym counted) h.1)
+
+-- the lines that are left begin with that of the next command
+pub written_next : (old mid new : Option (List ℕ)) (before after : List (List Loaded)) (task : Task) (tasks : List Task) (line all : List ℕ) → after ≡ unwinders_after before task → line ≡ line_of before task → IsWritten old mid (lines_of before (task ∷ tasks)) all → Appends mid new line → IsWritten old new (lines_of after tasks) all
+written_next old mid new before after task tasks line all made lined h added =
+    written_more old mid new line (lines_of after tasks) all (subst (λ (left : List ℕ). IsWritten old mid left all) (ap (λ (xs : List ℕ). xs ++ lines_of (unwinders_after before task) tasks) (sym lined) ∙ ap (λ (us : List (List Loaded)). line ++ lines_of us tasks) (sym made)) h) added

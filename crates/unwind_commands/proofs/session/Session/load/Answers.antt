@@ -1,0 +1,20 @@
+use Rattle.std.proofs.Common.{◌<◌, [], length, map, sym, ◌∙◌, ap}
+use Rattle.std.specs.Prelude.{slice_set}
+use Rattle.std.proofs.lemmas.List.{get_or-map, length-map, map-set}
+use Rattle.unwind_commands.specs.CommandViews.{load_view}
+use Rattle.unwind_commands.specs.ModuleFound.{Loaded, inserted}
+use Rattle.unwind_commands.specs.ModuleViews.{modules_of, module_view}
+use Rattle.unwind_commands.specs.Sessions.{modules_in}
+use Rattle.unwind_commands.specs.Text.{loaded_by, modules_at}
+use Rattle.unwind_commands.proofs.LoadedModules.{same_module}
+use Rattle.unwind_commands.proofs.session.Session.load.Goals as goal
+
+pub returns-clause-unwinders : goal.returns-clause-unwinders
+returns-clause-unwinders c =
+    let before = c.args.self.now.unwinders.items in
+    let n = c.args.load.unwinder in
+    let fits : n < length before = rw length-map at c.requires in
+    let modules = ap modules_of c.index_mut.ensures.value ∙ sym (get_or-map modules_of before n c.index_mut.result.now [] fits) in
+    let loaded = same_module (module_view c.new-module.result) (loaded_by (load_view c.args.load)) c.new-module.ensures.range.0 c.new-module.ensures.range.1 c.new-module.ensures.base c.new-module.ensures.base_svma (c.new-module.ensures.eh_frame ∙ c.eh_frame_data-eh_frame.ensures) in
+    map-set modules_of before n c.add_module.new.self
+    ∙ ap (slice_set (map modules_of before) n) (c.in_ok-add_module.ensures.ok ∙ ap (inserted (module_view c.new-module.result)) modules ∙ ap (λ (m : Loaded). inserted m (modules_at (modules_in c.args.self.now) n)) loaded)

@@ -1,0 +1,75 @@
+-- What the decoded commands are, without where they lie in memory.
+use Rattle.std.specs.Prelude.{List, map, option_map, Result, Ok, Err, string_bytes}
+use Rattle.unwind_commands.specs.declared.document.command.Command.{Command}
+use Rattle.unwind_commands.specs.declared.document.command.Command.TheVariants as commands
+use Rattle.unwind_commands.specs.declared.document.command.Load.{Load}
+use Rattle.unwind_commands.specs.declared.document.command.Section.{Section}
+use Rattle.unwind_commands.specs.declared.document.command.Stack.{Stack}
+use Rattle.unwind_commands.specs.declared.document.command.Step.{Step}
+use Rattle.unwind_commands.specs.declared.document.made.Made as memory
+use Rattle.unwind_commands.specs.declared.document.fault.Fault.{Fault}
+use Rattle.unwind_commands.specs.declared.document.fault.DecodeError.{DecodeError}
+use Rattle.unwind_commands.specs.declared.document.fault.DecodeError.TheVariants as errors
+use Rattle.unwind_commands.specs.Commands.{SectionData, Loading, Words, Stepping, Task, Made, make_unwinder, make_cache, load_module, take_step}
+
+-- the value as f sees it, or the same error
+abbrev pub result_map : {A B E : Type 0} → (A → B) → Result A E → Result B E
+result_map f (Ok x) = Ok (f x)
+result_map f (Err e) = Err e
+
+-- a section
+abbrev pub section_view : Section → SectionData
+section_view s = record { name = string_bytes s.name; range = s.range; bytes = option_map (λ b. b.items) s.bytes }
+
+-- sections
+abbrev pub sections_view : List Section → List SectionData
+sections_view ss = map section_view ss
+
+-- a load
+abbrev pub load_view : Load → Loading
+load_view l = record {
+  unwinder = l.unwinder;
+  name = string_bytes l.name;
+  start = l.start;
+  end = l.end;
+  base = l.base;
+  base_svma = l.base_svma;
+  sections = sections_view l.sections.items;
+}
+
+-- a stack
+abbrev pub words_view : Stack → Words
+words_view s = record { start = s.start; words = s.words.items }
+
+-- a step
+abbrev pub step_view : Step → Stepping
+step_view s = record {
+  unwinder = s.unwinder;
+  cache = s.cache;
+  kind = s.kind;
+  address = s.address;
+  ip = s.ip;
+  sp = s.sp;
+  bp = s.bp;
+  stack = words_view s.stack;
+}
+
+-- a command
+abbrev pub task_of : Command → Task
+task_of commands.Unwinder = make_unwinder
+task_of commands.Cache = make_cache
+task_of (commands.Load l) = load_module (load_view l)
+task_of (commands.Step s) = take_step (step_view s)
+
+-- commands
+abbrev pub tasks_of : List Command → List Task
+tasks_of cs = map task_of cs
+
+-- what earlier commands made
+abbrev pub made_view : memory.Made → Made
+made_view m = record { loaded = m.loaded.items; caches = m.caches }
+
+-- what a fault asks, and nothing where memory ran out
+abbrev pub OnFault : DecodeError → (Fault → Type 0) → Type 0
+OnFault (errors.Fault f) P = P f
+OnFault errors.OutOfMemory P = Unit {0}

@@ -1,0 +1,163 @@
+//! The modules of a process, and the one that an address is in.
+
+ghost use Rattle.std.specs.Prelude.{◌≡◌, ◌-◌, [], option_map, IfSome, IfNone, IfErr, OnOk, OnErr, MatchOption};
+ghost use Rattle.std.specs.List.Sorted.{IsNonDecreasingBy};
+
+use crate::call_frames::{EhFrame, UnwindContext};
+use crate::framehop::dwarf::{indexed_fde, unwind_frame_with_fde};
+use crate::framehop::error::UnwinderError;
+use framehop_rules::x86_64::UnwindRuleX86_64;
+use std::alloc::{AllocFailed, Global};
+use std::ops::Range;
+
+/// A module that is loaded in the profiled process, as an executable or a shared library.
+///
+/// An "AVMA" is an actual virtual memory address: one in the memory of the process. An "SVMA" is a
+/// stated virtual memory address: one as the module's sections have it. A relative address is the
+/// distance from the module's base, which is the same in both.
+#[derive(Drop)]
+pub struct Module {
+    avma_range: Range<u64>,
+    base_avma: u64,
+    base_svma: u64,
+    eh_frame: Option<Vec<u8>>,
+}
+
+impl Module {
+    ghost use Rattle.unwind_commands.specs.ModuleViews.{module_view};
+    ghost use Rattle.unwind_commands.specs.ModuleFound.{is_inside, if_inside};
+    ghost use Rattle.unwind_commands.specs.Attempt.{attempt, rule_of_attempt};
+
+    /// A module at a range of AVMAs, whose base is at `base_avma` and is called `base_svma` by its
+    /// sections, with the bytes of its section `.eh_frame`, if it has one.
+    pub fn new(
+        avma_range: Range<u64>,
+        base_avma: u64,
+        base_svma: u64,
+        eh_frame: Option<Vec<u8>>,
+    ) -> Self
+        ensures range { ((module_view result).start ≡ avma_range.start) × ((module_view result).end ≡ avma_range.end) }
+        ensures base { (module_view result).base ≡ base_avma }
+        ensures base_svma { (module_view result).base_svma ≡ base_svma }
+        ensures eh_frame { (module_view result).eh_frame ≡ option_map (λ section. section.items) eh_frame }
+    {
+        Module {
+            avma_range,
+            base_avma,
+            base_svma,
+            eh_frame,
+        }
+    }
+
+    /// The AVMAs that the module covers.
+    pub fn avma_range(&self) -> Range<u64>
+        ensures start { result.start ≡ (module_view self.now).start }
+        ensures end { result.end ≡ (module_view self.now).end }
+    {
+        self.avma_range.start..self.avma_range.end
+    }
+
+    /// The AVMA that relative addresses count from.
+    pub fn base_avma(&self) -> u64
+        ensures { result ≡ (module_view self.now).base }
+    {
+        self.base_avma
+    }
+
+    /// Whether an address is in the module. At its very start its end isn't asked, so that a
+    /// module of no bytes contains its start.
+    fn contains(&self, address: u64) -> bool
+        ensures { result ≡ is_inside address (module_view self.now) }
+    {
+        address == self.avma_range.start || address < self.avma_range.end
+    }
+
+    /// The distance of an address from the module's base, where the module contains the address.
+    fn relative_address(&self, address: u64) -> Option<u32>
+        ensures none { IfNone result (if_inside address (module_view self.now) ≡ None) }
+        ensures inside { IfSome result (λ _. if_inside address (module_view self.now) ≡ Some (module_view self.now)) }
+        ensures relative { IfSome result (λ relative. relative ≡ address - (module_view self.now).base) }
+    {
+        if !self.contains(address) {
+            return None;
+        }
+        u32::try_from(address.checked_sub(self.base_avma)?).ok()
+    }
+
+    /// The rule that the module has for a relative address, or why it has none.
+    pub(crate) fn unwind_frame(
+        &self,
+        relative_address: u32,
+        context: &mut UnwindContext,
+    ) -> Result<UnwindRuleX86_64, UnwinderError>
+        ensures { result ≡ rule_of_attempt (attempt (module_view self.now) relative_address) }
+    {
+        let Some(section) = &self.eh_frame else {
+            return Err(UnwinderError::NoModuleUnwindData);
+        };
+        let section = EhFrame::new(section.as_slice());
+        let fde = indexed_fde(&section, self.base_svma, relative_address)?.ok_or(
+            UnwinderError::DwarfCfiIndexCouldNotFindAddress,
+        )?;
+        let rule = unwind_frame_with_fde(&fde, self.base_svma, relative_address, context)?;
+        Ok(rule)
+    }
+}
+
+/// The modules of a process.
+#[derive(Drop)]
+pub(crate) struct UnwinderInternal {
+    modules: Vec<Module>,
+    ghost ordered: { IsNonDecreasingBy (λ module_. module_.avma_range.start) modules.items },
+}
+
+impl UnwinderInternal {
+    ghost use Rattle.unwind_commands.specs.ModuleViews.{module_view, loaded_in};
+    ghost use Rattle.unwind_commands.specs.ModuleFound.{nearest, module_found, inserted};
+
+    /// An unwinder without a module.
+    pub fn new(alloc: Global) -> Self
+        ensures { loaded_in result ≡ [] }
+    {
+        UnwinderInternal {
+            modules: Vec::new(alloc),
+        }
+    }
+
+    /// Puts a module before those of an equal or a greater start. Where memory for it is refused,
+    /// it comes back and nothing changes.
+    pub fn add_module(&mut self, module: Module) -> Result<(), AllocFailed<Module>>
+        ensures ok { OnOk result (loaded_in self.new ≡ inserted (module_view «module») (loaded_in self.old)) }
+        ensures refused { OnErr result (loaded_in self.new ≡ loaded_in self.old) }
+        ensures returned { IfErr result (λ failed. failed.value ≡ «module») }
+    {
+        let start = module.avma_range.start;
+        let index = self
+            .modules
+            .partition_point(|other| other.avma_range.start < start);
+        self.modules.insert(index, module)
+    }
+
+    /// The last of the modules that start at or below an address.
+    fn nearest_module(&self, address: u64) -> Option<&Module>
+        ensures { MatchOption result (nearest (loaded_in self.now) address ≡ None)
+            (λ module_. nearest (loaded_in self.now) address ≡ Some (module_view module_.now)) }
+    {
+        let index = self
+            .modules
+            .partition_point(|module| module.avma_range.start <= address)
+            .checked_sub(1)?;
+        Some(&self.modules[index])
+    }
+
+    /// The module that an address is in, and the address relative to its base.
+    pub fn find_module_for_address(&self, address: u64) -> Option<(&Module, u32)>
+        ensures none { IfNone result (module_found (loaded_in self.now) address ≡ None) }
+        ensures module_ { IfSome result (λ found. module_found (loaded_in self.now) address ≡ Some (module_view found.0.now)) }
+        ensures relative { IfSome result (λ found. found.1 ≡ address - (module_view found.0.now).base) }
+    {
+        let module = self.nearest_module(address)?;
+        let relative_address = module.relative_address(address)?;
+        Some((module, relative_address))
+    }
+}

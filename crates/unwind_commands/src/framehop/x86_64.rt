@@ -1,0 +1,9 @@
+//! The unwinder of x86_64.
+
+mod cache;
+mod dwarf;
+mod unwinder;
+
+pub use cache::CacheX86_64;
+pub(crate) use dwarf::rule_for_row;
+pub use unwinder::UnwinderX86_64;

@@ -1,0 +1,3 @@
+//! What no contract of the private modules says.
+mod entries;
+mod rows;
