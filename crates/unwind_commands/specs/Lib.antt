@@ -9,6 +9,7 @@ pub mod Entries
 pub mod EntryFor
 pub mod EntryViews
 pub mod Faults
+pub mod InstanceViews
 pub mod Instructions
 pub mod Json
 pub mod Judge
@@ -23,7 +24,6 @@ pub mod RowAnswer
 pub mod RowViews
 pub mod Rows
 pub mod ScaledRow
-pub mod Sessions
 pub mod Stream
 pub mod TableLends
 pub mod Text

@@ -16,13 +16,15 @@ pub record Parts : Type 0 where
   pub bp : Option RegisterRule
   pub ra : Option RegisterRule
 
--- the numbers of RBP, RSP and of the return address's column
+-- the number of RBP
 abbrev pub RBP : Register
 RBP = record { 0 = 6 }
 
+-- the number of RSP
 abbrev pub RSP : Register
 RSP = record { 0 = 7 }
 
+-- the number of the return address's column
 abbrev pub RA : Register
 RA = record { 0 = 16 }
 

@@ -5,10 +5,10 @@
 mod call_frames;
 mod document;
 mod framehop;
+mod instances;
 mod lines;
 mod program;
 mod read_core;
-mod session;
 mod status;
 mod stream;
 #[cfg(test)]

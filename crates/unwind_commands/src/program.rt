@@ -7,7 +7,7 @@ ghost use Rattle.unwind_commands.specs.Stream.{AppendsFront};
 ghost use Rattle.unwind_commands.specs.CommandViews.{tasks_of};
 
 use crate::document::{Command, DecodeError, decode};
-use crate::session::Session;
+use crate::instances::Instances;
 use crate::status::{Outcome, RunError};
 use crate::stream::{Sink, Source};
 use crate::transfer::{read_document, write_all};
@@ -76,9 +76,9 @@ fn run_commands<W: Sink>(
         AppendsFront (W.contents writer.old) (W.contents writer.new) (lines_of [] (tasks_of commands.items)) }
 {
     commands.reverse();
-    let mut session = Session::new(alloc);
+    let mut instances = Instances::new(alloc);
     while let Some(command) = commands.pop() {
-        let line = session.perform(alloc, command)?;
+        let line = instances.perform(alloc, command)?;
         write_all(writer, line.as_bytes())?;
     }
     Ok(())

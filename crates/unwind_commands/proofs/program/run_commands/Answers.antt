@@ -1,6 +1,6 @@
 use Rattle.std.proofs.Common.{List, [], length, reverse, ◌∙◌, subst}
 use Rattle.unwind_commands.specs.Numbered.{AreNumbered}
-use Rattle.unwind_commands.specs.Sessions.{modules_in, caches_in}
+use Rattle.unwind_commands.specs.InstanceViews.{modules_in, caches_in}
 use Rattle.unwind_commands.specs.Text.{lines_of}
 use Rattle.unwind_commands.specs.Commands.{Task}
 use Rattle.unwind_commands.specs.CommandViews.{tasks_of, task_of}
@@ -9,15 +9,15 @@ use Rattle.unwind_commands.proofs.program.run_commands.Goals as goal
 
 pub returns-in_err-line-clause-memory : goal.returns-in_err-line-clause-memory
 returns-in_err-line-clause-memory g c = λ _.
-    written_front (g.W.Sink.contents c.args.writer.now) (g.W.Sink.contents c.loop-command.writer) (lines_of (modules_in c.loop-command.session) (tasks_of (reverse c.loop-command.commands.items))) (lines_of [] (tasks_of c.args.commands.items)) c.loop-command.invariant.written
+    written_front (g.W.Sink.contents c.args.writer.now) (g.W.Sink.contents c.loop-command.writer) (lines_of (modules_in c.loop-command.instances) (tasks_of (reverse c.loop-command.commands.items))) (lines_of [] (tasks_of c.args.commands.items)) c.loop-command.invariant.written
 
 pub loop-command-preserved : goal.loop-command-preserved
 loop-command-preserved g c =
     let next = next_task c.loop-command.commands.items c.pop.new.self.items c.in-Some.command c.in-Some.ensures.items in
-    let numbered = subst (λ (ts : List Task). AreNumbered (length (modules_in c.loop-command.session)) (caches_in c.loop-command.session) ts) next c.loop-command.invariant.numbered in
-    let written = subst (λ (ts : List Task). IsWritten (g.W.Sink.contents c.args.writer.now) (g.W.Sink.contents c.loop-command.writer) (lines_of (modules_in c.loop-command.session) ts) (lines_of [] (tasks_of c.args.commands.items))) next c.loop-command.invariant.written in
+    let numbered = subst (λ (ts : List Task). AreNumbered (length (modules_in c.loop-command.instances)) (caches_in c.loop-command.instances) ts) next c.loop-command.invariant.numbered in
+    let written = subst (λ (ts : List Task). IsWritten (g.W.Sink.contents c.args.writer.now) (g.W.Sink.contents c.loop-command.writer) (lines_of (modules_in c.loop-command.instances) ts) (lines_of [] (tasks_of c.args.commands.items))) next c.loop-command.invariant.written in
     record {
       failed = not_failed (g.W.Sink.has_failed c.write_all.new.sink) c.in_ok-write_all.ensures.write;
-      numbered = numbered_after (modules_in c.loop-command.session) (modules_in c.perform.new.self) (caches_in c.loop-command.session) (caches_in c.perform.new.self) (task_of c.in-Some.command) (tasks_of (reverse c.pop.new.self.items)) c.in_ok-line.ensures.unwinders c.in_ok-line.ensures.caches numbered;
-      written = written_next (g.W.Sink.contents c.args.writer.now) (g.W.Sink.contents c.loop-command.writer) (g.W.Sink.contents c.write_all.new.sink) (modules_in c.loop-command.session) (modules_in c.perform.new.self) (task_of c.in-Some.command) (tasks_of (reverse c.pop.new.self.items)) c.as_bytes.result.now (lines_of [] (tasks_of c.args.commands.items)) c.in_ok-line.ensures.unwinders (c.as_bytes.ensures.value ∙ c.in_ok-line.ensures.line) written c.in_ok-write_all.ensures.written;
+      numbered = numbered_after (modules_in c.loop-command.instances) (modules_in c.perform.new.self) (caches_in c.loop-command.instances) (caches_in c.perform.new.self) (task_of c.in-Some.command) (tasks_of (reverse c.pop.new.self.items)) c.in_ok-line.ensures.unwinders c.in_ok-line.ensures.caches numbered;
+      written = written_next (g.W.Sink.contents c.args.writer.now) (g.W.Sink.contents c.loop-command.writer) (g.W.Sink.contents c.write_all.new.sink) (modules_in c.loop-command.instances) (modules_in c.perform.new.self) (task_of c.in-Some.command) (tasks_of (reverse c.pop.new.self.items)) c.as_bytes.result.now (lines_of [] (tasks_of c.args.commands.items)) c.in_ok-line.ensures.unwinders (c.as_bytes.ensures.value ∙ c.in_ok-line.ensures.line) written c.in_ok-write_all.ensures.written;
     }

@@ -1,6 +1,6 @@
 use Rattle.std.proofs.Common.{◌≡◌, [], reverse, length, false, vec_len}
 use Rattle.unwind_commands.specs.Numbered.{AreNumbered}
-use Rattle.unwind_commands.specs.Sessions.{modules_in, caches_in}
+use Rattle.unwind_commands.specs.InstanceViews.{modules_in, caches_in}
 use Rattle.unwind_commands.specs.Text.{lines_of}
 use Rattle.unwind_commands.specs.CommandViews.{tasks_of}
 use Rattle.unwind_commands.proofs.Runs.{IsWritten}
@@ -10,8 +10,8 @@ use Rattle.unwind_commands.proofs.program.run_commands.Given as goal
 abbrev pub invariant-loop-command : goal.invariant-loop-command
 invariant-loop-command g l = record {
   failed : g.W.Sink.has_failed l.writer ≡ false;
-  numbered : AreNumbered (length (modules_in l.session)) (caches_in l.session) (tasks_of (reverse l.commands.items));
-  written : IsWritten (g.W.Sink.contents l.fn.writer) (g.W.Sink.contents l.writer) (lines_of (modules_in l.session) (tasks_of (reverse l.commands.items))) (lines_of [] (tasks_of l.fn.commands.items));
+  numbered : AreNumbered (length (modules_in l.instances)) (caches_in l.instances) (tasks_of (reverse l.commands.items));
+  written : IsWritten (g.W.Sink.contents l.fn.writer) (g.W.Sink.contents l.writer) (lines_of (modules_in l.instances) (tasks_of (reverse l.commands.items))) (lines_of [] (tasks_of l.fn.commands.items));
 }
 
 abbrev pub decreases-loop-command : goal.decreases-loop-command

@@ -4,10 +4,10 @@ use Rattle.std.proofs.lemmas.List.{get_or-map, length-map, map-set}
 use Rattle.unwind_commands.specs.CommandViews.{load_view}
 use Rattle.unwind_commands.specs.ModuleFound.{Loaded, inserted}
 use Rattle.unwind_commands.specs.ModuleViews.{modules_of, module_view}
-use Rattle.unwind_commands.specs.Sessions.{modules_in}
+use Rattle.unwind_commands.specs.InstanceViews.{modules_in}
 use Rattle.unwind_commands.specs.Text.{loaded_by, modules_at}
 use Rattle.unwind_commands.proofs.LoadedModules.{same_module}
-use Rattle.unwind_commands.proofs.session.Session.load.Goals as goal
+use Rattle.unwind_commands.proofs.instances.Instances.load.Goals as goal
 
 pub returns-clause-unwinders : goal.returns-clause-unwinders
 returns-clause-unwinders c =

@@ -5,7 +5,7 @@ use Rattle.unwind_commands.specs.CommandViews.{section_view, sections_view}
 use Rattle.unwind_commands.specs.Text.{data_named}
 use Rattle.unwind_commands.specs.declared.document.command.Section.{Section}
 use Rattle.unwind_commands.proofs.SectionData.{data_chosen, at_item}
-use Rattle.unwind_commands.proofs.session.eh_frame_data.Goals as goal
+use Rattle.unwind_commands.proofs.instances.eh_frame_data.Goals as goal
 
 pub returns : goal.returns
 returns c =

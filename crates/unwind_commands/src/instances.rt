@@ -19,20 +19,20 @@ use std::alloc::{AllocError, Global};
 
 /// The unwinders and the caches that commands have made, numbered from 0.
 #[derive(Drop)]
-pub(crate) struct Session {
+pub(crate) struct Instances {
     unwinders: Vec<UnwinderX86_64>,
     caches: Vec<CacheX86_64>,
 }
 
-impl Session {
-    ghost use Rattle.unwind_commands.specs.Sessions.{modules_in, caches_in};
+impl Instances {
+    ghost use Rattle.unwind_commands.specs.InstanceViews.{modules_in, caches_in};
 
     /// Nothing is made yet.
-    pub fn new(alloc: Global) -> Session
+    pub fn new(alloc: Global) -> Instances
         ensures unwinders { modules_in result ≡ [] }
         ensures caches { caches_in result ≡ 0 }
     {
-        Session {
+        Instances {
             unwinders: Vec::new(alloc),
             caches: Vec::new(alloc),
         }

@@ -1,0 +1,13 @@
+-- What commands have made, as contracts see it.
+use Rattle.std.specs.Prelude.{ℕ, List, map, vec_len}
+use Rattle.unwind_commands.specs.declared.instances.Instances.{Instances}
+use Rattle.unwind_commands.specs.ModuleFound.{Loaded}
+use Rattle.unwind_commands.specs.ModuleViews.{modules_of}
+
+-- the modules of each unwinder
+abbrev pub modules_in : Instances → List (List Loaded)
+modules_in instances = map modules_of instances.unwinders.items
+
+-- how many caches there are
+abbrev pub caches_in : Instances → ℕ
+caches_in instances = vec_len instances.caches
