@@ -1,5 +1,8 @@
+ghost use Rattle.std.specs.Prelude.{◌≡◌, Some};
+
 use crate::common::ReaderOffsetId;
 use crate::constants::{DwCfa, DwChildren, DwEhPe};
+use std::fmt;
 
 /// Why bytes of a section were refused.
 #[derive(Debug, Clone, Copy, PartialEq, Eq)]
@@ -64,6 +67,53 @@ pub enum Error {
 
     OutOfMemory,
 }
+
+/// The name of the variant, of those listed: first those without a number, then those with one.
+macro_rules! variant_of {
+    ($error:expr; $($plain:ident),*; $($numbered:ident),* $(,)?) => {
+        match $error {
+            $(Error::$plain => stringify!($plain),)*
+            $(Error::$numbered(_) => stringify!($numbered),)*
+        }
+    };
+}
+
+impl Error {
+    ghost use Rattle.dwarf_constants.specs.Error.{variant_name};
+
+    // The variant's name.
+    fn name(&self) -> &'static str
+        ensures { result.now ≡ variant_name self.now }
+    {
+        variant_of!(*self;
+            BadUnsignedLeb128, BadSignedLeb128, UnknownReservedLength, UnsupportedSegmentSize,
+            UnsupportedOffset, OffsetOutOfBounds, BadUtf8, AbbreviationTagZero, AttributeNameZero,
+            AttributeFormZero, UnsupportedPointerEncoding, CannotParseOmitPointerEncoding,
+            PcRelativePointerButSectionBaseIsUndefined, TextRelativePointerButTextBaseIsUndefined,
+            DataRelativePointerButDataBaseIsUndefined, FuncRelativePointerInBadContext,
+            UnknownAugmentation, NoEntryAtGivenOffset, NoUnwindInfoForAddress,
+            CfiInstructionInInvalidContext, AddressOverflow, PopWithEmptyStack, StackFull,
+            TooManyRegisterRules, VariableLengthSearchTable, UnsupportedEvaluation,
+            NotEnoughStackItems, DivisionByZero, TooManyIterations, OutOfMemory;
+            UnexpectedEof, UnsupportedAddressSize, UnsupportedOffsetSize, UnknownVersion,
+            InvalidAbbreviationChildren, DuplicateAbbreviationCode, UnknownPointerEncoding,
+            NotCieId, NotCiePointer, UnknownCallFrameInstruction, InvalidCfiSetLoc, BadBranchTarget,
+        )
+    }
+}
+
+/// Prints the variant's name.
+impl fmt::Display for Error {
+    ghost use Rattle.dwarf_constants.specs.Error.{variant_name};
+
+    ghost output = { λ error. Some (variant_name error) };
+
+    fn fmt<W: fmt::Write>(&self, f: &mut fmt::Formatter<W>) -> fmt::Result {
+        f.write_str(self.name())
+    }
+}
+
+impl std::error::Error for Error {}
 
 /// A value of a section, or why its bytes were refused.
 pub type Result<T> = std::result::Result<T, Error>;

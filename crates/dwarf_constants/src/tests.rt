@@ -1,0 +1,369 @@
+//! The tables against the standard's own order, and what is printed.
+//! A row of names counts up from its first value, as the tables of the standard do; `-` is a gap.
+use crate::constants::*;
+use crate::{
+    AArch64, DebugFrameOffset, DebugStrOffsetsBase, DwarfFileType, EhFrameOffset, Encoding, Error,
+    Format, LineEncoding, ReaderOffsetId, Register, SectionId, X86_64,
+};
+use std::alloc::{AllocError, Global};
+use std::fmt;
+use std::process::Abort;
+use std::test::Fail;
+
+/// Compares the names of the values from the first on.
+macro_rules! assert_names {
+    ($rt:expr; $kind:ident, $prefix:literal, $first:literal, $names:literal) => {
+        let mut value = $first;
+        for name in $names.split_whitespace() {
+            let text = $kind(value).static_string();
+            let rest = text.and_then(|text| text.strip_prefix($prefix));
+            assert_eq!($rt; rest.unwrap_or("-"), name, "at {value:#x}");
+            value = value.wrapping_add(1);
+        }
+    };
+}
+
+/// How many values up to a bound have a name.
+macro_rules! count_names {
+    ($kind:ident, $bound:literal) => {
+        (0..=$bound)
+            .filter(|value| $kind(*value).static_string().is_some())
+            .count()
+    };
+}
+
+/// DWARF 5, table 7.29; 0x2d is of the ABI of AArch64 and 0x2e of GNU.
+#[test]
+fn instructions_are_numbered_as_in_the_standard(rt: HostRuntime) {
+    assert_names!(rt; DwCfa, "DW_CFA_", 0x00,
+        "nop set_loc advance_loc1 advance_loc2 advance_loc4 offset_extended restore_extended
+        undefined same_value register remember_state restore_state def_cfa def_cfa_register
+        def_cfa_offset def_cfa_expression expression offset_extended_sf def_cfa_sf
+        def_cfa_offset_sf val_offset val_offset_sf val_expression -");
+    assert_names!(rt; DwCfa, "DW_CFA_", 0x2d, "AARCH64_negate_ra_state GNU_args_size -");
+    assert_names!(rt; DwCfa, "DW_CFA_", 0x40, "advance_loc -");
+    assert_names!(rt; DwCfa, "DW_CFA_", 0x80, "offset -");
+    assert_names!(rt; DwCfa, "DW_CFA_", 0xc0, "restore -");
+    assert_eq!(rt; count_names!(DwCfa, 255), 28);
+}
+
+/// DWARF 5, table 7.4.
+#[test]
+fn children_are_numbered_as_in_the_standard(rt: HostRuntime) {
+    assert_names!(rt; DwChildren, "DW_CHILDREN_", 0x00, "no yes -");
+    assert_eq!(rt; count_names!(DwChildren, 255), 2);
+}
+
+/// DWARF 5, table 7.6; those from 0x1f00 on are of GNU.
+#[test]
+fn forms_are_numbered_as_in_the_standard(rt: HostRuntime) {
+    assert_names!(rt; DwForm, "DW_FORM_", 0x00,
+        "- addr - block2 block4 data2 data4 data8 string block block1 data1 flag sdata strp udata
+        ref_addr ref1 ref2 ref4 ref8 ref_udata indirect sec_offset exprloc flag_present strx addrx
+        ref_sup4 strp_sup data16 line_strp ref_sig8 implicit_const loclistx rnglistx ref_sup8
+        strx1 strx2 strx3 strx4 addrx1 addrx2 addrx3 addrx4 -");
+    assert_names!(rt; DwForm, "DW_FORM_", 0x1f00, "- GNU_addr_index GNU_str_index -");
+    assert_names!(rt; DwForm, "DW_FORM_", 0x1f1f, "- GNU_ref_alt GNU_strp_alt -");
+    assert_eq!(rt; count_names!(DwForm, 0xffff), 47);
+}
+
+/// DWARF 5, table 7.9.
+#[test]
+fn operations_are_numbered_as_in_the_standard(rt: HostRuntime) -> Result<(), Fail> {
+    assert_names!(rt; DwOp, "DW_OP_", 0x00,
+        "- - - addr - - - - const1u const1s const2u const2s const4u const4s const8u const8s
+        constu consts dup drop over pick swap rot - abs and div minus mod mul neg
+        not or plus plus_uconst shl shr shra xor bra eq ge gt le lt ne skip");
+    for n in 0..32u8 {
+        for (first, family) in [(0x30, "lit"), (0x70, "breg")] {
+            let name = format!(in rt.alloc(); "DW_OP_{family}{n}")?;
+            assert_eq!(rt;
+                DwOp(first + n).static_string().unwrap_or("-"),
+                name.as_str()
+            );
+        }
+    }
+    assert_names!(rt; DwOp, "DW_OP_", 0x90, "- - bregx - - - nop -");
+    assert_eq!(rt; count_names!(DwOp, 255), 106);
+    Ok(())
+}
+
+/// LSB 5.0, 10.5.1.
+#[test]
+fn pointer_encodings_are_numbered_as_in_the_standard(rt: HostRuntime) {
+    assert_names!(rt; DwEhPe, "DW_EH_PE_", 0x00,
+        "absptr uleb128 udata2 udata4 udata8 - - - - sleb128 sdata2 sdata4 sdata8 -");
+    assert_names!(rt; DwEhPe, "DW_EH_PE_", 0x10, "pcrel -");
+    assert_names!(rt; DwEhPe, "DW_EH_PE_", 0x20, "textrel -");
+    assert_names!(rt; DwEhPe, "DW_EH_PE_", 0x30, "datarel -");
+    assert_names!(rt; DwEhPe, "DW_EH_PE_", 0x40, "funcrel -");
+    assert_names!(rt; DwEhPe, "DW_EH_PE_", 0x50, "aligned -");
+    assert_names!(rt; DwEhPe, "DW_EH_PE_", 0x80, "indirect -");
+    assert_names!(rt; DwEhPe, "DW_EH_PE_", 0xfe, "- omit");
+    assert_eq!(rt; count_names!(DwEhPe, 255), 16);
+}
+
+/// The encoding that compilers write for shared libraries, 0x9b, is an indirect offset of 4 bytes.
+#[test]
+fn pointer_encodings_are_taken_apart(rt: HostRuntime) {
+    let encoding = DW_EH_PE_indirect | DW_EH_PE_pcrel | DW_EH_PE_sdata4;
+    assert_eq!(rt; encoding, DwEhPe(0x9b));
+    assert_eq!(rt; encoding.format(), DW_EH_PE_sdata4);
+    assert_eq!(rt; encoding.application(), DW_EH_PE_pcrel);
+    assert!(rt; encoding.is_indirect());
+    assert!(rt; !DwEhPe(0x1b).is_indirect());
+    assert!(rt; DW_EH_PE_omit.is_absent());
+    assert!(rt; !encoding.is_absent());
+    let valid = (0..=255u8).filter(|value| DwEhPe(*value).is_valid_encoding());
+    assert_eq!(rt; valid.count(), 9 * 6 * 2 + 1);
+    for refused in [0x05, 0x08, 0x0d, 0x0f, 0x60, 0x6b, 0x75, 0xe0, 0xef, 0xf0] {
+        assert!(rt; !DwEhPe(refused).is_valid_encoding(), "at {refused:#x}");
+    }
+}
+
+fn assert_shows<T: fmt::Display + Drop>(
+    rt: &impl Abort,
+    alloc: Global,
+    value: T,
+    text: &str,
+) -> Result<(), AllocError> {
+    assert_eq!(rt; value.to_string(alloc)?.as_str(), text);
+    Ok(())
+}
+
+#[test]
+fn constants_are_printed(rt: HostRuntime) -> Result<(), Fail> {
+    assert_shows(&rt, rt.alloc(), DW_CFA_def_cfa, "DW_CFA_def_cfa")?;
+    assert_shows(&rt, rt.alloc(), DwCfa(0x3f), "Unknown DwCfa: 0x3f")?;
+    assert_shows(&rt, rt.alloc(), DW_CHILDREN_yes, "DW_CHILDREN_yes")?;
+    assert_shows(&rt, rt.alloc(), DwChildren(2), "Unknown DwChildren: 0x2")?;
+    assert_shows(&rt, rt.alloc(), DW_FORM_exprloc, "DW_FORM_exprloc")?;
+    assert_shows(&rt, rt.alloc(), DwForm(0xfffe), "Unknown DwForm: 0xfffe")?;
+    assert_shows(&rt, rt.alloc(), DW_OP_breg7, "DW_OP_breg7")?;
+    assert_shows(&rt, rt.alloc(), DwOp(0x00), "Unknown DwOp: 0x0")?;
+    assert_shows(&rt, rt.alloc(), DW_EH_PE_omit, "DW_EH_PE_omit")?;
+    assert_shows(&rt, rt.alloc(), DwEhPe(0x9b), "Unknown DwEhPe: 0x9b")?;
+    Ok(())
+}
+
+#[test]
+fn errors_are_printed_by_name(rt: HostRuntime) -> Result<(), Fail> {
+    for (error, name) in [
+        (Error::UnexpectedEof(ReaderOffsetId(3)), "UnexpectedEof"),
+        (Error::BadUnsignedLeb128, "BadUnsignedLeb128"),
+        (Error::BadSignedLeb128, "BadSignedLeb128"),
+        (Error::UnknownReservedLength, "UnknownReservedLength"),
+        (Error::UnsupportedAddressSize(3), "UnsupportedAddressSize"),
+        (Error::UnsupportedOffsetSize(3), "UnsupportedOffsetSize"),
+        (Error::UnsupportedSegmentSize, "UnsupportedSegmentSize"),
+        (Error::UnsupportedOffset, "UnsupportedOffset"),
+        (Error::OffsetOutOfBounds, "OffsetOutOfBounds"),
+        (Error::UnknownVersion(3), "UnknownVersion"),
+        (Error::BadUtf8, "BadUtf8"),
+        (Error::AbbreviationTagZero, "AbbreviationTagZero"),
+        (
+            Error::InvalidAbbreviationChildren(DwChildren(3)),
+            "InvalidAbbreviationChildren",
+        ),
+        (Error::AttributeNameZero, "AttributeNameZero"),
+        (Error::AttributeFormZero, "AttributeFormZero"),
+        (
+            Error::DuplicateAbbreviationCode(3),
+            "DuplicateAbbreviationCode",
+        ),
+        (
+            Error::UnknownPointerEncoding(DwEhPe(3)),
+            "UnknownPointerEncoding",
+        ),
+        (
+            Error::UnsupportedPointerEncoding,
+            "UnsupportedPointerEncoding",
+        ),
+        (
+            Error::CannotParseOmitPointerEncoding,
+            "CannotParseOmitPointerEncoding",
+        ),
+        (
+            Error::PcRelativePointerButSectionBaseIsUndefined,
+            "PcRelativePointerButSectionBaseIsUndefined",
+        ),
+        (
+            Error::TextRelativePointerButTextBaseIsUndefined,
+            "TextRelativePointerButTextBaseIsUndefined",
+        ),
+        (
+            Error::DataRelativePointerButDataBaseIsUndefined,
+            "DataRelativePointerButDataBaseIsUndefined",
+        ),
+        (
+            Error::FuncRelativePointerInBadContext,
+            "FuncRelativePointerInBadContext",
+        ),
+        (Error::NotCieId(3), "NotCieId"),
+        (Error::NotCiePointer(3), "NotCiePointer"),
+        (Error::UnknownAugmentation, "UnknownAugmentation"),
+        (Error::NoEntryAtGivenOffset, "NoEntryAtGivenOffset"),
+        (Error::NoUnwindInfoForAddress, "NoUnwindInfoForAddress"),
+        (
+            Error::UnknownCallFrameInstruction(DwCfa(3)),
+            "UnknownCallFrameInstruction",
+        ),
+        (
+            Error::CfiInstructionInInvalidContext,
+            "CfiInstructionInInvalidContext",
+        ),
+        (Error::InvalidCfiSetLoc(3), "InvalidCfiSetLoc"),
+        (Error::AddressOverflow, "AddressOverflow"),
+        (Error::PopWithEmptyStack, "PopWithEmptyStack"),
+        (Error::StackFull, "StackFull"),
+        (Error::TooManyRegisterRules, "TooManyRegisterRules"),
+        (
+            Error::VariableLengthSearchTable,
+            "VariableLengthSearchTable",
+        ),
+        (Error::UnsupportedEvaluation, "UnsupportedEvaluation"),
+        (Error::NotEnoughStackItems, "NotEnoughStackItems"),
+        (Error::DivisionByZero, "DivisionByZero"),
+        (Error::BadBranchTarget(3), "BadBranchTarget"),
+        (Error::TooManyIterations, "TooManyIterations"),
+        (Error::OutOfMemory, "OutOfMemory"),
+    ] {
+        assert_shows(&rt, rt.alloc(), error, name)?;
+    }
+    Ok(())
+}
+
+#[test]
+fn sections_have_their_names(rt: HostRuntime) {
+    for (section, name, dwo_name) in [
+        (SectionId::DebugAbbrev, ".debug_abbrev", ".debug_abbrev.dwo"),
+        (SectionId::DebugAddr, ".debug_addr", "-"),
+        (SectionId::DebugAranges, ".debug_aranges", "-"),
+        (
+            SectionId::DebugCuIndex,
+            ".debug_cu_index",
+            ".debug_cu_index",
+        ),
+        (SectionId::DebugFrame, ".debug_frame", "-"),
+        (SectionId::EhFrame, ".eh_frame", "-"),
+        (SectionId::EhFrameHdr, ".eh_frame_hdr", "-"),
+        (SectionId::DebugGnuPubNames, ".debug_gnu_pubnames", "-"),
+        (SectionId::DebugGnuPubTypes, ".debug_gnu_pubtypes", "-"),
+        (SectionId::DebugInfo, ".debug_info", ".debug_info.dwo"),
+        (SectionId::DebugLine, ".debug_line", ".debug_line.dwo"),
+        (SectionId::DebugLineStr, ".debug_line_str", "-"),
+        (SectionId::DebugLoc, ".debug_loc", ".debug_loc.dwo"),
+        (
+            SectionId::DebugLocLists,
+            ".debug_loclists",
+            ".debug_loclists.dwo",
+        ),
+        (
+            SectionId::DebugMacinfo,
+            ".debug_macinfo",
+            ".debug_macinfo.dwo",
+        ),
+        (SectionId::DebugMacro, ".debug_macro", ".debug_macro.dwo"),
+        (SectionId::DebugNames, ".debug_names", "-"),
+        (SectionId::DebugPubNames, ".debug_pubnames", "-"),
+        (SectionId::DebugPubTypes, ".debug_pubtypes", "-"),
+        (SectionId::DebugRanges, ".debug_ranges", "-"),
+        (
+            SectionId::DebugRngLists,
+            ".debug_rnglists",
+            ".debug_rnglists.dwo",
+        ),
+        (SectionId::DebugStr, ".debug_str", ".debug_str.dwo"),
+        (
+            SectionId::DebugStrOffsets,
+            ".debug_str_offsets",
+            ".debug_str_offsets.dwo",
+        ),
+        (
+            SectionId::DebugTuIndex,
+            ".debug_tu_index",
+            ".debug_tu_index",
+        ),
+        (SectionId::DebugTypes, ".debug_types", ".debug_types.dwo"),
+    ] {
+        assert_eq!(rt; section.name(), name);
+        assert_eq!(rt; section.dwo_name().unwrap_or("-"), dwo_name);
+        assert_eq!(rt;
+            section.is_string(),
+            name == ".debug_str" || name == ".debug_line_str"
+        );
+    }
+}
+
+/// System V ABI for AMD64, figure 3.36; DWARF for the Arm 64-bit Architecture, 4.1.
+#[test]
+fn registers_are_numbered_as_in_the_abis(rt: HostRuntime) {
+    assert_eq!(rt;
+        [X86_64::RBP, X86_64::RSP, X86_64::RA],
+        [Register(6), Register(7), Register(16)]
+    );
+    assert_eq!(rt; [AArch64::X29, AArch64::X30], [Register(29), Register(30)]);
+    assert_eq!(rt;
+        [AArch64::SP, AArch64::RA_SIGN_STATE],
+        [Register(31), Register(34)]
+    );
+}
+
+#[test]
+fn encodings_have_sizes_and_defaults(rt: HostRuntime) {
+    assert_eq!(rt;
+        (
+            Format::Dwarf32.initial_length_size(),
+            Format::Dwarf32.word_size()
+        ),
+        (4, 4)
+    );
+    assert_eq!(rt;
+        (
+            Format::Dwarf64.initial_length_size(),
+            Format::Dwarf64.word_size()
+        ),
+        (12, 8)
+    );
+    let line = LineEncoding::default();
+    assert_eq!(rt;
+        (
+            line.minimum_instruction_length,
+            line.maximum_operations_per_instruction
+        ),
+        (1, 1)
+    );
+    assert_eq!(rt;
+        (line.default_is_stmt, line.line_base, line.line_range),
+        (true, -5, 14)
+    );
+    assert_eq!(rt; DebugFrameOffset::from(0x10u32), DebugFrameOffset(0x10));
+    assert_eq!(rt; EhFrameOffset::from(0x10usize), EhFrameOffset(0x10));
+}
+
+#[test]
+fn string_offsets_begin_behind_a_header_in_new_split_files(rt: HostRuntime) {
+    for (format, version, file_type, base) in [
+        (Format::Dwarf32, 5, DwarfFileType::Dwo, 8),
+        (Format::Dwarf64, 5, DwarfFileType::Dwo, 16),
+        (Format::Dwarf64, 4, DwarfFileType::Dwo, 0),
+        (Format::Dwarf32, 5, DwarfFileType::Main, 0),
+    ] {
+        let encoding = Encoding {
+            address_size: 8,
+            format,
+            version,
+        };
+        let found = DebugStrOffsetsBase::<u64>::default_for_encoding_and_file(encoding, file_type);
+        assert_eq!(rt; found, DebugStrOffsetsBase(base));
+    }
+}
+
+#[test]
+fn plain_values_compare_by_their_numbers(rt: HostRuntime) {
+    assert!(rt; DwOp(3) < DwOp(4));
+    assert!(rt; DwForm(0x1f01) > DwForm(0x2c));
+    assert!(rt; Register(6) != Register(7));
+    assert!(rt; EhFrameOffset(7usize) < EhFrameOffset(8));
+    assert!(rt; ReaderOffsetId(7) == ReaderOffsetId(7));
+}
