@@ -1,32 +1,43 @@
 -- What a row holds behind one more instruction.
-use Rattle.std.proofs.Common.{◌≡◌, ℕ, ◌+◌, ◌<◌, ◌≤◌, ◌*◌, ◌%◌, ◌^◌, cond, ltb, List, [], ◌∷◌, ◌++◌, length, Some, None, is_some, unwrap_or, ◌==◌, sym, ap, ◌∙◌, pos, ℤ}
+use Rattle.std.proofs.Common.{◌≡◌, ℕ, ◌+◌, ◌<◌, ◌≤◌, ◌*◌, ◌%◌, ◌^◌, Bool, false, ◌&&◌, cond, ltb, List, [], ◌∷◌, ◌++◌, length, Option, Some, None, Ok, is_some, unwrap_or, ◌==◌, refl, sym, ap, ◌∙◌, pos, ℤ}
 use Rattle.std.specs.Int.{w64, cast_signed, cast_unsigned}
 use Rattle.std.specs.List.{filter_map, cons_option}
 use Rattle.std.proofs.lemmas.List.{append-nil}
 use Rattle.std.proofs.lemmas.List.Elements.{filter_map-append}
 use Rattle.std.proofs.lemmas.Bool.{lt-ltb, le-ltb}
 use Rattle.dwarf_constants.specs.declared.common.Register.{Register}
-use Rattle.dwarf_constants.specs.declared.error.Error.TheVariants.{TooManyRegisterRules}
+use Rattle.dwarf_constants.specs.declared.error.Error.{Error}
+use Rattle.dwarf_constants.specs.declared.error.Error.TheVariants.{CfiInstructionInInvalidContext, TooManyRegisterRules}
+use Rattle.unwind_commands.specs.declared.call_frames.expressions.UnwindExpression.{UnwindExpression}
 use Rattle.unwind_commands.specs.declared.call_frames.instructions.CallFrameInstruction.{CallFrameInstruction}
 use Rattle.unwind_commands.specs.declared.call_frames.instructions.CallFrameInstruction.TheVariants.{Offset}
 use Rattle.unwind_commands.specs.declared.call_frames.rows.CfaRule.{CfaRule}
-use Rattle.unwind_commands.specs.declared.call_frames.rows.CfaRule.TheVariants.{RegisterAndOffset}
 use Rattle.unwind_commands.specs.declared.call_frames.rows.RegisterRule.{RegisterRule}
 use Rattle.unwind_commands.specs.declared.call_frames.rows.RegisterRule.TheVariants as rule
 use Rattle.unwind_commands.specs.declared.call_frames.rows.RegisterRuleMap.{RegisterRuleMap}
 use Rattle.unwind_commands.specs.declared.call_frames.rows.UnwindTableRow.{UnwindTableRow}
+use Rattle.unwind_commands.specs.CfaRules.{with_register, with_offset}
 use Rattle.unwind_commands.specs.Entries.{Cie}
 use Rattle.unwind_commands.specs.RegisterRules.{rule_in, with_rule}
-use Rattle.unwind_commands.specs.Rows.{refusal_of, last_of, cfa_of, cfa_register_by, cfa_offset_by, rule_by, rules_written, last_rule, registers_ruled}
+use Rattle.unwind_commands.specs.Rows.{refusal_of, changes_cfa, last_of, cfa_of, cfa_from, cfa_expression_of, cfa_expression_by, cfa_register_by, cfa_offset_by, rule_by, rules_written, last_rule, registers_ruled}
 use Rattle.unwind_commands.specs.UnwindRows.{IsBehind}
 use Rattle.unwind_commands.proofs.RuleLists.{rule_in-with_rule, length-with_rule}
 use Rattle.unwind_commands.proofs.Fronts.{or_before, last_written-push, last_rule-push, registers_ruled-push}
 
+-- the register and the offset of the CFA, whether they count or not
+abbrev pub cfa_register_of : List CallFrameInstruction → Register
+cfa_register_of front = unwrap_or (last_of (filter_map cfa_register_by front)) (record { 0 = 0 })
+
+abbrev pub cfa_offset_of : List CallFrameInstruction → ℤ
+cfa_offset_of front = unwrap_or (last_of (filter_map cfa_offset_by front)) (pos 0)
+
 -- the CFA behind one more instruction: each part is the one that it writes, or else stays
-pub cfa_of-push : (front : List CallFrameInstruction) (i : CallFrameInstruction) → cfa_of (front ++ i ∷ []) ≡ RegisterAndOffset (unwrap_or (or_before (cfa_register_by i) (last_of (filter_map cfa_register_by front))) (record { 0 = 0 })) (unwrap_or (or_before (cfa_offset_by i) (last_of (filter_map cfa_offset_by front))) (pos 0))
+pub cfa_of-push : (front : List CallFrameInstruction) (i : CallFrameInstruction) → cfa_of (front ++ i ∷ []) ≡ cfa_from (unwrap_or (or_before (cfa_expression_by i) (last_of (filter_map cfa_expression_by front))) None) (unwrap_or (or_before (cfa_register_by i) (last_of (filter_map cfa_register_by front))) (record { 0 = 0 })) (unwrap_or (or_before (cfa_offset_by i) (last_of (filter_map cfa_offset_by front))) (pos 0))
 cfa_of-push front i =
-    ap (λ o. RegisterAndOffset (unwrap_or o (record { 0 = 0 })) (unwrap_or (last_of (filter_map cfa_offset_by (front ++ i ∷ []))) (pos 0))) (last_written-push cfa_register_by front i)
-    ∙ ap (λ o. RegisterAndOffset (unwrap_or (or_before (cfa_register_by i) (last_of (filter_map cfa_register_by front))) (record { 0 = 0 })) (unwrap_or o (pos 0))) (last_written-push cfa_offset_by front i)
+    let none : Option UnwindExpression = None in
+    ap (λ o. cfa_from (unwrap_or o none) (unwrap_or (last_of (filter_map cfa_register_by (front ++ i ∷ []))) (record { 0 = 0 })) (unwrap_or (last_of (filter_map cfa_offset_by (front ++ i ∷ []))) (pos 0))) (last_written-push cfa_expression_by front i)
+    ∙ ap (λ o. cfa_from (unwrap_or (or_before (cfa_expression_by i) (last_of (filter_map cfa_expression_by front))) none) (unwrap_or o (record { 0 = 0 })) (unwrap_or (last_of (filter_map cfa_offset_by (front ++ i ∷ []))) (pos 0))) (last_written-push cfa_register_by front i)
+    ∙ ap (λ o. cfa_from (unwrap_or (or_before (cfa_expression_by i) (last_of (filter_map cfa_expression_by front))) none) (unwrap_or (or_before (cfa_register_by i) (last_of (filter_map cfa_register_by front))) (record { 0 = 0 })) (unwrap_or o (pos 0))) (last_written-push cfa_offset_by front i)
 
 -- the rules behind one more instruction
 rules_written-push : (factor : ℤ) (front : List CallFrameInstruction) (i : CallFrameInstruction) → rules_written factor (front ++ i ∷ []) ≡ rules_written factor front ++ cons_option (rule_by factor i) []
@@ -49,11 +60,25 @@ behind_cfa cie front i row cfa h none is =
 unrefused : (n : ℕ) → n ≤ 192 → cond (ltb 192 n) (Some TooManyRegisterRules) None ≡ None
 unrefused n h = ap (λ b. cond b (Some TooManyRegisterRules) None) (le-ltb 192 n h)
 
+-- it changes no part of an expression
+may_change : (changes : Bool) (i : CallFrameInstruction) (otherwise : Option Error) → changes ≡ false → cond changes (Some CfiInstructionInInvalidContext) otherwise ≡ otherwise
+may_change changes i otherwise h = ap (λ b. cond b (Some CfiInstructionInInvalidContext) otherwise) h
+
 -- it isn't refused
-pub kept_cfa : (cie : Cie) (front : List CallFrameInstruction) (i : CallFrameInstruction) (row : UnwindTableRow) → IsBehind cie front row → rule_by cie.data_alignment_factor i ≡ None → refusal_of cie.data_alignment_factor front i ≡ None
-kept_cfa cie front i row h none =
-    ap (λ rules. cond (ltb 192 (registers_ruled rules)) (Some TooManyRegisterRules) None) (same_rules cie.data_alignment_factor front i none)
+pub kept_cfa : (cie : Cie) (front : List CallFrameInstruction) (i : CallFrameInstruction) (row : UnwindTableRow) → IsBehind cie front row → rule_by cie.data_alignment_factor i ≡ None → (changes_cfa i && is_some (cfa_expression_of front)) ≡ false → refusal_of cie.data_alignment_factor front i ≡ None
+kept_cfa cie front i row h none may =
+    may_change (changes_cfa i && is_some (cfa_expression_of front)) i _ may
+    ∙ ap (λ rules. cond (ltb 192 (registers_ruled rules)) (Some TooManyRegisterRules) None) (same_rules cie.data_alignment_factor front i none)
     ∙ unrefused (registers_ruled (rules_written cie.data_alignment_factor front)) (rw (← h.count) h.room)
+
+-- a part was changed where the CFA counts from a register
+pub part_changed : (o : Option UnwindExpression) (before register : Register) (offset : ℤ) (new : CfaRule) → Ok new ≡ with_register register (cfa_from o before offset) → (o ≡ None) × (new ≡ cfa_from o register offset)
+part_changed None before register offset new h = (refl, cc)
+part_changed (Some expression) before register offset new h = cc
+
+pub offset_changed : (o : Option UnwindExpression) (register : Register) (before offset : ℤ) (new : CfaRule) → Ok new ≡ with_offset offset (cfa_from o register before) → (o ≡ None) × (new ≡ cfa_from o register offset)
+offset_changed None register before offset new h = (refl, cc)
+offset_changed (Some expression) register before offset new h = cc
 
 -- the rule that DW_CFA_offset writes
 abbrev pub offset_rule : ℤ → ℕ → RegisterRule

@@ -1,15 +1,16 @@
 -- The list of instructions, one read after the other.
-use Rattle.std.proofs.Common.{◌≡◌, ℕ, zero, suc, ◌-◌, ◌/◌, ◌<◌, ◌≤◌, false, List, [], ◌∷◌, length, take, Result, Ok, Err, refl, sym, ap, ◌∙◌, arith}
-use Rattle.std.specs.Prelude.{◌==◌}
+use Rattle.std.proofs.Common.{◌≡◌, ℕ, zero, suc, ◌-◌, ◌/◌, ◌<◌, ◌≤◌, Bool, true, false, cond, List, [], ◌∷◌, length, take, Result, Ok, Err, refl, sym, ap, ◌∙◌, arith}
+use Rattle.std.specs.Prelude.{◌==◌, nat_lt}
 use Rattle.std.proofs.Math.Dec.{eqb-suc-zero}
 use Rattle.std.specs.Int.{w8}
 use Rattle.dwarf_constants.specs.declared.error.Error.{Error}
 use Rattle.dwarf_constants.specs.declared.error.Error.TheVariants.{BadUnsignedLeb128}
+use Rattle.unwind_commands.specs.declared.call_frames.expressions.UnwindExpression.{UnwindExpression}
 use Rattle.unwind_commands.specs.declared.call_frames.instructions.CallFrameInstruction.{CallFrameInstruction}
-use Rattle.unwind_commands.specs.Place.{Stretch}
+use Rattle.unwind_commands.specs.Place.{Stretch, ◌>>=◌, skip_at, ends_at, front, behind}
 use Rattle.unwind_commands.specs.Leb128.{unsigned_at, unsigned_16_at, unsigned_below, string_of}
-use Rattle.unwind_commands.specs.Instructions.{extended_at, operands_at, instruction_at, listed, instructions_within, instructions_of}
-use Rattle.unwind_commands.proofs.Lengths.{Leaves, leaves_then, leaves_if, leaves_ok, leaves_leb128, leaves_err, leaves_here, IsShort, leaves_number, leaves_more}
+use Rattle.unwind_commands.specs.Instructions.{skipped_expression, extended_at, operands_at, instruction_at, listed, instructions_within, instructions_of}
+use Rattle.unwind_commands.proofs.Lengths.{Leaves, leaves_then, leaves_if, leaves_ok, leaves_leb128, leaves_err, leaves_here, IsShort, leaves_number, leaves_more, behind_less}
 
 leaves_unsigned : (n : ℕ) (s : Stretch) → length s.bytes ≤ n → Leaves n (unsigned_at s)
 leaves_unsigned n s le = leaves_more (length s.bytes) n _ le (leaves_leb128 10 BadUnsignedLeb128 (unsigned_below 64) s (string_of (take 10 s.bytes)))
@@ -17,13 +18,30 @@ leaves_unsigned n s le = leaves_more (length s.bytes) n _ le (leaves_leb128 10 B
 leaves_unsigned_16 : (n : ℕ) (s : Stretch) → length s.bytes ≤ n → Leaves n (unsigned_16_at s)
 leaves_unsigned_16 n s le = leaves_more (length s.bytes) n _ le (leaves_leb128 3 BadUnsignedLeb128 (unsigned_below 16) s (string_of (take 3 s.bytes)))
 
+abbrev expression_from : ℕ → ℕ → UnwindExpression
+expression_from place count = record { offset = place; length = count }
+
+abbrev split_if : Bool → ℕ → Stretch → Result (Stretch × Stretch) Error
+split_if short count s = cond short (Err (ends_at s.place)) (Ok (front count s, behind count s))
+
+leaves_skip : (n count : ℕ) (s : Stretch) → length s.bytes ≤ n → Leaves n (skip_at count s >>= (λ left. Ok (expression_from s.place count, left)))
+leaves_skip n count s le = skipped (nat_lt (length s.bytes) count)
+  where
+    skipped : (b : Bool) → Leaves n ((split_if b count s >>= (λ parts. Ok parts.1)) >>= (λ left. Ok (expression_from s.place count, left)))
+    skipped true = leaves_err
+    skipped false = leaves_here (omega (arith, behind_less count s))
+
+leaves_skipped : (n : ℕ) (s : Stretch) → length s.bytes ≤ n → Leaves n (skipped_expression s)
+leaves_skipped n s le = leaves_then (leaves_unsigned n s le) (λ count more. leaves_skip n count.0 count.1 more)
+
 leaves_extended : (n opcode : ℕ) (s : Stretch) → length s.bytes ≤ n → Leaves n (extended_at opcode s)
 leaves_extended n opcode s le =
     leaves_if _ (opcode == 0x00) _ _ (leaves_here le)
     (leaves_if _ (opcode == 0x0c) _ _ (leaves_then (leaves_unsigned_16 n s le) (λ r more. leaves_then (leaves_unsigned n r.1 more) (λ o rest. leaves_here rest)))
     (leaves_if _ (opcode == 0x0d) _ _ (leaves_then (leaves_unsigned_16 n s le) (λ r rest. leaves_here rest))
     (leaves_if _ (opcode == 0x0e) _ _ (leaves_then (leaves_unsigned n s le) (λ o rest. leaves_here rest))
-    leaves_err)))
+    (leaves_if _ (opcode == 0x0f) _ _ (leaves_then (leaves_skipped n s le) (λ e rest. leaves_here rest))
+    leaves_err))))
 
 leaves_operands : (n opcode : ℕ) (s : Stretch) → length s.bytes ≤ n → Leaves n (operands_at opcode s)
 leaves_operands n opcode s le =

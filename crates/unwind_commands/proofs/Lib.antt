@@ -1,5 +1,6 @@
 pub mod Behind
 pub mod DecodedNumbers
+pub mod DirectRows
 pub mod DocumentLemmas
 pub mod EntryIndex
 pub mod EntryLists
@@ -15,12 +16,12 @@ pub mod RowsFor
 pub mod RowsOfRules
 pub mod RuleLists
 pub mod Runs
+pub mod SectionData
 pub mod SignedReads
+pub mod StepLines
 pub mod Steps
+pub mod StillCallback
 pub mod TableSteps
 pub mod WholeDocument
 pub mod WorkedRows
 pub mod WorkedSteps
-pub mod SectionData
-pub mod StillCallback
-pub mod StepLines

@@ -5,7 +5,7 @@ use Rattle.dwarf_constants.specs.declared.error.Error.{Error}
 use Rattle.std.proofs.lemmas.List.{drop-drop}
 use Rattle.unwind_commands.specs.Place.{Stretch, behind, Gives}
 
-same_stretch : (a b : List ℕ) (m n : ℕ) → a ≡ b → m ≡ n → ◌≡◌ {A = Stretch} (record { bytes = a; place = m }) (record { bytes = b; place = n })
+pub same_stretch : (a b : List ℕ) (m n : ℕ) → a ≡ b → m ≡ n → ◌≡◌ {A = Stretch} (record { bytes = a; place = m }) (record { bytes = b; place = n })
 same_stretch a b m n p q = cc
 
 pub behind_behind : (s : Stretch) (n m : ℕ) → behind m (behind n s) ≡ behind (n + m) s

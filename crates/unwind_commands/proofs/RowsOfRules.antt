@@ -16,7 +16,7 @@ use Rattle.framehop_rules.specs.declared.x86_64.unwind_rule.UnwindRuleX86_64.{Un
 use Rattle.framehop_rules.specs.declared.x86_64.unwind_rule.UnwindRuleX86_64.TheVariants.{EndOfStack, OffsetSp, OffsetSpAndRestoreBp, UseFramePointer}
 use Rattle.framehop_rules.specs.declared.x86_64.unwindregs.UnwindRegsX86_64.{UnwindRegsX86_64}
 use Rattle.unwind_commands.specs.declared.call_frames.rows.CfaRule.{CfaRule}
-use Rattle.unwind_commands.specs.declared.call_frames.rows.CfaRule.TheVariants.{RegisterAndOffset}
+use Rattle.unwind_commands.specs.declared.call_frames.rows.CfaRule.TheVariants.{RegisterAndOffset, Expression}
 use Rattle.unwind_commands.specs.declared.call_frames.rows.RegisterRule.{RegisterRule}
 use Rattle.unwind_commands.specs.declared.call_frames.rows.RegisterRule.TheVariants as rule
 use Rattle.unwind_commands.specs.ScaledRow.{Parts, eighth_of, as_u16, as_i16, scaled_rule, from_return_address, from_register, from_sp, from_bp}
@@ -267,6 +267,8 @@ law-gives cfa bp None how first registers words caller says h =
     let is : EndOfStack ≡ how = cc in
     let P : UnwindRuleX86_64 → Type 0 = λ r. rule_meaning r first registers words ≡ Gives caller in
     let ended : Ends ≡ Gives caller = subst P (sym is) h in cc
+law-gives (Expression expression) bp (Some (rule.Offset stored)) how first registers words caller says h =
+    by_test (int_eq stored (negsuc 7)) None None how (λ _ none. cc) (λ _ none. cc) says
 law-gives (RegisterAndOffset register offset) bp (Some (rule.Offset stored)) how first registers words caller says h =
     by_test (int_eq stored (negsuc 7)) (from_register register offset bp) None how
     (λ at row. rw ((Decides-int_eq stored (negsuc 7)).0 at)

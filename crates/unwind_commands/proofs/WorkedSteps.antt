@@ -4,7 +4,7 @@ use Rattle.std.specs.Prelude.{slice_get, ◌==◌, if◌then◌else◌}
 use Rattle.framehop_rules.specs.Callback.{Words}
 use Rattle.framehop_rules.specs.Outcome.{Outcome, Refuses, Gives, Caller}
 use Rattle.framehop_rules.specs.Registers.{ip_of, sp_of, bp_of}
-use Rattle.framehop_rules.specs.declared.error.Error.TheVariants.{IntegerOverflow}
+use Rattle.framehop_rules.specs.declared.error.Error.TheVariants.{FramepointerUnwindingMovedBackwards, IntegerOverflow}
 use Rattle.framehop_rules.specs.declared.code_address.FrameAddress.TheVariants.{InstructionPointer}
 use Rattle.framehop_rules.specs.declared.x86_64.unwindregs.UnwindRegsX86_64.{UnwindRegsX86_64}
 use Rattle.unwind_commands.specs.ModuleFound.{Loaded}
@@ -27,6 +27,14 @@ no_offset = 16 ∷ 0 ∷ 0 ∷ 0 ∷ 0 ∷ 0 ∷ 0 ∷ 0 ∷ 1 ∷ 0 ∷ 1 ∷ 1
 -- the first 30 bytes, which cut the FDE
 abbrev cut : List ℕ
 cut = 16 ∷ 0 ∷ 0 ∷ 0 ∷ 0 ∷ 0 ∷ 0 ∷ 0 ∷ 1 ∷ 0 ∷ 1 ∷ 120 ∷ 16 ∷ 12 ∷ 7 ∷ 8 ∷ 144 ∷ 1 ∷ 0 ∷ 0 ∷ 28 ∷ 0 ∷ 0 ∷ 0 ∷ 24 ∷ 0 ∷ 0 ∷ 0 ∷ 0 ∷ 16 ∷ []
+
+-- a CFA at offset 12 from RSP, which is no number of words
+abbrev twelve : List ℕ
+twelve = 16 ∷ 0 ∷ 0 ∷ 0 ∷ 0 ∷ 0 ∷ 0 ∷ 0 ∷ 1 ∷ 0 ∷ 1 ∷ 120 ∷ 16 ∷ 12 ∷ 7 ∷ 8 ∷ 144 ∷ 1 ∷ 0 ∷ 0 ∷ 28 ∷ 0 ∷ 0 ∷ 0 ∷ 24 ∷ 0 ∷ 0 ∷ 0 ∷ 0 ∷ 16 ∷ 0 ∷ 0 ∷ 0 ∷ 0 ∷ 0 ∷ 0 ∷ 16 ∷ 0 ∷ 0 ∷ 0 ∷ 0 ∷ 0 ∷ 0 ∷ 0 ∷ 14 ∷ 12 ∷ 0 ∷ 0 ∷ 0 ∷ 0 ∷ 0 ∷ 0 ∷ 0 ∷ 0 ∷ 0 ∷ 0 ∷ []
+
+-- a second function, whose CFA is the expression RSP + 8
+abbrev by_expression : List ℕ
+by_expression = 16 ∷ 0 ∷ 0 ∷ 0 ∷ 0 ∷ 0 ∷ 0 ∷ 0 ∷ 1 ∷ 0 ∷ 1 ∷ 120 ∷ 16 ∷ 12 ∷ 7 ∷ 8 ∷ 144 ∷ 1 ∷ 0 ∷ 0 ∷ 28 ∷ 0 ∷ 0 ∷ 0 ∷ 24 ∷ 0 ∷ 0 ∷ 0 ∷ 0 ∷ 16 ∷ 0 ∷ 0 ∷ 0 ∷ 0 ∷ 0 ∷ 0 ∷ 16 ∷ 0 ∷ 0 ∷ 0 ∷ 0 ∷ 0 ∷ 0 ∷ 0 ∷ 65 ∷ 14 ∷ 16 ∷ 134 ∷ 2 ∷ 67 ∷ 13 ∷ 6 ∷ 24 ∷ 0 ∷ 0 ∷ 0 ∷ 56 ∷ 0 ∷ 0 ∷ 0 ∷ 16 ∷ 16 ∷ 0 ∷ 0 ∷ 0 ∷ 0 ∷ 0 ∷ 0 ∷ 16 ∷ 0 ∷ 0 ∷ 0 ∷ 0 ∷ 0 ∷ 0 ∷ 0 ∷ 15 ∷ 2 ∷ 119 ∷ 8 ∷ 0 ∷ 0 ∷ 0 ∷ 0 ∷ []
 
 abbrev loaded : List ℕ → List Loaded
 loaded section = record { start = 0x100000; end = 0x102000; base = 0x100000; base_svma = 0; eh_frame = Some section } ∷ []
@@ -53,3 +61,12 @@ of_a_cut_section = refl
 
 below_the_stack : judge (loaded no_offset) (InstructionPointer 0x101000) (registers 0x101000 0 0x20) words ≡ Refuses IntegerOverflow
 below_the_stack = refl
+
+by_12_bytes : numbers (judge (loaded twelve) (InstructionPointer 0x101000) (registers 0x101000 0x14 0x20) words) ≡ 4 ∷ 4 ∷ 0x20 ∷ 0x20 ∷ []
+by_12_bytes = refl
+
+by_an_expression : numbers (judge (loaded by_expression) (InstructionPointer 0x101010) (registers 0x101010 0x10 0x20) words) ≡ 0x100300 ∷ 0x100300 ∷ 0x18 ∷ 0x20 ∷ []
+by_an_expression = refl
+
+above_the_stack : judge (loaded by_expression) (InstructionPointer 0x101010) (registers 0x101010 0x1000 0x20) words ≡ Refuses FramepointerUnwindingMovedBackwards
+above_the_stack = refl

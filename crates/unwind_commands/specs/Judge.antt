@@ -1,5 +1,5 @@
 -- One step of a stack walk, from the modules, the code address of the frame, its registers and the words of the stack.
-use Rattle.std.specs.Prelude.{◌≡◌, ℕ, ◌-◌, List, Bool, true, false, Option, Some, None}
+use Rattle.std.specs.Prelude.{◌≡◌, ℕ, ◌-◌, List, Bool, true, false, Option, Some, None, Result, Ok, Err}
 use Rattle.framehop_rules.specs.Callback.{Words}
 use Rattle.framehop_rules.specs.FrameAddress.{lookup_address_of}
 use Rattle.framehop_rules.specs.Outcome.{Outcome, Gives, Caller}
@@ -9,7 +9,9 @@ use Rattle.framehop_rules.specs.declared.code_address.FrameAddress.TheVariants.{
 use Rattle.framehop_rules.specs.declared.x86_64.unwind_rule.UnwindRuleX86_64.TheVariants.{UseFramePointer}
 use Rattle.framehop_rules.specs.declared.x86_64.unwind_rule.UnwindRuleX86_64.{UnwindRuleX86_64}
 use Rattle.framehop_rules.specs.declared.x86_64.unwindregs.UnwindRegsX86_64.{UnwindRegsX86_64}
-use Rattle.unwind_commands.specs.Attempt.{Attempt, Rules, Scales, Fails, attempt}
+use Rattle.unwind_commands.specs.declared.framehop.dwarf.DwarfUnwinderError.{DwarfUnwinderError}
+use Rattle.unwind_commands.specs.Attempt.{Attempt, Rules, Scales, Evaluates, Fails, attempt}
+use Rattle.unwind_commands.specs.DirectRow.{direct_answer}
 use Rattle.unwind_commands.specs.ModuleFound.{Loaded, module_found}
 use Rattle.unwind_commands.specs.RowAnswer.{row_answer}
 use Rattle.unwind_commands.specs.ScaledRow.{Parts, scaled_rule}
@@ -29,11 +31,17 @@ abbrev pub RulesSayTheirRows : Type 0
 RulesSayTheirRows = (parts : Parts) (rule : UnwindRuleX86_64) (first : Bool) (registers : UnwindRegsX86_64) (words : Words)
     → scaled_rule parts ≡ Some rule → with_numbers (row_answer registers words parts) (rule_meaning rule first registers words) ≡ rule_meaning rule first registers words
 
+-- a direct answer, or what is done where there is none
+abbrev pub or_else : Result (Caller UnwindRegsX86_64) DwarfUnwinderError → Outcome (Caller UnwindRegsX86_64) → Outcome (Caller UnwindRegsX86_64)
+or_else (Ok caller) otherwise = Gives caller
+or_else (Err failure) otherwise = otherwise
+
 -- what a module's attempt comes to. Whether a scaled row answers, ends or refuses is its rule's, the numbers of an
--- answer are the row's. After a failure the frame pointer is followed
+-- answer are the row's. After a failure, that of a direct row among them, the frame pointer is followed
 abbrev pub by_attempt : Bool → UnwindRegsX86_64 → Words → Attempt → Outcome (Caller UnwindRegsX86_64)
 by_attempt first registers words (Rules rule) = rule_meaning rule first registers words
 by_attempt first registers words (Scales rule parts) = with_numbers (row_answer registers words parts) (rule_meaning rule first registers words)
+by_attempt first registers words (Evaluates section parts) = or_else (direct_answer first registers words section parts) (rule_meaning UseFramePointer first registers words)
 by_attempt first registers words (Fails failure) = rule_meaning UseFramePointer first registers words
 
 -- without a module the frame pointer is followed

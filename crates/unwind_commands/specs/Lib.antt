@@ -3,11 +3,14 @@ pub mod CfaRules
 pub mod CommandViews
 pub mod Commands
 pub mod Digits
+pub mod DirectRow
+pub mod DirectViews
 pub mod Document
 pub mod EndianSlice
 pub mod Entries
 pub mod EntryFor
 pub mod EntryViews
+pub mod Expressions
 pub mod Faults
 pub mod InstanceViews
 pub mod Instructions
@@ -27,5 +30,6 @@ pub mod ScaledRow
 pub mod Stream
 pub mod TableLends
 pub mod Text
+pub mod UnwindResults
 pub mod UnwindRows
 pub mod UnwindTable

@@ -7,7 +7,7 @@ use Rattle.framehop_rules.specs.Registers.{ip_of, sp_of, bp_of, with_ip, with_re
 use Rattle.framehop_rules.specs.declared.x86_64.unwindregs.Reg.TheVariants as reg
 use Rattle.framehop_rules.specs.declared.x86_64.unwindregs.UnwindRegsX86_64.{UnwindRegsX86_64}
 use Rattle.unwind_commands.specs.declared.call_frames.rows.CfaRule.{CfaRule}
-use Rattle.unwind_commands.specs.declared.call_frames.rows.CfaRule.TheVariants.{RegisterAndOffset}
+use Rattle.unwind_commands.specs.declared.call_frames.rows.CfaRule.TheVariants.{RegisterAndOffset, Expression}
 use Rattle.unwind_commands.specs.declared.call_frames.rows.RegisterRule.{RegisterRule}
 use Rattle.unwind_commands.specs.declared.call_frames.rows.RegisterRule.TheVariants as rule
 use Rattle.unwind_commands.specs.ScaledRow.{Parts, RBP, RSP, RA}
@@ -29,9 +29,10 @@ in_range (negsuc n) = None
 abbrev pub plus : ℕ → ℤ → Option ℕ
 plus base offset = in_range (pos base +ℤ offset)
 
--- the canonical frame address
+-- the canonical frame address, where it counts from a register
 abbrev pub cfa_value : UnwindRegsX86_64 → CfaRule → Option ℕ
 cfa_value registers (RegisterAndOffset register offset) = option_and_then (λ base. plus base offset) (value_of registers register)
+cfa_value registers (Expression expression) = None
 
 -- what a column gives at a CFA
 abbrev pub column_value : Words → ℕ → RegisterRule → Option ℕ

@@ -1,14 +1,15 @@
 -- The rows of a frame description entry (DWARF 5, 6.4.1 to 6.4.3).
-use Rattle.std.specs.Prelude.{ℕ, ◌+◌, ◌*◌, ◌%◌, ◌^◌, ℤ, pos, List, [], ◌∷◌, ◌++◌, Bool, ◌&&◌, Option, Some, None, is_some, unwrap_or, Result, Ok, Err, ◌==◌, nat_lt, nat_le, if◌then◌else◌}
+use Rattle.std.specs.Prelude.{ℕ, ◌+◌, ◌*◌, ◌%◌, ◌^◌, ℤ, pos, List, [], ◌∷◌, ◌++◌, Bool, true, false, ◌&&◌, Option, Some, None, is_some, unwrap_or, Result, Ok, Err, ◌==◌, nat_lt, nat_le, if◌then◌else◌}
 use Rattle.std.specs.List.{filter_map, find}
 use Rattle.std.specs.Int.{w64, cast_signed, cast_unsigned}
 use Rattle.dwarf_constants.specs.declared.common.Register.{Register}
 use Rattle.dwarf_constants.specs.declared.error.Error.{Error}
-use Rattle.dwarf_constants.specs.declared.error.Error.TheVariants.{AddressOverflow, TooManyRegisterRules, NoUnwindInfoForAddress}
+use Rattle.dwarf_constants.specs.declared.error.Error.TheVariants.{AddressOverflow, CfiInstructionInInvalidContext, TooManyRegisterRules, NoUnwindInfoForAddress}
+use Rattle.unwind_commands.specs.declared.call_frames.expressions.UnwindExpression.{UnwindExpression}
 use Rattle.unwind_commands.specs.declared.call_frames.instructions.CallFrameInstruction.{CallFrameInstruction}
-use Rattle.unwind_commands.specs.declared.call_frames.instructions.CallFrameInstruction.TheVariants.{AdvanceLoc, DefCfa, DefCfaRegister, DefCfaOffset, Offset}
+use Rattle.unwind_commands.specs.declared.call_frames.instructions.CallFrameInstruction.TheVariants.{AdvanceLoc, DefCfa, DefCfaRegister, DefCfaOffset, DefCfaExpression, Offset}
 use Rattle.unwind_commands.specs.declared.call_frames.rows.CfaRule.{CfaRule}
-use Rattle.unwind_commands.specs.declared.call_frames.rows.CfaRule.TheVariants.{RegisterAndOffset}
+use Rattle.unwind_commands.specs.declared.call_frames.rows.CfaRule.TheVariants.{RegisterAndOffset, Expression}
 use Rattle.unwind_commands.specs.declared.call_frames.rows.RegisterRule.{RegisterRule}
 use Rattle.unwind_commands.specs.declared.call_frames.rows.RegisterRule.TheVariants as rule
 use Rattle.unwind_commands.specs.Entries.{Cie, Fde, end_address}
@@ -34,14 +35,29 @@ cfa_offset_by (DefCfa register offset) = Some (cast_signed w64 offset)
 cfa_offset_by (DefCfaOffset offset) = Some (cast_signed w64 offset)
 cfa_offset_by _ = None
 
+-- the expression that an instruction makes the CFA, or none where it makes it count from a register
+abbrev pub cfa_expression_by : CallFrameInstruction → Option (Option UnwindExpression)
+cfa_expression_by (DefCfaExpression expression) = Some (Some expression)
+cfa_expression_by (DefCfa register offset) = Some None
+cfa_expression_by _ = None
+
 -- the register that an instruction gives a rule, and the rule; a factored offset is multiplied modulo 2^64
 abbrev pub rule_by : ℤ → CallFrameInstruction → Option (Register × RegisterRule)
 rule_by factor (Offset register factored) = Some (register, rule.Offset (cast_signed w64 ((factored * cast_unsigned w64 factor) % 2 ^ 64)))
 rule_by factor _ = None
 
--- the CFA: the register and the offset last written, each 0 before it is
+-- the expression that the CFA is, where the last instruction that writes it whole gives one
+abbrev pub cfa_expression_of : List CallFrameInstruction → Option UnwindExpression
+cfa_expression_of front = unwrap_or (last_of (filter_map cfa_expression_by front)) None
+
+-- an expression as the CFA, or else a register and an offset
+abbrev pub cfa_from : Option UnwindExpression → Register → ℤ → CfaRule
+cfa_from (Some expression) register offset = Expression expression
+cfa_from None register offset = RegisterAndOffset register offset
+
+-- the CFA: the expression, or the register and the offset last written, each 0 before it is
 abbrev pub cfa_of : List CallFrameInstruction → CfaRule
-cfa_of front = RegisterAndOffset (unwrap_or (last_of (filter_map cfa_register_by front)) (record { 0 = 0 })) (unwrap_or (last_of (filter_map cfa_offset_by front)) (pos 0))
+cfa_of front = cfa_from (cfa_expression_of front) (unwrap_or (last_of (filter_map cfa_register_by front)) (record { 0 = 0 })) (unwrap_or (last_of (filter_map cfa_offset_by front)) (pos 0))
 
 -- the rules in the order in which they were written
 abbrev pub rules_written : ℤ → List CallFrameInstruction → List (Register × RegisterRule)
@@ -77,9 +93,17 @@ pub record Rows : Type 0 where
   pub rows : List Row
   pub refusal : Option Error
 
--- why an instruction is refused behind a front: there is room for the rules of 192 registers
+-- the instruction changes a CFA in part, which has to count from a register
+abbrev pub changes_cfa : CallFrameInstruction → Bool
+changes_cfa (DefCfaRegister register) = true
+changes_cfa (DefCfaOffset offset) = true
+changes_cfa _ = false
+
+-- why an instruction is refused behind a front: an expression has no parts, and there is room for the rules of 192 registers
 abbrev pub refusal_of : ℤ → List CallFrameInstruction → CallFrameInstruction → Option Error
-refusal_of factor front i = if nat_lt 192 (registers_ruled (rules_written factor (front ++ i ∷ []))) then Some TooManyRegisterRules else None
+refusal_of factor front i =
+    if changes_cfa i && is_some (cfa_expression_of front) then Some CfiInstructionInInvalidContext
+    else if nat_lt 192 (registers_ruled (rules_written factor (front ++ i ∷ []))) then Some TooManyRegisterRules else None
 
 -- what an instruction does behind a front, where the location is at this address
 pub data Step : Type 0 where

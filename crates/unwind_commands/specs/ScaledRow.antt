@@ -5,7 +5,7 @@ use Rattle.dwarf_constants.specs.declared.common.Register.{Register}
 use Rattle.framehop_rules.specs.declared.x86_64.unwind_rule.UnwindRuleX86_64.{UnwindRuleX86_64}
 use Rattle.framehop_rules.specs.declared.x86_64.unwind_rule.UnwindRuleX86_64.TheVariants.{EndOfStack, OffsetSp, OffsetSpAndRestoreBp, UseFramePointer}
 use Rattle.unwind_commands.specs.declared.call_frames.rows.CfaRule.{CfaRule}
-use Rattle.unwind_commands.specs.declared.call_frames.rows.CfaRule.TheVariants.{RegisterAndOffset}
+use Rattle.unwind_commands.specs.declared.call_frames.rows.CfaRule.TheVariants.{RegisterAndOffset, Expression}
 use Rattle.unwind_commands.specs.declared.call_frames.rows.RegisterRule.{RegisterRule}
 use Rattle.unwind_commands.specs.declared.call_frames.rows.RegisterRule.TheVariants as rule
 use Rattle.unwind_commands.specs.Rows.{Row, cfa_of, rules_written, last_rule}
@@ -16,15 +16,13 @@ pub record Parts : Type 0 where
   pub bp : Option RegisterRule
   pub ra : Option RegisterRule
 
--- the number of RBP
+-- the numbers of RBP, RSP and of the return address's column
 abbrev pub RBP : Register
 RBP = record { 0 = 6 }
 
--- the number of RSP
 abbrev pub RSP : Register
 RSP = record { 0 = 7 }
 
--- the number of the return address's column
 abbrev pub RA : Register
 RA = record { 0 = 16 }
 
@@ -75,6 +73,7 @@ from_register register offset bp =
 -- the CFA and RBP
 abbrev pub from_cfa : CfaRule → Option RegisterRule → Option UnwindRuleX86_64
 from_cfa (RegisterAndOffset register offset) bp = from_register register offset bp
+from_cfa (Expression expression) bp = None
 
 -- the rule by the column of the return address: it is stored at the CFA less 8; without one the stack ends
 abbrev pub from_return_address : CfaRule → Option RegisterRule → Option RegisterRule → Option UnwindRuleX86_64

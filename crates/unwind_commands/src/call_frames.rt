@@ -1,6 +1,7 @@
 //! Call frame information in `.eh_frame` (DWARF 5, 6.4; LSB 5.0, 10.6).
 
 mod entries;
+mod expressions;
 mod instructions;
 mod rows;
 mod table;
@@ -9,6 +10,7 @@ pub use entries::{
     CfiEntriesIter, CieOrFde, CommonInformationEntry, EhFrame, FrameDescriptionEntry,
     PartialFrameDescriptionEntry,
 };
+pub use expressions::{Expression, UnwindExpression};
 pub use instructions::{CallFrameInstruction, CallFrameInstructionIter};
 pub use rows::{CfaRule, RegisterRule, UnwindTableRow};
 pub use table::{UnwindContext, UnwindTable};

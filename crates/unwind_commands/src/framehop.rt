@@ -2,6 +2,8 @@
 
 mod dwarf;
 mod error;
+mod evaluation;
+mod unwind_result;
 mod unwinder;
 mod x86_64;
 

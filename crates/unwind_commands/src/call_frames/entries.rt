@@ -22,6 +22,13 @@ impl<'a> EhFrame<'a> {
         EhFrame { section }
     }
 
+    /// The section from its start on.
+    pub(crate) fn reader(&self) -> EndianSlice<'a>
+        ensures { stretch result ≡ whole (section_bytes self.now) }
+    {
+        EndianSlice::new(self.section)
+    }
+
     /// The entries in their order.
     pub fn entries(&self) -> CfiEntriesIter<'a>
         ensures { entries_left result ≡ whole (section_bytes self.now) }

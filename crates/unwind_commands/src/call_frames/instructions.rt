@@ -1,9 +1,10 @@
 ghost use Rattle.std.specs.Prelude.{◌≡◌, ◌<◌, [], length, IfOk, IfErr, IfSome, OnErr, MatchOption};
 ghost use Rattle.unwind_commands.specs.Place.{Gives};
 ghost use Rattle.unwind_commands.specs.EndianSlice.{stretch};
-ghost use Rattle.unwind_commands.specs.Instructions.{extended_at, operands_at, instruction_at, instructions_of, with_next};
+ghost use Rattle.unwind_commands.specs.Instructions.{skipped_expression, extended_at, operands_at, instruction_at, instructions_of, with_next};
 ghost use Rattle.unwind_commands.specs.EntryViews.{instructions_left};
 
+use crate::call_frames::UnwindExpression;
 use crate::read_core::EndianSlice;
 use dwarf_constants::{DwCfa, Error, Register, Result};
 
@@ -26,6 +27,10 @@ pub enum CallFrameInstruction {
     /// The CFA keeps its register, and is at this offset, which isn't factored.
     DefCfaOffset {
         offset: u64,
+    },
+    /// The CFA is the value of an expression.
+    DefCfaExpression {
+        expression: UnwindExpression,
     },
     /// The register is saved at the CFA plus `factored_offset` times the data alignment factor.
     Offset {
@@ -113,6 +118,20 @@ fn parse_extended(opcode: u8, input: &mut EndianSlice) -> Result<CallFrameInstru
             let offset = input.read_uleb128()?;
             Ok(CallFrameInstruction::DefCfaOffset { offset })
         }
+        0x0f => {
+            let expression = parse_expression(input)?;
+            Ok(CallFrameInstruction::DefCfaExpression { expression })
+        }
         _ => Err(Error::UnknownCallFrameInstruction(DwCfa(opcode))),
     }
+}
+
+/// Passes an expression behind its length, and keeps its place.
+fn parse_expression(input: &mut EndianSlice) -> Result<UnwindExpression>
+    ensures { Gives (λ expression. (expression, stretch input.new)) result (skipped_expression (stretch input.old)) }
+{
+    let length = input.read_uleb128()?;
+    let offset = input.offset_id().0;
+    input.skip(length as usize)?;
+    Ok(UnwindExpression { offset, length })
 }

@@ -5,7 +5,9 @@ ghost use Rattle.unwind_commands.specs.EntryViews.{cie_view, instructions_left};
 ghost use Rattle.unwind_commands.specs.Instructions.{instructions_of};
 ghost use Rattle.unwind_commands.specs.RegisterRules.{rule_in, with_rule};
 
-use crate::call_frames::{CallFrameInstruction, CallFrameInstructionIter, CommonInformationEntry};
+use crate::call_frames::{
+    CallFrameInstruction, CallFrameInstructionIter, CommonInformationEntry, UnwindExpression,
+};
 use arrayvec::ArrayVec;
 use dwarf_constants::{Error, Register, Result};
 
@@ -14,28 +16,32 @@ use dwarf_constants::{Error, Register, Result};
 pub enum CfaRule {
     /// The register's value plus the offset in bytes.
     RegisterAndOffset { register: Register, offset: i64 },
+    /// The value of an expression.
+    Expression(UnwindExpression),
 }
 
 impl CfaRule {
     ghost use Rattle.unwind_commands.specs.CfaRules.{with_register, with_offset};
 
-    /// The same offset from another register.
-    fn with_register(self, register: Register) -> Self
+    /// The same offset from another register. Fails on an expression.
+    fn with_register(self, register: Register) -> Result<Self>
         ensures { result ≡ with_register register self }
     {
         match self {
             CfaRule::RegisterAndOffset { offset, .. } => {
-                CfaRule::RegisterAndOffset { register, offset }
+                Ok(CfaRule::RegisterAndOffset { register, offset })
             }
+            CfaRule::Expression(_) => Err(Error::CfiInstructionInInvalidContext),
         }
     }
 
-    /// Another offset from the same register, read as a signed number.
-    fn with_offset(self, offset: u64) -> Self
+    /// Another offset from the same register, read as a signed number. Fails on an expression.
+    fn with_offset(self, offset: u64) -> Result<Self>
         ensures { result ≡ with_offset (cast_signed w64 offset) self }
     {
         match self {
-            CfaRule::RegisterAndOffset { register, .. } => CfaRule::counted(register, offset),
+            CfaRule::RegisterAndOffset { register, .. } => Ok(CfaRule::counted(register, offset)),
+            CfaRule::Expression(_) => Err(Error::CfiInstructionInInvalidContext),
         }
     }
 
@@ -277,10 +283,13 @@ impl UnwindTableRow {
                 self.cfa = CfaRule::counted(register, offset);
             }
             CallFrameInstruction::DefCfaRegister { register } => {
-                self.cfa = self.cfa.with_register(register);
+                self.cfa = self.cfa.with_register(register)?;
             }
             CallFrameInstruction::DefCfaOffset { offset } => {
-                self.cfa = self.cfa.with_offset(offset);
+                self.cfa = self.cfa.with_offset(offset)?;
+            }
+            CallFrameInstruction::DefCfaExpression { expression } => {
+                self.cfa = CfaRule::Expression(expression);
             }
             CallFrameInstruction::Offset {
                 register,

@@ -1,25 +1,34 @@
-//! The entry of a section `.eh_frame` for an address, and the rule that its row comes to.
+//! The entry of a section `.eh_frame` for an address, and what its row comes to.
 
-ghost use Rattle.std.specs.Prelude.{◌≡◌, ◌+◌, ◌≤◌, true, false, Some, None, option_map, IfOk, IfErr, IfSome, IfNone};
+ghost use Rattle.std.specs.Prelude.{◌≡◌, ◌+◌, ◌^◌, ◌≤◌, true, false, Some, None, option_map, IfOk, IfErr, IfSome, IfNone};
 ghost use Rattle.unwind_commands.specs.Entries.{Listing, entries_of, fde_of, listed};
 ghost use Rattle.unwind_commands.specs.EntryViews.{section_bytes, partial_view, fde_view};
 ghost use Rattle.unwind_commands.specs.EntryFor.{fits_index, has_index, indexed_entry, nearer_of};
-ghost use Rattle.unwind_commands.specs.Attempt.{by_fde, rule_of_attempt, of_dwarf};
+ghost use Rattle.framehop_rules.specs.Callback.{Words, AnswersBy};
+ghost use Rattle.unwind_commands.specs.Attempt.{by_fde};
+ghost use Rattle.unwind_commands.specs.UnwindResults.{tried, with_registers, of_dwarf, KeepsUnlessDirect};
 
 use crate::call_frames::{
     CieOrFde, EhFrame, FrameDescriptionEntry, PartialFrameDescriptionEntry, UnwindContext,
 };
 use crate::framehop::error::UnwinderError;
-use crate::framehop::x86_64::rule_for_row;
-use framehop_rules::x86_64::UnwindRuleX86_64;
+use crate::framehop::unwind_result::UnwindResult;
+use crate::framehop::x86_64::unwind_frame;
+use framehop_rules::x86_64::{UnwindRegsX86_64, UnwindRuleX86_64};
 
 /// Why an entry can't be used.
 #[derive(Debug, Clone, Copy, PartialEq, Eq)]
 pub(crate) enum DwarfUnwinderError {
     /// The module's base plus the relative address is past 64 bits.
     LookupAddressOverflow,
-    /// No rule says the row for the address exactly.
+    /// The row's CFA has no value.
     CouldNotRecoverCfa,
+    /// Neither the row's column of the return address has a value, nor can the word below the CFA be read.
+    CouldNotRecoverReturnAddress,
+    /// The step would answer the frame that it started from.
+    DidNotAdvance,
+    /// The caller's stack pointer would be below that of a frame that isn't the first.
+    StackPointerMovedBackwards,
 }
 
 /// Whether an index can have the entry: its code starts at or above the base and within 32 bits of
@@ -109,21 +118,41 @@ pub(crate) fn indexed_fde<'a>(
     }
 }
 
-/// The rule for an address of an entry's code: the one that says its row exactly, or, where no row
-/// is for the address, the one for code that no entry covers.
-pub(crate) fn unwind_frame_with_fde(
+/// What an entry of a section says of an address of its code: the rule that says its row exactly,
+/// or else what the row gives by itself; and where no row is for the address, the rule for code that
+/// no entry covers.
+pub(crate) fn unwind_frame_with_fde<F: FnMut(u64) -> Result<u64, ()>>(
+    section: &EhFrame,
     fde: &FrameDescriptionEntry,
+    address: u64,
+    is_first_frame: bool,
+    regs: &mut UnwindRegsX86_64,
+    context: &mut UnwindContext,
+    read_stack: &mut F,
+) -> Result<UnwindResult, DwarfUnwinderError>
+    requires { F.IsAlwaysCallable read_stack.old }
+    ensures callable { F.IsAlwaysCallable read_stack.new }
+    ensures tried { (words : Words) → AnswersBy F.step read_stack.old words → with_registers regs.new (of_dwarf result)
+        ≡ tried is_first_frame regs.old words (by_fde (section_bytes section.now) address (Some (fde_view fde.now))) }
+    ensures still { (words : Words) → AnswersBy F.step read_stack.old words → AnswersBy F.step read_stack.new words }
+    ensures keeps { KeepsUnlessDirect result regs.old regs.new }
+{
+    match fde.unwind_info_for_address(context, address) {
+        Ok(row) => unwind_frame(section, row, is_first_frame, regs, read_stack),
+        Err(_) => Ok(UnwindResult::ExecRule(UnwindRuleX86_64::JustReturnIfFirstFrameOtherwiseFp)),
+    }
+}
+
+/// The address of a section at a relative address. Fails where it doesn't fit 64 bits.
+pub(crate) fn lookup_address(
     base_svma: u64,
     relative_address: u32,
-    context: &mut UnwindContext,
-) -> Result<UnwindRuleX86_64, DwarfUnwinderError>
-    ensures { of_dwarf result ≡ rule_of_attempt (by_fde (base_svma + relative_address) (Some (fde_view fde.now))) }
+) -> Result<u64, DwarfUnwinderError>
+    ensures some { IfOk result (λ address. address ≡ base_svma + relative_address) }
+    ensures none { IfErr result (λ error. (error ≡ DwarfUnwinderError.LookupAddressOverflow)
+        × (2 ^ 64 ≤ base_svma + relative_address)) }
 {
-    let address = base_svma
+    base_svma
         .checked_add(u64::from(relative_address))
-        .ok_or(DwarfUnwinderError::LookupAddressOverflow)?;
-    match fde.unwind_info_for_address(context, address) {
-        Ok(row) => rule_for_row(row).ok_or(DwarfUnwinderError::CouldNotRecoverCfa),
-        Err(_) => Ok(UnwindRuleX86_64::JustReturnIfFirstFrameOtherwiseFp),
-    }
+        .ok_or(DwarfUnwinderError::LookupAddressOverflow)
 }

@@ -4,9 +4,10 @@ ghost use Rattle.std.specs.Prelude.{◌≡◌, ◌-◌, [], option_map, IfSome, 
 ghost use Rattle.std.specs.List.Sorted.{IsNonDecreasingBy};
 
 use crate::call_frames::{EhFrame, UnwindContext};
-use crate::framehop::dwarf::{indexed_fde, unwind_frame_with_fde};
+use crate::framehop::dwarf::{indexed_fde, lookup_address, unwind_frame_with_fde};
 use crate::framehop::error::UnwinderError;
-use framehop_rules::x86_64::UnwindRuleX86_64;
+use crate::framehop::unwind_result::UnwindResult;
+use framehop_rules::x86_64::UnwindRegsX86_64;
 use std::alloc::{AllocFailed, Global};
 use std::ops::Range;
 
@@ -26,7 +27,9 @@ pub struct Module {
 impl Module {
     ghost use Rattle.unwind_commands.specs.ModuleViews.{module_view};
     ghost use Rattle.unwind_commands.specs.ModuleFound.{is_inside, if_inside};
-    ghost use Rattle.unwind_commands.specs.Attempt.{attempt, rule_of_attempt};
+    ghost use Rattle.unwind_commands.specs.Attempt.{attempt};
+    ghost use Rattle.framehop_rules.specs.Callback.{Words, AnswersBy};
+    ghost use Rattle.unwind_commands.specs.UnwindResults.{tried, with_registers, KeepsUnlessDirect};
 
     /// A module at a range of AVMAs, whose base is at `base_avma` and is called `base_svma` by its
     /// sections, with the bytes of its section `.eh_frame`, if it has one.
@@ -84,13 +87,22 @@ impl Module {
         u32::try_from(address.checked_sub(self.base_avma)?).ok()
     }
 
-    /// The rule that the module has for a relative address, or why it has none.
-    pub(crate) fn unwind_frame(
+    /// What the module says of a frame at a relative address: a rule, or the return address where the
+    /// registers are the caller's already; or why it says nothing, with the registers as they were.
+    pub(crate) fn unwind_frame<F: FnMut(u64) -> Result<u64, ()>>(
         &self,
         relative_address: u32,
+        is_first_frame: bool,
+        regs: &mut UnwindRegsX86_64,
         context: &mut UnwindContext,
-    ) -> Result<UnwindRuleX86_64, UnwinderError>
-        ensures { result ≡ rule_of_attempt (attempt (module_view self.now) relative_address) }
+        read_stack: &mut F,
+    ) -> Result<UnwindResult, UnwinderError>
+        requires { F.IsAlwaysCallable read_stack.old }
+        ensures callable { F.IsAlwaysCallable read_stack.new }
+        ensures tried { (words : Words) → AnswersBy F.step read_stack.old words → with_registers regs.new result
+            ≡ tried is_first_frame regs.old words (attempt (module_view self.now) relative_address) }
+        ensures still { (words : Words) → AnswersBy F.step read_stack.old words → AnswersBy F.step read_stack.new words }
+        ensures keeps { KeepsUnlessDirect result regs.old regs.new }
     {
         let Some(section) = &self.eh_frame else {
             return Err(UnwinderError::NoModuleUnwindData);
@@ -99,8 +111,19 @@ impl Module {
         let fde = indexed_fde(&section, self.base_svma, relative_address)?.ok_or(
             UnwinderError::DwarfCfiIndexCouldNotFindAddress,
         )?;
-        let rule = unwind_frame_with_fde(&fde, self.base_svma, relative_address, context)?;
-        Ok(rule)
+        let address = lookup_address(self.base_svma, relative_address)?;
+        match unwind_frame_with_fde(
+            &section,
+            &fde,
+            address,
+            is_first_frame,
+            regs,
+            context,
+            read_stack,
+        ) {
+            Ok(result) => Ok(result),
+            Err(failure) => Err(UnwinderError::Dwarf(failure)),
+        }
     }
 }
 

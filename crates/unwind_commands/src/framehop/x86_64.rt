@@ -5,5 +5,5 @@ mod dwarf;
 mod unwinder;
 
 pub use cache::CacheX86_64;
-pub(crate) use dwarf::rule_for_row;
+pub(crate) use dwarf::unwind_frame;
 pub use unwinder::UnwinderX86_64;

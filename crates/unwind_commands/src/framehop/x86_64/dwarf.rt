@@ -1,13 +1,22 @@
-//! The rows of x86_64 as unwind rules.
+//! The rows of x86_64: as unwind rules, or evaluated.
 
 ghost use Rattle.std.specs.Prelude.{◌≡◌, option_and_then};
+ghost use Rattle.framehop_rules.specs.Callback.{Words, AnswersBy};
+ghost use Rattle.unwind_commands.specs.Attempt.{by_rule};
+ghost use Rattle.unwind_commands.specs.DirectRow.{direct_return_address, direct_refusal, direct_answer};
+ghost use Rattle.unwind_commands.specs.DirectViews.{caller_shown};
+ghost use Rattle.unwind_commands.specs.EntryViews.{section_bytes};
+ghost use Rattle.unwind_commands.specs.UnwindResults.{tried, with_registers, of_dwarf, KeepsUnlessDirect};
 ghost use Rattle.unwind_commands.specs.Judge.{RulesSayTheirRows};
 ghost use Rattle.unwind_commands.specs.ScaledRow.{eighth_of, as_u16, as_i16, from_sp, from_bp, from_return_address, scaled_rule};
 ghost use Rattle.unwind_commands.specs.RowViews.{parts_shown};
 
-use crate::call_frames::{CfaRule, RegisterRule, UnwindTableRow};
+use crate::call_frames::{CfaRule, EhFrame, RegisterRule, UnwindTableRow};
+use crate::framehop::dwarf::DwarfUnwinderError;
+use crate::framehop::evaluation::{eval_cfa_rule, eval_register_rule, read_below};
+use crate::framehop::unwind_result::UnwindResult;
 use dwarf_constants::X86_64;
-use framehop_rules::x86_64::UnwindRuleX86_64;
+use framehop_rules::x86_64::{UnwindRegsX86_64, UnwindRuleX86_64};
 
 /// The eighth of a multiple of 8.
 fn exact_eighth(offset: i64) -> Option<i64>
@@ -83,12 +92,12 @@ fn translate_into_unwind_rule(
             register: X86_64::RBP,
             offset,
         } => rule_from_bp(offset, bp),
-        CfaRule::RegisterAndOffset { .. } => None,
+        CfaRule::RegisterAndOffset { .. } | CfaRule::Expression(_) => None,
     }
 }
 
 /// The rule that says a row exactly, if one does.
-pub(crate) fn rule_for_row(row: &UnwindTableRow) -> Option<UnwindRuleX86_64>
+fn rule_for_row(row: &UnwindTableRow) -> Option<UnwindRuleX86_64>
     ensures { result ≡ scaled_rule (parts_shown row.now) }
 {
     translate_into_unwind_rule(
@@ -96,6 +105,108 @@ pub(crate) fn rule_for_row(row: &UnwindTableRow) -> Option<UnwindRuleX86_64>
         row.register(X86_64::RBP),
         row.register(X86_64::RA),
     )
+}
+
+/// The caller of a frame, as a row gives it.
+#[derive(Clone, Copy)]
+struct DirectCaller {
+    return_address: u64,
+    sp: u64,
+    bp: u64,
+}
+
+/// The return address at a CFA: what its column gives, or else the word below the CFA.
+fn eval_return_address<F: FnMut(u64) -> Result<u64, ()>>(
+    rule: Option<RegisterRule>,
+    cfa: u64,
+    read_stack: &mut F,
+) -> Option<u64>
+    requires { F.IsAlwaysCallable read_stack.old }
+    ensures callable { F.IsAlwaysCallable read_stack.new }
+    ensures value { (words : Words) → AnswersBy F.step read_stack.old words → result ≡ direct_return_address words cfa rule }
+    ensures still { (words : Words) → AnswersBy F.step read_stack.old words → AnswersBy F.step read_stack.new words }
+{
+    match eval_register_rule(rule, cfa, read_stack) {
+        Some(return_address) => Some(return_address),
+        None => read_below(cfa, read_stack),
+    }
+}
+
+/// Why a step to this CFA and return address is refused, if it is.
+fn refusal(
+    cfa: u64,
+    return_address: u64,
+    is_first_frame: bool,
+    regs: &UnwindRegsX86_64,
+) -> Option<DwarfUnwinderError>
+    ensures { result ≡ direct_refusal is_first_frame regs.now cfa return_address }
+{
+    if cfa == regs.sp() && return_address == regs.ip() {
+        return Some(DwarfUnwinderError::DidNotAdvance);
+    }
+    if !is_first_frame && cfa < regs.sp() {
+        return Some(DwarfUnwinderError::StackPointerMovedBackwards);
+    }
+    None
+}
+
+/// The caller that a row gives. A column of RBP without a value keeps RBP.
+fn eval_row<F: FnMut(u64) -> Result<u64, ()>>(
+    section: &EhFrame,
+    row: &UnwindTableRow,
+    is_first_frame: bool,
+    regs: &UnwindRegsX86_64,
+    read_stack: &mut F,
+) -> Result<DirectCaller, DwarfUnwinderError>
+    requires { F.IsAlwaysCallable read_stack.old }
+    ensures callable { F.IsAlwaysCallable read_stack.new }
+    ensures caller { (words : Words) → AnswersBy F.step read_stack.old words → caller_shown regs.now result
+        ≡ direct_answer is_first_frame regs.now words (section_bytes section.now) (parts_shown row.now) }
+    ensures still { (words : Words) → AnswersBy F.step read_stack.old words → AnswersBy F.step read_stack.new words }
+{
+    let cfa = match eval_cfa_rule(section, *row.cfa(), regs) {
+        Some(cfa) => cfa,
+        None => return Err(DwarfUnwinderError::CouldNotRecoverCfa),
+    };
+    let stored_bp = eval_register_rule(row.register(X86_64::RBP), cfa, read_stack);
+    let return_address = match eval_return_address(row.register(X86_64::RA), cfa, read_stack) {
+        Some(return_address) => return_address,
+        None => return Err(DwarfUnwinderError::CouldNotRecoverReturnAddress),
+    };
+    match refusal(cfa, return_address, is_first_frame, regs) {
+        Some(refusal) => Err(refusal),
+        None => Ok(DirectCaller {
+            return_address,
+            sp: cfa,
+            bp: stored_bp.unwrap_or(regs.bp()),
+        }),
+    }
+}
+
+/// What a row of a section says of a frame: the rule that says the row exactly, or else the caller
+/// that the row gives by itself, whose registers it leaves then. An `Err` leaves them as they were.
+pub(crate) fn unwind_frame<F: FnMut(u64) -> Result<u64, ()>>(
+    section: &EhFrame,
+    row: &UnwindTableRow,
+    is_first_frame: bool,
+    regs: &mut UnwindRegsX86_64,
+    read_stack: &mut F,
+) -> Result<UnwindResult, DwarfUnwinderError>
+    requires { F.IsAlwaysCallable read_stack.old }
+    ensures callable { F.IsAlwaysCallable read_stack.new }
+    ensures tried { (words : Words) → AnswersBy F.step read_stack.old words → with_registers regs.new (of_dwarf result)
+        ≡ tried is_first_frame regs.old words (by_rule (section_bytes section.now) (parts_shown row.now) (scaled_rule (parts_shown row.now))) }
+    ensures still { (words : Words) → AnswersBy F.step read_stack.old words → AnswersBy F.step read_stack.new words }
+    ensures keeps { KeepsUnlessDirect result regs.old regs.new }
+{
+    if let Some(rule) = rule_for_row(row) {
+        return Ok(UnwindResult::ExecRule(rule));
+    }
+    let caller = eval_row(section, row, is_first_frame, regs, read_stack)?;
+    regs.set_ip(caller.return_address);
+    regs.set_sp(caller.sp);
+    regs.set_bp(caller.bp);
+    Ok(UnwindResult::Uncacheable(caller.return_address))
 }
 
 /// Where a rule says a row exactly, the rule's answer has the row's numbers, for all registers and

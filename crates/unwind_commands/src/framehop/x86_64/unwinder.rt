@@ -3,12 +3,12 @@
 ghost use Rattle.std.specs.Prelude.{◌≡◌, [], OnOk, OnErr, IfErr, IfOk, IfNone};
 ghost use Rattle.framehop_rules.specs.Callback.{Words, AnswersBy};
 ghost use Rattle.framehop_rules.specs.Outcome.{answer_of_outcome, registers_after};
-ghost use Rattle.framehop_rules.specs.RuleMeaning.{rule_meaning};
-ghost use Rattle.framehop_rules.specs.declared.x86_64.unwindregs.UnwindRegsX86_64.{UnwindRegsX86_64};
 ghost use Rattle.unwind_commands.specs.ModuleViews.{module_view};
 ghost use Rattle.unwind_commands.specs.ModuleFound.{inserted};
 ghost use Rattle.unwind_commands.specs.Judge.{judge, is_first};
+ghost use Rattle.unwind_commands.specs.UnwindResults.{KeepsForRule, outcome_of_result};
 
+use crate::framehop::unwind_result::UnwindResult;
 use crate::framehop::unwinder::{Module, UnwinderInternal};
 use crate::framehop::x86_64::cache::CacheX86_64;
 use framehop_rules::x86_64::{UnwindRegsX86_64, UnwindRuleX86_64};
@@ -39,20 +39,35 @@ impl UnwinderX86_64 {
         self.0.add_module(module)
     }
 
-    /// The rule for a frame at a code address.
-    fn rule_for_frame(&self, address: FrameAddress, cache: &mut CacheX86_64) -> UnwindRuleX86_64
-        ensures { (registers : UnwindRegsX86_64) (words : Words) →
-            judge (modules_of self.now) address registers words ≡ rule_meaning result (is_first address) registers words }
+    /// What is known of a frame at a code address: the rule to execute, or the return address where
+    /// the registers are the caller's already.
+    fn result_for_frame<F: FnMut(u64) -> Result<u64, ()>>(
+        &self,
+        address: FrameAddress,
+        regs: &mut UnwindRegsX86_64,
+        cache: &mut CacheX86_64,
+        read_stack: &mut F,
+    ) -> UnwindResult
+        requires { F.IsAlwaysCallable read_stack.old }
+        ensures callable { F.IsAlwaysCallable read_stack.new }
+        ensures judged { (words : Words) → AnswersBy F.step read_stack.old words →
+            judge (modules_of self.now) address regs.old words ≡ outcome_of_result result (is_first address) regs.new words }
+        ensures still { (words : Words) → AnswersBy F.step read_stack.old words →
+            AnswersBy F.step read_stack.new words }
+        ensures keeps { KeepsForRule result regs.old regs.new }
     {
         let Some((module, relative_address)) = self
             .0
             .find_module_for_address(address.address_for_lookup())
         else {
-            return UnwindRuleX86_64::fallback_rule();
+            return UnwindResult::ExecRule(UnwindRuleX86_64::fallback_rule());
         };
-        module
-            .unwind_frame(relative_address, cache.unwind_context())
-            .unwrap_or(UnwindRuleX86_64::fallback_rule())
+        let is_first_frame = !address.is_return_address();
+        let context = cache.unwind_context();
+        match module.unwind_frame(relative_address, is_first_frame, regs, context, read_stack) {
+            Ok(result) => result,
+            Err(_) => UnwindResult::ExecRule(UnwindRuleX86_64::fallback_rule()),
+        }
     }
 
     /// Makes the step from a frame at a code address, with these registers: answers the return
@@ -77,7 +92,11 @@ impl UnwinderX86_64 {
         ensures none_keeps { IfOk result (λ answer. IfNone answer (regs.new ≡ regs.old)) }
         ensures err_keeps { OnErr result (regs.new ≡ regs.old) }
     {
-        self.rule_for_frame(address, cache)
-            .exec(!address.is_return_address(), regs, read_stack)
+        match self.result_for_frame(address, regs, cache, read_stack) {
+            UnwindResult::ExecRule(rule) => {
+                rule.exec(!address.is_return_address(), regs, read_stack)
+            }
+            UnwindResult::Uncacheable(return_address) => Ok(Some(return_address)),
+        }
     }
 }
