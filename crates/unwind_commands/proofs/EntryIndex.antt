@@ -1,28 +1,35 @@
--- One pass over the entries of a section keeps the one that the section's index has for an address.
+-- The entry that a list of FDEs has for an address, with one more FDE at the front.
 use Rattle.std.proofs.Common.{◌≡◌, ℕ, ◌≤◌, refl, sym, ◌∙◌, ap, subst, arith, Option, Some, None, Bool, true, false, List, [], ◌∷◌}
-use Rattle.std.specs.Prelude.{nat_lt, nat_le, ◌&&◌, Result, Ok, Err}
+use Rattle.std.specs.Prelude.{nat_lt, nat_le, ◌&&◌, if◌then◌else◌}
 use Rattle.std.specs.List.{filter, find, list_all}
-use Rattle.dwarf_constants.specs.declared.error.Error.{Error}
-use Rattle.unwind_commands.specs.declared.call_frames.entries.CommonInformationEntry.{CommonInformationEntry}
-use Rattle.unwind_commands.specs.declared.call_frames.entries.PartialFrameDescriptionEntry.{PartialFrameDescriptionEntry}
-use Rattle.unwind_commands.specs.declared.call_frames.entries.CieOrFde.{CieOrFde}
-use Rattle.unwind_commands.specs.declared.call_frames.entries.CieOrFde.TheVariants as kind
-use Rattle.unwind_commands.specs.Place.{Stretch, whole}
-use Rattle.unwind_commands.specs.EntryViews.{partial_view, next_entry}
-use Rattle.unwind_commands.specs.Entries.{Fde, Listing, entries_of, entries_from, fdes_from, fde_of, listed, with_fde}
-use Rattle.unwind_commands.specs.EntryFor.{is_last_start, first_of_last_start, indexed_among, fits_index, has_index, later, later_of, nearer_of}
+use Rattle.unwind_commands.specs.Entries.{Fde}
+use Rattle.unwind_commands.specs.EntryFor.{is_last_start, first_of_last_start, indexed_among}
+
+-- of two FDEs the one with the later start, or the first
+abbrev pub later : Fde → Fde → Fde
+later first second = if nat_lt first.initial_address second.initial_address then second else first
+
+-- the same, where there may be none
+abbrev pub later_of : Option Fde → Option Fde → Option Fde
+later_of None second = second
+later_of (Some first) None = Some first
+later_of (Some first) (Some second) = Some (later first second)
+
+-- the later of what stood for an address and one more FDE
+abbrev pub nearer_of : ℕ → Option Fde → Fde → Option Fde
+nearer_of address kept fde = if nat_le fde.initial_address address then later_of kept (Some fde) else kept
 
 -- either side of a test
-by_case : {P : Type 0} (b : Bool) → (b ≡ true → P) → (b ≡ false → P) → P
+pub by_case : {P : Type 0} (b : Bool) → (b ≡ true → P) → (b ≡ false → P) → P
 by_case true passes fails = passes refl
 by_case false passes fails = fails refl
 
-both-true : (a b : Bool) → (a && b) ≡ true → (a ≡ true) × (b ≡ true)
+pub both-true : (a b : Bool) → (a && b) ≡ true → (a ≡ true) × (b ≡ true)
 both-true true b h = (refl, h)
 both-true false b h = cc
 
 -- what is found passes whatever all pass
-find-passes : (p q : Fde → Bool) (xs : List Fde) (g : Fde) → find p xs ≡ Some g → list_all q xs ≡ true → q g ≡ true
+pub find-passes : (p q : Fde → Bool) (xs : List Fde) (g : Fde) → find p xs ≡ Some g → list_all q xs ≡ true → q g ≡ true
 find-passes p q [] g found all = cc
 find-passes p q (x ∷ xs) g found all =
     let (here, others) = both-true (q x) (list_all q xs) all in
@@ -87,7 +94,7 @@ last-cons f [] = let self : nat_le f.initial_address f.initial_address ≡ true 
 last-cons f (y ∷ ys) = let (g, found, last) = has_last y ys in let (first, greatest) = step f g (y ∷ ys) found last in first ∙ ap (later_of (Some f)) (sym found)
 
 -- the entry for an address among a list with one more at its front
-indexed-cons : (address : ℕ) (f : Fde) (fs : List Fde) (kept : Option Fde)
+pub indexed-cons : (address : ℕ) (f : Fde) (fs : List Fde) (kept : Option Fde)
     → later_of kept (indexed_among address (f ∷ fs)) ≡ later_of (nearer_of address kept f) (indexed_among address fs)
 indexed-cons address f fs kept =
     by_case (nat_le f.initial_address address)
@@ -105,61 +112,3 @@ indexed-cons address f fs kept =
         (λ low. by_case (nat_lt f.initial_address c.initial_address)
         (λ high. rw (high, low) refl)
         (λ high. let near : nat_lt a.initial_address c.initial_address ≡ false = grind arith in rw (high, low, near) refl))
-
--- ---- the pass
-
--- what a pass has kept, where this much of the section is left: the section has an index exactly where the rest has,
--- and its entry for the address is the one that was kept or one of the rest
-pub record Kept (section : List ℕ) (base address : ℕ) (kept : Option Fde) (left : Stretch) : Type 0 where
-  pub index : has_index base (entries_of section) ≡ has_index base (entries_from section left)
-  pub entry : indexed_among address (entries_of section).fdes ≡ later_of kept (indexed_among address (entries_from section left).fdes)
-
-module _ (section : List ℕ) (base address : ℕ) where
-  pub kept-start : Kept section base address None (whole section)
-  kept-start = record { index = refl; entry = refl }
-
-  module _ (kept : Option Fde) (left next : Stretch) (r : Result (Option CieOrFde) Error) (before : Kept section base address kept left)
-      (is : entries_from section left ≡ fdes_from section (entries_from section) (next_entry r next)) where
-    -- what the section has left, by what the iterator answered
-    told : (s : Result (Option CieOrFde) Error) → r ≡ s → entries_from section left ≡ fdes_from section (entries_from section) (next_entry s next)
-    told s e = is ∙ ap (λ x. fdes_from section (entries_from section) (next_entry x next)) e
-
-    -- past a CIE
-    pub kept-cie : (cie : CommonInformationEntry) → r ≡ Ok (Some (kind.Cie cie)) → Kept section base address kept next
-    kept-cie cie e =
-        let same : entries_from section left ≡ entries_from section next = told _ e in
-        record {
-          index = before.index ∙ ap (has_index base) same;
-          entry = before.entry ∙ ap (λ listing. later_of kept (indexed_among address listing.fdes)) same;
-        }
-
-    -- past an FDE that fits
-    pub kept-fde : (partial : PartialFrameDescriptionEntry) (f : Fde) → r ≡ Ok (Some (kind.Fde partial)) → fde_of section (partial_view partial) ≡ Ok f → fits_index base f ≡ true
-        → Kept section base address (nearer_of address kept f) next
-    kept-fde partial f e parsed fits =
-        let same : entries_from section left ≡ with_fde f (entries_from section next) = told _ e ∙ ap (listed (entries_from section next)) parsed in
-        record {
-          index = before.index ∙ ap (has_index base) same ∙ rw fits refl;
-          entry = before.entry ∙ ap (λ listing. later_of kept (indexed_among address listing.fdes)) same ∙ indexed-cons address f (entries_from section next).fdes kept;
-        }
-
-    -- at the end of the section
-    pub kept-index : r ≡ Ok None → has_index base (entries_of section) ≡ true
-    kept-index e = before.index ∙ ap (has_index base) (told _ e)
-
-    pub kept-entry : r ≡ Ok None → kept ≡ indexed_among address (entries_of section).fdes
-    kept-entry e = sym (before.entry ∙ ap (λ listing. later_of kept (indexed_among address listing.fdes)) (told _ e) ∙ none kept)
-      where
-        none : (o : Option Fde) → later_of o None ≡ o
-        none None = refl
-        none (Some x) = refl
-
-    -- at a fault
-    pub kept-fault : (e : Error) → r ≡ Err e → has_index base (entries_of section) ≡ false
-    kept-fault e same = before.index ∙ ap (has_index base) (told _ same)
-
-    -- at an FDE that doesn't parse, or doesn't fit
-    pub kept-unfit : (partial : PartialFrameDescriptionEntry) → r ≡ Ok (Some (kind.Fde partial))
-        → ((others : Listing) → has_index base (listed others (fde_of section (partial_view partial))) ≡ false)
-        → has_index base (entries_of section) ≡ false
-    kept-unfit partial e unfit = before.index ∙ ap (has_index base) (told _ e) ∙ unfit (entries_from section next)

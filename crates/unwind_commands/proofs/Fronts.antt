@@ -10,7 +10,7 @@ use Rattle.unwind_commands.specs.Rows.{last_of, rule_for, last_rule, registers_r
 use Rattle.unwind_commands.proofs.RuleLists.{eqb_sym}
 
 -- the last of a list with one more at its end
-last_of-push : {A : Type 0} (xs : List A) (y : A) → last_of (xs ++ y ∷ []) ≡ Some y
+pub last_of-push : {A : Type 0} (xs : List A) (y : A) → last_of (xs ++ y ∷ []) ≡ Some y
 last_of-push [] y = refl
 last_of-push (x ∷ []) y = refl
 last_of-push (x ∷ z ∷ xs) y = last_of-push (z ∷ xs) y

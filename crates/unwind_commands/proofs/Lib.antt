@@ -1,10 +1,14 @@
 pub mod Behind
+pub mod CfiIndexBuild
+pub mod CfiIndexOrder
 pub mod DecodedNumbers
 pub mod DirectRows
 pub mod DocumentLemmas
 pub mod EntryIndex
 pub mod EntryLists
+pub mod EntryPlaces
 pub mod Fronts
+pub mod IndexedModules
 pub mod InstructionLists
 pub mod LebLemmas
 pub mod LebReads

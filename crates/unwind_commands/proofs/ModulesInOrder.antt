@@ -9,7 +9,7 @@ use Rattle.unwind_commands.specs.Rows.{last_of}
 use Rattle.unwind_commands.specs.ModuleFound.{Loaded, is_last_start, nearest, inserted}
 
 -- the last of a list stays the last where another goes to the front
-last_of-cons : {A : Type 0} (x y : A) (xs : List A) → last_of xs ≡ Some y → last_of (x ∷ xs) ≡ Some y
+pub last_of-cons : {A : Type 0} (x y : A) (xs : List A) → last_of xs ≡ Some y → last_of (x ∷ xs) ≡ Some y
 last_of-cons x y [] h = cc
 last_of-cons x y (z ∷ zs) h = h
 

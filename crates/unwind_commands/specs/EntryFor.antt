@@ -1,5 +1,5 @@
 -- The entry that a section's index has for an address.
-use Rattle.std.specs.Prelude.{ℕ, ◌+◌, ◌-◌, ◌^◌, List, Bool, ◌&&◌, Option, Some, None, is_none, nat_lt, nat_le, if◌then◌else◌}
+use Rattle.std.specs.Prelude.{ℕ, ◌+◌, ◌-◌, ◌^◌, List, Bool, ◌&&◌, Option, None, is_none, nat_lt, nat_le, if◌then◌else◌}
 use Rattle.std.specs.List.{filter, find, list_all}
 use Rattle.unwind_commands.specs.Entries.{Fde, Listing}
 
@@ -26,17 +26,3 @@ indexed_among address fdes = first_of_last_start (filter (λ fde. nat_le fde.ini
 -- the FDE for an address that is relative to a base, where there is an index
 abbrev pub indexed_entry : ℕ → ℕ → Listing → Option Fde
 indexed_entry base relative listing = if has_index base listing then indexed_among (base + relative) listing.fdes else None
-
--- of two FDEs the one with the later start, or the first
-abbrev pub later : Fde → Fde → Fde
-later first second = if nat_lt first.initial_address second.initial_address then second else first
-
--- the same, where there may be none
-abbrev pub later_of : Option Fde → Option Fde → Option Fde
-later_of None second = second
-later_of (Some first) None = Some first
-later_of (Some first) (Some second) = Some (later first second)
-
--- what a pass over the FDEs keeps for an address, behind one more
-abbrev pub nearer_of : ℕ → Option Fde → Fde → Option Fde
-nearer_of address kept fde = if nat_le fde.initial_address address then later_of kept (Some fde) else kept

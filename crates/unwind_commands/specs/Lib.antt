@@ -1,5 +1,7 @@
 pub mod Attempt
 pub mod CfaRules
+pub mod CfiIndex
+pub mod CfiIndexView
 pub mod CommandViews
 pub mod Commands
 pub mod Digits

@@ -1,5 +1,6 @@
 //! The unwinder: modules, and a step of a stack walk over them.
 
+mod cfi_index;
 mod dwarf;
 mod error;
 mod evaluation;
@@ -10,5 +11,7 @@ mod x86_64;
 pub use unwinder::Module;
 pub use x86_64::{CacheX86_64, UnwinderX86_64};
 
+#[cfg(test)]
+mod plain_pass;
 #[cfg(test)]
 mod tests;

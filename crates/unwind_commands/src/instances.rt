@@ -48,20 +48,21 @@ impl Instances {
         match command {
             Command::Unwinder => self.unwinders.push(UnwinderX86_64::new(alloc))?,
             Command::Cache => self.caches.push(CacheX86_64::new(alloc)?)?,
-            Command::Load(load) => self.load(load)?,
+            Command::Load(load) => self.load(alloc, load)?,
             Command::Step(step) => return self.step(alloc, &step),
         }
         Ok(String::new(alloc))
     }
 
     /// Gives an unwinder a module.
-    fn load(&mut self, load: Load) -> Result<(), AllocError>
+    fn load(&mut self, alloc: Global, load: Load) -> Result<(), AllocError>
         requires { load.unwinder < length (modules_in self.old) }
         ensures unwinders { OnOk result (modules_in self.new ≡ unwinders_after (modules_in self.old) (task_of (Command.Load load))) }
         ensures caches { caches_in self.new ≡ caches_in self.old }
     {
         let eh_frame = eh_frame_data(load.sections);
-        let module = Module::new(load.start..load.end, load.base, load.base_svma, eh_frame);
+        let range = load.start..load.end;
+        let module = Module::new(alloc, range, load.base, load.base_svma, eh_frame)?;
         self.unwinders[load.unwinder].add_module(module)?;
         Ok(())
     }

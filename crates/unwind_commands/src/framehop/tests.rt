@@ -48,7 +48,7 @@ fn step_in(
     bp: u64,
 ) -> Result<(Option<u64>, u64, u64), Fail> {
     let section = section.to_vec(rt.alloc())?;
-    let module = Module::new(0x100000..0x102000, 0x100000, 0, Some(section));
+    let module = Module::new(rt.alloc(), 0x100000..0x102000, 0x100000, 0, Some(section))?;
     let mut unwinder = UnwinderX86_64::new(rt.alloc());
     unwinder.add_module(module)?;
     let mut cache = CacheX86_64::new(rt.alloc())?;
@@ -88,9 +88,10 @@ fn by_an_expression_rsp_is_raised(rt: HostRuntime) -> Result<(), Fail> {
 }
 
 #[test]
-fn a_module_tells_its_place(rt: HostRuntime) {
-    let module = Module::new(0x100000..0x102000, 0x0ff000, 0, None);
+fn a_module_tells_its_place(rt: HostRuntime) -> Result<(), Fail> {
+    let module = Module::new(rt.alloc(), 0x100000..0x102000, 0x0ff000, 0, None)?;
     assert_eq!(rt; module.avma_range().start, 0x100000);
     assert_eq!(rt; module.avma_range().end, 0x102000);
     assert_eq!(rt; module.base_avma(), 0x0ff000);
+    Ok(())
 }

@@ -1,14 +1,16 @@
 //! The modules of a process, and the one that an address is in.
 
-ghost use Rattle.std.specs.Prelude.{◌≡◌, ◌-◌, [], option_map, IfSome, IfNone, IfErr, OnOk, OnErr, MatchOption};
+ghost use Rattle.std.specs.Prelude.{◌≡◌, ◌-◌, [], option_map, IfSome, IfNone, IfOk, IfErr, OnOk, OnErr, MatchOption};
 ghost use Rattle.std.specs.List.Sorted.{IsNonDecreasingBy};
+ghost use Rattle.unwind_commands.specs.CfiIndexView.{IsIndexed, IsUnindexed};
 
 use crate::call_frames::{EhFrame, UnwindContext};
+use crate::framehop::cfi_index::{DwarfCfiIndex, DwarfCfiIndexError};
 use crate::framehop::dwarf::{indexed_fde, lookup_address, unwind_frame_with_fde};
 use crate::framehop::error::UnwinderError;
 use crate::framehop::unwind_result::UnwindResult;
 use framehop_rules::x86_64::UnwindRegsX86_64;
-use std::alloc::{AllocFailed, Global};
+use std::alloc::{AllocError, AllocFailed, Global};
 use std::ops::Range;
 
 /// A module that is loaded in the profiled process, as an executable or a shared library.
@@ -22,6 +24,33 @@ pub struct Module {
     base_avma: u64,
     base_svma: u64,
     eh_frame: Option<Vec<u8>>,
+    index: Option<DwarfCfiIndex>,
+    // the index is that of the section
+    ghost indexed: { IsIndexed index base_svma (option_map (λ section. section.items) eh_frame) },
+    // there is none only where there is no section, or one without an index
+    ghost unindexed: { IsUnindexed index base_svma (option_map (λ section. section.items) eh_frame) },
+}
+
+/// The index of a module's section, if it has a section, and that an index.
+fn index_of(
+    alloc: Global,
+    eh_frame: &Option<Vec<u8>>,
+    base_svma: u64,
+) -> Result<Option<DwarfCfiIndex>, AllocError>
+    ensures indexed { IfOk result (λ index. IsIndexed index base_svma (option_map (λ section. section.items) eh_frame.now)) }
+    ensures unindexed { IfOk result (λ index. IsUnindexed index base_svma (option_map (λ section. section.items) eh_frame.now)) }
+{
+    let Some(section) = eh_frame else {
+        return Ok(None);
+    };
+    let section = EhFrame::new(section.as_slice());
+    match DwarfCfiIndex::try_new_eh_frame(alloc, &section, base_svma) {
+        Ok(index) => Ok(Some(index)),
+        Err(error) => match error {
+            DwarfCfiIndexError::OutOfMemory => Err(AllocError),
+            _ => Ok(None),
+        },
+    }
 }
 
 impl Module {
@@ -32,24 +61,30 @@ impl Module {
     ghost use Rattle.unwind_commands.specs.UnwindResults.{tried, with_registers, KeepsUnlessDirect};
 
     /// A module at a range of AVMAs, whose base is at `base_avma` and is called `base_svma` by its
-    /// sections, with the bytes of its section `.eh_frame`, if it has one.
+    /// sections, with the bytes of its section `.eh_frame`, if it has one. A section without an
+    /// index says nothing of any address. Fails where memory for the index is refused.
     pub fn new(
+        alloc: Global,
         avma_range: Range<u64>,
         base_avma: u64,
         base_svma: u64,
         eh_frame: Option<Vec<u8>>,
-    ) -> Self
-        ensures range { ((module_view result).start ≡ avma_range.start) × ((module_view result).end ≡ avma_range.end) }
-        ensures base { (module_view result).base ≡ base_avma }
-        ensures base_svma { (module_view result).base_svma ≡ base_svma }
-        ensures eh_frame { (module_view result).eh_frame ≡ option_map (λ section. section.items) eh_frame }
+    ) -> Result<Self, AllocError>
+        ensures start { IfOk result (λ module_. (module_view module_).start ≡ avma_range.start) }
+        ensures end { IfOk result (λ module_. (module_view module_).end ≡ avma_range.end) }
+        ensures base { IfOk result (λ module_. (module_view module_).base ≡ base_avma) }
+        ensures base_svma { IfOk result (λ module_. (module_view module_).base_svma ≡ base_svma) }
+        ensures eh_frame { IfOk result (λ module_.
+            (module_view module_).eh_frame ≡ option_map (λ section. section.items) eh_frame) }
     {
-        Module {
+        let index = index_of(alloc, &eh_frame, base_svma)?;
+        Ok(Module {
             avma_range,
             base_avma,
             base_svma,
             eh_frame,
-        }
+            index,
+        })
     }
 
     /// The AVMAs that the module covers.
@@ -107,10 +142,13 @@ impl Module {
         let Some(section) = &self.eh_frame else {
             return Err(UnwinderError::NoModuleUnwindData);
         };
+        let Some(index) = &self.index else {
+            return Err(UnwinderError::NoModuleUnwindData);
+        };
         let section = EhFrame::new(section.as_slice());
-        let fde = indexed_fde(&section, self.base_svma, relative_address)?.ok_or(
-            UnwinderError::DwarfCfiIndexCouldNotFindAddress,
-        )?;
+        let Some(fde) = indexed_fde(&section, index, relative_address) else {
+            return Err(UnwinderError::DwarfCfiIndexCouldNotFindAddress);
+        };
         let address = lookup_address(self.base_svma, relative_address)?;
         match unwind_frame_with_fde(
             &section,

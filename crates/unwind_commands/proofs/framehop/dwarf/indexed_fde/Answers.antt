@@ -1,15 +1,16 @@
-use Rattle.std.proofs.Common.{◌≡◌, ◌+◌, Some, Ok}
+-- The entry at the offset that the index has is the indexed entry.
+use Rattle.std.proofs.Common.{◌≡◌, ℕ, List, Some, ap, sym, ◌∙◌}
 use Rattle.std.specs.Prelude.{option_map}
-use Rattle.unwind_commands.specs.declared.call_frames.entries.CieOrFde.TheVariants as kind
-use Rattle.unwind_commands.specs.EntryViews.{section_bytes, fde_view, entries_left}
-use Rattle.unwind_commands.proofs.EntryIndex.{kept-fde}
+use Rattle.unwind_commands.specs.EntryViews.{section_bytes, fde_view}
+use Rattle.unwind_commands.specs.Entries.{entries_of}
+use Rattle.unwind_commands.specs.EntryFor.{indexed_entry}
+use Rattle.unwind_commands.proofs.EntryPlaces.{read-there}
 use Rattle.unwind_commands.proofs.framehop.dwarf.indexed_fde.Goals as goal
 
--- past an entry that fits, the nearer one is kept
-pub entries-preserved : goal.entries-preserved
-entries-preserved c =
-    let read : c.next.result ≡ Ok (Some (kind.Fde c.in-Fde.partial)) = cc in
-    rw c.nearer-nearest.ensures
-    (kept-fde (section_bytes c.args.section.now) c.args.base_svma (c.args.base_svma + c.args.relative_address) (option_map fde_view c.entries.nearest) (entries_left c.entries.entries) (entries_left c.next.new.self)
-    c.next.result c.entries.invariant (c.next.ensures.list (section_bytes c.args.section.now))
-    c.in-Fde.partial (fde_view c.in-Some-indexable_fde.fde) read c.in-Some-indexable_fde.ensures.parsed c.in-Some-indexable_fde.ensures.fits)
+pub returns : goal.returns
+returns c base is =
+    let section : List ℕ = section_bytes c.args.section.now in
+    let place : Some c.from.result ≡ option_map (λ fde. fde.offset) (indexed_entry base c.args.relative_address (entries_of section))
+    = ap (λ n. Some n) c.from.ensures ∙ sym c.in_ok-offset.was ∙ c.fde_offset_for_relative_address.ensures base (entries_of section) is in
+    ap (option_map fde_view) c.ok.ensures.value
+    ∙ read-there section base c.args.relative_address c.from.result c.fde_from_offset.result place c.fde_from_offset.ensures

@@ -15,6 +15,6 @@ returns-clause-unwinders c =
     let n = c.args.load.unwinder in
     let fits : n < length before = rw length-map at c.requires in
     let modules = ap modules_of c.index_mut.ensures.value ∙ sym (get_or-map modules_of before n c.index_mut.result.now [] fits) in
-    let loaded = same_module (module_view c.new-module.result) (loaded_by (load_view c.args.load)) c.new-module.ensures.range.0 c.new-module.ensures.range.1 c.new-module.ensures.base c.new-module.ensures.base_svma (c.new-module.ensures.eh_frame ∙ c.eh_frame_data-eh_frame.ensures) in
+    let loaded = same_module (module_view c.in_ok-module.module) (loaded_by (load_view c.args.load)) c.in_ok-module.ensures.start c.in_ok-module.ensures.end c.in_ok-module.ensures.base c.in_ok-module.ensures.base_svma (c.in_ok-module.ensures.eh_frame ∙ c.eh_frame_data-eh_frame.ensures) in
     map-set modules_of before n c.add_module.new.self
-    ∙ ap (slice_set (map modules_of before) n) (c.in_ok-add_module.ensures.ok ∙ ap (inserted (module_view c.new-module.result)) modules ∙ ap (λ (m : Loaded). inserted m (modules_at (modules_in c.args.self.now) n)) loaded)
+    ∙ ap (slice_set (map modules_of before) n) (c.in_ok-add_module.ensures.ok ∙ ap (inserted (module_view c.in_ok-module.module)) modules ∙ ap (λ (m : Loaded). inserted m (modules_at (modules_in c.args.self.now) n)) loaded)

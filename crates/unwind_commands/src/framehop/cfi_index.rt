@@ -1,0 +1,147 @@
+//! The index of a section `.eh_frame`: which entry is for an address.
+
+ghost use Rattle.std.specs.Prelude.{◌≡◌, ◌≢◌, ℕ, None, Some, option_map, map, Result, Ok, Err, IfOk, IfErr};
+ghost use Rattle.std.specs.List.Sorted.{IsNonDecreasingBy};
+ghost use Rattle.unwind_commands.specs.Entries.{Listing, entries_of};
+ghost use Rattle.unwind_commands.specs.EntryViews.{section_bytes, fde_view};
+ghost use Rattle.unwind_commands.specs.EntryFor.{indexed_entry};
+ghost use Rattle.unwind_commands.specs.CfiIndex.{unfit, kept_of, index_error};
+ghost use Rattle.unwind_commands.specs.declared.framehop.cfi_index.DwarfCfiIndexError.TheVariants.{OutOfMemory};
+
+use crate::call_frames::{CieOrFde, EhFrame, FrameDescriptionEntry};
+use dwarf_constants::Error;
+use std::alloc::{AllocError, Global};
+
+/// Why a section has no index.
+#[derive(Debug, Clone, Copy, PartialEq, Eq)]
+pub(crate) enum DwarfCfiIndexError {
+    /// An entry doesn't parse.
+    Gimli(Error),
+    /// An FDE's code starts below the base.
+    CouldNotSubtractBaseAddress,
+    /// An FDE's code starts 2^32 bytes or more above the base.
+    RelativeAddressTooBig,
+    /// An FDE stands 2^32 bytes or more from the section's start.
+    FdeOffsetTooBig,
+    /// Memory was refused.
+    OutOfMemory,
+}
+
+impl From<Error> for DwarfCfiIndexError {
+    ghost use Rattle.unwind_commands.specs.declared.framehop.cfi_index.DwarfCfiIndexError.TheVariants.{Gimli};
+
+    ghost from_gives = { λ error result. result ≡ Gimli error };
+
+    fn from(error: Error) -> Self {
+        DwarfCfiIndexError::Gimli(error)
+    }
+}
+
+impl From<AllocError> for DwarfCfiIndexError {
+    ghost from_gives = { λ error result. result ≡ OutOfMemory };
+
+    fn from(_error: AllocError) -> Self {
+        DwarfCfiIndexError::OutOfMemory
+    }
+}
+
+/// What the index keeps of an FDE.
+#[derive(Debug, Clone, Copy, PartialEq, Eq)]
+struct IndexedFde {
+    /// The first address of the code, relative to the base.
+    start: u32,
+    /// Where the FDE stands, in bytes from the section's start.
+    offset: u32,
+}
+
+/// What the index keeps of an FDE, if it can have it.
+fn indexed(fde: &FrameDescriptionEntry, base_svma: u64) -> Result<IndexedFde, DwarfCfiIndexError>
+    ensures kept { IfOk result (λ kept. kept ≡ kept_of base_svma (fde_view fde.now)) }
+    ensures fits { IfOk result (λ kept. unfit base_svma (fde_view fde.now) ≡ None) }
+    ensures unfit { IfErr result (λ error. unfit base_svma (fde_view fde.now) ≡ Some error) }
+{
+    let start = fde
+        .initial_address()
+        .checked_sub(base_svma)
+        .ok_or(DwarfCfiIndexError::CouldNotSubtractBaseAddress)?;
+    let Ok(start) = u32::try_from(start) else {
+        return Err(DwarfCfiIndexError::RelativeAddressTooBig);
+    };
+    let Ok(offset) = u32::try_from(fde.offset()) else {
+        return Err(DwarfCfiIndexError::FdeOffsetTooBig);
+    };
+    Ok(IndexedFde { start, offset })
+}
+
+/// What the index keeps of a section's FDEs, in their order.
+fn indexed_fdes(
+    alloc: Global,
+    section: &EhFrame,
+    base_svma: u64,
+) -> Result<Vec<IndexedFde>, DwarfCfiIndexError>
+    ensures kept { IfOk result (λ kept.
+        kept.items ≡ map (kept_of base_svma) (entries_of (section_bytes section.now)).fdes) }
+    ensures index { IfOk result (λ kept. index_error base_svma (entries_of (section_bytes section.now)) ≡ None) }
+    ensures error { IfErr result (λ error. error ≢ OutOfMemory
+        → index_error base_svma (entries_of (section_bytes section.now)) ≡ Some error) }
+{
+    let mut fdes = Vec::new(alloc);
+    let mut entries = section.entries();
+    'entries: loop {
+        let Some(entry) = entries.next()? else {
+            return Ok(fdes);
+        };
+        let CieOrFde::Fde(partial) = entry else {
+            continue;
+        };
+        let fde = partial.parse(section)?;
+        let kept = indexed(&fde, base_svma)?;
+        if fdes.push(kept).is_err() {
+            return Err(DwarfCfiIndexError::OutOfMemory);
+        }
+    }
+}
+
+/// An index of a section's FDEs, sorted by the starts of their code. Of equal starts the first in
+/// the section is the last here, so that it is the last that starts at or below an address.
+#[derive(Drop)]
+pub(crate) struct DwarfCfiIndex {
+    fdes: Vec<IndexedFde>,
+    ghost ordered: { IsNonDecreasingBy (λ fde. fde.start) fdes.items },
+}
+
+impl DwarfCfiIndex {
+    ghost use Rattle.unwind_commands.specs.CfiIndexView.{IsIndexOf};
+
+    /// The index of a section, whose starts count from `base_svma`. Fails at the first entry that
+    /// doesn't parse or that an index can't have, and where memory is refused.
+    pub fn try_new_eh_frame(
+        alloc: Global,
+        section: &EhFrame,
+        base_svma: u64,
+    ) -> Result<Self, DwarfCfiIndexError>
+        ensures index { IfOk result (λ index. IsIndexOf index base_svma (entries_of (section_bytes section.now))) }
+        ensures none_against { IfOk result (λ index. index_error base_svma (entries_of (section_bytes section.now)) ≡ None) }
+        ensures error { IfErr result (λ error. error ≢ OutOfMemory
+            → index_error base_svma (entries_of (section_bytes section.now)) ≡ Some error) }
+    {
+        let mut fdes = indexed_fdes(alloc, section, base_svma)?;
+        fdes.reverse();
+        fdes.sort_by_key(|fde| fde.start)?;
+        Ok(DwarfCfiIndex { fdes })
+    }
+
+    /// Where the FDE for an address relative to the base stands, in bytes from the section's start:
+    /// of those with the greatest start at or below it the first in the section. `None` where each
+    /// starts above. Reads about log2 of the number of FDEs.
+    pub fn fde_offset_for_relative_address(&self, rel_lookup_address: u32) -> Option<u32>
+        ensures { (base_svma : ℕ) (listing : Listing) → IsIndexOf self.now base_svma listing
+            → result ≡ option_map (λ fde. fde.offset) (indexed_entry base_svma rel_lookup_address listing) }
+    {
+        let index = self
+            .fdes
+            .partition_point(|fde| fde.start <= rel_lookup_address)
+            .checked_sub(1)?;
+        Some(self.fdes[index].offset)
+    }
+}
