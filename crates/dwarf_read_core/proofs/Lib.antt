@@ -1,0 +1,7 @@
+pub mod Numbers
+pub mod Places
+pub mod Strings
+pub mod Values
+pub mod SignedValues
+pub mod Tables
+pub mod Spellings

@@ -1,0 +1,48 @@
+-- Strings, string offsets and addresses, found by their place in a section.
+use Rattle.std.specs.Prelude.{ℕ, ◌+◌, ◌*◌, Result, Ok}
+use Rattle.dwarf_constants.specs.Format.{word_size}
+use Rattle.dwarf_constants.specs.declared.common.Format.{Format}
+use Rattle.dwarf_constants.specs.declared.error.Error.{Error}
+use Rattle.dwarf_read_core.specs.declared.addr.DebugAddr.{DebugAddr}
+use Rattle.dwarf_read_core.specs.declared.str.DebugLineStr.{DebugLineStr}
+use Rattle.dwarf_read_core.specs.declared.str.DebugStr.{DebugStr}
+use Rattle.dwarf_read_core.specs.declared.str.DebugStrOffsets.{DebugStrOffsets}
+use Rattle.dwarf_read_core.specs.InitialLength.{address_at, word_at}
+use Rattle.dwarf_read_core.specs.Offset.{offset_below}
+use Rattle.dwarf_read_core.specs.Place.{Stretch, ◌>>=◌, behind_at, front_at, string_at}
+
+-- the section's reader
+abbrev pub str_section : {R : Type 0} → DebugStr R → R
+str_section s = s.section
+
+-- the section's reader
+abbrev pub line_str_section : {R : Type 0} → DebugLineStr R → R
+line_str_section s = s.section
+
+-- the section's reader
+abbrev pub str_offsets_section : {R : Type 0} → DebugStrOffsets R → R
+str_offsets_section s = s.section
+
+-- a part of a section, by its offset and its size
+abbrev pub range_in : ℕ → ℕ → Stretch → Result Stretch Error
+range_in offset size section = behind_at offset section >>= front_at size
+
+-- the section's reader
+abbrev pub addr_section : {R : Type 0} → DebugAddr R → R
+addr_section s = s.section
+
+-- the string at an offset (DWARF 5, 7.26 and 6.1.1)
+abbrev pub string_in : ℕ → Stretch → Result Stretch Error
+string_in offset section = behind_at offset section >>= λ s. string_at s >>= λ string. Ok string.0
+
+-- what is left behind the base and so many entries of this size, where that offset is below the limit
+abbrev pub entry_in : ℕ → ℕ → ℕ → ℕ → Stretch → Result Stretch Error
+entry_in limit base index size section = offset_below limit (base + index * size) >>= λ offset. behind_at offset section
+
+-- the string offset of this index (DWARF 5, 7.26)
+abbrev pub string_offset_in : ℕ → Format → ℕ → ℕ → Stretch → Result ℕ Error
+string_offset_in limit format base index section = entry_in limit base index (word_size format) section >>= λ s. word_at limit format s >>= λ offset. Ok offset.0
+
+-- the address of this index (DWARF 5, 7.27)
+abbrev pub address_in : ℕ → ℕ → ℕ → ℕ → Stretch → Result ℕ Error
+address_in limit size base index section = entry_in limit base index size section >>= λ s. address_at size s >>= λ address. Ok address.0

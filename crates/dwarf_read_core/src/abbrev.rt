@@ -1,0 +1,398 @@
+//! `.debug_abbrev`.
+
+ghost use Rattle.std.specs.Prelude.{◌≡◌, ◌≤◌, ◌<◌, ◌+◌, ◌==◌, ◌↔◌, ◌⊎◌, [], ℕ, false, IsSome, Some, None, Ok, Err, IfOk, IfErr, OnErr, OnOk, length, map, option_map};
+ghost use Rattle.dwarf_constants.specs.declared.common.SectionId.TheVariants as id;
+ghost use Rattle.dwarf_constants.specs.declared.error.Error.TheVariants as error;
+ghost use Rattle.dwarf_read_core.specs.AbbreviationTable.{GivesOrMemory, attribute_at, attributes_at, children_at, declaration_at, declaration_of, declared, has_code, table_at, table_in, tag_at};
+ghost use Rattle.dwarf_read_core.specs.Abbreviations.{attribute, declaration};
+ghost use Rattle.dwarf_read_core.specs.Forms.{fixed_size, form_size};
+ghost use Rattle.dwarf_read_core.specs.Place.{Reads, ReadsAs};
+
+use crate::endian_slice::EndianSlice;
+use crate::endianity::Endianity;
+use crate::leb128;
+use crate::reader::Reader;
+use crate::section::Section;
+use dwarf_constants::{DebugAbbrevOffset, DwChildren, DwForm, Encoding, Error, Result, SectionId};
+use std::alloc::Global;
+
+/// An attribute of an abbreviation (DWARF 5, 7.5.3).
+#[derive(Debug, Clone, Copy, PartialEq, Eq)]
+pub struct AttributeSpecification {
+    name: u16,
+    form: DwForm,
+    // 0 for all forms but `DW_FORM_implicit_const`.
+    implicit_const_value: i64,
+}
+
+impl AttributeSpecification {
+    /// An attribute of this name and form. A value is given exactly for `DW_FORM_implicit_const`.
+    pub fn new(name: u16, form: DwForm, implicit_const_value: Option<i64>) -> AttributeSpecification
+        requires { IsSome implicit_const_value ↔ (form.0 ≡ 0x21) }
+        ensures { attribute result ≡ record { name = name; form = form.0; constant = implicit_const_value } }
+    {
+        AttributeSpecification {
+            name,
+            form,
+            implicit_const_value: implicit_const_value.unwrap_or(0),
+        }
+    }
+
+    /// The attribute's name.
+    pub fn name(&self) -> u16
+        ensures { result ≡ (attribute self.now).name }
+    {
+        self.name
+    }
+
+    /// How its values are spelled.
+    pub fn form(&self) -> DwForm
+        ensures { result.0 ≡ (attribute self.now).form }
+    {
+        self.form
+    }
+
+    /// The value that the abbreviation itself gives it, for `DW_FORM_implicit_const`.
+    pub fn implicit_const_value(&self) -> Option<i64>
+        ensures { result ≡ (attribute self.now).constant }
+    {
+        if self.form.0 == 0x21 {
+            Some(self.implicit_const_value)
+        } else {
+            None
+        }
+    }
+
+    /// The size of its values in bytes, if the form alone decides it.
+    pub fn size(&self, encoding: Encoding) -> Option<usize>
+        ensures { result ≡ form_size encoding (attribute self.now).form }
+    {
+        let form = self.form.0;
+        let word = encoding.format.word_size() as usize;
+        match form {
+            0x01 => Some(encoding.address_size as usize),
+            0x0e | 0x17 | 0x1d | 0x1f | 0x1f20 | 0x1f21 => Some(word),
+            0x10 if encoding.version == 2 => Some(encoding.address_size as usize),
+            0x10 => Some(word),
+            _ => fixed_form_size(form),
+        }
+    }
+}
+
+// The size of a form's values in bytes, if it is always the same.
+fn fixed_form_size(form: u16) -> Option<usize>
+    ensures { result ≡ fixed_size form }
+{
+    match form {
+        0x19 | 0x21 => Some(0),
+        0x0b | 0x0c | 0x11 | 0x25 | 0x29 => Some(1),
+        0x05 | 0x12 | 0x26 | 0x2a => Some(2),
+        0x27 | 0x2b => Some(3),
+        0x06 | 0x13 | 0x1c | 0x28 | 0x2c => Some(4),
+        0x07 | 0x14 | 0x20 | 0x24 => Some(8),
+        0x1e => Some(16),
+        _ => None,
+    }
+}
+
+// Reads the next attribute, or `None` at the pair of zeros.
+fn read_attribute<R: Reader>(input: &mut R) -> Result<Option<AttributeSpecification>>
+    ensures read { IfOk result (λ a. attribute_at (R.stretch input.old) ≡ Ok (option_map attribute a, R.stretch input.new)) }
+    ensures refused { IfErr result (λ e. attribute_at (R.stretch input.old) ≡ Err e) }
+    ensures less { OnOk result (length (R.stretch input.new).bytes < length (R.stretch input.old).bytes) }
+{
+    let name = input.read_uleb128_u16()?;
+    let form = input.read_uleb128_u16()?;
+    if name == 0 {
+        if form == 0 {
+            return Ok(None);
+        }
+        return Err(Error::AttributeNameZero);
+    }
+    if form == 0 {
+        return Err(Error::AttributeFormZero);
+    }
+    let implicit_const_value = if form == 0x21 {
+        input.read_sleb128()?
+    } else {
+        0
+    };
+    Ok(Some(AttributeSpecification {
+        name,
+        form: DwForm(form),
+        implicit_const_value,
+    }))
+}
+
+// Reads the attributes before the pair of zeros.
+fn read_attributes<R: Reader>(alloc: Global, input: &mut R) -> Result<Vec<AttributeSpecification>>
+    ensures read { IfOk result (λ v. attributes_at (R.stretch input.old) ≡ Ok (map attribute v.items, R.stretch input.new)) }
+    ensures refused { IfErr result (λ e. (attributes_at (R.stretch input.old) ≡ Err e) ⊎ (e ≡ error.OutOfMemory)) }
+    ensures less { OnOk result (length (R.stretch input.new).bytes < length (R.stretch input.old).bytes) }
+{
+    let mut attributes = Vec::new(alloc);
+    'attributes: loop {
+        match read_attribute(input)? {
+            Some(attribute) => {
+                if attributes.push(attribute).is_err() {
+                    return Err(Error::OutOfMemory);
+                }
+            }
+            None => return Ok(attributes),
+        }
+    }
+}
+
+/// An abbreviation: what entries of a code have in common (DWARF 5, 7.5.3).
+#[derive(Debug, Drop, PartialEq, Eq)]
+pub struct Abbreviation {
+    code: u64,
+    tag: u16,
+    has_children: bool,
+    attributes: Vec<AttributeSpecification>,
+}
+
+impl Abbreviation {
+    /// The code by which entries name it.
+    pub fn code(&self) -> u64
+        ensures { result ≡ (declaration self.now).code }
+    {
+        self.code
+    }
+
+    /// The tag of its entries.
+    pub fn tag(&self) -> u16
+        ensures { result ≡ (declaration self.now).tag }
+    {
+        self.tag
+    }
+
+    /// Whether its entries have children.
+    pub fn has_children(&self) -> bool
+        ensures { result ≡ (declaration self.now).children }
+    {
+        self.has_children
+    }
+
+    /// The attributes of its entries, in order.
+    pub fn attributes(&self) -> &[AttributeSpecification]
+        ensures { map attribute result.now ≡ (declaration self.now).attributes }
+    {
+        self.attributes.as_slice()
+    }
+}
+
+// Reads whether entries have children.
+fn read_children<R: Reader>(input: &mut R) -> Result<bool>
+    ensures read { IfOk result (λ b. children_at (R.stretch input.old) ≡ Ok (b, R.stretch input.new)) }
+    ensures refused { IfErr result (λ e. children_at (R.stretch input.old) ≡ Err e) }
+    ensures less { OnOk result (length (R.stretch input.new).bytes < length (R.stretch input.old).bytes) }
+{
+    let children = input.read_u8()?;
+    if children > 1 {
+        return Err(Error::InvalidAbbreviationChildren(DwChildren(children)));
+    }
+    Ok(children == 1)
+}
+
+// Reads a tag.
+fn read_tag<R: Reader>(input: &mut R) -> Result<u16>
+    ensures read { IfOk result (λ tag. tag_at (R.stretch input.old) ≡ Ok (tag, R.stretch input.new)) }
+    ensures refused { IfErr result (λ e. tag_at (R.stretch input.old) ≡ Err e) }
+    ensures less { OnOk result (length (R.stretch input.new).bytes < length (R.stretch input.old).bytes) }
+{
+    let tag = input.read_uleb128_u16()?;
+    if tag == 0 {
+        return Err(Error::AbbreviationTagZero);
+    }
+    Ok(tag)
+}
+
+// Reads the declaration of this code.
+fn read_declaration<R: Reader>(alloc: Global, input: &mut R, code: u64) -> Result<Abbreviation>
+    ensures read { IfOk result (λ a. declaration_of code (R.stretch input.old) ≡ Ok (Some (declaration a), R.stretch input.new)) }
+    ensures refused { IfErr result (λ e. (declaration_of code (R.stretch input.old) ≡ Err e) ⊎ (e ≡ error.OutOfMemory)) }
+    ensures less { OnOk result (length (R.stretch input.new).bytes < length (R.stretch input.old).bytes) }
+{
+    let tag = read_tag(input)?;
+    let has_children = read_children(input)?;
+    let attributes = read_attributes(alloc, input)?;
+    Ok(Abbreviation {
+        code,
+        tag,
+        has_children,
+        attributes,
+    })
+}
+
+// Reads the next declaration, or `None` at code 0 or where the bytes end.
+fn read_abbreviation<R: Reader>(alloc: Global, input: &mut R) -> Result<Option<Abbreviation>>
+    ensures read { IfOk result (λ a. declaration_at (R.stretch input.old) ≡ Ok (option_map declaration a, R.stretch input.new)) }
+    ensures refused { IfErr result (λ e. (declaration_at (R.stretch input.old) ≡ Err e) ⊎ (e ≡ error.OutOfMemory)) }
+    ensures less { IfOk result (λ a. IsSome a → length (R.stretch input.new).bytes < length (R.stretch input.old).bytes) }
+{
+    if input.is_empty() {
+        return Ok(None);
+    }
+    let code = input.read_uleb128()?;
+    if code == 0 {
+        return Ok(None);
+    }
+    Ok(Some(read_declaration(alloc, input, code)?))
+}
+
+/// The abbreviations of a table. No two have one code.
+#[derive(Debug, Drop)]
+pub struct Abbreviations {
+    declarations: Vec<Abbreviation>,
+    // No code is above it.
+    largest: u64,
+    ghost above: { (code : ℕ) → largest < code → has_code code (map declaration declarations.items) ≡ false },
+}
+
+impl Abbreviations {
+    ghost use Rattle.std.specs.Prelude.{◌++◌, ◌∷◌, true};
+    ghost use Rattle.dwarf_read_core.specs.DebugAbbrev.{declarations};
+
+    // Reads the table at the reader's place.
+    fn parse<R: Reader>(alloc: Global, input: &mut R) -> Result<Abbreviations>
+        ensures { GivesOrMemory declarations result (table_at (R.stretch input.old)) }
+    {
+        let mut table = Abbreviations {
+            declarations: Vec::new(alloc),
+            largest: 0,
+        };
+        'table: loop {
+            match read_abbreviation(alloc, input)? {
+                Some(abbreviation) => table.insert(abbreviation)?,
+                None => return Ok(table),
+            }
+        }
+    }
+
+    // Whether an abbreviation of this code is there.
+    fn has(&self, code: u64) -> bool
+        ensures { result ≡ has_code code (declarations self.now) }
+    {
+        if code > self.largest {
+            return false;
+        }
+        for abbreviation in self.declarations.iter() {
+            if abbreviation.code == code {
+                return true;
+            }
+        }
+        false
+    }
+
+    // Puts an abbreviation behind the others, if none has its code.
+    fn insert(&mut self, abbreviation: Abbreviation) -> Result<()>
+        ensures fresh { OnOk result (has_code (declaration abbreviation).code (declarations self.old) ≡ false) }
+        ensures behind { OnOk result (declarations self.new ≡ declarations self.old ++ declaration abbreviation ∷ []) }
+        ensures refused { IfErr result (λ e. ((e ≡ error.DuplicateAbbreviationCode (declaration abbreviation).code) × (has_code (declaration abbreviation).code (declarations self.old) ≡ true)) ⊎ (e ≡ error.OutOfMemory)) }
+    {
+        let code = abbreviation.code;
+        if self.has(code) {
+            return Err(Error::DuplicateAbbreviationCode(code));
+        }
+        if self.declarations.push(abbreviation).is_err() {
+            return Err(Error::OutOfMemory);
+        }
+        if code > self.largest {
+            self.largest = code;
+        }
+        Ok(())
+    }
+
+    /// The abbreviation of a code.
+    pub fn get(&self, code: u64) -> Option<&Abbreviation>
+        ensures { option_map (λ a. declaration a.now) result ≡ declared code (declarations self.now) }
+    {
+        for abbreviation in self.declarations.iter() {
+            if abbreviation.code == code {
+                return Some(abbreviation);
+            }
+        }
+        None
+    }
+}
+
+/// The tables of `.debug_abbrev` (DWARF 5, 7.5.3).
+#[derive(Debug, Clone, Copy)]
+pub struct DebugAbbrev<R> {
+    section: R,
+}
+
+impl<'a, E: Endianity> DebugAbbrev<EndianSlice<'a, E>> {
+    ghost use Rattle.dwarf_read_core.specs.DebugAbbrev.{abbrev_section};
+    ghost use Rattle.dwarf_read_core.specs.EndianSlice.{stretch_of};
+    ghost use Rattle.dwarf_read_core.specs.Place.{whole};
+
+    /// The section of these bytes.
+    pub fn new(debug_abbrev_section: &'a [u8], endian: E) -> Self
+        ensures { stretch_of E.is_big (abbrev_section result) ≡ whole (E.is_big endian) debug_abbrev_section.now }
+    {
+        Self::from(EndianSlice::new(debug_abbrev_section, endian))
+    }
+}
+
+impl<R: Reader> DebugAbbrev<R> {
+    ghost use Rattle.dwarf_read_core.specs.DebugAbbrev.{abbrev_section, declarations};
+
+    /// The table at an offset: the declarations up to code 0 or the section's end. Fails with the
+    /// first fault.
+    pub fn abbreviations(
+        &self,
+        alloc: Global,
+        debug_abbrev_offset: DebugAbbrevOffset<R::Offset>,
+    ) -> Result<Abbreviations>
+        ensures { GivesOrMemory declarations result (table_in (R.Offset.value debug_abbrev_offset.0) (R.stretch (abbrev_section self.now))) }
+    {
+        let mut input = self.section;
+        input.skip(debug_abbrev_offset.0)?;
+        Abbreviations::parse(alloc, &mut input)
+    }
+}
+
+impl<T> DebugAbbrev<T> {
+    ghost use Rattle.std.specs.Fn.{FnOnceReturnsAt};
+    ghost use Rattle.dwarf_read_core.specs.DebugAbbrev.{abbrev_section};
+
+    /// The section over what `borrow` makes of this one's.
+    pub fn borrow<'a, R, F: FnOnce(&'a T) -> R>(&'a self, borrow: F) -> DebugAbbrev<R>
+        requires { F.IsAlwaysCallable borrow }
+        ensures { FnOnceReturnsAt F.FnOnce borrow (abbrev_section self.now) (abbrev_section result) }
+    {
+        DebugAbbrev {
+            section: borrow(&self.section),
+        }
+    }
+}
+
+impl<R> From<R> for DebugAbbrev<R> {
+    ghost use Rattle.dwarf_read_core.specs.DebugAbbrev.{abbrev_section};
+
+    ghost from_gives = { λ r s. abbrev_section s ≡ r };
+
+    fn from(section: R) -> DebugAbbrev<R> {
+        DebugAbbrev { section }
+    }
+}
+
+impl<R: Reader> Section<R> for DebugAbbrev<R> {
+    ghost use Rattle.dwarf_read_core.specs.DebugAbbrev.{abbrev_section};
+
+    ghost which = { id.DebugAbbrev };
+
+    ghost section = { λ s. abbrev_section s };
+
+    ghost of = { λ r s gives. gives };
+
+    fn id() -> SectionId {
+        SectionId::DebugAbbrev
+    }
+
+    fn reader(&self) -> &R {
+        &self.section
+    }
+}

@@ -1,0 +1,252 @@
+//! `.debug_addr`.
+
+ghost use Rattle.std.specs.Prelude.{◌≡◌, ◌<◌, ◌+◌, ◌==◌, [], length, Some, None, Ok, Err, IfOk, IfErr, OnErr, OnOk, ◌≤◌};
+ghost use Rattle.dwarf_constants.specs.declared.common.SectionId.TheVariants as id;
+ghost use Rattle.dwarf_read_core.specs.Place.{Gives, Reads, ReadsAs, emptied};
+
+use crate::reader::Reader;
+use crate::reader_offset::ReaderOffset;
+use crate::section::Section;
+use crate::str::entry_offset;
+use dwarf_constants::{
+    DebugAddrBase, DebugAddrIndex, DebugAddrOffset, Encoding, Error, Result, SectionId,
+};
+
+/// The sets of addresses of `.debug_addr` (DWARF 5, 7.27).
+#[derive(Debug, Clone, Copy)]
+pub struct DebugAddr<R> {
+    section: R,
+}
+
+impl<R: Reader> DebugAddr<R> {
+    ghost use Rattle.dwarf_read_core.specs.Sections.{addr_section, address_in};
+
+    /// The address of this index behind a base.
+    pub fn get_address(
+        &self,
+        address_size: u8,
+        base: DebugAddrBase<R::Offset>,
+        index: DebugAddrIndex<R::Offset>,
+    ) -> Result<u64>
+        ensures { Gives (λ address. address) result (address_in R.Offset.limit address_size (R.Offset.value base.0) (R.Offset.value index.0) (R.stretch (addr_section self.now))) }
+    {
+        let mut reader = self.section;
+        reader.skip(entry_offset(base.0, index.0, address_size)?)?;
+        reader.read_address(address_size)
+    }
+
+    /// The headers of the sets, in order.
+    pub fn headers(&self) -> AddrHeaderIter<R>
+        ensures input { result.input ≡ addr_section self.now }
+        ensures offset { R.Offset.value result.offset.0 ≡ 0 }
+    {
+        let _len = self.section.len();
+        AddrHeaderIter {
+            input: self.section,
+            offset: DebugAddrOffset(R::Offset::from_u8(0)),
+        }
+    }
+}
+
+impl<T> DebugAddr<T> {
+    ghost use Rattle.std.specs.Fn.{FnOnceReturnsAt};
+    ghost use Rattle.dwarf_read_core.specs.Sections.{addr_section};
+
+    /// The section over what `borrow` makes of this one's.
+    pub fn borrow<'a, R, F: FnOnce(&'a T) -> R>(&'a self, borrow: F) -> DebugAddr<R>
+        requires { F.IsAlwaysCallable borrow }
+        ensures { FnOnceReturnsAt F.FnOnce borrow (addr_section self.now) (addr_section result) }
+    {
+        DebugAddr {
+            section: borrow(&self.section),
+        }
+    }
+}
+
+impl<R> From<R> for DebugAddr<R> {
+    ghost use Rattle.dwarf_read_core.specs.Sections.{addr_section};
+
+    ghost from_gives = { λ r s. addr_section s ≡ r };
+
+    fn from(section: R) -> DebugAddr<R> {
+        DebugAddr { section }
+    }
+}
+
+impl<R: Reader> Section<R> for DebugAddr<R> {
+    ghost use Rattle.dwarf_read_core.specs.Sections.{addr_section};
+
+    ghost which = { id.DebugAddr };
+
+    ghost section = { λ s. addr_section s };
+
+    ghost of = { λ r s gives. gives };
+
+    fn id() -> SectionId {
+        SectionId::DebugAddr
+    }
+
+    fn reader(&self) -> &R {
+        &self.section
+    }
+}
+
+/// The headers of the sets that a section has left. After an error there is none.
+#[derive(Debug, Drop)]
+pub struct AddrHeaderIter<R: Reader> {
+    /// The bytes of the sets that are left.
+    pub input: R,
+    /// The offset of the next set in the section.
+    pub offset: DebugAddrOffset<R::Offset>,
+    ghost fits: { R.Offset.value offset.0 + length (R.stretch input).bytes < R.Offset.limit },
+}
+
+impl<R: Reader> AddrHeaderIter<R> {
+    ghost use Rattle.std.specs.Prelude.{option_map};
+    ghost use Rattle.dwarf_read_core.specs.AddressSets.{next_set};
+
+    /// The next header, or `None` at the end of the section.
+    pub fn next(&mut self) -> Result<Option<AddrHeader<R>>>
+        ensures read { ReadsAs (option_map (λ h. record { offset = R.Offset.value h.offset.0; length = R.Offset.value h.length; encoding = h.encoding; addresses = R.stretch h.entries })) result (next_set R.Offset.limit (R.Offset.value self.old.offset.0) (R.stretch self.old.input)) (R.stretch self.new.input) }
+        ensures offset { IfOk result (λ _. R.Offset.value self.new.offset.0 + length (R.stretch self.new.input).bytes ≡ R.Offset.value self.old.offset.0 + length (R.stretch self.old.input).bytes) }
+        ensures refused { OnErr result ((R.stretch self.new.input).bytes ≡ []) }
+    {
+        if self.input.is_empty() {
+            return Ok(None);
+        }
+        let before = self.input.len();
+        match AddrHeader::parse(&mut self.input, self.offset) {
+            Ok(header) => {
+                let offset = offset_behind(self.offset.0, before, self.input.len());
+                self.offset = DebugAddrOffset(offset);
+                Ok(Some(header))
+            }
+            Err(e) => {
+                self.input.empty();
+                Err(e)
+            }
+        }
+    }
+}
+
+// The offset behind what was read, where so many bytes were left before it and after it.
+fn offset_behind<O: ReaderOffset>(offset: O, before: O, after: O) -> O
+    requires less { O.value after ≤ O.value before }
+    requires fits { O.value offset + O.value before < O.limit }
+    ensures { O.value result + O.value after ≡ O.value offset + O.value before }
+{
+    match before.checked_sub(after) {
+        Some(read) => offset.wrapping_add(read),
+        None => offset,
+    }
+}
+
+/// A set of addresses.
+#[derive(Debug, Drop)]
+pub struct AddrHeader<R: Reader> {
+    /// The offset of the set in the section.
+    pub offset: DebugAddrOffset<R::Offset>,
+    /// The size of the set's addresses, its format and its version.
+    pub encoding: Encoding,
+    /// The length that the set says, in bytes.
+    pub length: R::Offset,
+    /// The bytes of the addresses.
+    pub entries: R,
+}
+
+impl<R: Reader> AddrHeader<R> {
+    ghost use Rattle.dwarf_read_core.specs.AddressSets.{set_at};
+
+    // Reads the set at this offset.
+    fn parse(input: &mut R, offset: DebugAddrOffset<R::Offset>) -> Result<AddrHeader<R>>
+        ensures read { IfOk result (λ h. set_at R.Offset.limit (R.Offset.value offset.0) (R.stretch input.old) ≡ Ok (record { offset = R.Offset.value h.offset.0; length = R.Offset.value h.length; encoding = h.encoding; addresses = R.stretch h.entries }, R.stretch input.new)) }
+        ensures less { OnOk result (length (R.stretch input.new).bytes ≤ length (R.stretch input.old).bytes) }
+        ensures refused { IfErr result (λ e. set_at R.Offset.limit (R.Offset.value offset.0) (R.stretch input.old) ≡ Err e) }
+    {
+        let (length, format) = input.read_initial_length()?;
+        let mut entries = input.split(length)?;
+        let version = entries.read_u16()?;
+        if version != 5 {
+            return Err(Error::UnknownVersion(u64::from(version)));
+        }
+        let address_size = entries.read_address_size()?;
+        let segment_size = entries.read_u8()?;
+        if segment_size != 0 {
+            return Err(Error::UnsupportedSegmentSize);
+        }
+        let encoding = Encoding {
+            address_size,
+            format,
+            version,
+        };
+        Ok(AddrHeader {
+            offset,
+            encoding,
+            length,
+            entries,
+        })
+    }
+
+    /// The offset of the set in the section.
+    pub fn offset(&self) -> DebugAddrOffset<R::Offset>
+        ensures { result ≡ self.now.offset }
+    {
+        self.offset
+    }
+
+    /// The length that the set says, in bytes.
+    pub fn length(&self) -> R::Offset
+        ensures { result ≡ self.now.length }
+    {
+        self.length
+    }
+
+    /// The size of the set's addresses, its format and its version.
+    pub fn encoding(&self) -> Encoding
+        ensures { result ≡ self.now.encoding }
+    {
+        self.encoding
+    }
+
+    /// The addresses of the set, in order.
+    pub fn entries(&self) -> AddrEntryIter<R>
+        ensures input { result.input ≡ self.now.entries }
+        ensures encoding { result.encoding ≡ self.now.encoding }
+    {
+        AddrEntryIter {
+            input: self.entries,
+            encoding: self.encoding,
+        }
+    }
+}
+
+/// The addresses that a set has left. After an error there is none.
+#[derive(Debug, Clone, Copy)]
+pub struct AddrEntryIter<R> {
+    /// The bytes of the addresses that are left.
+    pub input: R,
+    /// How they are encoded.
+    pub encoding: Encoding,
+}
+
+impl<R: Reader> AddrEntryIter<R> {
+    ghost use Rattle.dwarf_read_core.specs.AddressSets.{next_address};
+
+    /// The next address, or `None` at the end of the set.
+    pub fn next(&mut self) -> Result<Option<u64>>
+        ensures read { Reads result (next_address self.old.encoding.address_size (R.stretch self.old.input)) (R.stretch self.new.input) }
+        ensures encoding { self.new.encoding ≡ self.old.encoding }
+        ensures refused { OnErr result (R.stretch self.new.input ≡ emptied (R.stretch self.old.input)) }
+    {
+        if self.input.is_empty() {
+            return Ok(None);
+        }
+        match self.input.read_address(self.encoding.address_size) {
+            Ok(address) => Ok(Some(address)),
+            Err(e) => {
+                self.input.empty();
+                Err(e)
+            }
+        }
+    }
+}

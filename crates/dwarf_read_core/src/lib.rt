@@ -1,0 +1,38 @@
+//! Reading of DWARF sections: byte orders, readers that know their place, and the tables that more
+//! than one section uses.
+#![tactic(auto)]
+
+mod abbrev;
+mod addr;
+mod endian_slice;
+mod endianity;
+pub mod leb128;
+mod reader;
+mod reader_offset;
+mod section;
+mod steps;
+mod str;
+#[cfg(test)]
+mod tests;
+
+pub use abbrev::{Abbreviation, Abbreviations, AttributeSpecification, DebugAbbrev};
+pub use addr::{AddrEntryIter, AddrHeader, AddrHeaderIter, DebugAddr};
+pub use dwarf_constants::{
+    AArch64, DebugAbbrevOffset, DebugAddrBase, DebugAddrIndex, DebugAddrOffset, DebugArangesOffset,
+    DebugFrameOffset, DebugInfoOffset, DebugLineOffset, DebugLineStrOffset, DebugLocListsBase,
+    DebugLocListsIndex, DebugMacinfoOffset, DebugMacroOffset, DebugNamesOffset, DebugRngListsBase,
+    DebugRngListsIndex, DebugStrOffset, DebugStrOffsetsBase, DebugStrOffsetsIndex,
+    DebugTypeSignature, DebugTypesOffset, DwAccess, DwAddr, DwAte, DwCc, DwCfa, DwChildren,
+    DwDefaulted, DwDs, DwDsc, DwEhPe, DwEnd, DwForm, DwId, DwIdx, DwInl, DwLang, DwLle, DwLnct,
+    DwLne, DwLns, DwMacinfo, DwMacro, DwOp, DwOrd, DwRle, DwSect, DwSectV2, DwUt, DwVirtuality,
+    DwVis, DwarfFileType, DwoId, EhFrameOffset, Encoding, Error, Format, LineEncoding,
+    LocationListsOffset, RangeListsOffset, RawRangeListsOffset, ReaderOffsetId, Register, Result,
+    SectionId, UnitOffset, UnitSectionOffset, Vendor, X86_64, constants,
+};
+pub use endian_slice::EndianSlice;
+pub use endianity::{BigEndian, Endianity, LittleEndian, NativeEndian, RunTimeEndian};
+pub use reader::{Reader, read_u8_array};
+pub use reader_offset::ReaderOffset;
+pub use section::Section;
+pub use steps::Steps;
+pub use str::{DebugLineStr, DebugStr, DebugStrOffsets};
