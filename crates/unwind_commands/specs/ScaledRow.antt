@@ -16,13 +16,15 @@ pub record Parts : Type 0 where
   pub bp : Option RegisterRule
   pub ra : Option RegisterRule
 
--- the numbers of RBP, RSP and of the return address's column
+-- the frame pointer
 abbrev pub RBP : Register
 RBP = record { 0 = 6 }
 
+-- the stack pointer
 abbrev pub RSP : Register
 RSP = record { 0 = 7 }
 
+-- the column of the return address
 abbrev pub RA : Register
 RA = record { 0 = 16 }
 
