@@ -35,8 +35,8 @@ end_of s = s.place + length s.bytes
 abbrev pub ends_at : ℕ → Error
 ends_at place = UnexpectedEof (record { 0 = place })
 
--- One read after another, up to the first refusal.
 infixl 10 ◌>>=◌
+-- One read after another, up to the first refusal.
 abbrev pub ◌>>=◌ : {A B : Type 0} → Result A Error → (A → Result B Error) → Result B Error
 (Ok x) >>= f = f x
 (Err e) >>= f = Err e
