@@ -40,11 +40,13 @@ impl Row {
         })
     }
 
-    /// Whether the answer is the one that the row wants.
+    /// Whether the answer is the one that the row wants. None is, where the row doesn't say.
     pub fn wants(&self, answer: &Answer) -> bool {
         let status = self.fields.get("status").and_then(Value::as_u64);
-        status == Some(u64::from(answer.status))
-            && answer.bytes.as_slice() == self.text("stdout").as_bytes()
+        let Some(stdout) = self.fields.get("stdout").and_then(Value::as_str) else {
+            return false;
+        };
+        status == Some(u64::from(answer.status)) && answer.bytes.as_slice() == stdout.as_bytes()
     }
 
     fn text(&self, field: &str) -> &str {
