@@ -1,7 +1,1 @@
-pub mod Numbers
-pub mod Places
-pub mod Strings
-pub mod Values
-pub mod SignedValues
 pub mod Tables
-pub mod Spellings

@@ -4,7 +4,7 @@ use Rattle.std.proofs.lemmas.Bool.Decides.{nat_tests}
 use Rattle.dwarf_constants.specs.declared.error.Error.{Error}
 use Rattle.dwarf_constants.specs.declared.error.Error.TheVariants.{DuplicateAbbreviationCode}
 use Rattle.dwarf_read_core.specs.AbbreviationTable.{Attribute, Declaration, attribute_at, attributes_at, attributes_within, declaration_at, declarations_within, has_code, table_at}
-use Rattle.dwarf_read_core.specs.Place.{Stretch}
+use Rattle.dwarf_readers.specs.Place.{Stretch}
 
 one_code : (here : Bool) → cond here true false ≡ cond false true here
 one_code true = refl

@@ -2,8 +2,8 @@
 use Rattle.std.specs.Prelude.{ℕ, suc, zero, ℤ, ◌==◌, ◌≡◌, List, [], ◌∷◌, ◌++◌, length, ◌⊎◌, Bool, true, false, not, Option, Some, None, Result, Ok, Err, nat_le, if◌then◌else◌}
 use Rattle.dwarf_constants.specs.declared.error.Error.{Error}
 use Rattle.dwarf_constants.specs.declared.error.Error.TheVariants.{AbbreviationTagZero, AttributeFormZero, AttributeNameZero, DuplicateAbbreviationCode, InvalidAbbreviationChildren, OutOfMemory}
-use Rattle.dwarf_read_core.specs.Leb128.{signed_at, unsigned_16_at, unsigned_at}
-use Rattle.dwarf_read_core.specs.Place.{Stretch, ◌>>=◌, behind_at, byte_at, end_of, ends_at, given}
+use Rattle.dwarf_readers.specs.Leb128.{signed_at, unsigned_16_at, unsigned_at}
+use Rattle.dwarf_readers.specs.Place.{Stretch, ◌>>=◌, behind_at, byte_at, end_of, ends_at, given}
 
 -- an attribute of an abbreviation: its name, its form, and the value that the abbreviation itself gives it
 pub record Attribute : Type 0 where

@@ -4,8 +4,8 @@ use Rattle.dwarf_constants.specs.declared.common.Encoding.{Encoding}
 use Rattle.dwarf_constants.specs.declared.common.Format.{Format}
 use Rattle.dwarf_constants.specs.declared.error.Error.{Error}
 use Rattle.dwarf_constants.specs.declared.error.Error.TheVariants.{UnknownVersion, UnsupportedSegmentSize}
-use Rattle.dwarf_read_core.specs.InitialLength.{address_at, address_size_at, initial_length_at}
-use Rattle.dwarf_read_core.specs.Place.{Stretch, ◌>>=◌, byte_at, given, number_at, split_at}
+use Rattle.dwarf_readers.specs.InitialLength.{address_at, address_size_at, initial_length_at}
+use Rattle.dwarf_readers.specs.Place.{Stretch, ◌>>=◌, byte_at, given, number_at, split_at}
 
 -- a set of addresses: its offset in the section, its length, how it is encoded, and its addresses
 pub record AddressSet : Type 0 where

@@ -1,14 +1,6 @@
-pub mod ByteOrder
-pub mod Place
-pub mod Offset
-pub mod Leb128
-pub mod InitialLength
-pub mod EndianSlice
 pub mod Sections
 pub mod AddressSets
 pub mod AbbreviationTable
 pub mod Abbreviations
 pub mod DebugAbbrev
-pub mod Spelling
-pub mod Unsigned
 pub mod Forms

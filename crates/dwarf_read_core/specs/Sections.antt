@@ -7,9 +7,9 @@ use Rattle.dwarf_read_core.specs.declared.addr.DebugAddr.{DebugAddr}
 use Rattle.dwarf_read_core.specs.declared.str.DebugLineStr.{DebugLineStr}
 use Rattle.dwarf_read_core.specs.declared.str.DebugStr.{DebugStr}
 use Rattle.dwarf_read_core.specs.declared.str.DebugStrOffsets.{DebugStrOffsets}
-use Rattle.dwarf_read_core.specs.InitialLength.{address_at, word_at}
-use Rattle.dwarf_read_core.specs.Offset.{offset_below}
-use Rattle.dwarf_read_core.specs.Place.{Stretch, ◌>>=◌, behind_at, front_at, string_at}
+use Rattle.dwarf_readers.specs.InitialLength.{address_at, word_at}
+use Rattle.dwarf_readers.specs.Offset.{offset_below}
+use Rattle.dwarf_readers.specs.Place.{Stretch, ◌>>=◌, behind_at, front_at, string_at}
 
 -- the section's reader
 abbrev pub str_section : {R : Type 0} → DebugStr R → R

@@ -6,14 +6,11 @@ ghost use Rattle.dwarf_constants.specs.declared.error.Error.TheVariants as error
 ghost use Rattle.dwarf_read_core.specs.AbbreviationTable.{GivesOrMemory, attribute_at, attributes_at, children_at, declaration_at, declaration_of, declared, has_code, table_at, table_in, tag_at};
 ghost use Rattle.dwarf_read_core.specs.Abbreviations.{attribute, declaration};
 ghost use Rattle.dwarf_read_core.specs.Forms.{fixed_size, form_size};
-ghost use Rattle.dwarf_read_core.specs.Place.{Reads, ReadsAs};
+ghost use Rattle.dwarf_readers.specs.Place.{Reads, ReadsAs};
 
-use crate::endian_slice::EndianSlice;
-use crate::endianity::Endianity;
-use crate::leb128;
-use crate::reader::Reader;
 use crate::section::Section;
 use dwarf_constants::{DebugAbbrevOffset, DwChildren, DwForm, Encoding, Error, Result, SectionId};
+use dwarf_readers::{EndianSlice, Endianity, Reader};
 use std::alloc::Global;
 
 /// An attribute of an abbreviation (DWARF 5, 7.5.3).
@@ -325,8 +322,8 @@ pub struct DebugAbbrev<R> {
 
 impl<'a, E: Endianity> DebugAbbrev<EndianSlice<'a, E>> {
     ghost use Rattle.dwarf_read_core.specs.DebugAbbrev.{abbrev_section};
-    ghost use Rattle.dwarf_read_core.specs.EndianSlice.{stretch_of};
-    ghost use Rattle.dwarf_read_core.specs.Place.{whole};
+    ghost use Rattle.dwarf_readers.specs.EndianSlice.{stretch_of};
+    ghost use Rattle.dwarf_readers.specs.Place.{whole};
 
     /// The section of these bytes.
     pub fn new(debug_abbrev_section: &'a [u8], endian: E) -> Self

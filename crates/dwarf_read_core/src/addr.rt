@@ -2,15 +2,14 @@
 
 ghost use Rattle.std.specs.Prelude.{◌≡◌, ◌<◌, ◌+◌, ◌==◌, [], length, Some, None, Ok, Err, IfOk, IfErr, OnErr, OnOk, ◌≤◌};
 ghost use Rattle.dwarf_constants.specs.declared.common.SectionId.TheVariants as id;
-ghost use Rattle.dwarf_read_core.specs.Place.{Gives, Reads, ReadsAs, emptied};
+ghost use Rattle.dwarf_readers.specs.Place.{Gives, Reads, ReadsAs, emptied};
 
-use crate::reader::Reader;
-use crate::reader_offset::ReaderOffset;
 use crate::section::Section;
 use crate::str::entry_offset;
 use dwarf_constants::{
     DebugAddrBase, DebugAddrIndex, DebugAddrOffset, Encoding, Error, Result, SectionId,
 };
+use dwarf_readers::{Reader, ReaderOffset};
 
 /// The sets of addresses of `.debug_addr` (DWARF 5, 7.27).
 #[derive(Debug, Clone, Copy)]

@@ -1,16 +1,10 @@
-//! Reading of DWARF sections: byte orders, readers that know their place, and the tables that more
-//! than one section uses.
+//! Reading of DWARF sections: readers that know their place, and the tables that more than one
+//! section uses.
 #![tactic(auto)]
 
 mod abbrev;
 mod addr;
-mod endian_slice;
-mod endianity;
-pub mod leb128;
-mod reader;
-mod reader_offset;
 mod section;
-mod steps;
 mod str;
 #[cfg(test)]
 mod tests;
@@ -29,10 +23,9 @@ pub use dwarf_constants::{
     LocationListsOffset, RangeListsOffset, RawRangeListsOffset, ReaderOffsetId, Register, Result,
     SectionId, UnitOffset, UnitSectionOffset, Vendor, X86_64, constants,
 };
-pub use endian_slice::EndianSlice;
-pub use endianity::{BigEndian, Endianity, LittleEndian, NativeEndian, RunTimeEndian};
-pub use reader::{Reader, read_u8_array};
-pub use reader_offset::ReaderOffset;
+pub use dwarf_readers::{
+    BigEndian, EndianSlice, Endianity, LittleEndian, NativeEndian, Reader, ReaderOffset,
+    RunTimeEndian, Steps, leb128, read_u8_array,
+};
 pub use section::Section;
-pub use steps::Steps;
 pub use str::{DebugLineStr, DebugStr, DebugStrOffsets};

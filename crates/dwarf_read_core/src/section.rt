@@ -3,11 +3,10 @@
 ghost use Rattle.std.specs.Prelude.{◌≡◌, ◌≤◌, List, ℕ, IfErr, IfOk, IfSome, option_map};
 ghost use Rattle.dwarf_constants.specs.Section.{dwo_section_name, section_name};
 ghost use Rattle.dwarf_constants.specs.declared.common.SectionId.{SectionId};
-ghost use Rattle.dwarf_read_core.specs.Place.{Gives, place_within};
+ghost use Rattle.dwarf_readers.specs.Place.{Gives, place_within};
 
-use crate::reader::Reader;
-use crate::reader_offset::ReaderOffset;
 use dwarf_constants::{ReaderOffsetId, Result, SectionId};
+use dwarf_readers::{Reader, ReaderOffset};
 
 /// A section of debugging information over a reader of its bytes.
 pub trait Section<R: Reader>: From<R> {

@@ -2,18 +2,15 @@
 
 ghost use Rattle.std.specs.Prelude.{◌≡◌, ◌<◌, ◌+◌, ◌*◌};
 ghost use Rattle.dwarf_constants.specs.declared.common.SectionId.TheVariants as id;
-ghost use Rattle.dwarf_read_core.specs.Offset.{offset_below};
-ghost use Rattle.dwarf_read_core.specs.Place.{Gives, whole};
+ghost use Rattle.dwarf_readers.specs.Offset.{offset_below};
+ghost use Rattle.dwarf_readers.specs.Place.{Gives, whole};
 
-use crate::endian_slice::EndianSlice;
-use crate::endianity::Endianity;
-use crate::reader::Reader;
-use crate::reader_offset::ReaderOffset;
 use crate::section::Section;
 use dwarf_constants::{
     DebugLineStrOffset, DebugStrOffset, DebugStrOffsetsBase, DebugStrOffsetsIndex, Error, Format,
     Result, SectionId,
 };
+use dwarf_readers::{EndianSlice, Endianity, Reader, ReaderOffset};
 
 /// The strings of `.debug_str` (DWARF 5, 7.26).
 #[derive(Debug, Clone, Copy)]
@@ -22,7 +19,7 @@ pub struct DebugStr<R> {
 }
 
 impl<'a, E: Endianity> DebugStr<EndianSlice<'a, E>> {
-    ghost use Rattle.dwarf_read_core.specs.EndianSlice.{stretch_of};
+    ghost use Rattle.dwarf_readers.specs.EndianSlice.{stretch_of};
     ghost use Rattle.dwarf_read_core.specs.Sections.{str_section};
 
     /// The section of these bytes.
@@ -96,7 +93,7 @@ pub struct DebugLineStr<R> {
 }
 
 impl<'a, E: Endianity> DebugLineStr<EndianSlice<'a, E>> {
-    ghost use Rattle.dwarf_read_core.specs.EndianSlice.{stretch_of};
+    ghost use Rattle.dwarf_readers.specs.EndianSlice.{stretch_of};
     ghost use Rattle.dwarf_read_core.specs.Sections.{line_str_section};
 
     /// The section of these bytes.

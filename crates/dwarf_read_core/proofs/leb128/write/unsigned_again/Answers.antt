@@ -1,5 +1,0 @@
-use Rattle.dwarf_read_core.proofs.Spellings.{unsigned_again_lemma}
-use Rattle.dwarf_read_core.proofs.leb128.write.unsigned_again.Goals as goal
-
-pub returns : goal.returns
-returns c = unsigned_again_lemma

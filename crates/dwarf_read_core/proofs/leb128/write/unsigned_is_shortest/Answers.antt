@@ -1,5 +1,0 @@
-use Rattle.dwarf_read_core.proofs.Spellings.{unsigned_shortest}
-use Rattle.dwarf_read_core.proofs.leb128.write.unsigned_is_shortest.Goals as goal
-
-pub returns : goal.returns
-returns c = unsigned_shortest

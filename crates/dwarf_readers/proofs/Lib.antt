@@ -1,0 +1,6 @@
+pub mod Numbers
+pub mod Places
+pub mod Strings
+pub mod Values
+pub mod SignedValues
+pub mod Spellings

@@ -1,0 +1,5 @@
+use Rattle.dwarf_readers.proofs.Spellings.{unsigned_again_lemma}
+use Rattle.dwarf_readers.proofs.leb128.write.unsigned_again.Goals as goal
+
+pub returns : goal.returns
+returns c = unsigned_again_lemma

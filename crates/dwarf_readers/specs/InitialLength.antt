@@ -1,0 +1,62 @@
+-- Lengths, offsets and addresses, whose size in bytes is said elsewhere (DWARF 5, 7.4).
+use Rattle.std.specs.Prelude.{ℕ, ◌==◌, ◌||◌, Bool, Result, Ok, Err, nat_lt, if◌then◌else◌}
+use Rattle.dwarf_constants.specs.Format.{word_size}
+use Rattle.dwarf_constants.specs.declared.common.Format.{Format}
+use Rattle.dwarf_constants.specs.declared.common.Format.TheVariants.{Dwarf32, Dwarf64}
+use Rattle.dwarf_constants.specs.declared.error.Error.{Error}
+use Rattle.dwarf_constants.specs.declared.error.Error.TheVariants.{UnknownReservedLength, UnsupportedAddressSize, UnsupportedOffsetSize}
+use Rattle.dwarf_readers.specs.Offset.{offset_below}
+use Rattle.dwarf_readers.specs.Place.{Stretch, ◌>>=◌, byte_at, given, number_at}
+
+-- what is left behind a read, or where it began if it was refused
+abbrev pub left_by : {A : Type 0} → Result (A × Stretch) Error → Stretch → Stretch
+left_by (Ok x) s = x.1
+left_by (Err e) s = s
+
+-- the number as an offset, and what is left
+abbrev pub as_offset : ℕ → ℕ × Stretch → Result (ℕ × Stretch) Error
+as_offset limit n = offset_below limit n.0 >>= λ offset. Ok (offset, n.1)
+
+-- an offset of the format's size (DWARF 5, 7.4)
+abbrev pub word_at : ℕ → Format → Stretch → Result (ℕ × Stretch) Error
+word_at limit format s = number_at (word_size format) s >>= as_offset limit
+
+-- the length that four bytes say, or that eight bytes behind them say in the 64-bit format (DWARF 5, 7.2.2)
+abbrev pub length_behind : ℕ → ℕ × Stretch → Result ((ℕ × Format) × Stretch) Error
+length_behind limit n =
+    if nat_lt n.0 0xfffffff0 then as_offset limit n >>= (λ length. Ok ((length.0, Dwarf32), length.1))
+    else (if n.0 == 0xffffffff then word_at limit Dwarf64 n.1 >>= (λ length. Ok ((length.0, Dwarf64), length.1))
+    else Err UnknownReservedLength)
+
+-- an initial length and its format (DWARF 5, 7.4)
+abbrev pub initial_length_at : ℕ → Stretch → Result ((ℕ × Format) × Stretch) Error
+initial_length_at limit s = number_at 4 s >>= length_behind limit
+
+-- what is left behind an initial length that is refused: what was read is gone
+abbrev pub left_by_length : ℕ × Stretch → Stretch
+left_by_length n = if n.0 == 0xffffffff then left_by (number_at 8 n.1) n.1 else n.1
+
+-- the same from its start
+abbrev pub left_by_initial_length : Result (ℕ × Stretch) Error → Stretch → Stretch
+left_by_initial_length (Ok n) s = left_by_length n
+left_by_initial_length (Err e) s = s
+
+-- a size that addresses and offsets have, in bytes
+abbrev pub is_size : ℕ → Bool
+is_size n = n == 1 || n == 2 || n == 4 || n == 8
+
+-- the size of addresses
+abbrev pub address_size_at : Stretch → Result (ℕ × Stretch) Error
+address_size_at s = byte_at s >>= λ size. given (is_size size.0) (UnsupportedAddressSize size.0) >>= λ _. Ok size
+
+-- an address of this size
+abbrev pub address_at : ℕ → Stretch → Result (ℕ × Stretch) Error
+address_at size s = given (is_size size) (UnsupportedAddressSize size) >>= λ _. number_at size s
+
+-- the number in an offset of this size
+abbrev pub sized_number_at : ℕ → Stretch → Result (ℕ × Stretch) Error
+sized_number_at size s = given (is_size size) (UnsupportedOffsetSize size) >>= λ _. number_at size s
+
+-- an offset of this size
+abbrev pub sized_offset_at : ℕ → ℕ → Stretch → Result (ℕ × Stretch) Error
+sized_offset_at limit size s = sized_number_at size s >>= as_offset limit

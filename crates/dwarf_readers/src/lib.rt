@@ -1,0 +1,18 @@
+//! Reading of a section's bytes: byte orders, offsets, readers that know their place, and numbers of
+//! variable length.
+#![tactic(auto)]
+
+mod endian_slice;
+mod endianity;
+pub mod leb128;
+mod reader;
+mod reader_offset;
+mod steps;
+#[cfg(test)]
+mod tests;
+
+pub use endian_slice::EndianSlice;
+pub use endianity::{BigEndian, Endianity, LittleEndian, NativeEndian, RunTimeEndian};
+pub use reader::{Reader, read_u8_array};
+pub use reader_offset::ReaderOffset;
+pub use steps::Steps;
