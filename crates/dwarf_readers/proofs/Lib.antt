@@ -4,3 +4,4 @@ pub mod Strings
 pub mod Values
 pub mod SignedValues
 pub mod Spellings
+pub mod SignedSpellings

@@ -123,7 +123,7 @@ cast_plus n fits =
     let test : nat_lt n (2 ^ 63) ≡ true = grind (arith, nat_tests) in
     rw test refl
 
-difference : (n p : ℕ) → n < p → pos n -ℤ pos p ≡ negsuc (p - suc n)
+pub difference : (n p : ℕ) → n < p → pos n -ℤ pos p ≡ negsuc (p - suc n)
 difference n p less = omega (arith, ints)
 
 -- a number from 2^63 on as a signed one

@@ -81,7 +81,7 @@ unfolding unsigned_string
 groups_start v = refl
 
 -- the value of n bytes
-value_below : (bytes : List ℕ) → unsigned_value bytes < 128 ^ length bytes
+pub value_below : (bytes : List ℕ) → unsigned_value bytes < 128 ^ length bytes
 value_below [] = lit< tt
 value_below (b ∷ bytes) =
     let rest = value_below bytes in
@@ -106,7 +106,7 @@ groups_at_most (suc n) v (suc m) some fits = elim (cases_lt v 128) [
       rw (more_groups n v large) (omega arith)
 ]
 
-string_some : (bytes : List ℕ) → string_of bytes ≡ Some bytes → 1 ≤ length bytes
+pub string_some : (bytes : List ℕ) → string_of bytes ≡ Some bytes → 1 ≤ length bytes
 string_some [] h = absurd (cc)
 string_some (b ∷ bytes) h = omega arith
 

@@ -6,3 +6,4 @@ pub mod InitialLength
 pub mod EndianSlice
 pub mod Spelling
 pub mod Unsigned
+pub mod Signed

@@ -4,4 +4,4 @@
 pub mod read;
 pub mod write;
 
-pub use write::{Leb128, uleb128_size};
+pub use write::{Leb128, sleb128_size, uleb128_size};

@@ -1,3 +1,5 @@
+mod spelled;
+
 use crate::{
     BigEndian, EndianSlice, Endianity, LittleEndian, NativeEndian, Reader, ReaderOffset,
     RunTimeEndian, leb128, read_u8_array,

@@ -1,7 +1,8 @@
 //! The shortest spellings of numbers of variable length.
 
-ghost use Rattle.std.specs.Prelude.{◌≡◌, ◌≤◌, ◌<◌, ◌+◌, ◌^◌, ◌++◌, ℕ, List, Bool, Ok, length};
-ghost use Rattle.dwarf_readers.specs.Leb128.{IsShortest, unsigned_at, unsigned_value};
+ghost use Rattle.std.specs.Prelude.{◌≡◌, ◌≤◌, ◌<◌, ◌+◌, ◌^◌, ◌++◌, ◌≤ℤ◌, ◌<ℤ◌, neg_ℤ, pos, ℕ, ℤ, List, Bool, Ok, length};
+ghost use Rattle.dwarf_readers.specs.Leb128.{IsShortest, signed_at, signed_value, unsigned_at, unsigned_value};
+ghost use Rattle.dwarf_readers.specs.Signed.{signed_string};
 ghost use Rattle.dwarf_readers.specs.Unsigned.{unsigned_string};
 
 /// The shortest spelling of a number. It has at most ten bytes.
@@ -34,6 +35,25 @@ impl Leb128 {
         }
     }
 
+    /// The spelling of a signed number, in two's complement.
+    pub fn signed(value: i64) -> Leb128
+        ensures { spelling result ≡ signed_string value }
+    {
+        let mut bytes = [0; 10];
+        let mut rest = value;
+        let mut len = 0;
+        'groups: while rest < -64 || rest >= 64 {
+            bytes[len] = rest.rem_euclid(128) as u8 + 128;
+            rest = rest.div_euclid(128);
+            len += 1;
+        }
+        bytes[len] = rest.rem_euclid(128) as u8;
+        Leb128 {
+            bytes,
+            len: len + 1,
+        }
+    }
+
     /// The bytes of the spelling.
     pub fn bytes(&self) -> &[u8]
         ensures { result.now ≡ spelling self.now }
@@ -59,9 +79,26 @@ pub fn unsigned_is_shortest()
     ensures { (v : ℕ) → v < 2 ^ 64 → IsShortest unsigned_value (unsigned_string v) }
 {}
 
+/// What `Leb128::signed` spells is read again, and exactly the bytes that follow are left.
+pub fn signed_again()
+    ensures { (v : ℤ) (rest : List ℕ) (place : ℕ) (big : Bool) → neg_ℤ (pos (2 ^ 63)) ≤ℤ v → v <ℤ pos (2 ^ 63) → signed_at (record { bytes = signed_string v ++ rest; place = place; big = big }) ≡ Ok (v, record { bytes = rest; place = place + length (signed_string v); big = big }) }
+{}
+
+/// No string of bytes that has the value of what `Leb128::signed` spells is shorter.
+pub fn signed_is_shortest()
+    ensures { (v : ℤ) → neg_ℤ (pos (2 ^ 63)) ≤ℤ v → v <ℤ pos (2 ^ 63) → IsShortest signed_value (signed_string v) }
+{}
+
 /// How many bytes the shortest spelling of an unsigned number has.
 pub fn uleb128_size(value: u64) -> usize
     ensures { result ≡ length (unsigned_string value) }
 {
     Leb128::unsigned(value).len()
+}
+
+/// How many bytes the shortest spelling of a signed number has.
+pub fn sleb128_size(value: i64) -> usize
+    ensures { result ≡ length (signed_string value) }
+{
+    Leb128::signed(value).len()
 }
