@@ -5,3 +5,4 @@ pub mod Values
 pub mod SignedValues
 pub mod Spellings
 pub mod SignedSpellings
+pub mod Following

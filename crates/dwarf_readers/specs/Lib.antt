@@ -7,3 +7,4 @@ pub mod EndianSlice
 pub mod Spelling
 pub mod Unsigned
 pub mod Signed
+pub mod More

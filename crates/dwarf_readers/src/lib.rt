@@ -5,6 +5,7 @@
 mod endian_slice;
 mod endianity;
 pub mod leb128;
+pub mod more;
 mod reader;
 mod reader_offset;
 mod steps;
