@@ -4,3 +4,4 @@ pub mod AbbreviationTable
 pub mod Abbreviations
 pub mod DebugAbbrev
 pub mod Forms
+pub mod ClosedTables

@@ -4,6 +4,7 @@
 
 mod abbrev;
 mod addr;
+pub mod more;
 mod section;
 mod str;
 #[cfg(test)]
