@@ -1,5 +1,5 @@
 -- Sets of addresses, and the addresses of a set (DWARF 5, 7.27).
-use Rattle.std.specs.Prelude.{ℕ, ◌==◌, Option, Some, None, length, Result, Ok, if◌then◌else◌}
+use Rattle.std.specs.Prelude.{ℕ, zero, suc, ◌+◌, ◌-◌, ◌==◌, ◌≡◌, List, [], ◌∷◌, Option, Some, None, length, Result, Ok, Err, if◌then◌else◌}
 use Rattle.dwarf_constants.specs.declared.common.Encoding.{Encoding}
 use Rattle.dwarf_constants.specs.declared.common.Format.{Format}
 use Rattle.dwarf_constants.specs.declared.error.Error.{Error}
@@ -39,3 +39,40 @@ next_set limit offset s = if length s.bytes == 0 then Ok (None, s) else set_at l
 -- the next address of this size, or none where no bytes are left
 abbrev pub next_address : ℕ → Stretch → Result (Option ℕ × Stretch) Error
 next_address size s = if length s.bytes == 0 then Ok (None, s) else address_at size s >>= λ address. Ok (Some address.0, address.1)
+
+-- this in front of the others, if it is there
+abbrev pub in_front : {A : Type 0} → Option A → List (Result A Error) → List (Result A Error)
+in_front (Some a) others = Ok a ∷ others
+in_front None others = []
+
+-- what a step found in front of what comes behind it; a fault is the last
+abbrev pub listed : {A : Type 0} → (Stretch → List (Result A Error)) → Result (Option A × Stretch) Error → List (Result A Error)
+listed others (Ok found) = in_front found.0 (others found.1)
+listed others (Err e) = Err e ∷ []
+
+-- what at most n steps find, one behind another
+abbrev pub found_within : {A : Type 0} → ℕ → (Stretch → Result (Option A × Stretch) Error) → Stretch → List (Result A Error)
+found_within zero step s = []
+found_within (suc n) step s = listed (λ t. found_within n step t) (step s)
+
+-- the sets of a stretch at this offset, each at its own, up to the end or to the first fault, which then is the last of the list: a set takes a byte at least
+unfoldable pub sets_at : ℕ → ℕ → Stretch → List (Result AddressSet Error)
+sets_at limit offset s = found_within (suc (length s.bytes)) (λ t. next_set limit ((offset + length s.bytes) - length t.bytes) t) s
+
+-- the sets of a section
+abbrev pub sets_in : ℕ → Stretch → List (Result AddressSet Error)
+sets_in limit section = sets_at limit 0 section
+
+-- the addresses of this size, up to the end or to the first fault in the same way
+unfoldable pub addresses_at : ℕ → Stretch → List (Result ℕ Error)
+addresses_at size s = found_within (suc (length s.bytes)) (λ t. next_address size t) s
+
+-- the addresses of a set
+abbrev pub addresses_of : AddressSet → List (Result ℕ Error)
+addresses_of set = addresses_at set.encoding.address_size set.addresses
+
+-- What was to come begins with what a call gave, seen by view, and the others are still to come; at the end and behind a fault nothing is.
+abbrev pub GivesNext : {X A : Type 0} → (X → A) → Result (Option X) Error → List (Result A Error) → List (Result A Error) → Type 0
+GivesNext view (Ok (Some x)) before after = before ≡ Ok (view x) ∷ after
+GivesNext view (Ok None) before after = (before ≡ []) × (after ≡ [])
+GivesNext view (Err e) before after = (before ≡ Err e ∷ []) × (after ≡ [])

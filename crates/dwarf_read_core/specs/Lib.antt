@@ -5,3 +5,4 @@ pub mod Abbreviations
 pub mod DebugAbbrev
 pub mod Forms
 pub mod ClosedTables
+pub mod AddressViews

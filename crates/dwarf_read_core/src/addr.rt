@@ -1,6 +1,6 @@
 //! `.debug_addr`.
 
-ghost use Rattle.std.specs.Prelude.{◌≡◌, ◌<◌, ◌+◌, ◌==◌, [], length, Some, None, Ok, Err, IfOk, IfErr, OnErr, OnOk, ◌≤◌};
+ghost use Rattle.std.specs.Prelude.{◌≡◌, ◌<◌, ◌+◌, ◌==◌, [], length, Some, None, Ok, Err, IfOk, IfErr, IsSome, OnErr, OnOk, ◌≤◌};
 ghost use Rattle.dwarf_constants.specs.declared.common.SectionId.TheVariants as id;
 ghost use Rattle.dwarf_readers.specs.Place.{Gives, Reads, ReadsAs, emptied};
 
@@ -18,6 +18,7 @@ pub struct DebugAddr<R> {
 }
 
 impl<R: Reader> DebugAddr<R> {
+    ghost use Rattle.dwarf_read_core.specs.AddressSets.{sets_at, sets_in};
     ghost use Rattle.dwarf_read_core.specs.Sections.{addr_section, address_in};
 
     /// The address of this index behind a base.
@@ -38,6 +39,7 @@ impl<R: Reader> DebugAddr<R> {
     pub fn headers(&self) -> AddrHeaderIter<R>
         ensures input { result.input ≡ addr_section self.now }
         ensures offset { R.Offset.value result.offset.0 ≡ 0 }
+        ensures sets { sets_at R.Offset.limit (R.Offset.value result.offset.0) (R.stretch result.input) ≡ sets_in R.Offset.limit (R.stretch (addr_section self.now)) }
     {
         let _len = self.section.len();
         AddrHeaderIter {
@@ -102,13 +104,16 @@ pub struct AddrHeaderIter<R: Reader> {
 
 impl<R: Reader> AddrHeaderIter<R> {
     ghost use Rattle.std.specs.Prelude.{option_map};
-    ghost use Rattle.dwarf_read_core.specs.AddressSets.{next_set};
+    ghost use Rattle.dwarf_read_core.specs.AddressSets.{GivesNext, next_set, sets_at};
+    ghost use Rattle.dwarf_read_core.specs.AddressViews.{set_of};
 
     /// The next header, or `None` at the end of the section.
     pub fn next(&mut self) -> Result<Option<AddrHeader<R>>>
-        ensures read { ReadsAs (option_map (λ h. record { offset = R.Offset.value h.offset.0; length = R.Offset.value h.length; encoding = h.encoding; addresses = R.stretch h.entries })) result (next_set R.Offset.limit (R.Offset.value self.old.offset.0) (R.stretch self.old.input)) (R.stretch self.new.input) }
+        ensures read { ReadsAs (option_map (set_of R.stretch R.Offset.value)) result (next_set R.Offset.limit (R.Offset.value self.old.offset.0) (R.stretch self.old.input)) (R.stretch self.new.input) }
         ensures offset { IfOk result (λ _. R.Offset.value self.new.offset.0 + length (R.stretch self.new.input).bytes ≡ R.Offset.value self.old.offset.0 + length (R.stretch self.old.input).bytes) }
         ensures refused { OnErr result ((R.stretch self.new.input).bytes ≡ []) }
+        ensures less { IfOk result (λ h. IsSome h → length (R.stretch self.new.input).bytes < length (R.stretch self.old.input).bytes) }
+        ensures sets { GivesNext (set_of R.stretch R.Offset.value) result (sets_at R.Offset.limit (R.Offset.value self.old.offset.0) (R.stretch self.old.input)) (sets_at R.Offset.limit (R.Offset.value self.new.offset.0) (R.stretch self.new.input)) }
     {
         if self.input.is_empty() {
             return Ok(None);
@@ -125,6 +130,23 @@ impl<R: Reader> AddrHeaderIter<R> {
                 Err(e)
             }
         }
+    }
+}
+
+impl<R: Reader> Iterator for AddrHeaderIter<R> {
+    ghost use Rattle.std.specs.Iterator.{YieldsFirstBy, item_count};
+    ghost use Rattle.std.specs.Result.{result_map_both};
+    ghost use Rattle.dwarf_read_core.specs.AddressSets.{sets_at};
+    ghost use Rattle.dwarf_read_core.specs.AddressViews.{set_of};
+
+    type Item = Result<AddrHeader<R>>;
+
+    ghost next_gives = { YieldsFirstBy (result_map_both (set_of R.stretch R.Offset.value) (λ e. e)) (λ s. sets_at R.Offset.limit (R.Offset.value s.offset.0) (R.stretch s.input)) };
+
+    ghost remaining = { item_count (λ s. sets_at R.Offset.limit (R.Offset.value s.offset.0) (R.stretch s.input)) };
+
+    fn next(&mut self) -> Option<Result<AddrHeader<R>>> {
+        AddrHeaderIter::next(self).transpose()
     }
 }
 
@@ -154,12 +176,13 @@ pub struct AddrHeader<R: Reader> {
 }
 
 impl<R: Reader> AddrHeader<R> {
-    ghost use Rattle.dwarf_read_core.specs.AddressSets.{set_at};
+    ghost use Rattle.dwarf_read_core.specs.AddressSets.{addresses_at, addresses_of, set_at};
+    ghost use Rattle.dwarf_read_core.specs.AddressViews.{set_of};
 
     // Reads the set at this offset.
     fn parse(input: &mut R, offset: DebugAddrOffset<R::Offset>) -> Result<AddrHeader<R>>
-        ensures read { IfOk result (λ h. set_at R.Offset.limit (R.Offset.value offset.0) (R.stretch input.old) ≡ Ok (record { offset = R.Offset.value h.offset.0; length = R.Offset.value h.length; encoding = h.encoding; addresses = R.stretch h.entries }, R.stretch input.new)) }
-        ensures less { OnOk result (length (R.stretch input.new).bytes ≤ length (R.stretch input.old).bytes) }
+        ensures read { IfOk result (λ h. set_at R.Offset.limit (R.Offset.value offset.0) (R.stretch input.old) ≡ Ok (set_of R.stretch R.Offset.value h, R.stretch input.new)) }
+        ensures less { OnOk result (length (R.stretch input.new).bytes < length (R.stretch input.old).bytes) }
         ensures refused { IfErr result (λ e. set_at R.Offset.limit (R.Offset.value offset.0) (R.stretch input.old) ≡ Err e) }
     {
         let (length, format) = input.read_initial_length()?;
@@ -211,6 +234,7 @@ impl<R: Reader> AddrHeader<R> {
     pub fn entries(&self) -> AddrEntryIter<R>
         ensures input { result.input ≡ self.now.entries }
         ensures encoding { result.encoding ≡ self.now.encoding }
+        ensures addresses { addresses_at result.encoding.address_size (R.stretch result.input) ≡ addresses_of (set_of R.stretch R.Offset.value self.now) }
     {
         AddrEntryIter {
             input: self.entries,
@@ -229,13 +253,15 @@ pub struct AddrEntryIter<R> {
 }
 
 impl<R: Reader> AddrEntryIter<R> {
-    ghost use Rattle.dwarf_read_core.specs.AddressSets.{next_address};
+    ghost use Rattle.dwarf_read_core.specs.AddressSets.{GivesNext, addresses_at, next_address};
 
     /// The next address, or `None` at the end of the set.
     pub fn next(&mut self) -> Result<Option<u64>>
         ensures read { Reads result (next_address self.old.encoding.address_size (R.stretch self.old.input)) (R.stretch self.new.input) }
         ensures encoding { self.new.encoding ≡ self.old.encoding }
         ensures refused { OnErr result (R.stretch self.new.input ≡ emptied (R.stretch self.old.input)) }
+        ensures less { IfOk result (λ a. IsSome a → length (R.stretch self.new.input).bytes < length (R.stretch self.old.input).bytes) }
+        ensures addresses { GivesNext (λ address. address) result (addresses_at self.old.encoding.address_size (R.stretch self.old.input)) (addresses_at self.new.encoding.address_size (R.stretch self.new.input)) }
     {
         if self.input.is_empty() {
             return Ok(None);
@@ -247,5 +273,20 @@ impl<R: Reader> AddrEntryIter<R> {
                 Err(e)
             }
         }
+    }
+}
+
+impl<R: Reader> Iterator for AddrEntryIter<R> {
+    ghost use Rattle.std.specs.Iterator.{YieldsFirst, item_count};
+    ghost use Rattle.dwarf_read_core.specs.AddressSets.{addresses_at};
+
+    type Item = Result<u64>;
+
+    ghost next_gives = { YieldsFirst (λ s. addresses_at s.encoding.address_size (R.stretch s.input)) };
+
+    ghost remaining = { item_count (λ s. addresses_at s.encoding.address_size (R.stretch s.input)) };
+
+    fn next(&mut self) -> Option<Result<u64>> {
+        AddrEntryIter::next(self).transpose()
     }
 }

@@ -1,0 +1,9 @@
+-- What sets of addresses in memory stand for.
+use Rattle.std.specs.Prelude.{ℕ}
+use Rattle.dwarf_read_core.specs.AddressSets.{AddressSet}
+use Rattle.dwarf_read_core.specs.declared.addr.AddrHeader.{AddrHeader}
+use Rattle.dwarf_readers.specs.Place.{Stretch}
+
+-- the set of a header, by what its reader and its offsets stand for
+abbrev pub set_of : {R Endian Offset : Type 0} → (R → Stretch) → (Offset → ℕ) → AddrHeader R Endian Offset → AddressSet
+set_of stretch value h = record { offset = value h.offset.0; length = value h.length; encoding = h.encoding; addresses = stretch h.entries }
