@@ -1,3 +1,5 @@
+mod real_sections;
+
 use crate::{
     Abbreviations, AttributeSpecification, DebugAbbrev, DebugAddr, DebugStr, DebugStrOffsets,
     Section,
