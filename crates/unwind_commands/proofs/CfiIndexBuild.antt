@@ -8,10 +8,10 @@ use Rattle.std.proofs.lemmas.Bool.Decides.{nat_tests}
 use Rattle.std.proofs.lemmas.List.Elements.{All-head, All-tail}
 use Rattle.std.proofs.lemmas.List.Sorted.{All-permutation, IsPermutation-sym, IsPermutation-reverse}
 use Rattle.dwarf_constants.specs.declared.error.Error.{Error}
+use Rattle.dwarf_readers.specs.Place.{Stretch}
 use Rattle.unwind_commands.specs.declared.framehop.cfi_index.IndexedFde.{IndexedFde}
 use Rattle.unwind_commands.specs.declared.framehop.cfi_index.DwarfCfiIndexError.{DwarfCfiIndexError}
 use Rattle.unwind_commands.specs.declared.framehop.cfi_index.DwarfCfiIndexError.TheVariants.{Gimli}
-use Rattle.unwind_commands.specs.Place.{Stretch}
 use Rattle.unwind_commands.specs.Entries.{Fde, Listing, entries_of, entries_from}
 use Rattle.unwind_commands.specs.EntryFor.{is_last_start, indexed_among, fits_index, has_index}
 use Rattle.unwind_commands.specs.Rows.{last_of}

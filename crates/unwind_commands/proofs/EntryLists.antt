@@ -1,11 +1,10 @@
 -- The list of entries, one read after the other.
 use Rattle.std.proofs.Common.{◌≡◌, ℕ, zero, suc, ◌-◌, ◌<◌, ◌≤◌, Bool, true, false, cond, List, [], ◌∷◌, length, Option, Some, None, Result, Ok, Err, refl, sym, ap, subst, ◌∙◌, arith}
 use Rattle.std.specs.Prelude.{◌==◌, nat_lt}
-use Rattle.std.specs.Int.{w32}
 use Rattle.std.proofs.Math.Dec.{eqb-suc-zero}
 use Rattle.dwarf_constants.specs.declared.error.Error.{Error}
 use Rattle.dwarf_constants.specs.declared.error.Error.TheVariants.{UnknownReservedLength}
-use Rattle.unwind_commands.specs.Place.{Stretch, ◌>>=◌, number_at, split_at, given}
+use Rattle.dwarf_readers.specs.Place.{Stretch, ◌>>=◌, number_at, split_at, given}
 use Rattle.unwind_commands.specs.Entries.{Entry, CieEntry, FdeEntry, Listing, framed_at, entry_within, entry_framed, entry_at, first_entry, listed, fde_of, fdes_from, fdes_within, entries_from}
 use Rattle.unwind_commands.proofs.Lengths.{Leaves, leaves_if, leaves_err, leaves_here, leaves_number, behind_less}
 
@@ -36,7 +35,7 @@ leaves_split n m s le = leaves_if n (nat_lt (length s.bytes) m) (Err _) (Ok _) l
 shortens_frame : (s : Stretch) → Shortens (length s.bytes - 4) (framed_at s)
 shortens_frame s =
     let n = length s.bytes - 4 in
-    shortens_read n (number_at w32 s) _ (leaves_number w32 s) (λ size le.
+    shortens_read n (number_at 4 s) _ (leaves_number 4 s) (λ size le.
     shortens_if n (size.0 == 0) (Ok None) _ (record { shorter = tt })
     (shortens_then n (given (nat_lt size.0 0xffff_fff0) UnknownReservedLength) _ (λ _.
     shortens_read n (split_at size.0 size.1) _ (leaves_split n size.0 size.1 le) (λ parts rest. record { shorter = rest }))))
@@ -69,40 +68,40 @@ listed_alike section f g k (Ok None) h alike = refl
 listed_alike section f g k (Ok (Some (CieEntry cie, rest))) h alike = alike rest h
 listed_alike section f g k (Ok (Some (FdeEntry fde, rest))) h alike = ap (λ (others : Listing). listed others (fde_of section fde)) (alike rest h)
 
-first_some : (b : ℕ) (bs : List ℕ) (place : ℕ) → first_entry (record { bytes = b ∷ bs; place = place }) ≡ entry_at place (record { bytes = b ∷ bs; place = place })
-first_some b bs place =
+first_some : (b : ℕ) (bs : List ℕ) (place : ℕ) (big : Bool) → first_entry (record { bytes = b ∷ bs; place = place; big = big }) ≡ entry_at place (record { bytes = b ∷ bs; place = place; big = big })
+first_some b bs place big =
     let some : (suc (length bs) == 0) ≡ false = eqb-suc-zero (length bs) in
     rw some refl
 
-first_shorter : (b : ℕ) (bs : List ℕ) (place : ℕ) → IsShorter (length bs) (first_entry (record { bytes = b ∷ bs; place = place }))
-first_shorter b bs place =
+first_shorter : (b : ℕ) (bs : List ℕ) (place : ℕ) (big : Bool) → IsShorter (length bs) (first_entry (record { bytes = b ∷ bs; place = place; big = big }))
+first_shorter b bs place big =
     let P : Result (Option (Entry × Stretch)) Error → Type 0 = IsShorter (length bs) in
-    subst P (sym (first_some b bs place)) (shorter_more (suc (length bs) - 4) (length bs) (entry_at place (record { bytes = b ∷ bs; place = place })) (omega arith) (shortens_entry place (record { bytes = b ∷ bs; place = place })))
+    subst P (sym (first_some b bs place big)) (shorter_more (suc (length bs) - 4) (length bs) (entry_at place (record { bytes = b ∷ bs; place = place; big = big })) (omega arith) (shortens_entry place (record { bytes = b ∷ bs; place = place; big = big })))
 
 -- a count of bytes that is enough says nothing else than another
-pub enough : (section : List ℕ) (n m : ℕ) (bytes : List ℕ) (place : ℕ) → length bytes ≤ n → length bytes ≤ m → fdes_within n section (record { bytes = bytes; place = place }) ≡ fdes_within m section (record { bytes = bytes; place = place })
-enough section zero zero bytes place p q = refl
-enough section zero (suc m) [] place p q = refl
-enough section (suc n) zero [] place p q = refl
-enough section (suc n) (suc m) [] place p q = refl
-enough section zero (suc m) (b ∷ bs) place p q = absurd (omega arith)
-enough section (suc n) zero (b ∷ bs) place p q = absurd (omega arith)
-enough section (suc n) (suc m) (b ∷ bs) place p q =
-    listed_alike section (fdes_within n section) (fdes_within m section) (length bs) (first_entry (record { bytes = b ∷ bs; place = place })) (first_shorter b bs place) (λ s le. enough section n m s.bytes s.place (omega arith) (omega arith))
+pub enough : (section : List ℕ) (n m : ℕ) (bytes : List ℕ) (place : ℕ) (big : Bool) → length bytes ≤ n → length bytes ≤ m → fdes_within n section (record { bytes = bytes; place = place; big = big }) ≡ fdes_within m section (record { bytes = bytes; place = place; big = big })
+enough section zero zero bytes place big p q = refl
+enough section zero (suc m) [] place big p q = refl
+enough section (suc n) zero [] place big p q = refl
+enough section (suc n) (suc m) [] place big p q = refl
+enough section zero (suc m) (b ∷ bs) place big p q = absurd (omega arith)
+enough section (suc n) zero (b ∷ bs) place big p q = absurd (omega arith)
+enough section (suc n) (suc m) (b ∷ bs) place big p q =
+    listed_alike section (fdes_within n section) (fdes_within m section) (length bs) (first_entry (record { bytes = b ∷ bs; place = place; big = big })) (first_shorter b bs place big) (λ s le. enough section n m s.bytes s.place s.big (omega arith) (omega arith))
 
-goes_on_from : (section : List ℕ) (bytes : List ℕ) (place : ℕ) (read : Result (Option (Entry × Stretch)) Error) → 0 < length bytes → first_entry (record { bytes = bytes; place = place }) ≡ read → entries_from section (record { bytes = bytes; place = place }) ≡ fdes_from section (entries_from section) read
-goes_on_from section [] place read some is = absurd (omega arith)
-goes_on_from section (b ∷ bs) place read some is =
-    listed_alike section (fdes_within (length bs) section) (entries_from section) (length bs) (first_entry (record { bytes = b ∷ bs; place = place })) (first_shorter b bs place) (λ s le. enough section (length bs) (length s.bytes) s.bytes s.place le (omega arith))
+goes_on_from : (section : List ℕ) (bytes : List ℕ) (place : ℕ) (big : Bool) (read : Result (Option (Entry × Stretch)) Error) → 0 < length bytes → first_entry (record { bytes = bytes; place = place; big = big }) ≡ read → entries_from section (record { bytes = bytes; place = place; big = big }) ≡ fdes_from section (entries_from section) read
+goes_on_from section [] place big read some is = absurd (omega arith)
+goes_on_from section (b ∷ bs) place big read some is =
+    listed_alike section (fdes_within (length bs) section) (entries_from section) (length bs) (first_entry (record { bytes = b ∷ bs; place = place; big = big })) (first_shorter b bs place big) (λ s le. enough section (length bs) (length s.bytes) s.bytes s.place s.big le (omega arith))
     ∙ ap (fdes_from section (entries_from section)) is
 
 -- the list is that of the first entry, and then that of what is left behind it
 pub goes_on : (section : List ℕ) (s : Stretch) (read : Result (Option (Entry × Stretch)) Error) → 0 < length s.bytes → first_entry s ≡ read → entries_from section s ≡ fdes_from section (entries_from section) read
-goes_on section s read some is = goes_on_from section s.bytes s.place read some is
+goes_on section s read some is = goes_on_from section s.bytes s.place s.big read some is
 
-first_is : (bytes : List ℕ) (place : ℕ) → 0 < length bytes → first_entry (record { bytes = bytes; place = place }) ≡ entry_at place (record { bytes = bytes; place = place })
-first_is [] place some = absurd (omega arith)
-first_is (b ∷ bs) place some = first_some b bs place
+first_is : (bytes : List ℕ) (place : ℕ) (big : Bool) → 0 < length bytes → first_entry (record { bytes = bytes; place = place; big = big }) ≡ entry_at place (record { bytes = bytes; place = place; big = big })
+first_is [] place big some = absurd (omega arith)
+first_is (b ∷ bs) place big some = first_some b bs place big
 
 pub first_at : (s : Stretch) → 0 < length s.bytes → first_entry s ≡ entry_at s.place s
-first_at s some = first_is s.bytes s.place some
+first_at s some = first_is s.bytes s.place s.big some

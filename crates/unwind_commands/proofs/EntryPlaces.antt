@@ -1,27 +1,28 @@
 -- Each FDE of a section is the one that stands at its offset.
 use Rattle.std.proofs.Common.{◌≡◌, ℕ, zero, suc, ◌+◌, ◌-◌, ◌≤◌, Bool, true, false, cond, List, [], ◌∷◌, length, drop, Option, Some, None, Result, Ok, Err, refl, sym, ap, subst, ◌∙◌, arith}
 use Rattle.std.specs.Prelude.{◌==◌, nat_lt, nat_le, option_map}
-use Rattle.std.specs.Int.{w32, w64, byte_len}
 use Rattle.std.specs.List.{All, filter, find}
 use Rattle.std.specs.Result.{result_ok}
 use Rattle.std.proofs.lemmas.List.{drop-drop, length-drop}
 use Rattle.std.proofs.lemmas.List.Elements.{All-nil, All-cons, All-head, All-tail}
 use Rattle.dwarf_constants.specs.declared.error.Error.{Error}
 use Rattle.dwarf_constants.specs.declared.error.Error.TheVariants.{UnknownReservedLength, OffsetOutOfBounds}
+use Rattle.dwarf_readers.specs.Place.{Gives, Stretch, ◌>>=◌, whole, behind, front, number_at, split_at, given, ends_at}
 use Rattle.unwind_commands.specs.declared.call_frames.entries.FrameDescriptionEntry.{FrameDescriptionEntry}
 use Rattle.unwind_commands.specs.EntryViews.{fde_view}
 use Rattle.unwind_commands.specs.EntryFor.{has_index, is_last_start, indexed_among, indexed_entry}
-use Rattle.unwind_commands.specs.Place.{Gives, Stretch, ◌>>=◌, whole, behind, front, number_at, split_at, given, ends_at}
 use Rattle.unwind_commands.specs.Entries.{Cie, PartialFde, Fde, Entry, CieEntry, FdeEntry, Listing, framed_at, cie_at, cie_from_offset, entry_within, entry_framed, entry_at, fde_of, fde_among, fde_from_offset, listed, fdes_from, fdes_within, entries_of}
 use Rattle.unwind_commands.proofs.EntryIndex.{by_case}
+use Rattle.unwind_commands.proofs.Places.{same_stretch}
 
 -- the stretch is what the section has from the stretch's place on
 pub record IsRest (section : List ℕ) (s : Stretch) : Type 0 where
   pub within : s.place ≤ length section
   pub bytes : s.bytes ≡ drop s.place section
+  pub order : s.big ≡ false
 
-pub rest-whole : (section : List ℕ) → IsRest section (whole section)
-rest-whole section = record { within = omega arith; bytes = refl }
+pub rest-whole : (section : List ℕ) → IsRest section (whole false section)
+rest-whole section = record { within = omega arith; bytes = refl; order = refl }
 
 rest-behind : (section : List ℕ) (n : ℕ) (s : Stretch) → n ≤ length s.bytes → IsRest section s → IsRest section (behind n s)
 rest-behind section n s le h =
@@ -29,6 +30,7 @@ rest-behind section n s le h =
     record {
       within = omega (arith, length-drop s.place section);
       bytes = ap (drop n) h.bytes ∙ drop-drop n s.place section;
+      order = h.order;
     }
 
 -- what a read leaves is the rest of the section
@@ -79,7 +81,7 @@ frames-number section (Ok (size, s)) h =
     frames-if section (size == 0) _ (frames-given section (nat_lt size 0xffff_fff0) UnknownReservedLength (split_at size s) (rest-if section size s (front size s) (ends_at s.place) h))
 
 frames : (section : List ℕ) (s : Stretch) → IsRest section s → Frames section (framed_at s)
-frames section s h = frames-number section (number_at w32 s) (rest-if section (byte_len w32) s _ (ends_at s.place) h)
+frames section s h = frames-number section (number_at 4 s) (rest-if section 4 s _ (ends_at s.place) h)
 
 -- an entry that is read stands at the offset that it is read for
 abbrev Stands : ℕ → Result Entry Error → Type 0
@@ -99,7 +101,7 @@ stands-if offset true x y p q = p
 stands-if offset false x y p q = q
 
 stands-within : (offset : ℕ) (body : Stretch) → Stands offset (entry_within offset body)
-stands-within offset body = by (number_at w32 body)
+stands-within offset body = by (number_at 4 body)
   where
     by : (id : Result (ℕ × Stretch) Error)
         → Stands offset (id >>= λ id. cond (id.0 == 0) (cie_at offset id.1 >>= λ cie. Ok (CieEntry cie)) (given (nat_le id.0 body.place) OffsetOutOfBounds >>= λ _. Ok (FdeEntry (record { offset = offset; cie_offset = body.place - id.0; rest = id.1 }))))
@@ -132,20 +134,17 @@ keeps-offset section partial = by_cie (cie_from_offset section partial.cie_offse
     by_size cie initial (Err e) = tt
 
     by_initial : (cie : Cie) (initial : Result (ℕ × Stretch) Error)
-        → KeepsOffset partial.offset (initial >>= λ initial. (number_at w64 initial.1 >>= λ size. Ok (record { offset = partial.offset; cie = cie; initial_address = initial.0; address_range = size.0; instructions = size.1 })))
-    by_initial cie (Ok initial) = by_size cie initial.0 (number_at w64 initial.1)
+        → KeepsOffset partial.offset (initial >>= λ initial. (number_at 8 initial.1 >>= λ size. Ok (record { offset = partial.offset; cie = cie; initial_address = initial.0; address_range = size.0; instructions = size.1 })))
+    by_initial cie (Ok initial) = by_size cie initial.0 (number_at 8 initial.1)
     by_initial cie (Err e) = tt
 
     by_cie : (cie : Result Cie Error)
-        → KeepsOffset partial.offset (cie >>= λ cie. (number_at w64 partial.rest >>= λ initial. (number_at w64 initial.1 >>= λ size. Ok (record { offset = partial.offset; cie = cie; initial_address = initial.0; address_range = size.0; instructions = size.1 }))))
-    by_cie (Ok cie) = by_initial cie (number_at w64 partial.rest)
+        → KeepsOffset partial.offset (cie >>= λ cie. (number_at 8 partial.rest >>= λ initial. (number_at 8 initial.1 >>= λ size. Ok (record { offset = partial.offset; cie = cie; initial_address = initial.0; address_range = size.0; instructions = size.1 }))))
+    by_cie (Ok cie) = by_initial cie (number_at 8 partial.rest)
     by_cie (Err e) = tt
 
-same_rest : (section : List ℕ) (s : Stretch) → IsRest section s → behind s.place (whole section) ≡ s
-same_rest section s h = same (drop s.place section) s.bytes (0 + s.place) s.place (sym h.bytes) (omega arith)
-  where
-    same : (a b : List ℕ) (m n : ℕ) → a ≡ b → m ≡ n → ◌≡◌ {A = Stretch} (record { bytes = a; place = m }) (record { bytes = b; place = n })
-    same a b m n p q = cc
+same_rest : (section : List ℕ) (s : Stretch) → IsRest section s → behind s.place (whole false section) ≡ s
+same_rest section s h = same_stretch (drop s.place section) s.bytes (0 + s.place) s.place false s.big (sym h.bytes) (omega arith) (sym h.order)
 
 -- the FDE at a place is that of the entry there
 at-place : (section : List ℕ) (s : Stretch) → IsRest section s → fde_from_offset section s.place ≡ (entry_at s.place s >>= fde_among section s.place)
@@ -185,7 +184,7 @@ there-within (suc n) section s h =
 
 -- each FDE of a section is what stands at its offset
 pub stands-there : (section : List ℕ) → All (StandsThere section) (entries_of section).fdes
-stands-there section = there-within (length section) section (whole section) (rest-whole section)
+stands-there section = there-within (length section) section (whole false section) (rest-whole section)
 
 -- ---- what an index finds
 

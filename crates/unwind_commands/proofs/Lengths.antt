@@ -1,11 +1,10 @@
 -- No read leaves more bytes than there were.
-use Rattle.std.proofs.Common.{◌≡◌, ℕ, zero, suc, ◌-◌, ◌<◌, ◌≤◌, Bool, true, false, cond, List, length, Option, Some, None, Result, Ok, Err, refl, subst, arith}
-use Rattle.std.specs.Prelude.{IsTrue}
-use Rattle.std.specs.Int.{Width, byte_len}
+use Rattle.std.proofs.Common.{◌≡◌, ℕ, zero, suc, ◌-◌, ◌<◌, ◌≤◌, Bool, true, false, cond, List, length, Option, Some, None, Result, Ok, Err, subst, arith}
+use Rattle.std.specs.Prelude.{◌==◌}
 use Rattle.std.proofs.lemmas.List.{length-drop}
 use Rattle.dwarf_constants.specs.declared.error.Error.{Error}
-use Rattle.unwind_commands.specs.Place.{Stretch, ◌>>=◌, number_at, behind}
-use Rattle.unwind_commands.specs.Leb128.{leb128_within, value_behind}
+use Rattle.dwarf_readers.specs.Leb128.{leb128_within, value_behind}
+use Rattle.dwarf_readers.specs.Place.{Stretch, ◌>>=◌, behind, byte_at, number_at}
 
 abbrev pub IsShort : {A : Type 0} → ℕ → Result (A × Stretch) Error → Type 0
 IsShort n (Ok x) = length x.1.bytes ≤ n
@@ -46,8 +45,11 @@ pub leaves_leb128 : {A : Type 0} (n : ℕ) (bad : Error) (fitting : List ℕ →
 leaves_leb128 n bad fitting s (Some string) = leaves_value bad string s (fitting string)
 leaves_leb128 n bad fitting s None = leaves_if _ _ _ _ leaves_err leaves_err
 
-pub leaves_number : (w : Width) (s : Stretch) → Leaves (length s.bytes - byte_len w) (number_at w s)
-leaves_number w s = leaves_if _ _ _ _ leaves_err (leaves_here (behind_less (byte_len w) s))
+pub leaves_number : (n : ℕ) (s : Stretch) → Leaves (length s.bytes - n) (number_at n s)
+leaves_number n s = leaves_if _ _ _ _ leaves_err (leaves_here (behind_less n s))
+
+pub leaves_byte : (s : Stretch) → Leaves (length s.bytes - 1) (byte_at s)
+leaves_byte s = leaves_if _ _ _ _ leaves_err (leaves_here (behind_less 1 s))
 
 more_short : {A : Type 0} (n m : ℕ) (read : Result (A × Stretch) Error) → n ≤ m → IsShort n read → IsShort m read
 more_short n m (Ok x) le h = omega arith
@@ -57,7 +59,6 @@ pub leaves_more : {A : Type 0} (n m : ℕ) (read : Result (A × Stretch) Error) 
 leaves_more n m read le h = record { short = more_short n m read le h.short }
 
 -- a length that a test found not to be 0
-pub some_left : (empty : Bool) (n : ℕ) → empty ≡ false → (n ≡ 0 → IsTrue empty) → 0 < n
-some_left true n is h = absurd cc
-some_left false zero is h = absurd (let wrong = h refl in cc)
-some_left false (suc n) is h = omega arith
+pub some_left : (empty : Bool) (n : ℕ) → empty ≡ false → empty ≡ (n == 0) → 0 < n
+some_left empty zero is h = absurd (cc)
+some_left empty (suc n) is h = omega arith

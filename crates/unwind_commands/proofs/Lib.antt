@@ -10,8 +10,6 @@ pub mod EntryPlaces
 pub mod Fronts
 pub mod IndexedModules
 pub mod InstructionLists
-pub mod LebLemmas
-pub mod LebReads
 pub mod Lengths
 pub mod LoadedModules
 pub mod ModulesInOrder
@@ -21,7 +19,6 @@ pub mod RowsOfRules
 pub mod RuleLists
 pub mod Runs
 pub mod SectionData
-pub mod SignedReads
 pub mod StepLines
 pub mod Steps
 pub mod StillCallback

@@ -4,6 +4,7 @@ use Rattle.std.specs.Int.{w64, cast_unsigned}
 use Rattle.std.specs.Option.{option_or}
 use Rattle.dwarf_constants.specs.declared.common.Register.{Register}
 use Rattle.dwarf_constants.specs.declared.error.Error.{Error}
+use Rattle.dwarf_readers.specs.Place.{Stretch}
 use Rattle.framehop_rules.specs.Callback.{Words}
 use Rattle.framehop_rules.specs.Outcome.{Caller}
 use Rattle.framehop_rules.specs.Registers.{ip_of, sp_of, bp_of}
@@ -16,7 +17,6 @@ use Rattle.unwind_commands.specs.declared.call_frames.rows.RegisterRule.TheVaria
 use Rattle.unwind_commands.specs.declared.framehop.dwarf.DwarfUnwinderError.{DwarfUnwinderError}
 use Rattle.unwind_commands.specs.declared.framehop.dwarf.DwarfUnwinderError.TheVariants.{CouldNotRecoverCfa, CouldNotRecoverReturnAddress, DidNotAdvance, StackPointerMovedBackwards}
 use Rattle.unwind_commands.specs.Expressions.{expression_at, register_plus}
-use Rattle.unwind_commands.specs.Place.{Stretch}
 use Rattle.unwind_commands.specs.RowAnswer.{value_of}
 use Rattle.unwind_commands.specs.ScaledRow.{Parts}
 

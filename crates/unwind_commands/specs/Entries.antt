@@ -1,12 +1,11 @@
 -- The entries of a section `.eh_frame` (DWARF 5, 6.4.1; LSB 5.0, 10.6.1). Taken are 32-bit lengths, and CIEs of
 -- version 1 without an augmentation; any other entry is a fault.
-use Rattle.std.specs.Prelude.{ℕ, zero, suc, ◌+◌, ◌-◌, ◌%◌, ◌^◌, ℤ, List, [], ◌∷◌, length, Option, Some, None, Result, Ok, Err, ◌==◌, nat_lt, nat_le, if◌then◌else◌}
-use Rattle.std.specs.Int.{w8, w32, w64}
+use Rattle.std.specs.Prelude.{ℕ, zero, suc, ◌+◌, ◌-◌, ◌%◌, ◌^◌, ℤ, List, [], ◌∷◌, length, false, Option, Some, None, Result, Ok, Err, ◌==◌, nat_lt, nat_le, if◌then◌else◌}
 use Rattle.dwarf_constants.specs.declared.common.Register.{Register}
 use Rattle.dwarf_constants.specs.declared.error.Error.{Error}
 use Rattle.dwarf_constants.specs.declared.error.Error.TheVariants.{UnknownReservedLength, UnknownVersion, UnknownAugmentation, OffsetOutOfBounds, NotCieId, NotCiePointer, NoEntryAtGivenOffset}
-use Rattle.unwind_commands.specs.Place.{Stretch, whole, ◌>>=◌, number_at, split_at, given}
-use Rattle.unwind_commands.specs.Leb128.{unsigned_at, signed_at}
+use Rattle.dwarf_readers.specs.Leb128.{unsigned_at, signed_at}
+use Rattle.dwarf_readers.specs.Place.{Stretch, ◌>>=◌, behind_at, byte_at, given, number_at, split_at, whole}
 
 -- a common information entry, and where it stands
 pub record Cie : Type 0 where
@@ -42,7 +41,7 @@ pub data Entry : Type 0 where
 -- what a length says: the bytes of an entry and what is left behind them, or nothing for a length of 0
 abbrev pub framed_at : Stretch → Result (Option (Stretch × Stretch)) Error
 framed_at s = do
-  size ← number_at w32 s
+  size ← number_at 4 s
   if size.0 == 0 then Ok None else (do
     _ ← given (nat_lt size.0 0xffff_fff0) UnknownReservedLength
     parts ← split_at size.0 size.1
@@ -51,19 +50,19 @@ framed_at s = do
 -- a CIE's parts behind its id
 abbrev pub cie_at : ℕ → Stretch → Result Cie Error
 cie_at offset s = do
-  version ← number_at w8 s
+  version ← byte_at s
   _ ← given (version.0 == 1) (UnknownVersion version.0)
-  augmentation ← number_at w8 version.1
+  augmentation ← byte_at version.1
   _ ← given (augmentation.0 == 0) UnknownAugmentation
   code ← unsigned_at augmentation.1
   factor ← signed_at code.1
-  register ← number_at w8 factor.1
+  register ← byte_at factor.1
   Ok (record { offset = offset; code_alignment_factor = code.0; data_alignment_factor = factor.0; return_address_register = record { 0 = register.0 }; instructions = register.1 })
 
 -- an entry from its id on: 0 for a CIE, else how far before the id the FDE's CIE stands
 abbrev pub entry_within : ℕ → Stretch → Result Entry Error
 entry_within offset body = do
-  id ← number_at w32 body
+  id ← number_at 4 body
   if id.0 == 0 then (do
     cie ← cie_at offset id.1
     Ok (CieEntry cie)) else (do
@@ -96,16 +95,16 @@ cie_of offset (Some (FdeEntry fde, rest)) = Err (NotCieId offset)
 -- the CIE at a place of the section
 abbrev pub cie_from_offset : List ℕ → ℕ → Result Cie Error
 cie_from_offset section offset = do
-  parts ← split_at offset (whole section)
-  entry ← entry_at offset parts.1
+  rest ← behind_at offset (whole false section)
+  entry ← entry_at offset rest
   cie_of offset entry
 
 -- the FDE, once its CIE is read: initial address and length in eight bytes each, then the instructions
 abbrev pub fde_of : List ℕ → PartialFde → Result Fde Error
 fde_of section partial = do
   cie ← cie_from_offset section partial.cie_offset
-  initial ← number_at w64 partial.rest
-  size ← number_at w64 initial.1
+  initial ← number_at 8 partial.rest
+  size ← number_at 8 initial.1
   Ok (record { offset = partial.offset; cie = cie; initial_address = initial.0; address_range = size.0; instructions = size.1 })
 
 -- the FDE among two kinds of entry
@@ -117,8 +116,8 @@ fde_among section offset (Some (FdeEntry fde, rest)) = fde_of section fde
 -- the FDE at a place of the section
 abbrev pub fde_from_offset : List ℕ → ℕ → Result Fde Error
 fde_from_offset section offset = do
-  parts ← split_at offset (whole section)
-  entry ← entry_at offset parts.1
+  rest ← behind_at offset (whole false section)
+  entry ← entry_at offset rest
   fde_among section offset entry
 
 -- the FDEs of a section in their order, and the first fault, of an entry or of an FDE's parts, that ends the list before the section ends
@@ -157,4 +156,4 @@ entries_from section s = fdes_within (length s.bytes) section s
 
 -- the FDEs of a section
 abbrev pub entries_of : List ℕ → Listing
-entries_of section = entries_from section (whole section)
+entries_of section = entries_from section (whole false section)

@@ -1,6 +1,7 @@
 -- Entries and their iterators as contracts see them.
 use Rattle.std.specs.Prelude.{ℕ, List, Option, Some, None, Result, Ok, Err}
 use Rattle.dwarf_constants.specs.declared.error.Error.{Error}
+use Rattle.dwarf_readers.specs.Place.{Stretch}
 use Rattle.unwind_commands.specs.declared.call_frames.entries.EhFrame.{EhFrame}
 use Rattle.unwind_commands.specs.declared.call_frames.entries.CfiEntriesIter.{CfiEntriesIter}
 use Rattle.unwind_commands.specs.declared.call_frames.entries.CieOrFde.{CieOrFde}
@@ -9,7 +10,6 @@ use Rattle.unwind_commands.specs.declared.call_frames.entries.CommonInformationE
 use Rattle.unwind_commands.specs.declared.call_frames.entries.PartialFrameDescriptionEntry.{PartialFrameDescriptionEntry}
 use Rattle.unwind_commands.specs.declared.call_frames.entries.FrameDescriptionEntry.{FrameDescriptionEntry}
 use Rattle.unwind_commands.specs.declared.call_frames.instructions.CallFrameInstructionIter.{CallFrameInstructionIter}
-use Rattle.unwind_commands.specs.Place.{Stretch}
 use Rattle.unwind_commands.specs.EndianSlice.{stretch}
 use Rattle.unwind_commands.specs.Entries.{Cie, PartialFde, Fde, Entry, CieEntry, FdeEntry}
 

@@ -1,13 +1,12 @@
 -- Expressions of call frame information (DWARF 5, 2.5). Those that have a value add an offset to a register.
-use Rattle.std.specs.Prelude.{◌≡◌, ℕ, ◌+◌, ◌-◌, ◌≤◌, ℤ, List, length, take, drop, Bool, ◌&&◌, Option, Some, None, Result, Ok, Err, ◌==◌, nat_le, if◌then◌else◌}
-use Rattle.std.specs.Int.{w8}
+use Rattle.std.specs.Prelude.{◌≡◌, ℕ, ◌+◌, ◌-◌, ◌≤◌, ℤ, List, length, take, drop, Bool, false, ◌&&◌, Option, Some, None, Result, Ok, Err, ◌==◌, nat_le, if◌then◌else◌}
 use Rattle.dwarf_constants.specs.declared.common.Register.{Register}
 use Rattle.dwarf_constants.specs.declared.error.Error.{Error}
+use Rattle.dwarf_readers.specs.Leb128.{signed_at}
+use Rattle.dwarf_readers.specs.Place.{Stretch, ◌>>=◌, behind_at, byte_at, front, split_at, whole}
 use Rattle.unwind_commands.specs.declared.call_frames.expressions.Expression.{Expression}
 use Rattle.unwind_commands.specs.declared.call_frames.expressions.UnwindExpression.{UnwindExpression}
 use Rattle.unwind_commands.specs.EndianSlice.{stretch}
-use Rattle.unwind_commands.specs.Leb128.{signed_at}
-use Rattle.unwind_commands.specs.Place.{Stretch, ◌>>=◌, whole, number_at, split_at, skip_at, front}
 
 -- the bytes of an expression
 abbrev pub expression_stretch : Expression → Stretch
@@ -16,14 +15,15 @@ expression_stretch expression = stretch expression.0
 -- the stretch of the section that an expression's place and length name
 abbrev pub expression_at : List ℕ → UnwindExpression → Result Stretch Error
 expression_at section expression = do
-  rest ← skip_at expression.offset (whole section)
+  rest ← behind_at expression.offset (whole false section)
   parts ← split_at expression.length rest
   Ok parts.0
 
--- the stretch is a part of the section, at its place
+-- the stretch is a part of the section, at its place and in its byte order
 pub record LiesIn (section : List ℕ) (s : Stretch) : Type 0 where
   pub fits : s.place + length s.bytes ≤ length section
   pub there : s.bytes ≡ take (length s.bytes) (drop s.place section)
+  pub order : s.big ≡ false
 
 -- where n bytes are passed, the place of the first of them and n name these bytes
 abbrev pub PassedBytesAreNamed : Type 0
@@ -45,4 +45,4 @@ with_opcode_read (Err e) = None
 
 -- the register and the offset of an expression that is one operation DW_OP_breg0 to DW_OP_breg31 (DWARF 5, 2.5.1.2) and nothing else
 abbrev pub register_plus : Stretch → Option (Register × ℤ)
-register_plus s = with_opcode_read (number_at w8 s)
+register_plus s = with_opcode_read (byte_at s)

@@ -1,20 +1,19 @@
 -- Call frame instructions (DWARF 5, 6.4.2; their bytes 7.24, table 7.29). Taken are DW_CFA_advance_loc, offset, nop,
 -- def_cfa, def_cfa_register, def_cfa_offset and def_cfa_expression; any other is refused.
 use Rattle.std.specs.Prelude.{ℕ, zero, suc, ◌/◌, ◌%◌, List, [], ◌∷◌, length, Option, Some, None, Result, Ok, Err, ◌==◌, if◌then◌else◌}
-use Rattle.std.specs.Int.{w8}
 use Rattle.dwarf_constants.specs.declared.error.Error.{Error}
 use Rattle.dwarf_constants.specs.declared.error.Error.TheVariants.{UnknownCallFrameInstruction}
+use Rattle.dwarf_readers.specs.Leb128.{unsigned_at, unsigned_16_at}
+use Rattle.dwarf_readers.specs.Place.{Stretch, ◌>>=◌, behind_at, byte_at}
 use Rattle.unwind_commands.specs.declared.call_frames.instructions.CallFrameInstruction.{CallFrameInstruction}
 use Rattle.unwind_commands.specs.declared.call_frames.instructions.CallFrameInstruction.TheVariants.{AdvanceLoc, DefCfa, DefCfaRegister, DefCfaOffset, DefCfaExpression, Offset, Nop}
 use Rattle.unwind_commands.specs.declared.call_frames.expressions.UnwindExpression.{UnwindExpression}
-use Rattle.unwind_commands.specs.Place.{Stretch, ◌>>=◌, number_at, skip_at}
-use Rattle.unwind_commands.specs.Leb128.{unsigned_at, unsigned_16_at}
 
 -- an expression, as its place and its length: the length, and then as many bytes, which are passed (DWARF 5, 7.7.3)
 abbrev pub skipped_expression : Stretch → Result (UnwindExpression × Stretch) Error
 skipped_expression s = do
   count ← unsigned_at s
-  left ← skip_at count.0 count.1
+  left ← behind_at count.0 count.1
   Ok (record { offset = count.1.place; length = count.0 }, left)
 
 -- the operands of an opcode whose high two bits are 0
@@ -49,7 +48,7 @@ operands_at opcode s =
 -- the first instruction, and what is left behind it
 abbrev pub instruction_at : Stretch → Result (CallFrameInstruction × Stretch) Error
 instruction_at s = do
-  opcode ← number_at w8 s
+  opcode ← byte_at s
   operands_at opcode.0 opcode.1
 
 -- an instruction and then those of the rest, or a fault

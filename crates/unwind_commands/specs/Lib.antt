@@ -4,7 +4,6 @@ pub mod CfiIndex
 pub mod CfiIndexView
 pub mod CommandViews
 pub mod Commands
-pub mod Digits
 pub mod DirectRow
 pub mod DirectViews
 pub mod Document
@@ -18,12 +17,10 @@ pub mod InstanceViews
 pub mod Instructions
 pub mod Json
 pub mod Judge
-pub mod Leb128
 pub mod Lines
 pub mod ModuleFound
 pub mod ModuleViews
 pub mod Numbered
-pub mod Place
 pub mod RegisterRules
 pub mod RowAnswer
 pub mod RowViews

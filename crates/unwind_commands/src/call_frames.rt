@@ -6,6 +6,7 @@ mod instructions;
 mod rows;
 mod table;
 
+use dwarf_read_core::{EndianSlice, LittleEndian};
 pub use entries::{
     CfiEntriesIter, CieOrFde, CommonInformationEntry, EhFrame, FrameDescriptionEntry,
     PartialFrameDescriptionEntry,
@@ -14,3 +15,6 @@ pub use expressions::{Expression, UnwindExpression};
 pub use instructions::{CallFrameInstruction, CallFrameInstructionIter};
 pub use rows::{CfaRule, RegisterRule, UnwindTableRow};
 pub use table::{UnwindContext, UnwindTable};
+
+/// What reads a section: its numbers are little-endian.
+type SectionReader<'a> = EndianSlice<'a, LittleEndian>;

@@ -1,5 +1,5 @@
-//! The program's run over one document, and, as private modules, the layers that it stands on: reading of sections,
-//! call frame information, and the unwinder.
+//! The program's run over one document, and, as private modules, the layers that it stands on: call frame information,
+//! and the unwinder.
 #![tactic(auto)]
 
 mod call_frames;
@@ -8,7 +8,6 @@ mod framehop;
 mod instances;
 mod lines;
 mod program;
-mod read_core;
 mod status;
 mod stream;
 #[cfg(test)]

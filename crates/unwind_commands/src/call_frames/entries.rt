@@ -1,12 +1,12 @@
-ghost use Rattle.std.specs.Prelude.{◌≡◌, ◌<◌, ◌≤◌, ◌↔◌, ℕ, List, [], length, IfOk, IfSome, IsTrue, OnErr, IfNone};
-ghost use Rattle.unwind_commands.specs.Place.{Gives, whole};
+ghost use Rattle.std.specs.Prelude.{◌≡◌, ◌<◌, ◌≤◌, ◌↔◌, ℕ, List, [], length, false, IfOk, IfSome, IsTrue, OnErr, IfNone};
+ghost use Rattle.dwarf_readers.specs.Place.{Gives, whole};
 ghost use Rattle.unwind_commands.specs.EndianSlice.{stretch};
 ghost use Rattle.unwind_commands.specs.Entries.{cie_at, entry_within, entry_at, first_entry, fdes_from, entries_from, fde_of, cie_from_offset, fde_from_offset, end_address};
 ghost use Rattle.unwind_commands.specs.EntryViews.{section_bytes, entries_left, instructions_left, cie_view, partial_view, fde_view, entry_view, next_entry};
 
+use crate::call_frames::SectionReader;
 use crate::call_frames::instructions::CallFrameInstructionIter;
-use crate::read_core::EndianSlice;
-use dwarf_constants::{Error, Register, Result};
+use dwarf_read_core::{EndianSlice, Error, LittleEndian, Reader, Register, Result};
 
 /// The section `.eh_frame` (LSB 5.0, 10.6). Taken are 32-bit lengths, and CIEs of version 1 without an augmentation.
 #[derive(Debug, Clone, Copy)]
@@ -23,18 +23,18 @@ impl<'a> EhFrame<'a> {
     }
 
     /// The section from its start on.
-    pub(crate) fn reader(&self) -> EndianSlice<'a>
-        ensures { stretch result ≡ whole (section_bytes self.now) }
+    pub(crate) fn reader(&self) -> SectionReader<'a>
+        ensures { stretch result ≡ whole false (section_bytes self.now) }
     {
-        EndianSlice::new(self.section)
+        EndianSlice::new(self.section, LittleEndian)
     }
 
     /// The entries in their order.
     pub fn entries(&self) -> CfiEntriesIter<'a>
-        ensures { entries_left result ≡ whole (section_bytes self.now) }
+        ensures { entries_left result ≡ whole false (section_bytes self.now) }
     {
         CfiEntriesIter {
-            input: EndianSlice::new(self.section),
+            input: self.reader(),
         }
     }
 
@@ -42,7 +42,7 @@ impl<'a> EhFrame<'a> {
     pub fn cie_from_offset(&self, offset: u64) -> Result<CommonInformationEntry<'a>>
         ensures { Gives cie_view result (cie_from_offset (section_bytes self.now) offset) }
     {
-        let mut input = EndianSlice::new(self.section);
+        let mut input = self.reader();
         input.skip(offset as usize)?;
         match parse_entry(offset, &mut input)? {
             Some(CieOrFde::Cie(cie)) => Ok(cie),
@@ -55,7 +55,7 @@ impl<'a> EhFrame<'a> {
     pub fn fde_from_offset(&self, offset: u64) -> Result<FrameDescriptionEntry<'a>>
         ensures { Gives fde_view result (fde_from_offset (section_bytes self.now) offset) }
     {
-        let mut input = EndianSlice::new(self.section);
+        let mut input = self.reader();
         input.skip(offset as usize)?;
         match parse_entry(offset, &mut input)? {
             Some(CieOrFde::Fde(partial)) => partial.parse(self),
@@ -68,7 +68,7 @@ impl<'a> EhFrame<'a> {
 /// The entries of a section, one after the other.
 #[derive(Debug, Clone, Copy)]
 pub struct CfiEntriesIter<'a> {
-    input: EndianSlice<'a>,
+    input: SectionReader<'a>,
 }
 
 impl<'a> CfiEntriesIter<'a> {
@@ -113,7 +113,7 @@ pub struct CommonInformationEntry<'a> {
     code_alignment_factor: u64,
     data_alignment_factor: i64,
     return_address_register: Register,
-    instructions: EndianSlice<'a>,
+    instructions: SectionReader<'a>,
 }
 
 impl<'a> CommonInformationEntry<'a> {
@@ -158,7 +158,7 @@ impl<'a> CommonInformationEntry<'a> {
 pub struct PartialFrameDescriptionEntry<'a> {
     offset: u64,
     cie_offset: u64,
-    rest: EndianSlice<'a>,
+    rest: SectionReader<'a>,
 }
 
 impl<'a> PartialFrameDescriptionEntry<'a> {
@@ -201,7 +201,7 @@ pub struct FrameDescriptionEntry<'a> {
     cie: CommonInformationEntry<'a>,
     initial_address: u64,
     address_range: u64,
-    instructions: EndianSlice<'a>,
+    instructions: SectionReader<'a>,
 }
 
 impl<'a> FrameDescriptionEntry<'a> {
@@ -256,7 +256,7 @@ impl<'a> FrameDescriptionEntry<'a> {
 }
 
 // Reads the entry at the front, which stands at `offset`. There is none at a length of 0.
-fn parse_entry<'a>(offset: u64, input: &mut EndianSlice<'a>) -> Result<Option<CieOrFde<'a>>>
+fn parse_entry<'a>(offset: u64, input: &mut SectionReader<'a>) -> Result<Option<CieOrFde<'a>>>
     ensures { entry_at offset (stretch input.old) ≡ next_entry result (stretch input.new) }
 {
     let size = input.read_u32()?;
@@ -272,7 +272,7 @@ fn parse_entry<'a>(offset: u64, input: &mut EndianSlice<'a>) -> Result<Option<Ci
 }
 
 // Reads an entry from its id on.
-fn parse_body<'a>(offset: u64, body: EndianSlice<'a>) -> Result<CieOrFde<'a>>
+fn parse_body<'a>(offset: u64, body: SectionReader<'a>) -> Result<CieOrFde<'a>>
     ensures { Gives entry_view result (entry_within offset (stretch body.entry)) }
 {
     let mut rest = body;
@@ -295,7 +295,7 @@ fn parse_body<'a>(offset: u64, body: EndianSlice<'a>) -> Result<CieOrFde<'a>>
 }
 
 // Reads a CIE from its version on.
-fn parse_cie<'a>(offset: u64, input: EndianSlice<'a>) -> Result<CommonInformationEntry<'a>>
+fn parse_cie<'a>(offset: u64, input: SectionReader<'a>) -> Result<CommonInformationEntry<'a>>
     ensures { Gives cie_view result (cie_at offset (stretch input.entry)) }
 {
     let mut rest = input;

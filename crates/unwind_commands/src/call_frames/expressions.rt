@@ -1,13 +1,12 @@
 //! Expressions of call frame information (DWARF 5, 2.5 and 6.4.2.2).
 ghost use Rattle.std.specs.Prelude.{◌≡◌};
 ghost use Rattle.std.specs.Option.{ok_or};
-ghost use Rattle.unwind_commands.specs.Place.{Gives};
+ghost use Rattle.dwarf_readers.specs.Place.{Gives};
 ghost use Rattle.unwind_commands.specs.EntryViews.{section_bytes};
 ghost use Rattle.unwind_commands.specs.Expressions.{expression_at, expression_stretch, register_plus, PassedBytesAreNamed};
 
-use crate::call_frames::EhFrame;
-use crate::read_core::EndianSlice;
-use dwarf_constants::{Error, Register, Result};
+use crate::call_frames::{EhFrame, SectionReader};
+use dwarf_read_core::{Error, Reader, Register, Result};
 
 /// The place of an expression in its section.
 #[derive(Debug, Clone, Copy, PartialEq, Eq)]
@@ -32,7 +31,7 @@ impl UnwindExpression {
 
 /// The bytes of an expression.
 #[derive(Debug, Clone, Copy)]
-pub struct Expression<'a>(pub EndianSlice<'a>);
+pub struct Expression<'a>(pub SectionReader<'a>);
 
 impl<'a> Expression<'a> {
     /// The register and the offset of an expression that is one operation `DW_OP_breg0` to

@@ -1,12 +1,11 @@
 ghost use Rattle.std.specs.Prelude.{◌≡◌, ◌<◌, [], length, IfOk, IfErr, IfSome, OnErr, MatchOption};
-ghost use Rattle.unwind_commands.specs.Place.{Gives};
+ghost use Rattle.dwarf_readers.specs.Place.{Reads};
 ghost use Rattle.unwind_commands.specs.EndianSlice.{stretch};
 ghost use Rattle.unwind_commands.specs.Instructions.{skipped_expression, extended_at, operands_at, instruction_at, instructions_of, with_next};
 ghost use Rattle.unwind_commands.specs.EntryViews.{instructions_left};
 
-use crate::call_frames::UnwindExpression;
-use crate::read_core::EndianSlice;
-use dwarf_constants::{DwCfa, Error, Register, Result};
+use crate::call_frames::{SectionReader, UnwindExpression};
+use dwarf_read_core::{DwCfa, Error, Reader, Register, Result};
 
 /// A call frame instruction (DWARF 5, 6.4.2), its operands as they are encoded.
 #[derive(Debug, Clone, Copy, PartialEq, Eq)]
@@ -43,11 +42,11 @@ pub enum CallFrameInstruction {
 /// The instructions of an entry, one after the other.
 #[derive(Debug, Clone, Copy)]
 pub struct CallFrameInstructionIter<'a> {
-    input: EndianSlice<'a>,
+    input: SectionReader<'a>,
 }
 
 impl<'a> CallFrameInstructionIter<'a> {
-    pub(crate) fn new(input: EndianSlice<'a>) -> Self
+    pub(crate) fn new(input: SectionReader<'a>) -> Self
         ensures { instructions_left result ≡ stretch input.entry }
     {
         CallFrameInstructionIter { input }
@@ -78,8 +77,8 @@ impl<'a> CallFrameInstructionIter<'a> {
 }
 
 /// Reads an instruction: the high two bits of its opcode tell one of three with an operand in the low six, or that all bits tell it.
-fn parse(input: &mut EndianSlice) -> Result<CallFrameInstruction>
-    ensures { Gives (λ instruction. (instruction, stretch input.new)) result (instruction_at (stretch input.old)) }
+fn parse(input: &mut SectionReader) -> Result<CallFrameInstruction>
+    ensures { Reads result (instruction_at (stretch input.old)) (stretch input.new) }
 {
     let opcode = input.read_u8()?;
     let low = opcode % 64;
@@ -100,8 +99,8 @@ fn parse(input: &mut EndianSlice) -> Result<CallFrameInstruction>
 }
 
 /// Reads the operands of an opcode whose high two bits are 0.
-fn parse_extended(opcode: u8, input: &mut EndianSlice) -> Result<CallFrameInstruction>
-    ensures { Gives (λ instruction. (instruction, stretch input.new)) result (extended_at opcode (stretch input.old)) }
+fn parse_extended(opcode: u8, input: &mut SectionReader) -> Result<CallFrameInstruction>
+    ensures { Reads result (extended_at opcode (stretch input.old)) (stretch input.new) }
 {
     match opcode {
         0x00 => Ok(CallFrameInstruction::Nop),
@@ -127,8 +126,8 @@ fn parse_extended(opcode: u8, input: &mut EndianSlice) -> Result<CallFrameInstru
 }
 
 /// Passes an expression behind its length, and keeps its place.
-fn parse_expression(input: &mut EndianSlice) -> Result<UnwindExpression>
-    ensures { Gives (λ expression. (expression, stretch input.new)) result (skipped_expression (stretch input.old)) }
+fn parse_expression(input: &mut SectionReader) -> Result<UnwindExpression>
+    ensures { Reads result (skipped_expression (stretch input.old)) (stretch input.new) }
 {
     let length = input.read_uleb128()?;
     let offset = input.offset_id().0;

@@ -9,7 +9,7 @@ use crate::call_frames::{
     CallFrameInstruction, CallFrameInstructionIter, CommonInformationEntry, UnwindExpression,
 };
 use arrayvec::ArrayVec;
-use dwarf_constants::{Error, Register, Result};
+use dwarf_read_core::{Error, Register, Result};
 
 /// How the canonical frame address of a row is found (DWARF 5, 6.4.1).
 #[derive(Debug, Clone, Copy, PartialEq, Eq)]

@@ -8,7 +8,7 @@ ghost use Rattle.unwind_commands.specs.UnwindTable.{Starts};
 use crate::call_frames::{
     CallFrameInstructionIter, CommonInformationEntry, FrameDescriptionEntry, UnwindTableRow,
 };
-use dwarf_constants::{Error, Result};
+use dwarf_read_core::{Error, Result};
 use std::alloc::{AllocError, Global};
 
 /// The row that an unwind stands at. It lies on the heap, and one unwind after another uses it.

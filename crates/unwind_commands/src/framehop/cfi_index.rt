@@ -9,7 +9,7 @@ ghost use Rattle.unwind_commands.specs.CfiIndex.{unfit, kept_of, index_error};
 ghost use Rattle.unwind_commands.specs.declared.framehop.cfi_index.DwarfCfiIndexError.TheVariants.{OutOfMemory};
 
 use crate::call_frames::{CieOrFde, EhFrame, FrameDescriptionEntry};
-use dwarf_constants::Error;
+use dwarf_read_core::Error;
 use std::alloc::{AllocError, Global};
 
 /// Why a section has no index.

@@ -8,7 +8,7 @@ ghost use Rattle.unwind_commands.specs.Expressions.{expression_at};
 ghost use Rattle.unwind_commands.specs.RowAnswer.{value_of};
 
 use crate::call_frames::{CfaRule, EhFrame, RegisterRule, UnwindExpression};
-use dwarf_constants::{Register, X86_64};
+use dwarf_read_core::{Register, X86_64};
 use framehop_rules::x86_64::UnwindRegsX86_64;
 
 /// The value of a DWARF register that a step knows: RSP, RBP and the return address's column.

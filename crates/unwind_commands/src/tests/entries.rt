@@ -1,8 +1,7 @@
 //! A section whose code pushes and sets a frame pointer, the numbers of DWARF 5, 7.6, and refusals.
 
 use crate::call_frames::{CallFrameInstruction, CieOrFde, EhFrame};
-use crate::read_core::EndianSlice;
-use dwarf_constants::{Error, ReaderOffsetId, Register};
+use dwarf_read_core::{EndianSlice, Error, LittleEndian, Reader, ReaderOffsetId, Register};
 
 static SECTION: [u8; 56] = [
     0x10, 0, 0, 0, 0, 0, 0, 0, 1, 0, 1, 0x78, 0x10, 0x0c, 7, 8, 0x90, 1, 0, 0, 0x1c, 0, 0, 0, 0x18,
@@ -71,6 +70,10 @@ fn an_entry_and_its_instructions(rt: HostRuntime) {
     assert_eq!(rt; cie.instructions().next(), Ok(Some(first)));
 }
 
+fn little(bytes: &[u8]) -> EndianSlice<'_, LittleEndian> {
+    EndianSlice::new(bytes, LittleEndian)
+}
+
 #[test]
 fn numbers_of_variable_length(rt: HostRuntime) {
     let small: [(u8, u8, u64, i64); 4] = [
@@ -81,37 +84,38 @@ fn numbers_of_variable_length(rt: HostRuntime) {
     ];
     for (first, second, unsigned, signed) in small {
         let bytes = [first, second, 9];
-        assert_eq!(rt; EndianSlice::new(&bytes).read_uleb128(), Ok(unsigned));
-        assert_eq!(rt; EndianSlice::new(&bytes).read_sleb128(), Ok(signed));
+        assert_eq!(rt; little(&bytes).read_uleb128(), Ok(unsigned));
+        assert_eq!(rt; little(&bytes).read_sleb128(), Ok(signed));
     }
-    let mut reader = EndianSlice::new(&[
+    let mut reader = little(&[
         0xff, 0xff, 0xff, 0xff, 0xff, 0xff, 0xff, 0xff, 0xff, 0x01, 7,
     ]);
     assert_eq!(rt; reader.read_uleb128(), Ok(u64::MAX));
     assert_eq!(rt; reader.read_u8(), Ok(7));
-    let mut reader = EndianSlice::new(&[
+    let mut reader = little(&[
         0xff, 0xff, 0xff, 0xff, 0xff, 0xff, 0xff, 0xff, 0xff, 0x02, 7,
     ]);
     assert_eq!(rt; reader.read_uleb128(), Err(Error::BadUnsignedLeb128));
     assert_eq!(rt; reader.len(), 1);
-    let mut reader = EndianSlice::new(&[0x80]);
+    let mut reader = little(&[0x80]);
     assert_eq!(rt;
         reader.read_uleb128(),
         Err(Error::UnexpectedEof(ReaderOffsetId(1)))
     );
+    assert_eq!(rt; little(&[0xff, 0xff, 0x03]).read_uleb128_u16(), Ok(65535));
     assert_eq!(rt;
-        EndianSlice::new(&[0xff, 0xff, 0x03]).read_uleb128_u16(),
-        Ok(65535)
-    );
-    assert_eq!(rt;
-        EndianSlice::new(&[0x80, 0x80, 0x04]).read_uleb128_u16(),
+        little(&[0x80, 0x80, 0x04]).read_uleb128_u16(),
         Err(Error::BadUnsignedLeb128)
     );
 }
 
 #[test]
 fn places_of_parts(rt: HostRuntime) {
-    let mut reader = EndianSlice::new_at(&[1, 2, 3, 4, 5, 6, 7, 8, 9, 10, 11, 12, 13], 40);
+    let mut reader = EndianSlice::new_at(
+        &[1, 2, 3, 4, 5, 6, 7, 8, 9, 10, 11, 12, 13],
+        LittleEndian,
+        40,
+    );
     assert_eq!(rt; reader.skip(1), Ok(()));
     assert_eq!(rt; reader.read_u32(), Ok(0x05040302));
     assert_eq!(rt; reader.offset_id(), ReaderOffsetId(45));

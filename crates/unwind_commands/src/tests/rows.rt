@@ -3,7 +3,7 @@
 use crate::call_frames::{
     CfaRule, EhFrame, FrameDescriptionEntry, RegisterRule, UnwindContext, UnwindTable,
 };
-use dwarf_constants::{DwCfa, Error, X86_64};
+use dwarf_read_core::{DwCfa, Error, X86_64};
 use std::test::Fail;
 
 // A CIE with the CFA at RSP + 8 and the return address at CFA - 8; an FDE of 0x1000 to 0x1010: one byte further the CFA is at

@@ -15,7 +15,7 @@ use crate::call_frames::{CfaRule, EhFrame, RegisterRule, UnwindTableRow};
 use crate::framehop::dwarf::DwarfUnwinderError;
 use crate::framehop::evaluation::{eval_cfa_rule, eval_register_rule, read_below};
 use crate::framehop::unwind_result::UnwindResult;
-use dwarf_constants::X86_64;
+use dwarf_read_core::X86_64;
 use framehop_rules::x86_64::{UnwindRegsX86_64, UnwindRuleX86_64};
 
 /// The eighth of a multiple of 8.

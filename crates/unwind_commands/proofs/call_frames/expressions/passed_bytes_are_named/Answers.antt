@@ -3,8 +3,8 @@ use Rattle.std.specs.Prelude.{nat_lt}
 use Rattle.std.proofs.Math.Nat.{zero-add}
 use Rattle.std.proofs.lemmas.Bool.{le-ltb}
 use Rattle.std.proofs.lemmas.List.{length-drop, take-take}
+use Rattle.dwarf_readers.specs.Place.{Stretch, front}
 use Rattle.unwind_commands.specs.Expressions.{LiesIn, expression_at}
-use Rattle.unwind_commands.specs.Place.{Stretch, front}
 use Rattle.unwind_commands.proofs.Places.{same_stretch}
 use Rattle.unwind_commands.proofs.call_frames.expressions.passed_bytes_are_named.Goals as goal
 
@@ -16,7 +16,7 @@ named : (section : List ℕ) (s : Stretch) (n : ℕ) → LiesIn section s → n 
 named section s n h le =
     let within : nat_lt (length section) s.place ≡ false = le-ltb (length section) s.place (omega (arith, h.fits)) in
     let enough : nat_lt (length (drop s.place section)) n ≡ false = le-ltb (length (drop s.place section)) n (omega (arith, length-drop s.place section, h.fits)) in
-    rw (within, enough) (ap (λ (x : Stretch). Ok x) (same_stretch (take n (drop s.place section)) (take n s.bytes) (0 + s.place) s.place (same_front section s n h le) (zero-add s.place)))
+    rw (within, enough) (ap (λ (x : Stretch). Ok x) (same_stretch (take n (drop s.place section)) (take n s.bytes) (0 + s.place) s.place false s.big (same_front section s n h le) (zero-add s.place) (sym h.order)))
 
 pub returns : goal.returns
 returns c = named
