@@ -6,3 +6,4 @@ pub mod SignedValues
 pub mod Spellings
 pub mod SignedSpellings
 pub mod Following
+pub mod Backward

@@ -7,6 +7,9 @@ use crate::{
 use dwarf_constants::{Error, Format, ReaderOffsetId};
 use std::test::Fail;
 
+mod numbers;
+mod second_reader;
+
 fn little(bytes: &[u8]) -> EndianSlice<'_, LittleEndian> {
     EndianSlice::new(bytes, LittleEndian)
 }

@@ -1,0 +1,358 @@
+//! A reader whose bytes lie otherwise than an `EndianSlice`'s, and both readers over the same bytes.
+
+ghost use Rattle.std.specs.Prelude.{◌≡◌, ◌<◌, ◌+◌, ◌^◌, ◌==◌, IfErr, IfOk, length, position, reverse};
+ghost use Rattle.dwarf_constants.specs.declared.error.Error.TheVariants.{OutOfMemory};
+ghost use Rattle.dwarf_readers.specs.Place.{ends_at};
+
+use crate::{EndianSlice, Endianity, Reader, ReaderOffset, RunTimeEndian, leb128, read_u8_array};
+use dwarf_constants::{Error, Format, ReaderOffsetId, Result};
+use std::alloc::Global;
+use std::borrow::{CowSlice, CowStr};
+use std::fmt::Debug;
+use std::process::Abort;
+
+// Bytes that are stored back to front: the next byte is the last that is stored. No piece of a section lies in memory
+// as it is read, so nothing can be lent.
+#[derive(Debug, Clone, Copy)]
+struct Backward<'a> {
+    stored: &'a [u8],
+    endian: RunTimeEndian,
+    first: u64,
+    ghost small: { length stored.now < 2 ^ 32 },
+    ghost fits: { first + length stored.now < 2 ^ 64 },
+}
+
+impl Backward<'_> {
+    // The bytes in the order of the section.
+    fn forward(&self, alloc: Global) -> Result<Vec<u8>>
+        ensures bytes { IfOk result (λ v. v.items ≡ reverse self.now.stored.now) }
+        ensures memory { IfErr result (λ e. e ≡ OutOfMemory) }
+    {
+        match self.stored.iter().rev().copied().collect(alloc) {
+            Ok(bytes) => Ok(bytes),
+            Err(_) => Err(Error::OutOfMemory),
+        }
+    }
+
+    // How many bytes are left behind the next `len`, if they are there.
+    fn rest(&self, len: usize) -> Result<usize>
+        ensures rest { IfOk result (λ rest. rest + len ≡ length self.now.stored.now) }
+        ensures refused { IfErr result (λ e. (length self.now.stored.now < len) × (e ≡ ends_at self.now.first)) }
+    {
+        if self.stored.len() < len {
+            return Err(Error::UnexpectedEof(ReaderOffsetId(self.first)));
+        }
+        Ok(self.stored.len() - len)
+    }
+
+    // How many bytes stand before the first of this value.
+    fn before(&self, byte: u8) -> Option<usize>
+        ensures { result ≡ position (λ b. b == byte) (reverse self.now.stored.now) }
+    {
+        self.stored.iter().rev().position(|b| *b == byte)
+    }
+}
+
+impl Reader for Backward<'_> {
+    type Endian = RunTimeEndian;
+
+    type Offset = u32;
+
+    ghost stretch = { λ s. record { bytes = reverse s.stored.now; place = s.first; big = ⟦<RunTimeEndian as Endianity>⟧.is_big s.endian } };
+
+    fn endian(&self) -> RunTimeEndian {
+        self.endian
+    }
+
+    fn len(&self) -> u32 {
+        self.stored.len() as u32
+    }
+
+    fn empty(&mut self) {
+        self.stored = &[];
+    }
+
+    #[tactic(auto, using(crate::proofs::Backward::truncated))]
+    fn truncate(&mut self, len: u32) -> Result<()> {
+        let rest = self.rest(len as usize)?;
+        self.stored = &self.stored[rest..];
+        Ok(())
+    }
+
+    fn offset_from(&self, base: &Self) -> u32 {
+        (self.first - base.first) as u32
+    }
+
+    fn offset_id(&self) -> ReaderOffsetId {
+        ReaderOffsetId(self.first)
+    }
+
+    fn lookup_offset_id(&self, id: ReaderOffsetId) -> Option<u32> {
+        if id.0 < self.first || self.first + (self.stored.len() as u64) < id.0 {
+            return None;
+        }
+        Some((id.0 - self.first) as u32)
+    }
+
+    fn find(&self, byte: u8) -> Result<u32> {
+        match self.before(byte) {
+            Some(len) => Ok(len as u32),
+            None => Err(Error::UnexpectedEof(ReaderOffsetId(self.first))),
+        }
+    }
+
+    #[tactic(auto, using(crate::proofs::Backward::skipped))]
+    fn skip(&mut self, len: u32) -> Result<()> {
+        let rest = self.rest(len as usize)?;
+        *self = Backward {
+            stored: &self.stored[..rest],
+            endian: self.endian,
+            first: self.first + u64::from(len),
+        };
+        Ok(())
+    }
+
+    fn split(&mut self, len: u32) -> Result<Self> {
+        let mut part = *self;
+        part.truncate(len)?;
+        self.skip(len)?;
+        Ok(part)
+    }
+
+    fn to_slice(&self, alloc: Global) -> Result<CowSlice<'_, u8, Global>> {
+        Ok(CowSlice::Owned(self.forward(alloc)?))
+    }
+
+    fn to_string(&self, alloc: Global) -> Result<CowStr<'_, Global>> {
+        let bytes = self.forward(alloc)?;
+        let Ok(text) = str::from_utf8(bytes.as_slice()) else {
+            return Err(Error::BadUtf8);
+        };
+        match String::from_str(alloc, text) {
+            Ok(text) => Ok(CowStr::Owned(text)),
+            Err(_) => Err(Error::OutOfMemory),
+        }
+    }
+
+    fn to_string_lossy(&self, alloc: Global) -> Result<CowStr<'_, Global>> {
+        let bytes = self.forward(alloc)?;
+        match String::from_utf8_lossy(alloc, bytes.as_slice()) {
+            Ok(text) => Ok(CowStr::Owned(text)),
+            Err(_) => Err(Error::OutOfMemory),
+        }
+    }
+
+    fn read_slice(&mut self, buf: &mut [u8]) -> Result<()> {
+        let Ok(len) = u32::try_from(buf.len()) else {
+            return Err(Error::UnexpectedEof(self.offset_id()));
+        };
+        let part = self.split(len)?;
+        buf.copy_from_slice(part.stored);
+        buf.reverse();
+        Ok(())
+    }
+}
+
+// An offset as one of 32 bits, or that it is too large for one.
+fn narrow<O: ReaderOffset>(offset: Result<O>) -> Result<u32> {
+    u32::from_u64(offset?.into_u64())
+}
+
+// The bytes of a part and its place.
+fn part<R: Reader>(alloc: Global, part: Result<R>) -> Result<(Vec<u8>, ReaderOffsetId)> {
+    let part = part?;
+    let mut bytes = Vec::new(alloc);
+    match bytes.extend_from_slice(&part.to_slice(alloc)?) {
+        Ok(()) => Ok((bytes, part.offset_id())),
+        Err(_) => Err(Error::OutOfMemory),
+    }
+}
+
+// How far the reader is behind itself after three bytes.
+fn behind<R: Reader>(r: &R) -> Result<u64> {
+    let mut later = *r;
+    later.skip(ReaderOffset::from_u8(3))?;
+    Ok(later.offset_from(r).into_u64())
+}
+
+// A text's bytes.
+fn text(alloc: Global, text: Result<CowStr<'_, Global>>) -> Result<String> {
+    match String::from_str(alloc, &text?) {
+        Ok(text) => Ok(text),
+        Err(_) => Err(Error::OutOfMemory),
+    }
+}
+
+// An initial length, as a number of 32 bits.
+fn length<R: Reader>(r: &mut R) -> Result<(u32, Format)> {
+    let (length, format) = r.read_initial_length()?;
+    Ok((u32::from_u64(length.into_u64())?, format))
+}
+
+// Wants one answer of both readers, and one place behind it.
+fn agree<T: PartialEq + Debug + Drop, A: Reader, B: Reader>(
+    rt: &impl Abort,
+    answers: (T, T),
+    one: &A,
+    two: &B,
+) {
+    assert_eq!(rt; answers.0, answers.1);
+    assert_eq!(rt; one.offset_id(), two.offset_id());
+    assert_eq!(rt; one.len().into_u64(), two.len().into_u64());
+}
+
+// Asks both readers the same, each as a copy of its own.
+macro_rules! same {
+    ($rt:ident, $one:ident, $two:ident, |$reader:ident| $answer:expr) => {{
+        let mut first = *$one;
+        let mut second = *$two;
+        let first_answer = {
+            let $reader = &mut first;
+            $answer
+        };
+        let second_answer = {
+            let $reader = &mut second;
+            $answer
+        };
+        agree($rt, (first_answer, second_answer), &first, &second);
+    }};
+}
+
+fn same_moves<A: Reader, B: Reader>(rt: &impl Abort, alloc: Global, one: &A, two: &B) {
+    same!(rt, one, two, |r| r.endian().is_big_endian());
+    same!(rt, one, two, |r| r.is_empty());
+    same!(rt, one, two, |r| r.empty());
+    for len in [0, 1, 5, 21, 22] {
+        same!(rt, one, two, |r| r.truncate(ReaderOffset::from_u8(len)));
+        same!(rt, one, two, |r| r.skip(ReaderOffset::from_u8(len)));
+        same!(
+            rt,
+            one,
+            two,
+            |r| part(alloc, r.split(ReaderOffset::from_u8(len)))
+        );
+    }
+}
+
+fn same_searches<A: Reader, B: Reader>(rt: &impl Abort, alloc: Global, one: &A, two: &B) {
+    for place in [99, 100, 104, 120, 121, 122] {
+        same!(
+            rt,
+            one,
+            two,
+            |r| r
+                .lookup_offset_id(ReaderOffsetId(place))
+                .map(|o| o.into_u64())
+        );
+    }
+    same!(rt, one, two, |r| behind(r));
+    for byte in [0, 0x61, 0xee] {
+        same!(rt, one, two, |r| narrow(r.find(byte)));
+    }
+    same!(
+        rt,
+        one,
+        two,
+        |r| part(alloc, r.read_null_terminated_slice())
+    );
+    same!(rt, one, two, |r| part(alloc, Ok(*r)));
+}
+
+fn same_texts<A: Reader, B: Reader>(rt: &impl Abort, alloc: Global, one: &A, two: &B) {
+    same!(rt, one, two, |r| text(alloc, r.to_string(alloc)));
+    same!(rt, one, two, |r| text(alloc, r.to_string_lossy(alloc)));
+}
+
+fn same_numbers<A: Reader, B: Reader>(rt: &impl Abort, one: &A, two: &B) {
+    same!(rt, one, two, |r| r.read_u8());
+    same!(rt, one, two, |r| r.read_i8());
+    same!(rt, one, two, |r| r.read_u16());
+    same!(rt, one, two, |r| r.read_i16());
+    same!(rt, one, two, |r| r.read_u32());
+    same!(rt, one, two, |r| r.read_i32());
+    same!(rt, one, two, |r| r.read_u64());
+    same!(rt, one, two, |r| r.read_i64());
+    same!(rt, one, two, |r| r.read_u128());
+    for n in 1..9 {
+        same!(rt, one, two, |r| r.read_uint(n));
+    }
+}
+
+fn same_sized<A: Reader, B: Reader>(rt: &impl Abort, one: &A, two: &B) {
+    same!(rt, one, two, |r| r.read_address_size());
+    for size in [0, 1, 2, 3, 4, 8] {
+        same!(rt, one, two, |r| r.read_address(size));
+        same!(rt, one, two, |r| narrow(r.read_sized_offset(size)));
+    }
+    for format in [Format::Dwarf32, Format::Dwarf64] {
+        same!(rt, one, two, |r| narrow(r.read_word(format)));
+        same!(rt, one, two, |r| narrow(r.read_length(format)));
+        same!(rt, one, two, |r| narrow(r.read_offset(format)));
+    }
+    same!(rt, one, two, |r| length(r));
+}
+
+fn same_leb128<A: Reader, B: Reader>(rt: &impl Abort, one: &A, two: &B) {
+    same!(rt, one, two, |r| r.skip_leb128());
+    same!(rt, one, two, |r| r.read_uleb128());
+    same!(rt, one, two, |r| r.read_uleb128_u32());
+    same!(rt, one, two, |r| r.read_uleb128_u16());
+    same!(rt, one, two, |r| r.read_sleb128());
+    same!(rt, one, two, |r| read_u8_array::<3, _>(r));
+    same!(rt, one, two, |r| leb128::read::skip(r));
+    same!(rt, one, two, |r| leb128::read::unsigned(r));
+    same!(rt, one, two, |r| leb128::read::u16(r));
+    same!(rt, one, two, |r| leb128::read::signed(r));
+}
+
+// Both readers from each place of some bytes on.
+fn same_everywhere(
+    rt: &impl Abort,
+    alloc: Global,
+    endian: RunTimeEndian,
+    bytes: &[u8],
+    stored: &[u8],
+)
+    requires same { length stored.now ≡ length bytes.now }
+    requires few { length bytes.now < 100 }
+{
+    for start in 0..bytes.len() + 1 {
+        let first = 100 + start as u64;
+        let one = EndianSlice::new_at(&bytes[start..], endian, first);
+        let two = Backward {
+            stored: &stored[..stored.len() - start],
+            endian,
+            first,
+        };
+        same_moves(rt, alloc, &one, &two);
+        same_searches(rt, alloc, &one, &two);
+        same_texts(rt, alloc, &one, &two);
+        same_numbers(rt, &one, &two);
+        same_sized(rt, &one, &two);
+        same_leb128(rt, &one, &two);
+    }
+}
+
+#[test]
+fn both_readers_answer_the_same(rt: HostRuntime) {
+    let bytes = [
+        0x01, 0x02, 0xff, 0xff, 0xff, 0xff, 9, 0, 0, 0, 0, 0, 0, 0, 0x61, 0x80, 0x80, 0xc1, 0xa9,
+        0, 7,
+    ];
+    let mut stored = bytes;
+    stored.reverse();
+    same_everywhere(&rt, rt.alloc(), RunTimeEndian::Little, &bytes, &stored);
+    same_everywhere(&rt, rt.alloc(), RunTimeEndian::Big, &bytes, &stored);
+}
+
+#[test]
+fn both_readers_read_texts_and_long_numbers(rt: HostRuntime) {
+    let bytes = [
+        0xc3, 0xa9, 0x7a, 0, 0x80, 0x80, 0x80, 0x80, 0x80, 0x80, 0x80, 0x80, 0x80, 0x80, 0x01,
+        0xff, 0xf0, 0xff, 0xff, 0xff, 0x7e,
+    ];
+    let mut stored = bytes;
+    stored.reverse();
+    same_everywhere(&rt, rt.alloc(), RunTimeEndian::Little, &bytes, &stored);
+    same_everywhere(&rt, rt.alloc(), RunTimeEndian::Big, &bytes, &stored);
+}
