@@ -1,14 +1,9 @@
 -- Steps of the definitions of abbreviation tables.
-use Rattle.std.proofs.Common.{◌≡◌, ℕ, zero, suc, ◌<◌, List, [], ◌∷◌, ◌++◌, length, ◌==◌, Bool, true, false, cond, if◌then◌else◌, Some, None, Result, Ok, Err, refl, sym, ◌∙◌, arith}
-use Rattle.std.proofs.lemmas.Bool.Decides.{nat_tests}
+use Rattle.std.proofs.Common.{◌≡◌, ℕ, zero, suc, ◌<◌, List, [], ◌∷◌, ◌++◌, length, true, false, Some, None, Result, Ok, Err, refl, sym, ◌∙◌, arith}
 use Rattle.dwarf_constants.specs.declared.error.Error.{Error}
 use Rattle.dwarf_constants.specs.declared.error.Error.TheVariants.{DuplicateAbbreviationCode}
 use Rattle.dwarf_read_core.specs.AbbreviationTable.{Attribute, Declaration, attribute_at, attributes_at, attributes_within, declaration_at, declarations_within, has_code, table_at}
 use Rattle.dwarf_readers.specs.Place.{Stretch}
-
-one_code : (here : Bool) → cond here true false ≡ cond false true here
-one_code true = refl
-one_code false = refl
 
 -- a count of steps that is large enough, and by which the answer is this
 pub record Within {A B : Type 0} (within : ℕ → A → Stretch → Result B Error) (seen : A) (s : Stretch) (whole : Result B Error) : Type 0 where
@@ -80,16 +75,3 @@ table_more seen s t d whole is h fresh less = table_goes_on is.steps seen s t d 
 pub table_start : (s : Stretch) → Within declarations_within [] s (table_at s)
 unfolding table_at
 table_start s = record { steps = suc (length s.bytes); enough = omega arith; same = refl }
-
--- a code in a longer list
-pub has_code-push : (code : ℕ) (ds : List Declaration) (d : Declaration) → has_code code (ds ++ d ∷ []) ≡ (if has_code code ds then true else d.code == code)
-has_code-push code [] d = one_code (d.code == code)
-has_code-push code (e ∷ ds) d = elim (e.code == code) as (λ here. cond here true (has_code code (ds ++ d ∷ [])) ≡ cond (cond here true (has_code code ds)) true (d.code == code)) [
-  | true ↦ refl
-  | false ↦ has_code-push code ds d
-]
-
-pub above_push : (code : ℕ) (ds : List Declaration) (d : Declaration) → has_code code ds ≡ false → d.code < code → has_code code (ds ++ d ∷ []) ≡ false
-above_push code ds d none less =
-    let other : (d.code == code) ≡ false = grind (arith, nat_tests) in
-    rw (has_code-push code ds d, none, other) refl

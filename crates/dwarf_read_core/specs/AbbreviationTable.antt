@@ -1,5 +1,5 @@
 -- Tables of abbreviations (DWARF 5, 7.5.3).
-use Rattle.std.specs.Prelude.{ℕ, suc, zero, ℤ, ◌==◌, ◌≡◌, List, [], ◌∷◌, ◌++◌, length, ◌⊎◌, Bool, true, false, not, Option, Some, None, Result, Ok, Err, nat_le, if◌then◌else◌}
+use Rattle.std.specs.Prelude.{ℕ, suc, zero, ℤ, ◌==◌, ◌≡◌, List, [], ◌∷◌, ◌++◌, length, ◌⊎◌, Bool, true, false, not, Option, Some, None, option_map, ◌&&◌, Result, Ok, Err, nat_le, if◌then◌else◌}
 use Rattle.dwarf_constants.specs.declared.error.Error.{Error}
 use Rattle.dwarf_constants.specs.declared.error.Error.TheVariants.{AbbreviationTagZero, AttributeFormZero, AttributeNameZero, DuplicateAbbreviationCode, InvalidAbbreviationChildren, OutOfMemory}
 use Rattle.dwarf_readers.specs.Leb128.{signed_at, unsigned_16_at, unsigned_at}
@@ -90,6 +90,15 @@ table_in offset section = behind_at offset section >>= table_at
 abbrev pub declared : ℕ → List Declaration → Option Declaration
 declared code [] = None
 declared code (d ∷ ds) = if d.code == code then Some d else declared code ds
+
+-- the place of a code's declaration among these, counted from 0
+abbrev pub place_of : ℕ → List Declaration → Option ℕ
+place_of code [] = None
+place_of code (d ∷ ds) = if d.code == code then Some 0 else option_map suc (place_of code ds)
+
+-- this is one of the codes 1, 2, .., n
+abbrev pub is_among_first : ℕ → ℕ → Bool
+is_among_first code n = nat_le 1 code && nat_le code n
 
 -- what a read returned is this answer, unless memory ran out
 abbrev pub GivesOrMemory : {X Y : Type 0} → (X → Y) → Result X Error → Result Y Error → Type 0

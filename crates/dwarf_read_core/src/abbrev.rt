@@ -1,9 +1,11 @@
 //! `.debug_abbrev`.
 
-ghost use Rattle.std.specs.Prelude.{◌≡◌, ◌≤◌, ◌<◌, ◌+◌, ◌==◌, ◌↔◌, ◌⊎◌, [], ℕ, false, IsSome, Some, None, Ok, Err, IfOk, IfErr, OnErr, OnOk, length, map, option_map};
+ghost use Rattle.std.specs.Prelude.{◌≡◌, ◌≤◌, ◌<◌, ◌+◌, ◌-◌, ◌==◌, ◌↔◌, ◌⊎◌, [], ℕ, false, if◌then◌else◌, IsSome, Some, None, Ok, Err, IfOk, IfErr, OnErr, OnOk, length, map, option_map};
+ghost use Rattle.std.specs.BTreeMap.{get};
+ghost use Rattle.std.specs.Ordering.{nat_cmp};
 ghost use Rattle.dwarf_constants.specs.declared.common.SectionId.TheVariants as id;
 ghost use Rattle.dwarf_constants.specs.declared.error.Error.TheVariants as error;
-ghost use Rattle.dwarf_read_core.specs.AbbreviationTable.{GivesOrMemory, attribute_at, attributes_at, children_at, declaration_at, declaration_of, declared, has_code, table_at, table_in, tag_at};
+ghost use Rattle.dwarf_read_core.specs.AbbreviationTable.{GivesOrMemory, attribute_at, attributes_at, children_at, declaration_at, declaration_of, declared, has_code, is_among_first, place_of, table_at, table_in, tag_at};
 ghost use Rattle.dwarf_read_core.specs.Abbreviations.{attribute, declaration};
 ghost use Rattle.dwarf_read_core.specs.Forms.{fixed_size, form_size};
 ghost use Rattle.dwarf_readers.specs.Place.{Reads, ReadsAs};
@@ -12,6 +14,7 @@ use crate::section::Section;
 use dwarf_constants::{DebugAbbrevOffset, DwChildren, DwForm, Encoding, Error, Result, SectionId};
 use dwarf_readers::{EndianSlice, Endianity, Reader};
 use std::alloc::Global;
+use std::collections::BTreeMap;
 
 /// An attribute of an abbreviation (DWARF 5, 7.5.3).
 #[derive(Debug, Clone, Copy, PartialEq, Eq)]
@@ -241,76 +244,96 @@ fn read_abbreviation<R: Reader>(alloc: Global, input: &mut R) -> Result<Option<A
 /// The abbreviations of a table. No two have one code.
 #[derive(Debug, Drop)]
 pub struct Abbreviations {
+    // In the section's order.
     declarations: Vec<Abbreviation>,
-    // No code is above it.
-    largest: u64,
-    ghost above: { (code : ℕ) → largest < code → has_code code (map declaration declarations.items) ≡ false },
+    // So many first ones have the codes 1, 2, ..
+    dense: usize,
+    // The places of the others, by their codes.
+    sparse: BTreeMap<u64, usize>,
+    ghost places: { (code : ℕ) → place_of code (map declaration declarations.items) ≡ (if is_among_first code dense then Some (code - 1) else get nat_cmp sparse code) },
 }
 
 impl Abbreviations {
     ghost use Rattle.std.specs.Prelude.{◌++◌, ◌∷◌, true};
     ghost use Rattle.dwarf_read_core.specs.DebugAbbrev.{declarations};
 
+    // The table of no abbreviations.
+    fn new(alloc: Global) -> Abbreviations
+        ensures { declarations result ≡ [] }
+    {
+        Abbreviations {
+            declarations: Vec::new(alloc),
+            dense: 0,
+            sparse: BTreeMap::new(alloc),
+        }
+    }
+
     // Reads the table at the reader's place.
     fn parse<R: Reader>(alloc: Global, input: &mut R) -> Result<Abbreviations>
         ensures { GivesOrMemory declarations result (table_at (R.stretch input.old)) }
     {
-        let mut table = Abbreviations {
-            declarations: Vec::new(alloc),
-            largest: 0,
-        };
+        let mut table = Abbreviations::new(alloc);
         'table: loop {
             match read_abbreviation(alloc, input)? {
-                Some(abbreviation) => table.insert(abbreviation)?,
+                Some(abbreviation) => table = table.insert(abbreviation)?,
                 None => return Ok(table),
             }
         }
+    }
+
+    // The place of the abbreviation of a code.
+    fn place(&self, code: u64) -> Option<usize>
+        ensures { result ≡ place_of code (declarations self.now) }
+    {
+        if 0 < code && code <= self.dense as u64 {
+            return Some((code - 1) as usize);
+        }
+        self.sparse.get(&code).copied()
     }
 
     // Whether an abbreviation of this code is there.
     fn has(&self, code: u64) -> bool
         ensures { result ≡ has_code code (declarations self.now) }
     {
-        if code > self.largest {
-            return false;
-        }
-        for abbreviation in self.declarations.iter() {
-            if abbreviation.code == code {
-                return true;
-            }
-        }
-        false
+        self.place(code).is_some()
     }
 
     // Puts an abbreviation behind the others, if none has its code.
-    fn insert(&mut self, abbreviation: Abbreviation) -> Result<()>
-        ensures fresh { OnOk result (has_code (declaration abbreviation).code (declarations self.old) ≡ false) }
-        ensures behind { OnOk result (declarations self.new ≡ declarations self.old ++ declaration abbreviation ∷ []) }
-        ensures refused { IfErr result (λ e. ((e ≡ error.DuplicateAbbreviationCode (declaration abbreviation).code) × (has_code (declaration abbreviation).code (declarations self.old) ≡ true)) ⊎ (e ≡ error.OutOfMemory)) }
+    fn insert(self, abbreviation: Abbreviation) -> Result<Abbreviations>
+        ensures fresh { OnOk result (has_code (declaration abbreviation).code (declarations self) ≡ false) }
+        ensures behind { IfOk result (λ table. declarations table ≡ declarations self ++ declaration abbreviation ∷ []) }
+        ensures refused { IfErr result (λ e. ((e ≡ error.DuplicateAbbreviationCode (declaration abbreviation).code) × (has_code (declaration abbreviation).code (declarations self) ≡ true)) ⊎ (e ≡ error.OutOfMemory)) }
     {
         let code = abbreviation.code;
         if self.has(code) {
             return Err(Error::DuplicateAbbreviationCode(code));
         }
-        if self.declarations.push(abbreviation).is_err() {
+        let Abbreviations {
+            mut declarations,
+            mut dense,
+            mut sparse,
+        } = self;
+        let place = declarations.len();
+        if declarations.push(abbreviation).is_err() {
             return Err(Error::OutOfMemory);
         }
-        if code > self.largest {
-            self.largest = code;
+        if dense == place && code == place as u64 + 1 {
+            dense += 1;
+        } else if sparse.insert(code, place).is_err() {
+            return Err(Error::OutOfMemory);
         }
-        Ok(())
+        Ok(Abbreviations {
+            declarations,
+            dense,
+            sparse,
+        })
     }
 
     /// The abbreviation of a code.
     pub fn get(&self, code: u64) -> Option<&Abbreviation>
         ensures { option_map (λ a. declaration a.now) result ≡ declared code (declarations self.now) }
     {
-        for abbreviation in self.declarations.iter() {
-            if abbreviation.code == code {
-                return Some(abbreviation);
-            }
-        }
-        None
+        self.declarations.get(self.place(code)?)
     }
 }
 

@@ -1,4 +1,5 @@
 mod real_sections;
+mod cache;
 
 use crate::{
     Abbreviations, AttributeSpecification, DebugAbbrev, DebugAddr, DebugStr, DebugStrOffsets,
