@@ -2,6 +2,7 @@ pub mod Sections
 pub mod AddressSets
 pub mod AbbreviationTable
 pub mod Abbreviations
+pub mod AbbreviationsCache
 pub mod DebugAbbrev
 pub mod Forms
 pub mod ClosedTables

@@ -10,7 +10,10 @@ ghost use Rattle.dwarf_read_core.specs.Abbreviations.{attribute, declaration};
 ghost use Rattle.dwarf_read_core.specs.Forms.{fixed_size, form_size};
 ghost use Rattle.dwarf_readers.specs.Place.{Reads, ReadsAs};
 
+mod cache;
+
 use crate::section::Section;
+pub use cache::{AbbreviationsCache, AbbreviationsCacheStrategy};
 use dwarf_constants::{DebugAbbrevOffset, DwChildren, DwForm, Encoding, Error, Result, SectionId};
 use dwarf_readers::{EndianSlice, Endianity, Reader};
 use std::alloc::Global;

@@ -10,7 +10,10 @@ mod str;
 #[cfg(test)]
 mod tests;
 
-pub use abbrev::{Abbreviation, Abbreviations, AttributeSpecification, DebugAbbrev};
+pub use abbrev::{
+    Abbreviation, Abbreviations, AbbreviationsCache, AbbreviationsCacheStrategy,
+    AttributeSpecification, DebugAbbrev,
+};
 pub use addr::{AddrEntryIter, AddrHeader, AddrHeaderIter, DebugAddr};
 pub use dwarf_constants::{
     AArch64, DebugAbbrevOffset, DebugAddrBase, DebugAddrIndex, DebugAddrOffset, DebugArangesOffset,
