@@ -1,4 +1,5 @@
 pub mod Places
+pub mod Populating
 pub mod Tables
 pub mod Following
 pub mod AddressLists

@@ -1,13 +1,16 @@
 -- What caches of abbreviation tables keep.
-use Rattle.std.specs.Prelude.{ℕ, List, Option, Result, Ok, Err, option_map}
+use Rattle.std.specs.Prelude.{ℕ, ◌==◌, List, Option, Some, None, Result, Ok, Err, count_by, if◌then◌else◌, nat_le, option_map}
 use Rattle.std.specs.BTreeMap.{get}
 use Rattle.std.specs.Ordering.{nat_cmp}
-use Rattle.dwarf_constants.specs.declared.error.Error.{Error}
-use Rattle.dwarf_read_core.specs.AbbreviationTable.{Declaration}
-use Rattle.dwarf_read_core.specs.DebugAbbrev.{declarations}
 use Rattle.std.specs.declared.rc.Rc.{Rc}
+use Rattle.dwarf_constants.specs.declared.error.Error.{Error}
+use Rattle.dwarf_read_core.specs.AbbreviationTable.{Declaration, table_in}
+use Rattle.dwarf_read_core.specs.DebugAbbrev.{declarations}
 use Rattle.dwarf_read_core.specs.declared.abbrev.Abbreviations.{Abbreviations}
 use Rattle.dwarf_read_core.specs.declared.abbrev.cache.AbbreviationsCache.{AbbreviationsCache}
+use Rattle.dwarf_read_core.specs.declared.abbrev.cache.AbbreviationsCacheStrategy.{AbbreviationsCacheStrategy}
+use Rattle.dwarf_read_core.specs.declared.abbrev.cache.AbbreviationsCacheStrategy.TheVariants.{All, Duplicates}
+use Rattle.dwarf_readers.specs.Place.{Stretch}
 
 -- the answer that a table or an error is
 abbrev pub answer_of : {Z : Type 0} → Result (Rc Abbreviations Z) Error → Result (List Declaration) Error
@@ -17,3 +20,12 @@ answer_of (Err e) = Err e
 -- what a cache keeps for an offset, if anything
 abbrev pub kept : AbbreviationsCache → ℕ → Option (Result (List Declaration) Error)
 kept cache offset = option_map answer_of (get nat_cmp cache.tables offset)
+
+-- how often an offset has to come to be kept
+abbrev pub least : AbbreviationsCacheStrategy → ℕ
+least Duplicates = 2
+least All = 1
+
+-- what is kept for an offset where these came: the section's answer, if the offset came often enough
+abbrev pub populated : AbbreviationsCacheStrategy → List ℕ → Stretch → ℕ → Option (Result (List Declaration) Error)
+populated strategy came section offset = if nat_le (least strategy) (count_by (λ o. o == offset) came) then Some (table_in offset section) else None

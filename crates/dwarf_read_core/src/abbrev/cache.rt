@@ -1,15 +1,20 @@
 //! Tables of `.debug_abbrev` that are read once and shared.
 
-ghost use Rattle.std.specs.Prelude.{◌≡◌, ℕ, ◌==◌, if◌then◌else◌, None, Some, Ok, IfErr, OnErr, OnOk, unwrap_or};
+ghost use Rattle.std.specs.Prelude.{◌≡◌, ℕ, ◌==◌, ◌⊎◌, List, if◌then◌else◌, true, None, Some, Ok, Err, IfOk, IfErr, OnErr, OnOk, map, unwrap_or};
+ghost use Rattle.std.specs.BTreeSet.{contains};
+ghost use Rattle.std.specs.Iterator.{Drains, IsFinite, YieldsThen};
+ghost use Rattle.std.specs.Ordering.{nat_cmp};
+ghost use Rattle.dwarf_constants.specs.declared.common.DebugAbbrevOffset.{DebugAbbrevOffset};
 ghost use Rattle.dwarf_constants.specs.declared.error.Error.TheVariants as error;
 ghost use Rattle.dwarf_read_core.specs.AbbreviationTable.{GivesOrMemory, table_in};
+ghost use Rattle.dwarf_read_core.specs.AbbreviationsCache.{answer_of, kept, populated};
 ghost use Rattle.dwarf_read_core.specs.DebugAbbrev.{abbrev_section, declarations};
 
 use super::{Abbreviations, DebugAbbrev};
 use dwarf_constants::{DebugAbbrevOffset, Error, Result};
 use dwarf_readers::{Reader, ReaderOffset};
 use std::alloc::Global;
-use std::collections::BTreeMap;
+use std::collections::{BTreeMap, BTreeSet};
 use std::rc::Rc;
 
 /// Which offsets [`AbbreviationsCache::populate`] keeps tables for.
@@ -28,8 +33,6 @@ pub struct AbbreviationsCache {
 }
 
 impl AbbreviationsCache {
-    ghost use Rattle.dwarf_read_core.specs.AbbreviationsCache.{kept};
-
     /// A cache that keeps nothing. It takes no memory yet.
     pub fn new(alloc: Global) -> AbbreviationsCache
         ensures { (q : ℕ) → kept result q ≡ None }
@@ -37,6 +40,60 @@ impl AbbreviationsCache {
         AbbreviationsCache {
             tables: BTreeMap::new(alloc),
         }
+    }
+
+    /// Keeps what the section says at the offsets of the strategy, a table or an error, and drops
+    /// all that was kept before. Fails with the iterator's first error, or with want of memory,
+    /// which is never kept; the cache is then as before.
+    pub fn populate<R: Reader, I: Iterator<Item = Result<DebugAbbrevOffset<R::Offset>>> + Drop>(
+        &mut self,
+        alloc: Global,
+        strategy: AbbreviationsCacheStrategy,
+        debug_abbrev: &DebugAbbrev<R>,
+        offsets: I,
+    ) -> Result<()>
+        requires can { I.can_next offsets }
+        requires ends { IsFinite (I.remaining offsets) }
+        ensures populated { OnOk result ((came : List (DebugAbbrevOffset R.Offset)) × Drains I.next_gives offsets (map (λ o. Ok o) came) × ((q : ℕ) → kept self.new q ≡ populated strategy (map (λ o. R.Offset.value o.0) came) (R.stretch (abbrev_section debug_abbrev.now)) q)) }
+        ensures refused { IfErr result (λ e. (e ≡ error.OutOfMemory) ⊎ ((came : List (DebugAbbrevOffset R.Offset)) × (left : I) × YieldsThen I.next_gives offsets (map (λ o. Ok o) came) (Some (Err e)) left)) }
+        ensures unchanged { OnErr result ((q : ℕ) → kept self.new q ≡ kept self.old q) }
+    {
+        let mut seen = BTreeSet::new(alloc);
+        let mut cache = AbbreviationsCache::new(alloc);
+        for offset in offsets {
+            let offset = offset?;
+            let number = offset.0.into_u64();
+            let wanted = match strategy {
+                AbbreviationsCacheStrategy::Duplicates => comes_again(&mut seen, number)?,
+                AbbreviationsCacheStrategy::All => true,
+            };
+            if wanted {
+                cache.keep(alloc, debug_abbrev, offset)?;
+            }
+        }
+        *self = cache;
+        Ok(())
+    }
+
+    // Keeps what the section says at an offset, if nothing is kept for it.
+    fn keep<R: Reader>(
+        &mut self,
+        alloc: Global,
+        debug_abbrev: &DebugAbbrev<R>,
+        offset: DebugAbbrevOffset<R::Offset>,
+    ) -> Result<()>
+        ensures kept { OnOk result ((q : ℕ) → kept self.new q ≡ (if q == R.Offset.value offset.0 then Some (unwrap_or (kept self.old q) (table_in q (R.stretch (abbrev_section debug_abbrev.now)))) else kept self.old q)) }
+        ensures memory { IfErr result (λ e. e ≡ error.OutOfMemory) }
+    {
+        let number = offset.0.into_u64();
+        if self.tables.contains_key(&number) {
+            return Ok(());
+        }
+        let answer = answer_to_keep(alloc, debug_abbrev, offset)?;
+        if self.tables.insert(number, answer).is_err() {
+            return Err(Error::OutOfMemory);
+        }
+        Ok(())
     }
 
     /// Keeps a table for an offset, in place of what was kept for it. Where memory is wanting, the
@@ -60,7 +117,8 @@ impl AbbreviationsCache {
         Ok(())
     }
 
-    /// The table at an offset: what is kept for it, or else what the section says.
+    /// The table at an offset: what is kept for it, or else what the section says. Fails with the
+    /// error that is kept or that the section gives, or with want of memory.
     pub fn get<R: Reader>(
         &self,
         alloc: Global,
@@ -82,4 +140,32 @@ fn shared(alloc: Global, table: Abbreviations) -> Result<Rc<Abbreviations>>
     ensures { GivesOrMemory (λ kept. declarations kept.value) result (Ok (declarations table)) }
 {
     Rc::new(alloc, table).map_err(|_| Error::OutOfMemory)
+}
+
+// What the section says at an offset, a table or an error. Want of memory isn't said by it.
+fn answer_to_keep<R: Reader>(
+    alloc: Global,
+    debug_abbrev: &DebugAbbrev<R>,
+    offset: DebugAbbrevOffset<R::Offset>,
+) -> Result<Result<Rc<Abbreviations>>>
+    ensures said { IfOk result (λ answer. answer_of answer ≡ table_in (R.Offset.value offset.0) (R.stretch (abbrev_section debug_abbrev.now))) }
+    ensures memory { IfErr result (λ e. e ≡ error.OutOfMemory) }
+{
+    match debug_abbrev.abbreviations(alloc, offset) {
+        Ok(table) => Ok(Ok(shared(alloc, table)?)),
+        Err(Error::OutOfMemory) => Err(Error::OutOfMemory),
+        Err(error) => Ok(Err(error)),
+    }
+}
+
+// Whether an offset is among those seen, to which it is added.
+fn comes_again(seen: &mut BTreeSet<u64>, offset: u64) -> Result<bool>
+    ensures again { IfOk result (λ again. again ≡ contains nat_cmp seen.old offset) }
+    ensures seen { OnOk result ((q : ℕ) → contains nat_cmp seen.new q ≡ (if q == offset then true else contains nat_cmp seen.old q)) }
+    ensures memory { IfErr result (λ e. e ≡ error.OutOfMemory) }
+{
+    match seen.insert(offset) {
+        Ok(is_new) => Ok(!is_new),
+        Err(_) => Err(Error::OutOfMemory),
+    }
 }

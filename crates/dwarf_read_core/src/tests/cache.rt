@@ -1,6 +1,109 @@
 use super::table;
-use dwarf_constants::Error;
+use crate::{AbbreviationsCache, AbbreviationsCacheStrategy, DebugAbbrev};
+use dwarf_constants::{DebugAbbrevOffset, Error};
+use dwarf_readers::LittleEndian;
+use std::rc::Rc;
 use std::test::Fail;
+
+// Code 1 has the tag 0x11 at 0 and 0x2e at 6, and a fault at 12.
+const SECTION: [u8; 14] = [0x01, 0x11, 0, 0, 0, 0, 0x01, 0x2e, 0, 0, 0, 0, 0x01, 0];
+
+// The tag of code 1 at an offset, where the section has these bytes.
+fn tag(
+    rt: &HostRuntime,
+    cache: &AbbreviationsCache,
+    bytes: &[u8],
+    offset: usize,
+) -> Result<Option<u16>, Error> {
+    let section = DebugAbbrev::new(bytes, LittleEndian);
+    let table = cache.get(rt.alloc(), &section, DebugAbbrevOffset(offset))?;
+    Ok(table.get(1).map(|abbreviation| abbreviation.tag()))
+}
+
+fn populate(
+    rt: &HostRuntime,
+    cache: &mut AbbreviationsCache,
+    strategy: AbbreviationsCacheStrategy,
+    offsets: &[Result<usize, Error>],
+) -> Result<(), Error> {
+    let section = DebugAbbrev::new(&SECTION, LittleEndian);
+    let offsets = offsets.iter().map(|offset| match offset {
+        Ok(offset) => Ok(DebugAbbrevOffset(*offset)),
+        Err(error) => Err(*error),
+    });
+    cache.populate(rt.alloc(), strategy, &section, offsets)
+}
+
+#[test]
+fn empty_cache(rt: HostRuntime) {
+    let cache = AbbreviationsCache::new(rt.alloc());
+    assert_eq!(rt; tag(&rt, &cache, &SECTION, 0), Ok(Some(0x11)));
+    assert_eq!(rt; tag(&rt, &cache, &SECTION, 6), Ok(Some(0x2e)));
+    assert_eq!(rt;
+        tag(&rt, &cache, &SECTION, 12),
+        Err(Error::AbbreviationTagZero)
+    );
+}
+
+#[test]
+fn table_set(rt: HostRuntime) -> Result<(), Fail> {
+    let mut cache = AbbreviationsCache::new(rt.alloc());
+    let other = table(&rt, &[0x01, 0x34, 0, 0, 0, 0])?;
+    let shared = Rc::new(rt.alloc(), other).map_err(|_| Error::OutOfMemory)?;
+    cache.set(DebugAbbrevOffset(6usize), shared)?;
+    assert_eq!(rt; tag(&rt, &cache, &SECTION, 0)?, Some(0x11));
+    assert_eq!(rt; tag(&rt, &cache, &SECTION, 6)?, Some(0x34));
+    Ok(())
+}
+
+#[test]
+fn all_offsets(rt: HostRuntime) -> Result<(), Fail> {
+    let mut cache = AbbreviationsCache::new(rt.alloc());
+    let offsets = [Ok(6), Ok(12), Ok(0), Ok(6)];
+    populate(&rt, &mut cache, AbbreviationsCacheStrategy::All, &offsets)?;
+    for bytes in [&SECTION[..], &[]].iter() {
+        assert_eq!(rt; tag(&rt, &cache, bytes, 0), Ok(Some(0x11)));
+        assert_eq!(rt; tag(&rt, &cache, bytes, 6), Ok(Some(0x2e)));
+        assert_eq!(rt;
+            tag(&rt, &cache, bytes, 12),
+            Err(Error::AbbreviationTagZero)
+        );
+    }
+    populate(&rt, &mut cache, AbbreviationsCacheStrategy::All, &[Ok(0)])?;
+    assert_eq!(rt; tag(&rt, &cache, &[], 0), Ok(Some(0x11)));
+    assert_eq!(rt; tag(&rt, &cache, &[], 6).is_err(), true);
+    Ok(())
+}
+
+#[test]
+fn offsets_that_come_twice(rt: HostRuntime) -> Result<(), Fail> {
+    let mut cache = AbbreviationsCache::new(rt.alloc());
+    let offsets = [Ok(12), Ok(6), Ok(0), Ok(12), Ok(0), Ok(0)];
+    populate(
+        &rt,
+        &mut cache,
+        AbbreviationsCacheStrategy::Duplicates,
+        &offsets,
+    )?;
+    assert_eq!(rt; tag(&rt, &cache, &[], 0), Ok(Some(0x11)));
+    assert_eq!(rt; tag(&rt, &cache, &[], 6).is_err(), true);
+    assert_eq!(rt; tag(&rt, &cache, &[], 12), Err(Error::AbbreviationTagZero));
+    assert_eq!(rt; tag(&rt, &cache, &SECTION, 6), Ok(Some(0x2e)));
+    Ok(())
+}
+
+#[test]
+fn error_of_the_iterator(rt: HostRuntime) -> Result<(), Fail> {
+    let mut cache = AbbreviationsCache::new(rt.alloc());
+    populate(&rt, &mut cache, AbbreviationsCacheStrategy::All, &[Ok(6)])?;
+    let offsets = [Ok(0), Err(Error::BadUtf8), Ok(12), Err(Error::OutOfMemory)];
+    let answer = populate(&rt, &mut cache, AbbreviationsCacheStrategy::All, &offsets);
+    assert_eq!(rt; answer, Err(Error::BadUtf8));
+    assert_eq!(rt; tag(&rt, &cache, &SECTION, 0), Ok(Some(0x11)));
+    assert_eq!(rt; tag(&rt, &cache, &[], 0), Ok(None));
+    assert_eq!(rt; tag(&rt, &cache, &[], 6), Ok(Some(0x2e)));
+    Ok(())
+}
 
 // The tags of codes 1, 2, 9, 3 and 4 are 0x11, 0x2e, 0x34, 0x05 and 0x24.
 const IN_ANY_ORDER: [u8; 26] = [
