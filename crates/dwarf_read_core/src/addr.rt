@@ -41,6 +41,7 @@ impl<R: Reader> DebugAddr<R> {
         ensures offset { R.Offset.value result.offset.0 ≡ 0 }
         ensures sets { sets_at R.Offset.limit (R.Offset.value result.offset.0) (R.stretch result.input) ≡ sets_in R.Offset.limit (R.stretch (addr_section self.now)) }
     {
+        // Every place in the section fits the type of offsets, as its length does.
         let _len = self.section.len();
         AddrHeaderIter {
             input: self.section,
@@ -165,19 +166,16 @@ fn offset_behind<O: ReaderOffset>(offset: O, before: O, after: O) -> O
 /// A set of addresses.
 #[derive(Debug, Drop)]
 pub struct AddrHeader<R: Reader> {
-    /// The offset of the set in the section.
-    pub offset: DebugAddrOffset<R::Offset>,
-    /// The size of the set's addresses, its format and its version.
-    pub encoding: Encoding,
-    /// The length that the set says, in bytes.
-    pub length: R::Offset,
-    /// The bytes of the addresses.
-    pub entries: R,
+    offset: DebugAddrOffset<R::Offset>,
+    encoding: Encoding,
+    length: R::Offset,
+    // The bytes of the addresses.
+    entries: R,
 }
 
 impl<R: Reader> AddrHeader<R> {
-    ghost use Rattle.dwarf_read_core.specs.AddressSets.{addresses_at, addresses_of, set_at};
-    ghost use Rattle.dwarf_read_core.specs.AddressViews.{set_of};
+    ghost use Rattle.dwarf_read_core.specs.AddressSets.{addresses_of, set_at};
+    ghost use Rattle.dwarf_read_core.specs.AddressViews.{addresses_left, set_of};
 
     // Reads the set at this offset.
     fn parse(input: &mut R, offset: DebugAddrOffset<R::Offset>) -> Result<AddrHeader<R>>
@@ -211,30 +209,28 @@ impl<R: Reader> AddrHeader<R> {
 
     /// The offset of the set in the section.
     pub fn offset(&self) -> DebugAddrOffset<R::Offset>
-        ensures { result ≡ self.now.offset }
+        ensures { R.Offset.value result.0 ≡ (set_of R.stretch R.Offset.value self.now).offset }
     {
         self.offset
     }
 
     /// The length that the set says, in bytes.
     pub fn length(&self) -> R::Offset
-        ensures { result ≡ self.now.length }
+        ensures { R.Offset.value result ≡ (set_of R.stretch R.Offset.value self.now).length }
     {
         self.length
     }
 
     /// The size of the set's addresses, its format and its version.
     pub fn encoding(&self) -> Encoding
-        ensures { result ≡ self.now.encoding }
+        ensures { result ≡ (set_of R.stretch R.Offset.value self.now).encoding }
     {
         self.encoding
     }
 
     /// The addresses of the set, in order.
     pub fn entries(&self) -> AddrEntryIter<R>
-        ensures input { result.input ≡ self.now.entries }
-        ensures encoding { result.encoding ≡ self.now.encoding }
-        ensures addresses { addresses_at result.encoding.address_size (R.stretch result.input) ≡ addresses_of (set_of R.stretch R.Offset.value self.now) }
+        ensures { addresses_left R.stretch result ≡ addresses_of (set_of R.stretch R.Offset.value self.now) }
     {
         AddrEntryIter {
             input: self.entries,
@@ -246,22 +242,18 @@ impl<R: Reader> AddrHeader<R> {
 /// The addresses that a set has left. After an error there is none.
 #[derive(Debug, Clone, Copy)]
 pub struct AddrEntryIter<R> {
-    /// The bytes of the addresses that are left.
-    pub input: R,
-    /// How they are encoded.
-    pub encoding: Encoding,
+    // The bytes of the addresses that are left.
+    input: R,
+    encoding: Encoding,
 }
 
 impl<R: Reader> AddrEntryIter<R> {
-    ghost use Rattle.dwarf_read_core.specs.AddressSets.{GivesNext, addresses_at, next_address};
+    ghost use Rattle.dwarf_read_core.specs.AddressSets.{GivesNext};
+    ghost use Rattle.dwarf_read_core.specs.AddressViews.{addresses_left};
 
     /// The next address, or `None` at the end of the set.
     pub fn next(&mut self) -> Result<Option<u64>>
-        ensures read { Reads result (next_address self.old.encoding.address_size (R.stretch self.old.input)) (R.stretch self.new.input) }
-        ensures encoding { self.new.encoding ≡ self.old.encoding }
-        ensures refused { OnErr result (R.stretch self.new.input ≡ emptied (R.stretch self.old.input)) }
-        ensures less { IfOk result (λ a. IsSome a → length (R.stretch self.new.input).bytes < length (R.stretch self.old.input).bytes) }
-        ensures addresses { GivesNext (λ address. address) result (addresses_at self.old.encoding.address_size (R.stretch self.old.input)) (addresses_at self.new.encoding.address_size (R.stretch self.new.input)) }
+        ensures { GivesNext (λ address. address) result (addresses_left R.stretch self.old) (addresses_left R.stretch self.new) }
     {
         if self.input.is_empty() {
             return Ok(None);
@@ -278,13 +270,13 @@ impl<R: Reader> AddrEntryIter<R> {
 
 impl<R: Reader> Iterator for AddrEntryIter<R> {
     ghost use Rattle.std.specs.Iterator.{YieldsFirst, item_count};
-    ghost use Rattle.dwarf_read_core.specs.AddressSets.{addresses_at};
+    ghost use Rattle.dwarf_read_core.specs.AddressViews.{addresses_left};
 
     type Item = Result<u64>;
 
-    ghost next_gives = { YieldsFirst (λ s. addresses_at s.encoding.address_size (R.stretch s.input)) };
+    ghost next_gives = { YieldsFirst (addresses_left R.stretch) };
 
-    ghost remaining = { item_count (λ s. addresses_at s.encoding.address_size (R.stretch s.input)) };
+    ghost remaining = { item_count (addresses_left R.stretch) };
 
     fn next(&mut self) -> Option<Result<u64>> {
         AddrEntryIter::next(self).transpose()

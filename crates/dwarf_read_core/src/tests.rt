@@ -1,5 +1,5 @@
-mod real_sections;
 mod cache;
+mod real_sections;
 
 use crate::{
     Abbreviations, AttributeSpecification, DebugAbbrev, DebugAddr, DebugStr, DebugStrOffsets,

@@ -3,8 +3,8 @@ use Rattle.dwarf_read_core.specs.AddressSets.{next_address}
 use Rattle.dwarf_read_core.proofs.AddressLists.{addresses_end, addresses_more, addresses_refused, no_addresses}
 use Rattle.dwarf_read_core.proofs.addr.AddrEntryIter.next.Goals as goal
 
-pub returns-then-is_empty-clause-addresses : goal.returns-then-is_empty-clause-addresses
-returns-then-is_empty-clause-addresses g c =
+pub returns-then-is_empty : goal.returns-then-is_empty
+returns-then-is_empty g c =
     let s = g.R.Reader.stretch c.args.self.now.input in
     let size = c.args.self.now.encoding.address_size in
     let empty : (length s.bytes == 0) ≡ true = sym c.is_empty.ensures ∙ c.if-is_empty.true in
@@ -12,8 +12,8 @@ returns-then-is_empty-clause-addresses g c =
     let e = addresses_end size s s none in
     (e, e)
 
-pub returns-in-Ok-clause-addresses : goal.returns-in-Ok-clause-addresses
-returns-in-Ok-clause-addresses g c =
+pub returns-in-Ok : goal.returns-in-Ok
+returns-in-Ok g c =
     let s = g.R.Reader.stretch c.args.self.now.input in
     let size = c.args.self.now.encoding.address_size in
     let some : (length s.bytes == 0) ≡ false = sym c.is_empty.ensures ∙ c.if-is_empty.false in
@@ -21,8 +21,8 @@ returns-in-Ok-clause-addresses g c =
     let read : next_address size s ≡ Ok (Some c.in-Ok.address, t) = rw (some, c.in-Ok.ensures.read) refl in
     addresses_more size s t c.in-Ok.address read
 
-pub returns-in-Err-clause-addresses : goal.returns-in-Err-clause-addresses
-returns-in-Err-clause-addresses g c =
+pub returns-in-Err : goal.returns-in-Err
+returns-in-Err g c =
     let s = g.R.Reader.stretch c.args.self.now.input in
     let size = c.args.self.now.encoding.address_size in
     let some : (length s.bytes == 0) ≡ false = sym c.is_empty.ensures ∙ c.if-is_empty.false in
