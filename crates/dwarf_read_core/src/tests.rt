@@ -12,6 +12,8 @@ use dwarf_constants::{
 use dwarf_readers::{EndianSlice, LittleEndian, Reader};
 use std::test::Fail;
 
+mod second_reader;
+
 fn little(bytes: &[u8]) -> EndianSlice<'_, LittleEndian> {
     EndianSlice::new(bytes, LittleEndian)
 }

@@ -1,0 +1,237 @@
+//! Sections over a reader whose bytes lie otherwise than an `EndianSlice`'s.
+
+ghost use Rattle.std.specs.Prelude.{◌≡◌, ◌<◌, ◌+◌, ◌^◌, ◌==◌, IfErr, IfOk, length, position, reverse};
+ghost use Rattle.dwarf_constants.specs.declared.error.Error.TheVariants.{OutOfMemory};
+ghost use Rattle.dwarf_readers.specs.Place.{ends_at};
+
+use crate::{DebugAbbrev, DebugAddr, DebugStr, Section};
+use dwarf_constants::{
+    DebugAbbrevOffset, DebugAddrBase, DebugAddrIndex, DebugStrOffset, Error, ReaderOffsetId,
+    Result, SectionId,
+};
+use dwarf_readers::{Endianity, Reader, RunTimeEndian};
+use std::alloc::Global;
+use std::borrow::{CowSlice, CowStr};
+use std::test::Fail;
+
+// Bytes that are stored back to front: the next byte is the last that is stored. No piece of a section lies in memory
+// as it is read, so nothing can be lent.
+#[derive(Debug, Clone, Copy)]
+struct Backward<'a> {
+    stored: &'a [u8],
+    endian: RunTimeEndian,
+    first: u64,
+    ghost small: { length stored.now < 2 ^ 32 },
+    ghost fits: { first + length stored.now < 2 ^ 64 },
+}
+
+impl Backward<'_> {
+    // The bytes in the order of the section.
+    fn forward(&self, alloc: Global) -> Result<Vec<u8>>
+        ensures bytes { IfOk result (λ v. v.items ≡ reverse self.now.stored.now) }
+        ensures memory { IfErr result (λ e. e ≡ OutOfMemory) }
+    {
+        match self.stored.iter().rev().copied().collect(alloc) {
+            Ok(bytes) => Ok(bytes),
+            Err(_) => Err(Error::OutOfMemory),
+        }
+    }
+
+    // How many bytes are left behind the next `len`, if they are there.
+    fn rest(&self, len: usize) -> Result<usize>
+        ensures rest { IfOk result (λ rest. rest + len ≡ length self.now.stored.now) }
+        ensures refused { IfErr result (λ e. (length self.now.stored.now < len) × (e ≡ ends_at self.now.first)) }
+    {
+        if self.stored.len() < len {
+            return Err(Error::UnexpectedEof(ReaderOffsetId(self.first)));
+        }
+        Ok(self.stored.len() - len)
+    }
+
+    // How many bytes stand before the first of this value.
+    fn before(&self, byte: u8) -> Option<usize>
+        ensures { result ≡ position (λ b. b == byte) (reverse self.now.stored.now) }
+    {
+        self.stored.iter().rev().position(|b| *b == byte)
+    }
+}
+
+impl Reader for Backward<'_> {
+    type Endian = RunTimeEndian;
+
+    type Offset = u32;
+
+    ghost stretch = { λ s. record { bytes = reverse s.stored.now; place = s.first; big = ⟦<RunTimeEndian as Endianity>⟧.is_big s.endian } };
+
+    fn endian(&self) -> RunTimeEndian {
+        self.endian
+    }
+
+    fn len(&self) -> u32 {
+        self.stored.len() as u32
+    }
+
+    fn empty(&mut self) {
+        self.stored = &[];
+    }
+
+    #[tactic(auto, using(dwarf_readers::proofs::Backward::truncated))]
+    fn truncate(&mut self, len: u32) -> Result<()> {
+        let rest = self.rest(len as usize)?;
+        self.stored = &self.stored[rest..];
+        Ok(())
+    }
+
+    fn offset_from(&self, base: &Self) -> u32 {
+        (self.first - base.first) as u32
+    }
+
+    fn offset_id(&self) -> ReaderOffsetId {
+        ReaderOffsetId(self.first)
+    }
+
+    fn lookup_offset_id(&self, id: ReaderOffsetId) -> Option<u32> {
+        if id.0 < self.first || self.first + (self.stored.len() as u64) < id.0 {
+            return None;
+        }
+        Some((id.0 - self.first) as u32)
+    }
+
+    fn find(&self, byte: u8) -> Result<u32> {
+        match self.before(byte) {
+            Some(len) => Ok(len as u32),
+            None => Err(Error::UnexpectedEof(ReaderOffsetId(self.first))),
+        }
+    }
+
+    #[tactic(auto, using(dwarf_readers::proofs::Backward::skipped))]
+    fn skip(&mut self, len: u32) -> Result<()> {
+        let rest = self.rest(len as usize)?;
+        *self = Backward {
+            stored: &self.stored[..rest],
+            endian: self.endian,
+            first: self.first + u64::from(len),
+        };
+        Ok(())
+    }
+
+    fn split(&mut self, len: u32) -> Result<Self> {
+        let mut part = *self;
+        part.truncate(len)?;
+        self.skip(len)?;
+        Ok(part)
+    }
+
+    fn to_slice(&self, alloc: Global) -> Result<CowSlice<'_, u8, Global>> {
+        Ok(CowSlice::Owned(self.forward(alloc)?))
+    }
+
+    fn to_string(&self, alloc: Global) -> Result<CowStr<'_, Global>> {
+        let bytes = self.forward(alloc)?;
+        let Ok(text) = str::from_utf8(bytes.as_slice()) else {
+            return Err(Error::BadUtf8);
+        };
+        match String::from_str(alloc, text) {
+            Ok(text) => Ok(CowStr::Owned(text)),
+            Err(_) => Err(Error::OutOfMemory),
+        }
+    }
+
+    fn to_string_lossy(&self, alloc: Global) -> Result<CowStr<'_, Global>> {
+        let bytes = self.forward(alloc)?;
+        match String::from_utf8_lossy(alloc, bytes.as_slice()) {
+            Ok(text) => Ok(CowStr::Owned(text)),
+            Err(_) => Err(Error::OutOfMemory),
+        }
+    }
+
+    fn read_slice(&mut self, buf: &mut [u8]) -> Result<()> {
+        let Ok(len) = u32::try_from(buf.len()) else {
+            return Err(Error::UnexpectedEof(self.offset_id()));
+        };
+        let part = self.split(len)?;
+        buf.copy_from_slice(part.stored);
+        buf.reverse();
+        Ok(())
+    }
+}
+
+fn little(stored: &[u8]) -> Backward<'_>
+    requires { length stored.now < 100 }
+{
+    Backward {
+        stored,
+        endian: RunTimeEndian::Little,
+        first: 0,
+    }
+}
+
+#[test]
+fn sections_over_a_second_reader(rt: HostRuntime) -> std::result::Result<(), Fail> {
+    let mut table = [0x01, 0x11, 0x01, 0x25, 0x0e, 0, 0, 0x02, 0x24, 0, 0, 0, 0];
+    table.reverse();
+    let section = DebugAbbrev::from(little(&table));
+    let found = section.abbreviations(rt.alloc(), DebugAbbrevOffset(0))?;
+    assert_eq!(rt; found.get(1).ok_or("code 1")?.tag(), 0x11);
+    assert_eq!(rt; found.get(2).ok_or("code 2")?.tag(), 0x24);
+    assert_eq!(rt; found.get(3).is_none(), true);
+    assert_eq!(rt;
+        section
+            .abbreviations(rt.alloc(), DebugAbbrevOffset(14))
+            .err(),
+        Some(Error::UnexpectedEof(ReaderOffsetId(0)))
+    );
+
+    let mut strings = [0x61, 0x62, 0, 0x63, 0];
+    strings.reverse();
+    let section = DebugStr::from(little(&strings));
+    let string = section.get_str(DebugStrOffset(3))?;
+    assert_eq!(rt; &*string.to_slice(rt.alloc())?, [0x63].as_slice());
+    assert_eq!(rt; string.offset_id(), ReaderOffsetId(3));
+
+    let mut set = [
+        0x0c, 0, 0, 0, 0x05, 0, 0x04, 0, 0x11, 0, 0, 0, 0x22, 0, 0, 0,
+    ];
+    set.reverse();
+    let section = DebugAddr::from(little(&set));
+    assert_eq!(rt;
+        section.get_address(4, DebugAddrBase(8), DebugAddrIndex(1))?,
+        0x22
+    );
+    let mut headers = section.headers();
+    let header = headers.next()?.ok_or("a set")?;
+    assert_eq!(rt; header.length(), 12);
+    let mut entries = header.entries();
+    assert_eq!(rt; entries.next()?, Some(0x11));
+    assert_eq!(rt; entries.next()?, Some(0x22));
+    assert_eq!(rt; entries.next()?, None);
+    Ok(())
+}
+
+#[test]
+fn parts_of_a_section_over_a_second_reader(rt: HostRuntime) -> std::result::Result<(), Fail> {
+    let mut strings = [0x61, 0x62, 0, 0x63, 0];
+    strings.reverse();
+    let section = DebugStr::load(|id: SectionId| -> Result<Backward<'_>> {
+        match id {
+            SectionId::DebugStr => Ok(little(&strings)),
+            _ => Err(Error::BadUtf8),
+        }
+    })?;
+    let part = section.dwp_range(1, 3)?;
+    let reader = Section::reader(&part);
+    assert_eq!(rt; reader.len(), 3);
+    assert_eq!(rt; reader.offset_id(), ReaderOffsetId(1));
+    let found = part.lookup_offset_id(ReaderOffsetId(4));
+    assert_eq!(rt; found, Some((SectionId::DebugStr, 3)));
+    assert_eq!(rt; part.lookup_offset_id(ReaderOffsetId(5)), None);
+    assert_eq!(rt;
+        section.dwp_range(6, 0).map(|_| ()).err(),
+        Some(Error::UnexpectedEof(ReaderOffsetId(0)))
+    );
+    assert_eq!(rt;
+        section.dwp_range(2, 4).map(|_| ()).err(),
+        Some(Error::UnexpectedEof(ReaderOffsetId(2)))
+    );
+    Ok(())
+}
