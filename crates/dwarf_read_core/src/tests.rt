@@ -1,5 +1,6 @@
 mod cache;
 mod real_sections;
+mod second_reader;
 
 use crate::{
     Abbreviations, AttributeSpecification, DebugAbbrev, DebugAddr, DebugStr, DebugStrOffsets,
@@ -11,8 +12,6 @@ use dwarf_constants::{
 };
 use dwarf_readers::{EndianSlice, LittleEndian, Reader};
 use std::test::Fail;
-
-mod second_reader;
 
 fn little(bytes: &[u8]) -> EndianSlice<'_, LittleEndian> {
     EndianSlice::new(bytes, LittleEndian)

@@ -1,3 +1,5 @@
+mod numbers;
+mod second_reader;
 mod spelled;
 
 use crate::{
@@ -6,9 +8,6 @@ use crate::{
 };
 use dwarf_constants::{Error, Format, ReaderOffsetId};
 use std::test::Fail;
-
-mod numbers;
-mod second_reader;
 
 fn little(bytes: &[u8]) -> EndianSlice<'_, LittleEndian> {
     EndianSlice::new(bytes, LittleEndian)

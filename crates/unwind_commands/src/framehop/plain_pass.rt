@@ -115,3 +115,39 @@ fn the_first_of_equal_starts_is_found(rt: HostRuntime) -> Result<(), Fail> {
     assert_eq!(rt; index.fde_offset_for_relative_address(32), Some(20));
     Ok(())
 }
+
+/// How many starts halving reads, at most, to look an address up among so many, as an index does.
+fn most_reads(alloc: Global, count: u32) -> Result<u32, Fail> {
+    let mut starts = Vec::new(alloc);
+    for start in 0..count {
+        starts.push(start)?;
+    }
+    let mut most: u32 = 0;
+    for address in 0..count {
+        let mut reads: u32 = 0;
+        let _found = starts.partition_point(|start| {
+            reads = reads.wrapping_add(1);
+            *start <= address
+        });
+        most = most.max(reads);
+    }
+    Ok(most)
+}
+
+/// The logarithm of the number of starts by 2, rounded up, and one more.
+#[test]
+fn a_look_up_reads_few_starts(rt: HostRuntime) -> Result<(), Fail> {
+    for (count, allowed) in [
+        (1, 1),
+        (2, 2),
+        (3, 3),
+        (4, 3),
+        (5, 4),
+        (1_000, 11),
+        (4_096, 13),
+    ] {
+        let most = most_reads(rt.alloc(), count)?;
+        assert!(rt; most <= allowed, "of {count} starts {most} were read");
+    }
+    Ok(())
+}
