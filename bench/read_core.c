@@ -104,7 +104,10 @@ static void read_attributes(reader *r, declaration *d) {
     }
 }
 
+/* Codes that count up from 1 stand at their places, as they do in the tables of compilers. */
 static const declaration *get(const table *t, uint64_t code) {
+    if (code - 1 < t->count && t->declarations[code - 1].code == code)
+        return &t->declarations[code - 1];
     for (size_t i = 0; i < t->count; i++)
         if (t->declarations[i].code == code)
             return &t->declarations[i];

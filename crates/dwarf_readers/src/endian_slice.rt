@@ -261,6 +261,15 @@ impl<'a, E: Endianity> Reader for EndianSlice<'a, E> {
         EndianSlice::to_string_lossy(self, alloc)
     }
 
+    fn read_u8(&mut self) -> Result<u8> {
+        if self.slice.is_empty() {
+            return Err(Error::UnexpectedEof(self.offset_id()));
+        }
+        let byte = self.slice[0];
+        *self = self.range_from(1..);
+        Ok(byte)
+    }
+
     fn read_slice(&mut self, buf: &mut [u8]) -> Result<()> {
         let part = self.split(buf.len())?;
         buf.copy_from_slice(part.slice);
