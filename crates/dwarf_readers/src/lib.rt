@@ -4,6 +4,7 @@
 
 mod endian_slice;
 mod endianity;
+pub mod equality;
 pub mod leb128;
 pub mod more;
 mod reader;

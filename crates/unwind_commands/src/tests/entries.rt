@@ -1,7 +1,7 @@
-//! A section whose code pushes and sets a frame pointer, the numbers of DWARF 5, 7.6, and refusals.
+//! A section whose code pushes and sets a frame pointer, and refusals.
 
 use crate::call_frames::{CallFrameInstruction, CieOrFde, EhFrame};
-use dwarf_read_core::{EndianSlice, Error, LittleEndian, Reader, ReaderOffsetId, Register};
+use dwarf_read_core::{Error, Register};
 
 static SECTION: [u8; 56] = [
     0x10, 0, 0, 0, 0, 0, 0, 0, 1, 0, 1, 0x78, 0x10, 0x0c, 7, 8, 0x90, 1, 0, 0, 0x1c, 0, 0, 0, 0x18,
@@ -68,69 +68,4 @@ fn an_entry_and_its_instructions(rt: HostRuntime) {
         offset: 8,
     };
     assert_eq!(rt; cie.instructions().next(), Ok(Some(first)));
-}
-
-fn little(bytes: &[u8]) -> EndianSlice<'_, LittleEndian> {
-    EndianSlice::new(bytes, LittleEndian)
-}
-
-#[test]
-fn numbers_of_variable_length(rt: HostRuntime) {
-    let small: [(u8, u8, u64, i64); 4] = [
-        (0xff, 0x00, 127, 127),
-        (0x80, 0x01, 128, 128),
-        (0x80, 0x7f, 16256, -128),
-        (0xff, 0x7e, 16255, -129),
-    ];
-    for (first, second, unsigned, signed) in small {
-        let bytes = [first, second, 9];
-        assert_eq!(rt; little(&bytes).read_uleb128(), Ok(unsigned));
-        assert_eq!(rt; little(&bytes).read_sleb128(), Ok(signed));
-    }
-    let mut reader = little(&[
-        0xff, 0xff, 0xff, 0xff, 0xff, 0xff, 0xff, 0xff, 0xff, 0x01, 7,
-    ]);
-    assert_eq!(rt; reader.read_uleb128(), Ok(u64::MAX));
-    assert_eq!(rt; reader.read_u8(), Ok(7));
-    let mut reader = little(&[
-        0xff, 0xff, 0xff, 0xff, 0xff, 0xff, 0xff, 0xff, 0xff, 0x02, 7,
-    ]);
-    assert_eq!(rt; reader.read_uleb128(), Err(Error::BadUnsignedLeb128));
-    assert_eq!(rt; reader.len(), 1);
-    let mut reader = little(&[0x80]);
-    assert_eq!(rt;
-        reader.read_uleb128(),
-        Err(Error::UnexpectedEof(ReaderOffsetId(1)))
-    );
-    assert_eq!(rt; little(&[0xff, 0xff, 0x03]).read_uleb128_u16(), Ok(65535));
-    assert_eq!(rt;
-        little(&[0x80, 0x80, 0x04]).read_uleb128_u16(),
-        Err(Error::BadUnsignedLeb128)
-    );
-}
-
-#[test]
-fn places_of_parts(rt: HostRuntime) {
-    let mut reader = EndianSlice::new_at(
-        &[1, 2, 3, 4, 5, 6, 7, 8, 9, 10, 11, 12, 13],
-        LittleEndian,
-        40,
-    );
-    assert_eq!(rt; reader.skip(1), Ok(()));
-    assert_eq!(rt; reader.read_u32(), Ok(0x05040302));
-    assert_eq!(rt; reader.offset_id(), ReaderOffsetId(45));
-    let mut rest = reader;
-    assert_eq!(rt; rest.read_u64(), Ok(0x0d0c0b0a09080706));
-    assert!(rt; rest.is_empty());
-    let front = reader.split(3);
-    assert!(rt; front.is_ok());
-    if let Ok(front) = front {
-        assert_eq!(rt; front.offset_id(), ReaderOffsetId(45));
-        assert!(rt; front.slice() == [6, 7, 8].as_slice());
-    }
-    reader.empty();
-    assert_eq!(rt;
-        reader.read_u8(),
-        Err(Error::UnexpectedEof(ReaderOffsetId(48)))
-    );
 }
