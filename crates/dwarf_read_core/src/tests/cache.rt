@@ -155,3 +155,28 @@ fn codes_that_come_again(rt: HostRuntime) {
         );
     }
 }
+
+// Two units share the table at 0, and a third has an empty one at 9.
+#[test]
+fn a_shared_table_and_another(rt: HostRuntime) -> Result<(), Fail> {
+    let bytes = [0x01, 0x11, 0x01, 0x25, 0x0e, 0x13, 0x05, 0, 0, 0];
+    let section = DebugAbbrev::new(&bytes, LittleEndian);
+    let units: [usize; 3] = [0, 0, 9];
+    let offsets = units.iter().map(|offset| Ok(DebugAbbrevOffset(*offset)));
+    let strategy = AbbreviationsCacheStrategy::Duplicates;
+    let mut cache = AbbreviationsCache::new(rt.alloc());
+    cache.populate(rt.alloc(), strategy, &section, offsets)?;
+    let shared = cache.get(rt.alloc(), &section, DebugAbbrevOffset(0))?;
+    let unit = shared.get(1).ok_or("code 1")?;
+    assert_eq!(rt; unit.attributes().len(), 2);
+    let empty = cache.get(rt.alloc(), &section, DebugAbbrevOffset(9))?;
+    assert_eq!(rt; empty.get(1).is_none(), true);
+    let other = table(&rt, &[0x01, 0x11, 0x00, 0x25, 0x21, 0x7f, 0, 0])?;
+    let other = Rc::new(rt.alloc(), other).map_err(|_| Error::OutOfMemory)?;
+    cache.set(DebugAbbrevOffset(9usize), other)?;
+    let found = cache.get(rt.alloc(), &section, DebugAbbrevOffset(9))?;
+    let unit = found.get(1).ok_or("code 1")?;
+    let attribute = unit.attributes().first().ok_or("an attribute")?;
+    assert_eq!(rt; attribute.implicit_const_value(), Some(-1));
+    Ok(())
+}
