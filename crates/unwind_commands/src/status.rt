@@ -1,5 +1,5 @@
 //! How a run of the program ends.
-ghost use Rattle.std.specs.Prelude.{◌≡◌};
+ghost use Rattle.std.specs.Prelude.{◌≡◌, Some, codes};
 ghost use Rattle.unwind_commands.specs.declared.status.RunError.TheVariants.{OutOfMemory};
 
 use std::alloc::{AllocError, AllocFailed};
@@ -18,6 +18,14 @@ pub enum RunError {
 }
 
 impl fmt::Display for RunError {
+    ghost use Rattle.unwind_commands.specs.declared.status.RunError.TheVariants as error;
+
+    ghost output = { elim [
+      | error.Read ↦ Some (codes "the document couldn't be read")
+      | error.Write ↦ Some (codes "an answer couldn't be written")
+      | error.OutOfMemory ↦ Some (codes "out of memory")
+    ] };
+
     fn fmt<W: fmt::Write>(&self, f: &mut fmt::Formatter<W>) -> fmt::Result {
         f.write_str(match self {
             RunError::Read => "the document couldn't be read",
@@ -48,7 +56,7 @@ impl<T: Drop> From<AllocFailed<T>> for RunError {
 /// How a run that wrote all its answers ended.
 #[derive(Clone, Copy, Debug, PartialEq, Eq, Hash)]
 pub enum Outcome {
-    /// Each command of the document was run, or the run ended at `refused GenerationsExhausted`.
+    /// Each command of the document was run.
     Completed,
     /// The document has a fault, and nothing was run.
     Faulted,

@@ -1,5 +1,5 @@
 //! Where a document comes from and where its answers go.
-ghost use Rattle.std.specs.Prelude.{◌≡◌, ◌<◌, ◌||◌, ℕ, List, length, Bool, false, Option, IfOk, is_err};
+ghost use Rattle.std.specs.Prelude.{◌≡◌, ◌<◌, ◌||◌, ℕ, List, length, Bool, false, Option, Some, IfOk, codes, is_err};
 ghost use Rattle.std.specs.Io.{ReadsAtMost, WritesAtMost};
 ghost use Rattle.std.specs.Io.KnownBytes.{ReadConsumes, WriteAppends};
 ghost use Rattle.unwind_commands.specs.Stream.{carried, has_broken};
@@ -12,6 +12,8 @@ use std::{fmt, io};
 pub struct StreamError;
 
 impl fmt::Display for StreamError {
+    ghost output = { λ _. Some (codes "a stream failed") };
+
     fn fmt<W: fmt::Write>(&self, f: &mut fmt::Formatter<W>) -> fmt::Result {
         f.write_str("a stream failed")
     }
