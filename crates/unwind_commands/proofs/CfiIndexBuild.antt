@@ -5,8 +5,9 @@ use Rattle.std.specs.List.{All, filter, find, list_all}
 use Rattle.std.specs.Option.{option_or}
 use Rattle.std.specs.List.Sorted.{IsNonDecreasingBy, IsPermutation, IsStableByKey, ties}
 use Rattle.std.proofs.lemmas.Bool.Decides.{nat_tests}
+use Rattle.std.proofs.lemmas.List.{length-map, length-reverse}
 use Rattle.std.proofs.lemmas.List.Elements.{All-head, All-tail}
-use Rattle.std.proofs.lemmas.List.Sorted.{All-permutation, IsPermutation-sym, IsPermutation-reverse}
+use Rattle.std.proofs.lemmas.List.Sorted.{All-permutation, IsPermutation-sym, IsPermutation-reverse, length_permutation}
 use Rattle.dwarf_constants.specs.declared.error.Error.{Error}
 use Rattle.dwarf_readers.specs.Place.{Stretch}
 use Rattle.unwind_commands.specs.declared.framehop.cfi_index.IndexedFde.{IndexedFde}
@@ -141,8 +142,11 @@ module _ (base : ℕ) (listing : Listing) (ys : List IndexedFde) (has : has_inde
 
   -- the sorted list is an index of the section
   pub indexes-sorted : Indexes ys base listing
-  indexes-sorted = (has, λ a. rw has (by a (last_of (filter (λ y. nat_le y.start a) ys)) refl))
+  indexes-sorted = (has, λ a. rw has (by a (last_of (filter (λ y. nat_le y.start a) ys)) refl), length_permutation (reverse kept) ys moved ∙ length-reverse kept ∙ length-map listing.fdes (kept_of base))
     where
+      kept : List IndexedFde
+      kept = map (kept_of base) listing.fdes
+
       by : (a : ℕ) (o : Option IndexedFde) → last_of (filter (λ y. nat_le y.start a) ys) ≡ o → offset_in ys a ≡ option_map (λ f. f.offset) (indexed_among (base + a) listing.fdes)
       by a (Some x) e = ap (option_map (λ y. y.offset)) e ∙ found-some a x e
       by a None e = ap (option_map (λ y. y.offset)) e ∙ sym (ap (option_map (λ f. f.offset)) (found-none a e))

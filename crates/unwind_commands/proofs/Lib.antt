@@ -9,6 +9,7 @@ pub mod EntryLists
 pub mod EntryPlaces
 pub mod Fronts
 pub mod IndexedModules
+pub mod Halves
 pub mod InstructionLists
 pub mod Lengths
 pub mod LoadedModules

@@ -1,5 +1,5 @@
 -- What an index of a section's FDEs is made of, and why a section has none.
-use Rattle.std.specs.Prelude.{◌≡◌, ℕ, ◌-◌, ◌^◌, List, [], ◌∷◌, true, Option, Some, None, option_map, nat_lt, nat_le, if◌then◌else◌}
+use Rattle.std.specs.Prelude.{◌≡◌, ℕ, ◌-◌, ◌^◌, List, [], ◌∷◌, length, true, Option, Some, None, option_map, nat_lt, nat_le, if◌then◌else◌}
 use Rattle.std.specs.List.{filter}
 use Rattle.std.specs.Option.{option_or}
 use Rattle.unwind_commands.specs.declared.framehop.cfi_index.IndexedFde.{IndexedFde}
@@ -30,6 +30,6 @@ kept_of base fde = record { start = fde.initial_address - base; offset = fde.off
 abbrev pub offset_in : List IndexedFde → ℕ → Option ℕ
 offset_in kept relative = option_map (λ fde. fde.offset) (last_of (filter (λ fde. nat_le fde.start relative) kept))
 
--- these are an index of the listing: it has one, and each address finds its entry
+-- these are an index of the listing: it has one, each address finds its entry, and each FDE is kept
 abbrev pub Indexes : List IndexedFde → ℕ → Listing → Type 0
-Indexes kept base listing = (has_index base listing ≡ true) × ((relative : ℕ) → offset_in kept relative ≡ option_map (λ fde. fde.offset) (indexed_entry base relative listing))
+Indexes kept base listing = (has_index base listing ≡ true) × ((relative : ℕ) → offset_in kept relative ≡ option_map (λ fde. fde.offset) (indexed_entry base relative listing)) × (length kept ≡ length listing.fdes)

@@ -8,6 +8,7 @@ mod unwind_result;
 mod unwinder;
 mod x86_64;
 
+pub use cfi_index::{DwarfCfiIndex, DwarfCfiIndexError, LookUp};
 pub use unwinder::Module;
 pub use x86_64::{CacheX86_64, UnwinderX86_64};
 

@@ -14,6 +14,8 @@ mod stream;
 mod tests;
 mod transfer;
 
+pub use call_frames::EhFrame;
+pub use framehop::{DwarfCfiIndex, DwarfCfiIndexError, LookUp};
 pub use program::run;
 pub use status::{Outcome, RunError};
 pub use stream::{Sink, Source, StreamError, Streamed};

@@ -1,7 +1,7 @@
 //! The index of a section `.eh_frame`: which entry is for an address.
 
-ghost use Rattle.std.specs.Prelude.{◌≡◌, ◌≢◌, ℕ, None, Some, option_map, map, Result, Ok, Err, IfOk, IfErr};
-ghost use Rattle.std.specs.List.Sorted.{IsNonDecreasingBy};
+ghost use Rattle.std.specs.Prelude.{◌≡◌, ◌≢◌, ◌<◌, ◌≤◌, ◌^◌, ℕ, suc, None, Some, option_map, map, length, codes, Result, Ok, Err, IfOk, IfErr};
+ghost use Rattle.std.specs.List.Sorted.{IsNonDecreasingBy, IsPartitionPoint};
 ghost use Rattle.unwind_commands.specs.Entries.{Listing, entries_of};
 ghost use Rattle.unwind_commands.specs.EntryViews.{section_bytes, fde_view};
 ghost use Rattle.unwind_commands.specs.EntryFor.{indexed_entry};
@@ -11,10 +11,11 @@ ghost use Rattle.unwind_commands.specs.declared.framehop.cfi_index.DwarfCfiIndex
 use crate::call_frames::{CieOrFde, EhFrame, FrameDescriptionEntry};
 use dwarf_read_core::Error;
 use std::alloc::{AllocError, Global};
+use std::{error, fmt};
 
-/// Why a section has no index.
+/// Why a section has no index. Its text is the variant's name.
 #[derive(Debug, Clone, Copy, PartialEq, Eq)]
-pub(crate) enum DwarfCfiIndexError {
+pub enum DwarfCfiIndexError {
     /// An entry doesn't parse.
     Gimli(Error),
     /// An FDE's code starts below the base.
@@ -26,6 +27,30 @@ pub(crate) enum DwarfCfiIndexError {
     /// Memory was refused.
     OutOfMemory,
 }
+
+impl fmt::Display for DwarfCfiIndexError {
+    ghost use Rattle.unwind_commands.specs.declared.framehop.cfi_index.DwarfCfiIndexError.TheVariants as error;
+
+    ghost output = { elim [
+      | error.Gimli _ ↦ Some (codes "Gimli")
+      | error.CouldNotSubtractBaseAddress ↦ Some (codes "CouldNotSubtractBaseAddress")
+      | error.RelativeAddressTooBig ↦ Some (codes "RelativeAddressTooBig")
+      | error.FdeOffsetTooBig ↦ Some (codes "FdeOffsetTooBig")
+      | error.OutOfMemory ↦ Some (codes "OutOfMemory")
+    ] };
+
+    fn fmt<W: fmt::Write>(&self, f: &mut fmt::Formatter<W>) -> fmt::Result {
+        f.write_str(match self {
+            DwarfCfiIndexError::Gimli(_) => "Gimli",
+            DwarfCfiIndexError::CouldNotSubtractBaseAddress => "CouldNotSubtractBaseAddress",
+            DwarfCfiIndexError::RelativeAddressTooBig => "RelativeAddressTooBig",
+            DwarfCfiIndexError::FdeOffsetTooBig => "FdeOffsetTooBig",
+            DwarfCfiIndexError::OutOfMemory => "OutOfMemory",
+        })
+    }
+}
+
+impl error::Error for DwarfCfiIndexError {}
 
 impl From<Error> for DwarfCfiIndexError {
     ghost use Rattle.unwind_commands.specs.declared.framehop.cfi_index.DwarfCfiIndexError.TheVariants.{Gimli};
@@ -102,10 +127,51 @@ fn indexed_fdes(
     }
 }
 
+/// How many FDEs of an index start at or below an address, and how many starts were read to find it.
+#[derive(Clone, Copy)]
+struct Halved {
+    at_or_below: usize,
+    reads: u32,
+}
+
+/// Halves an index's FDEs until it is known how many start at or below an address.
+fn halve(fdes: &[IndexedFde], address: u32) -> Halved
+    requires ordered { IsNonDecreasingBy (λ fde. fde.start) fdes.now }
+    ensures bound { result.at_or_below ≤ length fdes.now }
+    ensures partition { IsPartitionPoint (λ fde. fde.start ≤ address) (λ fde. address < fde.start) fdes.now result.at_or_below }
+    ensures reads { (k : ℕ) → length fdes.now < 2 ^ k → result.reads ≤ k }
+{
+    let mut low = 0;
+    let mut high = fdes.len();
+    let mut reads: u32 = 0;
+    'halves: while low < high {
+        let middle = low + (high - low) / 2;
+        reads += 1;
+        if fdes[middle].start <= address {
+            low = middle + 1;
+        } else {
+            high = middle;
+        }
+    }
+    Halved {
+        at_or_below: low,
+        reads,
+    }
+}
+
+/// What a look-up in an index found.
+#[derive(Debug, Clone, Copy, PartialEq, Eq)]
+pub struct LookUp {
+    /// Where the FDE stands, in bytes from the section's start.
+    pub fde_offset: Option<u32>,
+    /// How many of the index's starts were read.
+    pub starts_read: u32,
+}
+
 /// An index of a section's FDEs, sorted by the starts of their code. Of equal starts the first in
 /// the section is the last here, so that it is the last that starts at or below an address.
 #[derive(Drop)]
-pub(crate) struct DwarfCfiIndex {
+pub struct DwarfCfiIndex {
     fdes: Vec<IndexedFde>,
     ghost ordered: { IsNonDecreasingBy (λ fde. fde.start) fdes.items },
 }
@@ -133,15 +199,29 @@ impl DwarfCfiIndex {
 
     /// Where the FDE for an address relative to the base stands, in bytes from the section's start:
     /// of those with the greatest start at or below it the first in the section. `None` where each
-    /// starts above. Reads about log2 of the number of FDEs.
+    /// starts above. Reads at most ceil(log2(n)) + 1 of the n starts.
     pub fn fde_offset_for_relative_address(&self, rel_lookup_address: u32) -> Option<u32>
         ensures { (base_svma : ℕ) (listing : Listing) → IsIndexOf self.now base_svma listing
             → result ≡ option_map (λ fde. fde.offset) (indexed_entry base_svma rel_lookup_address listing) }
     {
-        let index = self
-            .fdes
-            .partition_point(|fde| fde.start <= rel_lookup_address)
-            .checked_sub(1)?;
-        Some(self.fdes[index].offset)
+        self.look_up(rel_lookup_address).fde_offset
+    }
+
+    /// As `fde_offset_for_relative_address`, with the number of starts that were read.
+    pub fn look_up(&self, rel_lookup_address: u32) -> LookUp
+        ensures found { (base_svma : ℕ) (listing : Listing) → IsIndexOf self.now base_svma listing
+            → result.fde_offset ≡ option_map (λ fde. fde.offset) (indexed_entry base_svma rel_lookup_address listing) }
+        ensures reads { (base_svma : ℕ) (listing : Listing) → IsIndexOf self.now base_svma listing
+            → (k : ℕ) → length listing.fdes ≤ 2 ^ k → result.starts_read ≤ suc k }
+    {
+        let halved = halve(&self.fdes, rel_lookup_address);
+        let fde_offset = match halved.at_or_below {
+            0 => None,
+            count => Some(self.fdes[count - 1].offset),
+        };
+        LookUp {
+            fde_offset,
+            starts_read: halved.reads,
+        }
     }
 }

@@ -1,6 +1,7 @@
 //! Look-ups of an index, compared with a pass over the whole section.
 use crate::call_frames::{CieOrFde, EhFrame, FrameDescriptionEntry};
-use crate::framehop::cfi_index::DwarfCfiIndex;
+use crate::framehop::cfi_index::{DwarfCfiIndex, DwarfCfiIndexError};
+use dwarf_read_core::Error;
 use std::alloc::Global;
 use std::test::Fail;
 
@@ -116,38 +117,50 @@ fn the_first_of_equal_starts_is_found(rt: HostRuntime) -> Result<(), Fail> {
     Ok(())
 }
 
-/// How many starts halving reads, at most, to look an address up among so many, as an index does.
+/// The most starts that a look-up reads among so many, at an address below them all and at each.
 fn most_reads(alloc: Global, count: u32) -> Result<u32, Fail> {
-    let mut starts = Vec::new(alloc);
-    for start in 0..count {
-        starts.push(start)?;
-    }
-    let mut most: u32 = 0;
-    for address in 0..count {
-        let mut reads: u32 = 0;
-        let _found = starts.partition_point(|start| {
-            reads = reads.wrapping_add(1);
-            *start <= address
-        });
-        most = most.max(reads);
+    let starts = scrambled(alloc, u64::from(count))?;
+    let bytes = section_of(alloc, &starts)?;
+    let index = DwarfCfiIndex::try_new_eh_frame(alloc, &EhFrame::new(&bytes), BASE - 16)?;
+    let mut most = 0;
+    for place in 0..count {
+        let found = index.look_up(place.wrapping_mul(16));
+        most = found.starts_read.max(most);
     }
     Ok(most)
 }
 
-/// The logarithm of the number of starts by 2, rounded up, and one more.
+/// The logarithm of the number of starts by 2, rounded down, and one more.
 #[test]
 fn a_look_up_reads_few_starts(rt: HostRuntime) -> Result<(), Fail> {
-    for (count, allowed) in [
+    for (count, most) in [
         (1, 1),
         (2, 2),
-        (3, 3),
+        (3, 2),
         (4, 3),
-        (5, 4),
-        (1_000, 11),
+        (5, 3),
+        (1_000, 10),
         (4_096, 13),
     ] {
-        let most = most_reads(rt.alloc(), count)?;
-        assert!(rt; most <= allowed, "of {count} starts {most} were read");
+        assert_eq!(rt; most_reads(rt.alloc(), count)?, most, "of {count} starts");
+    }
+    Ok(())
+}
+
+#[test]
+fn an_error_is_printed_by_its_name(rt: HostRuntime) -> Result<(), Fail> {
+    for (error, name) in [
+        (
+            DwarfCfiIndexError::Gimli(Error::NoUnwindInfoForAddress),
+            "Gimli",
+        ),
+        (
+            DwarfCfiIndexError::CouldNotSubtractBaseAddress,
+            "CouldNotSubtractBaseAddress",
+        ),
+        (DwarfCfiIndexError::OutOfMemory, "OutOfMemory"),
+    ] {
+        assert_eq!(rt; error.to_string(rt.alloc())?.as_str(), name);
     }
     Ok(())
 }

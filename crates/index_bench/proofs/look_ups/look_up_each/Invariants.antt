@@ -1,0 +1,12 @@
+use Rattle.std.proofs.Common.{◌≡◌, ◌≤◌, ◌^◌, ℕ, suc, length}
+use Rattle.unwind_commands.specs.Entries.{Listing}
+use Rattle.unwind_commands.specs.CfiIndexView.{IsIndexOf}
+use Rattle.index_bench.specs.LookUps.{found_among}
+use Rattle.index_bench.proofs.look_ups.look_up_each.Given as goal
+
+abbrev pub invariant-loop-i : goal.invariant-loop-i
+invariant-loop-i l = record {
+  few : l.tally.found ≤ l.i;
+  found : (base : ℕ) (listing : Listing) → IsIndexOf l.index base listing → l.tally.found ≡ found_among l.i l.fn.apart base listing;
+  reads : (base : ℕ) (listing : Listing) → IsIndexOf l.index base listing → (k : ℕ) → length listing.fdes ≤ 2 ^ k → l.tally.most_starts_read ≤ suc k;
+}

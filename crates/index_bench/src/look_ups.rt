@@ -1,0 +1,38 @@
+//! Look-ups of addresses in steps of one size.
+
+ghost use Rattle.std.specs.Prelude.{◌≡◌, ◌≤◌, ◌^◌, ℕ, suc, length};
+ghost use Rattle.unwind_commands.specs.Entries.{Listing};
+ghost use Rattle.unwind_commands.specs.CfiIndexView.{IsIndexOf};
+ghost use Rattle.index_bench.specs.LookUps.{found_among};
+
+use unwind_commands::DwarfCfiIndex;
+
+/// What look-ups came to.
+#[derive(Debug, Clone, Copy, PartialEq, Eq)]
+pub struct Tally {
+    /// How many of the addresses have an FDE.
+    pub found: u32,
+    /// How many starts of the index were read by the look-up that read most.
+    pub most_starts_read: u32,
+}
+
+/// Looks up so many addresses, which count from 0 on by `apart`, modulo 2^32.
+pub fn look_up_each(index: &DwarfCfiIndex, count: u32, apart: u32) -> Tally
+    ensures found { (base_svma : ℕ) (listing : Listing) → IsIndexOf index.now base_svma listing
+        → result.found ≡ found_among count apart base_svma listing }
+    ensures reads { (base_svma : ℕ) (listing : Listing) → IsIndexOf index.now base_svma listing
+        → (k : ℕ) → length listing.fdes ≤ 2 ^ k → result.most_starts_read ≤ suc k }
+{
+    let mut tally = Tally {
+        found: 0,
+        most_starts_read: 0,
+    };
+    for i in 0..count {
+        let found = index.look_up(i.wrapping_mul(apart));
+        if found.fde_offset.is_some() {
+            tally.found += 1;
+        }
+        tally.most_starts_read = tally.most_starts_read.max(found.starts_read);
+    }
+    tally
+}

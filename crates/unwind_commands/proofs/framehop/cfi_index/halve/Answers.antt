@@ -1,0 +1,33 @@
+-- Each read halves what is left, and tells of all on one side of it.
+use Rattle.std.proofs.Common.{arith, ℕ, ◌+◌, ◌-◌, ◌/◌}
+use Rattle.unwind_commands.proofs.Halves.{up-to, from-on, halved}
+use Rattle.unwind_commands.proofs.framehop.cfi_index.halve.Goals as goal
+
+pub overflow_add-reads : goal.overflow_add-reads
+overflow_add-reads c = let few = (c.halves.invariant.reads 64 c.halves.invariant.small).0 in omega arith
+
+pub halves-preserved-then-fdes-middle : goal.halves-preserved-then-fdes-middle
+halves-preserved-then-fdes-middle c =
+    let known = c.halves.invariant in
+    let middle : ℕ = c.halves.low + (c.halves.high - c.halves.low) / 2 in
+    record {
+      order = omega (arith, known.order, c.halves-test.true);
+      within = known.within;
+      small = known.small;
+      before = up-to (λ fde. fde.start) _ c.requires.ordered _ middle _ (omega (arith, known.within, c.halves-test.true)) c.if-fdes-middle.true;
+      behind = known.behind;
+      reads = halved _ _ _ _ (omega (arith, c.halves-test.true)) (omega arith) known.reads;
+    }
+
+pub halves-preserved : goal.halves-preserved
+halves-preserved c =
+    let known = c.halves.invariant in
+    let middle : ℕ = c.halves.low + (c.halves.high - c.halves.low) / 2 in
+    record {
+      order = omega arith;
+      within = omega (arith, known.within, c.halves-test.true);
+      small = known.small;
+      before = known.before;
+      behind = from-on (λ fde. fde.start) _ c.requires.ordered _ middle _ (omega (arith, known.within, c.halves-test.true)) c.if-fdes-middle.false;
+      reads = halved _ _ _ _ (omega (arith, c.halves-test.true)) (omega arith) known.reads;
+    }
