@@ -104,8 +104,10 @@ static void read_attributes(reader *r, declaration *d) {
     }
 }
 
-/* Codes that count up from 1 stand at their places, as they do in the tables of compilers. */
+/* Codes that count up from 1 stand at their places, as they do in the tables of compilers. None is above the largest. */
 static const declaration *get(const table *t, uint64_t code) {
+    if (code > t->largest)
+        return NULL;
     if (code - 1 < t->count && t->declarations[code - 1].code == code)
         return &t->declarations[code - 1];
     for (size_t i = 0; i < t->count; i++)
@@ -115,7 +117,7 @@ static const declaration *get(const table *t, uint64_t code) {
 }
 
 static void insert(reader *r, table *t, declaration d) {
-    if (d.code <= t->largest && get(t, d.code)) {
+    if (get(t, d.code)) {
         r->fault = "a code twice";
         return;
     }
@@ -186,19 +188,32 @@ static int numbers(reader r) {
     return 0;
 }
 
+static int read_u32(reader *r, uint32_t *value) {
+    if (r->end - r->next < 4)
+        return 0;
+    memcpy(value, r->next, 4);
+    r->next += 4;
+    return 1;
+}
+
 static int tables(reader r) {
-    uint32_t header[2];
-    if (r.end - r.next < 8)
+    uint32_t codes, count;
+    if (!read_u32(&r, &codes) || !read_u32(&r, &count))
         return 1;
-    memcpy(header, r.next, 8);
-    r.next += 8;
-    uint32_t size = header[0], codes = header[1];
+    uint32_t *offsets = NULL;
+    size_t room = 0;
+    for (size_t i = 0; i < count; i++) {
+        if (i == room)
+            offsets = grown(offsets, &room, sizeof *offsets);
+        if (!read_u32(&r, &offsets[i]))
+            return 1;
+    }
     uint64_t declared = 0;
-    if (size == 0)
-        return 1;
-    for (; (size_t)(r.end - r.next) >= size; r.next += size) {
+    for (size_t i = 0; i < count; i++) {
+        if (offsets[i] > (size_t)(r.end - r.next))
+            return 1;
         table t = {0};
-        reader one = r;
+        reader one = {r.next + offsets[i], r.end, NULL};
         read_table(&one, &t);
         if (one.fault)
             return 1;
@@ -206,6 +221,7 @@ static int tables(reader r) {
             declared += get(&t, code) != NULL;
         free_table(&t);
     }
+    free(offsets);
     printf("%llu codes\n", (unsigned long long)declared);
     return 0;
 }

@@ -1,15 +1,24 @@
--- Codes that tables of abbreviations declare.
-use Rattle.std.specs.Prelude.{ℕ, zero, suc, ◌+◌, ◌*◌, ◌%◌, ◌^◌, List, Result, Ok, is_some, if◌then◌else◌}
+-- Offsets of tables of abbreviations, and the codes that the tables declare.
+use Rattle.std.specs.Prelude.{ℕ, zero, suc, ◌+◌, ◌%◌, ◌^◌, List, [], ◌∷◌, ◌++◌, sum_by, Result, Ok, is_some, if◌then◌else◌}
 use Rattle.dwarf_constants.specs.declared.error.Error.{Error}
 use Rattle.dwarf_read_core.specs.AbbreviationTable.{Declaration, declared, table_in}
-use Rattle.dwarf_readers.specs.Place.{Stretch, ◌>>=◌}
+use Rattle.dwarf_readers.specs.Place.{Stretch, ◌>>=◌, number_at}
+
+-- so many numbers of four bytes, one after the other, and what is left
+abbrev pub words_at : ℕ → Stretch → Result (List ℕ × Stretch) Error
+words_at zero s = Ok ([], s)
+words_at (suc n) s = words_at n s >>= λ words. number_at 4 words.1 >>= λ word. Ok (words.0 ++ word.0 ∷ [], word.1)
 
 -- how many of the codes 1 to n are declared
 abbrev pub declared_up_to : ℕ → List Declaration → ℕ
 declared_up_to zero ds = 0
 declared_up_to (suc n) ds = declared_up_to n ds + (if is_some (declared (suc n) ds) then 1 else 0)
 
--- how many of these codes so many tables of one size declare, one table behind the other, modulo 2^64
-abbrev pub declared_in : ℕ → ℕ → ℕ → Stretch → Result ℕ Error
-declared_in zero size codes section = Ok 0
-declared_in (suc n) size codes section = declared_in n size codes section >>= λ before. table_in (n * size) section >>= λ ds. Ok ((before + declared_up_to codes ds) % 2 ^ 64)
+-- the tables at these offsets, or the first fault in their order
+abbrev pub tables_in : List ℕ → Stretch → Result (List (List Declaration)) Error
+tables_in [] section = Ok []
+tables_in (offset ∷ offsets) section = table_in offset section >>= λ table. tables_in offsets section >>= λ tables. Ok (table ∷ tables)
+
+-- how many of these codes the tables at these offsets declare, over all of them, modulo 2^64
+abbrev pub declared_in : List ℕ → ℕ → Stretch → Result ℕ Error
+declared_in offsets codes section = tables_in offsets section >>= λ tables. Ok (sum_by (declared_up_to codes) tables % 2 ^ 64)

@@ -1,8 +1,9 @@
 //! Works over the bytes on standard input, for timing. The first byte says what is done.
 //!
 //! - `n`: the rest is unsigned numbers of variable length. It prints their count, and their sum modulo 2^64.
-//! - `t`: a size in bytes and a count of codes follow, each in four bytes, the low byte first, and then tables of
-//!   abbreviations of this size. It prints how many of the codes up to this count are declared, over all tables.
+//! - `t`: the largest code to look up, a count of tables and the offset of each follow, every number in four bytes, the
+//!   low byte first, and then the section that has these tables of abbreviations. It prints how many of the codes from 1
+//!   to the largest are declared, over all tables.
 //! - Any other: it prints how many bytes the rest has.
 #![tactic(auto)]
 
@@ -11,11 +12,11 @@ mod tables;
 #[cfg(test)]
 mod tests;
 
-use anyhow::{Result, bail};
+use anyhow::Result;
 use dwarf_read_core::{EndianSlice, LittleEndian, Reader};
 use numbers::tally_numbers;
 use std::io::Read;
-use tables::declared;
+use tables::{declared, read_offsets};
 
 fn main(rt: HostRuntime) -> Result<()> {
     let mut input = Vec::new(rt.alloc());
@@ -27,12 +28,11 @@ fn main(rt: HostRuntime) -> Result<()> {
             println!(rt; "{} numbers, sum {}", tally.count, tally.sum)?;
         }
         b't' => {
-            let size = reader.read_u32()?;
             let codes = reader.read_u32()?;
-            if size == 0 {
-                bail!("tables of no bytes");
-            }
-            println!(rt; "{} codes", declared(rt.alloc(), reader, size, codes)?)?;
+            let count = reader.read_u32()?;
+            let offsets = read_offsets(rt.alloc(), &mut reader, count)?;
+            let found = declared(rt.alloc(), reader, offsets.as_slice(), codes)?;
+            println!(rt; "{} codes", found)?;
         }
         _ => println!(rt; "{} bytes", reader.slice().len())?,
     }

@@ -1,15 +1,35 @@
-//! Tables of abbreviations one after the other.
+//! Tables of abbreviations, and where they stand.
 
-ghost use Rattle.std.specs.Prelude.{◌≡◌, ◌≤◌, ◌/◌, false, length};
+ghost use Rattle.std.specs.Prelude.{◌≡◌, ◌⊎◌, Ok, Err, IfOk, IfErr, false};
+ghost use Rattle.dwarf_constants.specs.declared.error.Error.TheVariants as error;
 ghost use Rattle.dwarf_read_core.specs.AbbreviationTable.{GivesOrMemory};
 ghost use Rattle.dwarf_read_core.specs.DebugAbbrev.{declarations};
 ghost use Rattle.dwarf_readers.specs.EndianSlice.{stretch_of};
-ghost use Rattle.read_core_bench.specs.Codes.{declared_in, declared_up_to};
+ghost use Rattle.read_core_bench.specs.Codes.{declared_in, declared_up_to, words_at};
 
 use dwarf_read_core::{
-    Abbreviations, DebugAbbrev, DebugAbbrevOffset, EndianSlice, LittleEndian, Result,
+    Abbreviations, DebugAbbrev, DebugAbbrevOffset, EndianSlice, Error, LittleEndian, Reader, Result,
 };
 use std::alloc::Global;
+
+/// Reads so many offsets, each in four bytes. Fails where the bytes end.
+pub fn read_offsets(
+    alloc: Global,
+    input: &mut EndianSlice<'_, LittleEndian>,
+    count: u32,
+) -> Result<Vec<u32>>
+    ensures read { IfOk result (λ v. words_at count (stretch_of (λ _. false) input.old) ≡ Ok (v.items, stretch_of (λ _. false) input.new)) }
+    ensures refused { IfErr result (λ e. (words_at count (stretch_of (λ _. false) input.old) ≡ Err e) ⊎ (e ≡ error.OutOfMemory)) }
+{
+    let mut offsets = Vec::new(alloc);
+    for i in 0..count {
+        let offset = input.read_u32()?;
+        if offsets.push(offset).is_err() {
+            return Err(Error::OutOfMemory);
+        }
+    }
+    Ok(offsets)
+}
 
 // How many of the codes from 1 up to this one are declared.
 fn declared_codes(table: &Abbreviations, codes: u32) -> u64
@@ -24,21 +44,20 @@ fn declared_codes(table: &Abbreviations, codes: u32) -> u64
     declared
 }
 
-/// How many of the codes up to `codes` are declared, over all tables of this size in bytes, modulo 2^64. Fails with the
-/// first fault of a table.
+/// How many of the codes up to `codes` the tables at these offsets declare, over all of them, modulo 2^64. Fails with
+/// the first fault of a table, in the order of the offsets.
 pub fn declared(
     alloc: Global,
-    tables: EndianSlice<'_, LittleEndian>,
-    size: u32,
+    section: EndianSlice<'_, LittleEndian>,
+    offsets: &[u32],
     codes: u32,
 ) -> Result<u64>
-    requires { 1 ≤ size }
-    ensures { let section = stretch_of (λ _. false) tables.entry in GivesOrMemory (λ n. n) result (declared_in (length section.bytes / size) size codes section) }
+    ensures { GivesOrMemory (λ n. n) result (declared_in offsets.now codes (stretch_of (λ _. false) section.entry)) }
 {
-    let section = DebugAbbrev::from(tables);
+    let tables = DebugAbbrev::from(section);
     let mut declared = 0u64;
-    for i in 0..tables.slice().len() / size as usize {
-        let table = section.abbreviations(alloc, DebugAbbrevOffset(i * size as usize))?;
+    for offset in offsets {
+        let table = tables.abbreviations(alloc, DebugAbbrevOffset(*offset as usize))?;
         declared = declared.wrapping_add(declared_codes(&table, codes));
     }
     Ok(declared)

@@ -1,6 +1,6 @@
 use crate::numbers::{Tally, tally_numbers};
-use crate::tables::declared;
-use dwarf_read_core::{EndianSlice, Error, LittleEndian, ReaderOffsetId};
+use crate::tables::{declared, read_offsets};
+use dwarf_read_core::{EndianSlice, Error, LittleEndian, Reader, ReaderOffsetId};
 
 fn little(bytes: &[u8]) -> EndianSlice<'_, LittleEndian> {
     EndianSlice::new(bytes, LittleEndian)
@@ -26,15 +26,36 @@ fn numbers_are_counted_and_summed(rt: HostRuntime) {
 }
 
 #[test]
+fn offsets_are_read(rt: HostRuntime) {
+    let bytes = [0x0b, 0, 0, 0, 0, 0, 0x0b, 0, 0x07];
+    let mut input = little(&bytes);
+    let offsets = read_offsets(rt.alloc(), &mut input, 2);
+    assert_eq!(rt;
+        offsets.is_ok_and(|offsets| offsets.as_slice() == [11, 0x000b_0000].as_slice()),
+        true
+    );
+    assert_eq!(rt; input.slice(), [0x07].as_slice());
+    let more = read_offsets(rt.alloc(), &mut little(&bytes), 3);
+    assert_eq!(rt; more.err(), Some(Error::UnexpectedEof(ReaderOffsetId(8))));
+}
+
+#[test]
 fn declared_codes_are_counted(rt: HostRuntime) {
-    let tables = [
+    let bytes = [
         0x01, 0x11, 0, 0, 0, 0x02, 0x24, 0, 0, 0, 0, 0x01, 0x11, 0, 0, 0, 0x03, 0x24, 0, 0, 0, 0,
     ];
-    assert_eq!(rt; declared(rt.alloc(), little(&tables), 11, 2), Ok(3));
-    assert_eq!(rt; declared(rt.alloc(), little(&tables), 11, 9), Ok(4));
-    assert_eq!(rt; declared(rt.alloc(), little(&tables), 12, 9), Ok(2));
+    let tables = little(&bytes);
+    assert_eq!(rt; declared(rt.alloc(), tables, &[0, 11], 2), Ok(3));
+    assert_eq!(rt; declared(rt.alloc(), tables, &[0, 11], 9), Ok(4));
+    assert_eq!(rt; declared(rt.alloc(), tables, &[11, 0, 11], 2), Ok(4));
+    assert_eq!(rt; declared(rt.alloc(), tables, &[16, 22], 9), Ok(1));
+    assert_eq!(rt; declared(rt.alloc(), tables, &[], 9), Ok(0));
     assert_eq!(rt;
-        declared(rt.alloc(), little(&[0x01, 0x00]), 2, 1),
+        declared(rt.alloc(), tables, &[0, 23, 1], 9),
+        Err(Error::UnexpectedEof(ReaderOffsetId(0)))
+    );
+    assert_eq!(rt;
+        declared(rt.alloc(), little(&[0x01, 0x00]), &[0, 3], 1),
         Err(Error::AbbreviationTagZero)
     );
 }
