@@ -2,8 +2,8 @@
 //!
 //! - `n`: the rest is unsigned numbers of variable length. It prints their count, and their sum modulo 2^64.
 //! - `t`: the largest code to look up, a count of tables and the offset of each follow, every number in four bytes, the
-//!   low byte first, and then the section that has these tables of abbreviations. It prints how many of the codes from 1
-//!   to the largest are declared, over all tables.
+//!   low byte first, and then the section that has these tables of abbreviations. It prints how many of the codes from
+//!   1 to the largest are declared, over all tables.
 //! - Any other: it prints how many bytes the rest has.
 #![tactic(auto)]
 
