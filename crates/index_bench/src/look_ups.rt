@@ -20,8 +20,10 @@ pub struct Tally {
 pub fn look_up_each(index: &DwarfCfiIndex, count: u32, apart: u32) -> Tally
     ensures found { (base_svma : ℕ) (listing : Listing) → IsIndexOf index.now base_svma listing
         → result.found ≡ found_among count apart base_svma listing }
-    ensures reads { (base_svma : ℕ) (listing : Listing) → IsIndexOf index.now base_svma listing
+    ensures few { (base_svma : ℕ) (listing : Listing) → IsIndexOf index.now base_svma listing
         → (k : ℕ) → length listing.fdes ≤ 2 ^ k → result.most_starts_read ≤ suc k }
+    ensures counted { (base_svma : ℕ) (listing : Listing) → IsIndexOf index.now base_svma listing
+        → 1 ≤ count → (k : ℕ) → 2 ^ k ≤ suc (length listing.fdes) → k ≤ result.most_starts_read }
 {
     let mut tally = Tally {
         found: 0,

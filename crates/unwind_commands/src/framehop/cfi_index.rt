@@ -139,7 +139,8 @@ fn halve(fdes: &[IndexedFde], address: u32) -> Halved
     requires ordered { IsNonDecreasingBy (λ fde. fde.start) fdes.now }
     ensures bound { result.at_or_below ≤ length fdes.now }
     ensures partition { IsPartitionPoint (λ fde. fde.start ≤ address) (λ fde. address < fde.start) fdes.now result.at_or_below }
-    ensures reads { (k : ℕ) → length fdes.now < 2 ^ k → result.reads ≤ k }
+    ensures few { (k : ℕ) → length fdes.now < 2 ^ k → result.reads ≤ k }
+    ensures enough { (k : ℕ) → 2 ^ k ≤ suc (length fdes.now) → k ≤ result.reads }
 {
     let mut low = 0;
     let mut high = fdes.len();
@@ -207,12 +208,15 @@ impl DwarfCfiIndex {
         self.look_up(rel_lookup_address).fde_offset
     }
 
-    /// As `fde_offset_for_relative_address`, with the number of starts that were read.
+    /// As `fde_offset_for_relative_address`, with the number of starts that were read: of n at most
+    /// ceil(log2(n)) + 1, and at least floor(log2(n + 1)).
     pub fn look_up(&self, rel_lookup_address: u32) -> LookUp
         ensures found { (base_svma : ℕ) (listing : Listing) → IsIndexOf self.now base_svma listing
             → result.fde_offset ≡ option_map (λ fde. fde.offset) (indexed_entry base_svma rel_lookup_address listing) }
-        ensures reads { (base_svma : ℕ) (listing : Listing) → IsIndexOf self.now base_svma listing
+        ensures few { (base_svma : ℕ) (listing : Listing) → IsIndexOf self.now base_svma listing
             → (k : ℕ) → length listing.fdes ≤ 2 ^ k → result.starts_read ≤ suc k }
+        ensures counted { (base_svma : ℕ) (listing : Listing) → IsIndexOf self.now base_svma listing
+            → (k : ℕ) → 2 ^ k ≤ suc (length listing.fdes) → k ≤ result.starts_read }
     {
         let halved = halve(&self.fdes, rel_lookup_address);
         let fde_offset = match halved.at_or_below {

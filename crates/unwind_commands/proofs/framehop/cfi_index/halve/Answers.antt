@@ -1,10 +1,10 @@
 -- Each read halves what is left, and tells of all on one side of it.
-use Rattle.std.proofs.Common.{arith, ℕ, ◌+◌, ◌-◌, ◌/◌}
-use Rattle.unwind_commands.proofs.Halves.{up-to, from-on, halved}
+use Rattle.std.proofs.Common.{arith, ℕ, ◌+◌, ◌-◌, ◌/◌, length}
+use Rattle.unwind_commands.proofs.Halves.{up-to, from-on, at-most-half, at-least-half, enough}
 use Rattle.unwind_commands.proofs.framehop.cfi_index.halve.Goals as goal
 
 pub overflow_add-reads : goal.overflow_add-reads
-overflow_add-reads c = let few = (c.halves.invariant.reads 64 c.halves.invariant.small).0 in omega arith
+overflow_add-reads c = let few = (c.halves.invariant.few 64 c.halves.invariant.small).0 in omega arith
 
 pub halves-preserved-then-fdes-middle : goal.halves-preserved-then-fdes-middle
 halves-preserved-then-fdes-middle c =
@@ -16,7 +16,8 @@ halves-preserved-then-fdes-middle c =
       small = known.small;
       before = up-to (λ fde. fde.start) _ c.requires.ordered _ middle _ (omega (arith, known.within, c.halves-test.true)) c.if-fdes-middle.true;
       behind = known.behind;
-      reads = halved _ _ _ _ (omega (arith, c.halves-test.true)) (omega arith) known.reads;
+      few = at-most-half _ _ _ _ (omega (arith, c.halves-test.true)) (omega arith) known.few;
+      enough = at-least-half _ _ _ _ (omega (arith, c.halves-test.true)) known.enough;
     }
 
 pub halves-preserved : goal.halves-preserved
@@ -29,5 +30,9 @@ halves-preserved c =
       small = known.small;
       before = known.before;
       behind = from-on (λ fde. fde.start) _ c.requires.ordered _ middle _ (omega (arith, known.within, c.halves-test.true)) c.if-fdes-middle.false;
-      reads = halved _ _ _ _ (omega (arith, c.halves-test.true)) (omega arith) known.reads;
+      few = at-most-half _ _ _ _ (omega (arith, c.halves-test.true)) (omega arith) known.few;
+      enough = at-least-half _ _ _ _ (omega (arith, c.halves-test.true)) known.enough;
     }
+
+pub returns-clause-enough : goal.returns-clause-enough
+returns-clause-enough c = enough (length c.args.fdes.now) c.halves.reads (c.halves.high - c.halves.low) (omega (arith, c.halves-test.false)) c.halves.invariant.enough

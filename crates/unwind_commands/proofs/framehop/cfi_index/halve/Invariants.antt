@@ -1,6 +1,6 @@
 use Rattle.std.proofs.Common.{◌<◌, ◌≤◌, ◌-◌, ◌^◌, length}
 use Rattle.std.specs.List.{AllWithin}
-use Rattle.unwind_commands.proofs.Halves.{HasHalved}
+use Rattle.unwind_commands.proofs.Halves.{AtMostHalved, AtLeastHalved}
 use Rattle.unwind_commands.proofs.framehop.cfi_index.halve.Given as goal
 
 abbrev pub invariant-halves : goal.invariant-halves
@@ -10,7 +10,8 @@ invariant-halves l = record {
   small : length l.fdes < 2 ^ 64;
   before : AllWithin (λ fde. fde.start ≤ l.fn.address) l.fdes 0 l.low;
   behind : AllWithin (λ fde. l.fn.address < fde.start) l.fdes l.high (length l.fdes);
-  reads : HasHalved (length l.fdes) l.reads (l.high - l.low);
+  few : AtMostHalved (length l.fdes) l.reads (l.high - l.low);
+  enough : AtLeastHalved (length l.fdes) l.reads (l.high - l.low);
 }
 
 abbrev pub decreases-halves : goal.decreases-halves

@@ -15,9 +15,9 @@ returns-in-0-clause-found c base listing is =
     (λ k d h. let above = c.halve-halved.ensures.partition.1 k d (omega (arith, c.in-0.is)) h in grind (arith, nat_tests)) in
     sym (ap (option_map (λ m. m.offset)) (rw c.deref.ensures.value at none)) ∙ is.1 c.args.rel_lookup_address
 
-pub returns-in-0-clause-reads : goal.returns-in-0-clause-reads
-returns-in-0-clause-reads c base listing is k few =
-    c.halve-halved.ensures.reads (suc k) (doubled k _ (rw (c.deref.ensures.value, is.2) few))
+pub returns-in-0-clause-few : goal.returns-in-0-clause-few
+returns-in-0-clause-few c base listing is k few =
+    c.halve-halved.ensures.few (suc k) (doubled k _ (rw (c.deref.ensures.value, is.2) few))
 
 pub returns-in_default-clause-found : goal.returns-in_default-clause-found
 returns-in_default-clause-found c base listing is =
@@ -33,6 +33,12 @@ returns-in_default-clause-found c base listing is =
     = rw (← c.deref.ensures.value) (ap (option_map (λ m. m.offset)) (found ∙ ap (λ m. Some m) (sym at))) in
     sym same ∙ is.1 c.args.rel_lookup_address
 
-pub returns-in_default-clause-reads : goal.returns-in_default-clause-reads
-returns-in_default-clause-reads c base listing is k few =
-    c.halve-halved.ensures.reads (suc k) (doubled k _ (rw (c.deref.ensures.value, is.2) few))
+pub returns-in_default-clause-few : goal.returns-in_default-clause-few
+returns-in_default-clause-few c base listing is k few =
+    c.halve-halved.ensures.few (suc k) (doubled k _ (rw (c.deref.ensures.value, is.2) few))
+
+pub returns-in-0-clause-counted : goal.returns-in-0-clause-counted
+returns-in-0-clause-counted c base listing is k many = c.halve-halved.ensures.enough k (rw (c.deref.ensures.value, is.2) many)
+
+pub returns-in_default-clause-counted : goal.returns-in_default-clause-counted
+returns-in_default-clause-counted c base listing is k many = c.halve-halved.ensures.enough k (rw (c.deref.ensures.value, is.2) many)
