@@ -30,6 +30,6 @@ kept_of base fde = record { start = fde.initial_address - base; offset = fde.off
 abbrev pub offset_in : List IndexedFde → ℕ → Option ℕ
 offset_in kept relative = option_map (λ fde. fde.offset) (last_of (filter (λ fde. nat_le fde.start relative) kept))
 
--- these are an index of the listing: it has one, each address finds its entry, and each FDE is kept
+-- these are an index of the listing: it has one, each address finds its entry, and as many are kept as it has FDEs
 abbrev pub Indexes : List IndexedFde → ℕ → Listing → Type 0
 Indexes kept base listing = (has_index base listing ≡ true) × ((relative : ℕ) → offset_in kept relative ≡ option_map (λ fde. fde.offset) (indexed_entry base relative listing)) × (length kept ≡ length listing.fdes)
