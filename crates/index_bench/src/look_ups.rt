@@ -1,11 +1,11 @@
 //! Look-ups of addresses in steps of one size.
 
 ghost use Rattle.std.specs.Prelude.{◌≡◌, ◌≤◌, ◌^◌, ℕ, suc, length};
-ghost use Rattle.unwind_commands.specs.Entries.{Listing};
-ghost use Rattle.unwind_commands.specs.CfiIndexView.{IsIndexOf};
+ghost use Rattle.dwarf_call_frames.specs.Entries.{Listing};
+ghost use Rattle.framehop.specs.CfiIndexView.{IsIndexOf};
 ghost use Rattle.index_bench.specs.LookUps.{found_among};
 
-use unwind_commands::DwarfCfiIndex;
+use framehop::DwarfCfiIndex;
 
 /// What look-ups came to.
 #[derive(Debug, Clone, Copy, PartialEq, Eq)]

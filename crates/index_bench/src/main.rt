@@ -10,10 +10,11 @@ mod look_ups;
 mod tests;
 
 use anyhow::Result;
+use dwarf_call_frames::EhFrame;
 use dwarf_readers::{EndianSlice, LittleEndian, Reader};
+use framehop::DwarfCfiIndex;
 use look_ups::look_up_each;
 use std::io::Read;
-use unwind_commands::{DwarfCfiIndex, EhFrame};
 
 fn main(rt: HostRuntime) -> Result<()> {
     let mut input = Vec::new(rt.alloc());

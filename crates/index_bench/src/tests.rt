@@ -1,7 +1,8 @@
 use crate::look_ups::{Tally, look_up_each};
+use dwarf_call_frames::EhFrame;
+use framehop::DwarfCfiIndex;
 use std::alloc::Global;
 use std::test::Fail;
-use unwind_commands::{DwarfCfiIndex, EhFrame};
 
 /// A section with a CIE, and an FDE for each multiple of 16 below 16 times so many, from 16 on.
 fn section_of(alloc: Global, fdes: u32) -> Result<Vec<u8>, Fail> {

@@ -1,6 +1,6 @@
 -- Modules that are loaded alike.
 use Rattle.std.proofs.Common.{◌≡◌, ℕ, List, Option, ap, ◌∙◌}
-use Rattle.unwind_commands.specs.ModuleFound.{Loaded}
+use Rattle.framehop.specs.ModuleFound.{Loaded}
 
 -- modules with equal parts are equal
 pub same_module : (a b : Loaded) → a.start ≡ b.start → a.end ≡ b.end → a.base ≡ b.base → a.base_svma ≡ b.base_svma → a.eh_frame ≡ b.eh_frame → a ≡ b

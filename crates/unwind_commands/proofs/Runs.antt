@@ -8,7 +8,7 @@ use Rattle.unwind_commands.specs.declared.status.RunError.{RunError}
 use Rattle.unwind_commands.specs.declared.status.RunError.TheVariants.{Write}
 use Rattle.unwind_commands.specs.declared.document.command.Command.{Command}
 use Rattle.unwind_commands.specs.Commands.{Task, make_unwinder, make_cache, load_module, take_step}
-use Rattle.unwind_commands.specs.ModuleFound.{Loaded}
+use Rattle.framehop.specs.ModuleFound.{Loaded}
 use Rattle.unwind_commands.specs.Numbered.{AreNumbered, unwinder_count_after, caches_after}
 use Rattle.unwind_commands.specs.Text.{unwinders_after, line_of, lines_of}
 use Rattle.unwind_commands.specs.CommandViews.{tasks_of, task_of}

@@ -4,9 +4,9 @@ use Rattle.framehop_rules.specs.Callback.{Words}
 use Rattle.framehop_rules.specs.Outcome.{answer_of_outcome, registers_after}
 use Rattle.framehop_rules.specs.declared.error.Error.{Error}
 use Rattle.framehop_rules.specs.declared.x86_64.unwindregs.UnwindRegsX86_64.{UnwindRegsX86_64}
-use Rattle.unwind_commands.specs.Judge.{judge_at}
+use Rattle.framehop.specs.Judge.{judge_at}
 use Rattle.unwind_commands.specs.Lines.{step_line, outcome_line}
-use Rattle.unwind_commands.specs.ModuleFound.{Loaded}
+use Rattle.framehop.specs.ModuleFound.{Loaded}
 
 -- the line of what a step answers is that of what is judged
 pub line_judged : (modules found : List Loaded) (first first' : Bool) (lookup lookup' : ℕ) (regs given left : UnwindRegsX86_64) (words : Words) (answer : Result (Option ℕ) Error)

@@ -1,8 +1,8 @@
 -- What commands have made, as contracts see it.
 use Rattle.std.specs.Prelude.{ℕ, List, map, vec_len}
 use Rattle.unwind_commands.specs.declared.instances.Instances.{Instances}
-use Rattle.unwind_commands.specs.ModuleFound.{Loaded}
-use Rattle.unwind_commands.specs.ModuleViews.{modules_of}
+use Rattle.framehop.specs.ModuleFound.{Loaded}
+use Rattle.framehop.specs.ModuleViews.{modules_of}
 
 -- the modules of each unwinder
 abbrev pub modules_in : Instances → List (List Loaded)

@@ -14,9 +14,9 @@ use Rattle.unwind_commands.specs.Commands as commands
 use Rattle.unwind_commands.specs.Commands.{SectionData, Loading, Stepping, Task, make_unwinder, make_cache, load_module, take_step}
 use Rattle.unwind_commands.specs.Document.{decoded}
 use Rattle.unwind_commands.specs.Faults.{fault_line}
-use Rattle.unwind_commands.specs.Judge.{judge_at}
+use Rattle.framehop.specs.Judge.{judge_at}
 use Rattle.unwind_commands.specs.Lines.{line, outcome_line}
-use Rattle.unwind_commands.specs.ModuleFound.{Loaded, inserted}
+use Rattle.framehop.specs.ModuleFound.{Loaded, inserted}
 
 -- the data of the first section that has this name and data
 abbrev pub data_named : List ℕ → List SectionData → Option (List ℕ)

@@ -3,7 +3,7 @@ ghost use Rattle.std.specs.Prelude.{◌≡◌, ◌≢◌, ◌<◌, [], None, IsS
 ghost use Rattle.std.specs.List.{slice_index_or};
 ghost use Rattle.framehop_rules.specs.Callback.{answer_of};
 ghost use Rattle.framehop_rules.specs.FrameAddress.{lookup_address_of};
-ghost use Rattle.unwind_commands.specs.Judge.{is_first};
+ghost use Rattle.framehop.specs.Judge.{is_first};
 ghost use Rattle.unwind_commands.specs.Numbered.{IsNumbered, caches_after};
 ghost use Rattle.unwind_commands.specs.Text.{unwinders_after, line_of, data_named, eh_frame_of, words_of, is_first_kind, lookup_address_at};
 ghost use Rattle.unwind_commands.specs.CommandViews.{task_of, words_view, section_view, sections_view};
@@ -11,10 +11,9 @@ ghost use Rattle.unwind_commands.specs.declared.document.command.Section.{Sectio
 ghost use Rattle.unwind_commands.specs.declared.document.command.FrameKind.TheVariants.{Ra};
 
 use crate::document::{Command, FrameKind, Load, Section, Stack, Step};
-use crate::framehop::{CacheX86_64, Module, UnwinderX86_64};
 use crate::lines::step_line;
-use framehop_rules::FrameAddress;
-use framehop_rules::x86_64::UnwindRegsX86_64;
+use framehop::x86_64::{CacheX86_64, UnwindRegsX86_64, UnwinderX86_64};
+use framehop::{FrameAddress, Module};
 use std::alloc::{AllocError, Global};
 
 /// The unwinders and the caches that commands have made, numbered from 0.

@@ -2,8 +2,8 @@
 ghost use Rattle.std.specs.Prelude.{◌≡◌, Some, IfOk, string_bytes};
 ghost use Rattle.unwind_commands.specs.Lines.{error_name, answer_text, registers_text, step_text, step_line};
 
-use framehop_rules::Error;
-use framehop_rules::x86_64::UnwindRegsX86_64;
+use framehop::Error;
+use framehop::x86_64::UnwindRegsX86_64;
 use std::alloc::{AllocError, Global};
 use std::fmt;
 

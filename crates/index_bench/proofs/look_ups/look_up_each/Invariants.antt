@@ -1,6 +1,6 @@
 use Rattle.std.proofs.Common.{◌≡◌, ◌≤◌, ◌^◌, ℕ, suc, length}
-use Rattle.unwind_commands.specs.Entries.{Listing}
-use Rattle.unwind_commands.specs.CfiIndexView.{IsIndexOf}
+use Rattle.dwarf_call_frames.specs.Entries.{Listing}
+use Rattle.framehop.specs.CfiIndexView.{IsIndexOf}
 use Rattle.index_bench.specs.LookUps.{found_among}
 use Rattle.index_bench.proofs.look_ups.look_up_each.Given as goal
 

@@ -2,8 +2,8 @@ use Rattle.std.proofs.Common.{◌<◌, [], length, map, sym, ◌∙◌, ap}
 use Rattle.std.specs.Prelude.{slice_set}
 use Rattle.std.proofs.lemmas.List.{get_or-map, length-map, map-set}
 use Rattle.unwind_commands.specs.CommandViews.{load_view}
-use Rattle.unwind_commands.specs.ModuleFound.{Loaded, inserted}
-use Rattle.unwind_commands.specs.ModuleViews.{modules_of, module_view}
+use Rattle.framehop.specs.ModuleFound.{Loaded, inserted}
+use Rattle.framehop.specs.ModuleViews.{modules_of, module_view}
 use Rattle.unwind_commands.specs.InstanceViews.{modules_in}
 use Rattle.unwind_commands.specs.Text.{loaded_by, modules_at}
 use Rattle.unwind_commands.proofs.LoadedModules.{same_module}

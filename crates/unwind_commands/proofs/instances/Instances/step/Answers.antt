@@ -4,7 +4,7 @@ use Rattle.std.proofs.lemmas.Result.{IfOk-weaker}
 use Rattle.std.proofs.lemmas.List.{get_or-map, length-map}
 use Rattle.unwind_commands.specs.CommandViews.{words_view, step_view}
 use Rattle.unwind_commands.specs.Lines.{step_line}
-use Rattle.unwind_commands.specs.ModuleViews.{modules_of}
+use Rattle.framehop.specs.ModuleViews.{modules_of}
 use Rattle.unwind_commands.specs.InstanceViews.{modules_in}
 use Rattle.unwind_commands.specs.Text.{words_of, line_at, modules_at, is_first_kind, lookup_address_at, registers_of}
 use Rattle.unwind_commands.proofs.StepLines.{line_judged}

@@ -1,0 +1,12 @@
+pub mod Behind
+pub mod Cases
+pub mod EntryLists
+pub mod EntryPlaces
+pub mod Fronts
+pub mod InstructionLists
+pub mod Lengths
+pub mod Places
+pub mod RowsFor
+pub mod RuleLists
+pub mod TableSteps
+pub mod WorkedRows

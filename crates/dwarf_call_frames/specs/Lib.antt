@@ -1,0 +1,11 @@
+pub mod CfaRules
+pub mod EndianSlice
+pub mod Entries
+pub mod EntryViews
+pub mod Expressions
+pub mod Instructions
+pub mod RegisterRules
+pub mod Rows
+pub mod TableLends
+pub mod UnwindRows
+pub mod UnwindTable

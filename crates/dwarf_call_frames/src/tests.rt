@@ -1,0 +1,3 @@
+//! Entries and rows of worked sections.
+mod entries;
+mod rows;

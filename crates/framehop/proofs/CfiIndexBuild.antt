@@ -1,0 +1,201 @@
+-- An index that is sorted from the FDEs of a section finds what the section's index has.
+use Rattle.std.proofs.Common.{◌≡◌, ℕ, ◌+◌, ◌-◌, ◌<◌, ◌≤◌, Bool, true, false, cond, List, [], ◌∷◌, ◌++◌, map, reverse, Option, Some, None, nat_cmp, is_lt, refl, sym, ap, ◌∙◌, arith}
+use Rattle.std.specs.Prelude.{nat_le, nat_lt, ◌&&◌, is_none, option_map}
+use Rattle.std.specs.List.{All, filter, find, list_all}
+use Rattle.std.specs.Option.{option_or}
+use Rattle.std.specs.List.Sorted.{IsNonDecreasingBy, IsPermutation, IsStableByKey, ties}
+use Rattle.std.proofs.lemmas.Bool.Decides.{nat_tests}
+use Rattle.std.proofs.lemmas.List.{length-map, length-reverse}
+use Rattle.std.proofs.lemmas.List.Elements.{All-head, All-tail}
+use Rattle.std.proofs.lemmas.List.Sorted.{All-permutation, IsPermutation-sym, IsPermutation-reverse, length_permutation}
+use Rattle.dwarf_constants.specs.declared.error.Error.{Error}
+use Rattle.dwarf_readers.specs.Place.{Stretch}
+use Rattle.framehop.specs.declared.cfi_index.IndexedFde.{IndexedFde}
+use Rattle.framehop.specs.declared.cfi_index.DwarfCfiIndexError.{DwarfCfiIndexError}
+use Rattle.framehop.specs.declared.cfi_index.DwarfCfiIndexError.TheVariants.{Gimli}
+use Rattle.dwarf_call_frames.specs.Entries.{Fde, Listing, entries_of, entries_from}
+use Rattle.framehop.specs.EntryFor.{is_last_start, indexed_among, fits_index, has_index}
+use Rattle.dwarf_call_frames.specs.Rows.{last_of}
+use Rattle.framehop.specs.CfiIndex.{unfit, first_or, index_error, kept_of, offset_in, Indexes}
+use Rattle.dwarf_call_frames.proofs.Cases.{by_case}
+use Rattle.framehop.proofs.EntryIndex.{later, later_of, nearer_of, both-true, find-passes, indexed-cons}
+use Rattle.framehop.proofs.CfiIndexOrder.{none-passes, last-passes, none-higher, last-alike, find-back}
+
+-- ---- of the FDEs, the one with the greatest start
+
+starts-above : (base : ℕ) (f : Fde) → fits_index base f ≡ true → base ≤ f.initial_address
+starts-above base f h = let first : nat_le base f.initial_address ≡ true = (both-true _ _ (both-true _ _ h).0).0 in grind arith
+
+-- no FDE at or below the address starts above a bound
+all-under : (base a bound : ℕ) (fs : List Fde) → list_all (fits_index base) fs ≡ true
+    → All (λ y. nat_le y.start a ≡ true → y.start ≤ bound) (map (kept_of base) fs)
+    → list_all (λ f. nat_le f.initial_address (base + bound)) (filter (λ f. nat_le f.initial_address (base + a)) fs) ≡ true
+all-under base a bound [] fit all = refl
+all-under base a bound (f ∷ fs) fit all =
+    let (here, others) = both-true (fits_index base f) (list_all (fits_index base) fs) fit in
+    let rest = all-under base a bound fs others (All-tail (λ y. nat_le y.start a ≡ true → y.start ≤ bound) (kept_of base f) (map (kept_of base) fs) all) in
+    let above : base ≤ f.initial_address = starts-above base f here in
+    let first = All-head (λ y. nat_le y.start a ≡ true → y.start ≤ bound) (kept_of base f) (map (kept_of base) fs) all in
+    by_case (nat_le f.initial_address (base + a))
+    (λ is.
+    let le : nat_le (f.initial_address - base) a ≡ true = grind arith in
+    let under : f.initial_address - base ≤ bound = first le in
+    let test : nat_le f.initial_address (base + bound) ≡ true = grind arith in
+    rw (is, test) rest)
+    (λ is. rw is rest)
+
+under : (base a bound : ℕ) (fs : List Fde) (g : Fde) → list_all (fits_index base) fs ≡ true
+    → All (λ y. nat_le y.start a ≡ true → y.start ≤ bound) (map (kept_of base) fs)
+    → indexed_among (base + a) fs ≡ Some g → g.initial_address ≤ base + bound
+under base a bound fs g fit all found =
+    let within : List Fde = filter (λ f. nat_le f.initial_address (base + a)) fs in
+    let test : nat_le g.initial_address (base + bound) ≡ true = find-passes (is_last_start within) (λ f. nat_le f.initial_address (base + bound)) within g found (all-under base a bound fs fit all) in
+    grind arith
+
+-- the first of the FDEs with a start, where no other at or below the address starts above it
+pub first-greatest : (base a : ℕ) (fs : List Fde) (x : IndexedFde) (p : IndexedFde → Bool)
+    → ((y : IndexedFde) → p y ≡ true → y.start ≡ x.start) → ((y : IndexedFde) → y.start ≡ x.start → p y ≡ true)
+    → x.start ≤ a → list_all (fits_index base) fs ≡ true → find p (map (kept_of base) fs) ≡ Some x
+    → All (λ y. nat_le y.start a ≡ true → y.start ≤ x.start) (map (kept_of base) fs)
+    → (g : Fde) × (indexed_among (base + a) fs ≡ Some g) × (g.initial_address ≡ base + x.start) × (g.offset ≡ x.offset)
+first-greatest base a [] x p only all low fit found greatest = cc
+first-greatest base a (f ∷ fs) x p only all low fit found greatest =
+    let (here, others) = both-true (fits_index base f) (list_all (fits_index base) fs) fit in
+    let above : base ≤ f.initial_address = starts-above base f here in
+    let rest = All-tail (λ y. nat_le y.start a ≡ true → y.start ≤ x.start) (kept_of base f) (map (kept_of base) fs) greatest in
+    let first = All-head (λ y. nat_le y.start a ≡ true → y.start ≤ x.start) (kept_of base f) (map (kept_of base) fs) greatest in
+    let made : indexed_among (base + a) (f ∷ fs) ≡ later_of (nearer_of (base + a) None f) (indexed_among (base + a) fs) = indexed-cons (base + a) f fs None in
+    by_case (p (kept_of base f))
+    (λ is.
+    let same : Some (kept_of base f) ≡ Some x = rw is at found in
+    let it : kept_of base f ≡ x = cc in
+    let start : f.initial_address - base ≡ x.start = ap (λ y. y.start) it in
+    let place : f.offset ≡ x.offset = ap (λ y. y.offset) it in
+    let near : nat_le f.initial_address (base + a) ≡ true = grind arith in
+    let equal : f.initial_address ≡ base + x.start = omega arith in
+    let stays : later_of (Some f) (indexed_among (base + a) fs) ≡ Some f = none-later (indexed_among (base + a) fs) (λ g e. let le = under base a x.start fs g others rest e in omega arith) in
+    (f, made ∙ ap (λ b. later_of (cond b (Some f) None) (indexed_among (base + a) fs)) near ∙ stays, equal, place))
+    (λ is.
+    let (g, found_, start, place) = first-greatest base a fs x p only all low others (rw is at found) rest in
+    by_case (nat_le f.initial_address (base + a))
+    (λ near.
+    let le : nat_le (f.initial_address - base) a ≡ true = grind arith in
+    let under : f.initial_address - base ≤ x.start = first le in
+    let before : f.initial_address < g.initial_address = before_if g x.start above under start (λ e. let yes = all (kept_of base f) e in cc) in
+    (g, made ∙ ap (λ b. later_of (cond b (Some f) None) (indexed_among (base + a) fs)) near ∙ ap (later_of (Some f)) found_ ∙ ap (λ h. Some h) (goes-later g before), start, place))
+    (λ far. (g, made ∙ ap (λ b. later_of (cond b (Some f) None) (indexed_among (base + a) fs)) far ∙ found_, start, place)))
+  where
+    none-later : (o : Option Fde) → ((g : Fde) → o ≡ Some g → g.initial_address ≤ f.initial_address) → later_of (Some f) o ≡ Some f
+    none-later None h = refl
+    none-later (Some g) h = let le = h g refl in let test : nat_lt f.initial_address g.initial_address ≡ false = grind arith in rw test refl
+
+    before_if : (g : Fde) (start : ℕ) → base ≤ f.initial_address → f.initial_address - base ≤ start → g.initial_address ≡ base + start → (f.initial_address - base ≡ start → ⊥) → f.initial_address < g.initial_address
+    before_if g start above le is not = omega arith
+
+    goes-later : (g : Fde) → f.initial_address < g.initial_address → later f g ≡ g
+    goes-later g lt = let test : nat_lt f.initial_address g.initial_address ≡ true = grind arith in rw test refl
+
+-- where each FDE starts above the address, none is indexed
+none-indexed : (base a : ℕ) (fs : List Fde) → list_all (fits_index base) fs ≡ true → All (λ y. nat_le y.start a ≡ false) (map (kept_of base) fs)
+    → filter (λ f. nat_le f.initial_address (base + a)) fs ≡ []
+none-indexed base a [] fit all = refl
+none-indexed base a (f ∷ fs) fit all =
+    let (here, others) = both-true (fits_index base f) (list_all (fits_index base) fs) fit in
+    let above : base ≤ f.initial_address = starts-above base f here in
+    let first : nat_le (f.initial_address - base) a ≡ false = All-head (λ y. nat_le y.start a ≡ false) (kept_of base f) (map (kept_of base) fs) all in
+    let far : nat_le f.initial_address (base + a) ≡ false = grind arith in
+    rw far (none-indexed base a fs others (All-tail (λ y. nat_le y.start a ≡ false) (kept_of base f) (map (kept_of base) fs) all))
+
+-- ---- what is sorted
+
+same_start : (m n : ℕ) → (ties (λ x y. is_lt (nat_cmp x y)) m n ≡ true → n ≡ m) × (n ≡ m → ties (λ x y. is_lt (nat_cmp x y)) m n ≡ true)
+same_start m n = (λ h. grind (arith, nat_tests), λ h. grind (arith, nat_tests))
+
+module _ (base : ℕ) (listing : Listing) (ys : List IndexedFde) (has : has_index base listing ≡ true) (up : IsNonDecreasingBy (λ y. y.start) ys)
+    (moved : IsPermutation (reverse (map (kept_of base) listing.fdes)) ys) (stable : IsStableByKey (λ y. y.start) nat_cmp (reverse (map (kept_of base) listing.fdes)) ys) where
+  -- what all have in the list that is sorted, all have in the section
+  unsorted : (P : IndexedFde → Type 0) → All P ys → All P (map (kept_of base) listing.fdes)
+  unsorted P all =
+      let xs : List IndexedFde = map (kept_of base) listing.fdes in
+      All-permutation P (reverse xs) xs (IsPermutation-sym xs (reverse xs) (IsPermutation-reverse xs))
+      (All-permutation P ys (reverse xs) (IsPermutation-sym (reverse xs) ys moved) all)
+
+  fitting : list_all (fits_index base) listing.fdes ≡ true
+  fitting = (both-true (is_none listing.fault) (list_all (fits_index base) listing.fdes) has).1
+
+  found-some : (a : ℕ) (x : IndexedFde) → last_of (filter (λ y. nat_le y.start a) ys) ≡ Some x → Some x.offset ≡ option_map (λ f. f.offset) (indexed_among (base + a) listing.fdes)
+  found-some a x last =
+      let p : IndexedFde → Bool = ties (λ u v. is_lt (nat_cmp u.start v.start)) x in
+      let xs : List IndexedFde = map (kept_of base) listing.fdes in
+      let only : (y : IndexedFde) → p y ≡ true → y.start ≡ x.start = λ y. (same_start x.start y.start).0 in
+      let all : (y : IndexedFde) → y.start ≡ x.start → p y ≡ true = λ y. (same_start x.start y.start).1 in
+      let last_alike : last_of (filter p ys) ≡ Some x = last-alike (λ y. y.start) a p ys x only (all x refl) up last in
+      let found : find p xs ≡ Some x = sym (find-back p xs) ∙ ap last_of (sym (stable x)) ∙ last_alike in
+      let passes : nat_le x.start a ≡ true = last-passes (λ y. nat_le y.start a) ys x last in
+      let low : x.start ≤ a = grind arith in
+      let (g, same, start, place) = first-greatest base a listing.fdes x p only all low fitting found (unsorted (λ y. nat_le y.start a ≡ true → y.start ≤ x.start) (none-higher (λ y. y.start) a ys x up last)) in
+      ap (λ n. Some n) (sym place) ∙ sym (ap (option_map (λ f. f.offset)) same)
+
+  found-none : (a : ℕ) → last_of (filter (λ y. nat_le y.start a) ys) ≡ None → indexed_among (base + a) listing.fdes ≡ None
+  found-none a last =
+      let empty = none-indexed base a listing.fdes fitting (unsorted (λ y. nat_le y.start a ≡ false) (none-passes (λ y. nat_le y.start a) ys last)) in
+      rw empty refl
+
+  -- the sorted list is an index of the section
+  pub indexes-sorted : Indexes ys base listing
+  indexes-sorted = (has, λ a. rw has (by a (last_of (filter (λ y. nat_le y.start a) ys)) refl), length_permutation (reverse kept) ys moved ∙ length-reverse kept ∙ length-map listing.fdes (kept_of base))
+    where
+      kept : List IndexedFde
+      kept = map (kept_of base) listing.fdes
+
+      by : (a : ℕ) (o : Option IndexedFde) → last_of (filter (λ y. nat_le y.start a) ys) ≡ o → offset_in ys a ≡ option_map (λ f. f.offset) (indexed_among (base + a) listing.fdes)
+      by a (Some x) e = ap (option_map (λ y. y.offset)) e ∙ found-some a x e
+      by a None e = ap (option_map (λ y. y.offset)) e ∙ sym (ap (option_map (λ f. f.offset)) (found-none a e))
+
+-- ---- the error of the first entry against an index
+
+fits-all : (base : ℕ) (f : Fde) → unfit base f ≡ None → fits_index base f ≡ true
+fits-all base f h = grind (arith, nat_tests)
+
+fits-not : (base : ℕ) (f : Fde) (e : DwarfCfiIndexError) → unfit base f ≡ Some e → fits_index base f ≡ false
+fits-not base f e h = grind (arith, nat_tests)
+
+no-error : (base : ℕ) (fault : Option Error) (fs : List Fde) → first_or (unfit base) (option_map Gimli fault) fs ≡ None → (is_none fault && list_all (fits_index base) fs) ≡ true
+no-error base None [] h = refl
+no-error base (Some e) [] h = cc
+no-error base fault (f ∷ fs) h = by (unfit base f) refl (λ e. no-error base fault fs e) h
+  where
+    by : (o : Option DwarfCfiIndexError) → unfit base f ≡ o → (first_or (unfit base) (option_map Gimli fault) fs ≡ None → (is_none fault && list_all (fits_index base) fs) ≡ true)
+        → option_or o (first_or (unfit base) (option_map Gimli fault) fs) ≡ None → (is_none fault && (fits_index base f && list_all (fits_index base) fs)) ≡ true
+    by (Some e) is others found = cc
+    by None is others found = let fits : fits_index base f ≡ true = fits-all base f is in rw fits (others found)
+
+some-error : (base : ℕ) (fault : Option Error) (fs : List Fde) (error : DwarfCfiIndexError) → first_or (unfit base) (option_map Gimli fault) fs ≡ Some error → (is_none fault && list_all (fits_index base) fs) ≡ false
+some-error base None [] error h = cc
+some-error base (Some e) [] error h = refl
+some-error base fault (f ∷ fs) error h = by (unfit base f) refl (λ e. some-error base fault fs error e) h
+  where
+    either : (a b : Bool) → b ≡ false → (a && b) ≡ false
+    either true b e = e
+    either false b e = refl
+
+    by : (o : Option DwarfCfiIndexError) → unfit base f ≡ o → (first_or (unfit base) (option_map Gimli fault) fs ≡ Some error → (is_none fault && list_all (fits_index base) fs) ≡ false)
+        → option_or o (first_or (unfit base) (option_map Gimli fault) fs) ≡ Some error → (is_none fault && (fits_index base f && list_all (fits_index base) fs)) ≡ false
+    by (Some e) is others found = let fails : fits_index base f ≡ false = fits-not base f e is in rw fails (either (is_none fault) false refl)
+    by None is others found = let fits : fits_index base f ≡ true = fits-all base f is in rw fits (others found)
+
+-- a section without an error has an index
+pub has-index : (base : ℕ) (listing : Listing) → index_error base listing ≡ None → has_index base listing ≡ true
+has-index base listing h = no-error base listing.fault listing.fdes h
+
+-- a section with one has none
+pub has-no-index : (base : ℕ) (listing : Listing) (error : DwarfCfiIndexError) → index_error base listing ≡ Some error → has_index base listing ≡ false
+has-no-index base listing error h = some-error base listing.fault listing.fdes error h
+
+-- ---- the pass over the entries
+
+-- what a pass has gathered, where this much of the section is left: an error is that of the rest, and what is kept of
+-- the FDEs is what was gathered and what is kept of the rest
+pub record Gathered (section : List ℕ) (base : ℕ) (kept : List IndexedFde) (left : Stretch) : Type 0 where
+  pub error : index_error base (entries_of section) ≡ index_error base (entries_from section left)
+  pub fdes : map (kept_of base) (entries_of section).fdes ≡ kept ++ map (kept_of base) (entries_from section left).fdes

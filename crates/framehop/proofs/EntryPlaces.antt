@@ -1,0 +1,54 @@
+-- The entry that an index finds is what stands at its offset.
+use Rattle.std.proofs.Common.{◌≡◌, ℕ, ◌+◌, Bool, cond, List, [], ◌∷◌, Option, Some, None, Result, Ok, Err, refl, sym, ap, subst, ◌∙◌}
+use Rattle.std.specs.Prelude.{nat_le, option_map}
+use Rattle.std.specs.List.{All, filter, find}
+use Rattle.std.specs.Result.{result_ok}
+use Rattle.std.proofs.lemmas.List.Elements.{All-head, All-tail}
+use Rattle.dwarf_constants.specs.declared.error.Error.{Error}
+use Rattle.dwarf_readers.specs.Place.{Gives}
+use Rattle.dwarf_call_frames.specs.declared.entries.FrameDescriptionEntry.{FrameDescriptionEntry}
+use Rattle.dwarf_call_frames.specs.Entries.{Fde, Listing, StandsAtItsOffset, fde_from_offset, entries_of}
+use Rattle.dwarf_call_frames.specs.EntryViews.{fde_view}
+use Rattle.dwarf_call_frames.proofs.Cases.{by_case}
+use Rattle.dwarf_call_frames.proofs.EntryPlaces.{stands-there}
+use Rattle.framehop.specs.EntryFor.{has_index, is_last_start, indexed_among, indexed_entry}
+
+found-has : (P : Fde → Type 0) (p q : Fde → Bool) (xs : List Fde) (g : Fde) → All P xs → find p (filter q xs) ≡ Some g → P g
+found-has P p q [] g all h = cc
+found-has P p q (x ∷ xs) g all h =
+    by_case (q x)
+    (λ is.
+    let within : cond (p x) (Some x) (find p (filter q xs)) ≡ Some g = rw is at h in
+    by_case (p x)
+    (λ passes. let same : Some x ≡ Some g = rw passes at within in let it : x ≡ g = cc in subst P it (All-head P x xs all))
+    (λ fails. found-has P p q xs g (All-tail P x xs all) (rw fails at within)))
+    (λ is. found-has P p q xs g (All-tail P x xs all) (rw is at h))
+
+-- the indexed entry is what stands at its offset
+pub indexed-there : (section : List ℕ) (base relative : ℕ) (g : Fde) → indexed_entry base relative (entries_of section) ≡ Some g → fde_from_offset section g.offset ≡ Ok g
+indexed-there section base relative g h =
+    let listing : Listing = entries_of section in
+    by_case (has_index base listing)
+    (λ is. let found : indexed_among (base + relative) listing.fdes ≡ Some g = rw is at h in
+    found-has (StandsAtItsOffset section) (is_last_start (filter (λ fde. nat_le fde.initial_address (base + relative)) listing.fdes)) (λ fde. nat_le fde.initial_address (base + relative)) listing.fdes g (stands-there section) found)
+    (λ is. let none : ◌≡◌ {A = Option Fde} None (Some g) = rw is at h in cc)
+
+-- what is read at the offset of the indexed entry is that entry
+pub read-there : (section : List ℕ) (base relative offset : ℕ) (read : Result FrameDescriptionEntry Error)
+    → Some offset ≡ option_map (λ fde. fde.offset) (indexed_entry base relative (entries_of section))
+    → Gives fde_view read (fde_from_offset section offset)
+    → option_map fde_view (result_ok read) ≡ indexed_entry base relative (entries_of section)
+read-there section base relative offset read is gives = by read (indexed_entry base relative (entries_of section)) refl is gives
+  where
+    by : (read : Result FrameDescriptionEntry Error) (o : Option Fde) → indexed_entry base relative (entries_of section) ≡ o → Some offset ≡ option_map (λ fde. fde.offset) o
+        → Gives fde_view read (fde_from_offset section offset) → option_map fde_view (result_ok read) ≡ o
+    by read None e is gives = cc
+    by (Ok x) (Some g) e is gives =
+        let place : offset ≡ g.offset = cc in
+        let there : Ok (fde_view x) ≡ Ok g = sym gives ∙ ap (fde_from_offset section) place ∙ indexed-there section base relative g e in
+        let same : fde_view x ≡ g = cc in
+        ap (λ y. Some y) same
+    by (Err error) (Some g) e is gives =
+        let place : offset ≡ g.offset = cc in
+        let there : Err error ≡ Ok g = sym gives ∙ ap (fde_from_offset section) place ∙ indexed-there section base relative g e in
+        cc

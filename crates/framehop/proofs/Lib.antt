@@ -1,0 +1,11 @@
+pub mod CfiIndexBuild
+pub mod CfiIndexOrder
+pub mod DirectRows
+pub mod EntryIndex
+pub mod EntryPlaces
+pub mod Halves
+pub mod IndexedModules
+pub mod ModulesInOrder
+pub mod RowsOfRules
+pub mod Steps
+pub mod WorkedSteps

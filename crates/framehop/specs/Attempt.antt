@@ -1,0 +1,48 @@
+-- What a module says of an address.
+use Rattle.std.specs.Prelude.{ℕ, ◌+◌, ◌^◌, List, Option, Some, None, Result, Ok, Err, nat_lt, if◌then◌else◌}
+use Rattle.dwarf_constants.specs.declared.error.Error.{Error}
+use Rattle.framehop_rules.specs.declared.x86_64.unwind_rule.UnwindRuleX86_64.{UnwindRuleX86_64}
+use Rattle.framehop_rules.specs.declared.x86_64.unwind_rule.UnwindRuleX86_64.TheVariants.{JustReturnIfFirstFrameOtherwiseFp}
+use Rattle.framehop.specs.declared.dwarf.DwarfUnwinderError.TheVariants.{LookupAddressOverflow}
+use Rattle.framehop.specs.declared.error.UnwinderError.{UnwinderError}
+use Rattle.framehop.specs.declared.error.UnwinderError.TheVariants.{Dwarf, NoModuleUnwindData, DwarfCfiIndexCouldNotFindAddress}
+use Rattle.dwarf_call_frames.specs.Entries.{Fde, Listing, entries_of}
+use Rattle.dwarf_call_frames.specs.Rows.{Row, row_for}
+use Rattle.framehop.specs.ScaledRow.{Parts, parts_of, scaled_rule}
+use Rattle.framehop.specs.EntryFor.{has_index, indexed_entry}
+use Rattle.framehop.specs.ModuleFound.{Loaded}
+
+-- what a module says of an address: a rule, a row that a rule says exactly, a row of a section that no rule says, or nothing, for a reason
+pub data Attempt : Type 0 where
+  Rules : UnwindRuleX86_64 → Attempt
+  Scales : UnwindRuleX86_64 → Parts → Attempt
+  Evaluates : (section : List ℕ) → Parts → Attempt
+  Fails : UnwinderError → Attempt
+
+-- a row that no rule says is evaluated
+abbrev pub by_rule : List ℕ → Parts → Option UnwindRuleX86_64 → Attempt
+by_rule section parts (Some rule) = Scales rule parts
+by_rule section parts None = Evaluates section parts
+
+-- an FDE whose rows have none for the address leaves it to a rule for code that no entry covers
+abbrev pub by_row : List ℕ → Fde → Result Row Error → Attempt
+by_row section fde (Ok row) = by_rule section (parts_of fde.cie.data_alignment_factor row) (scaled_rule (parts_of fde.cie.data_alignment_factor row))
+by_row section fde (Err e) = Rules JustReturnIfFirstFrameOtherwiseFp
+
+-- what an FDE of a section says of an address
+abbrev pub by_fde : List ℕ → ℕ → Option Fde → Attempt
+by_fde section address None = Fails DwarfCfiIndexCouldNotFindAddress
+by_fde section address (Some fde) = if nat_lt address (2 ^ 64) then by_row section fde (row_for fde address) else Fails (Dwarf LookupAddressOverflow)
+
+-- what the entries of a section say of an address that is relative to a base
+abbrev pub by_entries : List ℕ → ℕ → ℕ → Listing → Attempt
+by_entries section base relative listing = if has_index base listing then by_fde section (base + relative) (indexed_entry base relative listing) else Fails NoModuleUnwindData
+
+-- what a section says, where the module has one
+abbrev pub by_section : ℕ → ℕ → Option (List ℕ) → Attempt
+by_section base relative None = Fails NoModuleUnwindData
+by_section base relative (Some section) = by_entries section base relative (entries_of section)
+
+-- what a module says of a relative address
+abbrev pub attempt : Loaded → ℕ → Attempt
+attempt module_ relative = by_section module_.base_svma relative module_.eh_frame

@@ -1,0 +1,13 @@
+pub mod Attempt
+pub mod CfiIndex
+pub mod CfiIndexView
+pub mod DirectRow
+pub mod DirectViews
+pub mod EntryFor
+pub mod Judge
+pub mod ModuleFound
+pub mod ModuleViews
+pub mod RowAnswer
+pub mod RowViews
+pub mod ScaledRow
+pub mod UnwindResults

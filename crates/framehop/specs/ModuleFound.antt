@@ -1,0 +1,46 @@
+-- Modules, and the one that an address is in.
+use Rattle.std.specs.Prelude.{ℕ, ◌-◌, ◌^◌, List, [], ◌∷◌, Bool, ◌&&◌, ◌||◌, Option, Some, None, option_and_then, ◌==◌, nat_lt, nat_le, if◌then◌else◌}
+use Rattle.std.specs.List.{filter, list_all}
+use Rattle.dwarf_call_frames.specs.Rows.{last_of}
+
+-- a module as it is loaded: its range of addresses, the address that relative addresses count from, what its sections
+-- call that address, and the bytes of its `.eh_frame`, if it has some
+pub record Loaded : Type 0 where
+  pub start : ℕ
+  pub end : ℕ
+  pub base : ℕ
+  pub base_svma : ℕ
+  pub eh_frame : Option (List ℕ)
+
+-- no module of the list starts above this one
+abbrev pub is_last_start : List Loaded → Loaded → Bool
+is_last_start modules module_ = list_all (λ other. nat_le other.start module_.start) modules
+
+-- the last of the modules with the greatest start
+abbrev pub last_of_last_start : List Loaded → Option Loaded
+last_of_last_start modules = last_of (filter (is_last_start modules) modules)
+
+-- the last of the modules with the greatest start at or below an address
+abbrev pub nearest : List Loaded → ℕ → Option Loaded
+nearest modules address = last_of_last_start (filter (λ module_. nat_le module_.start address) modules)
+
+-- the address is in the module: at its very start its end isn't asked
+abbrev pub is_inside : ℕ → Loaded → Bool
+is_inside address module_ = address == module_.start || nat_lt address module_.end
+
+-- the address counts from the module's base in 32 bits
+abbrev pub has_relative : ℕ → Loaded → Bool
+has_relative address module_ = nat_le module_.base address && nat_lt (address - module_.base) (2 ^ 32)
+
+-- the module, where the address is in it and counts from its base
+abbrev pub if_inside : ℕ → Loaded → Option Loaded
+if_inside address module_ = if is_inside address module_ && has_relative address module_ then Some module_ else None
+
+-- the module that an address is in
+abbrev pub module_found : List Loaded → ℕ → Option Loaded
+module_found modules address = option_and_then (if_inside address) (nearest modules address)
+
+-- a module put into a list: before the first of an equal or a greater start
+abbrev pub inserted : Loaded → List Loaded → List Loaded
+inserted module_ [] = module_ ∷ []
+inserted module_ (other ∷ others) = if nat_le module_.start other.start then module_ ∷ other ∷ others else other ∷ inserted module_ others

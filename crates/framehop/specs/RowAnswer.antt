@@ -1,0 +1,54 @@
+-- What a row says of the caller's registers, in whole numbers (DWARF 5, 6.4.1), on x86_64.
+use Rattle.std.specs.Prelude.{ℕ, ◌^◌, ℤ, pos, negsuc, ◌+ℤ◌, Option, Some, None, option_and_then, option_map, unwrap_or, ◌==◌, nat_lt, if◌then◌else◌}
+use Rattle.dwarf_constants.specs.declared.common.Register.{Register}
+use Rattle.framehop_rules.specs.Callback.{Words}
+use Rattle.framehop_rules.specs.Outcome.{Caller}
+use Rattle.framehop_rules.specs.Registers.{ip_of, sp_of, bp_of, with_ip, with_register}
+use Rattle.framehop_rules.specs.declared.x86_64.unwindregs.Reg.TheVariants as reg
+use Rattle.framehop_rules.specs.declared.x86_64.unwindregs.UnwindRegsX86_64.{UnwindRegsX86_64}
+use Rattle.dwarf_call_frames.specs.declared.rows.CfaRule.{CfaRule}
+use Rattle.dwarf_call_frames.specs.declared.rows.CfaRule.TheVariants.{RegisterAndOffset, Expression}
+use Rattle.dwarf_call_frames.specs.declared.rows.RegisterRule.{RegisterRule}
+use Rattle.dwarf_call_frames.specs.declared.rows.RegisterRule.TheVariants as rule
+use Rattle.framehop.specs.ScaledRow.{Parts, RBP, RSP, RA}
+
+-- the value of a register that a step knows
+abbrev pub value_of : UnwindRegsX86_64 → Register → Option ℕ
+value_of registers register =
+    if register.0 == RA.0 then Some (ip_of registers)
+    else if register.0 == RSP.0 then Some (sp_of registers)
+    else if register.0 == RBP.0 then Some (bp_of registers)
+    else None
+
+-- a number from 0 to below 2^64
+abbrev pub in_range : ℤ → Option ℕ
+in_range (pos n) = if nat_lt n (2 ^ 64) then Some n else None
+in_range (negsuc n) = None
+
+-- a base plus an offset
+abbrev pub plus : ℕ → ℤ → Option ℕ
+plus base offset = in_range (pos base +ℤ offset)
+
+-- the canonical frame address, where it counts from a register
+abbrev pub cfa_value : UnwindRegsX86_64 → CfaRule → Option ℕ
+cfa_value registers (RegisterAndOffset register offset) = option_and_then (λ base. plus base offset) (value_of registers register)
+cfa_value registers (Expression expression) = None
+
+-- what a column gives at a CFA
+abbrev pub column_value : Words → ℕ → RegisterRule → Option ℕ
+column_value words cfa (rule.Offset offset) = option_and_then words (plus cfa offset)
+
+-- the caller with a CFA and a return address: the CFA is its stack pointer, and its RBP is what the column gives, or stays
+abbrev pub caller_from : UnwindRegsX86_64 → Words → Option RegisterRule → ℕ → ℕ → Caller UnwindRegsX86_64
+caller_from registers words bp cfa return_address = record {
+  return_address = return_address;
+  registers = with_register (with_register (with_ip registers return_address) reg.RSP cfa) reg.RBP (unwrap_or (option_and_then (column_value words cfa) bp) (bp_of registers));
+}
+
+-- the caller at a CFA, where its return address can be read
+abbrev pub caller_at : UnwindRegsX86_64 → Words → Parts → ℕ → Option (Caller UnwindRegsX86_64)
+caller_at registers words parts cfa = option_map (caller_from registers words parts.bp cfa) (option_and_then (column_value words cfa) parts.ra)
+
+-- the row's answer, where it has a CFA and a return address
+abbrev pub row_answer : UnwindRegsX86_64 → Words → Parts → Option (Caller UnwindRegsX86_64)
+row_answer registers words parts = option_and_then (caller_at registers words parts) (cfa_value registers parts.cfa)

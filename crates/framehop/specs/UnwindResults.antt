@@ -1,0 +1,54 @@
+-- What the parts of a step answer, and the registers that they leave.
+use Rattle.std.specs.Prelude.{◌≡◌, Bool, Result, Ok, Err}
+use Rattle.framehop_rules.specs.Callback.{Words}
+use Rattle.framehop_rules.specs.Outcome.{Outcome, Gives, Caller}
+use Rattle.framehop_rules.specs.RuleMeaning.{rule_meaning}
+use Rattle.framehop_rules.specs.declared.x86_64.unwindregs.UnwindRegsX86_64.{UnwindRegsX86_64}
+use Rattle.framehop.specs.declared.dwarf.DwarfUnwinderError.{DwarfUnwinderError}
+use Rattle.framehop.specs.declared.error.UnwinderError.{UnwinderError}
+use Rattle.framehop.specs.declared.error.UnwinderError.TheVariants.{Dwarf}
+use Rattle.framehop.specs.declared.unwind_result.UnwindResult.{UnwindResult}
+use Rattle.framehop.specs.declared.unwind_result.UnwindResult.TheVariants.{ExecRule, Uncacheable}
+use Rattle.framehop.specs.Attempt.{Attempt, Rules, Scales, Evaluates, Fails}
+use Rattle.framehop.specs.DirectRow.{direct_answer}
+
+-- an answer and the registers with it
+abbrev pub Tried : Type 0
+Tried = Result (UnwindResult × UnwindRegsX86_64) UnwinderError
+
+-- a direct answer, with the caller's registers
+abbrev pub tried_directly : Result (Caller UnwindRegsX86_64) DwarfUnwinderError → Tried
+tried_directly (Ok caller) = Ok (Uncacheable caller.return_address, caller.registers)
+tried_directly (Err failure) = Err (Dwarf failure)
+
+-- what an attempt comes to before any rule is executed: the rule, or a direct answer, and the registers then
+abbrev pub tried : Bool → UnwindRegsX86_64 → Words → Attempt → Tried
+tried first registers words (Rules rule) = Ok (ExecRule rule, registers)
+tried first registers words (Scales rule parts) = Ok (ExecRule rule, registers)
+tried first registers words (Evaluates section parts) = tried_directly (direct_answer first registers words section parts)
+tried first registers words (Fails failure) = Err failure
+
+-- an answer with the registers that are left
+abbrev pub with_registers : UnwindRegsX86_64 → Result UnwindResult UnwinderError → Tried
+with_registers registers (Ok answer) = Ok (answer, registers)
+with_registers registers (Err failure) = Err failure
+
+-- a failure of DWARF data as one of the unwinder's
+abbrev pub of_dwarf : {A : Type 0} → Result A DwarfUnwinderError → Result A UnwinderError
+of_dwarf (Ok answer) = Ok answer
+of_dwarf (Err failure) = Err (Dwarf failure)
+
+-- only a direct answer changes the registers
+abbrev pub KeepsForRule : UnwindResult → UnwindRegsX86_64 → UnwindRegsX86_64 → Type 0
+KeepsForRule (ExecRule rule) before after = after ≡ before
+KeepsForRule (Uncacheable return_address) before after = Unit {0}
+
+-- the same, where a failure changes nothing either
+abbrev pub KeepsUnlessDirect : {E : Type 0} → Result UnwindResult E → UnwindRegsX86_64 → UnwindRegsX86_64 → Type 0
+KeepsUnlessDirect (Ok answer) before after = KeepsForRule answer before after
+KeepsUnlessDirect (Err failure) before after = after ≡ before
+
+-- what an answer comes to: a rule by its meaning, a direct answer with the registers that it left
+abbrev pub outcome_of_result : UnwindResult → Bool → UnwindRegsX86_64 → Words → Outcome (Caller UnwindRegsX86_64)
+outcome_of_result (ExecRule rule) first registers words = rule_meaning rule first registers words
+outcome_of_result (Uncacheable return_address) first registers words = Gives (record { return_address = return_address; registers = registers })

@@ -1,0 +1,231 @@
+//! The index of a section `.eh_frame`: which entry is for an address.
+
+ghost use Rattle.std.specs.Prelude.{◌≡◌, ◌≢◌, ◌<◌, ◌≤◌, ◌^◌, ℕ, suc, None, Some, option_map, map, length, codes, Result, Ok, Err, IfOk, IfErr};
+ghost use Rattle.std.specs.List.Sorted.{IsNonDecreasingBy, IsPartitionPoint};
+ghost use Rattle.dwarf_call_frames.specs.Entries.{Listing, entries_of};
+ghost use Rattle.dwarf_call_frames.specs.EntryViews.{section_bytes, fde_view};
+ghost use Rattle.framehop.specs.EntryFor.{indexed_entry};
+ghost use Rattle.framehop.specs.CfiIndex.{unfit, kept_of, index_error};
+ghost use Rattle.framehop.specs.declared.cfi_index.DwarfCfiIndexError.TheVariants.{OutOfMemory};
+
+use dwarf_call_frames::{CieOrFde, EhFrame, FrameDescriptionEntry};
+use dwarf_read_core::Error;
+use std::alloc::{AllocError, Global};
+use std::{error, fmt};
+
+/// Why a section has no index. Its text is the variant's name.
+#[derive(Debug, Clone, Copy, PartialEq, Eq)]
+pub enum DwarfCfiIndexError {
+    /// An entry doesn't parse.
+    Gimli(Error),
+    /// An FDE's code starts below the base.
+    CouldNotSubtractBaseAddress,
+    /// An FDE's code starts 2^32 bytes or more above the base.
+    RelativeAddressTooBig,
+    /// An FDE stands 2^32 bytes or more from the section's start.
+    FdeOffsetTooBig,
+    /// Memory was refused.
+    OutOfMemory,
+}
+
+impl fmt::Display for DwarfCfiIndexError {
+    ghost use Rattle.framehop.specs.declared.cfi_index.DwarfCfiIndexError.TheVariants as error;
+
+    ghost output = { elim [
+      | error.Gimli _ ↦ Some (codes "Gimli")
+      | error.CouldNotSubtractBaseAddress ↦ Some (codes "CouldNotSubtractBaseAddress")
+      | error.RelativeAddressTooBig ↦ Some (codes "RelativeAddressTooBig")
+      | error.FdeOffsetTooBig ↦ Some (codes "FdeOffsetTooBig")
+      | error.OutOfMemory ↦ Some (codes "OutOfMemory")
+    ] };
+
+    fn fmt<W: fmt::Write>(&self, f: &mut fmt::Formatter<W>) -> fmt::Result {
+        f.write_str(match self {
+            DwarfCfiIndexError::Gimli(_) => "Gimli",
+            DwarfCfiIndexError::CouldNotSubtractBaseAddress => "CouldNotSubtractBaseAddress",
+            DwarfCfiIndexError::RelativeAddressTooBig => "RelativeAddressTooBig",
+            DwarfCfiIndexError::FdeOffsetTooBig => "FdeOffsetTooBig",
+            DwarfCfiIndexError::OutOfMemory => "OutOfMemory",
+        })
+    }
+}
+
+impl error::Error for DwarfCfiIndexError {}
+
+impl From<Error> for DwarfCfiIndexError {
+    ghost use Rattle.framehop.specs.declared.cfi_index.DwarfCfiIndexError.TheVariants.{Gimli};
+
+    ghost from_gives = { λ error result. result ≡ Gimli error };
+
+    fn from(error: Error) -> Self {
+        DwarfCfiIndexError::Gimli(error)
+    }
+}
+
+impl From<AllocError> for DwarfCfiIndexError {
+    ghost from_gives = { λ error result. result ≡ OutOfMemory };
+
+    fn from(_error: AllocError) -> Self {
+        DwarfCfiIndexError::OutOfMemory
+    }
+}
+
+/// What the index keeps of an FDE.
+#[derive(Debug, Clone, Copy, PartialEq, Eq)]
+struct IndexedFde {
+    /// The first address of the code, relative to the base.
+    start: u32,
+    /// Where the FDE stands, in bytes from the section's start.
+    offset: u32,
+}
+
+/// What the index keeps of an FDE, if it can have it.
+fn indexed(fde: &FrameDescriptionEntry, base_svma: u64) -> Result<IndexedFde, DwarfCfiIndexError>
+    ensures kept { IfOk result (λ kept. kept ≡ kept_of base_svma (fde_view fde.now)) }
+    ensures fits { IfOk result (λ kept. unfit base_svma (fde_view fde.now) ≡ None) }
+    ensures unfit { IfErr result (λ error. unfit base_svma (fde_view fde.now) ≡ Some error) }
+{
+    let start = fde
+        .initial_address()
+        .checked_sub(base_svma)
+        .ok_or(DwarfCfiIndexError::CouldNotSubtractBaseAddress)?;
+    let Ok(start) = u32::try_from(start) else {
+        return Err(DwarfCfiIndexError::RelativeAddressTooBig);
+    };
+    let Ok(offset) = u32::try_from(fde.offset()) else {
+        return Err(DwarfCfiIndexError::FdeOffsetTooBig);
+    };
+    Ok(IndexedFde { start, offset })
+}
+
+/// What the index keeps of a section's FDEs, in their order.
+fn indexed_fdes(
+    alloc: Global,
+    section: &EhFrame,
+    base_svma: u64,
+) -> Result<Vec<IndexedFde>, DwarfCfiIndexError>
+    ensures kept { IfOk result (λ kept.
+        kept.items ≡ map (kept_of base_svma) (entries_of (section_bytes section.now)).fdes) }
+    ensures index { IfOk result (λ kept. index_error base_svma (entries_of (section_bytes section.now)) ≡ None) }
+    ensures error { IfErr result (λ error. error ≢ OutOfMemory
+        → index_error base_svma (entries_of (section_bytes section.now)) ≡ Some error) }
+{
+    let mut fdes = Vec::new(alloc);
+    let mut entries = section.entries();
+    'entries: loop {
+        let Some(entry) = entries.next()? else {
+            return Ok(fdes);
+        };
+        let CieOrFde::Fde(partial) = entry else {
+            continue;
+        };
+        let fde = partial.parse(section)?;
+        let kept = indexed(&fde, base_svma)?;
+        if fdes.push(kept).is_err() {
+            return Err(DwarfCfiIndexError::OutOfMemory);
+        }
+    }
+}
+
+/// How many FDEs of an index start at or below an address, and how many starts were read to find it.
+#[derive(Clone, Copy)]
+struct Halved {
+    at_or_below: usize,
+    reads: u32,
+}
+
+/// Halves an index's FDEs until it is known how many start at or below an address.
+fn halve(fdes: &[IndexedFde], address: u32) -> Halved
+    requires ordered { IsNonDecreasingBy (λ fde. fde.start) fdes.now }
+    ensures bound { result.at_or_below ≤ length fdes.now }
+    ensures partition { IsPartitionPoint (λ fde. fde.start ≤ address) (λ fde. address < fde.start) fdes.now result.at_or_below }
+    ensures few { (k : ℕ) → length fdes.now < 2 ^ k → result.reads ≤ k }
+    ensures enough { (k : ℕ) → 2 ^ k ≤ suc (length fdes.now) → k ≤ result.reads }
+{
+    let mut low = 0;
+    let mut high = fdes.len();
+    let mut reads: u32 = 0;
+    'halves: while low < high {
+        let middle = low + (high - low) / 2;
+        reads += 1;
+        if fdes[middle].start <= address {
+            low = middle + 1;
+        } else {
+            high = middle;
+        }
+    }
+    Halved {
+        at_or_below: low,
+        reads,
+    }
+}
+
+/// What a look-up in an index found.
+#[derive(Debug, Clone, Copy, PartialEq, Eq)]
+pub struct LookUp {
+    /// Where the FDE stands, in bytes from the section's start.
+    pub fde_offset: Option<u32>,
+    /// How many of the index's starts were read.
+    pub starts_read: u32,
+}
+
+/// An index of a section's FDEs, sorted by the starts of their code. Of equal starts the first in
+/// the section is the last here, so that it is the last that starts at or below an address.
+#[derive(Drop)]
+pub struct DwarfCfiIndex {
+    fdes: Vec<IndexedFde>,
+    ghost ordered: { IsNonDecreasingBy (λ fde. fde.start) fdes.items },
+}
+
+impl DwarfCfiIndex {
+    ghost use Rattle.framehop.specs.CfiIndexView.{IsIndexOf};
+
+    /// The index of a section, whose starts count from `base_svma`. Fails at the first entry that
+    /// doesn't parse or that an index can't have, and where memory is refused.
+    pub fn try_new_eh_frame(
+        alloc: Global,
+        section: &EhFrame,
+        base_svma: u64,
+    ) -> Result<Self, DwarfCfiIndexError>
+        ensures index { IfOk result (λ index. IsIndexOf index base_svma (entries_of (section_bytes section.now))) }
+        ensures none_against { IfOk result (λ index. index_error base_svma (entries_of (section_bytes section.now)) ≡ None) }
+        ensures error { IfErr result (λ error. error ≢ OutOfMemory
+            → index_error base_svma (entries_of (section_bytes section.now)) ≡ Some error) }
+    {
+        let mut fdes = indexed_fdes(alloc, section, base_svma)?;
+        fdes.reverse();
+        fdes.sort_by_key(|fde| fde.start)?;
+        Ok(DwarfCfiIndex { fdes })
+    }
+
+    /// Where the FDE for an address relative to the base stands, in bytes from the section's start:
+    /// of those with the greatest start at or below it the first in the section. `None` where each
+    /// starts above. Reads at most ceil(log2(n)) + 1 of the n starts.
+    pub fn fde_offset_for_relative_address(&self, rel_lookup_address: u32) -> Option<u32>
+        ensures { (base_svma : ℕ) (listing : Listing) → IsIndexOf self.now base_svma listing
+            → result ≡ option_map (λ fde. fde.offset) (indexed_entry base_svma rel_lookup_address listing) }
+    {
+        self.look_up(rel_lookup_address).fde_offset
+    }
+
+    /// As `fde_offset_for_relative_address`, with the number of starts that were read: of n at most
+    /// ceil(log2(n)) + 1, and at least floor(log2(n + 1)).
+    pub fn look_up(&self, rel_lookup_address: u32) -> LookUp
+        ensures found { (base_svma : ℕ) (listing : Listing) → IsIndexOf self.now base_svma listing
+            → result.fde_offset ≡ option_map (λ fde. fde.offset) (indexed_entry base_svma rel_lookup_address listing) }
+        ensures few { (base_svma : ℕ) (listing : Listing) → IsIndexOf self.now base_svma listing
+            → (k : ℕ) → length listing.fdes ≤ 2 ^ k → result.starts_read ≤ suc k }
+        ensures counted { (base_svma : ℕ) (listing : Listing) → IsIndexOf self.now base_svma listing
+            → (k : ℕ) → 2 ^ k ≤ suc (length listing.fdes) → k ≤ result.starts_read }
+    {
+        let halved = halve(&self.fdes, rel_lookup_address);
+        let fde_offset = match halved.at_or_below {
+            0 => None,
+            count => Some(self.fdes[count - 1].offset),
+        };
+        LookUp {
+            fde_offset,
+            starts_read: halved.reads,
+        }
+    }
+}

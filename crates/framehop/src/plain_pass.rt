@@ -1,0 +1,166 @@
+//! Look-ups of an index, compared with a pass over the whole section.
+use crate::cfi_index::{DwarfCfiIndex, DwarfCfiIndexError};
+use dwarf_call_frames::{CieOrFde, EhFrame, FrameDescriptionEntry};
+use dwarf_read_core::Error;
+use std::alloc::Global;
+use std::test::Fail;
+
+const BASE: u64 = 0x40_0000;
+
+/// A CIE without instructions.
+const CIE: [u8; 20] = [
+    0x10, 0, 0, 0, 0, 0, 0, 0, 1, 0, 1, 0x78, 0x10, 0, 0, 0, 0, 0, 0, 0,
+];
+
+/// A section with a CIE and an FDE for each of the starts, in their order.
+fn section_of(alloc: Global, starts: &[u64]) -> Result<Vec<u8>, Fail> {
+    let mut bytes = CIE.to_vec(alloc)?;
+    for start in starts {
+        let id = u32::try_from(bytes.len()).unwrap_or(0).wrapping_add(4);
+        bytes.extend_from_slice(&20u32.to_le_bytes())?;
+        bytes.extend_from_slice(&id.to_le_bytes())?;
+        bytes.extend_from_slice(&start.to_le_bytes())?;
+        bytes.extend_from_slice(&16u64.to_le_bytes())?;
+    }
+    Ok(bytes)
+}
+
+/// Starts in no order, of which about half stand twice.
+fn scrambled(alloc: Global, count: u64) -> Result<Vec<u64>, Fail> {
+    let mut starts = Vec::new(alloc);
+    for i in 0..count {
+        let place = i.wrapping_mul(7919) % (count / 2 + 1);
+        starts.push(BASE.wrapping_add(place.wrapping_mul(16)))?;
+    }
+    Ok(starts)
+}
+
+/// The later start of two entries at or below an address, or the earlier entry where they are equal.
+fn nearer<'a>(
+    nearest: Option<FrameDescriptionEntry<'a>>,
+    fde: FrameDescriptionEntry<'a>,
+    address: u64,
+) -> Option<FrameDescriptionEntry<'a>> {
+    if fde.initial_address() > address {
+        return nearest;
+    }
+    match nearest {
+        Some(found) if found.initial_address() >= fde.initial_address() => Some(found),
+        _ => Some(fde),
+    }
+}
+
+/// The FDEs of a section, in their order.
+fn fdes_of<'a>(
+    alloc: Global,
+    section: &EhFrame<'a>,
+) -> Result<Vec<FrameDescriptionEntry<'a>>, Fail> {
+    let mut fdes = Vec::new(alloc);
+    let mut entries = section.entries();
+    for _ in 0..u64::MAX {
+        match entries.next()? {
+            Some(CieOrFde::Fde(partial)) => fdes.push(partial.parse(section)?)?,
+            Some(CieOrFde::Cie(_)) => {}
+            None => break,
+        }
+    }
+    Ok(fdes)
+}
+
+/// Where the entry for an address stands, by one pass over the section's FDEs.
+fn plain_pass(fdes: &[FrameDescriptionEntry], address: u64) -> Option<u64> {
+    let mut nearest = None;
+    for fde in fdes {
+        nearest = nearer(nearest, *fde, address);
+    }
+    nearest.map(|fde| fde.offset())
+}
+
+/// The look-ups that differ from the plain pass, at and beside each start of a section of so many FDEs.
+fn differing(rt: &HostRuntime, count: u64) -> Result<u64, Fail> {
+    let starts = scrambled(rt.alloc(), count)?;
+    let bytes = section_of(rt.alloc(), &starts)?;
+    let section = EhFrame::new(&bytes);
+    let index = DwarfCfiIndex::try_new_eh_frame(rt.alloc(), &section, BASE)?;
+    let fdes = fdes_of(rt.alloc(), &section)?;
+    let mut differing: u64 = 0;
+    for start in &starts {
+        let first = u32::try_from(start.wrapping_sub(BASE))
+            .unwrap_or(0)
+            .saturating_sub(1);
+        for relative in first..first.saturating_add(3) {
+            let found = index.fde_offset_for_relative_address(relative);
+            let wanted = plain_pass(&fdes, BASE.wrapping_add(u64::from(relative)));
+            if found.map(|offset| u64::from(offset)) != wanted {
+                differing = differing.wrapping_add(1);
+            }
+        }
+    }
+    Ok(differing)
+}
+
+#[test]
+fn look_ups_are_those_of_a_plain_pass(rt: HostRuntime) -> Result<(), Fail> {
+    for count in [1, 2, 3, 4, 5, 1_000] {
+        assert_eq!(rt; differing(&rt, count)?, 0, "of {count}");
+    }
+    Ok(())
+}
+
+#[test]
+fn the_first_of_equal_starts_is_found(rt: HostRuntime) -> Result<(), Fail> {
+    let bytes = section_of(rt.alloc(), &[BASE + 32, BASE + 16, BASE + 16])?;
+    let index = DwarfCfiIndex::try_new_eh_frame(rt.alloc(), &EhFrame::new(&bytes), BASE)?;
+    assert_eq!(rt; index.fde_offset_for_relative_address(15), None);
+    assert_eq!(rt; index.fde_offset_for_relative_address(16), Some(44));
+    assert_eq!(rt; index.fde_offset_for_relative_address(32), Some(20));
+    Ok(())
+}
+
+/// The most starts that a look-up reads among so many, at an address below them all and at each.
+fn most_reads(alloc: Global, count: u32) -> Result<u32, Fail> {
+    let starts = scrambled(alloc, u64::from(count))?;
+    let bytes = section_of(alloc, &starts)?;
+    let index = DwarfCfiIndex::try_new_eh_frame(alloc, &EhFrame::new(&bytes), BASE - 16)?;
+    let mut most = 0;
+    for place in 0..count {
+        let found = index.look_up(place.wrapping_mul(16));
+        most = found.starts_read.max(most);
+    }
+    Ok(most)
+}
+
+/// The logarithm of the number of starts by 2, rounded down, and one more.
+#[test]
+fn a_look_up_reads_few_starts(rt: HostRuntime) -> Result<(), Fail> {
+    for (count, most) in [
+        (1, 1),
+        (2, 2),
+        (3, 2),
+        (4, 3),
+        (5, 3),
+        (1_000, 10),
+        (4_096, 13),
+    ] {
+        assert_eq!(rt; most_reads(rt.alloc(), count)?, most, "of {count} starts");
+    }
+    Ok(())
+}
+
+#[test]
+fn an_error_is_printed_by_its_name(rt: HostRuntime) -> Result<(), Fail> {
+    for (error, name) in [
+        (
+            DwarfCfiIndexError::Gimli(Error::NoUnwindInfoForAddress),
+            "Gimli",
+        ),
+        (
+            DwarfCfiIndexError::CouldNotSubtractBaseAddress,
+            "CouldNotSubtractBaseAddress",
+        ),
+        (DwarfCfiIndexError::OutOfMemory, "OutOfMemory"),
+    ] {
+        assert_eq!(rt; error.to_string(rt.alloc())?.as_str(), name);
+    }
+    Ok(())
+}

@@ -1,0 +1,224 @@
+//! The modules of a process, and the one that an address is in.
+
+ghost use Rattle.std.specs.Prelude.{◌≡◌, ◌-◌, [], option_map, IfSome, IfNone, IfOk, IfErr, OnOk, OnErr, MatchOption};
+ghost use Rattle.std.specs.List.Sorted.{IsNonDecreasingBy};
+ghost use Rattle.framehop.specs.CfiIndexView.{IsIndexed, IsUnindexed};
+
+use crate::cfi_index::{DwarfCfiIndex, DwarfCfiIndexError};
+use crate::dwarf::{indexed_fde, lookup_address, unwind_frame_with_fde};
+use crate::error::UnwinderError;
+use crate::unwind_result::UnwindResult;
+use dwarf_call_frames::{EhFrame, UnwindContext};
+use framehop_rules::x86_64::UnwindRegsX86_64;
+use std::alloc::{AllocError, AllocFailed, Global};
+use std::ops::Range;
+
+/// A module that is loaded in the profiled process, as an executable or a shared library.
+///
+/// An "AVMA" is an actual virtual memory address: one in the memory of the process. An "SVMA" is a
+/// stated virtual memory address: one as the module's sections have it. A relative address is the
+/// distance from the module's base, which is the same in both.
+#[derive(Drop)]
+pub struct Module {
+    avma_range: Range<u64>,
+    base_avma: u64,
+    base_svma: u64,
+    eh_frame: Option<Vec<u8>>,
+    index: Option<DwarfCfiIndex>,
+    // the index is that of the section
+    ghost indexed: { IsIndexed index base_svma (option_map (λ section. section.items) eh_frame) },
+    // there is none only where there is no section, or one without an index
+    ghost unindexed: { IsUnindexed index base_svma (option_map (λ section. section.items) eh_frame) },
+}
+
+/// The index of a module's section, if it has a section, and that an index.
+fn index_of(
+    alloc: Global,
+    eh_frame: &Option<Vec<u8>>,
+    base_svma: u64,
+) -> Result<Option<DwarfCfiIndex>, AllocError>
+    ensures indexed { IfOk result (λ index. IsIndexed index base_svma (option_map (λ section. section.items) eh_frame.now)) }
+    ensures unindexed { IfOk result (λ index. IsUnindexed index base_svma (option_map (λ section. section.items) eh_frame.now)) }
+{
+    let Some(section) = eh_frame else {
+        return Ok(None);
+    };
+    let section = EhFrame::new(section.as_slice());
+    match DwarfCfiIndex::try_new_eh_frame(alloc, &section, base_svma) {
+        Ok(index) => Ok(Some(index)),
+        Err(error) => match error {
+            DwarfCfiIndexError::OutOfMemory => Err(AllocError),
+            _ => Ok(None),
+        },
+    }
+}
+
+impl Module {
+    ghost use Rattle.framehop.specs.ModuleViews.{module_view};
+    ghost use Rattle.framehop.specs.ModuleFound.{is_inside, if_inside};
+    ghost use Rattle.framehop.specs.Attempt.{attempt};
+    ghost use Rattle.framehop_rules.specs.Callback.{Words, AnswersBy};
+    ghost use Rattle.framehop.specs.UnwindResults.{tried, with_registers, KeepsUnlessDirect};
+
+    /// A module at a range of AVMAs, whose base is at `base_avma` and is called `base_svma` by its
+    /// sections, with the bytes of its section `.eh_frame`, if it has one. A section without an
+    /// index says nothing of any address. Fails where memory for the index is refused.
+    pub fn new(
+        alloc: Global,
+        avma_range: Range<u64>,
+        base_avma: u64,
+        base_svma: u64,
+        eh_frame: Option<Vec<u8>>,
+    ) -> Result<Self, AllocError>
+        ensures start { IfOk result (λ module_. (module_view module_).start ≡ avma_range.start) }
+        ensures end { IfOk result (λ module_. (module_view module_).end ≡ avma_range.end) }
+        ensures base { IfOk result (λ module_. (module_view module_).base ≡ base_avma) }
+        ensures base_svma { IfOk result (λ module_. (module_view module_).base_svma ≡ base_svma) }
+        ensures eh_frame { IfOk result (λ module_.
+            (module_view module_).eh_frame ≡ option_map (λ section. section.items) eh_frame) }
+    {
+        let index = index_of(alloc, &eh_frame, base_svma)?;
+        Ok(Module {
+            avma_range,
+            base_avma,
+            base_svma,
+            eh_frame,
+            index,
+        })
+    }
+
+    /// The AVMAs that the module covers.
+    pub fn avma_range(&self) -> Range<u64>
+        ensures start { result.start ≡ (module_view self.now).start }
+        ensures end { result.end ≡ (module_view self.now).end }
+    {
+        self.avma_range.start..self.avma_range.end
+    }
+
+    /// The AVMA that relative addresses count from.
+    pub fn base_avma(&self) -> u64
+        ensures { result ≡ (module_view self.now).base }
+    {
+        self.base_avma
+    }
+
+    /// Whether an address is in the module. At its very start its end isn't asked, so that a
+    /// module of no bytes contains its start.
+    fn contains(&self, address: u64) -> bool
+        ensures { result ≡ is_inside address (module_view self.now) }
+    {
+        address == self.avma_range.start || address < self.avma_range.end
+    }
+
+    /// The distance of an address from the module's base, where the module contains the address.
+    fn relative_address(&self, address: u64) -> Option<u32>
+        ensures none { IfNone result (if_inside address (module_view self.now) ≡ None) }
+        ensures inside { IfSome result (λ _. if_inside address (module_view self.now) ≡ Some (module_view self.now)) }
+        ensures relative { IfSome result (λ relative. relative ≡ address - (module_view self.now).base) }
+    {
+        if !self.contains(address) {
+            return None;
+        }
+        u32::try_from(address.checked_sub(self.base_avma)?).ok()
+    }
+
+    /// What the module says of a frame at a relative address: a rule, or the return address where the
+    /// registers are the caller's already; or why it says nothing, with the registers as they were.
+    pub(crate) fn unwind_frame<F: FnMut(u64) -> Result<u64, ()>>(
+        &self,
+        relative_address: u32,
+        is_first_frame: bool,
+        regs: &mut UnwindRegsX86_64,
+        context: &mut UnwindContext,
+        read_stack: &mut F,
+    ) -> Result<UnwindResult, UnwinderError>
+        requires { F.IsAlwaysCallable read_stack.old }
+        ensures callable { F.IsAlwaysCallable read_stack.new }
+        ensures tried { (words : Words) → AnswersBy F.step read_stack.old words → with_registers regs.new result
+            ≡ tried is_first_frame regs.old words (attempt (module_view self.now) relative_address) }
+        ensures still { (words : Words) → AnswersBy F.step read_stack.old words → AnswersBy F.step read_stack.new words }
+        ensures keeps { KeepsUnlessDirect result regs.old regs.new }
+    {
+        let Some(section) = &self.eh_frame else {
+            return Err(UnwinderError::NoModuleUnwindData);
+        };
+        let Some(index) = &self.index else {
+            return Err(UnwinderError::NoModuleUnwindData);
+        };
+        let section = EhFrame::new(section.as_slice());
+        let Some(fde) = indexed_fde(&section, index, relative_address) else {
+            return Err(UnwinderError::DwarfCfiIndexCouldNotFindAddress);
+        };
+        let address = lookup_address(self.base_svma, relative_address)?;
+        match unwind_frame_with_fde(
+            &section,
+            &fde,
+            address,
+            is_first_frame,
+            regs,
+            context,
+            read_stack,
+        ) {
+            Ok(result) => Ok(result),
+            Err(failure) => Err(UnwinderError::Dwarf(failure)),
+        }
+    }
+}
+
+/// The modules of a process.
+#[derive(Drop)]
+pub(crate) struct UnwinderInternal {
+    modules: Vec<Module>,
+    ghost ordered: { IsNonDecreasingBy (λ module_. module_.avma_range.start) modules.items },
+}
+
+impl UnwinderInternal {
+    ghost use Rattle.framehop.specs.ModuleViews.{module_view, loaded_in};
+    ghost use Rattle.framehop.specs.ModuleFound.{nearest, module_found, inserted};
+
+    /// An unwinder without a module.
+    pub fn new(alloc: Global) -> Self
+        ensures { loaded_in result ≡ [] }
+    {
+        UnwinderInternal {
+            modules: Vec::new(alloc),
+        }
+    }
+
+    /// Puts a module before those of an equal or a greater start. Where memory for it is refused,
+    /// it comes back and nothing changes.
+    pub fn add_module(&mut self, module: Module) -> Result<(), AllocFailed<Module>>
+        ensures ok { OnOk result (loaded_in self.new ≡ inserted (module_view «module») (loaded_in self.old)) }
+        ensures refused { OnErr result (loaded_in self.new ≡ loaded_in self.old) }
+        ensures returned { IfErr result (λ failed. failed.value ≡ «module») }
+    {
+        let start = module.avma_range.start;
+        let index = self
+            .modules
+            .partition_point(|other| other.avma_range.start < start);
+        self.modules.insert(index, module)
+    }
+
+    /// The last of the modules that start at or below an address.
+    fn nearest_module(&self, address: u64) -> Option<&Module>
+        ensures { MatchOption result (nearest (loaded_in self.now) address ≡ None)
+            (λ module_. nearest (loaded_in self.now) address ≡ Some (module_view module_.now)) }
+    {
+        let index = self
+            .modules
+            .partition_point(|module| module.avma_range.start <= address)
+            .checked_sub(1)?;
+        Some(&self.modules[index])
+    }
+
+    /// The module that an address is in, and the address relative to its base.
+    pub fn find_module_for_address(&self, address: u64) -> Option<(&Module, u32)>
+        ensures none { IfNone result (module_found (loaded_in self.now) address ≡ None) }
+        ensures module_ { IfSome result (λ found. module_found (loaded_in self.now) address ≡ Some (module_view found.0.now)) }
+        ensures relative { IfSome result (λ found. found.1 ≡ address - (module_view found.0.now).base) }
+    {
+        let module = self.nearest_module(address)?;
+        let relative_address = module.relative_address(address)?;
+        Some((module, relative_address))
+    }
+}

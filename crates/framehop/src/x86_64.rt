@@ -1,0 +1,10 @@
+//! The unwinder of x86_64.
+
+mod cache;
+mod dwarf;
+mod unwinder;
+
+pub use cache::CacheX86_64;
+pub(crate) use dwarf::unwind_frame;
+pub use framehop_rules::x86_64::{Reg, UnwindRegsX86_64, UnwindRuleX86_64};
+pub use unwinder::UnwinderX86_64;

@@ -1,0 +1,217 @@
+//! The rows of x86_64: as unwind rules, or evaluated.
+
+ghost use Rattle.std.specs.Prelude.{◌≡◌, option_and_then};
+ghost use Rattle.framehop_rules.specs.Callback.{Words, AnswersBy};
+ghost use Rattle.framehop.specs.Attempt.{by_rule};
+ghost use Rattle.framehop.specs.DirectRow.{direct_return_address, direct_refusal, direct_answer};
+ghost use Rattle.framehop.specs.DirectViews.{caller_shown};
+ghost use Rattle.dwarf_call_frames.specs.EntryViews.{section_bytes};
+ghost use Rattle.framehop.specs.UnwindResults.{tried, with_registers, of_dwarf, KeepsUnlessDirect};
+ghost use Rattle.framehop.specs.Judge.{RulesSayTheirRows};
+ghost use Rattle.framehop.specs.ScaledRow.{eighth_of, as_u16, as_i16, from_sp, from_bp, from_return_address, scaled_rule};
+ghost use Rattle.framehop.specs.RowViews.{parts_shown};
+
+use crate::dwarf::DwarfUnwinderError;
+use crate::evaluation::{eval_cfa_rule, eval_register_rule, read_below};
+use crate::unwind_result::UnwindResult;
+use dwarf_call_frames::{CfaRule, EhFrame, RegisterRule, UnwindTableRow};
+use dwarf_read_core::X86_64;
+use framehop_rules::x86_64::{UnwindRegsX86_64, UnwindRuleX86_64};
+
+/// The eighth of a multiple of 8.
+fn exact_eighth(offset: i64) -> Option<i64>
+    ensures { result ≡ eighth_of offset }
+{
+    if offset % 8 == 0 {
+        Some(offset / 8)
+    } else {
+        None
+    }
+}
+
+/// An offset in bytes as a number of words without a sign.
+fn unsigned_words(offset: i64) -> Option<u16>
+    ensures { result ≡ option_and_then as_u16 (eighth_of offset) }
+{
+    u16::try_from(exact_eighth(offset)?).ok()
+}
+
+/// An offset in bytes as a number of words with a sign.
+fn signed_words(offset: i64) -> Option<i16>
+    ensures { result ≡ option_and_then as_i16 (eighth_of offset) }
+{
+    i16::try_from(exact_eighth(offset)?).ok()
+}
+
+/// The rule for a CFA that is RSP plus an offset.
+fn rule_from_sp(offset: i64, bp: Option<RegisterRule>) -> Option<UnwindRuleX86_64>
+    ensures { result ≡ from_sp offset bp }
+{
+    let sp_offset_by_8 = unsigned_words(offset)?;
+    let Some(RegisterRule::Offset(stored)) = bp else {
+        return Some(UnwindRuleX86_64::OffsetSp { sp_offset_by_8 });
+    };
+    let bp_storage_offset_from_sp_by_8 = signed_words(offset.checked_add(stored)?)?;
+    Some(UnwindRuleX86_64::OffsetSpAndRestoreBp {
+        sp_offset_by_8,
+        bp_storage_offset_from_sp_by_8,
+    })
+}
+
+/// The rule for a CFA that is RBP plus an offset.
+fn rule_from_bp(offset: i64, bp: Option<RegisterRule>) -> Option<UnwindRuleX86_64>
+    ensures { result ≡ from_bp offset bp }
+{
+    match bp {
+        Some(RegisterRule::Offset(-16)) if offset == 16 => Some(UnwindRuleX86_64::UseFramePointer),
+        _ => None,
+    }
+}
+
+/// The rule that says a row exactly, from the row's CFA and its columns of RBP and of the return
+/// address, if one does. Offsets of a rule are in words, and an offset that is no multiple of 8 is
+/// never rounded.
+fn translate_into_unwind_rule(
+    cfa: CfaRule,
+    bp: Option<RegisterRule>,
+    ra: Option<RegisterRule>,
+) -> Option<UnwindRuleX86_64>
+    ensures { result ≡ from_return_address cfa bp ra }
+{
+    match ra {
+        None => return Some(UnwindRuleX86_64::EndOfStack),
+        Some(RegisterRule::Offset(-8)) => {}
+        Some(RegisterRule::Offset(_)) => return None,
+    }
+    match cfa {
+        CfaRule::RegisterAndOffset {
+            register: X86_64::RSP,
+            offset,
+        } => rule_from_sp(offset, bp),
+        CfaRule::RegisterAndOffset {
+            register: X86_64::RBP,
+            offset,
+        } => rule_from_bp(offset, bp),
+        CfaRule::RegisterAndOffset { .. } | CfaRule::Expression(_) => None,
+    }
+}
+
+/// The rule that says a row exactly, if one does.
+fn rule_for_row(row: &UnwindTableRow) -> Option<UnwindRuleX86_64>
+    ensures { result ≡ scaled_rule (parts_shown row.now) }
+{
+    translate_into_unwind_rule(
+        *row.cfa(),
+        row.register(X86_64::RBP),
+        row.register(X86_64::RA),
+    )
+}
+
+/// The caller of a frame, as a row gives it.
+#[derive(Clone, Copy)]
+struct DirectCaller {
+    return_address: u64,
+    sp: u64,
+    bp: u64,
+}
+
+/// The return address at a CFA: what its column gives, or else the word below the CFA.
+fn eval_return_address<F: FnMut(u64) -> Result<u64, ()>>(
+    rule: Option<RegisterRule>,
+    cfa: u64,
+    read_stack: &mut F,
+) -> Option<u64>
+    requires { F.IsAlwaysCallable read_stack.old }
+    ensures callable { F.IsAlwaysCallable read_stack.new }
+    ensures value { (words : Words) → AnswersBy F.step read_stack.old words → result ≡ direct_return_address words cfa rule }
+    ensures still { (words : Words) → AnswersBy F.step read_stack.old words → AnswersBy F.step read_stack.new words }
+{
+    match eval_register_rule(rule, cfa, read_stack) {
+        Some(return_address) => Some(return_address),
+        None => read_below(cfa, read_stack),
+    }
+}
+
+/// Why a step to this CFA and return address is refused, if it is.
+fn refusal(
+    cfa: u64,
+    return_address: u64,
+    is_first_frame: bool,
+    regs: &UnwindRegsX86_64,
+) -> Option<DwarfUnwinderError>
+    ensures { result ≡ direct_refusal is_first_frame regs.now cfa return_address }
+{
+    if cfa == regs.sp() && return_address == regs.ip() {
+        return Some(DwarfUnwinderError::DidNotAdvance);
+    }
+    if !is_first_frame && cfa < regs.sp() {
+        return Some(DwarfUnwinderError::StackPointerMovedBackwards);
+    }
+    None
+}
+
+/// The caller that a row gives. A column of RBP without a value keeps RBP.
+fn eval_row<F: FnMut(u64) -> Result<u64, ()>>(
+    section: &EhFrame,
+    row: &UnwindTableRow,
+    is_first_frame: bool,
+    regs: &UnwindRegsX86_64,
+    read_stack: &mut F,
+) -> Result<DirectCaller, DwarfUnwinderError>
+    requires { F.IsAlwaysCallable read_stack.old }
+    ensures callable { F.IsAlwaysCallable read_stack.new }
+    ensures caller { (words : Words) → AnswersBy F.step read_stack.old words → caller_shown regs.now result
+        ≡ direct_answer is_first_frame regs.now words (section_bytes section.now) (parts_shown row.now) }
+    ensures still { (words : Words) → AnswersBy F.step read_stack.old words → AnswersBy F.step read_stack.new words }
+{
+    let cfa = match eval_cfa_rule(section, *row.cfa(), regs) {
+        Some(cfa) => cfa,
+        None => return Err(DwarfUnwinderError::CouldNotRecoverCfa),
+    };
+    let stored_bp = eval_register_rule(row.register(X86_64::RBP), cfa, read_stack);
+    let return_address = match eval_return_address(row.register(X86_64::RA), cfa, read_stack) {
+        Some(return_address) => return_address,
+        None => return Err(DwarfUnwinderError::CouldNotRecoverReturnAddress),
+    };
+    match refusal(cfa, return_address, is_first_frame, regs) {
+        Some(refusal) => Err(refusal),
+        None => Ok(DirectCaller {
+            return_address,
+            sp: cfa,
+            bp: stored_bp.unwrap_or(regs.bp()),
+        }),
+    }
+}
+
+/// What a row of a section says of a frame: the rule that says the row exactly, or else the caller
+/// that the row gives by itself, whose registers it leaves then. An `Err` leaves them as they were.
+pub(crate) fn unwind_frame<F: FnMut(u64) -> Result<u64, ()>>(
+    section: &EhFrame,
+    row: &UnwindTableRow,
+    is_first_frame: bool,
+    regs: &mut UnwindRegsX86_64,
+    read_stack: &mut F,
+) -> Result<UnwindResult, DwarfUnwinderError>
+    requires { F.IsAlwaysCallable read_stack.old }
+    ensures callable { F.IsAlwaysCallable read_stack.new }
+    ensures tried { (words : Words) → AnswersBy F.step read_stack.old words → with_registers regs.new (of_dwarf result)
+        ≡ tried is_first_frame regs.old words (by_rule (section_bytes section.now) (parts_shown row.now) (scaled_rule (parts_shown row.now))) }
+    ensures still { (words : Words) → AnswersBy F.step read_stack.old words → AnswersBy F.step read_stack.new words }
+    ensures keeps { KeepsUnlessDirect result regs.old regs.new }
+{
+    if let Some(rule) = rule_for_row(row) {
+        return Ok(UnwindResult::ExecRule(rule));
+    }
+    let caller = eval_row(section, row, is_first_frame, regs, read_stack)?;
+    regs.set_ip(caller.return_address);
+    regs.set_sp(caller.sp);
+    regs.set_bp(caller.bp);
+    Ok(UnwindResult::Uncacheable(caller.return_address))
+}
+
+/// Where a rule says a row exactly, the rule's answer has the row's numbers, for all registers and
+/// all stacks: RIP, RSP and RBP of the caller are those that the row's CFA and columns give. So a
+/// row that is translated needs no evaluation of its own.
+fn rule_answers_as_its_row()
+    ensures { RulesSayTheirRows }
+{}

@@ -1,5 +1,0 @@
-use Rattle.unwind_commands.proofs.RowsOfRules.{law}
-use Rattle.unwind_commands.proofs.framehop.x86_64.dwarf.rule_answers_as_its_row.Goals as goal
-
-pub returns : goal.returns
-returns c = law

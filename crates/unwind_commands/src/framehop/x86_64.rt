@@ -1,9 +1,0 @@
-//! The unwinder of x86_64.
-
-mod cache;
-mod dwarf;
-mod unwinder;
-
-pub use cache::CacheX86_64;
-pub(crate) use dwarf::unwind_frame;
-pub use unwinder::UnwinderX86_64;

@@ -1,3 +1,0 @@
-//! What no contract of the private modules says.
-mod entries;
-mod rows;
