@@ -16,7 +16,7 @@ use Rattle.dwarf_call_frames.specs.declared.rows.RegisterRule.{RegisterRule}
 use Rattle.dwarf_call_frames.specs.declared.rows.RegisterRule.TheVariants as rule
 use Rattle.dwarf_call_frames.specs.declared.rows.RegisterRuleMap.{RegisterRuleMap}
 use Rattle.dwarf_call_frames.specs.declared.rows.UnwindTableRow.{UnwindTableRow}
-use Rattle.dwarf_call_frames.specs.CfaRules.{with_register, with_offset}
+use Rattle.dwarf_call_frames.specs.CfaRules.{with_cfa_register, with_cfa_offset}
 use Rattle.dwarf_call_frames.specs.Entries.{Cie}
 use Rattle.dwarf_call_frames.specs.RegisterRules.{rule_in, with_rule}
 use Rattle.dwarf_call_frames.specs.Rows.{refusal_of, changes_cfa, last_of, cfa_of, cfa_from, cfa_expression_of, cfa_expression_by, cfa_register_by, cfa_offset_by, rule_by, rules_written, last_rule, registers_ruled}
@@ -72,11 +72,11 @@ kept_cfa cie front i row h none may =
     ∙ unrefused (registers_ruled (rules_written cie.data_alignment_factor front)) (rw (← h.count) h.room)
 
 -- a part was changed where the CFA counts from a register
-pub part_changed : (o : Option UnwindExpression) (before register : Register) (offset : ℤ) (new : CfaRule) → Ok new ≡ with_register register (cfa_from o before offset) → (o ≡ None) × (new ≡ cfa_from o register offset)
+pub part_changed : (o : Option UnwindExpression) (before register : Register) (offset : ℤ) (new : CfaRule) → Ok new ≡ with_cfa_register register (cfa_from o before offset) → (o ≡ None) × (new ≡ cfa_from o register offset)
 part_changed None before register offset new h = (refl, cc)
 part_changed (Some expression) before register offset new h = cc
 
-pub offset_changed : (o : Option UnwindExpression) (register : Register) (before offset : ℤ) (new : CfaRule) → Ok new ≡ with_offset offset (cfa_from o register before) → (o ≡ None) × (new ≡ cfa_from o register offset)
+pub offset_changed : (o : Option UnwindExpression) (register : Register) (before offset : ℤ) (new : CfaRule) → Ok new ≡ with_cfa_offset offset (cfa_from o register before) → (o ≡ None) × (new ≡ cfa_from o register offset)
 offset_changed None register before offset new h = (refl, cc)
 offset_changed (Some expression) register before offset new h = cc
 

@@ -4,8 +4,8 @@ use Rattle.std.specs.Prelude.{◌==◌, nat_lt}
 use Rattle.std.proofs.Math.Dec.{eqb-suc-zero}
 use Rattle.dwarf_constants.specs.declared.error.Error.{Error}
 use Rattle.dwarf_constants.specs.declared.error.Error.TheVariants.{UnknownReservedLength}
-use Rattle.dwarf_readers.specs.Place.{Stretch, ◌>>=◌, number_at, split_at, given}
-use Rattle.dwarf_call_frames.specs.Entries.{Entry, CieEntry, FdeEntry, Listing, framed_at, entry_within, entry_framed, entry_at, first_entry, listed, fde_of, fdes_from, fdes_within, entries_from}
+use Rattle.dwarf_readers.specs.Place.{Stretch, ◌>>=◌, number_at, split_at, requirement}
+use Rattle.dwarf_call_frames.specs.Entries.{Entry, CieEntry, FdeEntry, Listing, entry_bytes_at, entry_within, entry_in, entry_at, first_entry, listed, fde_of, fdes_from, fdes_within, entries_from}
 use Rattle.dwarf_call_frames.proofs.Lengths.{Leaves, leaves_if, leaves_err, leaves_here, leaves_number, behind_less}
 
 -- what is left behind an entry, if there is one, has at most n bytes
@@ -32,22 +32,22 @@ shortens_if n false x y p q = q
 leaves_split : (n m : ℕ) (s : Stretch) → length s.bytes ≤ n → Leaves n (split_at m s)
 leaves_split n m s le = leaves_if n (nat_lt (length s.bytes) m) (Err _) (Ok _) leaves_err (leaves_here (omega (arith, behind_less m s)))
 
-shortens_frame : (s : Stretch) → Shortens (length s.bytes - 4) (framed_at s)
+shortens_frame : (s : Stretch) → Shortens (length s.bytes - 4) (entry_bytes_at s)
 shortens_frame s =
     let n = length s.bytes - 4 in
     shortens_read n (number_at 4 s) _ (leaves_number 4 s) (λ size le.
     shortens_if n (size.0 == 0) (Ok None) _ (record { shorter = tt })
-    (shortens_then n (given (nat_lt size.0 0xffff_fff0) UnknownReservedLength) _ (λ _.
+    (shortens_then n (requirement (nat_lt size.0 0xffff_fff0) UnknownReservedLength) _ (λ _.
     shortens_read n (split_at size.0 size.1) _ (leaves_split n size.0 size.1 le) (λ parts rest. record { shorter = rest }))))
 
-shortens_framed : (n offset : ℕ) (framed : Result (Option (Stretch × Stretch)) Error) → IsShorter n framed → Shortens n (framed >>= entry_framed offset)
+shortens_framed : (n offset : ℕ) (framed : Result (Option (Stretch × Stretch)) Error) → IsShorter n framed → Shortens n (framed >>= entry_in offset)
 shortens_framed n offset (Ok None) h = record { shorter = tt }
 shortens_framed n offset (Ok (Some parts)) h = shortens_then n (entry_within offset parts.0) _ (λ entry. record { shorter = h })
 shortens_framed n offset (Err e) h = record { shorter = tt }
 
 -- an entry takes four bytes at least
 shortens_entry : (offset : ℕ) (s : Stretch) → IsShorter (length s.bytes - 4) (entry_at offset s)
-shortens_entry offset s = (shortens_framed (length s.bytes - 4) offset (framed_at s) (shortens_frame s).shorter).shorter
+shortens_entry offset s = (shortens_framed (length s.bytes - 4) offset (entry_bytes_at s) (shortens_frame s).shorter).shorter
 
 shorter_more : {A : Type 0} (n m : ℕ) (read : Result (Option (A × Stretch)) Error) → n ≤ m → IsShorter n read → IsShorter m read
 shorter_more n m (Ok None) le h = tt

@@ -6,8 +6,8 @@ use Rattle.std.proofs.lemmas.List.{drop-drop, length-drop}
 use Rattle.std.proofs.lemmas.List.Elements.{All-nil, All-cons}
 use Rattle.dwarf_constants.specs.declared.error.Error.{Error}
 use Rattle.dwarf_constants.specs.declared.error.Error.TheVariants.{UnknownReservedLength, OffsetOutOfBounds}
-use Rattle.dwarf_readers.specs.Place.{Stretch, ◌>>=◌, whole, behind, front, number_at, split_at, given, ends_at}
-use Rattle.dwarf_call_frames.specs.Entries.{Cie, PartialFde, Fde, Entry, CieEntry, FdeEntry, Listing, framed_at, cie_at, cie_from_offset, entry_within, entry_framed, entry_at, fde_of, fde_among, fde_from_offset, StandsAtItsOffset, listed, fdes_from, fdes_within, entries_of}
+use Rattle.dwarf_readers.specs.Place.{Stretch, ◌>>=◌, whole, behind, prefix, number_at, split_at, requirement, ends_at}
+use Rattle.dwarf_call_frames.specs.Entries.{Cie, PartialFde, Fde, Entry, CieEntry, FdeEntry, Listing, entry_bytes_at, cie_at, cie_from_offset, entry_within, entry_in, entry_at, fde_of, fde_among, fde_from_offset, StandsAtItsOffset, listed, fdes_from, fdes_within, entries_of}
 use Rattle.dwarf_call_frames.proofs.Cases.{by_case}
 use Rattle.dwarf_call_frames.proofs.Places.{same_stretch}
 
@@ -62,7 +62,7 @@ frames-split : (section : List ℕ) (parts : Result (Stretch × Stretch) Error) 
 frames-split section (Ok x) h = h
 frames-split section (Err e) h = tt
 
-frames-given : (section : List ℕ) (b : Bool) (e : Error) (parts : Result (Stretch × Stretch) Error) → Rests section parts → Frames section (given b e >>= λ _. (parts >>= λ x. Ok (Some x)))
+frames-given : (section : List ℕ) (b : Bool) (e : Error) (parts : Result (Stretch × Stretch) Error) → Rests section parts → Frames section (requirement b e >>= λ _. (parts >>= λ x. Ok (Some x)))
 frames-given section true e parts h = frames-split section parts h
 frames-given section false e parts h = tt
 
@@ -71,12 +71,12 @@ frames-if section true other h = tt
 frames-if section false other h = h
 
 frames-number : (section : List ℕ) (read : Result (ℕ × Stretch) Error) → Rests section read
-    → Frames section (read >>= λ size. cond (size.0 == 0) (Ok None) (given (nat_lt size.0 0xffff_fff0) UnknownReservedLength >>= λ _. (split_at size.0 size.1 >>= λ x. Ok (Some x))))
+    → Frames section (read >>= λ size. cond (size.0 == 0) (Ok None) (requirement (nat_lt size.0 0xffff_fff0) UnknownReservedLength >>= λ _. (split_at size.0 size.1 >>= λ x. Ok (Some x))))
 frames-number section (Err e) h = tt
 frames-number section (Ok (size, s)) h =
-    frames-if section (size == 0) _ (frames-given section (nat_lt size 0xffff_fff0) UnknownReservedLength (split_at size s) (rest-if section size s (front size s) (ends_at s.place) h))
+    frames-if section (size == 0) _ (frames-given section (nat_lt size 0xffff_fff0) UnknownReservedLength (split_at size s) (rest-if section size s (prefix size s) (ends_at s.place) h))
 
-frames : (section : List ℕ) (s : Stretch) → IsRest section s → Frames section (framed_at s)
+frames : (section : List ℕ) (s : Stretch) → IsRest section s → Frames section (entry_bytes_at s)
 frames section s h = frames-number section (number_at 4 s) (rest-if section 4 s _ (ends_at s.place) h)
 
 -- an entry that is read stands at the offset that it is read for
@@ -88,7 +88,7 @@ stands-cie : (offset : ℕ) (read : Result Cie Error) → Stands offset (read >>
 stands-cie offset (Ok cie) = tt
 stands-cie offset (Err e) = tt
 
-stands-fde : (offset cie_offset : ℕ) (rest : Stretch) (b : Bool) (e : Error) → Stands offset (given b e >>= λ _. Ok (FdeEntry (record { offset = offset; cie_offset = cie_offset; rest = rest })))
+stands-fde : (offset cie_offset : ℕ) (rest : Stretch) (b : Bool) (e : Error) → Stands offset (requirement b e >>= λ _. Ok (FdeEntry (record { offset = offset; cie_offset = cie_offset; rest = rest })))
 stands-fde offset cie_offset rest true e = refl
 stands-fde offset cie_offset rest false e = tt
 
@@ -100,11 +100,11 @@ stands-within : (offset : ℕ) (body : Stretch) → Stands offset (entry_within 
 stands-within offset body = by (number_at 4 body)
   where
     by : (id : Result (ℕ × Stretch) Error)
-        → Stands offset (id >>= λ id. cond (id.0 == 0) (cie_at offset id.1 >>= λ cie. Ok (CieEntry cie)) (given (nat_le id.0 body.place) OffsetOutOfBounds >>= λ _. Ok (FdeEntry (record { offset = offset; cie_offset = body.place - id.0; rest = id.1 }))))
+        → Stands offset (id >>= λ id. cond (id.0 == 0) (cie_at offset id.1 >>= λ cie. Ok (CieEntry cie)) (requirement (nat_le id.0 body.place) OffsetOutOfBounds >>= λ _. Ok (FdeEntry (record { offset = offset; cie_offset = body.place - id.0; rest = id.1 }))))
     by (Err e) = tt
     by (Ok (id, rest)) = stands-if offset (id == 0) _ _ (stands-cie offset (cie_at offset rest)) (stands-fde offset (body.place - id) rest (nat_le id body.place) OffsetOutOfBounds)
 
-at-framed : (section : List ℕ) (offset : ℕ) (framed : Result (Option (Stretch × Stretch)) Error) → Frames section framed → IsAt section offset (framed >>= entry_framed offset)
+at-framed : (section : List ℕ) (offset : ℕ) (framed : Result (Option (Stretch × Stretch)) Error) → Frames section framed → IsAt section offset (framed >>= entry_in offset)
 at-framed section offset (Err e) h = tt
 at-framed section offset (Ok None) h = tt
 at-framed section offset (Ok (Some parts)) h = by (entry_within offset parts.0) (stands-within offset parts.0)
@@ -114,7 +114,7 @@ at-framed section offset (Ok (Some parts)) h = by (entry_within offset parts.0) 
     by (Ok entry) stands = (stands, h)
 
 at-entry : (section : List ℕ) (offset : ℕ) (s : Stretch) → IsRest section s → IsAt section offset (entry_at offset s)
-at-entry section offset s h = at-framed section offset (framed_at s) (frames section s h)
+at-entry section offset s h = at-framed section offset (entry_bytes_at s) (frames section s h)
 
 -- an FDE stands where its first part does
 abbrev KeepsOffset : ℕ → Result Fde Error → Type 0

@@ -7,11 +7,11 @@ use Rattle.dwarf_call_frames.specs.declared.rows.CfaRule.{CfaRule}
 use Rattle.dwarf_call_frames.specs.declared.rows.CfaRule.TheVariants.{RegisterAndOffset, Expression}
 
 -- the same offset from another register
-abbrev pub with_register : Register → CfaRule → Result CfaRule Error
-with_register register (RegisterAndOffset before offset) = Ok (RegisterAndOffset register offset)
-with_register register (Expression expression) = Err CfiInstructionInInvalidContext
+abbrev pub with_cfa_register : Register → CfaRule → Result CfaRule Error
+with_cfa_register register (RegisterAndOffset before offset) = Ok (RegisterAndOffset register offset)
+with_cfa_register register (Expression expression) = Err CfiInstructionInInvalidContext
 
 -- another offset from the same register
-abbrev pub with_offset : ℤ → CfaRule → Result CfaRule Error
-with_offset offset (RegisterAndOffset register before) = Ok (RegisterAndOffset register offset)
-with_offset offset (Expression expression) = Err CfiInstructionInInvalidContext
+abbrev pub with_cfa_offset : ℤ → CfaRule → Result CfaRule Error
+with_cfa_offset offset (RegisterAndOffset register before) = Ok (RegisterAndOffset register offset)
+with_cfa_offset offset (Expression expression) = Err CfiInstructionInInvalidContext

@@ -5,7 +5,7 @@ use Rattle.dwarf_constants.specs.declared.common.Register.{Register}
 use Rattle.dwarf_constants.specs.declared.error.Error.{Error}
 use Rattle.dwarf_constants.specs.declared.error.Error.TheVariants.{UnknownReservedLength, UnknownVersion, UnknownAugmentation, OffsetOutOfBounds, NotCieId, NotCiePointer, NoEntryAtGivenOffset}
 use Rattle.dwarf_readers.specs.Leb128.{unsigned_at, signed_at}
-use Rattle.dwarf_readers.specs.Place.{Stretch, ◌>>=◌, behind_at, byte_at, given, number_at, split_at, whole}
+use Rattle.dwarf_readers.specs.Place.{Stretch, ◌>>=◌, behind_at, byte_at, requirement, number_at, split_at, whole}
 
 -- a common information entry, and where it stands
 pub record Cie : Type 0 where
@@ -39,11 +39,11 @@ pub data Entry : Type 0 where
   FdeEntry : PartialFde → Entry
 
 -- what a length says: the bytes of an entry and what is left behind them, or nothing for a length of 0
-abbrev pub framed_at : Stretch → Result (Option (Stretch × Stretch)) Error
-framed_at s = do
+abbrev pub entry_bytes_at : Stretch → Result (Option (Stretch × Stretch)) Error
+entry_bytes_at s = do
   size ← number_at 4 s
   if size.0 == 0 then Ok None else (do
-    _ ← given (nat_lt size.0 0xffff_fff0) UnknownReservedLength
+    _ ← requirement (nat_lt size.0 0xffff_fff0) UnknownReservedLength
     parts ← split_at size.0 size.1
     Ok (Some parts))
 
@@ -51,9 +51,9 @@ framed_at s = do
 abbrev pub cie_at : ℕ → Stretch → Result Cie Error
 cie_at offset s = do
   version ← byte_at s
-  _ ← given (version.0 == 1) (UnknownVersion version.0)
+  _ ← requirement (version.0 == 1) (UnknownVersion version.0)
   augmentation ← byte_at version.1
-  _ ← given (augmentation.0 == 0) UnknownAugmentation
+  _ ← requirement (augmentation.0 == 0) UnknownAugmentation
   code ← unsigned_at augmentation.1
   factor ← signed_at code.1
   register ← byte_at factor.1
@@ -66,38 +66,38 @@ entry_within offset body = do
   if id.0 == 0 then (do
     cie ← cie_at offset id.1
     Ok (CieEntry cie)) else (do
-      _ ← given (nat_le id.0 body.place) OffsetOutOfBounds
+      _ ← requirement (nat_le id.0 body.place) OffsetOutOfBounds
       Ok (FdeEntry (record { offset = offset; cie_offset = body.place - id.0; rest = id.1 })))
 
 -- the entry that a length frames
-abbrev pub entry_framed : ℕ → Option (Stretch × Stretch) → Result (Option (Entry × Stretch)) Error
-entry_framed offset None = Ok None
-entry_framed offset (Some parts) = do
+abbrev pub entry_in : ℕ → Option (Stretch × Stretch) → Result (Option (Entry × Stretch)) Error
+entry_in offset None = Ok None
+entry_in offset (Some parts) = do
   entry ← entry_within offset parts.0
   Ok (Some (entry, parts.1))
 
 -- the entry at the front, which stands at this offset, and what is left behind it
 abbrev pub entry_at : ℕ → Stretch → Result (Option (Entry × Stretch)) Error
 entry_at offset s = do
-  framed ← framed_at s
-  entry_framed offset framed
+  framed ← entry_bytes_at s
+  entry_in offset framed
 
 -- the first entry, and what is left behind it; nothing where the stretch is empty, or at a length of 0, which ends a section
 abbrev pub first_entry : Stretch → Result (Option (Entry × Stretch)) Error
 first_entry s = if length s.bytes == 0 then Ok None else entry_at s.place s
 
 -- the CIE among two kinds of entry
-abbrev pub cie_of : ℕ → Option (Entry × Stretch) → Result Cie Error
-cie_of offset None = Err NoEntryAtGivenOffset
-cie_of offset (Some (CieEntry cie, rest)) = Ok cie
-cie_of offset (Some (FdeEntry fde, rest)) = Err (NotCieId offset)
+abbrev pub cie_among : ℕ → Option (Entry × Stretch) → Result Cie Error
+cie_among offset None = Err NoEntryAtGivenOffset
+cie_among offset (Some (CieEntry cie, rest)) = Ok cie
+cie_among offset (Some (FdeEntry fde, rest)) = Err (NotCieId offset)
 
 -- the CIE at a place of the section
 abbrev pub cie_from_offset : List ℕ → ℕ → Result Cie Error
 cie_from_offset section offset = do
   rest ← behind_at offset (whole false section)
   entry ← entry_at offset rest
-  cie_of offset entry
+  cie_among offset entry
 
 -- the FDE, once its CIE is read: initial address and length in eight bytes each, then the instructions
 abbrev pub fde_of : List ℕ → PartialFde → Result Fde Error

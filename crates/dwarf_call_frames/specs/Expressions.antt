@@ -3,7 +3,7 @@ use Rattle.std.specs.Prelude.{◌≡◌, ℕ, ◌+◌, ◌-◌, ◌≤◌, ℤ, 
 use Rattle.dwarf_constants.specs.declared.common.Register.{Register}
 use Rattle.dwarf_constants.specs.declared.error.Error.{Error}
 use Rattle.dwarf_readers.specs.Leb128.{signed_at}
-use Rattle.dwarf_readers.specs.Place.{Stretch, ◌>>=◌, behind_at, byte_at, front, split_at, whole}
+use Rattle.dwarf_readers.specs.Place.{Stretch, ◌>>=◌, behind_at, byte_at, prefix, split_at, whole}
 use Rattle.dwarf_call_frames.specs.declared.expressions.Expression.{Expression}
 use Rattle.dwarf_call_frames.specs.declared.expressions.UnwindExpression.{UnwindExpression}
 use Rattle.dwarf_call_frames.specs.EndianSlice.{stretch}
@@ -27,7 +27,7 @@ pub record LiesIn (section : List ℕ) (s : Stretch) : Type 0 where
 
 -- where n bytes are passed, the place of the first of them and n name these bytes
 abbrev pub PassedBytesAreNamed : Type 0
-PassedBytesAreNamed = (section : List ℕ) (s : Stretch) (n : ℕ) → LiesIn section s → n ≤ length s.bytes → expression_at section (record { offset = s.place; length = n }) ≡ Ok (front n s)
+PassedBytesAreNamed = (section : List ℕ) (s : Stretch) (n : ℕ) → LiesIn section s → n ≤ length s.bytes → expression_at section (record { offset = s.place; length = n }) ≡ Ok (prefix n s)
 
 -- the operation is DW_OP_breg0 to DW_OP_breg31, with the opcodes 0x70 to 0x8f
 abbrev pub is_breg : ℕ → Bool

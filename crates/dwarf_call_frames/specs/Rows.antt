@@ -112,8 +112,8 @@ pub data Step : Type 0 where
   Refused : Error → Step
 
 -- a move, modulo 2^64 in its factor, may not leave 64 bits
-abbrev pub moved_to : ℕ → Step
-moved_to location = if nat_lt location (2 ^ 64) then Moves location else Refused AddressOverflow
+abbrev pub move_to : ℕ → Step
+move_to location = if nat_lt location (2 ^ 64) then Moves location else Refused AddressOverflow
 
 -- anything else writes, unless it is refused
 abbrev pub writes_unless : Option Error → Step
@@ -122,12 +122,12 @@ writes_unless (Some e) = Refused e
 
 -- the step of an instruction
 abbrev pub step_of : Cie → List CallFrameInstruction → ℕ → CallFrameInstruction → Step
-step_of cie front location (AdvanceLoc delta) = moved_to (location + (delta * cie.code_alignment_factor) % 2 ^ 64)
+step_of cie front location (AdvanceLoc delta) = move_to (location + (delta * cie.code_alignment_factor) % 2 ^ 64)
 step_of cie front location i = writes_unless (refusal_of cie.data_alignment_factor front i)
 
 -- a program that is refused here
-abbrev pub refused : Error → Rows
-refused e = record { rows = []; refusal = Some e }
+abbrev pub refused_rows : Error → Rows
+refused_rows e = record { rows = []; refusal = Some e }
 
 -- a row and then others
 abbrev pub with_row : Row → Rows → Rows
@@ -136,12 +136,12 @@ with_row row others = record { rows = row ∷ others.rows; refusal = others.refu
 -- the rows from a location on: a move ends a row, and the end of the program ends the last at the end of the code
 abbrev pub rows_from : Cie → ℕ → List CallFrameInstruction → ℕ → List (Result CallFrameInstruction Error) → Rows
 rows_from cie end front start [] = with_row (record { start = start; end = end; front = front }) (record { rows = []; refusal = None })
-rows_from cie end front start (Err e ∷ rest) = refused e
+rows_from cie end front start (Err e ∷ rest) = refused_rows e
 rows_from cie end front start (Ok i ∷ rest) =
     elim (step_of cie front start i) [
       | Moves location ↦ with_row (record { start = start; end = location; front = front }) (rows_from cie end front location rest)
       | Writes ↦ rows_from cie end (front ++ i ∷ []) start rest
-      | Refused e ↦ refused e
+      | Refused e ↦ refused_rows e
     ]
 
 -- the front that a CIE's own instructions leave, its moves dropped: they move a location that starts at 0
@@ -161,7 +161,7 @@ initial_front cie = initial_front_from cie [] 0 (instructions_of cie.instruction
 
 -- the rows of an FDE behind the front that its CIE leaves
 abbrev pub rows_behind : Fde → Result (List CallFrameInstruction) Error → Rows
-rows_behind fde (Err e) = refused e
+rows_behind fde (Err e) = refused_rows e
 rows_behind fde (Ok front) = rows_from fde.cie (end_address fde) front fde.initial_address (instructions_of fde.instructions)
 
 -- the rows of an FDE

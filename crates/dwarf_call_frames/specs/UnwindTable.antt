@@ -10,21 +10,21 @@ use Rattle.dwarf_call_frames.specs.declared.table.UnwindTable.{UnwindTable}
 use Rattle.dwarf_call_frames.specs.Entries.{Cie, Fde}
 use Rattle.dwarf_call_frames.specs.EntryViews.{instructions_left, cie_view}
 use Rattle.dwarf_call_frames.specs.Instructions.{instructions_of}
-use Rattle.dwarf_call_frames.specs.Rows.{Row, Rows, refused, initial_front, rows_from, row_for}
+use Rattle.dwarf_call_frames.specs.Rows.{Row, Rows, refused_rows, initial_front, rows_from, row_for}
 use Rattle.dwarf_call_frames.specs.UnwindRows.{IsBehind, IsRow, no_rows}
 
 -- the CIE of a table's FDE
-abbrev pub cie_of : UnwindTable → Cie
-cie_of table = cie_view table.cie
+abbrev pub table_cie : UnwindTable → Cie
+table_cie table = cie_view table.cie
 
 -- these rows are left from the next start on, behind the front that the row holds
 abbrev pub GoesOn : UnwindTable → Rows → Type 0
-GoesOn table left = (front : List CallFrameInstruction) × IsBehind (cie_of table) front table.row.now × (rows_from (cie_of table) table.end_address front table.next_start_address (instructions_of (instructions_left table.instructions)) ≡ left)
+GoesOn table left = (front : List CallFrameInstruction) × IsBehind (table_cie table) front table.row.now × (rows_from (table_cie table) table.end_address front table.next_start_address (instructions_of (instructions_left table.instructions)) ≡ left)
 
 -- these rows are left, by how far the table has come
 abbrev pub LeftAt : Progress → UnwindTable → Rows → Type 0
 LeftAt progress.Runs table left = GoesOn table left
-LeftAt (progress.Refused e) table left = left ≡ refused e
+LeftAt (progress.Refused e) table left = left ≡ refused_rows e
 LeftAt progress.Ended table left = left ≡ no_rows
 
 -- these rows are left
@@ -45,7 +45,7 @@ last_answer (Some e) = Err e
 -- the first of the rows is the table's row now, and the others are left; or none was left
 abbrev pub Advances : Rows → List Row → Result Bool Error → UnwindTable → Type 0
 Advances left [] result table = (result ≡ last_answer left.refusal) × HasLeft table no_rows
-Advances left (row ∷ others) result table = (result ≡ Ok true) × IsRow (cie_of table) row table.row.now × HasLeft table (record { rows = others; refusal = left.refusal })
+Advances left (row ∷ others) result table = (result ≡ Ok true) × IsRow (table_cie table) row table.row.now × HasLeft table (record { rows = others; refusal = left.refusal })
 
 -- the first of the rows is lent; or none was left
 abbrev pub NextIs : Cie → Rows → List Row → Result (Option (Bor UnwindTableRow)) Error → Type 0

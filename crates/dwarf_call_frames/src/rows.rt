@@ -21,11 +21,11 @@ pub enum CfaRule {
 }
 
 impl CfaRule {
-    ghost use Rattle.dwarf_call_frames.specs.CfaRules.{with_register, with_offset};
+    ghost use Rattle.dwarf_call_frames.specs.CfaRules.{with_cfa_register, with_cfa_offset};
 
     /// The same offset from another register. Fails on an expression.
     fn with_register(self, register: Register) -> Result<Self>
-        ensures { result ≡ with_register register self }
+        ensures { result ≡ with_cfa_register register self }
     {
         match self {
             CfaRule::RegisterAndOffset { offset, .. } => {
@@ -37,7 +37,7 @@ impl CfaRule {
 
     /// Another offset from the same register, read as a signed number. Fails on an expression.
     fn with_offset(self, offset: u64) -> Result<Self>
-        ensures { result ≡ with_offset (cast_signed w64 offset) self }
+        ensures { result ≡ with_cfa_offset (cast_signed w64 offset) self }
     {
         match self {
             CfaRule::RegisterAndOffset { register, .. } => Ok(CfaRule::counted(register, offset)),
@@ -151,7 +151,7 @@ pub struct UnwindTableRow {
 }
 
 impl UnwindTableRow {
-    ghost use Rattle.dwarf_call_frames.specs.UnwindRows.{start_of, end_of, cfa_rule_of, register_rule_of, holds_at, IsBehind, EndsRow, step_told};
+    ghost use Rattle.dwarf_call_frames.specs.UnwindRows.{row_start, row_end, cfa_rule_of, register_rule_of, holds_at, IsBehind, EndsRow, step_told};
     ghost use Rattle.dwarf_call_frames.specs.Rows.{initial_front, step_of};
     ghost use Rattle.dwarf_call_frames.specs.Entries.{Cie};
     ghost use Rattle.dwarf_call_frames.specs.declared.instructions.CallFrameInstruction.{CallFrameInstruction};
@@ -170,14 +170,14 @@ impl UnwindTableRow {
 
     /// The address at which the row starts.
     pub fn start_address(&self) -> u64
-        ensures { result ≡ start_of self.now }
+        ensures { result ≡ row_start self.now }
     {
         self.start_address
     }
 
     /// The address behind the row.
     pub fn end_address(&self) -> u64
-        ensures { result ≡ end_of self.now }
+        ensures { result ≡ row_end self.now }
     {
         self.end_address
     }

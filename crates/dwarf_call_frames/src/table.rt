@@ -50,7 +50,7 @@ pub struct UnwindTable<'ctx, 'a> {
 impl<'ctx, 'a> UnwindTable<'ctx, 'a> {
     ghost use Rattle.std.specs.Borrow.{sem};
     ghost use Rattle.dwarf_call_frames.specs.TableLends.{LeavesRows};
-    ghost use Rattle.dwarf_call_frames.specs.UnwindTable.{cie_of, HasLeft, Advances, NextIs, steps_left};
+    ghost use Rattle.dwarf_call_frames.specs.UnwindTable.{table_cie, HasLeft, Advances, NextIs, steps_left};
 
     /// The rows of the FDE, behind the CIE's own instructions. What the context held before counts for nothing.
     /// Where an instruction of the CIE is refused, the first `next_row` says so.
@@ -59,7 +59,7 @@ impl<'ctx, 'a> UnwindTable<'ctx, 'a> {
         fde: &FrameDescriptionEntry<'a>,
     ) -> UnwindTable<'ctx, 'a>
         ensures rows { HasLeft result (rows_of (fde_view fde.now)) }
-        ensures cie { cie_of result ≡ (fde_view fde.now).cie }
+        ensures cie { table_cie result ≡ (fde_view fde.now).cie }
     {
         let row = &mut *context.row;
         let cie = fde.cie();
@@ -122,7 +122,7 @@ impl<'ctx, 'a> UnwindTable<'ctx, 'a> {
     /// The next row, or nothing behind the last. After an error none is left.
     pub fn next_row(&mut self) -> Result<Option<&UnwindTableRow>>
         ensures* leaves { sem 𝓛 (LeavesRows self.entry) }
-        ensures row { (left : Rows) → HasLeft self.old left → NextIs (cie_of self.old) left left.rows result }
+        ensures row { (left : Rows) → HasLeft self.old left → NextIs (table_cie self.old) left left.rows result }
     {
         if self.advance()? {
             return Ok(Some(&*self.row));

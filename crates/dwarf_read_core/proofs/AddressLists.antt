@@ -9,7 +9,7 @@ use Rattle.dwarf_read_core.specs.AddressSets.{AddressSet, addresses_at, found_wi
 use Rattle.dwarf_readers.specs.ByteOrder.{number_of}
 use Rattle.dwarf_readers.specs.InitialLength.{address_at, as_offset, initial_length_at, is_size, length_behind, word_at}
 use Rattle.dwarf_readers.specs.Offset.{offset_below}
-use Rattle.dwarf_readers.specs.Place.{Stretch, ◌>>=◌, behind, ends_at, front, given, number_at, split_at}
+use Rattle.dwarf_readers.specs.Place.{Stretch, ◌>>=◌, behind, ends_at, prefix, requirement, number_at, split_at}
 
 -- an answer of two reads, as an answer of each
 record Both {A B : Type 0} (r : Result A Error) (f : A → Result B Error) (y : B) : Type 0 where
@@ -59,7 +59,7 @@ number_left n s x h =
 
 split_left : (n : ℕ) (s : Stretch) (x : Stretch × Stretch) → split_at n s ≡ Ok x → length x.1.bytes ≤ length s.bytes
 split_left n s x h =
-    let is = taken (nat_lt (length s.bytes) n) (ends_at s.place) (front n s, behind n s) x h in
+    let is = taken (nat_lt (length s.bytes) n) (ends_at s.place) (prefix n s, behind n s) x h in
     let left : length s.bytes - n ≡ length x.1.bytes = sym (length-drop n s.bytes) ∙ ap (λ (p : Stretch × Stretch). length p.1.bytes) is.1 in
     omega arith
 
@@ -121,7 +121,7 @@ set_takes limit offset s t a h =
     let left = set_left limit offset s parts.first parts.read in
     omega arith
 
-some_size : (size : ℕ) (x : Unit {0}) → given (is_size size) (UnsupportedAddressSize size) ≡ Ok x → 0 < size
+some_size : (size : ℕ) (x : Unit {0}) → requirement (is_size size) (UnsupportedAddressSize size) ≡ Ok x → 0 < size
 some_size zero x h = absurd (cc)
 some_size (suc n) x h = omega arith
 
@@ -130,7 +130,7 @@ pub address_takes : (size : ℕ) (s t : Stretch) (a : ℕ) → next_address size
 address_takes size s t a h =
     let found : ℕ × Stretch → Result (Option ℕ × Stretch) Error = λ address. Ok (Some address.0, address.1) in
     let parts = both (address_at size s) found (Some a, t) (not_at_end (length s.bytes == 0) s t (address_at size s >>= found) a h) in
-    let inner = both (given (is_size size) (UnsupportedAddressSize size)) (λ _. number_at size s) parts.first parts.read in
+    let inner = both (requirement (is_size size) (UnsupportedAddressSize size)) (λ _. number_at size s) parts.first parts.read in
     let end = same_left {A = Option ℕ} (Some parts.first.0, parts.first.1) (Some a, t) parts.second in
     let least = some_size size inner.first inner.read in
     let left = number_left size s parts.first inner.second in

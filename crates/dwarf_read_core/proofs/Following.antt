@@ -8,34 +8,34 @@ use Rattle.dwarf_constants.specs.declared.error.Error.{Error}
 use Rattle.dwarf_constants.specs.declared.error.Error.TheVariants.{AbbreviationTagZero, AttributeFormZero, AttributeNameZero, DuplicateAbbreviationCode, InvalidAbbreviationChildren}
 use Rattle.dwarf_read_core.specs.AbbreviationTable.{Attribute, Declaration, attribute_at, attribute_of, attributes_at, attributes_within, children_at, declaration_at, declaration_of, declarations_within, has_code, next_of, table_at, table_in, tag_at}
 use Rattle.dwarf_read_core.specs.AddressSets.{next_address, next_set, set_at, set_behind}
-use Rattle.dwarf_read_core.specs.ClosedTables.{StaysIf, closed_at, closed_in, closed_within, closes, closes_at}
+use Rattle.dwarf_read_core.specs.ClosedTables.{StaysIf, is_closed_at, is_closed_in, is_closed_within, closes, closes_at}
 use Rattle.dwarf_read_core.specs.Sections.{address_in, entry_in, range_in, string_in, string_offset_in}
 use Rattle.dwarf_readers.specs.InitialLength.{address_at, initial_length_at, word_at}
 use Rattle.dwarf_readers.specs.Leb128.{signed_at, unsigned_16_at, unsigned_at}
-use Rattle.dwarf_readers.specs.More.{IsSteady, IsSteadyMove, IsSteadySearch, Stays, StaysAs, followed}
+use Rattle.dwarf_readers.specs.More.{IsSteady, IsSteadyMove, IsSteadySearch, Stays, StaysAs, extended_stretch}
 use Rattle.dwarf_readers.specs.Offset.{offset_below}
-use Rattle.dwarf_readers.specs.Place.{Stretch, ◌>>=◌, behind, behind_at, byte_at, end_of, ends_at, front_at, given, split_at, string_at}
+use Rattle.dwarf_readers.specs.Place.{Stretch, ◌>>=◌, behind, behind_at, byte_at, end_of, ends_at, prefix_at, requirement, split_at, string_at}
 use Rattle.dwarf_readers.proofs.Following.{address_steady, behind_steady, byte_steady, cond_stays, front_steady, given_stays, initial_length_steady, refusal_stays, signed_steady, split_steady, steady_then, string_steady, then_stays, then_stays_as, unsigned_16_steady, unsigned_steady, value_stays, word_steady}
 
 -- the value alone of a read
 value_alone : {A : Type 0} (more : List ℕ) (before after : Result (A × Stretch) Error) → Stays more before after → StaysAs (λ (found : A). found) (before >>= λ read. Ok read.0) (after >>= λ read. Ok read.0)
-value_alone {A = A} more before after same = then_stays_as (λ (read : A × Stretch). (read.0, followed more read.1)) (λ (found : A). found) before after (λ read. Ok read.0) (λ read. Ok read.0) same (λ read. refl)
+value_alone {A = A} more before after same = then_stays_as (λ (read : A × Stretch). (read.0, extended_stretch more read.1)) (λ (found : A). found) before after (λ read. Ok read.0) (λ read. Ok read.0) same (λ read. refl)
 
 -- .. where a move leads
 search_behind : {A : Type 0} (move : Stretch → Result Stretch Error) (read : Stretch → Result (A × Stretch) Error) → IsSteadyMove move → IsSteady read → IsSteadySearch (λ section. move section >>= λ s. read s >>= λ found. Ok found.0)
 search_behind {A = A} move read moved same = λ more section.
-    then_stays_as (followed more) (λ (found : A). found) (move section) (move (followed more section)) (λ s. read s >>= λ found. Ok found.0) (λ s. read s >>= λ found. Ok found.0) (moved more section)
-    (λ s. value_alone more (read s) (read (followed more s)) (same more s))
+    then_stays_as (extended_stretch more) (λ (found : A). found) (move section) (move (extended_stretch more section)) (λ s. read s >>= λ found. Ok found.0) (λ s. read s >>= λ found. Ok found.0) (moved more section)
+    (λ s. value_alone more (read s) (read (extended_stretch more s)) (same more s))
 
 pub string_in_steady : (offset : ℕ) → IsSteadySearch (string_in offset)
 string_in_steady offset = search_behind (behind_at offset) string_at (behind_steady offset) string_steady
 
 pub range_in_steady : (offset size : ℕ) → IsSteadySearch (range_in offset size)
 range_in_steady offset size = λ more section.
-    then_stays_as (followed more) (λ (found : Stretch). found) (behind_at offset section) (behind_at offset (followed more section)) (front_at size) (front_at size) (behind_steady offset more section) (λ s. front_steady size more s)
+    then_stays_as (extended_stretch more) (λ (found : Stretch). found) (behind_at offset section) (behind_at offset (extended_stretch more section)) (prefix_at size) (prefix_at size) (behind_steady offset more section) (λ s. front_steady size more s)
 
 -- what is left behind an offset that may be refused
-offset_behind : (offset : Result ℕ Error) (more : List ℕ) (section : Stretch) → StaysAs (followed more) (offset >>= λ n. behind_at n section) (offset >>= λ n. behind_at n (followed more section))
+offset_behind : (offset : Result ℕ Error) (more : List ℕ) (section : Stretch) → StaysAs (extended_stretch more) (offset >>= λ n. behind_at n section) (offset >>= λ n. behind_at n (extended_stretch more section))
 offset_behind (Ok n) more section = behind_steady n more section
 offset_behind (Err e) more section = λ lasting. refl
 
@@ -55,29 +55,29 @@ set_steady limit offset = steady_then (initial_length_at limit) (λ length. spli
     (λ part more left. value_stays more (set_behind offset length.0 length.1 part) left))
 
 -- the next where bytes are left
-next_where : {A : Type 0} (empty : Bool) (read : Stretch → Result (Option A × Stretch) Error) (more : List ℕ) (s : Stretch) → (length s.bytes == 0) ≡ empty → 0 < length s.bytes → Stays more (read s) (read (followed more s)) → Stays more (cond empty (Ok (None, s)) (read s)) (cond (length (s.bytes ++ more) == 0) (Ok (None, followed more s)) (read (followed more s)))
+next_where : {A : Type 0} (empty : Bool) (read : Stretch → Result (Option A × Stretch) Error) (more : List ℕ) (s : Stretch) → (length s.bytes == 0) ≡ empty → 0 < length s.bytes → Stays more (read s) (read (extended_stretch more s)) → Stays more (cond empty (Ok (None, s)) (read s)) (cond (length (s.bytes ++ more) == 0) (Ok (None, extended_stretch more s)) (read (extended_stretch more s)))
 next_where true read more s is some same = absurd (grind (arith, nat_tests))
 next_where false read more s is some same =
     let test : (length (s.bytes ++ more) == 0) ≡ false = grind (arith, nat_tests, length-append) in
     rw test same
 
-pub next_set_stays : (limit offset : ℕ) (more : List ℕ) (s : Stretch) → 0 < length s.bytes → Stays more (next_set limit offset s) (next_set limit offset (followed more s))
+pub next_set_stays : (limit offset : ℕ) (more : List ℕ) (s : Stretch) → 0 < length s.bytes → Stays more (next_set limit offset s) (next_set limit offset (extended_stretch more s))
 next_set_stays limit offset more s some = next_where (length s.bytes == 0) (λ (s : Stretch). set_at limit offset s >>= λ set. Ok (Some set.0, set.1)) more s refl some
-    (then_stays more (set_at limit offset s) (set_at limit offset (followed more s)) (λ set. Ok (Some set.0, set.1)) (set_steady limit offset more s) (λ set left. refl))
+    (then_stays more (set_at limit offset s) (set_at limit offset (extended_stretch more s)) (λ set. Ok (Some set.0, set.1)) (set_steady limit offset more s) (λ set left. refl))
 
-pub next_address_stays : (size : ℕ) (more : List ℕ) (s : Stretch) → 0 < length s.bytes → Stays more (next_address size s) (next_address size (followed more s))
+pub next_address_stays : (size : ℕ) (more : List ℕ) (s : Stretch) → 0 < length s.bytes → Stays more (next_address size s) (next_address size (extended_stretch more s))
 next_address_stays size more s some = next_where (length s.bytes == 0) (λ (s : Stretch). address_at size s >>= λ address. Ok (Some address.0, address.1)) more s refl some
-    (then_stays more (address_at size s) (address_at size (followed more s)) (λ address. Ok (Some address.0, address.1)) (address_steady size more s) (λ address left. refl))
+    (then_stays more (address_at size s) (address_at size (extended_stretch more s)) (λ address. Ok (Some address.0, address.1)) (address_steady size more s) (λ address left. refl))
 
 -- attributes
 attribute_of_steady : (name form : ℕ) → IsSteady (λ left. attribute_of name (form, left))
 attribute_of_steady name form = λ more left. cond_stays more (form == 0x21) _ _ _ _
-    (then_stays more (signed_at left) (signed_at (followed more left)) (λ value. Ok (Some (record { name = name; form = form; constant = Some value.0 }), value.1)) (signed_steady more left) (λ value left. refl))
+    (then_stays more (signed_at left) (signed_at (extended_stretch more left)) (λ value. Ok (Some (record { name = name; form = form; constant = Some value.0 }), value.1)) (signed_steady more left) (λ value left. refl))
     refl
 
 attribute_behind : (name form : ℕ) → IsSteady (λ left. if name == 0 then (if form == 0 then Ok (None, left) else Err AttributeNameZero) else (if form == 0 then Err AttributeFormZero else attribute_of name (form, left)))
 attribute_behind name form = λ more left. cond_stays more (name == 0) _ _ _ _
-    (cond_stays more (form == 0) (Ok (None, left)) (Ok (None, followed more left)) _ _ refl (refusal_stays more AttributeNameZero))
+    (cond_stays more (form == 0) (Ok (None, left)) (Ok (None, extended_stretch more left)) _ _ refl (refusal_stays more AttributeNameZero))
     (cond_stays more (form == 0) _ _ _ _ (refusal_stays more AttributeFormZero) (attribute_of_steady name form more left))
 
 attribute_steady : IsSteady attribute_at
@@ -85,27 +85,27 @@ attribute_steady = steady_then unsigned_16_at (λ name. unsigned_16_at name.1 >>
     (λ name. steady_then unsigned_16_at (λ form. if name == 0 then (if form.0 == 0 then Ok (None, form.1) else Err AttributeNameZero) else (if form.0 == 0 then Err AttributeFormZero else attribute_of name form)) unsigned_16_steady (attribute_behind name))
 
 -- what is next, if anything
-next_of_stays : {A B : Type 0} (change : B → B) (end : Stretch → Result B Error) (item later : A → Stretch → Result B Error) (more : List ℕ) → ((t : Stretch) → StaysAs change (end t) (end (followed more t))) → ((a : A) → (t : Stretch) → StaysAs change (item a t) (later a (followed more t))) → (found : Option A) (t : Stretch) → StaysAs change (next_of end item found t) (next_of end later found (followed more t))
+next_of_stays : {A B : Type 0} (change : B → B) (end : Stretch → Result B Error) (item later : A → Stretch → Result B Error) (more : List ℕ) → ((t : Stretch) → StaysAs change (end t) (end (extended_stretch more t))) → ((a : A) → (t : Stretch) → StaysAs change (item a t) (later a (extended_stretch more t))) → (found : Option A) (t : Stretch) → StaysAs change (next_of end item found t) (next_of end later found (extended_stretch more t))
 next_of_stays change end item later more ends goes None t = ends t
 next_of_stays change end item later more ends goes (Some a) t = goes a t
 
-attributes_stay : (n m : ℕ) (seen : List Attribute) (more : List ℕ) (s : Stretch) → n ≤ m → Stays more (attributes_within n seen s) (attributes_within m seen (followed more s))
+attributes_stay : (n m : ℕ) (seen : List Attribute) (more : List ℕ) (s : Stretch) → n ≤ m → Stays more (attributes_within n seen s) (attributes_within m seen (extended_stretch more s))
 attributes_stay zero m seen more s less = λ lasting. absurd (lasting (end_of s) refl)
 attributes_stay (suc n) zero seen more s less = absurd (omega arith)
 attributes_stay (suc n) (suc m) seen more s less =
     let step = λ (k : ℕ) (next : Option Attribute × Stretch). next_of (λ t. Ok (seen, t)) (λ attribute t. attributes_within k (seen ++ attribute ∷ []) t) next.0 next.1 in
-    then_stays_as (λ (read : Option Attribute × Stretch). (read.0, followed more read.1)) (λ (read : List Attribute × Stretch). (read.0, followed more read.1)) (attribute_at s) (attribute_at (followed more s)) (step n) (step m) (attribute_steady more s)
-    (λ next. next_of_stays (λ (read : List Attribute × Stretch). (read.0, followed more read.1)) (λ t. Ok (seen, t)) (λ attribute t. attributes_within n (seen ++ attribute ∷ []) t) (λ attribute t. attributes_within m (seen ++ attribute ∷ []) t) more (λ t. refl) (λ attribute t. attributes_stay n m (seen ++ attribute ∷ []) more t (omega arith)) next.0 next.1)
+    then_stays_as (λ (read : Option Attribute × Stretch). (read.0, extended_stretch more read.1)) (λ (read : List Attribute × Stretch). (read.0, extended_stretch more read.1)) (attribute_at s) (attribute_at (extended_stretch more s)) (step n) (step m) (attribute_steady more s)
+    (λ next. next_of_stays (λ (read : List Attribute × Stretch). (read.0, extended_stretch more read.1)) (λ t. Ok (seen, t)) (λ attribute t. attributes_within n (seen ++ attribute ∷ []) t) (λ attribute t. attributes_within m (seen ++ attribute ∷ []) t) more (λ t. refl) (λ attribute t. attributes_stay n m (seen ++ attribute ∷ []) more t (omega arith)) next.0 next.1)
 
 pub attributes_steady : IsSteady attributes_at
 unfolding attributes_at
 attributes_steady = λ more s. attributes_stay (suc (length s.bytes)) (suc (length (s.bytes ++ more))) [] more s (omega (arith, length-append s.bytes more))
 
 tag_steady : IsSteady tag_at
-tag_steady = steady_then unsigned_16_at (λ tag. given (not (tag.0 == 0)) AbbreviationTagZero >>= λ _. Ok tag) unsigned_16_steady (λ tag more left. given_stays more (not (tag == 0)) AbbreviationTagZero (Ok (tag, left)) (Ok (tag, followed more left)) refl)
+tag_steady = steady_then unsigned_16_at (λ tag. requirement (not (tag.0 == 0)) AbbreviationTagZero >>= λ _. Ok tag) unsigned_16_steady (λ tag more left. given_stays more (not (tag == 0)) AbbreviationTagZero (Ok (tag, left)) (Ok (tag, extended_stretch more left)) refl)
 
 children_steady : IsSteady children_at
-children_steady = steady_then byte_at (λ byte. given (nat_le byte.0 1) (InvalidAbbreviationChildren (record { 0 = byte.0 })) >>= λ _. Ok (byte.0 == 1, byte.1)) byte_steady (λ byte more left. given_stays more (nat_le byte 1) (InvalidAbbreviationChildren (record { 0 = byte })) (Ok (byte == 1, left)) (Ok (byte == 1, followed more left)) refl)
+children_steady = steady_then byte_at (λ byte. requirement (nat_le byte.0 1) (InvalidAbbreviationChildren (record { 0 = byte.0 })) >>= λ _. Ok (byte.0 == 1, byte.1)) byte_steady (λ byte more left. given_stays more (nat_le byte 1) (InvalidAbbreviationChildren (record { 0 = byte })) (Ok (byte == 1, left)) (Ok (byte == 1, extended_stretch more left)) refl)
 
 declaration_of_steady : (code : ℕ) → IsSteady (declaration_of code)
 declaration_of_steady code =
@@ -116,38 +116,38 @@ declaration_of_steady code =
 
 code_steady : IsSteady (λ s. unsigned_at s >>= λ code. if code.0 == 0 then Ok (None, code.1) else declaration_of code.0 code.1)
 code_steady = steady_then unsigned_at (λ code. if code.0 == 0 then Ok (None, code.1) else declaration_of code.0 code.1) unsigned_steady
-    (λ code more left. cond_stays more (code == 0) (Ok (None, left)) (Ok (None, followed more left)) _ _ refl (declaration_of_steady code more left))
+    (λ code more left. cond_stays more (code == 0) (Ok (None, left)) (Ok (None, extended_stretch more left)) _ _ refl (declaration_of_steady code more left))
 
 -- a declaration where bytes are left
-declaration_stays : (more : List ℕ) (s : Stretch) → 0 < length s.bytes → Stays more (declaration_at s) (declaration_at (followed more s))
+declaration_stays : (more : List ℕ) (s : Stretch) → 0 < length s.bytes → Stays more (declaration_at s) (declaration_at (extended_stretch more s))
 declaration_stays more s some = next_where (length s.bytes == 0) (λ (s : Stretch). unsigned_at s >>= λ code. if code.0 == 0 then Ok (None, code.1) else declaration_of code.0 code.1) more s refl some (code_steady more s)
 
 -- what stays behind a test that doesn't look at the bytes
-given_stays_if : {A : Type 0} (Condition : Type 0) (test : Bool) (e : Error) (before after : Result A Error) → StaysIf Condition before after → StaysIf Condition (given test e >>= λ _. before) (given test e >>= λ _. after)
+given_stays_if : {A : Type 0} (Condition : Type 0) (test : Bool) (e : Error) (before after : Result A Error) → StaysIf Condition before after → StaysIf Condition (requirement test e >>= λ _. before) (requirement test e >>= λ _. after)
 given_stays_if Condition true e before after same = same
 given_stays_if Condition false e before after same = λ lasting. refl
 
 -- the declarations behind what is next, in at most n steps
 abbrev behind_next : ℕ → List Declaration → Option Declaration × Stretch → Result (List Declaration) Error
-behind_next n seen next = next_of (λ _. Ok seen) (λ d t. given (not (has_code d.code seen)) (DuplicateAbbreviationCode d.code) >>= λ _. declarations_within n (seen ++ d ∷ []) t) next.0 next.1
+behind_next n seen next = next_of (λ _. Ok seen) (λ d t. requirement (not (has_code d.code seen)) (DuplicateAbbreviationCode d.code) >>= λ _. declarations_within n (seen ++ d ∷ []) t) next.0 next.1
 
 -- n steps are enough where code 0 closes the table, and so are m
 abbrev StaysWithin : ℕ → ℕ → List ℕ → Type 0
-StaysWithin n m more = (seen : List Declaration) (s : Stretch) → StaysIf (IsTrue (closed_within n s)) (declarations_within n seen s) (declarations_within m seen (followed more s))
+StaysWithin n m more = (seen : List Declaration) (s : Stretch) → StaysIf (IsTrue (is_closed_within n s)) (declarations_within n seen s) (declarations_within m seen (extended_stretch more s))
 
-next_stays : (n m : ℕ) (seen : List Declaration) (more : List ℕ) → StaysWithin n m more → (found : Option Declaration) (t : Stretch) → StaysIf (IsTrue (closes (closed_within n) found t)) (behind_next n seen (found, t)) (behind_next m seen (found, followed more t))
+next_stays : (n m : ℕ) (seen : List Declaration) (more : List ℕ) → StaysWithin n m more → (found : Option Declaration) (t : Stretch) → StaysIf (IsTrue (closes (is_closed_within n) found t)) (behind_next n seen (found, t)) (behind_next m seen (found, extended_stretch more t))
 next_stays n m seen more rest None t = λ closed. refl
-next_stays n m seen more rest (Some d) t = given_stays_if (IsTrue (closed_within n t)) (not (has_code d.code seen)) (DuplicateAbbreviationCode d.code) (declarations_within n (seen ++ d ∷ []) t) (declarations_within m (seen ++ d ∷ []) (followed more t)) (rest (seen ++ d ∷ []) t)
+next_stays n m seen more rest (Some d) t = given_stays_if (IsTrue (is_closed_within n t)) (not (has_code d.code seen)) (DuplicateAbbreviationCode d.code) (declarations_within n (seen ++ d ∷ []) t) (declarations_within m (seen ++ d ∷ []) (extended_stretch more t)) (rest (seen ++ d ∷ []) t)
 
-read_stays : (n m : ℕ) (seen : List Declaration) (more : List ℕ) (before after : Result (Option Declaration × Stretch) Error) → Stays more before after → StaysWithin n m more → StaysIf (IsTrue (closes_at (closed_within n) before)) (before >>= behind_next n seen) (after >>= behind_next m seen)
+read_stays : (n m : ℕ) (seen : List Declaration) (more : List ℕ) (before after : Result (Option Declaration × Stretch) Error) → Stays more before after → StaysWithin n m more → StaysIf (IsTrue (closes_at (is_closed_within n) before)) (before >>= behind_next n seen) (after >>= behind_next m seen)
 read_stays n m seen more (Ok next) after same rest = rw same (next_stays n m seen more rest next.0 next.1)
 read_stays n m seen more (Err e) after same rest = λ lasting. rw (same lasting) refl
 
-step_stays : (empty : Bool) (n m : ℕ) (seen : List Declaration) (more : List ℕ) (s : Stretch) → (length s.bytes == 0) ≡ empty → StaysWithin n m more → StaysIf (IsTrue (not empty && closes_at (closed_within n) (declaration_at s))) (declaration_at s >>= behind_next n seen) (declaration_at (followed more s) >>= behind_next m seen)
+step_stays : (empty : Bool) (n m : ℕ) (seen : List Declaration) (more : List ℕ) (s : Stretch) → (length s.bytes == 0) ≡ empty → StaysWithin n m more → StaysIf (IsTrue (not empty && closes_at (is_closed_within n) (declaration_at s))) (declaration_at s >>= behind_next n seen) (declaration_at (extended_stretch more s) >>= behind_next m seen)
 step_stays true n m seen more s is rest = rw is (λ closed. absurd (cc))
 step_stays false n m seen more s is rest =
     let some : 0 < length s.bytes = grind (arith, nat_tests) in
-    read_stays n m seen more (declaration_at s) (declaration_at (followed more s)) (declaration_stays more s some) rest
+    read_stays n m seen more (declaration_at s) (declaration_at (extended_stretch more s)) (declaration_stays more s some) rest
 
 declarations_stay : (n m : ℕ) (more : List ℕ) → n ≤ m → StaysWithin n m more
 declarations_stay zero m more less = λ seen s lasting. absurd (lasting (end_of s) refl)
@@ -155,13 +155,13 @@ declarations_stay (suc n) zero more less = absurd (omega arith)
 declarations_stay (suc n) (suc m) more less = λ seen s. step_stays (length s.bytes == 0) n m seen more s refl (declarations_stay n m more (omega arith))
 
 -- a table that code 0 closes
-pub table_stays : (more : List ℕ) (s : Stretch) → StaysIf (IsTrue (closed_at s)) (table_at s) (table_at (followed more s))
-unfolding table_at closed_at
+pub table_stays : (more : List ℕ) (s : Stretch) → StaysIf (IsTrue (is_closed_at s)) (table_at s) (table_at (extended_stretch more s))
+unfolding table_at is_closed_at
 table_stays more s = declarations_stay (suc (length s.bytes)) (suc (length (s.bytes ++ more))) more (omega (arith, length-append s.bytes more)) [] s
 
-table_behind : (test : Bool) (e : Error) (s : Stretch) (more : List ℕ) (after : Result Stretch Error) → StaysAs (followed more) (cond test (Err e) (Ok s)) after → StaysIf (IsTrue (closed_at s)) (cond test (Err e) (Ok s) >>= table_at) (after >>= table_at)
+table_behind : (test : Bool) (e : Error) (s : Stretch) (more : List ℕ) (after : Result Stretch Error) → StaysAs (extended_stretch more) (cond test (Err e) (Ok s)) after → StaysIf (IsTrue (is_closed_at s)) (cond test (Err e) (Ok s) >>= table_at) (after >>= table_at)
 table_behind true e s more after same = λ lasting. rw (same lasting) refl
 table_behind false e s more after same = rw same (table_stays more s)
 
-pub table_in_stays : (offset : ℕ) (more : List ℕ) (section : Stretch) → StaysIf (IsTrue (closed_in offset section)) (table_in offset section) (table_in offset (followed more section))
-table_in_stays offset more section = table_behind (nat_lt (length section.bytes) offset) (ends_at section.place) (behind offset section) more (behind_at offset (followed more section)) (behind_steady offset more section)
+pub table_in_stays : (offset : ℕ) (more : List ℕ) (section : Stretch) → StaysIf (IsTrue (is_closed_in offset section)) (table_in offset section) (table_in offset (extended_stretch more section))
+table_in_stays offset more section = table_behind (nat_lt (length section.bytes) offset) (ends_at section.place) (behind offset section) more (behind_at offset (extended_stretch more section)) (behind_steady offset more section)

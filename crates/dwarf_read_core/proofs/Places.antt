@@ -8,7 +8,7 @@ use Rattle.std.proofs.lemmas.Bool.Decides.{nat_tests}
 use Rattle.std.proofs.lemmas.Option.{slice_get-map, slice_get_past, slice_get_read}
 use Rattle.dwarf_read_core.specs.Abbreviations.{declaration}
 use Rattle.dwarf_read_core.specs.declared.abbrev.Abbreviation.{Abbreviation}
-use Rattle.dwarf_read_core.specs.AbbreviationTable.{Declaration, declared, has_code, is_among_first, place_of}
+use Rattle.dwarf_read_core.specs.AbbreviationTable.{Declaration, declaration_for, has_code, is_among_first, place_of}
 
 is_some_suc : (o : Option ℕ) → is_some (option_map suc o) ≡ is_some o
 is_some_suc None = refl
@@ -40,9 +40,9 @@ at_place_suc d ds None = refl
 at_place_suc d ds (Some i) = refl
 
 -- the declaration of a code stands at its place
-pub declared_place_of : (code : ℕ) (ds : List Declaration) → at_place ds (place_of code ds) ≡ declared code ds
+pub declared_place_of : (code : ℕ) (ds : List Declaration) → at_place ds (place_of code ds) ≡ declaration_for code ds
 declared_place_of code [] = refl
-declared_place_of code (d ∷ ds) = elim (d.code == code) as (λ here. at_place (d ∷ ds) (cond here (Some 0) (option_map suc (place_of code ds))) ≡ cond here (Some d) (declared code ds)) [
+declared_place_of code (d ∷ ds) = elim (d.code == code) as (λ here. at_place (d ∷ ds) (cond here (Some 0) (option_map suc (place_of code ds))) ≡ cond here (Some d) (declaration_for code ds)) [
   | true ↦ refl
   | false ↦ at_place_suc d ds (place_of code ds) ∙ declared_place_of code ds
 ]

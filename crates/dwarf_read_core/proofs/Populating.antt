@@ -6,7 +6,7 @@ use Rattle.std.proofs.lemmas.Bool.Decides.{nat_tests}
 use Rattle.std.proofs.lemmas.List.{map_push}
 use Rattle.std.proofs.lemmas.List.Sums.{sum_by-append}
 use Rattle.dwarf_constants.specs.declared.error.Error.{Error}
-use Rattle.dwarf_read_core.specs.AbbreviationsCache.{least}
+use Rattle.dwarf_read_core.specs.AbbreviationsCache.{least_count}
 use Rattle.dwarf_read_core.specs.declared.abbrev.cache.AbbreviationsCacheStrategy.{AbbreviationsCacheStrategy}
 use Rattle.dwarf_read_core.specs.declared.abbrev.cache.AbbreviationsCacheStrategy.TheVariants.{All, Duplicates}
 
@@ -83,7 +83,7 @@ seen_more n came seen now is then = λ q. ⊎_elim
 pub record SoFar {A O : Type 0} (answer : ℕ → A) (number : O → ℕ) (strategy : AbbreviationsCacheStrategy) (keeps : ℕ → Option A) (seen : ℕ → Bool) (gave : List (Result O Error)) : Type 0 where
   pub came : List O
   pub all : gave ≡ map (λ o. Ok o) came
-  pub kept : Keeps answer (least strategy) (map number came) keeps
+  pub kept : Keeps answer (least_count strategy) (map number came) keeps
   pub noticed : strategy ≡ Duplicates → Seen (map number came) seen
 
 pub nothing_so_far : {A O : Type 0} (answer : ℕ → A) (number : O → ℕ) (strategy : AbbreviationsCacheStrategy) (keeps : ℕ → Option A) (seen : ℕ → Bool) → ((q : ℕ) → keeps q ≡ None) → ((q : ℕ) → seen q ≡ false) → SoFar answer number strategy keeps seen []
@@ -95,7 +95,7 @@ pub record Chosen (strategy : AbbreviationsCacheStrategy) (n : ℕ) (seen now : 
   pub more : strategy ≡ Duplicates → (q : ℕ) → now q ≡ cond (q == n) true (seen q)
   pub which : ((strategy ≡ Duplicates) × (wanted ≡ seen n)) ⊎ ((strategy ≡ All) × (wanted ≡ true))
 
-wanted_enough : (strategy : AbbreviationsCacheStrategy) (n : ℕ) (came : List ℕ) (seen now : ℕ → Bool) → Chosen strategy n seen now true → (strategy ≡ Duplicates → Seen came seen) → least strategy ≤ times n came + 1
+wanted_enough : (strategy : AbbreviationsCacheStrategy) (n : ℕ) (came : List ℕ) (seen now : ℕ → Bool) → Chosen strategy n seen now true → (strategy ≡ Duplicates → Seen came seen) → least_count strategy ≤ times n came + 1
 wanted_enough All n came seen now chosen noticed = omega arith
 wanted_enough Duplicates n came seen now chosen noticed = elim chosen.which [
   | inl twice ↦
@@ -104,7 +104,7 @@ wanted_enough Duplicates n came seen now chosen noticed = elim chosen.which [
   | inr all ↦ absurd (cc (all.0))
 ]
 
-unwanted_few : (strategy : AbbreviationsCacheStrategy) (n : ℕ) (came : List ℕ) (seen now : ℕ → Bool) → Chosen strategy n seen now false → (strategy ≡ Duplicates → Seen came seen) → times n came + 1 < least strategy
+unwanted_few : (strategy : AbbreviationsCacheStrategy) (n : ℕ) (came : List ℕ) (seen now : ℕ → Bool) → Chosen strategy n seen now false → (strategy ≡ Duplicates → Seen came seen) → times n came + 1 < least_count strategy
 unwanted_few strategy n came seen now chosen noticed = elim chosen.which [
   | inl once ↦
       let before : false ≡ nat_le 1 (times n came) = once.1 ∙ noticed once.0 n in
@@ -119,7 +119,7 @@ so_far_kept answer number strategy keeps now seen noticed gave item o is so chos
     record {
       came = so.came ++ o ∷ [];
       all = rw (so.all, is) (sym (map_push (λ o. Ok o) so.came o));
-      kept = rw came (keeps_more answer (least strategy) (number o) (map number so.came) keeps now so.kept then (wanted_enough strategy (number o) (map number so.came) seen noticed chosen so.noticed));
+      kept = rw came (keeps_more answer (least_count strategy) (number o) (map number so.came) keeps now so.kept then (wanted_enough strategy (number o) (map number so.came) seen noticed chosen so.noticed));
       noticed = λ twice. rw came (seen_more (number o) (map number so.came) seen noticed (so.noticed twice) (chosen.more twice));
     }
 
@@ -129,6 +129,6 @@ so_far_passed answer number strategy keeps seen noticed gave item o is so chosen
     record {
       came = so.came ++ o ∷ [];
       all = rw (so.all, is) (sym (map_push (λ o. Ok o) so.came o));
-      kept = rw came (keeps_same answer (least strategy) (number o) (map number so.came) keeps so.kept (unwanted_few strategy (number o) (map number so.came) seen noticed chosen so.noticed));
+      kept = rw came (keeps_same answer (least_count strategy) (number o) (map number so.came) keeps so.kept (unwanted_few strategy (number o) (map number so.came) seen noticed chosen so.noticed));
       noticed = λ twice. rw came (seen_more (number o) (map number so.came) seen noticed (so.noticed twice) (chosen.more twice));
     }

@@ -3,7 +3,7 @@ use Rattle.std.specs.Prelude.{ℕ, suc, zero, ℤ, ◌==◌, ◌≡◌, List, []
 use Rattle.dwarf_constants.specs.declared.error.Error.{Error}
 use Rattle.dwarf_constants.specs.declared.error.Error.TheVariants.{AbbreviationTagZero, AttributeFormZero, AttributeNameZero, DuplicateAbbreviationCode, InvalidAbbreviationChildren, OutOfMemory}
 use Rattle.dwarf_readers.specs.Leb128.{signed_at, unsigned_16_at, unsigned_at}
-use Rattle.dwarf_readers.specs.Place.{Stretch, ◌>>=◌, behind_at, byte_at, end_of, ends_at, given}
+use Rattle.dwarf_readers.specs.Place.{Stretch, ◌>>=◌, behind_at, byte_at, end_of, ends_at, requirement}
 
 -- an attribute of an abbreviation: its name, its form, and the value that the abbreviation itself gives it
 pub record Attribute : Type 0 where
@@ -48,11 +48,11 @@ attributes_at s = attributes_within (suc (length s.bytes)) [] s
 
 -- whether entries have children
 abbrev pub children_at : Stretch → Result (Bool × Stretch) Error
-children_at s = byte_at s >>= λ byte. given (nat_le byte.0 1) (InvalidAbbreviationChildren (record { 0 = byte.0 })) >>= λ _. Ok (byte.0 == 1, byte.1)
+children_at s = byte_at s >>= λ byte. requirement (nat_le byte.0 1) (InvalidAbbreviationChildren (record { 0 = byte.0 })) >>= λ _. Ok (byte.0 == 1, byte.1)
 
 -- a tag, which isn't 0
 abbrev pub tag_at : Stretch → Result (ℕ × Stretch) Error
-tag_at s = unsigned_16_at s >>= λ tag. given (not (tag.0 == 0)) AbbreviationTagZero >>= λ _. Ok tag
+tag_at s = unsigned_16_at s >>= λ tag. requirement (not (tag.0 == 0)) AbbreviationTagZero >>= λ _. Ok tag
 
 -- the declaration of this code
 abbrev pub declaration_of : ℕ → Stretch → Result (Option Declaration × Stretch) Error
@@ -76,7 +76,7 @@ has_code code (d ∷ ds) = if d.code == code then true else has_code code ds
 -- the declarations up to the table's end behind those seen, in at most n steps; no two have one code
 abbrev pub declarations_within : ℕ → List Declaration → Stretch → Result (List Declaration) Error
 declarations_within zero seen s = Err (ends_at (end_of s))
-declarations_within (suc n) seen s = declaration_at s >>= λ next. next_of (λ _. Ok seen) (λ d t. given (not (has_code d.code seen)) (DuplicateAbbreviationCode d.code) >>= λ _. declarations_within n (seen ++ d ∷ []) t) next.0 next.1
+declarations_within (suc n) seen s = declaration_at s >>= λ next. next_of (λ _. Ok seen) (λ d t. requirement (not (has_code d.code seen)) (DuplicateAbbreviationCode d.code) >>= λ _. declarations_within n (seen ++ d ∷ []) t) next.0 next.1
 
 -- the table at a stretch's start: each declaration takes a byte at least
 unfoldable pub table_at : Stretch → Result (List Declaration) Error
@@ -87,9 +87,9 @@ abbrev pub table_in : ℕ → Stretch → Result (List Declaration) Error
 table_in offset section = behind_at offset section >>= table_at
 
 -- the declaration of a code
-abbrev pub declared : ℕ → List Declaration → Option Declaration
-declared code [] = None
-declared code (d ∷ ds) = if d.code == code then Some d else declared code ds
+abbrev pub declaration_for : ℕ → List Declaration → Option Declaration
+declaration_for code [] = None
+declaration_for code (d ∷ ds) = if d.code == code then Some d else declaration_for code ds
 
 -- the place of a code's declaration among these, counted from 0
 abbrev pub place_of : ℕ → List Declaration → Option ℕ

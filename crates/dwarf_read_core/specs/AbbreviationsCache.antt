@@ -13,19 +13,19 @@ use Rattle.dwarf_read_core.specs.declared.abbrev.cache.AbbreviationsCacheStrateg
 use Rattle.dwarf_readers.specs.Place.{Stretch}
 
 -- the answer that a table or an error is
-abbrev pub answer_of : {Z : Type 0} → Result (Rc Abbreviations Z) Error → Result (List Declaration) Error
-answer_of (Ok table) = Ok (declarations table.value)
-answer_of (Err e) = Err e
+abbrev pub table_answer : {Z : Type 0} → Result (Rc Abbreviations Z) Error → Result (List Declaration) Error
+table_answer (Ok table) = Ok (declarations table.value)
+table_answer (Err e) = Err e
 
 -- what a cache keeps for an offset, if anything
-abbrev pub kept : AbbreviationsCache → ℕ → Option (Result (List Declaration) Error)
-kept cache offset = option_map answer_of (get nat_cmp cache.tables offset)
+abbrev pub kept_answer : AbbreviationsCache → ℕ → Option (Result (List Declaration) Error)
+kept_answer cache offset = option_map table_answer (get nat_cmp cache.tables offset)
 
 -- how often an offset has to come to be kept
-abbrev pub least : AbbreviationsCacheStrategy → ℕ
-least Duplicates = 2
-least All = 1
+abbrev pub least_count : AbbreviationsCacheStrategy → ℕ
+least_count Duplicates = 2
+least_count All = 1
 
 -- what is kept for an offset where these came: the section's answer, if the offset came often enough
-abbrev pub populated : AbbreviationsCacheStrategy → List ℕ → Stretch → ℕ → Option (Result (List Declaration) Error)
-populated strategy came section offset = if nat_le (least strategy) (count_by (λ o. o == offset) came) then Some (table_in offset section) else None
+abbrev pub populated_answer : AbbreviationsCacheStrategy → List ℕ → Stretch → ℕ → Option (Result (List Declaration) Error)
+populated_answer strategy came section offset = if nat_le (least_count strategy) (count_by (λ o. o == offset) came) then Some (table_in offset section) else None

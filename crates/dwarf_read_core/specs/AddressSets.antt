@@ -5,7 +5,7 @@ use Rattle.dwarf_constants.specs.declared.common.Format.{Format}
 use Rattle.dwarf_constants.specs.declared.error.Error.{Error}
 use Rattle.dwarf_constants.specs.declared.error.Error.TheVariants.{UnknownVersion, UnsupportedSegmentSize}
 use Rattle.dwarf_readers.specs.InitialLength.{address_at, address_size_at, initial_length_at}
-use Rattle.dwarf_readers.specs.Place.{Stretch, ◌>>=◌, byte_at, given, number_at, split_at}
+use Rattle.dwarf_readers.specs.Place.{Stretch, ◌>>=◌, byte_at, requirement, number_at, split_at}
 
 -- a set of addresses: its offset in the section, its length, how it is encoded, and its addresses
 pub record AddressSet : Type 0 where
@@ -18,10 +18,10 @@ pub record AddressSet : Type 0 where
 abbrev pub set_behind : ℕ → ℕ → Format → Stretch → Result AddressSet Error
 set_behind offset length format s =
     number_at 2 s >>= λ version.
-    given (version.0 == 5) (UnknownVersion version.0) >>= λ _.
+    requirement (version.0 == 5) (UnknownVersion version.0) >>= λ _.
     address_size_at version.1 >>= λ size.
     byte_at size.1 >>= λ segment.
-    given (segment.0 == 0) UnsupportedSegmentSize >>= λ _.
+    requirement (segment.0 == 0) UnsupportedSegmentSize >>= λ _.
     Ok (record { offset = offset; length = length; encoding = record { address_size = size.0; format = format; version = version.0 }; addresses = segment.1 })
 
 -- the set at this offset, and what is left behind it

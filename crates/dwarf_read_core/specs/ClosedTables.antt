@@ -16,17 +16,17 @@ closes_at closed_behind (Ok next) = closes closed_behind next.0 next.1
 closes_at closed_behind (Err e) = false
 
 -- code 0 stands behind at most n declarations
-abbrev pub closed_within : ℕ → Stretch → Bool
-closed_within zero s = false
-closed_within (suc n) s = not (length s.bytes == 0) && closes_at (closed_within n) (declaration_at s)
+abbrev pub is_closed_within : ℕ → Stretch → Bool
+is_closed_within zero s = false
+is_closed_within (suc n) s = not (length s.bytes == 0) && closes_at (is_closed_within n) (declaration_at s)
 
 -- code 0 closes the table at a stretch's start
-unfoldable pub closed_at : Stretch → Bool
-closed_at s = closed_within (suc (length s.bytes)) s
+unfoldable pub is_closed_at : Stretch → Bool
+is_closed_at s = is_closed_within (suc (length s.bytes)) s
 
 -- code 0 closes the table at an offset
-abbrev pub closed_in : ℕ → Stretch → Bool
-closed_in offset section = closed_at (behind offset section)
+abbrev pub is_closed_in : ℕ → Stretch → Bool
+is_closed_in offset section = is_closed_at (behind offset section)
 
 -- An answer stays where this holds, and a refusal stays unless it was that the bytes end.
 abbrev pub StaysIf : {A : Type 0} → Type 0 → Result A Error → Result A Error → Type 0

@@ -9,7 +9,7 @@ use Rattle.dwarf_read_core.specs.declared.str.DebugStr.{DebugStr}
 use Rattle.dwarf_read_core.specs.declared.str.DebugStrOffsets.{DebugStrOffsets}
 use Rattle.dwarf_readers.specs.InitialLength.{address_at, word_at}
 use Rattle.dwarf_readers.specs.Offset.{offset_below}
-use Rattle.dwarf_readers.specs.Place.{Stretch, ◌>>=◌, behind_at, front_at, string_at}
+use Rattle.dwarf_readers.specs.Place.{Stretch, ◌>>=◌, behind_at, prefix_at, string_at}
 
 -- the section's reader
 abbrev pub str_section : {R : Type 0} → DebugStr R → R
@@ -25,7 +25,7 @@ str_offsets_section s = s.section
 
 -- a part of a section, by its offset and its size
 abbrev pub range_in : ℕ → ℕ → Stretch → Result Stretch Error
-range_in offset size section = behind_at offset section >>= front_at size
+range_in offset size section = behind_at offset section >>= prefix_at size
 
 -- the section's reader
 abbrev pub addr_section : {R : Type 0} → DebugAddr R → R

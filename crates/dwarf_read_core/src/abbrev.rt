@@ -5,7 +5,7 @@ ghost use Rattle.std.specs.BTreeMap.{get};
 ghost use Rattle.std.specs.Ordering.{nat_cmp};
 ghost use Rattle.dwarf_constants.specs.declared.common.SectionId.TheVariants as id;
 ghost use Rattle.dwarf_constants.specs.declared.error.Error.TheVariants as error;
-ghost use Rattle.dwarf_read_core.specs.AbbreviationTable.{GivesOrMemory, attribute_at, attributes_at, children_at, declaration_at, declaration_of, declared, has_code, is_among_first, place_of, table_at, table_in, tag_at};
+ghost use Rattle.dwarf_read_core.specs.AbbreviationTable.{GivesOrMemory, attribute_at, attributes_at, children_at, declaration_at, declaration_of, declaration_for, has_code, is_among_first, place_of, table_at, table_in, tag_at};
 ghost use Rattle.dwarf_read_core.specs.Abbreviations.{attribute, declaration};
 ghost use Rattle.dwarf_read_core.specs.Forms.{fixed_size, form_size};
 ghost use Rattle.dwarf_readers.specs.Place.{Reads, ReadsAs};
@@ -334,7 +334,7 @@ impl Abbreviations {
 
     /// The abbreviation of a code.
     pub fn get(&self, code: u64) -> Option<&Abbreviation>
-        ensures { option_map (λ a. declaration a.now) result ≡ declared code (declarations self.now) }
+        ensures { option_map (λ a. declaration a.now) result ≡ declaration_for code (declarations self.now) }
     {
         self.declarations.get(self.place(code)?)
     }

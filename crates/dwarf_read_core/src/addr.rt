@@ -2,7 +2,7 @@
 
 ghost use Rattle.std.specs.Prelude.{◌≡◌, ◌<◌, ◌+◌, ◌==◌, [], length, Some, None, Ok, Err, IfOk, IfErr, IsSome, OnErr, OnOk, ◌≤◌};
 ghost use Rattle.dwarf_constants.specs.declared.common.SectionId.TheVariants as id;
-ghost use Rattle.dwarf_readers.specs.Place.{Gives, Reads, ReadsAs, emptied};
+ghost use Rattle.dwarf_readers.specs.Place.{Gives, Reads, ReadsAs, empty_stretch};
 
 use crate::section::Section;
 use crate::str::entry_offset;

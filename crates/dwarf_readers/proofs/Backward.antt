@@ -4,7 +4,7 @@ use Rattle.std.specs.List.{position, prefix_len}
 use Rattle.std.proofs.lemmas.Bool.Decides.{nat_tests}
 use Rattle.std.proofs.lemmas.List.{reverse-append, length-reverse, length-drop, take-append-drop, take_at, take_rest, drop_at}
 use Prim.Native.Nat.compare
-use Rattle.dwarf_readers.specs.Place.{behind_at, count_before, front_at}
+use Rattle.dwarf_readers.specs.Place.{behind_at, count_before, prefix_at}
 
 -- the bytes behind the first m, and before them those m
 cut : (m : ℕ) (xs : List ℕ) → reverse xs ≡ reverse (drop m xs) ++ reverse (take m xs)
@@ -27,7 +27,7 @@ there m n xs whole = let size : length (reverse xs) ≡ length xs = length-rever
 pub skipped : (m n k : ℕ) (xs : List ℕ) (place : ℕ) (big : Bool) → m + n ≡ length xs → k ≡ n → behind_at n (record { bytes = reverse xs; place = place; big = big }) ≡ Ok (record { bytes = reverse (take m xs); place = place + k; big = big })
 skipped m n k xs place big whole same = rw (there m n xs whole, drop_reversed m n xs whole, same) refl
 
-pub truncated : (m n : ℕ) (xs : List ℕ) (place : ℕ) (big : Bool) → m + n ≡ length xs → front_at n (record { bytes = reverse xs; place = place; big = big }) ≡ Ok (record { bytes = reverse (take (length xs - m) (drop m xs)); place = place; big = big })
+pub truncated : (m n : ℕ) (xs : List ℕ) (place : ℕ) (big : Bool) → m + n ≡ length xs → prefix_at n (record { bytes = reverse xs; place = place; big = big }) ≡ Ok (record { bytes = reverse (take (length xs - m) (drop m xs)); place = place; big = big })
 truncated m n xs place big whole = rw (there m n xs whole, take_reversed m n xs whole, take_rest xs m) refl
 
 -- one place further

@@ -6,7 +6,7 @@ use Rattle.dwarf_constants.specs.declared.common.Format.TheVariants.{Dwarf32, Dw
 use Rattle.dwarf_constants.specs.declared.error.Error.{Error}
 use Rattle.dwarf_constants.specs.declared.error.Error.TheVariants.{UnknownReservedLength, UnsupportedAddressSize, UnsupportedOffsetSize}
 use Rattle.dwarf_readers.specs.Offset.{offset_below}
-use Rattle.dwarf_readers.specs.Place.{Stretch, ◌>>=◌, byte_at, given, number_at}
+use Rattle.dwarf_readers.specs.Place.{Stretch, ◌>>=◌, byte_at, requirement, number_at}
 
 -- what is left behind a read, or where it began if it was refused
 abbrev pub left_by : {A : Type 0} → Result (A × Stretch) Error → Stretch → Stretch
@@ -47,15 +47,15 @@ is_size n = n == 1 || n == 2 || n == 4 || n == 8
 
 -- the size of addresses
 abbrev pub address_size_at : Stretch → Result (ℕ × Stretch) Error
-address_size_at s = byte_at s >>= λ size. given (is_size size.0) (UnsupportedAddressSize size.0) >>= λ _. Ok size
+address_size_at s = byte_at s >>= λ size. requirement (is_size size.0) (UnsupportedAddressSize size.0) >>= λ _. Ok size
 
 -- an address of this size
 abbrev pub address_at : ℕ → Stretch → Result (ℕ × Stretch) Error
-address_at size s = given (is_size size) (UnsupportedAddressSize size) >>= λ _. number_at size s
+address_at size s = requirement (is_size size) (UnsupportedAddressSize size) >>= λ _. number_at size s
 
 -- the number in an offset of this size
 abbrev pub sized_number_at : ℕ → Stretch → Result (ℕ × Stretch) Error
-sized_number_at size s = given (is_size size) (UnsupportedOffsetSize size) >>= λ _. number_at size s
+sized_number_at size s = requirement (is_size size) (UnsupportedOffsetSize size) >>= λ _. number_at size s
 
 -- an offset of this size
 abbrev pub sized_offset_at : ℕ → ℕ → Stretch → Result (ℕ × Stretch) Error

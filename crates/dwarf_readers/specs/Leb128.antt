@@ -2,7 +2,7 @@
 use Rattle.std.specs.Prelude.{ℕ, ◌+◌, ◌-◌, ◌*◌, ◌%◌, ◌^◌, ◌≡◌, ◌≤◌, min, ℤ, pos, ◌-ℤ◌, List, [], ◌∷◌, length, take, Bool, ◌&&◌, Option, Some, None, option_map, Result, Ok, Err, slice_index, nat_lt, nat_le, int_le, int_lt, neg_ℤ, if◌then◌else◌}
 use Rattle.dwarf_constants.specs.declared.error.Error.{Error}
 use Rattle.dwarf_constants.specs.declared.error.Error.TheVariants.{BadUnsignedLeb128, BadSignedLeb128}
-use Rattle.dwarf_readers.specs.Place.{Stretch, ◌>>=◌, behind, end_of, ends_at, given}
+use Rattle.dwarf_readers.specs.Place.{Stretch, ◌>>=◌, behind, end_of, ends_at, requirement}
 
 -- the string at the front of some bytes: those of 128 and more, then one below 128
 abbrev pub string_of : List ℕ → Option (List ℕ)
@@ -55,7 +55,7 @@ unsigned_16_at s = leb128_within 3 BadUnsignedLeb128 (unsigned_below 16) s (stri
 
 -- an unsigned number that fits 32 bits too
 abbrev pub unsigned_32_at : Stretch → Result (ℕ × Stretch) Error
-unsigned_32_at s = unsigned_at s >>= λ n. given (nat_lt n.0 (2 ^ 32)) BadUnsignedLeb128 >>= λ _. Ok n
+unsigned_32_at s = unsigned_at s >>= λ n. requirement (nat_lt n.0 (2 ^ 32)) BadUnsignedLeb128 >>= λ _. Ok n
 
 -- what is left behind the bytes that decide: the first n, or all where there are fewer
 abbrev pub left_by_leb128 : ℕ → Stretch → Stretch

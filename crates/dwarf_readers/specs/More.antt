@@ -4,8 +4,8 @@ use Rattle.dwarf_constants.specs.declared.error.Error.{Error}
 use Rattle.dwarf_readers.specs.Place.{Stretch, ends_at}
 
 -- the stretch with more bytes behind it
-abbrev pub followed : List ℕ → Stretch → Stretch
-followed more s = record { bytes = s.bytes ++ more; place = s.place; big = s.big }
+abbrev pub extended_stretch : List ℕ → Stretch → Stretch
+extended_stretch more s = record { bytes = s.bytes ++ more; place = s.place; big = s.big }
 
 -- The refusal isn't that the bytes end.
 abbrev pub IsLasting : Error → Type 0
@@ -18,16 +18,16 @@ StaysAs change (Err e) after = IsLasting e → after ≡ Err e
 
 -- A value that is read stays, and more bytes follow what is left behind it.
 abbrev pub Stays : {A : Type 0} → List ℕ → Result (A × Stretch) Error → Result (A × Stretch) Error → Type 0
-Stays more before after = StaysAs (λ read. (read.0, followed more read.1)) before after
+Stays more before after = StaysAs (λ read. (read.0, extended_stretch more read.1)) before after
 
 -- No bytes that follow a stretch change what is read from it.
 abbrev pub IsSteady : {A : Type 0} → (Stretch → Result (A × Stretch) Error) → Type 0
-IsSteady read = (more : List ℕ) (s : Stretch) → Stays more (read s) (read (followed more s))
+IsSteady read = (more : List ℕ) (s : Stretch) → Stays more (read s) (read (extended_stretch more s))
 
 -- .. change what is left behind a move in it, but that they follow there
 abbrev pub IsSteadyMove : (Stretch → Result Stretch Error) → Type 0
-IsSteadyMove move = (more : List ℕ) (s : Stretch) → StaysAs (followed more) (move s) (move (followed more s))
+IsSteadyMove move = (more : List ℕ) (s : Stretch) → StaysAs (extended_stretch more) (move s) (move (extended_stretch more s))
 
 -- .. change what is found in it
 abbrev pub IsSteadySearch : {A : Type 0} → (Stretch → Result A Error) → Type 0
-IsSteadySearch find = (more : List ℕ) (s : Stretch) → StaysAs (λ found. found) (find s) (find (followed more s))
+IsSteadySearch find = (more : List ℕ) (s : Stretch) → StaysAs (λ found. found) (find s) (find (extended_stretch more s))

@@ -8,6 +8,6 @@ abbrev pub offset_below : ℕ → ℕ → Result ℕ Error
 offset_below limit n = if nat_lt n limit then Ok n else Err UnsupportedOffset
 
 -- a signed number as an offset: a negative one counts down from the limit
-abbrev pub wrapped : ℕ → ℤ → ℕ
-wrapped limit (pos n) = n
-wrapped limit (negsuc n) = limit - (n + 1)
+abbrev pub wrapped_offset : ℕ → ℤ → ℕ
+wrapped_offset limit (pos n) = n
+wrapped_offset limit (negsuc n) = limit - (n + 1)

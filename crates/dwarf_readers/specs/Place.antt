@@ -20,12 +20,12 @@ abbrev pub behind : ℕ → Stretch → Stretch
 behind n s = record { bytes = drop n s.bytes; place = s.place + n; big = s.big }
 
 -- no bytes, at the same place
-abbrev pub emptied : Stretch → Stretch
-emptied s = record { bytes = []; place = s.place; big = s.big }
+abbrev pub empty_stretch : Stretch → Stretch
+empty_stretch s = record { bytes = []; place = s.place; big = s.big }
 
 -- the first n bytes
-abbrev pub front : ℕ → Stretch → Stretch
-front n s = record { bytes = take n s.bytes; place = s.place; big = s.big }
+abbrev pub prefix : ℕ → Stretch → Stretch
+prefix n s = record { bytes = take n s.bytes; place = s.place; big = s.big }
 
 -- the place behind the last byte
 abbrev pub end_of : Stretch → ℕ
@@ -42,13 +42,13 @@ abbrev pub ◌>>=◌ : {A B : Type 0} → Result A Error → (A → Result B Err
 (Err e) >>= f = Err e
 
 -- goes on where the test holds, and is refused otherwise
-abbrev pub given : Bool → Error → Result (Unit {0}) Error
-given true e = Ok tt
-given false e = Err e
+abbrev pub requirement : Bool → Error → Result (Unit {0}) Error
+requirement true e = Ok tt
+requirement false e = Err e
 
 -- the first n bytes alone
-abbrev pub front_at : ℕ → Stretch → Result Stretch Error
-front_at n s = if nat_lt (length s.bytes) n then Err (ends_at s.place) else Ok (front n s)
+abbrev pub prefix_at : ℕ → Stretch → Result Stretch Error
+prefix_at n s = if nat_lt (length s.bytes) n then Err (ends_at s.place) else Ok (prefix n s)
 
 -- what is left behind the first n bytes, where they are there
 abbrev pub behind_at : ℕ → Stretch → Result Stretch Error
@@ -56,7 +56,7 @@ behind_at n s = if nat_lt (length s.bytes) n then Err (ends_at s.place) else Ok 
 
 -- the first n bytes as a stretch, and what is left
 abbrev pub split_at : ℕ → Stretch → Result (Stretch × Stretch) Error
-split_at n s = if nat_lt (length s.bytes) n then Err (ends_at s.place) else Ok (front n s, behind n s)
+split_at n s = if nat_lt (length s.bytes) n then Err (ends_at s.place) else Ok (prefix n s, behind n s)
 
 -- the first n bytes, and what is left
 abbrev pub bytes_at : ℕ → Stretch → Result (List ℕ × Stretch) Error
@@ -86,7 +86,7 @@ found_at s None = Err (ends_at s.place)
 
 -- the bytes before the first zero as a stretch, and what is left behind the zero
 abbrev pub string_at : Stretch → Result (Stretch × Stretch) Error
-string_at s = found_at s (count_before 0 s.bytes) >>= λ n. Ok (front n s, behind (n + 1) s)
+string_at s = found_at s (count_before 0 s.bytes) >>= λ n. Ok (prefix n s, behind (n + 1) s)
 
 -- this place counted from the start of the stretch, where it lies in it or at its end
 abbrev pub place_within : Stretch → ℕ → Option ℕ

@@ -42,7 +42,7 @@ impl<'a, E: Endianity> EndianSlice<'a, E> {
     ghost use Rattle.std.specs.Str.{IsUtf8};
     ghost use Rattle.dwarf_constants.specs.declared.error.Error.TheVariants.{BadUtf8, OutOfMemory};
     ghost use Rattle.dwarf_readers.specs.EndianSlice.{stretch_of};
-    ghost use Rattle.dwarf_readers.specs.Place.{whole, front, behind, end_of, count_before};
+    ghost use Rattle.dwarf_readers.specs.Place.{whole, prefix, behind, end_of, count_before};
 
     /// A section as a whole: its first byte is at place 0.
     pub fn new(slice: &'a [u8], endian: E) -> Self
@@ -77,7 +77,7 @@ impl<'a, E: Endianity> EndianSlice<'a, E> {
     /// The first `idx` bytes, and the rest.
     pub fn split_at(&self, idx: usize) -> (Self, Self)
         requires { idx ≤ length (stretch_of E.is_big self.now).bytes }
-        ensures first { stretch_of E.is_big result.0 ≡ front idx (stretch_of E.is_big self.now) }
+        ensures first { stretch_of E.is_big result.0 ≡ prefix idx (stretch_of E.is_big self.now) }
         ensures rest { stretch_of E.is_big result.1 ≡ behind idx (stretch_of E.is_big self.now) }
     {
         (self.range_to(..idx), self.range_from(idx..))
@@ -135,7 +135,7 @@ impl<'a, E: Endianity> EndianSlice<'a, E> {
     pub fn range(&self, idx: Range<usize>) -> Self
         requires order { idx.start ≤ idx.end }
         requires inside { idx.end ≤ length (stretch_of E.is_big self.now).bytes }
-        ensures { stretch_of E.is_big result ≡ front (idx.end - idx.start) (behind idx.start (stretch_of E.is_big self.now)) }
+        ensures { stretch_of E.is_big result ≡ prefix (idx.end - idx.start) (behind idx.start (stretch_of E.is_big self.now)) }
     {
         EndianSlice {
             slice: &self.slice[idx.start..idx.end],
@@ -159,7 +159,7 @@ impl<'a, E: Endianity> EndianSlice<'a, E> {
     /// The bytes before the end of `idx`.
     pub fn range_to(&self, idx: RangeTo<usize>) -> Self
         requires { idx.end ≤ length (stretch_of E.is_big self.now).bytes }
-        ensures { stretch_of E.is_big result ≡ front idx.end (stretch_of E.is_big self.now) }
+        ensures { stretch_of E.is_big result ≡ prefix idx.end (stretch_of E.is_big self.now) }
     {
         EndianSlice {
             slice: &self.slice[..idx.end],

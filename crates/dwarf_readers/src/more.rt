@@ -7,7 +7,7 @@ ghost use Rattle.dwarf_constants.specs.declared.common.Format.{Format};
 ghost use Rattle.dwarf_readers.specs.InitialLength.{address_at, address_size_at, initial_length_at, sized_offset_at, word_at};
 ghost use Rattle.dwarf_readers.specs.Leb128.{behind_string, signed_at, string_of, unsigned_16_at, unsigned_32_at, unsigned_at};
 ghost use Rattle.dwarf_readers.specs.More.{IsSteady, IsSteadyMove, IsSteadySearch};
-ghost use Rattle.dwarf_readers.specs.Place.{behind_at, byte_at, bytes_at, front_at, number_at, signed_byte_at, signed_number_at, split_at, string_at};
+ghost use Rattle.dwarf_readers.specs.Place.{behind_at, byte_at, bytes_at, prefix_at, number_at, signed_byte_at, signed_number_at, split_at, string_at};
 
 /// Reads of as many bytes as the caller asks for.
 pub fn fixed_reads_stay()
@@ -17,7 +17,7 @@ pub fn fixed_reads_stay()
     ensures signed_number { (w : Width) → IsSteady (signed_number_at w) }
     ensures bytes { (n : ℕ) → IsSteady (bytes_at n) }
     ensures behind { (n : ℕ) → IsSteadyMove (behind_at n) }
-    ensures front { (n : ℕ) → IsSteadySearch (front_at n) }
+    ensures front { (n : ℕ) → IsSteadySearch (prefix_at n) }
     ensures split { (n : ℕ) → IsSteady (split_at n) }
 {}
 

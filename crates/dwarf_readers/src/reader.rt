@@ -8,7 +8,7 @@ ghost use Rattle.dwarf_constants.specs.declared.error.Error.TheVariants.{BadUtf8
 ghost use Rattle.dwarf_constants.specs.Format.{word_size};
 ghost use Rattle.dwarf_readers.specs.InitialLength.{address_at, address_size_at, initial_length_at, left_by, left_by_initial_length, sized_number_at, sized_offset_at, word_at};
 ghost use Rattle.dwarf_readers.specs.Leb128.{behind_string, left_by_leb128, signed_at, string_of, unsigned_16_at, unsigned_32_at, unsigned_at};
-ghost use Rattle.dwarf_readers.specs.Place.{Gives, Moves, Reads, ReadsAs, Stretch, behind, behind_at, byte_at, bytes_at, count_before, emptied, end_of, found_at, front_at, number_at, place_within, signed_byte_at, signed_number_at, split_at, string_at};
+ghost use Rattle.dwarf_readers.specs.Place.{Gives, Moves, Reads, ReadsAs, Stretch, behind, behind_at, byte_at, bytes_at, count_before, empty_stretch, end_of, found_at, prefix_at, number_at, place_within, signed_byte_at, signed_number_at, split_at, string_at};
 
 use crate::endianity::Endianity;
 use crate::leb128;
@@ -40,11 +40,11 @@ pub trait Reader: Debug + Copy {
 
     /// Lets go of all bytes that are left. The place stays.
     fn empty(&mut self)
-        ensures { stretch self.new ≡ emptied (stretch self.old) };
+        ensures { stretch self.new ≡ empty_stretch (stretch self.old) };
 
     /// Lets go of all but the first `len` bytes.
     fn truncate(&mut self, len: Self::Offset) -> Result<()>
-        ensures moved { Moves result (front_at (Self.Offset.value len) (stretch self.old)) (stretch self.new) }
+        ensures moved { Moves result (prefix_at (Self.Offset.value len) (stretch self.old)) (stretch self.new) }
         ensures unchanged { OnErr result (stretch self.new ≡ stretch self.old) };
 
     /// How far this reader stands behind the start of `base`, in bytes.

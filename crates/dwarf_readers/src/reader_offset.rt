@@ -2,7 +2,7 @@
 
 ghost use Rattle.std.specs.Prelude.{◌≡◌, ◌≤◌, ◌<◌, ◌+◌, ◌-◌, ◌%◌, ◌^◌, ◌==◌, ℕ, refl, Some, None, option_map, nat_le, if◌then◌else◌};
 ghost use Rattle.std.specs.Ordering.{nat_cmp};
-ghost use Rattle.dwarf_readers.specs.Offset.{offset_below, wrapped};
+ghost use Rattle.dwarf_readers.specs.Offset.{offset_below, wrapped_offset};
 ghost use Rattle.dwarf_readers.specs.Place.{Gives};
 
 use dwarf_constants::{Error, Result};
@@ -33,7 +33,7 @@ pub trait ReaderOffset: Debug
 
     /// A negative number counts down from the limit.
     fn from_i16(offset: i16) -> Self
-        ensures { value result ≡ wrapped limit offset };
+        ensures { value result ≡ wrapped_offset limit offset };
 
     fn from_u32(offset: u32) -> Self
         ensures { value result ≡ offset };

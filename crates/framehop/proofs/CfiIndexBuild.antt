@@ -16,7 +16,7 @@ use Rattle.framehop.specs.declared.cfi_index.DwarfCfiIndexError.TheVariants.{Gim
 use Rattle.dwarf_call_frames.specs.Entries.{Fde, Listing, entries_of, entries_from}
 use Rattle.framehop.specs.EntryFor.{is_last_start, indexed_among, fits_index, has_index}
 use Rattle.dwarf_call_frames.specs.Rows.{last_of}
-use Rattle.framehop.specs.CfiIndex.{unfit, first_or, index_error, kept_of, offset_in, Indexes}
+use Rattle.framehop.specs.CfiIndex.{index_refusal, first_or, index_error, index_entry, offset_in, Indexes}
 use Rattle.dwarf_call_frames.proofs.Cases.{by_case}
 use Rattle.framehop.proofs.EntryIndex.{later, later_of, nearer_of, both-true, find-passes, indexed-cons}
 use Rattle.framehop.proofs.CfiIndexOrder.{none-passes, last-passes, none-higher, last-alike, find-back}
@@ -28,14 +28,14 @@ starts-above base f h = let first : nat_le base f.initial_address ≡ true = (bo
 
 -- no FDE at or below the address starts above a bound
 all-under : (base a bound : ℕ) (fs : List Fde) → list_all (fits_index base) fs ≡ true
-    → All (λ y. nat_le y.start a ≡ true → y.start ≤ bound) (map (kept_of base) fs)
+    → All (λ y. nat_le y.start a ≡ true → y.start ≤ bound) (map (index_entry base) fs)
     → list_all (λ f. nat_le f.initial_address (base + bound)) (filter (λ f. nat_le f.initial_address (base + a)) fs) ≡ true
 all-under base a bound [] fit all = refl
 all-under base a bound (f ∷ fs) fit all =
     let (here, others) = both-true (fits_index base f) (list_all (fits_index base) fs) fit in
-    let rest = all-under base a bound fs others (All-tail (λ y. nat_le y.start a ≡ true → y.start ≤ bound) (kept_of base f) (map (kept_of base) fs) all) in
+    let rest = all-under base a bound fs others (All-tail (λ y. nat_le y.start a ≡ true → y.start ≤ bound) (index_entry base f) (map (index_entry base) fs) all) in
     let above : base ≤ f.initial_address = starts-above base f here in
-    let first = All-head (λ y. nat_le y.start a ≡ true → y.start ≤ bound) (kept_of base f) (map (kept_of base) fs) all in
+    let first = All-head (λ y. nat_le y.start a ≡ true → y.start ≤ bound) (index_entry base f) (map (index_entry base) fs) all in
     by_case (nat_le f.initial_address (base + a))
     (λ is.
     let le : nat_le (f.initial_address - base) a ≡ true = grind arith in
@@ -45,7 +45,7 @@ all-under base a bound (f ∷ fs) fit all =
     (λ is. rw is rest)
 
 under : (base a bound : ℕ) (fs : List Fde) (g : Fde) → list_all (fits_index base) fs ≡ true
-    → All (λ y. nat_le y.start a ≡ true → y.start ≤ bound) (map (kept_of base) fs)
+    → All (λ y. nat_le y.start a ≡ true → y.start ≤ bound) (map (index_entry base) fs)
     → indexed_among (base + a) fs ≡ Some g → g.initial_address ≤ base + bound
 under base a bound fs g fit all found =
     let within : List Fde = filter (λ f. nat_le f.initial_address (base + a)) fs in
@@ -55,20 +55,20 @@ under base a bound fs g fit all found =
 -- the first of the FDEs with a start, where no other at or below the address starts above it
 pub first-greatest : (base a : ℕ) (fs : List Fde) (x : IndexedFde) (p : IndexedFde → Bool)
     → ((y : IndexedFde) → p y ≡ true → y.start ≡ x.start) → ((y : IndexedFde) → y.start ≡ x.start → p y ≡ true)
-    → x.start ≤ a → list_all (fits_index base) fs ≡ true → find p (map (kept_of base) fs) ≡ Some x
-    → All (λ y. nat_le y.start a ≡ true → y.start ≤ x.start) (map (kept_of base) fs)
+    → x.start ≤ a → list_all (fits_index base) fs ≡ true → find p (map (index_entry base) fs) ≡ Some x
+    → All (λ y. nat_le y.start a ≡ true → y.start ≤ x.start) (map (index_entry base) fs)
     → (g : Fde) × (indexed_among (base + a) fs ≡ Some g) × (g.initial_address ≡ base + x.start) × (g.offset ≡ x.offset)
 first-greatest base a [] x p only all low fit found greatest = cc
 first-greatest base a (f ∷ fs) x p only all low fit found greatest =
     let (here, others) = both-true (fits_index base f) (list_all (fits_index base) fs) fit in
     let above : base ≤ f.initial_address = starts-above base f here in
-    let rest = All-tail (λ y. nat_le y.start a ≡ true → y.start ≤ x.start) (kept_of base f) (map (kept_of base) fs) greatest in
-    let first = All-head (λ y. nat_le y.start a ≡ true → y.start ≤ x.start) (kept_of base f) (map (kept_of base) fs) greatest in
+    let rest = All-tail (λ y. nat_le y.start a ≡ true → y.start ≤ x.start) (index_entry base f) (map (index_entry base) fs) greatest in
+    let first = All-head (λ y. nat_le y.start a ≡ true → y.start ≤ x.start) (index_entry base f) (map (index_entry base) fs) greatest in
     let made : indexed_among (base + a) (f ∷ fs) ≡ later_of (nearer_of (base + a) None f) (indexed_among (base + a) fs) = indexed-cons (base + a) f fs None in
-    by_case (p (kept_of base f))
+    by_case (p (index_entry base f))
     (λ is.
-    let same : Some (kept_of base f) ≡ Some x = rw is at found in
-    let it : kept_of base f ≡ x = cc in
+    let same : Some (index_entry base f) ≡ Some x = rw is at found in
+    let it : index_entry base f ≡ x = cc in
     let start : f.initial_address - base ≡ x.start = ap (λ y. y.start) it in
     let place : f.offset ≡ x.offset = ap (λ y. y.offset) it in
     let near : nat_le f.initial_address (base + a) ≡ true = grind arith in
@@ -81,7 +81,7 @@ first-greatest base a (f ∷ fs) x p only all low fit found greatest =
     (λ near.
     let le : nat_le (f.initial_address - base) a ≡ true = grind arith in
     let under : f.initial_address - base ≤ x.start = first le in
-    let before : f.initial_address < g.initial_address = before_if g x.start above under start (λ e. let yes = all (kept_of base f) e in cc) in
+    let before : f.initial_address < g.initial_address = before_if g x.start above under start (λ e. let yes = all (index_entry base f) e in cc) in
     (g, made ∙ ap (λ b. later_of (cond b (Some f) None) (indexed_among (base + a) fs)) near ∙ ap (later_of (Some f)) found_ ∙ ap (λ h. Some h) (goes-later g before), start, place))
     (λ far. (g, made ∙ ap (λ b. later_of (cond b (Some f) None) (indexed_among (base + a) fs)) far ∙ found_, start, place)))
   where
@@ -96,15 +96,15 @@ first-greatest base a (f ∷ fs) x p only all low fit found greatest =
     goes-later g lt = let test : nat_lt f.initial_address g.initial_address ≡ true = grind arith in rw test refl
 
 -- where each FDE starts above the address, none is indexed
-none-indexed : (base a : ℕ) (fs : List Fde) → list_all (fits_index base) fs ≡ true → All (λ y. nat_le y.start a ≡ false) (map (kept_of base) fs)
+none-indexed : (base a : ℕ) (fs : List Fde) → list_all (fits_index base) fs ≡ true → All (λ y. nat_le y.start a ≡ false) (map (index_entry base) fs)
     → filter (λ f. nat_le f.initial_address (base + a)) fs ≡ []
 none-indexed base a [] fit all = refl
 none-indexed base a (f ∷ fs) fit all =
     let (here, others) = both-true (fits_index base f) (list_all (fits_index base) fs) fit in
     let above : base ≤ f.initial_address = starts-above base f here in
-    let first : nat_le (f.initial_address - base) a ≡ false = All-head (λ y. nat_le y.start a ≡ false) (kept_of base f) (map (kept_of base) fs) all in
+    let first : nat_le (f.initial_address - base) a ≡ false = All-head (λ y. nat_le y.start a ≡ false) (index_entry base f) (map (index_entry base) fs) all in
     let far : nat_le f.initial_address (base + a) ≡ false = grind arith in
-    rw far (none-indexed base a fs others (All-tail (λ y. nat_le y.start a ≡ false) (kept_of base f) (map (kept_of base) fs) all))
+    rw far (none-indexed base a fs others (All-tail (λ y. nat_le y.start a ≡ false) (index_entry base f) (map (index_entry base) fs) all))
 
 -- ---- what is sorted
 
@@ -112,11 +112,11 @@ same_start : (m n : ℕ) → (ties (λ x y. is_lt (nat_cmp x y)) m n ≡ true �
 same_start m n = (λ h. grind (arith, nat_tests), λ h. grind (arith, nat_tests))
 
 module _ (base : ℕ) (listing : Listing) (ys : List IndexedFde) (has : has_index base listing ≡ true) (up : IsNonDecreasingBy (λ y. y.start) ys)
-    (moved : IsPermutation (reverse (map (kept_of base) listing.fdes)) ys) (stable : IsStableByKey (λ y. y.start) nat_cmp (reverse (map (kept_of base) listing.fdes)) ys) where
+    (moved : IsPermutation (reverse (map (index_entry base) listing.fdes)) ys) (stable : IsStableByKey (λ y. y.start) nat_cmp (reverse (map (index_entry base) listing.fdes)) ys) where
   -- what all have in the list that is sorted, all have in the section
-  unsorted : (P : IndexedFde → Type 0) → All P ys → All P (map (kept_of base) listing.fdes)
+  unsorted : (P : IndexedFde → Type 0) → All P ys → All P (map (index_entry base) listing.fdes)
   unsorted P all =
-      let xs : List IndexedFde = map (kept_of base) listing.fdes in
+      let xs : List IndexedFde = map (index_entry base) listing.fdes in
       All-permutation P (reverse xs) xs (IsPermutation-sym xs (reverse xs) (IsPermutation-reverse xs))
       (All-permutation P ys (reverse xs) (IsPermutation-sym (reverse xs) ys moved) all)
 
@@ -126,7 +126,7 @@ module _ (base : ℕ) (listing : Listing) (ys : List IndexedFde) (has : has_inde
   found-some : (a : ℕ) (x : IndexedFde) → last_of (filter (λ y. nat_le y.start a) ys) ≡ Some x → Some x.offset ≡ option_map (λ f. f.offset) (indexed_among (base + a) listing.fdes)
   found-some a x last =
       let p : IndexedFde → Bool = ties (λ u v. is_lt (nat_cmp u.start v.start)) x in
-      let xs : List IndexedFde = map (kept_of base) listing.fdes in
+      let xs : List IndexedFde = map (index_entry base) listing.fdes in
       let only : (y : IndexedFde) → p y ≡ true → y.start ≡ x.start = λ y. (same_start x.start y.start).0 in
       let all : (y : IndexedFde) → y.start ≡ x.start → p y ≡ true = λ y. (same_start x.start y.start).1 in
       let last_alike : last_of (filter p ys) ≡ Some x = last-alike (λ y. y.start) a p ys x only (all x refl) up last in
@@ -143,10 +143,10 @@ module _ (base : ℕ) (listing : Listing) (ys : List IndexedFde) (has : has_inde
 
   -- the sorted list is an index of the section
   pub indexes-sorted : Indexes ys base listing
-  indexes-sorted = (has, λ a. rw has (by a (last_of (filter (λ y. nat_le y.start a) ys)) refl), length_permutation (reverse kept) ys moved ∙ length-reverse kept ∙ length-map listing.fdes (kept_of base))
+  indexes-sorted = (has, λ a. rw has (by a (last_of (filter (λ y. nat_le y.start a) ys)) refl), length_permutation (reverse kept) ys moved ∙ length-reverse kept ∙ length-map listing.fdes (index_entry base))
     where
       kept : List IndexedFde
-      kept = map (kept_of base) listing.fdes
+      kept = map (index_entry base) listing.fdes
 
       by : (a : ℕ) (o : Option IndexedFde) → last_of (filter (λ y. nat_le y.start a) ys) ≡ o → offset_in ys a ≡ option_map (λ f. f.offset) (indexed_among (base + a) listing.fdes)
       by a (Some x) e = ap (option_map (λ y. y.offset)) e ∙ found-some a x e
@@ -154,33 +154,33 @@ module _ (base : ℕ) (listing : Listing) (ys : List IndexedFde) (has : has_inde
 
 -- ---- the error of the first entry against an index
 
-fits-all : (base : ℕ) (f : Fde) → unfit base f ≡ None → fits_index base f ≡ true
+fits-all : (base : ℕ) (f : Fde) → index_refusal base f ≡ None → fits_index base f ≡ true
 fits-all base f h = grind (arith, nat_tests)
 
-fits-not : (base : ℕ) (f : Fde) (e : DwarfCfiIndexError) → unfit base f ≡ Some e → fits_index base f ≡ false
+fits-not : (base : ℕ) (f : Fde) (e : DwarfCfiIndexError) → index_refusal base f ≡ Some e → fits_index base f ≡ false
 fits-not base f e h = grind (arith, nat_tests)
 
-no-error : (base : ℕ) (fault : Option Error) (fs : List Fde) → first_or (unfit base) (option_map Gimli fault) fs ≡ None → (is_none fault && list_all (fits_index base) fs) ≡ true
+no-error : (base : ℕ) (fault : Option Error) (fs : List Fde) → first_or (index_refusal base) (option_map Gimli fault) fs ≡ None → (is_none fault && list_all (fits_index base) fs) ≡ true
 no-error base None [] h = refl
 no-error base (Some e) [] h = cc
-no-error base fault (f ∷ fs) h = by (unfit base f) refl (λ e. no-error base fault fs e) h
+no-error base fault (f ∷ fs) h = by (index_refusal base f) refl (λ e. no-error base fault fs e) h
   where
-    by : (o : Option DwarfCfiIndexError) → unfit base f ≡ o → (first_or (unfit base) (option_map Gimli fault) fs ≡ None → (is_none fault && list_all (fits_index base) fs) ≡ true)
-        → option_or o (first_or (unfit base) (option_map Gimli fault) fs) ≡ None → (is_none fault && (fits_index base f && list_all (fits_index base) fs)) ≡ true
+    by : (o : Option DwarfCfiIndexError) → index_refusal base f ≡ o → (first_or (index_refusal base) (option_map Gimli fault) fs ≡ None → (is_none fault && list_all (fits_index base) fs) ≡ true)
+        → option_or o (first_or (index_refusal base) (option_map Gimli fault) fs) ≡ None → (is_none fault && (fits_index base f && list_all (fits_index base) fs)) ≡ true
     by (Some e) is others found = cc
     by None is others found = let fits : fits_index base f ≡ true = fits-all base f is in rw fits (others found)
 
-some-error : (base : ℕ) (fault : Option Error) (fs : List Fde) (error : DwarfCfiIndexError) → first_or (unfit base) (option_map Gimli fault) fs ≡ Some error → (is_none fault && list_all (fits_index base) fs) ≡ false
+some-error : (base : ℕ) (fault : Option Error) (fs : List Fde) (error : DwarfCfiIndexError) → first_or (index_refusal base) (option_map Gimli fault) fs ≡ Some error → (is_none fault && list_all (fits_index base) fs) ≡ false
 some-error base None [] error h = cc
 some-error base (Some e) [] error h = refl
-some-error base fault (f ∷ fs) error h = by (unfit base f) refl (λ e. some-error base fault fs error e) h
+some-error base fault (f ∷ fs) error h = by (index_refusal base f) refl (λ e. some-error base fault fs error e) h
   where
     either : (a b : Bool) → b ≡ false → (a && b) ≡ false
     either true b e = e
     either false b e = refl
 
-    by : (o : Option DwarfCfiIndexError) → unfit base f ≡ o → (first_or (unfit base) (option_map Gimli fault) fs ≡ Some error → (is_none fault && list_all (fits_index base) fs) ≡ false)
-        → option_or o (first_or (unfit base) (option_map Gimli fault) fs) ≡ Some error → (is_none fault && (fits_index base f && list_all (fits_index base) fs)) ≡ false
+    by : (o : Option DwarfCfiIndexError) → index_refusal base f ≡ o → (first_or (index_refusal base) (option_map Gimli fault) fs ≡ Some error → (is_none fault && list_all (fits_index base) fs) ≡ false)
+        → option_or o (first_or (index_refusal base) (option_map Gimli fault) fs) ≡ Some error → (is_none fault && (fits_index base f && list_all (fits_index base) fs)) ≡ false
     by (Some e) is others found = let fails : fits_index base f ≡ false = fits-not base f e is in rw fails (either (is_none fault) false refl)
     by None is others found = let fits : fits_index base f ≡ true = fits-all base f is in rw fits (others found)
 
@@ -198,4 +198,4 @@ has-no-index base listing error h = some-error base listing.fault listing.fdes e
 -- the FDEs is what was gathered and what is kept of the rest
 pub record Gathered (section : List ℕ) (base : ℕ) (kept : List IndexedFde) (left : Stretch) : Type 0 where
   pub error : index_error base (entries_of section) ≡ index_error base (entries_from section left)
-  pub fdes : map (kept_of base) (entries_of section).fdes ≡ kept ++ map (kept_of base) (entries_from section left).fdes
+  pub fdes : map (index_entry base) (entries_of section).fdes ≡ kept ++ map (index_entry base) (entries_from section left).fdes

@@ -2,7 +2,7 @@
 use Rattle.std.proofs.Common.{◌≡◌, ℕ, ◌-◌, ◌^◌, ◌<◌, ◌≤◌, Bool, cond, List, Option, Some, None, Result, Ok, Err, refl, sym, ap, ◌∙◌}
 use Rattle.std.specs.Prelude.{option_and_then}
 use Rattle.std.proofs.lemmas.Bool.{lt-ltb, le-ltb}
-use Rattle.framehop_rules.specs.Callback.{Words, answer_of}
+use Rattle.framehop_rules.specs.Callback.{Words, read_answer}
 use Rattle.framehop_rules.specs.Outcome.{Caller}
 use Rattle.framehop_rules.specs.RuleMeaning.{caller_registers}
 use Rattle.framehop_rules.specs.declared.x86_64.unwindregs.UnwindRegsX86_64.{UnwindRegsX86_64}
@@ -12,7 +12,7 @@ use Rattle.framehop.specs.declared.dwarf.DwarfUnwinderError.{DwarfUnwinderError}
 use Rattle.framehop.specs.declared.dwarf.DwarfUnwinderError.TheVariants.{LookupAddressOverflow}
 use Rattle.framehop.specs.declared.error.UnwinderError.TheVariants.{Dwarf}
 use Rattle.framehop.specs.Attempt.{Fails, by_rule, by_row, by_fde}
-use Rattle.framehop.specs.DirectRow.{stored_at, direct_cfa, direct_column, word_below, direct_return_address, direct_bp, direct_refusal, unless, direct_by_return_address, direct_by_cfa, direct_answer}
+use Rattle.framehop.specs.DirectRow.{stored_at, direct_cfa, direct_column, word_below, direct_return_address, direct_bp, direct_refusal, caller_unless, direct_by_return_address, direct_by_cfa, direct_answer}
 use Rattle.dwarf_call_frames.specs.Entries.{Cie, Fde}
 use Rattle.framehop.specs.RowViews.{parts_shown}
 use Rattle.dwarf_call_frames.specs.Rows.{Row, row_for}
@@ -20,12 +20,12 @@ use Rattle.framehop.specs.ScaledRow.{Parts, RBP, RA, parts_of, scaled_rule}
 use Rattle.dwarf_call_frames.specs.UnwindRows.{IsRow}
 
 -- a word that was read is the word there
-pub word_read : (there : Option ℕ) (value : ℕ) → Ok value ≡ answer_of there → Some value ≡ there
+pub word_read : (there : Option ℕ) (value : ℕ) → Ok value ≡ read_answer there → Some value ≡ there
 word_read (Some found) value is = cc
 word_read None value is = cc
 
 -- a read that failed shows that no word is there
-pub word_missed : (there : Option ℕ) → Err tt ≡ answer_of there → None ≡ there
+pub word_missed : (there : Option ℕ) → Err tt ≡ read_answer there → None ≡ there
 word_missed (Some found) is = cc
 word_missed None is = refl
 
@@ -52,14 +52,14 @@ answer_is first registers words section parts cfa to target cfa_is to_is h =
 
 -- a refusal stands before the caller
 pub refused_is : (first : Bool) (registers : UnwindRegsX86_64) (words : Words) (parts : Parts) (cfa to : ℕ) (e : DwarfUnwinderError) → Some e ≡ direct_refusal first registers cfa to → Err e ≡ direct_by_return_address first registers words parts cfa (Some to)
-refused_is first registers words parts cfa to e h = ap (λ o. unless o (record { return_address = to; registers = caller_registers registers to cfa (direct_bp registers words cfa parts.bp) })) h
+refused_is first registers words parts cfa to e h = ap (λ o. caller_unless o (record { return_address = to; registers = caller_registers registers to cfa (direct_bp registers words cfa parts.bp) })) h
 
 -- without one there is the caller
 pub caller_is : (first : Bool) (registers : UnwindRegsX86_64) (words : Words) (parts : Parts) (cfa to bp : ℕ) → None ≡ direct_refusal first registers cfa to → bp ≡ direct_bp registers words cfa parts.bp
     → Ok (record { return_address = to; registers = caller_registers registers to cfa bp }) ≡ direct_by_return_address first registers words parts cfa (Some to)
 caller_is first registers words parts cfa to bp h bp_is =
     let made : ℕ → Caller UnwindRegsX86_64 = λ (b : ℕ). record { return_address = to; registers = caller_registers registers to cfa b } in
-    ap (λ (b : ℕ). Ok (made b)) bp_is ∙ ap (λ o. unless o (made (direct_bp registers words cfa parts.bp))) h
+    ap (λ (b : ℕ). Ok (made b)) bp_is ∙ ap (λ o. caller_unless o (made (direct_bp registers words cfa parts.bp))) h
 
 -- the parts that are shown are those of the row
 pub parts_alike : (cie : Cie) (row : Row) (shown : UnwindTableRow) → IsRow cie row shown → parts_shown shown ≡ parts_of cie.data_alignment_factor row

@@ -6,7 +6,7 @@ use Rattle.std.proofs.lemmas.List.{get_or-map, get_or-take, get_or_default, leng
 use Rattle.std.specs.List.Sorted.{IsNonDecreasingBy}
 use Rattle.std.proofs.lemmas.List.Sorted.{IsNonDecreasingBy-insert}
 use Rattle.dwarf_call_frames.specs.Rows.{last_of}
-use Rattle.framehop.specs.ModuleFound.{Loaded, is_last_start, nearest, inserted}
+use Rattle.framehop.specs.ModuleFound.{Loaded, is_last_start, nearest_module, with_module}
 
 -- the last of a list stays the last where another goes to the front
 pub last_of-cons : {A : Type 0} (x y : A) (xs : List A) → last_of xs ≡ Some y → last_of (x ∷ xs) ≡ Some y
@@ -53,7 +53,7 @@ module _ {X : Type 0} (view : X → Loaded) where
   pub nearest-found : (xs : List X) (address i : ℕ) (d : X) → IsNonDecreasingBy (λ x. (view x).start) xs → i < length xs
       → ((k : ℕ) (d : X) → k < suc i → nat_le (view (get_or xs k d)).start address ≡ true)
       → ((k : ℕ) (d : X) → suc i ≤ k → k < length xs → nat_le (view (get_or xs k d)).start address ≡ false)
-      → nearest (map view xs) address ≡ Some (view (get_or xs i d))
+      → nearest_module (map view xs) address ≡ Some (view (get_or xs i d))
   nearest-found xs address i d ordered within passes fails =
       let front : List X = take (suc i) xs in
       let len : length front ≡ suc i = length-take-le (suc i) xs (omega arith) in
@@ -68,14 +68,14 @@ module _ {X : Type 0} (view : X → Loaded) where
       rw (same, last_of-filter (is_last_start ys) ys i (view d) size first, last) refl
 
   -- where the first start is above an address, no module is near
-  pub nearest-none : (xs : List X) (address : ℕ) → ((k : ℕ) (d : X) → k < length xs → nat_le (view (get_or xs k d)).start address ≡ false) → nearest (map view xs) address ≡ None
+  pub nearest-none : (xs : List X) (address : ℕ) → ((k : ℕ) (d : X) → k < length xs → nat_le (view (get_or xs k d)).start address ≡ false) → nearest_module (map view xs) address ≡ None
   nearest-none xs address fails = rw (filter-none (λ m. nat_le m.start address) xs fails) refl
 
   -- a new one goes before the first of an equal or a greater start
   pub insert-is : (xs : List X) (i : ℕ) (x : X) → i ≤ length xs
       → ((k : ℕ) (d : X) → k < i → nat_lt (view (get_or xs k d)).start (view x).start ≡ true)
       → ((k : ℕ) (d : X) → i ≤ k → k < length xs → nat_lt (view (get_or xs k d)).start (view x).start ≡ false)
-      → map view (insert xs i x) ≡ inserted (view x) (map view xs)
+      → map view (insert xs i x) ≡ with_module (view x) (map view xs)
   insert-is [] zero x within lower higher = refl
   insert-is [] (suc i) x within lower higher = absurd (omega arith)
   insert-is (y ∷ ys) zero x within lower higher =

@@ -9,7 +9,7 @@ use Rattle.dwarf_constants.specs.declared.common.Register.{Register}
 use Rattle.framehop_rules.specs.Callback.{Words}
 use Rattle.framehop_rules.specs.Outcome.{Outcome, Ends, Refuses, Gives, Caller, and_then, address, word}
 use Rattle.framehop_rules.specs.Registers.{ip_of, sp_of, bp_of}
-use Rattle.framehop_rules.specs.RuleMeaning.{raised, by_frame_pointer, stored_bp, restored, return_address, Moved, caller_registers, returned, rule_meaning}
+use Rattle.framehop_rules.specs.RuleMeaning.{raised_frame, by_frame_pointer, stored_bp, restored_frame, return_address, Moved, caller_registers, returned_caller, rule_meaning}
 use Rattle.framehop_rules.specs.declared.error.Error.{Error}
 use Rattle.framehop_rules.specs.declared.error.Error.TheVariants.{DidNotAdvance, FramepointerUnwindingMovedBackwards}
 use Rattle.framehop_rules.specs.declared.x86_64.unwind_rule.UnwindRuleX86_64.{UnwindRuleX86_64}
@@ -75,7 +75,7 @@ return-gives registers words sp to h =
 -- the caller that is given is the row's at its CFA, where the row has the frame pointer that the rule moved to
 returned-gives : (registers : UnwindRegsX86_64) (words : Words) (cfa : CfaRule) (bp : Option RegisterRule) (sp new_bp : ℕ) (caller : Caller UnwindRegsX86_64)
     → unwrap_or (option_and_then (column_value words sp) bp) (bp_of registers) ≡ new_bp
-    → returned registers words (sp, new_bp) ≡ Gives caller
+    → returned_caller registers words (sp, new_bp) ≡ Gives caller
     → caller_at registers words (record { cfa = cfa; bp = bp; ra = Some (rule.Offset (negsuc 7)) }) sp ≡ Some caller
 returned-gives registers words cfa bp sp new_bp caller column h =
     let f : ℕ → Outcome (Caller UnwindRegsX86_64) = λ to. Gives (record { return_address = to; registers = caller_registers registers to sp new_bp }) in
@@ -139,17 +139,17 @@ value-at-6 registers register is = rw is
 
 -- what a move gives is what is returned from
 moved-back : (registers : UnwindRegsX86_64) (words : Words) (moved to : Moved) (caller : Caller UnwindRegsX86_64)
-    → Gives to ≡ Gives moved → returned registers words moved ≡ Gives caller → returned registers words to ≡ Gives caller
-moved-back registers words moved to caller moves_to h = let e : to ≡ moved = cc in let P : Moved → Type 0 = λ m. returned registers words m ≡ Gives caller in subst P (sym e) h
+    → Gives to ≡ Gives moved → returned_caller registers words moved ≡ Gives caller → returned_caller registers words to ≡ Gives caller
+moved-back registers words moved to caller moves_to h = let e : to ≡ moved = cc in let P : Moved → Type 0 = λ m. returned_caller registers words m ≡ Gives caller in subst P (sym e) h
 
 -- the stack pointer goes up, the frame pointer stays
 raised-gives : (registers : UnwindRegsX86_64) (words : Words) (register : Register) (offset : ℤ) (x : ℕ) (caller : Caller UnwindRegsX86_64)
     → register.0 ≡ 7 → offset ≡ pos (8 * x)
-    → and_then (raised registers (8 * x)) (returned registers words) ≡ Gives caller
+    → and_then (raised_frame registers (8 * x)) (returned_caller registers words) ≡ Gives caller
     → row_answer registers words (record { cfa = RegisterAndOffset register offset; bp = None; ra = Some (rule.Offset (negsuc 7)) }) ≡ Some caller
 raised-gives registers words register offset x caller at_7 is h =
     let f : ℕ → Outcome Moved = λ sp. Gives (sp, bp_of registers) in
-    let (moved, up, back) = and_then-gives (raised registers (8 * x)) (returned registers words) caller h in
+    let (moved, up, back) = and_then-gives (raised_frame registers (8 * x)) (returned_caller registers words) caller h in
     let (sp, placed, moves_to) = and_then-gives (address (pos (sp_of registers) +ℤ pos (8 * x))) f moved up in
     row-gives registers words register offset None (sp_of registers) sp caller (value-at-7 registers register at_7)
     (rw is (address-gives (pos (sp_of registers) +ℤ pos (8 * x)) sp placed))
@@ -163,13 +163,13 @@ stored-is first registers None at bp h = grind arith
 -- the stack pointer goes up, the frame pointer is restored
 restored-gives : (first : Bool) (registers : UnwindRegsX86_64) (words : Words) (register : Register) (offset stored : ℤ) (x : ℕ) (y : ℤ) (caller : Caller UnwindRegsX86_64)
     → register.0 ≡ 7 → offset ≡ pos (8 * x) → offset +ℤ stored ≡ pos 8 *ℤ y
-    → and_then (restored first registers words (8 * x) (pos 8 *ℤ y)) (returned registers words) ≡ Gives caller
+    → and_then (restored_frame first registers words (8 * x) (pos 8 *ℤ y)) (returned_caller registers words) ≡ Gives caller
     → row_answer registers words (record { cfa = RegisterAndOffset register offset; bp = Some (rule.Offset stored); ra = Some (rule.Offset (negsuc 7)) }) ≡ Some caller
 restored-gives first registers words register offset stored x y caller at_7 is both h =
     let f : ℕ → ℕ → Outcome Moved = λ sp bp. Gives (sp, bp) in
     let k : ℕ → ℕ → Outcome Moved = λ sp at. and_then (stored_bp first registers words at) (f sp) in
     let j : ℕ → Outcome Moved = λ sp. and_then (address (pos (sp_of registers) +ℤ pos 8 *ℤ y)) (k sp) in
-    let (moved, up, back) = and_then-gives (restored first registers words (8 * x) (pos 8 *ℤ y)) (returned registers words) caller h in
+    let (moved, up, back) = and_then-gives (restored_frame first registers words (8 * x) (pos 8 *ℤ y)) (returned_caller registers words) caller h in
     let (sp, placed, on) = and_then-gives (address (pos (sp_of registers) +ℤ pos (8 * x))) j moved up in
     let (at, found, further) = and_then-gives (address (pos (sp_of registers) +ℤ pos 8 *ℤ y)) (k sp) moved on in
     let (bp, held, moves_to) = and_then-gives (stored_bp first registers words at) (f sp) moved further in
@@ -184,12 +184,12 @@ restored-gives first registers words register offset stored x y caller at_7 is b
 -- the frame pointer is followed
 followed-gives : (registers : UnwindRegsX86_64) (words : Words) (register : Register) (caller : Caller UnwindRegsX86_64)
     → register.0 ≡ 6
-    → and_then (by_frame_pointer registers words) (returned registers words) ≡ Gives caller
+    → and_then (by_frame_pointer registers words) (returned_caller registers words) ≡ Gives caller
     → row_answer registers words (record { cfa = RegisterAndOffset register (pos 16); bp = Some (rule.Offset (negsuc 15)); ra = Some (rule.Offset (negsuc 7)) }) ≡ Some caller
 followed-gives registers words register caller at_6 h =
     let f : ℕ → ℕ → Outcome Moved = λ sp bp. Gives (sp, bp) in
     let k : ℕ → Outcome Moved = λ sp. if nat_le sp (sp_of registers) then Refuses FramepointerUnwindingMovedBackwards else and_then (word words (bp_of registers)) (f sp) in
-    let (moved, up, back) = and_then-gives (by_frame_pointer registers words) (returned registers words) caller h in
+    let (moved, up, back) = and_then-gives (by_frame_pointer registers words) (returned_caller registers words) caller h in
     let (sp, placed, on) = and_then-gives (address (pos (bp_of registers) +ℤ pos 16)) k moved up in
     let here = address-gives (pos (bp_of registers) +ℤ pos 16) sp placed in
     let (bp, held, moves_to) = and_then-gives (word words (bp_of registers)) (f sp) moved (past-test (nat_le sp (sp_of registers)) FramepointerUnwindingMovedBackwards (and_then (word words (bp_of registers)) (f sp)) moved on) in
@@ -242,8 +242,8 @@ from_bp-is offset stored how says =
 
 -- a step by the frame pointer that gives has followed it
 follow-gives : (first : Bool) (registers : UnwindRegsX86_64) (words : Words) (caller : Caller UnwindRegsX86_64)
-    → rule_meaning UseFramePointer first registers words ≡ Gives caller → and_then (by_frame_pointer registers words) (returned registers words) ≡ Gives caller
-follow-gives first registers words caller h = at_end (bp_of registers == 0) (by_frame_pointer registers words) (returned registers words) caller h
+    → rule_meaning UseFramePointer first registers words ≡ Gives caller → and_then (by_frame_pointer registers words) (returned_caller registers words) ≡ Gives caller
+follow-gives first registers words caller h = at_end (bp_of registers == 0) (by_frame_pointer registers words) (returned_caller registers words) caller h
   where
     at_end : {A B : Type 0} (b : Bool) (x : Outcome A) (f : A → Outcome B) (c : B) → and_then (if b then Ends else x) f ≡ Gives c → and_then x f ≡ Gives c
     at_end true x f c h = cc

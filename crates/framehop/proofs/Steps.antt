@@ -23,7 +23,7 @@ use Rattle.framehop.specs.ModuleFound.{Loaded, module_found}
 use Rattle.framehop.specs.Attempt.{Attempt, Rules, Scales, Evaluates, Fails, by_rule, by_row, by_fde, by_section, attempt}
 use Rattle.framehop.specs.Judge.{is_first, or_else, by_attempt, by_module, judge}
 use Rattle.framehop.specs.DirectRow.{direct_answer}
-use Rattle.framehop.specs.UnwindResults.{Tried, tried, tried_directly, with_registers, KeepsUnlessDirect, outcome_of_result}
+use Rattle.framehop.specs.UnwindResults.{Trial, trial, direct_trial, with_registers, KeepsUnlessDirect, outcome_of_result}
 use Rattle.framehop.proofs.RowsOfRules.{law}
 
 -- the rule of a row that is said exactly is the one that says it
@@ -60,20 +60,20 @@ or_fallback (Ok answer) = answer
 or_fallback (Err failure) = ExecRule UseFramePointer
 
 -- the parts of an answer with registers
-abbrev answer_part : UnwindResult → Tried → UnwindResult
+abbrev answer_part : UnwindResult → Trial → UnwindResult
 answer_part other (Ok both) = both.0
 answer_part other (Err e) = other
 
-abbrev registers_part : UnwindRegsX86_64 → Tried → UnwindRegsX86_64
+abbrev registers_part : UnwindRegsX86_64 → Trial → UnwindRegsX86_64
 registers_part other (Ok both) = both.1
 registers_part other (Err e) = other
 
-both_parts : (x y : UnwindResult) (r s : UnwindRegsX86_64) → ◌≡◌ {A = Tried} (Ok (x, r)) (Ok (y, s)) → (x ≡ y) × (r ≡ s)
+both_parts : (x y : UnwindResult) (r s : UnwindRegsX86_64) → ◌≡◌ {A = Trial} (Ok (x, r)) (Ok (y, s)) → (x ≡ y) × (r ≡ s)
 both_parts x y r s is = (ap (answer_part x) is, ap (registers_part r) is)
 
 -- a direct row comes to its answer, or to the frame pointer's rule
 directly : (first : Bool) (registers left : UnwindRegsX86_64) (words : Words) (direct : Result (Caller UnwindRegsX86_64) DwarfUnwinderError) (answer : Result UnwindResult UnwinderError)
-    → with_registers left answer ≡ tried_directly direct → KeepsUnlessDirect answer registers left
+    → with_registers left answer ≡ direct_trial direct → KeepsUnlessDirect answer registers left
     → or_else direct (rule_meaning UseFramePointer first registers words) ≡ outcome_of_result (or_fallback answer) first left words
 directly first registers left words (Ok caller) (Ok (ExecRule rule)) is keeps =
     let (same, kept) = both_parts (ExecRule rule) (Uncacheable caller.return_address) left caller.registers is in cc
@@ -98,7 +98,7 @@ by_its_rule first registers left words how (Err failure) is = cc
 
 -- an attempt comes to what was tried, or, without an answer, to the frame pointer's rule
 executed : (first : Bool) (registers left : UnwindRegsX86_64) (words : Words) (attempted : Attempt) (answer : Result UnwindResult UnwinderError) → IsExact attempted
-    → with_registers left answer ≡ tried first registers words attempted → KeepsUnlessDirect answer registers left
+    → with_registers left answer ≡ trial first registers words attempted → KeepsUnlessDirect answer registers left
     → by_attempt first registers words attempted ≡ outcome_of_result (or_fallback answer) first left words
 executed first registers left words (Rules rule) answer exact is keeps = by_its_rule first registers left words rule answer is
 executed first registers left words (Scales rule parts) answer exact is keeps = law parts rule first registers words exact ∙ by_its_rule first registers left words rule answer is
@@ -109,13 +109,13 @@ executed first registers left words (Fails failure) (Err other) exact is keeps =
 -- the step in a module
 pub step-found : (modules : List Loaded) (address : FrameAddress) (lookup relative : ℕ) (first : Bool) (m : Loaded) (registers left : UnwindRegsX86_64) (words : Words) (answer : Result UnwindResult UnwinderError)
     → lookup ≡ lookup_address_of address → module_found modules lookup ≡ Some m → relative ≡ lookup - m.base → first ≡ is_first address
-    → with_registers left answer ≡ tried first registers words (attempt m relative) → KeepsUnlessDirect answer registers left
+    → with_registers left answer ≡ trial first registers words (attempt m relative) → KeepsUnlessDirect answer registers left
     → judge modules address registers words ≡ outcome_of_result (or_fallback answer) (is_first address) left words
 step-found modules address lookup relative first m registers left words answer looked found counted kind answered keeps =
     let here : module_found modules (lookup_address_of address) ≡ Some m = (let P : ℕ → Type 0 = λ n. module_found modules n ≡ Some m in subst P looked found) in
     let at : relative ≡ lookup_address_of address - m.base = counted ∙ ap (λ n. n - m.base) looked in
-    let is : with_registers left answer ≡ tried (is_first address) registers words (attempt m (lookup_address_of address - m.base))
-    = answered ∙ ap (λ n. tried first registers words (attempt m n)) at ∙ ap (λ b. tried b registers words (attempt m (lookup_address_of address - m.base))) kind in
+    let is : with_registers left answer ≡ trial (is_first address) registers words (attempt m (lookup_address_of address - m.base))
+    = answered ∙ ap (λ n. trial first registers words (attempt m n)) at ∙ ap (λ b. trial b registers words (attempt m (lookup_address_of address - m.base))) kind in
     ap (by_module (is_first address) registers words (lookup_address_of address)) here
     ∙ executed (is_first address) registers left words (attempt m (lookup_address_of address - m.base)) answer (exact-section m.base_svma (lookup_address_of address - m.base) m.eh_frame) is keeps
 

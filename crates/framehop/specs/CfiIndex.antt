@@ -10,8 +10,8 @@ use Rattle.framehop.specs.EntryFor.{has_index, indexed_entry}
 use Rattle.dwarf_call_frames.specs.Rows.{last_of}
 
 -- why an index can't have an FDE, if it can't
-abbrev pub unfit : ℕ → Fde → Option DwarfCfiIndexError
-unfit base fde = if nat_lt fde.initial_address base then Some CouldNotSubtractBaseAddress else if nat_le (2 ^ 32) (fde.initial_address - base) then Some RelativeAddressTooBig else if nat_le (2 ^ 32) fde.offset then Some FdeOffsetTooBig else None
+abbrev pub index_refusal : ℕ → Fde → Option DwarfCfiIndexError
+index_refusal base fde = if nat_lt fde.initial_address base then Some CouldNotSubtractBaseAddress else if nat_le (2 ^ 32) (fde.initial_address - base) then Some RelativeAddressTooBig else if nat_le (2 ^ 32) fde.offset then Some FdeOffsetTooBig else None
 
 -- the first value of a test, from the front of a list on, or else another
 abbrev pub first_or : {A B : Type 0} → (A → Option B) → Option B → List A → Option B
@@ -20,11 +20,11 @@ first_or test other (x ∷ xs) = option_or (test x) (first_or test other xs)
 
 -- the error of the first entry against an index: of the first FDE that it can't have, or else the fault that ends the list
 abbrev pub index_error : ℕ → Listing → Option DwarfCfiIndexError
-index_error base listing = first_or (unfit base) (option_map Gimli listing.fault) listing.fdes
+index_error base listing = first_or (index_refusal base) (option_map Gimli listing.fault) listing.fdes
 
 -- what an index keeps of an FDE: its start relative to the base, and its place
-abbrev pub kept_of : ℕ → Fde → IndexedFde
-kept_of base fde = record { start = fde.initial_address - base; offset = fde.offset }
+abbrev pub index_entry : ℕ → Fde → IndexedFde
+index_entry base fde = record { start = fde.initial_address - base; offset = fde.offset }
 
 -- the place of the last that starts at or below an address, of those that an index keeps
 abbrev pub offset_in : List IndexedFde → ℕ → Option ℕ

@@ -71,15 +71,15 @@ direct_refusal first registers cfa to =
     else None
 
 -- the caller, unless there is a refusal
-abbrev pub unless : Option DwarfUnwinderError → Caller UnwindRegsX86_64 → Result (Caller UnwindRegsX86_64) DwarfUnwinderError
-unless None caller = Ok caller
-unless (Some refusal) caller = Err refusal
+abbrev pub caller_unless : Option DwarfUnwinderError → Caller UnwindRegsX86_64 → Result (Caller UnwindRegsX86_64) DwarfUnwinderError
+caller_unless None caller = Ok caller
+caller_unless (Some refusal) caller = Err refusal
 
 -- the caller by its return address: the stack pointer is the CFA, and all else but RBP stays
 abbrev pub direct_by_return_address : Bool → UnwindRegsX86_64 → Words → Parts → ℕ → Option ℕ → Result (Caller UnwindRegsX86_64) DwarfUnwinderError
 direct_by_return_address first registers words parts cfa None = Err CouldNotRecoverReturnAddress
 direct_by_return_address first registers words parts cfa (Some to) =
-    unless (direct_refusal first registers cfa to) (record { return_address = to; registers = caller_registers registers to cfa (direct_bp registers words cfa parts.bp) })
+    caller_unless (direct_refusal first registers cfa to) (record { return_address = to; registers = caller_registers registers to cfa (direct_bp registers words cfa parts.bp) })
 
 -- the caller by its CFA
 abbrev pub direct_by_cfa : Bool → UnwindRegsX86_64 → Words → Parts → Option ℕ → Result (Caller UnwindRegsX86_64) DwarfUnwinderError

@@ -21,8 +21,8 @@ abbrev pub last_of_last_start : List Loaded → Option Loaded
 last_of_last_start modules = last_of (filter (is_last_start modules) modules)
 
 -- the last of the modules with the greatest start at or below an address
-abbrev pub nearest : List Loaded → ℕ → Option Loaded
-nearest modules address = last_of_last_start (filter (λ module_. nat_le module_.start address) modules)
+abbrev pub nearest_module : List Loaded → ℕ → Option Loaded
+nearest_module modules address = last_of_last_start (filter (λ module_. nat_le module_.start address) modules)
 
 -- the address is in the module: at its very start its end isn't asked
 abbrev pub is_inside : ℕ → Loaded → Bool
@@ -38,9 +38,9 @@ if_inside address module_ = if is_inside address module_ && has_relative address
 
 -- the module that an address is in
 abbrev pub module_found : List Loaded → ℕ → Option Loaded
-module_found modules address = option_and_then (if_inside address) (nearest modules address)
+module_found modules address = option_and_then (if_inside address) (nearest_module modules address)
 
 -- a module put into a list: before the first of an equal or a greater start
-abbrev pub inserted : Loaded → List Loaded → List Loaded
-inserted module_ [] = module_ ∷ []
-inserted module_ (other ∷ others) = if nat_le module_.start other.start then module_ ∷ other ∷ others else other ∷ inserted module_ others
+abbrev pub with_module : Loaded → List Loaded → List Loaded
+with_module module_ [] = module_ ∷ []
+with_module module_ (other ∷ others) = if nat_le module_.start other.start then module_ ∷ other ∷ others else other ∷ with_module module_ others

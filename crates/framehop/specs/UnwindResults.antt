@@ -13,23 +13,23 @@ use Rattle.framehop.specs.Attempt.{Attempt, Rules, Scales, Evaluates, Fails}
 use Rattle.framehop.specs.DirectRow.{direct_answer}
 
 -- an answer and the registers with it
-abbrev pub Tried : Type 0
-Tried = Result (UnwindResult × UnwindRegsX86_64) UnwinderError
+abbrev pub Trial : Type 0
+Trial = Result (UnwindResult × UnwindRegsX86_64) UnwinderError
 
 -- a direct answer, with the caller's registers
-abbrev pub tried_directly : Result (Caller UnwindRegsX86_64) DwarfUnwinderError → Tried
-tried_directly (Ok caller) = Ok (Uncacheable caller.return_address, caller.registers)
-tried_directly (Err failure) = Err (Dwarf failure)
+abbrev pub direct_trial : Result (Caller UnwindRegsX86_64) DwarfUnwinderError → Trial
+direct_trial (Ok caller) = Ok (Uncacheable caller.return_address, caller.registers)
+direct_trial (Err failure) = Err (Dwarf failure)
 
 -- what an attempt comes to before any rule is executed: the rule, or a direct answer, and the registers then
-abbrev pub tried : Bool → UnwindRegsX86_64 → Words → Attempt → Tried
-tried first registers words (Rules rule) = Ok (ExecRule rule, registers)
-tried first registers words (Scales rule parts) = Ok (ExecRule rule, registers)
-tried first registers words (Evaluates section parts) = tried_directly (direct_answer first registers words section parts)
-tried first registers words (Fails failure) = Err failure
+abbrev pub trial : Bool → UnwindRegsX86_64 → Words → Attempt → Trial
+trial first registers words (Rules rule) = Ok (ExecRule rule, registers)
+trial first registers words (Scales rule parts) = Ok (ExecRule rule, registers)
+trial first registers words (Evaluates section parts) = direct_trial (direct_answer first registers words section parts)
+trial first registers words (Fails failure) = Err failure
 
 -- an answer with the registers that are left
-abbrev pub with_registers : UnwindRegsX86_64 → Result UnwindResult UnwinderError → Tried
+abbrev pub with_registers : UnwindRegsX86_64 → Result UnwindResult UnwinderError → Trial
 with_registers registers (Ok answer) = Ok (answer, registers)
 with_registers registers (Err failure) = Err failure
 

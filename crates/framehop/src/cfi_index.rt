@@ -5,7 +5,7 @@ ghost use Rattle.std.specs.List.Sorted.{IsNonDecreasingBy, IsPartitionPoint};
 ghost use Rattle.dwarf_call_frames.specs.Entries.{Listing, entries_of};
 ghost use Rattle.dwarf_call_frames.specs.EntryViews.{section_bytes, fde_view};
 ghost use Rattle.framehop.specs.EntryFor.{indexed_entry};
-ghost use Rattle.framehop.specs.CfiIndex.{unfit, kept_of, index_error};
+ghost use Rattle.framehop.specs.CfiIndex.{index_refusal, index_entry, index_error};
 ghost use Rattle.framehop.specs.declared.cfi_index.DwarfCfiIndexError.TheVariants.{OutOfMemory};
 
 use dwarf_call_frames::{CieOrFde, EhFrame, FrameDescriptionEntry};
@@ -81,9 +81,9 @@ struct IndexedFde {
 
 /// What the index keeps of an FDE, if it can have it.
 fn indexed(fde: &FrameDescriptionEntry, base_svma: u64) -> Result<IndexedFde, DwarfCfiIndexError>
-    ensures kept { IfOk result (λ kept. kept ≡ kept_of base_svma (fde_view fde.now)) }
-    ensures fits { IfOk result (λ kept. unfit base_svma (fde_view fde.now) ≡ None) }
-    ensures unfit { IfErr result (λ error. unfit base_svma (fde_view fde.now) ≡ Some error) }
+    ensures kept { IfOk result (λ kept. kept ≡ index_entry base_svma (fde_view fde.now)) }
+    ensures fits { IfOk result (λ kept. index_refusal base_svma (fde_view fde.now) ≡ None) }
+    ensures unfit { IfErr result (λ error. index_refusal base_svma (fde_view fde.now) ≡ Some error) }
 {
     let start = fde
         .initial_address()
@@ -105,7 +105,7 @@ fn indexed_fdes(
     base_svma: u64,
 ) -> Result<Vec<IndexedFde>, DwarfCfiIndexError>
     ensures kept { IfOk result (λ kept.
-        kept.items ≡ map (kept_of base_svma) (entries_of (section_bytes section.now)).fdes) }
+        kept.items ≡ map (index_entry base_svma) (entries_of (section_bytes section.now)).fdes) }
     ensures index { IfOk result (λ kept. index_error base_svma (entries_of (section_bytes section.now)) ≡ None) }
     ensures error { IfErr result (λ error. error ≢ OutOfMemory
         → index_error base_svma (entries_of (section_bytes section.now)) ≡ Some error) }

@@ -7,7 +7,7 @@ ghost use Rattle.framehop.specs.EntryFor.{indexed_entry};
 ghost use Rattle.framehop.specs.CfiIndexView.{IsIndexOf};
 ghost use Rattle.framehop_rules.specs.Callback.{Words, AnswersBy};
 ghost use Rattle.framehop.specs.Attempt.{by_fde};
-ghost use Rattle.framehop.specs.UnwindResults.{tried, with_registers, of_dwarf, KeepsUnlessDirect};
+ghost use Rattle.framehop.specs.UnwindResults.{trial, with_registers, of_dwarf, KeepsUnlessDirect};
 
 use crate::cfi_index::DwarfCfiIndex;
 use crate::unwind_result::UnwindResult;
@@ -59,7 +59,7 @@ pub(crate) fn unwind_frame_with_fde<F: FnMut(u64) -> Result<u64, ()>>(
     requires { F.IsAlwaysCallable read_stack.old }
     ensures callable { F.IsAlwaysCallable read_stack.new }
     ensures tried { (words : Words) → AnswersBy F.step read_stack.old words → with_registers regs.new (of_dwarf result)
-        ≡ tried is_first_frame regs.old words (by_fde (section_bytes section.now) address (Some (fde_view fde.now))) }
+        ≡ trial is_first_frame regs.old words (by_fde (section_bytes section.now) address (Some (fde_view fde.now))) }
     ensures still { (words : Words) → AnswersBy F.step read_stack.old words → AnswersBy F.step read_stack.new words }
     ensures keeps { KeepsUnlessDirect result regs.old regs.new }
 {

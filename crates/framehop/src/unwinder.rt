@@ -58,7 +58,7 @@ impl Module {
     ghost use Rattle.framehop.specs.ModuleFound.{is_inside, if_inside};
     ghost use Rattle.framehop.specs.Attempt.{attempt};
     ghost use Rattle.framehop_rules.specs.Callback.{Words, AnswersBy};
-    ghost use Rattle.framehop.specs.UnwindResults.{tried, with_registers, KeepsUnlessDirect};
+    ghost use Rattle.framehop.specs.UnwindResults.{trial, with_registers, KeepsUnlessDirect};
 
     /// A module at a range of AVMAs, whose base is at `base_avma` and is called `base_svma` by its
     /// sections, with the bytes of its section `.eh_frame`, if it has one. A section without an
@@ -135,7 +135,7 @@ impl Module {
         requires { F.IsAlwaysCallable read_stack.old }
         ensures callable { F.IsAlwaysCallable read_stack.new }
         ensures tried { (words : Words) → AnswersBy F.step read_stack.old words → with_registers regs.new result
-            ≡ tried is_first_frame regs.old words (attempt (module_view self.now) relative_address) }
+            ≡ trial is_first_frame regs.old words (attempt (module_view self.now) relative_address) }
         ensures still { (words : Words) → AnswersBy F.step read_stack.old words → AnswersBy F.step read_stack.new words }
         ensures keeps { KeepsUnlessDirect result regs.old regs.new }
     {
@@ -174,7 +174,7 @@ pub(crate) struct UnwinderInternal {
 
 impl UnwinderInternal {
     ghost use Rattle.framehop.specs.ModuleViews.{module_view, loaded_in};
-    ghost use Rattle.framehop.specs.ModuleFound.{nearest, module_found, inserted};
+    ghost use Rattle.framehop.specs.ModuleFound.{nearest_module, module_found, with_module};
 
     /// An unwinder without a module.
     pub fn new(alloc: Global) -> Self
@@ -188,7 +188,7 @@ impl UnwinderInternal {
     /// Puts a module before those of an equal or a greater start. Where memory for it is refused,
     /// it comes back and nothing changes.
     pub fn add_module(&mut self, module: Module) -> Result<(), AllocFailed<Module>>
-        ensures ok { OnOk result (loaded_in self.new ≡ inserted (module_view «module») (loaded_in self.old)) }
+        ensures ok { OnOk result (loaded_in self.new ≡ with_module (module_view «module») (loaded_in self.old)) }
         ensures refused { OnErr result (loaded_in self.new ≡ loaded_in self.old) }
         ensures returned { IfErr result (λ failed. failed.value ≡ «module») }
     {
@@ -201,8 +201,8 @@ impl UnwinderInternal {
 
     /// The last of the modules that start at or below an address.
     fn nearest_module(&self, address: u64) -> Option<&Module>
-        ensures { MatchOption result (nearest (loaded_in self.now) address ≡ None)
-            (λ module_. nearest (loaded_in self.now) address ≡ Some (module_view module_.now)) }
+        ensures { MatchOption result (nearest_module (loaded_in self.now) address ≡ None)
+            (λ module_. nearest_module (loaded_in self.now) address ≡ Some (module_view module_.now)) }
     {
         let index = self
             .modules

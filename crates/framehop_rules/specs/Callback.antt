@@ -6,9 +6,9 @@ abbrev pub Words : Type 0
 Words = ℕ → Option ℕ
 
 -- What a read answers by these words.
-abbrev pub answer_of : Option ℕ → Result ℕ (Unit {0})
-answer_of (Some word) = Ok word
-answer_of None = Err tt
+abbrev pub read_answer : Option ℕ → Result ℕ (Unit {0})
+read_answer (Some word) = Ok word
+read_answer None = Err tt
 
 -- From the state `first`, reads at these addresses, one after the other, may leave `last`.
 abbrev pub Leads : {S : Type 0} → (S → ℕ → Result ℕ (Unit {0}) → S → Type 0) → S → List ℕ → S → Type 0
@@ -20,4 +20,4 @@ Leads {S} step first (at ∷ more) last =
 abbrev pub AnswersBy : {S : Type 0} → (S → ℕ → Result ℕ (Unit {0}) → S → Type 0) → S → Words → Type 0
 AnswersBy {S} step first words =
     (reads : List ℕ) (last : S) → Leads step first reads last
-    → (at : ℕ) (r : Result ℕ (Unit {0})) (next : S) → at < 2 ^ 64 → step last at r next → r ≡ answer_of (words at)
+    → (at : ℕ) (r : Result ℕ (Unit {0})) (next : S) → at < 2 ^ 64 → step last at r next → r ≡ read_answer (words at)

@@ -6,23 +6,23 @@ use Rattle.framehop_rules.specs.declared.x86_64.unwindregs.Reg.TheVariants.{RAX,
 use Rattle.framehop_rules.specs.declared.x86_64.unwindregs.UnwindRegsX86_64.{UnwindRegsX86_64}
 
 -- The number of a register in the DWARF mapping of x86_64 (System V ABI, figure 3.36).
-abbrev pub number_of : Reg → ℕ
-number_of RAX = 0
-number_of RDX = 1
-number_of RCX = 2
-number_of RBX = 3
-number_of RSI = 4
-number_of RDI = 5
-number_of RBP = 6
-number_of RSP = 7
-number_of R8 = 8
-number_of R9 = 9
-number_of R10 = 10
-number_of R11 = 11
-number_of R12 = 12
-number_of R13 = 13
-number_of R14 = 14
-number_of R15 = 15
+abbrev pub dwarf_number : Reg → ℕ
+dwarf_number RAX = 0
+dwarf_number RDX = 1
+dwarf_number RCX = 2
+dwarf_number RBX = 3
+dwarf_number RSI = 4
+dwarf_number RDI = 5
+dwarf_number RBP = 6
+dwarf_number RSP = 7
+dwarf_number R8 = 8
+dwarf_number R9 = 9
+dwarf_number R10 = 10
+dwarf_number R11 = 11
+dwarf_number R12 = 12
+dwarf_number R13 = 13
+dwarf_number R14 = 14
+dwarf_number R15 = 15
 
 -- The instruction pointer.
 abbrev pub ip_of : UnwindRegsX86_64 → ℕ
@@ -30,7 +30,7 @@ ip_of registers = registers.ip
 
 -- The value of a general register.
 abbrev pub register_of : UnwindRegsX86_64 → Reg → ℕ
-register_of registers register = slice_index registers.regs (number_of register)
+register_of registers register = slice_index registers.regs (dwarf_number register)
 
 -- The stack pointer, RSP.
 abbrev pub sp_of : UnwindRegsX86_64 → ℕ
@@ -46,7 +46,7 @@ with_ip registers ip = record registers { ip = ip }
 
 -- The registers with another value of one general register.
 abbrev pub with_register : UnwindRegsX86_64 → Reg → ℕ → UnwindRegsX86_64
-with_register registers register value = record registers { regs = slice_set registers.regs (number_of register) value }
+with_register registers register value = record registers { regs = slice_set registers.regs (dwarf_number register) value }
 
 -- The registers with these values of the instruction pointer, RSP and RBP, and 0 in all others.
 abbrev pub new_registers : ℕ → ℕ → ℕ → UnwindRegsX86_64

@@ -16,8 +16,8 @@ abbrev pub Moved : Type 0
 Moved = ℕ × ℕ
 
 -- The stack pointer goes up by these bytes, the frame pointer stays.
-abbrev pub raised : UnwindRegsX86_64 → ℕ → Outcome Moved
-raised registers bytes =
+abbrev pub raised_frame : UnwindRegsX86_64 → ℕ → Outcome Moved
+raised_frame registers bytes =
     and_then (address (pos (sp_of registers) +ℤ pos bytes)) (λ sp.
     Gives (sp, bp_of registers))
 
@@ -38,8 +38,8 @@ stored_bp is_first registers words at = elim (words at) [
 ]
 
 -- The stack pointer goes up by these bytes, the frame pointer is stored at an offset from it.
-abbrev pub restored : Bool → UnwindRegsX86_64 → Words → ℕ → ℤ → Outcome Moved
-restored is_first registers words bytes offset =
+abbrev pub restored_frame : Bool → UnwindRegsX86_64 → Words → ℕ → ℤ → Outcome Moved
+restored_frame is_first registers words bytes offset =
     and_then (address (pos (sp_of registers) +ℤ pos bytes)) (λ sp.
     and_then (address (pos (sp_of registers) +ℤ offset)) (λ at.
     and_then (stored_bp is_first registers words at) (λ bp.
@@ -48,11 +48,11 @@ restored is_first registers words bytes offset =
 -- What each rule does to the stack pointer and the frame pointer.
 abbrev pub moves : UnwindRuleX86_64 → Bool → UnwindRegsX86_64 → Words → Outcome Moved
 moves EndOfStack is_first registers words = Ends
-moves JustReturn is_first registers words = raised registers 8
+moves JustReturn is_first registers words = raised_frame registers 8
 moves JustReturnIfFirstFrameOtherwiseFp is_first registers words =
-    if is_first then raised registers 8 else by_frame_pointer registers words
-moves (OffsetSp x) is_first registers words = raised registers (8 * x)
-moves (OffsetSpAndRestoreBp x y) is_first registers words = restored is_first registers words (8 * x) (pos 8 *ℤ y)
+    if is_first then raised_frame registers 8 else by_frame_pointer registers words
+moves (OffsetSp x) is_first registers words = raised_frame registers (8 * x)
+moves (OffsetSpAndRestoreBp x y) is_first registers words = restored_frame is_first registers words (8 * x) (pos 8 *ℤ y)
 moves UseFramePointer is_first registers words =
     if bp_of registers == 0 then Ends else by_frame_pointer registers words
 
@@ -71,12 +71,12 @@ abbrev pub caller_registers : UnwindRegsX86_64 → ℕ → ℕ → ℕ → Unwin
 caller_registers registers ip sp bp = with_register (with_register (with_ip registers ip) RSP sp) RBP bp
 
 -- What every rule ends with.
-abbrev pub returned : UnwindRegsX86_64 → Words → Moved → Outcome (Caller UnwindRegsX86_64)
-returned registers words (sp, bp) =
+abbrev pub returned_caller : UnwindRegsX86_64 → Words → Moved → Outcome (Caller UnwindRegsX86_64)
+returned_caller registers words (sp, bp) =
     and_then (return_address registers words sp) (λ to.
     Gives (record { return_address = to; registers = caller_registers registers to sp bp }))
 
 -- The meaning of a rule, for a frame with these registers, first or later, on a stack of these words.
 abbrev pub rule_meaning : UnwindRuleX86_64 → Bool → UnwindRegsX86_64 → Words → Outcome (Caller UnwindRegsX86_64)
 rule_meaning rule is_first registers words =
-    and_then (moves rule is_first registers words) (returned registers words)
+    and_then (moves rule is_first registers words) (returned_caller registers words)

@@ -1,7 +1,7 @@
 -- Offsets of tables of abbreviations, and the codes that the tables declare.
 use Rattle.std.specs.Prelude.{ℕ, zero, suc, ◌+◌, ◌%◌, ◌^◌, List, [], ◌∷◌, ◌++◌, sum_by, Result, Ok, is_some, if◌then◌else◌}
 use Rattle.dwarf_constants.specs.declared.error.Error.{Error}
-use Rattle.dwarf_read_core.specs.AbbreviationTable.{Declaration, declared, table_in}
+use Rattle.dwarf_read_core.specs.AbbreviationTable.{Declaration, declaration_for, table_in}
 use Rattle.dwarf_readers.specs.Place.{Stretch, ◌>>=◌, number_at}
 
 -- so many numbers of four bytes, one after the other, and what is left
@@ -12,7 +12,7 @@ words_at (suc n) s = words_at n s >>= λ words. number_at 4 words.1 >>= λ word.
 -- how many of the codes 1 to n are declared
 abbrev pub declared_up_to : ℕ → List Declaration → ℕ
 declared_up_to zero ds = 0
-declared_up_to (suc n) ds = declared_up_to n ds + (if is_some (declared (suc n) ds) then 1 else 0)
+declared_up_to (suc n) ds = declared_up_to n ds + (if is_some (declaration_for (suc n) ds) then 1 else 0)
 
 -- the tables at these offsets, or the first fault in their order
 abbrev pub tables_in : List ℕ → Stretch → Result (List (List Declaration)) Error

@@ -16,7 +16,7 @@ use Rattle.unwind_commands.specs.Document.{decoded}
 use Rattle.unwind_commands.specs.Faults.{fault_line}
 use Rattle.framehop.specs.Judge.{judge_at}
 use Rattle.unwind_commands.specs.Lines.{line, outcome_line}
-use Rattle.framehop.specs.ModuleFound.{Loaded, inserted}
+use Rattle.framehop.specs.ModuleFound.{Loaded, with_module}
 
 -- the data of the first section that has this name and data
 abbrev pub data_named : List ℕ → List SectionData → Option (List ℕ)
@@ -43,7 +43,7 @@ modules_at unwinders n = slice_index_or unwinders n []
 -- the modules of each unwinder after a command
 abbrev pub unwinders_after : List (List Loaded) → Task → List (List Loaded)
 unwinders_after unwinders make_unwinder = unwinders ++ [] ∷ []
-unwinders_after unwinders (load_module l) = slice_set unwinders l.unwinder (inserted (loaded_by l) (modules_at unwinders l.unwinder))
+unwinders_after unwinders (load_module l) = slice_set unwinders l.unwinder (with_module (loaded_by l) (modules_at unwinders l.unwinder))
 unwinders_after unwinders _ = unwinders
 
 -- an instruction pointer is the address of a first frame

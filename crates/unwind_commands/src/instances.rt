@@ -1,7 +1,7 @@
 //! What the commands of a run have made, and what each of them does.
 ghost use Rattle.std.specs.Prelude.{◌≡◌, ◌≢◌, ◌<◌, [], None, IsSome, IfSome, IfNone, IfOk, OnOk, option_map, string_bytes, length, vec_len};
 ghost use Rattle.std.specs.List.{slice_index_or};
-ghost use Rattle.framehop_rules.specs.Callback.{answer_of};
+ghost use Rattle.framehop_rules.specs.Callback.{read_answer};
 ghost use Rattle.framehop_rules.specs.FrameAddress.{lookup_address_of};
 ghost use Rattle.framehop.specs.Judge.{is_first};
 ghost use Rattle.unwind_commands.specs.Numbered.{IsNumbered, caches_after};
@@ -77,7 +77,7 @@ impl Instances {
         let mut regs = UnwindRegsX86_64::new(step.ip, step.sp, step.bp);
         let stack = &step.stack;
         let mut read_stack = |at: u64| -> Result<u64, ()>
-            ensures answer { result ≡ answer_of (words_of (words_view stack.entry.now) at) }
+            ensures answer { result ≡ read_answer (words_of (words_view stack.entry.now) at) }
             ensures same { stack.exit ≡ stack.entry }
         { word_at(stack, at) };
         let unwinder = &self.unwinders[step.unwinder];
@@ -101,7 +101,7 @@ fn frame_address(step: &Step) -> FrameAddress
 
 /// The word of a stack at an address, where there is one.
 fn word_at(stack: &Stack, address: u64) -> Result<u64, ()>
-    ensures { result ≡ answer_of (words_of (words_view stack.now) address) }
+    ensures { result ≡ read_answer (words_of (words_view stack.now) address) }
 {
     let offset = address.checked_sub(stack.start).ok_or(())?;
     if offset % 8 != 0 {

@@ -7,7 +7,7 @@ ghost use Rattle.std.specs.Ordering.{nat_cmp};
 ghost use Rattle.dwarf_constants.specs.declared.common.DebugAbbrevOffset.{DebugAbbrevOffset};
 ghost use Rattle.dwarf_constants.specs.declared.error.Error.TheVariants as error;
 ghost use Rattle.dwarf_read_core.specs.AbbreviationTable.{GivesOrMemory, table_in};
-ghost use Rattle.dwarf_read_core.specs.AbbreviationsCache.{answer_of, kept, populated};
+ghost use Rattle.dwarf_read_core.specs.AbbreviationsCache.{table_answer, kept_answer, populated_answer};
 ghost use Rattle.dwarf_read_core.specs.DebugAbbrev.{abbrev_section, declarations};
 
 use super::{Abbreviations, DebugAbbrev};
@@ -35,7 +35,7 @@ pub struct AbbreviationsCache {
 impl AbbreviationsCache {
     /// A cache that keeps nothing. It takes no memory yet.
     pub fn new(alloc: Global) -> AbbreviationsCache
-        ensures { (q : ℕ) → kept result q ≡ None }
+        ensures { (q : ℕ) → kept_answer result q ≡ None }
     {
         AbbreviationsCache {
             tables: BTreeMap::new(alloc),
@@ -54,9 +54,9 @@ impl AbbreviationsCache {
     ) -> Result<()>
         requires can { I.can_next offsets }
         requires ends { IsFinite (I.remaining offsets) }
-        ensures populated { OnOk result ((came : List (DebugAbbrevOffset R.Offset)) × Drains I.next_gives offsets (map (λ o. Ok o) came) × ((q : ℕ) → kept self.new q ≡ populated strategy (map (λ o. R.Offset.value o.0) came) (R.stretch (abbrev_section debug_abbrev.now)) q)) }
+        ensures populated { OnOk result ((came : List (DebugAbbrevOffset R.Offset)) × Drains I.next_gives offsets (map (λ o. Ok o) came) × ((q : ℕ) → kept_answer self.new q ≡ populated_answer strategy (map (λ o. R.Offset.value o.0) came) (R.stretch (abbrev_section debug_abbrev.now)) q)) }
         ensures refused { IfErr result (λ e. (e ≡ error.OutOfMemory) ⊎ ((came : List (DebugAbbrevOffset R.Offset)) × (left : I) × YieldsThen I.next_gives offsets (map (λ o. Ok o) came) (Some (Err e)) left)) }
-        ensures unchanged { OnErr result ((q : ℕ) → kept self.new q ≡ kept self.old q) }
+        ensures unchanged { OnErr result ((q : ℕ) → kept_answer self.new q ≡ kept_answer self.old q) }
     {
         let mut seen = BTreeSet::new(alloc);
         let mut cache = AbbreviationsCache::new(alloc);
@@ -82,7 +82,7 @@ impl AbbreviationsCache {
         debug_abbrev: &DebugAbbrev<R>,
         offset: DebugAbbrevOffset<R::Offset>,
     ) -> Result<()>
-        ensures kept { OnOk result ((q : ℕ) → kept self.new q ≡ (if q == R.Offset.value offset.0 then Some (unwrap_or (kept self.old q) (table_in q (R.stretch (abbrev_section debug_abbrev.now)))) else kept self.old q)) }
+        ensures kept { OnOk result ((q : ℕ) → kept_answer self.new q ≡ (if q == R.Offset.value offset.0 then Some (unwrap_or (kept_answer self.old q) (table_in q (R.stretch (abbrev_section debug_abbrev.now)))) else kept_answer self.old q)) }
         ensures memory { IfErr result (λ e. e ≡ error.OutOfMemory) }
     {
         let number = offset.0.into_u64();
@@ -103,8 +103,8 @@ impl AbbreviationsCache {
         offset: DebugAbbrevOffset<Offset>,
         abbreviations: Rc<Abbreviations>,
     ) -> Result<()>
-        ensures kept { OnOk result ((q : ℕ) → kept self.new q ≡ (if q == Offset.value offset.0 then Some (Ok (declarations abbreviations.value)) else kept self.old q)) }
-        ensures unchanged { OnErr result ((q : ℕ) → kept self.new q ≡ kept self.old q) }
+        ensures kept { OnOk result ((q : ℕ) → kept_answer self.new q ≡ (if q == Offset.value offset.0 then Some (Ok (declarations abbreviations.value)) else kept_answer self.old q)) }
+        ensures unchanged { OnErr result ((q : ℕ) → kept_answer self.new q ≡ kept_answer self.old q) }
         ensures memory { IfErr result (λ e. e ≡ error.OutOfMemory) }
     {
         if self
@@ -125,7 +125,7 @@ impl AbbreviationsCache {
         debug_abbrev: &DebugAbbrev<R>,
         offset: DebugAbbrevOffset<R::Offset>,
     ) -> Result<Rc<Abbreviations>>
-        ensures { GivesOrMemory (λ table. declarations table.value) result (unwrap_or (kept self.now (R.Offset.value offset.0)) (table_in (R.Offset.value offset.0) (R.stretch (abbrev_section debug_abbrev.now)))) }
+        ensures { GivesOrMemory (λ table. declarations table.value) result (unwrap_or (kept_answer self.now (R.Offset.value offset.0)) (table_in (R.Offset.value offset.0) (R.stretch (abbrev_section debug_abbrev.now)))) }
     {
         match self.tables.get(&offset.0.into_u64()) {
             Some(Ok(table)) => table.clone().map_err(|_| Error::OutOfMemory),
@@ -137,7 +137,7 @@ impl AbbreviationsCache {
 
 // The table, to be shared.
 fn shared(alloc: Global, table: Abbreviations) -> Result<Rc<Abbreviations>>
-    ensures { GivesOrMemory (λ kept. declarations kept.value) result (Ok (declarations table)) }
+    ensures { GivesOrMemory (λ table. declarations table.value) result (Ok (declarations table)) }
 {
     Rc::new(alloc, table).map_err(|_| Error::OutOfMemory)
 }
@@ -148,7 +148,7 @@ fn answer_to_keep<R: Reader>(
     debug_abbrev: &DebugAbbrev<R>,
     offset: DebugAbbrevOffset<R::Offset>,
 ) -> Result<Result<Rc<Abbreviations>>>
-    ensures said { IfOk result (λ answer. answer_of answer ≡ table_in (R.Offset.value offset.0) (R.stretch (abbrev_section debug_abbrev.now))) }
+    ensures said { IfOk result (λ answer. table_answer answer ≡ table_in (R.Offset.value offset.0) (R.stretch (abbrev_section debug_abbrev.now))) }
     ensures memory { IfErr result (λ e. e ≡ error.OutOfMemory) }
 {
     match debug_abbrev.abbreviations(alloc, offset) {

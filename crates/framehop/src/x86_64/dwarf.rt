@@ -6,7 +6,7 @@ ghost use Rattle.framehop.specs.Attempt.{by_rule};
 ghost use Rattle.framehop.specs.DirectRow.{direct_return_address, direct_refusal, direct_answer};
 ghost use Rattle.framehop.specs.DirectViews.{caller_shown};
 ghost use Rattle.dwarf_call_frames.specs.EntryViews.{section_bytes};
-ghost use Rattle.framehop.specs.UnwindResults.{tried, with_registers, of_dwarf, KeepsUnlessDirect};
+ghost use Rattle.framehop.specs.UnwindResults.{trial, with_registers, of_dwarf, KeepsUnlessDirect};
 ghost use Rattle.framehop.specs.Judge.{RulesSayTheirRows};
 ghost use Rattle.framehop.specs.ScaledRow.{eighth_of, as_u16, as_i16, from_sp, from_bp, from_return_address, scaled_rule};
 ghost use Rattle.framehop.specs.RowViews.{parts_shown};
@@ -195,7 +195,7 @@ pub(crate) fn unwind_frame<F: FnMut(u64) -> Result<u64, ()>>(
     requires { F.IsAlwaysCallable read_stack.old }
     ensures callable { F.IsAlwaysCallable read_stack.new }
     ensures tried { (words : Words) → AnswersBy F.step read_stack.old words → with_registers regs.new (of_dwarf result)
-        ≡ tried is_first_frame regs.old words (by_rule (section_bytes section.now) (parts_shown row.now) (scaled_rule (parts_shown row.now))) }
+        ≡ trial is_first_frame regs.old words (by_rule (section_bytes section.now) (parts_shown row.now) (scaled_rule (parts_shown row.now))) }
     ensures still { (words : Words) → AnswersBy F.step read_stack.old words → AnswersBy F.step read_stack.new words }
     ensures keeps { KeepsUnlessDirect result regs.old regs.new }
 {

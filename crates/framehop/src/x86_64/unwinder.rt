@@ -4,7 +4,7 @@ ghost use Rattle.std.specs.Prelude.{◌≡◌, [], OnOk, OnErr, IfErr, IfOk, IfN
 ghost use Rattle.framehop_rules.specs.Callback.{Words, AnswersBy};
 ghost use Rattle.framehop_rules.specs.Outcome.{answer_of_outcome, registers_after};
 ghost use Rattle.framehop.specs.ModuleViews.{module_view};
-ghost use Rattle.framehop.specs.ModuleFound.{inserted};
+ghost use Rattle.framehop.specs.ModuleFound.{with_module};
 ghost use Rattle.framehop.specs.Judge.{judge, is_first};
 ghost use Rattle.framehop.specs.UnwindResults.{KeepsForRule, outcome_of_result};
 
@@ -32,7 +32,7 @@ impl UnwinderX86_64 {
     /// Adds a module, before those of an equal or a greater start. Where memory for it is refused,
     /// it comes back and nothing changes.
     pub fn add_module(&mut self, module: Module) -> Result<(), AllocFailed<Module>>
-        ensures ok { OnOk result (modules_of self.new ≡ inserted (module_view «module») (modules_of self.old)) }
+        ensures ok { OnOk result (modules_of self.new ≡ with_module (module_view «module») (modules_of self.old)) }
         ensures refused { OnErr result (modules_of self.new ≡ modules_of self.old) }
         ensures returned { IfErr result (λ failed. failed.value ≡ «module») }
     {

@@ -2,7 +2,7 @@
 ghost use Rattle.std.specs.Prelude.{◌≡◌, ◌*◌, ◌<◌, ◌^◌, pos, ◌*ℤ◌, ◌+ℤ◌, IfErr, OnErr};
 ghost use Rattle.framehop_rules.specs.Callback.{Words, AnswersBy};
 ghost use Rattle.framehop_rules.specs.Outcome.{outcome_of, outcome_or_end_of, address, IsOfRule};
-ghost use Rattle.framehop_rules.specs.RuleMeaning.{raised, by_frame_pointer, stored_bp, restored, moves, return_address, rule_meaning};
+ghost use Rattle.framehop_rules.specs.RuleMeaning.{raised_frame, by_frame_pointer, stored_bp, restored_frame, moves, return_address, rule_meaning};
 ghost use Rattle.framehop_rules.specs.declared.x86_64.unwind_rule.UnwindRuleX86_64.TheVariants.{JustReturn, UseFramePointer};
 
 use crate::error::Error;
@@ -62,7 +62,7 @@ fn offset_address(base: u64, offset: i64) -> Result<u64, Error>
 /// The caller's stack pointer and frame pointer where the former is `bytes` higher and the latter
 /// is still in its register.
 fn raise_sp(regs: &UnwindRegsX86_64, bytes: u64) -> Result<(u64, u64), Error>
-    ensures moves { outcome_of result ≡ raised regs.now bytes }
+    ensures moves { outcome_of result ≡ raised_frame regs.now bytes }
     ensures refusals { IfErr result IsOfRule }
 {
     let new_sp = regs.sp().checked_add(bytes).ok_or(Error::IntegerOverflow)?;
@@ -130,7 +130,7 @@ fn raise_sp_and_restore_bp<F: FnMut(u64) -> Result<u64, ()>>(
 ) -> Result<(u64, u64), Error>
     requires { F.IsAlwaysCallable read_stack.old }
     ensures callable { F.IsAlwaysCallable read_stack.new }
-    ensures moves { (words : Words) → AnswersBy F.step read_stack.old words → outcome_of result ≡ restored is_first_frame regs.now words bytes bp_offset }
+    ensures moves { (words : Words) → AnswersBy F.step read_stack.old words → outcome_of result ≡ restored_frame is_first_frame regs.now words bytes bp_offset }
     ensures still { (words : Words) → AnswersBy F.step read_stack.old words → AnswersBy F.step read_stack.new words }
     ensures refusals { IfErr result IsOfRule }
 {

@@ -1,6 +1,6 @@
 use Rattle.std.proofs.Common.{◌≡◌, ℕ, arith, of_calls}
 use Rattle.std.specs.Prelude.{Option, Some, None, Ok, Err}
-use Rattle.framehop_rules.specs.Callback.{answer_of}
+use Rattle.framehop_rules.specs.Callback.{read_answer}
 use Rattle.framehop_rules.specs.Outcome.{Gives, Refuses}
 use Rattle.framehop_rules.specs.Outcome.{word}
 use Rattle.framehop_rules.specs.declared.error.Error.TheVariants.{CouldNotReadStack}
@@ -8,12 +8,12 @@ use Rattle.framehop_rules.proofs.Callback.{answer_is, still_answers}
 use Rattle.framehop_rules.proofs.unwind_rule.read_word.Goals as goal
 
 -- a word that was read is the word there
-given : (there : Option ℕ) (at value : ℕ) → Ok value ≡ answer_of there → Gives value ≡ word (λ _. there) at
+given : (there : Option ℕ) (at value : ℕ) → Ok value ≡ read_answer there → Gives value ≡ word (λ _. there) at
 given (Some found) at value is = grind arith
 given None at value is = grind arith
 
 -- a read that failed shows that no word is there
-refused : (there : Option ℕ) (at : ℕ) → Err tt ≡ answer_of there → Refuses (CouldNotReadStack at) ≡ word (λ _. there) at
+refused : (there : Option ℕ) (at : ℕ) → Err tt ≡ read_answer there → Refuses (CouldNotReadStack at) ≡ word (λ _. there) at
 refused (Some found) at is = grind arith
 refused None at is = grind arith
 

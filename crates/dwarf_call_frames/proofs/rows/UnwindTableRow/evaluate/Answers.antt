@@ -3,7 +3,7 @@ use Rattle.std.specs.Int.{w64, cast_signed}
 use Rattle.std.proofs.lemmas.Bool.{false≢true}
 use Rattle.std.proofs.lemmas.Result.{err_from_is_err_and}
 use Rattle.dwarf_call_frames.specs.declared.instructions.CallFrameInstruction.TheVariants.{DefCfa, DefCfaRegister, DefCfaOffset, DefCfaExpression, Nop}
-use Rattle.dwarf_call_frames.specs.CfaRules.{with_register, with_offset}
+use Rattle.dwarf_call_frames.specs.CfaRules.{with_cfa_register, with_cfa_offset}
 use Rattle.dwarf_call_frames.specs.EntryViews.{cie_view}
 use Rattle.dwarf_call_frames.specs.Rows.{writes_unless, Refused, cfa_expression_of}
 use Rattle.dwarf_call_frames.proofs.Behind.{cfa_register_of, cfa_offset_of, part_changed, offset_changed, cfa_of-push, behind_cfa, kept_cfa, behind_rule, kept_rule, refused_rule}
@@ -31,27 +31,27 @@ returns-in-DefCfa-clause-writes c = λ front h.
 pub returns-in_ok-self-in-DefCfaRegister-clause-step : goal.returns-in_ok-self-in-DefCfaRegister-clause-step
 returns-in_ok-self-in-DefCfaRegister-clause-step c = λ front h.
     let changed = part_changed (cfa_expression_of front) (cfa_register_of front) c.in-DefCfaRegister.register (cfa_offset_of front) c.in_ok-self-in-DefCfaRegister.field-0
-    (c.in_ok-self-in-DefCfaRegister.ensures ∙ ap (with_register c.in-DefCfaRegister.register) h.cfa) in
+    (c.in_ok-self-in-DefCfaRegister.ensures ∙ ap (with_cfa_register c.in-DefCfaRegister.register) h.cfa) in
     rw c.in-DefCfaRegister.is (ap writes_unless (kept_cfa (cie_view c.args.cie.now) front (DefCfaRegister c.in-DefCfaRegister.register) c.args.self.now h refl (ap is_some changed.0)))
 
 pub returns-in_ok-self-in-DefCfaRegister-clause-writes : goal.returns-in_ok-self-in-DefCfaRegister-clause-writes
 returns-in_ok-self-in-DefCfaRegister-clause-writes c = λ front h.
     let i = DefCfaRegister c.in-DefCfaRegister.register in
     let changed = part_changed (cfa_expression_of front) (cfa_register_of front) c.in-DefCfaRegister.register (cfa_offset_of front) c.in_ok-self-in-DefCfaRegister.field-0
-    (c.in_ok-self-in-DefCfaRegister.ensures ∙ ap (with_register c.in-DefCfaRegister.register) h.cfa) in
+    (c.in_ok-self-in-DefCfaRegister.ensures ∙ ap (with_cfa_register c.in-DefCfaRegister.register) h.cfa) in
     rw c.in-DefCfaRegister.is (behind_cfa (cie_view c.args.cie.now) front i c.args.self.now _ h refl (changed.1 ∙ sym (cfa_of-push front i)))
 
 pub returns-in_ok-self-in-DefCfaOffset-clause-step : goal.returns-in_ok-self-in-DefCfaOffset-clause-step
 returns-in_ok-self-in-DefCfaOffset-clause-step c = λ front h.
     let changed = offset_changed (cfa_expression_of front) (cfa_register_of front) (cfa_offset_of front) (cast_signed w64 c.in-DefCfaOffset.offset) c.in_ok-self-in-DefCfaOffset.field-0
-    (c.in_ok-self-in-DefCfaOffset.ensures ∙ ap (with_offset _) h.cfa) in
+    (c.in_ok-self-in-DefCfaOffset.ensures ∙ ap (with_cfa_offset _) h.cfa) in
     rw c.in-DefCfaOffset.is (ap writes_unless (kept_cfa (cie_view c.args.cie.now) front (DefCfaOffset c.in-DefCfaOffset.offset) c.args.self.now h refl (ap is_some changed.0)))
 
 pub returns-in_ok-self-in-DefCfaOffset-clause-writes : goal.returns-in_ok-self-in-DefCfaOffset-clause-writes
 returns-in_ok-self-in-DefCfaOffset-clause-writes c = λ front h.
     let i = DefCfaOffset c.in-DefCfaOffset.offset in
     let changed = offset_changed (cfa_expression_of front) (cfa_register_of front) (cfa_offset_of front) (cast_signed w64 c.in-DefCfaOffset.offset) c.in_ok-self-in-DefCfaOffset.field-0
-    (c.in_ok-self-in-DefCfaOffset.ensures ∙ ap (with_offset _) h.cfa) in
+    (c.in_ok-self-in-DefCfaOffset.ensures ∙ ap (with_cfa_offset _) h.cfa) in
     rw c.in-DefCfaOffset.is (behind_cfa (cie_view c.args.cie.now) front i c.args.self.now _ h refl (changed.1 ∙ sym (cfa_of-push front i)))
 
 pub returns-in-DefCfaExpression-clause-step : goal.returns-in-DefCfaExpression-clause-step

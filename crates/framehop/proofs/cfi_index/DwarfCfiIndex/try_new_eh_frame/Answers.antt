@@ -5,7 +5,7 @@ use Rattle.std.proofs.lemmas.List.Sorted.{IsNonDecreasingBy-from_sort_by_key, an
 use Rattle.framehop.specs.declared.cfi_index.IndexedFde.{IndexedFde}
 use Rattle.dwarf_call_frames.specs.Entries.{Listing, entries_of}
 use Rattle.dwarf_call_frames.specs.EntryViews.{section_bytes}
-use Rattle.framehop.specs.CfiIndex.{kept_of}
+use Rattle.framehop.specs.CfiIndex.{index_entry}
 use Rattle.framehop.proofs.CfiIndexBuild.{has-index, indexes-sorted}
 use Rattle.framehop.proofs.cfi_index.DwarfCfiIndex.try_new_eh_frame.Goals as goal
 
@@ -19,8 +19,8 @@ returns-clause-index c =
     let base : ℕ = c.args.base_svma in
     let listing : Listing = entries_of (section_bytes c.args.section.now) in
     let ys : List IndexedFde = c.sort_by_key.new.self.items in
-    let same : c.reverse.new.self.items ≡ reverse (map (kept_of base) listing.fdes) = c.reverse.ensures.items ∙ ap reverse c.in_ok-fdes.ensures.kept in
+    let same : c.reverse.new.self.items ≡ reverse (map (index_entry base) listing.fdes) = c.reverse.ensures.items ∙ ap reverse c.in_ok-fdes.ensures.kept in
     let up : IsNonDecreasingBy (λ y. y.start) ys = IsNonDecreasingBy-from_sort_by_key (λ y. y.start) _ c.in_ok-sort_by_key.ensures.sorted (λ a r q k. search rules) in
-    let moved : IsPermutation (reverse (map (kept_of base) listing.fdes)) ys = rw (← same) c.sort_by_key.ensures.permutation in
-    let stable : IsStableByKey (λ y. y.start) nat_cmp (reverse (map (kept_of base) listing.fdes)) ys = rw (← same) (c.sort_by_key.ensures.stable (λ y. y.start) (answers_always _ _ _ (λ f a r g h. search rules))) in
+    let moved : IsPermutation (reverse (map (index_entry base) listing.fdes)) ys = rw (← same) c.sort_by_key.ensures.permutation in
+    let stable : IsStableByKey (λ y. y.start) nat_cmp (reverse (map (index_entry base) listing.fdes)) ys = rw (← same) (c.sort_by_key.ensures.stable (λ y. y.start) (answers_always _ _ _ (λ f a r g h. search rules))) in
     indexes-sorted base listing ys (has-index base listing c.in_ok-fdes.ensures.index) up moved stable

@@ -5,7 +5,7 @@ use Rattle.std.specs.List.Sorted.{IsNonDecreasingBy}
 use Rattle.std.proofs.lemmas.List.Sorted.{IsPartitionPoint-from_clause, IsPartitionedBy-ltb}
 use Rattle.framehop.specs.declared.unwinder.Module.{Module}
 use Rattle.framehop.specs.ModuleViews.{module_view}
-use Rattle.framehop.specs.ModuleFound.{inserted}
+use Rattle.framehop.specs.ModuleFound.{with_module}
 use Rattle.framehop.proofs.ModulesInOrder.{insert-is, order-kept, at_ok}
 use Rattle.framehop.proofs.unwinder.UnwinderInternal.add_module.Goals as goal
 
@@ -28,4 +28,4 @@ returns-clause-ok c =
     (IsPartitionedBy-ltb (λ m. m.avma_range.start) xs c.args.module.avma_range.start ordered) (λ a r f' k. search rules) in
     let placed = insert-is module_view xs c.partition_point-index.result c.args.module c.partition_point-index.ensures.bound (λ k d h. point.0 k d (omega arith) h) point.1 in
     rw (c.insert.ensures.items, ← c.deref.ensures.value)
-    (at_ok (λ done. map module_view (if done then insert xs c.partition_point-index.result c.args.module else xs) ≡ inserted (module_view c.args.module) (map module_view xs)) c.insert.result placed)
+    (at_ok (λ done. map module_view (if done then insert xs c.partition_point-index.result c.args.module else xs) ≡ with_module (module_view c.args.module) (map module_view xs)) c.insert.result placed)

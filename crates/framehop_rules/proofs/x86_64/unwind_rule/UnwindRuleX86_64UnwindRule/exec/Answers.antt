@@ -3,7 +3,7 @@ use Rattle.std.proofs.lemmas.Result.{err_from_is_err_and}
 use Rattle.std.specs.Prelude.{Option, Some, Result, Ok, Err}
 use Rattle.framehop_rules.specs.Callback.{Words}
 use Rattle.framehop_rules.specs.Outcome.{Gives, and_then, answer_of_outcome, registers_after, outcome_or_end_of}
-use Rattle.framehop_rules.specs.RuleMeaning.{Moved, moves, return_address, caller_registers, returned, rule_meaning}
+use Rattle.framehop_rules.specs.RuleMeaning.{Moved, moves, return_address, caller_registers, returned_caller, rule_meaning}
 use Rattle.framehop_rules.specs.declared.error.Error.{Error}
 use Rattle.framehop_rules.specs.declared.x86_64.unwind_rule.UnwindRuleX86_64.{UnwindRuleX86_64}
 use Rattle.framehop_rules.specs.declared.x86_64.unwindregs.UnwindRegsX86_64.{UnwindRegsX86_64}
@@ -18,7 +18,7 @@ meaning_is : (rule : UnwindRuleX86_64) (is_first : Bool) (registers : UnwindRegs
 meaning_is rule is_first registers words sp bp moved is moved_is read answer read_is returns =
     ap (λ r. and_then r (λ to. Gives (record { return_address = to; registers = caller_registers registers to sp bp })))
     (ap outcome_or_end_of (sym read_is) ∙ returns)
-    ∙ ap (λ m. and_then m (returned registers words)) (sym (ap (λ o. outcome_or_end_of (Ok o)) is) ∙ moved_is)
+    ∙ ap (λ m. and_then m (returned_caller registers words)) (sym (ap (λ o. outcome_or_end_of (Ok o)) is) ∙ moved_is)
 
 pub returns-in_err-return_address-clause-answer : goal.returns-in_err-return_address-clause-answer
 returns-in_err-return_address-clause-answer g c = λ words answers.

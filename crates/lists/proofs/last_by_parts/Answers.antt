@@ -1,0 +1,8 @@
+use Rattle.lists.proofs.Laws.{last_of-none, last_of-push}
+use Rattle.lists.proofs.last_by_parts.Goals as goal
+
+pub returns-clause-push : goal.returns-clause-push
+returns-clause-push g c = λ xs y. last_of-push xs y
+
+pub returns-clause-none : goal.returns-clause-none
+returns-clause-none g c = λ xs h. last_of-none xs h

@@ -1,0 +1,33 @@
+//! What std's definitions of lists lack: the last of a list, the elements with the greatest key, and
+//! items that are read one after the other. The definitions stand in `specs`, and each function here
+//! is a law of them: it does nothing when the program runs.
+#![tactic(auto)]
+
+ghost use Rattle.std.specs.Prelude.{◌≡◌, ℕ, Bool, true, false, List, [], ◌∷◌, ◌++◌, Option, Some, None};
+ghost use Rattle.lists.specs.Greatest.{first_greatest, greater_of};
+ghost use Rattle.lists.specs.Items.{Answer, Shrinks, items_from, items_of, rest_from, rest_of};
+ghost use Rattle.lists.specs.Last.{last_of};
+
+/// A test holds or fails, and an option has a value or none.
+pub fn cases<A, P>()
+    ensures by_case { (b : Bool) → (b ≡ true → P) → (b ≡ false → P) → P }
+    ensures by_option { (o : Option A) → ((x : A) → o ≡ Some x → P) → (o ≡ None → P) → P }
+{}
+
+/// The last of a list, by what goes to its end or to its front.
+pub fn last_by_parts<A>()
+    ensures push { (xs : List A) (y : A) → last_of (xs ++ y ∷ []) ≡ Some y }
+    ensures cons { (x y : A) (xs : List A) → last_of xs ≡ Some y → last_of (x ∷ xs) ≡ Some y }
+    ensures none { (xs : List A) → last_of xs ≡ None → xs ≡ [] }
+{}
+
+/// The first of the elements with the greatest key, where one more goes to the front.
+pub fn greatest_by_parts<A>()
+    ensures { (key : A → ℕ) (x : A) (xs : List A) → first_greatest key (x ∷ xs) ≡ greater_of key (Some x) (first_greatest key xs) }
+{}
+
+/// Items begin with what one step gives, and go on with those of what is left behind it.
+pub fn items_by_steps<S, A, E>()
+    ensures items { (size : S → ℕ) (step : S → Answer S A E) → Shrinks size step → (s : S) → items_of size step s ≡ items_from (items_of size step) (step s) }
+    ensures rest { (size : S → ℕ) (step : S → Answer S A E) → Shrinks size step → (s : S) → rest_of size step s ≡ rest_from (rest_of size step) s (step s) }
+{}
