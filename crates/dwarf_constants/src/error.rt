@@ -1,7 +1,9 @@
 ghost use Rattle.std.specs.Prelude.{◌≡◌, Some};
+ghost use Rattle.dwarf_constants.specs.declared.error.Error.TheVariants.{OutOfMemory};
 
 use crate::common::ReaderOffsetId;
 use crate::constants::{DwCfa, DwChildren, DwEhPe};
+use std::alloc::{AllocError, AllocFailed};
 use std::fmt;
 
 /// Why bytes of a section were refused.
@@ -114,6 +116,22 @@ impl fmt::Display for Error {
 }
 
 impl std::error::Error for Error {}
+
+impl From<AllocError> for Error {
+    ghost from_gives = { λ _ e. e ≡ OutOfMemory };
+
+    fn from(_e: AllocError) -> Error {
+        Error::OutOfMemory
+    }
+}
+
+impl<T: Drop> From<AllocFailed<T>> for Error {
+    ghost from_gives = { λ _ e. e ≡ OutOfMemory };
+
+    fn from(_e: AllocFailed<T>) -> Error {
+        Error::OutOfMemory
+    }
+}
 
 /// A value of a section, or why its bytes were refused.
 pub type Result<T> = std::result::Result<T, Error>;
