@@ -10,6 +10,7 @@ use dwarf_constants::{
     DebugAddrBase, DebugAddrIndex, DebugAddrOffset, Encoding, Error, Result, SectionId,
 };
 use dwarf_readers::{Reader, ReaderOffset};
+use std::marker::Model;
 
 /// The sets of addresses of `.debug_addr` (DWARF 5, 7.27).
 #[derive(Debug, Clone, Copy)]
@@ -37,9 +38,8 @@ impl<R: Reader> DebugAddr<R> {
 
     /// The headers of the sets, in order.
     pub fn headers(&self) -> AddrHeaderIter<R>
-        ensures input { result.input ≡ addr_section self.now }
-        ensures offset { R.Offset.value result.offset.0 ≡ 0 }
-        ensures sets { sets_at R.Offset.limit (R.Offset.value result.offset.0) (R.stretch result.input) ≡ sets_in R.Offset.limit (R.stretch (addr_section self.now)) }
+        ensures left { result ≡ record { input = R.stretch (addr_section self.now); offset = 0 } }
+        ensures sets { sets_at R.Offset.limit result.offset result.input ≡ sets_in R.Offset.limit (R.stretch (addr_section self.now)) }
     {
         // Every place in the section fits the type of offsets, as its length does.
         let _len = self.section.len();
@@ -96,11 +96,21 @@ impl<R: Reader> Section<R> for DebugAddr<R> {
 /// The headers of the sets that a section has left. After an error there is none.
 #[derive(Debug, Drop)]
 pub struct AddrHeaderIter<R: Reader> {
-    /// The bytes of the sets that are left.
-    pub input: R,
-    /// The offset of the next set in the section.
-    pub offset: DebugAddrOffset<R::Offset>,
-    ghost fits: { R.Offset.value offset.0 + length (R.stretch input).bytes < R.Offset.limit },
+    // The bytes of the sets that are left.
+    input: R,
+    // The offset of the next set in the section.
+    offset: DebugAddrOffset<R::Offset>,
+}
+
+impl<R: Reader> Model for AddrHeaderIter<R> {
+    ghost use Rattle.std.specs.Prelude.{◌+◌, ◌<◌, length};
+    ghost use Rattle.dwarf_read_core.specs.SetsLeft.{SetsLeft};
+
+    ghost Value = { SetsLeft };
+
+    ghost view = { λ i. record { input = R.stretch i.input; offset = R.Offset.value i.offset.0 } };
+
+    ghost invariant = { λ i. R.Offset.value i.offset.0 + length (R.stretch i.input).bytes < R.Offset.limit };
 }
 
 impl<R: Reader> AddrHeaderIter<R> {
@@ -110,11 +120,11 @@ impl<R: Reader> AddrHeaderIter<R> {
 
     /// The next header, or `None` at the end of the section.
     pub fn next(&mut self) -> Result<Option<AddrHeader<R>>>
-        ensures read { ReadsAs (option_map (set_of R.stretch R.Offset.value)) result (next_set R.Offset.limit (R.Offset.value self.old.offset.0) (R.stretch self.old.input)) (R.stretch self.new.input) }
-        ensures offset { IfOk result (λ _. R.Offset.value self.new.offset.0 + length (R.stretch self.new.input).bytes ≡ R.Offset.value self.old.offset.0 + length (R.stretch self.old.input).bytes) }
-        ensures refused { OnErr result ((R.stretch self.new.input).bytes ≡ []) }
-        ensures less { IfOk result (λ h. IsSome h → length (R.stretch self.new.input).bytes < length (R.stretch self.old.input).bytes) }
-        ensures sets { GivesNext (set_of R.stretch R.Offset.value) result (sets_at R.Offset.limit (R.Offset.value self.old.offset.0) (R.stretch self.old.input)) (sets_at R.Offset.limit (R.Offset.value self.new.offset.0) (R.stretch self.new.input)) }
+        ensures read { ReadsAs (option_map (set_of R.stretch R.Offset.value)) result (next_set R.Offset.limit self.old.offset self.old.input) self.new.input }
+        ensures offset { IfOk result (λ _. self.new.offset + length self.new.input.bytes ≡ self.old.offset + length self.old.input.bytes) }
+        ensures refused { OnErr result (self.new.input.bytes ≡ []) }
+        ensures less { IfOk result (λ h. IsSome h → length self.new.input.bytes < length self.old.input.bytes) }
+        ensures sets { GivesNext (set_of R.stretch R.Offset.value) result (sets_at R.Offset.limit self.old.offset self.old.input) (sets_at R.Offset.limit self.new.offset self.new.input) }
     {
         if self.input.is_empty() {
             return Ok(None);
@@ -142,9 +152,9 @@ impl<R: Reader> Iterator for AddrHeaderIter<R> {
 
     type Item = Result<AddrHeader<R>>;
 
-    ghost next_gives = { YieldsFirstBy (result_map_both (set_of R.stretch R.Offset.value) (λ e. e)) (λ s. sets_at R.Offset.limit (R.Offset.value s.offset.0) (R.stretch s.input)) };
+    ghost next_gives = { YieldsFirstBy (result_map_both (set_of R.stretch R.Offset.value) (λ e. e)) (λ s. sets_at R.Offset.limit s.offset s.input) };
 
-    ghost remaining = { item_count (λ s. sets_at R.Offset.limit (R.Offset.value s.offset.0) (R.stretch s.input)) };
+    ghost remaining = { item_count (λ s. sets_at R.Offset.limit s.offset s.input) };
 
     fn next(&mut self) -> Option<Result<AddrHeader<R>>> {
         AddrHeaderIter::next(self).transpose()
