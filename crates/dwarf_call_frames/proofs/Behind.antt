@@ -5,6 +5,7 @@ use Rattle.std.specs.List.{filter_map, cons_option}
 use Rattle.std.proofs.lemmas.List.{append-nil}
 use Rattle.std.proofs.lemmas.List.Elements.{filter_map-append}
 use Rattle.std.proofs.lemmas.Bool.{lt-ltb, le-ltb}
+use Rattle.lists.specs.Last.{last_of}
 use Rattle.dwarf_constants.specs.declared.common.Register.{Register}
 use Rattle.dwarf_constants.specs.declared.error.Error.{Error}
 use Rattle.dwarf_constants.specs.declared.error.Error.TheVariants.{CfiInstructionInInvalidContext, TooManyRegisterRules}
@@ -19,7 +20,7 @@ use Rattle.dwarf_call_frames.specs.declared.rows.UnwindTableRow.{UnwindTableRow}
 use Rattle.dwarf_call_frames.specs.CfaRules.{with_cfa_register, with_cfa_offset}
 use Rattle.dwarf_call_frames.specs.Entries.{Cie}
 use Rattle.dwarf_call_frames.specs.RegisterRules.{rule_in, with_rule}
-use Rattle.dwarf_call_frames.specs.Rows.{refusal_of, changes_cfa, last_of, cfa_of, cfa_from, cfa_expression_of, cfa_expression_by, cfa_register_by, cfa_offset_by, rule_by, rules_written, last_rule, registers_ruled}
+use Rattle.dwarf_call_frames.specs.Rows.{refusal_of, changes_cfa, cfa_of, cfa_from, cfa_expression_of, cfa_expression_by, cfa_register_by, cfa_offset_by, rule_by, rules_written, last_rule, registers_ruled}
 use Rattle.dwarf_call_frames.specs.UnwindRows.{IsBehind}
 use Rattle.dwarf_call_frames.proofs.RuleLists.{rule_in-with_rule, length-with_rule}
 use Rattle.dwarf_call_frames.proofs.Fronts.{or_before, last_written-push, last_rule-push, registers_ruled-push}

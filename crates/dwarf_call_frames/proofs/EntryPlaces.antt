@@ -8,7 +8,7 @@ use Rattle.dwarf_constants.specs.declared.error.Error.{Error}
 use Rattle.dwarf_constants.specs.declared.error.Error.TheVariants.{UnknownReservedLength, OffsetOutOfBounds}
 use Rattle.dwarf_readers.specs.Place.{Stretch, ◌>>=◌, whole, behind, prefix, number_at, split_at, requirement, ends_at}
 use Rattle.dwarf_call_frames.specs.Entries.{Cie, PartialFde, Fde, Entry, CieEntry, FdeEntry, Listing, entry_bytes_at, cie_at, cie_from_offset, entry_within, entry_in, entry_at, fde_of, fde_among, fde_from_offset, StandsAtItsOffset, listed, fdes_from, fdes_within, entries_of}
-use Rattle.dwarf_call_frames.proofs.Cases.{by_case}
+use Rattle.lists.proofs.Laws.{by_case}
 use Rattle.dwarf_call_frames.proofs.Places.{same_stretch}
 
 -- the stretch is what the section has from the stretch's place on

@@ -4,16 +4,12 @@ use Rattle.std.specs.List.{filter_map, cons_option}
 use Rattle.std.proofs.lemmas.List.{append-nil}
 use Rattle.std.proofs.lemmas.List.Elements.{filter_map-append}
 use Rattle.std.proofs.lemmas.Bool.{eqb-true, false≢true}
+use Rattle.lists.specs.Last.{last_of}
+use Rattle.lists.proofs.Laws.{last_of-push}
 use Rattle.dwarf_constants.specs.declared.common.Register.{Register}
 use Rattle.dwarf_call_frames.specs.declared.rows.RegisterRule.{RegisterRule}
-use Rattle.dwarf_call_frames.specs.Rows.{last_of, rule_for, last_rule, registers_ruled}
+use Rattle.dwarf_call_frames.specs.Rows.{rule_for, last_rule, registers_ruled}
 use Rattle.dwarf_call_frames.proofs.RuleLists.{eqb_sym}
-
--- the last of a list with one more at its end
-pub last_of-push : {A : Type 0} (xs : List A) (y : A) → last_of (xs ++ y ∷ []) ≡ Some y
-last_of-push [] y = refl
-last_of-push (x ∷ []) y = refl
-last_of-push (x ∷ z ∷ xs) y = last_of-push (z ∷ xs) y
 
 -- what stands, or else what stood
 abbrev pub or_before : {A : Type 0} → Option A → Option A → Option A

@@ -1,9 +1,9 @@
 pub mod Behind
-pub mod Cases
 pub mod EntryLists
 pub mod EntryPlaces
 pub mod Fronts
 pub mod InstructionLists
+pub mod Laws
 pub mod Lengths
 pub mod Places
 pub mod RowsFor

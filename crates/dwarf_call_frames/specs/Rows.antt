@@ -2,6 +2,7 @@
 use Rattle.std.specs.Prelude.{ℕ, ◌+◌, ◌*◌, ◌%◌, ◌^◌, ℤ, pos, List, [], ◌∷◌, ◌++◌, Bool, true, false, ◌&&◌, Option, Some, None, is_some, unwrap_or, Result, Ok, Err, ◌==◌, nat_lt, nat_le, if◌then◌else◌}
 use Rattle.std.specs.List.{filter_map, find}
 use Rattle.std.specs.Int.{w64, cast_signed, cast_unsigned}
+use Rattle.lists.specs.Last.{last_of}
 use Rattle.dwarf_constants.specs.declared.common.Register.{Register}
 use Rattle.dwarf_constants.specs.declared.error.Error.{Error}
 use Rattle.dwarf_constants.specs.declared.error.Error.TheVariants.{AddressOverflow, CfiInstructionInInvalidContext, TooManyRegisterRules, NoUnwindInfoForAddress}
@@ -16,12 +17,6 @@ use Rattle.dwarf_call_frames.specs.Entries.{Cie, Fde, end_address}
 use Rattle.dwarf_call_frames.specs.Instructions.{instructions_of}
 
 -- ---- what a front of instructions has written
-
--- the last of a list, where it has one
-abbrev pub last_of : {A : Type 0} → List A → Option A
-last_of [] = None
-last_of (x ∷ []) = Some x
-last_of (x ∷ y ∷ xs) = last_of (y ∷ xs)
 
 -- the register that an instruction makes the CFA count from
 abbrev pub cfa_register_by : CallFrameInstruction → Option Register

@@ -40,6 +40,7 @@ impl<'a> EhFrame<'a> {
     }
 
     /// The CIE at `offset`, in bytes from the section's start. Fails also where there is no entry, or an FDE.
+    #[inline(always)]
     pub fn cie_from_offset(&self, offset: u64) -> Result<CommonInformationEntry<'a>>
         ensures { Gives cie_view result (cie_from_offset (section_bytes self.now) offset) }
     {
@@ -53,6 +54,7 @@ impl<'a> EhFrame<'a> {
     }
 
     /// The FDE at `offset`, in bytes from the section's start, with its CIE. Fails also where there is no entry, or a CIE.
+    #[inline(always)]
     pub fn fde_from_offset(&self, offset: u64) -> Result<FrameDescriptionEntry<'a>>
         ensures { Gives fde_view result (fde_from_offset (section_bytes self.now) offset) }
     {
@@ -74,6 +76,7 @@ pub struct CfiEntriesIter<'a> {
 
 impl<'a> CfiEntriesIter<'a> {
     /// The next entry, or nothing at a length of 0 and at the section's end. After an error or nothing it answers only `Ok(None)`.
+    #[inline(always)]
     pub fn next(&mut self) -> Result<Option<CieOrFde<'a>>>
         ensures ok { first_entry (entries_left self.old) ≡ next_entry result (entries_left self.new) }
         ensures refused { OnErr result ((entries_left self.new).bytes ≡ []) }
@@ -178,6 +181,7 @@ impl<'a> PartialFrameDescriptionEntry<'a> {
     }
 
     /// The whole entry, with its CIE, which is read from the section.
+    #[inline(always)]
     pub fn parse(&self, section: &EhFrame<'a>) -> Result<FrameDescriptionEntry<'a>>
         ensures { Gives fde_view result (fde_of (section_bytes section.now) (partial_view self.now)) }
     {
@@ -257,6 +261,7 @@ impl<'a> FrameDescriptionEntry<'a> {
 }
 
 // Reads the entry at the front, which stands at `offset`. There is none at a length of 0.
+#[inline(always)]
 fn parse_entry<'a>(offset: u64, input: &mut SectionReader<'a>) -> Result<Option<CieOrFde<'a>>>
     ensures { entry_at offset (stretch input.old) ≡ next_entry result (stretch input.new) }
 {
@@ -273,6 +278,7 @@ fn parse_entry<'a>(offset: u64, input: &mut SectionReader<'a>) -> Result<Option<
 }
 
 // Reads an entry from its id on.
+#[inline(always)]
 fn parse_body<'a>(offset: u64, body: SectionReader<'a>) -> Result<CieOrFde<'a>>
     ensures { Gives entry_view result (entry_within offset (stretch body.entry)) }
 {
@@ -296,6 +302,7 @@ fn parse_body<'a>(offset: u64, body: SectionReader<'a>) -> Result<CieOrFde<'a>>
 }
 
 // Reads a CIE from its version on.
+#[inline(always)]
 fn parse_cie<'a>(offset: u64, input: SectionReader<'a>) -> Result<CommonInformationEntry<'a>>
     ensures { Gives cie_view result (cie_at offset (stretch input.entry)) }
 {

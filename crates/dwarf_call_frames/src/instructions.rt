@@ -53,6 +53,7 @@ impl<'a> CallFrameInstructionIter<'a> {
     }
 
     /// The next instruction, or nothing behind the last. After an error it answers only `Ok(None)`.
+    #[inline(always)]
     pub fn next(&mut self) -> Result<Option<CallFrameInstruction>>
         // what is read, or that nothing is left
         ensures ok { IfOk result (λ next. MatchOption next (length (instructions_left self.old).bytes ≡ 0)
@@ -77,6 +78,7 @@ impl<'a> CallFrameInstructionIter<'a> {
 }
 
 /// Reads an instruction: the high two bits of its opcode tell one of three with an operand in the low six, or that all bits tell it.
+#[inline(always)]
 fn parse(input: &mut SectionReader) -> Result<CallFrameInstruction>
     ensures { Reads result (instruction_at (stretch input.old)) (stretch input.new) }
 {
@@ -99,6 +101,7 @@ fn parse(input: &mut SectionReader) -> Result<CallFrameInstruction>
 }
 
 /// Reads the operands of an opcode whose high two bits are 0.
+#[inline(always)]
 fn parse_extended(opcode: u8, input: &mut SectionReader) -> Result<CallFrameInstruction>
     ensures { Reads result (extended_at opcode (stretch input.old)) (stretch input.new) }
 {
@@ -126,6 +129,7 @@ fn parse_extended(opcode: u8, input: &mut SectionReader) -> Result<CallFrameInst
 }
 
 /// Passes an expression behind its length, and keeps its place.
+#[inline(always)]
 fn parse_expression(input: &mut SectionReader) -> Result<UnwindExpression>
     ensures { Reads result (skipped_expression (stretch input.old)) (stretch input.new) }
 {

@@ -4,9 +4,10 @@ use Rattle.std.specs.Prelude.{nat_le, nat_lt, ◌&&◌, is_none, option_map}
 use Rattle.std.specs.List.{All, filter, find, list_all}
 use Rattle.std.specs.Option.{option_or}
 use Rattle.std.specs.List.Sorted.{IsNonDecreasingBy, IsPermutation, IsStableByKey, ties}
+use Rattle.std.proofs.lemmas.Bool.{and_parts}
 use Rattle.std.proofs.lemmas.Bool.Decides.{nat_tests}
 use Rattle.std.proofs.lemmas.List.{length-map, length-reverse}
-use Rattle.std.proofs.lemmas.List.Elements.{All-head, All-tail}
+use Rattle.std.proofs.lemmas.List.Elements.{All-nil, All-cons, All-head, All-tail}
 use Rattle.std.proofs.lemmas.List.Sorted.{All-permutation, IsPermutation-sym, IsPermutation-reverse, length_permutation}
 use Rattle.dwarf_constants.specs.declared.error.Error.{Error}
 use Rattle.dwarf_readers.specs.Place.{Stretch}
@@ -14,25 +15,26 @@ use Rattle.framehop.specs.declared.cfi_index.IndexedFde.{IndexedFde}
 use Rattle.framehop.specs.declared.cfi_index.DwarfCfiIndexError.{DwarfCfiIndexError}
 use Rattle.framehop.specs.declared.cfi_index.DwarfCfiIndexError.TheVariants.{Gimli}
 use Rattle.dwarf_call_frames.specs.Entries.{Fde, Listing, entries_of, entries_from}
-use Rattle.framehop.specs.EntryFor.{is_last_start, indexed_among, fits_index, has_index}
-use Rattle.dwarf_call_frames.specs.Rows.{last_of}
+use Rattle.framehop.specs.EntryFor.{indexed_among, fits_index, has_index}
+use Rattle.lists.specs.Greatest.{is_greatest, greater}
+use Rattle.lists.specs.Last.{last_of}
 use Rattle.framehop.specs.CfiIndex.{index_refusal, first_or, index_error, index_entry, offset_in, Indexes}
-use Rattle.dwarf_call_frames.proofs.Cases.{by_case}
-use Rattle.framehop.proofs.EntryIndex.{later, later_of, nearer_of, both-true, find-passes, indexed-cons}
+use Rattle.lists.proofs.Laws.{by_case}
+use Rattle.framehop.proofs.EntryIndex.{later_of, find-has, indexed-cons}
 use Rattle.framehop.proofs.CfiIndexOrder.{none-passes, last-passes, none-higher, last-alike, find-back}
 
 -- ---- of the FDEs, the one with the greatest start
 
 starts-above : (base : ℕ) (f : Fde) → fits_index base f ≡ true → base ≤ f.initial_address
-starts-above base f h = let first : nat_le base f.initial_address ≡ true = (both-true _ _ (both-true _ _ h).0).0 in grind arith
+starts-above base f h = let first : nat_le base f.initial_address ≡ true = (and_parts _ _ (and_parts _ _ h).0).0 in grind arith
 
 -- no FDE at or below the address starts above a bound
 all-under : (base a bound : ℕ) (fs : List Fde) → list_all (fits_index base) fs ≡ true
     → All (λ y. nat_le y.start a ≡ true → y.start ≤ bound) (map (index_entry base) fs)
-    → list_all (λ f. nat_le f.initial_address (base + bound)) (filter (λ f. nat_le f.initial_address (base + a)) fs) ≡ true
-all-under base a bound [] fit all = refl
+    → All (λ f. f.initial_address ≤ base + bound) (filter (λ f. nat_le f.initial_address (base + a)) fs)
+all-under base a bound [] fit all = All-nil (λ f. f.initial_address ≤ base + bound)
 all-under base a bound (f ∷ fs) fit all =
-    let (here, others) = both-true (fits_index base f) (list_all (fits_index base) fs) fit in
+    let (here, others) = and_parts (fits_index base f) (list_all (fits_index base) fs) fit in
     let rest = all-under base a bound fs others (All-tail (λ y. nat_le y.start a ≡ true → y.start ≤ bound) (index_entry base f) (map (index_entry base) fs) all) in
     let above : base ≤ f.initial_address = starts-above base f here in
     let first = All-head (λ y. nat_le y.start a ≡ true → y.start ≤ bound) (index_entry base f) (map (index_entry base) fs) all in
@@ -40,8 +42,7 @@ all-under base a bound (f ∷ fs) fit all =
     (λ is.
     let le : nat_le (f.initial_address - base) a ≡ true = grind arith in
     let under : f.initial_address - base ≤ bound = first le in
-    let test : nat_le f.initial_address (base + bound) ≡ true = grind arith in
-    rw (is, test) rest)
+    rw is (All-cons (λ f. f.initial_address ≤ base + bound) f (filter (λ f. nat_le f.initial_address (base + a)) fs) (omega arith) rest))
     (λ is. rw is rest)
 
 under : (base a bound : ℕ) (fs : List Fde) (g : Fde) → list_all (fits_index base) fs ≡ true
@@ -49,8 +50,7 @@ under : (base a bound : ℕ) (fs : List Fde) (g : Fde) → list_all (fits_index 
     → indexed_among (base + a) fs ≡ Some g → g.initial_address ≤ base + bound
 under base a bound fs g fit all found =
     let within : List Fde = filter (λ f. nat_le f.initial_address (base + a)) fs in
-    let test : nat_le g.initial_address (base + bound) ≡ true = find-passes (is_last_start within) (λ f. nat_le f.initial_address (base + bound)) within g found (all-under base a bound fs fit all) in
-    grind arith
+    find-has (λ f. f.initial_address ≤ base + bound) (is_greatest (λ f. f.initial_address) within) within g (all-under base a bound fs fit all) found
 
 -- the first of the FDEs with a start, where no other at or below the address starts above it
 pub first-greatest : (base a : ℕ) (fs : List Fde) (x : IndexedFde) (p : IndexedFde → Bool)
@@ -60,11 +60,11 @@ pub first-greatest : (base a : ℕ) (fs : List Fde) (x : IndexedFde) (p : Indexe
     → (g : Fde) × (indexed_among (base + a) fs ≡ Some g) × (g.initial_address ≡ base + x.start) × (g.offset ≡ x.offset)
 first-greatest base a [] x p only all low fit found greatest = cc
 first-greatest base a (f ∷ fs) x p only all low fit found greatest =
-    let (here, others) = both-true (fits_index base f) (list_all (fits_index base) fs) fit in
+    let (here, others) = and_parts (fits_index base f) (list_all (fits_index base) fs) fit in
     let above : base ≤ f.initial_address = starts-above base f here in
     let rest = All-tail (λ y. nat_le y.start a ≡ true → y.start ≤ x.start) (index_entry base f) (map (index_entry base) fs) greatest in
     let first = All-head (λ y. nat_le y.start a ≡ true → y.start ≤ x.start) (index_entry base f) (map (index_entry base) fs) greatest in
-    let made : indexed_among (base + a) (f ∷ fs) ≡ later_of (nearer_of (base + a) None f) (indexed_among (base + a) fs) = indexed-cons (base + a) f fs None in
+    let made : indexed_among (base + a) (f ∷ fs) ≡ later_of (cond (nat_le f.initial_address (base + a)) (Some f) None) (indexed_among (base + a) fs) = indexed-cons (base + a) f fs in
     by_case (p (index_entry base f))
     (λ is.
     let same : Some (index_entry base f) ≡ Some x = rw is at found in
@@ -92,7 +92,7 @@ first-greatest base a (f ∷ fs) x p only all low fit found greatest =
     before_if : (g : Fde) (start : ℕ) → base ≤ f.initial_address → f.initial_address - base ≤ start → g.initial_address ≡ base + start → (f.initial_address - base ≡ start → ⊥) → f.initial_address < g.initial_address
     before_if g start above le is not = omega arith
 
-    goes-later : (g : Fde) → f.initial_address < g.initial_address → later f g ≡ g
+    goes-later : (g : Fde) → f.initial_address < g.initial_address → greater (λ fde. fde.initial_address) f g ≡ g
     goes-later g lt = let test : nat_lt f.initial_address g.initial_address ≡ true = grind arith in rw test refl
 
 -- where each FDE starts above the address, none is indexed
@@ -100,7 +100,7 @@ none-indexed : (base a : ℕ) (fs : List Fde) → list_all (fits_index base) fs 
     → filter (λ f. nat_le f.initial_address (base + a)) fs ≡ []
 none-indexed base a [] fit all = refl
 none-indexed base a (f ∷ fs) fit all =
-    let (here, others) = both-true (fits_index base f) (list_all (fits_index base) fs) fit in
+    let (here, others) = and_parts (fits_index base f) (list_all (fits_index base) fs) fit in
     let above : base ≤ f.initial_address = starts-above base f here in
     let first : nat_le (f.initial_address - base) a ≡ false = All-head (λ y. nat_le y.start a ≡ false) (index_entry base f) (map (index_entry base) fs) all in
     let far : nat_le f.initial_address (base + a) ≡ false = grind arith in
@@ -121,7 +121,7 @@ module _ (base : ℕ) (listing : Listing) (ys : List IndexedFde) (has : has_inde
       (All-permutation P ys (reverse xs) (IsPermutation-sym (reverse xs) ys moved) all)
 
   fitting : list_all (fits_index base) listing.fdes ≡ true
-  fitting = (both-true (is_none listing.fault) (list_all (fits_index base) listing.fdes) has).1
+  fitting = (and_parts (is_none listing.fault) (list_all (fits_index base) listing.fdes) has).1
 
   found-some : (a : ℕ) (x : IndexedFde) → last_of (filter (λ y. nat_le y.start a) ys) ≡ Some x → Some x.offset ≡ option_map (λ f. f.offset) (indexed_among (base + a) listing.fdes)
   found-some a x last =

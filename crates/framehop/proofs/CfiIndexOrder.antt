@@ -6,16 +6,13 @@ use Rattle.std.specs.List.Sorted.{IsNonDecreasingBy}
 use Rattle.std.proofs.lemmas.List.{append-nil}
 use Rattle.std.proofs.lemmas.List.Elements.{filter-append, All-nil, All-cons, All-head, All-tail, All-weaker}
 use mathlib.Core.List.{reverse-cons}
-use Rattle.dwarf_call_frames.specs.Rows.{last_of}
-use Rattle.framehop.proofs.ModulesInOrder.{last_of-cons}
-use Rattle.dwarf_call_frames.proofs.Fronts.{last_of-push}
-use Rattle.dwarf_call_frames.proofs.Cases.{by_case}
+use Rattle.lists.specs.Last.{last_of}
+use Rattle.lists.proofs.Laws.{by_case, last_of-push, last_of-cons, last_of-none}
 
--- where there is no last, there is none
-no-last : {X : Type 0} (xs : List X) → last_of xs ≡ None → xs ≡ []
-no-last [] h = refl
-no-last (x ∷ []) h = cc
-no-last (x ∷ y ∷ ys) h = let e : y ∷ ys ≡ [] = no-last (y ∷ ys) h in cc
+-- the last stands behind the first, or the list has the first alone
+either : {X P : Type 0} (y : X) (xs : List X) (x : X) → last_of (y ∷ xs) ≡ Some x → (last_of xs ≡ Some x → P) → (xs ≡ [] → y ≡ x → P) → P
+either y [] x h others alone = alone refl cc
+either y (z ∷ zs) x h others alone = others h
 
 module _ {X : Type 0} (q : X → Bool) where
   -- where none passes, the filter is empty
@@ -43,7 +40,7 @@ module _ {X : Type 0} (q : X → Bool) where
   none-passes [] h = All-nil (λ x. q x ≡ false)
   none-passes (x ∷ xs) h =
       by_case (q x)
-      (λ is. let e : x ∷ filter q xs ≡ [] = no-last (x ∷ filter q xs) (rw is at h) in cc)
+      (λ is. let e : x ∷ filter q xs ≡ [] = last_of-none (x ∷ filter q xs) (rw is at h) in cc)
       (λ is. All-cons (λ x. q x ≡ false) x xs is (none-passes xs (rw is at h)))
 
   -- the last of what passes has what all have
@@ -51,30 +48,16 @@ module _ {X : Type 0} (q : X → Bool) where
   last-has P [] x all h = cc
   last-has P (y ∷ ys) x all h =
       by_case (q y)
-      (λ is. by (last_of (filter q ys)) refl (λ e. last-has P ys x (All-tail P y ys all) e) (rw is at h))
+      (λ is. either y (filter q ys) x (rw is at h) (last-has P ys x (All-tail P y ys all)) (λ _ it. subst P it (All-head P y ys all)))
       (λ is. last-has P ys x (All-tail P y ys all) (rw is at h))
-    where
-      by : (o : Option X) → last_of (filter q ys) ≡ o → (last_of (filter q ys) ≡ Some x → P x) → last_of (y ∷ filter q ys) ≡ Some x → P x
-      by (Some z) e others found = let same : Some z ≡ Some x = sym (last_of-cons y z (filter q ys) e) ∙ found in others (e ∙ same)
-      by None e others found =
-          let empty : filter q ys ≡ [] = no-last (filter q ys) e in
-          let same : Some y ≡ Some x = ap (λ l. last_of (y ∷ l)) (sym empty) ∙ found in
-          let is : y ≡ x = cc in subst P is (All-head P y ys all)
 
   -- the last of what passes passes
   pub last-passes : (xs : List X) (x : X) → last_of (filter q xs) ≡ Some x → q x ≡ true
   last-passes [] x h = cc
   last-passes (y ∷ ys) x h =
       by_case (q y)
-      (λ is. by is (last_of (filter q ys)) refl (λ e. last-passes ys x e) (rw is at h))
+      (λ is. either y (filter q ys) x (rw is at h) (last-passes ys x) (λ _ it. rw (← it) is))
       (λ is. last-passes ys x (rw is at h))
-    where
-      by : q y ≡ true → (o : Option X) → last_of (filter q ys) ≡ o → (last_of (filter q ys) ≡ Some x → q x ≡ true) → last_of (y ∷ filter q ys) ≡ Some x → q x ≡ true
-      by is (Some z) e others found = let same : Some z ≡ Some x = sym (last_of-cons y z (filter q ys) e) ∙ found in others (e ∙ same)
-      by is None e others found =
-          let empty : filter q ys ≡ [] = no-last (filter q ys) e in
-          let same : Some y ≡ Some x = ap (λ l. last_of (y ∷ l)) (sym empty) ∙ found in
-          let it : y ≡ x = cc in rw (← it) is
 
 -- the first that passes is the last from the back
 pub find-back : {X : Type 0} (p : X → Bool) (xs : List X) → last_of (filter p (reverse xs)) ≡ find p xs
@@ -97,22 +80,11 @@ module _ {X : Type 0} (n : X → ℕ) (a : ℕ) where
   none-higher [] x up h = All-nil (λ y. nat_le (n y) a ≡ true → n y ≤ n x)
   none-higher (y ∷ ys) x up h =
       by_case (nat_le (n y) a)
-      (λ is. by (last_of (filter (λ y. nat_le (n y) a) ys)) refl (λ e. none-higher ys x (tail-sorted y ys up) e) (rw is at h))
+      (λ is. either y (filter (λ y. nat_le (n y) a) ys) x (rw is at h)
+      (λ last. All-cons (λ y. nat_le (n y) a ≡ true → n y ≤ n x) y ys (λ _. last-has (λ y. nat_le (n y) a) (λ z. n y ≤ n z) ys x (first-lowest y ys up) last) (none-higher ys x (tail-sorted y ys up) last))
+      (λ none it. All-cons (λ y. nat_le (n y) a ≡ true → n y ≤ n x) y ys (λ _. rw it (omega arith))
+      (All-weaker (λ z. nat_le (n z) a ≡ false) (λ z. nat_le (n z) a ≡ true → n z ≤ n x) (λ z fails passes. absurd cc) ys (none-passes (λ y. nat_le (n y) a) ys (ap last_of none)))))
       (λ is. All-cons (λ y. nat_le (n y) a ≡ true → n y ≤ n x) y ys (λ passes. absurd cc) (none-higher ys x (tail-sorted y ys up) (rw is at h)))
-    where
-      by : (o : Option X) → last_of (filter (λ y. nat_le (n y) a) ys) ≡ o
-          → (last_of (filter (λ y. nat_le (n y) a) ys) ≡ Some x → All (λ y. nat_le (n y) a ≡ true → n y ≤ n x) ys)
-          → last_of (y ∷ filter (λ y. nat_le (n y) a) ys) ≡ Some x → All (λ y. nat_le (n y) a ≡ true → n y ≤ n x) (y ∷ ys)
-      by (Some z) e others found =
-          let same : Some z ≡ Some x = sym (last_of-cons y z (filter (λ y. nat_le (n y) a) ys) e) ∙ found in
-          let last : last_of (filter (λ y. nat_le (n y) a) ys) ≡ Some x = e ∙ same in
-          All-cons (λ y. nat_le (n y) a ≡ true → n y ≤ n x) y ys (λ _. last-has (λ y. nat_le (n y) a) (λ z. n y ≤ n z) ys x (first-lowest y ys up) last) (others last)
-      by None e others found =
-          let empty : filter (λ y. nat_le (n y) a) ys ≡ [] = no-last (filter (λ y. nat_le (n y) a) ys) e in
-          let same : Some y ≡ Some x = ap (λ l. last_of (y ∷ l)) (sym empty) ∙ found in
-          let it : y ≡ x = cc in
-          All-cons (λ y. nat_le (n y) a ≡ true → n y ≤ n x) y ys (λ _. rw it (omega arith))
-          (All-weaker (λ z. nat_le (n z) a ≡ false) (λ z. nat_le (n z) a ≡ true → n z ≤ n x) (λ z fails passes. absurd cc) ys (none-passes (λ y. nat_le (n y) a) ys e))
 
   -- the last at or below the address is the last with its number
   pub last-alike : (p : X → Bool) (ys : List X) (x : X) → ((y : X) → p y ≡ true → n y ≡ n x) → p x ≡ true → IsNonDecreasingBy n ys
@@ -120,23 +92,16 @@ module _ {X : Type 0} (n : X → ℕ) (a : ℕ) where
   last-alike p [] x only self up h = cc
   last-alike p (y ∷ ys) x only self up h =
       by_case (nat_le (n y) a)
-      (λ is. by is (last_of (filter (λ y. nat_le (n y) a) ys)) refl (λ e. last-alike p ys x only self (tail-sorted y ys up) e) (rw is at h))
+      (λ is. either y (filter (λ y. nat_le (n y) a) ys) x (rw is at h)
+      (λ last. more (last-alike p ys x only self (tail-sorted y ys up) last))
+      (λ none it. alone it (none-passes (λ y. nat_le (n y) a) ys (ap last_of none)) (rw (← it) (grind arith))))
       (λ is. more (last-alike p ys x only self (tail-sorted y ys up) (rw is at h)))
     where
       more : last_of (filter p ys) ≡ Some x → last_of (filter p (y ∷ ys)) ≡ Some x
       more e = by_case (p y) (λ is. rw is (last_of-cons y x (filter p ys) e)) (λ is. rw is e)
 
-      by : nat_le (n y) a ≡ true → (o : Option X) → last_of (filter (λ y. nat_le (n y) a) ys) ≡ o
-          → (last_of (filter (λ y. nat_le (n y) a) ys) ≡ Some x → last_of (filter p ys) ≡ Some x)
-          → last_of (y ∷ filter (λ y. nat_le (n y) a) ys) ≡ Some x → last_of (filter p (y ∷ ys)) ≡ Some x
-      by is (Some z) e others found =
-          let same : Some z ≡ Some x = sym (last_of-cons y z (filter (λ y. nat_le (n y) a) ys) e) ∙ found in
-          more (others (e ∙ same))
-      by is None e others found =
-          let empty : filter (λ y. nat_le (n y) a) ys ≡ [] = no-last (filter (λ y. nat_le (n y) a) ys) e in
-          let same : Some y ≡ Some x = ap (λ l. last_of (y ∷ l)) (sym empty) ∙ found in
-          let it : y ≡ x = cc in
-          let none : All (λ z. nat_le (n z) a ≡ false) ys = none-passes (λ y. nat_le (n y) a) ys e in
-          let others : filter p ys ≡ [] = filter-empty p ys (λ k d lt. by_case (p (get_or ys k d)) (λ yes. let number = only (get_or ys k d) yes in let fails = none k d lt in let low : n x ≤ a = rw (← it) (grind arith) in absurd (grind arith)) (λ no. no)) in
+      alone : y ≡ x → All (λ z. nat_le (n z) a ≡ false) ys → n x ≤ a → last_of (filter p (y ∷ ys)) ≡ Some x
+      alone it none low =
+          let others : filter p ys ≡ [] = filter-empty p ys (λ k d lt. by_case (p (get_or ys k d)) (λ yes. let number = only (get_or ys k d) yes in let fails = none k d lt in absurd (grind arith)) (λ no. no)) in
           let passes : p y ≡ true = rw it self in
           rw (passes, others) (ap (λ z. Some z) it)

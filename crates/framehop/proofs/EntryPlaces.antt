@@ -3,26 +3,17 @@ use Rattle.std.proofs.Common.{◌≡◌, ℕ, ◌+◌, Bool, cond, List, [], ◌
 use Rattle.std.specs.Prelude.{nat_le, option_map}
 use Rattle.std.specs.List.{All, filter, find}
 use Rattle.std.specs.Result.{result_ok}
-use Rattle.std.proofs.lemmas.List.Elements.{All-head, All-tail}
+use Rattle.std.proofs.lemmas.List.Elements.{All-filter}
 use Rattle.dwarf_constants.specs.declared.error.Error.{Error}
 use Rattle.dwarf_readers.specs.Place.{Gives}
 use Rattle.dwarf_call_frames.specs.declared.entries.FrameDescriptionEntry.{FrameDescriptionEntry}
 use Rattle.dwarf_call_frames.specs.Entries.{Fde, Listing, StandsAtItsOffset, fde_from_offset, entries_of}
 use Rattle.dwarf_call_frames.specs.EntryViews.{fde_view}
-use Rattle.dwarf_call_frames.proofs.Cases.{by_case}
-use Rattle.dwarf_call_frames.proofs.EntryPlaces.{stands-there}
-use Rattle.framehop.specs.EntryFor.{has_index, is_last_start, indexed_among, indexed_entry}
-
-found-has : (P : Fde → Type 0) (p q : Fde → Bool) (xs : List Fde) (g : Fde) → All P xs → find p (filter q xs) ≡ Some g → P g
-found-has P p q [] g all h = cc
-found-has P p q (x ∷ xs) g all h =
-    by_case (q x)
-    (λ is.
-    let within : cond (p x) (Some x) (find p (filter q xs)) ≡ Some g = rw is at h in
-    by_case (p x)
-    (λ passes. let same : Some x ≡ Some g = rw passes at within in let it : x ≡ g = cc in subst P it (All-head P x xs all))
-    (λ fails. found-has P p q xs g (All-tail P x xs all) (rw fails at within)))
-    (λ is. found-has P p q xs g (All-tail P x xs all) (rw is at h))
+use Rattle.lists.specs.Greatest.{is_greatest}
+use Rattle.lists.proofs.Laws.{by_case}
+use Rattle.dwarf_call_frames.proofs.Laws.{stands-there}
+use Rattle.framehop.specs.EntryFor.{has_index, indexed_among, indexed_entry}
+use Rattle.framehop.proofs.EntryIndex.{find-has}
 
 -- the indexed entry is what stands at its offset
 pub indexed-there : (section : List ℕ) (base relative : ℕ) (g : Fde) → indexed_entry base relative (entries_of section) ≡ Some g → fde_from_offset section g.offset ≡ Ok g
@@ -30,7 +21,9 @@ indexed-there section base relative g h =
     let listing : Listing = entries_of section in
     by_case (has_index base listing)
     (λ is. let found : indexed_among (base + relative) listing.fdes ≡ Some g = rw is at h in
-    found-has (StandsAtItsOffset section) (is_last_start (filter (λ fde. nat_le fde.initial_address (base + relative)) listing.fdes)) (λ fde. nat_le fde.initial_address (base + relative)) listing.fdes g (stands-there section) found)
+    let within : List Fde = filter (λ fde. nat_le fde.initial_address (base + relative)) listing.fdes in
+    find-has (StandsAtItsOffset section) (is_greatest (λ fde. fde.initial_address) within) within g
+    (All-filter (λ fde. nat_le fde.initial_address (base + relative)) (StandsAtItsOffset section) listing.fdes (stands-there section)) found)
     (λ is. let none : ◌≡◌ {A = Option Fde} None (Some g) = rw is at h in cc)
 
 -- what is read at the offset of the indexed entry is that entry

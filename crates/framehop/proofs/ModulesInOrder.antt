@@ -5,13 +5,9 @@ use Rattle.std.specs.List.{filter, list_all}
 use Rattle.std.proofs.lemmas.List.{get_or-map, get_or-take, get_or_default, length-map, length-take-le}
 use Rattle.std.specs.List.Sorted.{IsNonDecreasingBy}
 use Rattle.std.proofs.lemmas.List.Sorted.{IsNonDecreasingBy-insert}
-use Rattle.dwarf_call_frames.specs.Rows.{last_of}
+use Rattle.lists.specs.Last.{last_of}
+use Rattle.lists.proofs.Laws.{last_of-cons}
 use Rattle.framehop.specs.ModuleFound.{Loaded, is_last_start, nearest_module, with_module}
-
--- the last of a list stays the last where another goes to the front
-pub last_of-cons : {A : Type 0} (x y : A) (xs : List A) → last_of xs ≡ Some y → last_of (x ∷ xs) ≡ Some y
-last_of-cons x y [] h = cc
-last_of-cons x y (z ∷ zs) h = h
 
 -- the last of a list that passes a test is the last of those that pass
 last_of-filter : {A : Type 0} (p : A → Bool) (xs : List A) (i : ℕ) (d : A) → length xs ≡ suc i → p (get_or xs i d) ≡ true → last_of (filter p xs) ≡ Some (get_or xs i d)

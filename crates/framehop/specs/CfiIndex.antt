@@ -7,7 +7,7 @@ use Rattle.framehop.specs.declared.cfi_index.DwarfCfiIndexError.{DwarfCfiIndexEr
 use Rattle.framehop.specs.declared.cfi_index.DwarfCfiIndexError.TheVariants.{Gimli, CouldNotSubtractBaseAddress, RelativeAddressTooBig, FdeOffsetTooBig}
 use Rattle.dwarf_call_frames.specs.Entries.{Fde, Listing}
 use Rattle.framehop.specs.EntryFor.{has_index, indexed_entry}
-use Rattle.dwarf_call_frames.specs.Rows.{last_of}
+use Rattle.lists.specs.Last.{last_of}
 
 -- why an index can't have an FDE, if it can't
 abbrev pub index_refusal : ℕ → Fde → Option DwarfCfiIndexError

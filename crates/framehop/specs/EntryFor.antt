@@ -1,6 +1,7 @@
 -- The entry that a section's index has for an address.
 use Rattle.std.specs.Prelude.{ℕ, ◌+◌, ◌-◌, ◌^◌, List, Bool, ◌&&◌, Option, None, is_none, nat_lt, nat_le, if◌then◌else◌}
-use Rattle.std.specs.List.{filter, find, list_all}
+use Rattle.std.specs.List.{filter, list_all}
+use Rattle.lists.specs.Greatest.{first_greatest}
 use Rattle.dwarf_call_frames.specs.Entries.{Fde, Listing}
 
 -- an FDE that an index can have: its code starts at or above the base and within 32 bits of it, and its place has 32 bits
@@ -11,17 +12,9 @@ fits_index base fde = nat_le base fde.initial_address && nat_lt (fde.initial_add
 abbrev pub has_index : ℕ → Listing → Bool
 has_index base listing = is_none listing.fault && list_all (fits_index base) listing.fdes
 
--- no FDE of the list starts above this one
-abbrev pub is_last_start : List Fde → Fde → Bool
-is_last_start fdes fde = list_all (λ other. nat_le other.initial_address fde.initial_address) fdes
-
--- of the FDEs with the greatest start, the first in the section
-abbrev pub first_of_last_start : List Fde → Option Fde
-first_of_last_start fdes = find (is_last_start fdes) fdes
-
 -- of the FDEs with the greatest start at or below an address, the first in the section
 abbrev pub indexed_among : ℕ → List Fde → Option Fde
-indexed_among address fdes = first_of_last_start (filter (λ fde. nat_le fde.initial_address address) fdes)
+indexed_among address fdes = first_greatest (λ fde. fde.initial_address) (filter (λ fde. nat_le fde.initial_address address) fdes)
 
 -- the FDE for an address that is relative to a base, where there is an index
 abbrev pub indexed_entry : ℕ → ℕ → Listing → Option Fde

@@ -1,7 +1,7 @@
 -- Modules, and the one that an address is in.
 use Rattle.std.specs.Prelude.{ℕ, ◌-◌, ◌^◌, List, [], ◌∷◌, Bool, ◌&&◌, ◌||◌, Option, Some, None, option_and_then, ◌==◌, nat_lt, nat_le, if◌then◌else◌}
 use Rattle.std.specs.List.{filter, list_all}
-use Rattle.dwarf_call_frames.specs.Rows.{last_of}
+use Rattle.lists.specs.Last.{last_of}
 
 -- a module as it is loaded: its range of addresses, the address that relative addresses count from, what its sections
 -- call that address, and the bytes of its `.eh_frame`, if it has some
