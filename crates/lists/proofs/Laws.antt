@@ -3,7 +3,7 @@ use Rattle.std.proofs.Common.{◌≡◌, ℕ, zero, suc, ◌<◌, ◌≤◌, Boo
 use Rattle.std.specs.Prelude.{nat_lt, nat_le, ◌&&◌}
 use Rattle.std.specs.List.{find, list_all}
 use Rattle.lists.specs.Greatest.{is_greatest, first_greatest, greater, greater_of}
-use Rattle.lists.specs.Items.{Answer, items_from, items_within, items_of, rest_from, rest_within, rest_of, Shrinks}
+use Rattle.lists.specs.Items.{Answer, items_from, items_within, items_of, rest_from, rest_within, rest_of, Shrinks, GivesNext, LeavesNone, step_taken}
 use Rattle.lists.specs.Last.{last_of}
 
 -- ---- cases
@@ -151,3 +151,10 @@ module _ {S A E : Type 0} (size : S → ℕ) (step : S → Answer S A E) (shrink
   rest-first s =
       rest-alike (rest_within (size s) step) (rest_of size step) s (step s)
       (λ rest item is. let less = shrinks.smaller s rest item is in rest-enough (size s) (suc (size rest)) rest less (omega arith))
+
+  -- a call that takes a step gives the first of what was to come
+  pub gives-next : {X : Type 0} (view : X → A) (result : Result (Option X) E) (s rest : S) → step s ≡ step_taken view result rest → LeavesNone result (step rest)
+      → GivesNext view result (items_of size step s) (items_of size step rest)
+  gives-next view (Ok (Some x)) s rest is none = items-first s ∙ ap (items_from (items_of size step)) is
+  gives-next view (Ok None) s rest is none = (items-first s ∙ ap (items_from (items_of size step)) is, items-first rest ∙ ap (items_from (items_of size step)) none)
+  gives-next view (Err fault) s rest is none = (items-first s ∙ ap (items_from (items_of size step)) is, items-first rest ∙ ap (items_from (items_of size step)) none)

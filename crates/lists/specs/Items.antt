@@ -41,6 +41,18 @@ rest_of size step s = rest_within (suc (size s)) step s
 pub record Shrinks {S A E : Type 0} (size : S → ℕ) (step : S → Answer S A E) : Type 0 where
   pub smaller : (s rest : S) (item : A) → step s ≡ Ok (Some (item, rest)) → size rest < size s
 
+-- the step that a call took: what it gave, seen by view, and what it left
+abbrev pub step_taken : {X S A E : Type 0} → (X → A) → Result (Option X) E → S → Answer S A E
+step_taken view (Ok (Some x)) rest = Ok (Some (view x, rest))
+step_taken view (Ok None) rest = Ok None
+step_taken view (Err fault) rest = Err fault
+
+-- A call that gave no item left nothing to come.
+abbrev pub LeavesNone : {X S A E : Type 0} → Result (Option X) E → Answer S A E → Type 0
+LeavesNone (Ok (Some x)) next = Unit {0}
+LeavesNone (Ok None) next = next ≡ Ok None
+LeavesNone (Err fault) next = next ≡ Ok None
+
 -- What was to come begins with what a call gave, seen by view, and the others are still to come; at the end and behind
 -- a fault nothing is.
 abbrev pub GivesNext : {X A E : Type 0} → (X → A) → Result (Option X) E → List (Result A E) → List (Result A E) → Type 0

@@ -3,9 +3,9 @@
 //! is a law of them: it does nothing when the program runs.
 #![tactic(auto)]
 
-ghost use Rattle.std.specs.Prelude.{◌≡◌, ℕ, Bool, true, false, List, [], ◌∷◌, ◌++◌, Option, Some, None};
+ghost use Rattle.std.specs.Prelude.{◌≡◌, ℕ, Bool, true, false, List, [], ◌∷◌, ◌++◌, Option, Some, None, Result};
 ghost use Rattle.lists.specs.Greatest.{first_greatest, greater_of};
-ghost use Rattle.lists.specs.Items.{Answer, Shrinks, items_from, items_of, rest_from, rest_of};
+ghost use Rattle.lists.specs.Items.{Answer, GivesNext, LeavesNone, Shrinks, items_from, items_of, rest_from, rest_of, step_taken};
 ghost use Rattle.lists.specs.Last.{last_of};
 
 /// A test holds or fails, and an option has a value or none.
@@ -30,4 +30,11 @@ pub fn greatest_by_parts<A>()
 pub fn items_by_steps<S, A, E>()
     ensures items { (size : S → ℕ) (step : S → Answer S A E) → Shrinks size step → (s : S) → items_of size step s ≡ items_from (items_of size step) (step s) }
     ensures rest { (size : S → ℕ) (step : S → Answer S A E) → Shrinks size step → (s : S) → rest_of size step s ≡ rest_from (rest_of size step) s (step s) }
+{}
+
+/// A call that takes a step gives the first of the items that were to come, and leaves the others.
+pub fn calls_by_steps<S, A, E, X>()
+    ensures { (size : S → ℕ) (step : S → Answer S A E) → Shrinks size step
+        → (view : X → A) (result : Result (Option X) E) (s rest : S) → step s ≡ step_taken view result rest
+        → LeavesNone result (step rest) → GivesNext view result (items_of size step s) (items_of size step rest) }
 {}
