@@ -15,7 +15,7 @@ use Rattle.dwarf_readers.specs.Leb128.{signed_at, unsigned_16_at, unsigned_at}
 use Rattle.dwarf_readers.specs.More.{IsSteady, IsSteadyMove, IsSteadySearch, Stays, StaysAs, extended_stretch}
 use Rattle.dwarf_readers.specs.Offset.{offset_below}
 use Rattle.dwarf_readers.specs.Place.{Stretch, ◌>>=◌, behind, behind_at, byte_at, end_of, ends_at, prefix_at, requirement, split_at, string_at}
-use Rattle.dwarf_readers.proofs.Following.{address_steady, behind_steady, byte_steady, cond_stays, front_steady, given_stays, initial_length_steady, refusal_stays, signed_steady, split_steady, steady_then, string_steady, then_stays, then_stays_as, unsigned_16_steady, unsigned_steady, value_stays, word_steady}
+use Rattle.dwarf_readers.proofs.Laws.{address_steady, behind_steady, byte_steady, cond_stays, front_steady, given_stays, initial_length_steady, refusal_stays, signed_steady, split_steady, steady_then, string_steady, then_stays, then_stays_as, unsigned_16_steady, unsigned_steady, value_stays, word_steady}
 
 -- the value alone of a read
 value_alone : {A : Type 0} (more : List ℕ) (before after : Result (A × Stretch) Error) → Stays more before after → StaysAs (λ (found : A). found) (before >>= λ read. Ok read.0) (after >>= λ read. Ok read.0)

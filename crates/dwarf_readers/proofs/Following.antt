@@ -156,7 +156,7 @@ string_size true b found string k less is = let e : b ∷ [] ≡ string = cc in 
 string_size false b None string k less is = absurd (cc)
 string_size false b (Some tail) string k less is = let e : b ∷ tail ≡ string = cc in let rest = less tail refl in rw (← e) (omega arith)
 
-string_inside : (bytes : List ℕ) (n : ℕ) (string : List ℕ) → string_of (take n bytes) ≡ Some string → length string ≤ length bytes
+pub string_inside : (bytes : List ℕ) (n : ℕ) (string : List ℕ) → string_of (take n bytes) ≡ Some string → length string ≤ length bytes
 string_inside [] zero string is = absurd (cc)
 string_inside [] (suc n) string is = absurd (cc)
 string_inside (b ∷ bytes) zero string is = absurd (cc)
@@ -200,7 +200,7 @@ whole_followed : (bytes more string : List ℕ) → string_of bytes ≡ Some str
 whole_followed [] more string is = absurd (cc)
 whole_followed (b ∷ bytes) more string is = string_step (nat_lt b 128) b (string_of bytes) (string_of (bytes ++ more)) string (whole_followed bytes more) is
 
-whole_inside : (bytes string : List ℕ) → string_of bytes ≡ Some string → length string ≤ length bytes
+pub whole_inside : (bytes string : List ℕ) → string_of bytes ≡ Some string → length string ≤ length bytes
 whole_inside [] string is = absurd (cc)
 whole_inside (b ∷ bytes) string is = string_size (nat_lt b 128) b (string_of bytes) string (length bytes) (whole_inside bytes) is
 

@@ -7,3 +7,5 @@ pub mod Spellings
 pub mod SignedSpellings
 pub mod Following
 pub mod Backward
+pub mod Lengths
+pub mod Laws

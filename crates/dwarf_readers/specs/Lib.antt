@@ -1,6 +1,7 @@
 pub mod ByteOrder
 pub mod Place
 pub mod Offset
+pub mod Remainder
 pub mod Leb128
 pub mod InitialLength
 pub mod EndianSlice

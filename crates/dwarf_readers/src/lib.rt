@@ -9,6 +9,8 @@ pub mod leb128;
 pub mod more;
 mod reader;
 mod reader_offset;
+pub mod remainders;
+pub mod reversed;
 mod steps;
 #[cfg(test)]
 mod tests;

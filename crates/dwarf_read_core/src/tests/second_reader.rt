@@ -75,7 +75,7 @@ impl Reader for Backward<'_> {
         self.stored = &[];
     }
 
-    #[tactic(auto, using(dwarf_readers::proofs::Backward::truncated))]
+    #[tactic(auto, using(dwarf_readers::proofs::Laws::truncated))]
     fn truncate(&mut self, len: u32) -> Result<()> {
         let rest = self.rest(len as usize)?;
         self.stored = &self.stored[rest..];
@@ -104,7 +104,7 @@ impl Reader for Backward<'_> {
         }
     }
 
-    #[tactic(auto, using(dwarf_readers::proofs::Backward::skipped))]
+    #[tactic(auto, using(dwarf_readers::proofs::Laws::skipped))]
     fn skip(&mut self, len: u32) -> Result<()> {
         let rest = self.rest(len as usize)?;
         *self = Backward {

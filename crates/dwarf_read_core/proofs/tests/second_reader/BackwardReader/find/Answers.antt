@@ -1,6 +1,6 @@
 use Rattle.std.proofs.Common.{◌≡◌, ◌∙◌, None, Some, reverse, sym}
 use Rattle.dwarf_readers.specs.Place.{count_before}
-use Rattle.dwarf_readers.proofs.Backward.{position_is_count}
+use Rattle.dwarf_readers.proofs.Laws.{position_is_count}
 use Rattle.dwarf_read_core.proofs.tests.second_reader.BackwardReader.find.Goals as goal
 
 pub returns-in-Some : goal.returns-in-Some
