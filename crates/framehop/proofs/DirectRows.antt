@@ -11,12 +11,12 @@ use Rattle.dwarf_call_frames.specs.declared.rows.UnwindTableRow.{UnwindTableRow}
 use Rattle.framehop.specs.declared.dwarf.DwarfUnwinderError.{DwarfUnwinderError}
 use Rattle.framehop.specs.declared.dwarf.DwarfUnwinderError.TheVariants.{LookupAddressOverflow}
 use Rattle.framehop.specs.declared.error.UnwinderError.TheVariants.{Dwarf}
-use Rattle.framehop.specs.Attempt.{Fails, by_rule, by_row, by_fde}
+use Rattle.framehop.specs.Attempt.{Fails, by_parts, by_row, by_fde}
 use Rattle.framehop.specs.DirectRow.{stored_at, direct_cfa, direct_column, word_below, direct_return_address, direct_bp, direct_refusal, caller_unless, direct_by_return_address, direct_by_cfa, direct_answer}
 use Rattle.dwarf_call_frames.specs.Entries.{Cie, Fde}
 use Rattle.framehop.specs.RowViews.{parts_shown}
 use Rattle.dwarf_call_frames.specs.Rows.{Row, row_for}
-use Rattle.framehop.specs.ScaledRow.{Parts, RBP, RA, parts_of, scaled_rule}
+use Rattle.framehop.specs.ScaledRow.{Parts, RBP, RA, parts_of}
 use Rattle.dwarf_call_frames.specs.UnwindRows.{IsRow}
 
 -- a word that was read is the word there
@@ -67,8 +67,8 @@ parts_alike cie row shown h = rw (h.cfa, h.rules RBP, h.rules RA) refl
 
 -- what the row that was found says is what its FDE says
 pub found_says : (section : List ℕ) (fde : Fde) (address : ℕ) (row : Row) (shown : UnwindTableRow) → address < 2 ^ 64 → row_for fde address ≡ Ok row → IsRow fde.cie row shown
-    → by_rule section (parts_shown shown) (scaled_rule (parts_shown shown)) ≡ by_fde section address (Some fde)
+    → by_parts section (parts_shown shown) ≡ by_fde section address (Some fde)
 found_says section fde address row shown fits found h =
-    ap (λ parts. by_rule section parts (scaled_rule parts)) (parts_alike fde.cie row shown h)
+    ap (by_parts section) (parts_alike fde.cie row shown h)
     ∙ ap (by_row section fde) (sym found)
     ∙ ap (λ b. cond b (by_row section fde (row_for fde address)) (Fails (Dwarf LookupAddressOverflow))) (sym (lt-ltb address (2 ^ 64) fits))

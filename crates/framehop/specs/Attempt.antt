@@ -24,9 +24,13 @@ abbrev pub by_rule : List ℕ → Parts → Option UnwindRuleX86_64 → Attempt
 by_rule section parts (Some rule) = Scales rule parts
 by_rule section parts None = Evaluates section parts
 
+-- what a row of a section comes to by its parts
+abbrev pub by_parts : List ℕ → Parts → Attempt
+by_parts section parts = by_rule section parts (scaled_rule parts)
+
 -- an FDE whose rows have none for the address leaves it to a rule for code that no entry covers
 abbrev pub by_row : List ℕ → Fde → Result Row Error → Attempt
-by_row section fde (Ok row) = by_rule section (parts_of fde.cie.data_alignment_factor row) (scaled_rule (parts_of fde.cie.data_alignment_factor row))
+by_row section fde (Ok row) = by_parts section (parts_of fde.cie.data_alignment_factor row)
 by_row section fde (Err e) = Rules JustReturnIfFirstFrameOtherwiseFp
 
 -- what an FDE of a section says of an address

@@ -5,7 +5,7 @@ ghost use Rattle.dwarf_call_frames.specs.Entries.{entries_of};
 ghost use Rattle.dwarf_call_frames.specs.EntryViews.{section_bytes, fde_view};
 ghost use Rattle.framehop.specs.EntryFor.{indexed_entry};
 ghost use Rattle.framehop.specs.CfiIndexView.{IsIndexOf};
-ghost use Rattle.framehop_rules.specs.Callback.{Words, AnswersBy};
+ghost use Rattle.framehop_rules.specs.Callback.{OverWords};
 ghost use Rattle.framehop.specs.Attempt.{by_fde};
 ghost use Rattle.framehop.specs.UnwindResults.{trial, with_registers, of_dwarf, KeepsUnlessDirect};
 
@@ -58,9 +58,9 @@ pub(crate) fn unwind_frame_with_fde<F: FnMut(u64) -> Result<u64, ()>>(
 ) -> Result<UnwindResult, DwarfUnwinderError>
     requires { F.IsAlwaysCallable read_stack.old }
     ensures callable { F.IsAlwaysCallable read_stack.new }
-    ensures tried { (words : Words) → AnswersBy F.step read_stack.old words → with_registers regs.new (of_dwarf result)
-        ≡ trial is_first_frame regs.old words (by_fde (section_bytes section.now) address (Some (fde_view fde.now))) }
-    ensures still { (words : Words) → AnswersBy F.step read_stack.old words → AnswersBy F.step read_stack.new words }
+    ensures trial { OverWords F.step read_stack.old read_stack.new (λ words.
+        with_registers regs.new (of_dwarf result) ≡ trial is_first_frame regs.old words
+        (by_fde (section_bytes section.now) address (Some (fde_view fde.now)))) }
     ensures keeps { KeepsUnlessDirect result regs.old regs.new }
 {
     match fde.unwind_info_for_address(context, address) {

@@ -1,7 +1,7 @@
 //! The values of a row's CFA and columns, where no unwind rule says the row (DWARF 5, 6.4.1).
 
 ghost use Rattle.std.specs.Prelude.{◌≡◌, option_and_then};
-ghost use Rattle.framehop_rules.specs.Callback.{Words, AnswersBy};
+ghost use Rattle.framehop_rules.specs.Callback.{OverWords};
 ghost use Rattle.framehop.specs.DirectRow.{sum_of, expression_value, direct_cfa, stored_at, direct_column, word_below};
 ghost use Rattle.dwarf_call_frames.specs.EntryViews.{section_bytes};
 ghost use Rattle.dwarf_call_frames.specs.Expressions.{expression_at};
@@ -80,10 +80,8 @@ pub(crate) fn eval_register_rule<F: FnMut(u64) -> Result<u64, ()>>(
 ) -> Option<u64>
     requires { F.IsAlwaysCallable read_stack.old }
     ensures callable { F.IsAlwaysCallable read_stack.new }
-    ensures value { (words : Words) → AnswersBy F.step read_stack.old words →
-        result ≡ option_and_then (direct_column words cfa) rule }
-    ensures still { (words : Words) → AnswersBy F.step read_stack.old words →
-        AnswersBy F.step read_stack.new words }
+    ensures value { OverWords F.step read_stack.old read_stack.new (λ words.
+        result ≡ option_and_then (direct_column words cfa) rule) }
 {
     match stored_at(rule, cfa) {
         Some(at) => read_at(read_stack, at),
@@ -98,9 +96,8 @@ pub(crate) fn read_below<F: FnMut(u64) -> Result<u64, ()>>(
 ) -> Option<u64>
     requires { F.IsAlwaysCallable read_stack.old }
     ensures callable { F.IsAlwaysCallable read_stack.new }
-    ensures value { (words : Words) → AnswersBy F.step read_stack.old words → result ≡ word_below words cfa }
-    ensures still { (words : Words) → AnswersBy F.step read_stack.old words →
-        AnswersBy F.step read_stack.new words }
+    ensures value { OverWords F.step read_stack.old read_stack.new (λ words.
+        result ≡ word_below words cfa) }
 {
     let at = cfa.checked_sub(8)?;
     read_at(read_stack, at)
@@ -110,9 +107,8 @@ pub(crate) fn read_below<F: FnMut(u64) -> Result<u64, ()>>(
 fn read_at<F: FnMut(u64) -> Result<u64, ()>>(read_stack: &mut F, at: u64) -> Option<u64>
     requires { F.IsAlwaysCallable read_stack.old }
     ensures callable { F.IsAlwaysCallable read_stack.new }
-    ensures value { (words : Words) → AnswersBy F.step read_stack.old words → result ≡ words at }
-    ensures still { (words : Words) → AnswersBy F.step read_stack.old words →
-        AnswersBy F.step read_stack.new words }
+    ensures value { OverWords F.step read_stack.old read_stack.new (λ words.
+        result ≡ words at) }
 {
     match read_stack(at) {
         Ok(word) => Some(word),

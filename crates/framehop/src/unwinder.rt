@@ -57,7 +57,7 @@ impl Module {
     ghost use Rattle.framehop.specs.ModuleViews.{module_view};
     ghost use Rattle.framehop.specs.ModuleFound.{is_inside, if_inside};
     ghost use Rattle.framehop.specs.Attempt.{attempt};
-    ghost use Rattle.framehop_rules.specs.Callback.{Words, AnswersBy};
+    ghost use Rattle.framehop_rules.specs.Callback.{OverWords};
     ghost use Rattle.framehop.specs.UnwindResults.{trial, with_registers, KeepsUnlessDirect};
 
     /// A module at a range of AVMAs, whose base is at `base_avma` and is called `base_svma` by its
@@ -134,9 +134,9 @@ impl Module {
     ) -> Result<UnwindResult, UnwinderError>
         requires { F.IsAlwaysCallable read_stack.old }
         ensures callable { F.IsAlwaysCallable read_stack.new }
-        ensures tried { (words : Words) → AnswersBy F.step read_stack.old words → with_registers regs.new result
-            ≡ trial is_first_frame regs.old words (attempt (module_view self.now) relative_address) }
-        ensures still { (words : Words) → AnswersBy F.step read_stack.old words → AnswersBy F.step read_stack.new words }
+        ensures trial { OverWords F.step read_stack.old read_stack.new (λ words.
+            with_registers regs.new result ≡ trial is_first_frame regs.old words
+            (attempt (module_view self.now) relative_address)) }
         ensures keeps { KeepsUnlessDirect result regs.old regs.new }
     {
         let Some(section) = &self.eh_frame else {

@@ -1,1 +1,1 @@
-pub mod Callback
+pub mod Laws

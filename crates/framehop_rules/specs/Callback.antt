@@ -21,3 +21,10 @@ abbrev pub AnswersBy : {S : Type 0} → (S → ℕ → Result ℕ (Unit {0}) →
 AnswersBy {S} step first words =
     (reads : List ℕ) (last : S) → Leads step first reads last
     → (at : ℕ) (r : Result ℕ (Unit {0})) (next : S) → at < 2 ^ 64 → step last at r next → r ≡ read_answer (words at)
+
+-- A call that may read the stack took the callback from `old` to `new`. Over all words that the callback answered by,
+-- the statement holds, and it answers by these words still.
+pub record OverWords {S : Type 0} (step : S → ℕ → Result ℕ (Unit {0}) → S → Type 0) (old new : S)
+    (Statement : Words → Type 0) : Type 0 where
+  pub said : (words : Words) → AnswersBy step old words → Statement words
+  pub still : (words : Words) → AnswersBy step old words → AnswersBy step new words

@@ -1,5 +1,5 @@
 -- What executing an unwind rule comes to, on any architecture.
-use Rattle.std.specs.Prelude.{ℕ, ◌^◌, ℤ, pos, negsuc, nat_lt, if◌then◌else◌, Option, Some, None, Result, Ok, Err}
+use Rattle.std.specs.Prelude.{ℕ, ◌≡◌, ◌^◌, ℤ, pos, negsuc, nat_lt, if◌then◌else◌, Option, Some, None, Result, Ok, Err}
 use Rattle.framehop_rules.specs.Callback.{Words}
 use Rattle.framehop_rules.specs.declared.error.Error.{Error}
 use Rattle.framehop_rules.specs.declared.error.Error.TheVariants.{CouldNotReadStack, FramepointerUnwindingMovedBackwards, DidNotAdvance, IntegerOverflow, ReturnAddressIsNull, OutOfMemory}
@@ -41,6 +41,12 @@ abbrev pub registers_after : {Registers : Type 0} → Registers → Outcome (Cal
 registers_after before Ends = before
 registers_after before (Refuses error) = before
 registers_after before (Gives caller) = caller.registers
+
+-- A step that comes to an outcome: its answer, and the registers that it leaves.
+pub record IsStep {Registers : Type 0} (result : Result (Option ℕ) Error) (old new : Registers)
+    (outcome : Outcome (Caller Registers)) : Type 0 where
+  pub answer : result ≡ answer_of_outcome outcome
+  pub registers : new ≡ registers_after old outcome
 
 -- What a part of a rule comes to, from what the code answers for it.
 abbrev pub outcome_of : {A : Type 0} → Result A Error → Outcome A

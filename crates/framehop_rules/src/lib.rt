@@ -5,12 +5,14 @@
 //! `specs/RuleMeaning.antt`; `exec` answers it for every rule, register file and stack.
 #![tactic(auto)]
 
+mod callback;
 mod code_address;
 mod display_utils;
 mod error;
 mod unwind_rule;
 pub mod x86_64;
 
+pub use callback::{Statement, calls_over_words, one_read_over_words};
 pub use code_address::FrameAddress;
 pub use display_utils::HexNum;
 pub use error::Error;

@@ -1,7 +1,7 @@
 //! What the unwind rules of every architecture have.
 ghost use Rattle.std.specs.Prelude.{◌≡◌, ℕ, Bool, Option, IfErr, OnErr};
-ghost use Rattle.framehop_rules.specs.Callback.{Words, AnswersBy};
-ghost use Rattle.framehop_rules.specs.Outcome.{Outcome, Caller, answer_of_outcome, registers_after, outcome_of, word, IsOfRule};
+ghost use Rattle.framehop_rules.specs.Callback.{Words, OverWords};
+ghost use Rattle.framehop_rules.specs.Outcome.{Outcome, Caller, IsStep, outcome_of, word, IsOfRule};
 
 use crate::error::Error;
 use std::fmt::Debug;
@@ -30,9 +30,8 @@ pub trait UnwindRule: Copy + Debug {
     ) -> Result<Option<u64>, Error>
         requires { F.IsAlwaysCallable read_stack.old }
         ensures callable { F.IsAlwaysCallable read_stack.new }
-        ensures answer { (words : Words) → AnswersBy F.step read_stack.old words → result ≡ answer_of_outcome (meaning self is_first_frame regs.old words) }
-        ensures registers { (words : Words) → AnswersBy F.step read_stack.old words → regs.new ≡ registers_after regs.old (meaning self is_first_frame regs.old words) }
-        ensures still { (words : Words) → AnswersBy F.step read_stack.old words → AnswersBy F.step read_stack.new words }
+        ensures step { OverWords F.step read_stack.old read_stack.new (λ words.
+            IsStep result regs.old regs.new (meaning self is_first_frame regs.old words)) }
         ensures none_keeps { result ≡ Ok None → regs.new ≡ regs.old }
         ensures error_keeps { OnErr result (regs.new ≡ regs.old) }
         ensures refusals { IfErr result IsOfRule };
@@ -57,8 +56,8 @@ pub(crate) fn read_word<F: FnMut(u64) -> Result<u64, ()>>(
 ) -> Result<u64, Error>
     requires { F.IsAlwaysCallable read_stack.old }
     ensures callable { F.IsAlwaysCallable read_stack.new }
-    ensures answer { (words : Words) → AnswersBy F.step read_stack.old words → outcome_of result ≡ word words at }
-    ensures still { (words : Words) → AnswersBy F.step read_stack.old words → AnswersBy F.step read_stack.new words }
+    ensures word { OverWords F.step read_stack.old read_stack.new (λ words.
+        outcome_of result ≡ word words at) }
     ensures refusals { IfErr result IsOfRule }
 {
     match read_stack(at) {

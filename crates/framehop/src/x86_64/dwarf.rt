@@ -1,8 +1,8 @@
 //! The rows of x86_64: as unwind rules, or evaluated.
 
 ghost use Rattle.std.specs.Prelude.{◌≡◌, option_and_then};
-ghost use Rattle.framehop_rules.specs.Callback.{Words, AnswersBy};
-ghost use Rattle.framehop.specs.Attempt.{by_rule};
+ghost use Rattle.framehop_rules.specs.Callback.{OverWords};
+ghost use Rattle.framehop.specs.Attempt.{by_parts};
 ghost use Rattle.framehop.specs.DirectRow.{direct_return_address, direct_refusal, direct_answer};
 ghost use Rattle.framehop.specs.DirectViews.{caller_shown};
 ghost use Rattle.dwarf_call_frames.specs.EntryViews.{section_bytes};
@@ -123,8 +123,8 @@ fn eval_return_address<F: FnMut(u64) -> Result<u64, ()>>(
 ) -> Option<u64>
     requires { F.IsAlwaysCallable read_stack.old }
     ensures callable { F.IsAlwaysCallable read_stack.new }
-    ensures value { (words : Words) → AnswersBy F.step read_stack.old words → result ≡ direct_return_address words cfa rule }
-    ensures still { (words : Words) → AnswersBy F.step read_stack.old words → AnswersBy F.step read_stack.new words }
+    ensures value { OverWords F.step read_stack.old read_stack.new (λ words.
+        result ≡ direct_return_address words cfa rule) }
 {
     match eval_register_rule(rule, cfa, read_stack) {
         Some(return_address) => Some(return_address),
@@ -160,9 +160,9 @@ fn eval_row<F: FnMut(u64) -> Result<u64, ()>>(
 ) -> Result<DirectCaller, DwarfUnwinderError>
     requires { F.IsAlwaysCallable read_stack.old }
     ensures callable { F.IsAlwaysCallable read_stack.new }
-    ensures caller { (words : Words) → AnswersBy F.step read_stack.old words → caller_shown regs.now result
-        ≡ direct_answer is_first_frame regs.now words (section_bytes section.now) (parts_shown row.now) }
-    ensures still { (words : Words) → AnswersBy F.step read_stack.old words → AnswersBy F.step read_stack.new words }
+    ensures caller { OverWords F.step read_stack.old read_stack.new (λ words.
+        caller_shown regs.now result ≡ direct_answer is_first_frame regs.now words
+        (section_bytes section.now) (parts_shown row.now)) }
 {
     let cfa = match eval_cfa_rule(section, *row.cfa(), regs) {
         Some(cfa) => cfa,
@@ -194,9 +194,9 @@ pub(crate) fn unwind_frame<F: FnMut(u64) -> Result<u64, ()>>(
 ) -> Result<UnwindResult, DwarfUnwinderError>
     requires { F.IsAlwaysCallable read_stack.old }
     ensures callable { F.IsAlwaysCallable read_stack.new }
-    ensures tried { (words : Words) → AnswersBy F.step read_stack.old words → with_registers regs.new (of_dwarf result)
-        ≡ trial is_first_frame regs.old words (by_rule (section_bytes section.now) (parts_shown row.now) (scaled_rule (parts_shown row.now))) }
-    ensures still { (words : Words) → AnswersBy F.step read_stack.old words → AnswersBy F.step read_stack.new words }
+    ensures trial { OverWords F.step read_stack.old read_stack.new (λ words.
+        with_registers regs.new (of_dwarf result) ≡ trial is_first_frame regs.old words
+        (by_parts (section_bytes section.now) (parts_shown row.now))) }
     ensures keeps { KeepsUnlessDirect result regs.old regs.new }
 {
     if let Some(rule) = rule_for_row(row) {

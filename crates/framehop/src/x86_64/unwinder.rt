@@ -1,8 +1,8 @@
 //! A step of a stack walk on x86_64.
 
 ghost use Rattle.std.specs.Prelude.{◌≡◌, [], OnOk, OnErr, IfErr, IfOk, IfNone};
-ghost use Rattle.framehop_rules.specs.Callback.{Words, AnswersBy};
-ghost use Rattle.framehop_rules.specs.Outcome.{answer_of_outcome, registers_after};
+ghost use Rattle.framehop_rules.specs.Callback.{OverWords};
+ghost use Rattle.framehop_rules.specs.Outcome.{IsStep, IsOfRule};
 ghost use Rattle.framehop.specs.ModuleViews.{module_view};
 ghost use Rattle.framehop.specs.ModuleFound.{with_module};
 ghost use Rattle.framehop.specs.Judge.{judge, is_first};
@@ -50,10 +50,9 @@ impl UnwinderX86_64 {
     ) -> UnwindResult
         requires { F.IsAlwaysCallable read_stack.old }
         ensures callable { F.IsAlwaysCallable read_stack.new }
-        ensures judged { (words : Words) → AnswersBy F.step read_stack.old words →
-            judge (modules_of self.now) address regs.old words ≡ outcome_of_result result (is_first address) regs.new words }
-        ensures still { (words : Words) → AnswersBy F.step read_stack.old words →
-            AnswersBy F.step read_stack.new words }
+        ensures judgment { OverWords F.step read_stack.old read_stack.new (λ words.
+            judge (modules_of self.now) address regs.old words
+            ≡ outcome_of_result result (is_first address) regs.new words) }
         ensures keeps { KeepsForRule result regs.old regs.new }
     {
         let Some((module, relative_address)) = self
@@ -83,14 +82,11 @@ impl UnwinderX86_64 {
     ) -> Result<Option<u64>, Error>
         requires { F.IsAlwaysCallable read_stack.old }
         ensures callable { F.IsAlwaysCallable read_stack.new }
-        ensures answer { (words : Words) → AnswersBy F.step read_stack.old words →
-            result ≡ answer_of_outcome (judge (modules_of self.now) address regs.old words) }
-        ensures registers { (words : Words) → AnswersBy F.step read_stack.old words →
-            regs.new ≡ registers_after regs.old (judge (modules_of self.now) address regs.old words) }
-        ensures still { (words : Words) → AnswersBy F.step read_stack.old words →
-            AnswersBy F.step read_stack.new words }
+        ensures step { OverWords F.step read_stack.old read_stack.new (λ words.
+            IsStep result regs.old regs.new (judge (modules_of self.now) address regs.old words)) }
         ensures none_keeps { IfOk result (λ answer. IfNone answer (regs.new ≡ regs.old)) }
         ensures err_keeps { OnErr result (regs.new ≡ regs.old) }
+        ensures refusals { IfErr result IsOfRule }
     {
         match self.result_for_frame(address, regs, cache, read_stack) {
             UnwindResult::ExecRule(rule) => {

@@ -1,6 +1,6 @@
 //! The unwind rules of x86_64, and their execution.
 ghost use Rattle.std.specs.Prelude.{◌≡◌, ◌*◌, ◌<◌, ◌^◌, pos, ◌*ℤ◌, ◌+ℤ◌, IfErr, OnErr};
-ghost use Rattle.framehop_rules.specs.Callback.{Words, AnswersBy};
+ghost use Rattle.framehop_rules.specs.Callback.{OverWords};
 ghost use Rattle.framehop_rules.specs.Outcome.{outcome_of, outcome_or_end_of, address, IsOfRule};
 ghost use Rattle.framehop_rules.specs.RuleMeaning.{raised_frame, by_frame_pointer, stored_bp, restored_frame, moves, return_address, rule_meaning};
 ghost use Rattle.framehop_rules.specs.declared.x86_64.unwind_rule.UnwindRuleX86_64.TheVariants.{JustReturn, UseFramePointer};
@@ -77,8 +77,8 @@ fn follow_frame_pointer<F: FnMut(u64) -> Result<u64, ()>>(
 ) -> Result<(u64, u64), Error>
     requires { F.IsAlwaysCallable read_stack.old }
     ensures callable { F.IsAlwaysCallable read_stack.new }
-    ensures moves { (words : Words) → AnswersBy F.step read_stack.old words → outcome_of result ≡ by_frame_pointer regs.now words }
-    ensures still { (words : Words) → AnswersBy F.step read_stack.old words → AnswersBy F.step read_stack.new words }
+    ensures moves { OverWords F.step read_stack.old read_stack.new (λ words.
+        outcome_of result ≡ by_frame_pointer regs.now words) }
     ensures refusals { IfErr result IsOfRule }
 {
     let bp = regs.bp();
@@ -103,8 +103,8 @@ fn read_stored_bp<F: FnMut(u64) -> Result<u64, ()>>(
 ) -> Result<u64, Error>
     requires { F.IsAlwaysCallable read_stack.old }
     ensures callable { F.IsAlwaysCallable read_stack.new }
-    ensures bp { (words : Words) → AnswersBy F.step read_stack.old words → outcome_of result ≡ stored_bp is_first_frame regs.now words at }
-    ensures still { (words : Words) → AnswersBy F.step read_stack.old words → AnswersBy F.step read_stack.new words }
+    ensures bp { OverWords F.step read_stack.old read_stack.new (λ words.
+        outcome_of result ≡ stored_bp is_first_frame regs.now words at) }
     ensures refusals { IfErr result IsOfRule }
 {
     match read_word(read_stack, at) {
@@ -130,8 +130,8 @@ fn raise_sp_and_restore_bp<F: FnMut(u64) -> Result<u64, ()>>(
 ) -> Result<(u64, u64), Error>
     requires { F.IsAlwaysCallable read_stack.old }
     ensures callable { F.IsAlwaysCallable read_stack.new }
-    ensures moves { (words : Words) → AnswersBy F.step read_stack.old words → outcome_of result ≡ restored_frame is_first_frame regs.now words bytes bp_offset }
-    ensures still { (words : Words) → AnswersBy F.step read_stack.old words → AnswersBy F.step read_stack.new words }
+    ensures moves { OverWords F.step read_stack.old read_stack.new (λ words.
+        outcome_of result ≡ restored_frame is_first_frame regs.now words bytes bp_offset) }
     ensures refusals { IfErr result IsOfRule }
 {
     let (new_sp, _) = raise_sp(regs, bytes)?;
@@ -148,8 +148,8 @@ fn read_return_address<F: FnMut(u64) -> Result<u64, ()>>(
 ) -> Result<Option<u64>, Error>
     requires { F.IsAlwaysCallable read_stack.old }
     ensures callable { F.IsAlwaysCallable read_stack.new }
-    ensures address { (words : Words) → AnswersBy F.step read_stack.old words → outcome_or_end_of result ≡ return_address regs.now words new_sp }
-    ensures still { (words : Words) → AnswersBy F.step read_stack.old words → AnswersBy F.step read_stack.new words }
+    ensures address { OverWords F.step read_stack.old read_stack.new (λ words.
+        outcome_or_end_of result ≡ return_address regs.now words new_sp) }
     ensures refusals { IfErr result IsOfRule }
 {
     let location = new_sp.checked_sub(8).ok_or(Error::IntegerOverflow)?;
@@ -173,8 +173,8 @@ impl UnwindRuleX86_64 {
     ) -> Result<Option<(u64, u64)>, Error>
         requires { F.IsAlwaysCallable read_stack.old }
         ensures callable { F.IsAlwaysCallable read_stack.new }
-        ensures moves { (words : Words) → AnswersBy F.step read_stack.old words → outcome_or_end_of result ≡ moves self is_first_frame regs.now words }
-        ensures still { (words : Words) → AnswersBy F.step read_stack.old words → AnswersBy F.step read_stack.new words }
+        ensures moves { OverWords F.step read_stack.old read_stack.new (λ words.
+            outcome_or_end_of result ≡ moves self is_first_frame regs.now words) }
         ensures refusals { IfErr result IsOfRule }
     {
         match self {

@@ -1,10 +1,9 @@
 use Rattle.std.proofs.Common.{◌≡◌, ℕ, arith, of_calls}
 use Rattle.std.specs.Prelude.{Option, Some, None, Ok, Err}
 use Rattle.framehop_rules.specs.Callback.{read_answer}
-use Rattle.framehop_rules.specs.Outcome.{Gives, Refuses}
-use Rattle.framehop_rules.specs.Outcome.{word}
+use Rattle.framehop_rules.specs.Outcome.{Gives, Refuses, word}
 use Rattle.framehop_rules.specs.declared.error.Error.TheVariants.{CouldNotReadStack}
-use Rattle.framehop_rules.proofs.Callback.{answer_is, still_answers}
+use Rattle.framehop_rules.proofs.Laws.{over_read}
 use Rattle.framehop_rules.proofs.unwind_rule.read_word.Goals as goal
 
 -- a word that was read is the word there
@@ -17,20 +16,12 @@ refused : (there : Option ℕ) (at : ℕ) → Err tt ≡ read_answer there → R
 refused (Some found) at is = grind arith
 refused None at is = grind arith
 
-pub returns-in-Ok-clause-answer : goal.returns-in-Ok-clause-answer
-returns-in-Ok-clause-answer g c = λ words answers.
-    given (words c.args.at) c.args.at c.in-Ok.word
-    (answer_is _ _ words answers c.args.at (Ok c.in-Ok.word) c.read_stack.new.self c.ranges.at.fits (search of_calls))
+pub returns-in-Ok-clause-word : goal.returns-in-Ok-clause-word
+returns-in-Ok-clause-word g c =
+    over_read c.args.at (Ok c.in-Ok.word) c.ranges.at.fits (search of_calls)
+    (λ words is. given (words c.args.at) c.args.at c.in-Ok.word is)
 
-pub returns-in-Ok-clause-still : goal.returns-in-Ok-clause-still
-returns-in-Ok-clause-still g c = λ words answers.
-    still_answers _ _ words answers c.args.at (Ok c.in-Ok.word) c.read_stack.new.self c.ranges.at.fits (search of_calls)
-
-pub returns-in-Err-clause-answer : goal.returns-in-Err-clause-answer
-returns-in-Err-clause-answer g c = λ words answers.
-    refused (words c.args.at) c.args.at
-    (answer_is _ _ words answers c.args.at (Err tt) c.read_stack.new.self c.ranges.at.fits (search of_calls))
-
-pub returns-in-Err-clause-still : goal.returns-in-Err-clause-still
-returns-in-Err-clause-still g c = λ words answers.
-    still_answers _ _ words answers c.args.at (Err tt) c.read_stack.new.self c.ranges.at.fits (search of_calls)
+pub returns-in-Err-clause-word : goal.returns-in-Err-clause-word
+returns-in-Err-clause-word g c =
+    over_read c.args.at (Err tt) c.ranges.at.fits (search of_calls)
+    (λ words is. refused (words c.args.at) c.args.at is)

@@ -5,6 +5,7 @@ use Rattle.framehop_rules.specs.Registers.{sp_of, bp_of}
 use Rattle.framehop_rules.specs.RuleMeaning.{stored_bp}
 use Rattle.framehop_rules.specs.declared.error.Error.{Error}
 use Rattle.framehop_rules.specs.declared.x86_64.unwindregs.UnwindRegsX86_64.{UnwindRegsX86_64}
+use Rattle.framehop_rules.proofs.Laws.{over_weaker}
 use Rattle.framehop_rules.proofs.x86_64.unwind_rule.read_stored_bp.Goals as goal
 use Rattle.framehop_rules.proofs.x86_64.unwind_rule.read_stored_bp.Goals.{else-is_first_frame-via-then-is_first_frame+else-at-sp, else-is_first_frame-via-else-is_first_frame}
 
@@ -37,22 +38,23 @@ above None true registers at error is not_below = grind arith
 above None false registers at error is not_below = grind arith
 
 pub returns-in-Ok-clause-bp : goal.returns-in-Ok-clause-bp
-returns-in-Ok-clause-bp g c = λ words answers.
-    read (words c.args.at) c.args.is_first_frame c.args.regs.now c.args.at c.in-Ok.bp (c.in-Ok.ensures.answer words answers)
+returns-in-Ok-clause-bp g c =
+    over_weaker c.in-Ok.ensures.word
+    (λ words is. read (words c.args.at) c.args.is_first_frame c.args.regs.now c.args.at c.in-Ok.bp is)
 
 pub returns-then-at-sp-clause-bp : goal.returns-then-at-sp-clause-bp
-returns-then-at-sp-clause-bp g c = λ words answers.
+returns-then-at-sp-clause-bp g c =
+    let below : c.args.at < sp_of c.args.regs.now = omega (arith, c.if-at-sp.true, c.sp.ensures) in
+    over_weaker c.in-Err.ensures.word (λ words is.
     rw (c.bp.ensures, c.if-is_first_frame.true)
-    (popped (words c.args.at) c.args.regs.now c.args.at c.in-Err.error (c.in-Err.ensures.answer words answers)
-    (omega (arith, c.if-at-sp.true, c.sp.ensures)))
+    (popped (words c.args.at) c.args.regs.now c.args.at c.in-Err.error is below))
 
 pub returns-else-is_first_frame-clause-bp : goal.returns-else-is_first_frame-clause-bp
-returns-else-is_first_frame-clause-bp g c = λ words answers.
-    let unread = c.in-Err.ensures.answer words answers in
-    elim c.else-is_first_frame.branch [
+returns-else-is_first_frame-clause-bp g c =
+    over_weaker c.in-Err.ensures.word (λ words is. elim c.else-is_first_frame.branch [
       | else-is_first_frame-via-then-is_first_frame+else-at-sp w ↦
-          above (words c.args.at) c.args.is_first_frame c.args.regs.now c.args.at c.in-Err.error unread
+          above (words c.args.at) c.args.is_first_frame c.args.regs.now c.args.at c.in-Err.error is
           (omega (arith, w.if-at-sp.false, w.sp.ensures))
       | else-is_first_frame-via-else-is_first_frame w ↦
-          rw w.if-is_first_frame.false (later (words c.args.at) c.args.regs.now c.args.at c.in-Err.error unread)
-    ]
+          rw w.if-is_first_frame.false (later (words c.args.at) c.args.regs.now c.args.at c.in-Err.error is)
+    ])

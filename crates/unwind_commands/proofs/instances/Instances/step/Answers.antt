@@ -15,10 +15,9 @@ pub returns-clause-line : goal.returns-clause-line
 returns-clause-line c =
     let step = c.args.step.now in
     let words = words_of (words_view step.stack) in
-    let answered = c.unwind_frame-answer.ensures.answer words (answers_always _ _ _ (λ at r next fits read. sym read.met.1.1) (λ at r next fits read. read.met.0)) in
-    let left = c.unwind_frame-answer.ensures.registers words (answers_always _ _ _ (λ at r next fits read. sym read.met.1.1) (λ at r next fits read. read.met.0)) in
+    let stepped = c.unwind_frame-answer.ensures.step.said words (answers_always _ _ _ (λ at r next fits read. sym read.met.1.1) (λ at r next fits read. read.met.0)) in
     let fits : step.unwinder < length c.args.self.now.unwinders.items = rw length-map at c.requires.0 in
     let modules = ap modules_of c.index-unwinder.ensures ∙ sym (get_or-map modules_of c.args.self.now.unwinders.items step.unwinder c.index-unwinder.result.now [] fits) in
     IfOk-weaker c.step_line.result (λ text. string_bytes text ≡ step_line c.unwind_frame-answer.result c.unwind_frame-answer.new.regs) (λ text. string_bytes text ≡ line_at (modules_at (modules_in c.args.self.now) step.unwinder) (step_view step))
-    (λ text is. is ∙ line_judged (modules_at (modules_in c.args.self.now) step.unwinder) (modules_of c.index-unwinder.result.now) (is_first_kind step.kind) _ (lookup_address_at step.kind step.address) _ (registers_of (step_view step)) c.new-regs.result c.unwind_frame-answer.new.regs words c.unwind_frame-answer.result modules c.frame_address-address.ensures.kind c.frame_address-address.ensures.address c.new-regs.ensures answered left)
+    (λ text is. is ∙ line_judged (modules_at (modules_in c.args.self.now) step.unwinder) (modules_of c.index-unwinder.result.now) (is_first_kind step.kind) _ (lookup_address_at step.kind step.address) _ (registers_of (step_view step)) c.new-regs.result c.unwind_frame-answer.new.regs words c.unwind_frame-answer.result modules c.frame_address-address.ensures.kind c.frame_address-address.ensures.address c.new-regs.ensures stepped.answer stepped.registers)
     c.step_line.ensures

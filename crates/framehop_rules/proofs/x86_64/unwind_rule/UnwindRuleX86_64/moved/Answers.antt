@@ -6,6 +6,7 @@ use Rattle.framehop_rules.specs.RuleMeaning.{Moved, moves, restored_frame}
 use Rattle.framehop_rules.specs.declared.x86_64.unwind_rule.UnwindRuleX86_64.{UnwindRuleX86_64}
 use Rattle.framehop_rules.specs.declared.x86_64.unwind_rule.UnwindRuleX86_64.TheVariants.{OffsetSpAndRestoreBp}
 use Rattle.framehop_rules.specs.declared.x86_64.unwindregs.UnwindRegsX86_64.{UnwindRegsX86_64}
+use Rattle.framehop_rules.proofs.Laws.{over_weaker}
 use Rattle.framehop_rules.proofs.x86_64.unwind_rule.UnwindRuleX86_64.moved.Goals as goal
 
 -- the moves that restore the frame pointer, at offsets in bytes
@@ -23,11 +24,11 @@ restoring rule is_first registers words x y bytes offset outcome fits wide rule_
 
 pub returns-in-OffsetSpAndRestoreBp-clause-moves :
     goal.returns-in-OffsetSpAndRestoreBp-clause-moves
-returns-in-OffsetSpAndRestoreBp-clause-moves g c = λ words answers.
+returns-in-OffsetSpAndRestoreBp-clause-moves g c =
     let fits : SFits w16 c.in-OffsetSpAndRestoreBp.bp_storage_offset_from_sp_by_8 = search rules in
     let wide : SFits w64 c.signed_bytes_of.result = search rules in
+    over_weaker c.raise_sp_and_restore_bp.ensures.moves (λ words is.
     let moved : outcome_of c.raise_sp_and_restore_bp.result ≡ moves c.args.self c.args.is_first_frame c.args.regs.now words =
     restoring c.args.self c.args.is_first_frame c.args.regs.now words _ _ _ _ (outcome_of c.raise_sp_and_restore_bp.result) fits wide
-    c.in-OffsetSpAndRestoreBp.is c.bytes_of-in-OffsetSpAndRestoreBp.ensures c.signed_bytes_of.ensures
-    (c.raise_sp_and_restore_bp.ensures.moves words answers) in
-    search rules
+    c.in-OffsetSpAndRestoreBp.is c.bytes_of-in-OffsetSpAndRestoreBp.ensures c.signed_bytes_of.ensures is in
+    search rules)

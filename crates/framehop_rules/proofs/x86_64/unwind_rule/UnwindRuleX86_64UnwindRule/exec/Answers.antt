@@ -7,6 +7,7 @@ use Rattle.framehop_rules.specs.RuleMeaning.{Moved, moves, return_address, calle
 use Rattle.framehop_rules.specs.declared.error.Error.{Error}
 use Rattle.framehop_rules.specs.declared.x86_64.unwind_rule.UnwindRuleX86_64.{UnwindRuleX86_64}
 use Rattle.framehop_rules.specs.declared.x86_64.unwindregs.UnwindRegsX86_64.{UnwindRegsX86_64}
+use Rattle.framehop_rules.proofs.Laws.{over_both}
 use Rattle.framehop_rules.proofs.x86_64.unwind_rule.UnwindRuleX86_64UnwindRule.exec.Goals as goal
 
 -- the rule's meaning, from what the moves and the read of the return address gave
@@ -20,55 +21,27 @@ meaning_is rule is_first registers words sp bp moved is moved_is read answer rea
     (ap outcome_or_end_of (sym read_is) ∙ returns)
     ∙ ap (λ m. and_then m (returned_caller registers words)) (sym (ap (λ o. outcome_or_end_of (Ok o)) is) ∙ moved_is)
 
-pub returns-in_err-return_address-clause-answer : goal.returns-in_err-return_address-clause-answer
-returns-in_err-return_address-clause-answer g c = λ words answers.
-    let is = ap answer_of_outcome (meaning_is c.args.self c.args.is_first_frame c.args.regs.now words c.in-Some.new_sp c.in-Some.new_bp
-    _ c.in-Some.is (c.in_ok-new_sp.ensures.moves words answers)
-    (Err c.in_err-return_address.field-0.0) (Err c.in_err-return_address.field-0.0) refl
-    (c.in_err-return_address.ensures.address words (c.in_ok-new_sp.ensures.still words answers))) in
+pub returns-in_err-return_address-clause-step : goal.returns-in_err-return_address-clause-step
+returns-in_err-return_address-clause-step g c =
+    over_both c.in_ok-new_sp.ensures.moves c.in_err-return_address.ensures.address (λ words moved read.
     let from = err_from_is_err_and c.from_residual-in_err-return_address.result c.from_residual-in_err-return_address.ensures.1 in
-    rw (from.1, from.2) is
+    let is = meaning_is c.args.self c.args.is_first_frame c.args.regs.now words c.in-Some.new_sp c.in-Some.new_bp
+    _ c.in-Some.is moved (Err c.in_err-return_address.field-0.0) (Err c.in_err-return_address.field-0.0) refl read in
+    record { answer = rw (from.1, from.2) (ap answer_of_outcome is); registers = ap (registers_after c.args.regs.now) is })
 
-pub returns-in_err-return_address-clause-registers : goal.returns-in_err-return_address-clause-registers
-returns-in_err-return_address-clause-registers g c = λ words answers.
-    ap (registers_after c.args.regs.now) (meaning_is c.args.self c.args.is_first_frame c.args.regs.now words c.in-Some.new_sp c.in-Some.new_bp
-    _ c.in-Some.is (c.in_ok-new_sp.ensures.moves words answers)
-    (Err c.in_err-return_address.field-0.0) (Err c.in_err-return_address.field-0.0) refl
-    (c.in_err-return_address.ensures.address words (c.in_ok-new_sp.ensures.still words answers)))
+pub returns-in_default-2-clause-step : goal.returns-in_default-2-clause-step
+returns-in_default-2-clause-step g c =
+    over_both c.in_ok-new_sp.ensures.moves c.in_ok-return_address.ensures.address (λ words moved read.
+    let is = meaning_is c.args.self c.args.is_first_frame c.args.regs.now words c.in-Some.new_sp c.in-Some.new_bp
+    _ c.in-Some.is moved _ _ (ap Ok c.in_default-2.is) read in
+    record { answer = ap answer_of_outcome is; registers = ap (registers_after c.args.regs.now) is })
 
-pub returns-in_err-return_address-clause-still : goal.returns-in_err-return_address-clause-still
-returns-in_err-return_address-clause-still g c = λ words answers.
-    c.in_err-return_address.ensures.still words (c.in_ok-new_sp.ensures.still words answers)
-
-pub returns-in_default-2-clause-answer : goal.returns-in_default-2-clause-answer
-returns-in_default-2-clause-answer g c = λ words answers.
-    ap answer_of_outcome (meaning_is c.args.self c.args.is_first_frame c.args.regs.now words c.in-Some.new_sp c.in-Some.new_bp
-    _ c.in-Some.is (c.in_ok-new_sp.ensures.moves words answers)
-    _ _ (ap Ok c.in_default-2.is) (c.in_ok-return_address.ensures.address words (c.in_ok-new_sp.ensures.still words answers)))
-
-pub returns-in_default-2-clause-registers : goal.returns-in_default-2-clause-registers
-returns-in_default-2-clause-registers g c = λ words answers.
-    ap (registers_after c.args.regs.now) (meaning_is c.args.self c.args.is_first_frame c.args.regs.now words c.in-Some.new_sp c.in-Some.new_bp
-    _ c.in-Some.is (c.in_ok-new_sp.ensures.moves words answers)
-    _ _ (ap Ok c.in_default-2.is) (c.in_ok-return_address.ensures.address words (c.in_ok-new_sp.ensures.still words answers)))
-
-pub returns-in_default-2-clause-still : goal.returns-in_default-2-clause-still
-returns-in_default-2-clause-still g c = λ words answers.
-    c.in_ok-return_address.ensures.still words (c.in_ok-new_sp.ensures.still words answers)
-
-pub returns-clause-answer : goal.returns-clause-answer
-returns-clause-answer g c = λ words answers.
-    ap answer_of_outcome (meaning_is c.args.self c.args.is_first_frame c.args.regs.now words c.in-Some.new_sp c.in-Some.new_bp
-    _ c.in-Some.is (c.in_ok-new_sp.ensures.moves words answers)
-    _ _ (ap Ok c.in-Some-2.is) (c.in_ok-return_address.ensures.address words (c.in_ok-new_sp.ensures.still words answers)))
-
-pub returns-clause-registers : goal.returns-clause-registers
-returns-clause-registers g c = λ words answers.
-    let is = ap (registers_after c.args.regs.now) (meaning_is c.args.self c.args.is_first_frame c.args.regs.now words c.in-Some.new_sp c.in-Some.new_bp
-    _ c.in-Some.is (c.in_ok-new_sp.ensures.moves words answers)
-    _ _ (ap Ok c.in-Some-2.is) (c.in_ok-return_address.ensures.address words (c.in_ok-new_sp.ensures.still words answers))) in
-    rw (c.set_bp.ensures, c.set_sp.ensures, c.set_ip.ensures) is
-
-pub returns-clause-still : goal.returns-clause-still
-returns-clause-still g c = λ words answers.
-    c.in_ok-return_address.ensures.still words (c.in_ok-new_sp.ensures.still words answers)
+pub returns-clause-step : goal.returns-clause-step
+returns-clause-step g c =
+    over_both c.in_ok-new_sp.ensures.moves c.in_ok-return_address.ensures.address (λ words moved read.
+    let is = meaning_is c.args.self c.args.is_first_frame c.args.regs.now words c.in-Some.new_sp c.in-Some.new_bp
+    _ c.in-Some.is moved _ _ (ap Ok c.in-Some-2.is) read in
+    record {
+      answer = ap answer_of_outcome is;
+      registers = rw (c.set_bp.ensures, c.set_sp.ensures, c.set_ip.ensures) (ap (registers_after c.args.regs.now) is);
+    })
