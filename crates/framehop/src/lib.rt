@@ -12,8 +12,3 @@ pub mod x86_64;
 pub use cfi_index::{DwarfCfiIndex, DwarfCfiIndexError, LookUp};
 pub use framehop_rules::{Error, FrameAddress, HexNum, UnwindRule};
 pub use unwinder::Module;
-
-#[cfg(test)]
-mod plain_pass;
-#[cfg(test)]
-mod tests;

@@ -17,6 +17,3 @@ pub use code_address::FrameAddress;
 pub use display_utils::HexNum;
 pub use error::Error;
 pub use unwind_rule::UnwindRule;
-
-#[cfg(test)]
-mod tests;

@@ -13,8 +13,6 @@ mod float;
 mod load;
 mod made;
 mod step;
-#[cfg(test)]
-mod tests;
 
 use command::command_in;
 pub use command::{AddressRange, Command, FrameKind, Load, Section, Stack, Step};

@@ -74,18 +74,3 @@ impl Outcome {
         }
     }
 }
-
-#[cfg(test)]
-mod tests {
-    use super::*;
-    use std::test::Fail;
-
-    #[test]
-    fn prints_why_a_run_stopped(rt: HostRuntime) -> Result<(), Fail> {
-        let text = RunError::Read.to_string(rt.alloc())?;
-        assert_eq!(rt; text.as_str(), "the document couldn't be read");
-        assert_eq!(rt; Outcome::Completed.status(), 0);
-        assert_eq!(rt; Outcome::Faulted.status(), 2);
-        Ok(())
-    }
-}

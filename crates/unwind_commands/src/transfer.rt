@@ -100,6 +100,3 @@ pub fn write_all<S: Sink>(sink: &mut S, bytes: &[u8]) -> Result<(), RunError>
     }
     Ok(())
 }
-
-#[cfg(test)]
-mod tests;

@@ -1,20 +1,9 @@
 //! Values from outside and printed texts.
 
-use crate::x86_64::{Reg, UnwindRegsX86_64, UnwindRuleX86_64};
-use crate::{Error, FrameAddress, HexNum, UnwindRule};
+use crate::worked::word_at;
+use framehop_rules::x86_64::{Reg, UnwindRegsX86_64, UnwindRuleX86_64};
+use framehop_rules::{Error, FrameAddress, HexNum, UnwindRule};
 use std::process::Abort;
-
-/// Sixteen words of a stack, at addresses 0, 8, .. 0x78: frames at 0x20 and 0x40, the last at 0x70.
-const WORDS: [u64; 16] = [
-    0x1, 0x2, 0x100300, 0x4, 0x40, 0x100200, 0x5, 0x6, 0x70, 0x100100, 0x7, 0x8, 0x9, 0xa, 0x0, 0x0,
-];
-
-fn word_at(address: u64) -> Result<u64, ()> {
-    if address % 8 != 0 || address >= 128 {
-        return Err(());
-    }
-    Ok(WORDS[(address / 8) as usize])
-}
 
 /// One step from `regs`: its answer, and the registers ip, sp and bp after it.
 fn assert_step(

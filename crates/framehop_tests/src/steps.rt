@@ -1,18 +1,10 @@
 //! Steps over one module, on a stack of sixteen words from address 0 on.
-use crate::x86_64::{CacheX86_64, UnwindRegsX86_64, UnwinderX86_64};
-use crate::{FrameAddress, Module};
+use crate::worked::{EH_FRAME, word_at};
+use framehop::x86_64::{CacheX86_64, UnwindRegsX86_64, UnwinderX86_64};
+use framehop::{FrameAddress, Module};
 use std::test::Fail;
 
-/// A function of sixteen bytes at 0x1000 that pushes RBP in its first byte and sets it in the next
-/// three: a CIE, and an FDE with a row for each of these parts and one for the body.
-const EH_FRAME: [u8; 56] = [
-    0x10, 0x00, 0x00, 0x00, 0x00, 0x00, 0x00, 0x00, 0x01, 0x00, 0x01, 0x78, 0x10, 0x0c, 0x07, 0x08,
-    0x90, 0x01, 0x00, 0x00, 0x1c, 0x00, 0x00, 0x00, 0x18, 0x00, 0x00, 0x00, 0x00, 0x10, 0x00, 0x00,
-    0x00, 0x00, 0x00, 0x00, 0x10, 0x00, 0x00, 0x00, 0x00, 0x00, 0x00, 0x00, 0x41, 0x0e, 0x10, 0x86,
-    0x02, 0x43, 0x0d, 0x06, 0x00, 0x00, 0x00, 0x00,
-];
-
-/// The same, and a function at 0x1010 whose CFA is the expression RSP + 8.
+/// The worked section, and a function at 0x1010 whose CFA is the expression RSP + 8.
 const BY_EXPRESSION: [u8; 84] = [
     0x10, 0x00, 0x00, 0x00, 0x00, 0x00, 0x00, 0x00, 0x01, 0x00, 0x01, 0x78, 0x10, 0x0c, 0x07, 0x08,
     0x90, 0x01, 0x00, 0x00, 0x1c, 0x00, 0x00, 0x00, 0x18, 0x00, 0x00, 0x00, 0x00, 0x10, 0x00, 0x00,
@@ -21,17 +13,6 @@ const BY_EXPRESSION: [u8; 84] = [
     0x00, 0x00, 0x00, 0x00, 0x10, 0x00, 0x00, 0x00, 0x00, 0x00, 0x00, 0x00, 0x0f, 0x02, 0x77, 0x08,
     0x00, 0x00, 0x00, 0x00,
 ];
-
-const STACK: [u64; 16] = [
-    1, 2, 0x100300, 4, 0x40, 0x100200, 5, 6, 0x70, 0x100100, 7, 8, 9, 10, 0, 0,
-];
-
-fn read_stack(address: u64) -> Result<u64, ()> {
-    if address % 8 != 0 {
-        return Err(());
-    }
-    STACK.get((address / 8) as usize).copied().ok_or(())
-}
 
 /// The step from a frame in the module, as its return address, stack pointer and frame pointer.
 fn step(rt: &HostRuntime, ip: u64, sp: u64, bp: u64) -> Result<(Option<u64>, u64, u64), Fail> {
@@ -53,7 +34,7 @@ fn step_in(
     let mut cache = CacheX86_64::new(rt.alloc())?;
     let mut regs = UnwindRegsX86_64::new(ip, sp, bp);
     let address = FrameAddress::from_instruction_pointer(ip);
-    let mut read = read_stack;
+    let mut read = word_at;
     let return_address = unwinder.unwind_frame(address, &mut regs, &mut cache, &mut read)?;
     Ok((return_address, regs.sp(), regs.bp()))
 }

@@ -1,7 +1,7 @@
 //! Look-ups of an index, compared with a pass over the whole section.
-use crate::cfi_index::{DwarfCfiIndex, DwarfCfiIndexError};
 use dwarf_call_frames::{CieOrFde, EhFrame, FrameDescriptionEntry};
 use dwarf_read_core::Error;
+use framehop::{DwarfCfiIndex, DwarfCfiIndexError};
 use std::alloc::Global;
 use std::test::Fail;
 

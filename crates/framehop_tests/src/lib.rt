@@ -1,0 +1,12 @@
+//! Tests of the unwind rules, the unwinder, its index, and the program's run over a document, by
+//! public calls alone.
+#![tactic(auto)]
+
+#[cfg(test)]
+mod cfi_index;
+#[cfg(test)]
+mod rules;
+#[cfg(test)]
+mod steps;
+#[cfg(test)]
+mod worked;

@@ -1,0 +1,36 @@
+//! A worked section and a worked stack, and what a run over a document writes.
+use std::alloc::Global;
+use std::io::Read;
+use std::test::Fail;
+use unwind_commands::{Streamed, run};
+
+/// A function of sixteen bytes at 0x1000 that pushes RBP in its first byte and sets it in the next
+/// three: a CIE, and an FDE with a row for each of these parts and one for the body.
+pub const EH_FRAME: [u8; 56] = [
+    0x10, 0x00, 0x00, 0x00, 0x00, 0x00, 0x00, 0x00, 0x01, 0x00, 0x01, 0x78, 0x10, 0x0c, 0x07, 0x08,
+    0x90, 0x01, 0x00, 0x00, 0x1c, 0x00, 0x00, 0x00, 0x18, 0x00, 0x00, 0x00, 0x00, 0x10, 0x00, 0x00,
+    0x00, 0x00, 0x00, 0x00, 0x10, 0x00, 0x00, 0x00, 0x00, 0x00, 0x00, 0x00, 0x41, 0x0e, 0x10, 0x86,
+    0x02, 0x43, 0x0d, 0x06, 0x00, 0x00, 0x00, 0x00,
+];
+
+/// Sixteen words of a stack, at addresses 0, 8, .. 0x78: frames at 0x20 and 0x40, the last at 0x70.
+pub const WORDS: [u64; 16] = [
+    0x1, 0x2, 0x100300, 0x4, 0x40, 0x100200, 0x5, 0x6, 0x70, 0x100100, 0x7, 0x8, 0x9, 0xa, 0x0, 0x0,
+];
+
+/// The word of that stack at an address.
+pub fn word_at(address: u64) -> Result<u64, ()> {
+    if address % 8 != 0 {
+        return Err(());
+    }
+    WORDS.get((address / 8) as usize).copied().ok_or(())
+}
+
+/// What a run over a document writes, its exit status, and what is left of the document's source.
+pub fn answer_to<R: Read + Drop>(alloc: Global, document: R) -> Result<(String, u8, R), Fail> {
+    let mut source = Streamed::new(document);
+    let mut sink = Streamed::new(Vec::new(alloc));
+    let ending = run(alloc, &mut source, &mut sink)?;
+    let text = String::from_utf8(sink.into_inner())?;
+    Ok((text, ending.status(), source.into_inner()))
+}
