@@ -5,8 +5,12 @@
 #[cfg(test)]
 mod cfi_index;
 #[cfg(test)]
+mod documents;
+#[cfg(test)]
 mod rules;
 #[cfg(test)]
 mod steps;
+#[cfg(test)]
+mod streams;
 #[cfg(test)]
 mod worked;

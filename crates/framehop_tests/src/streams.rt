@@ -1,11 +1,11 @@
-//! Streams that fail, stop short, or are interrupted.
-ghost use Rattle.std.specs.Prelude.{Some};
+//! Runs over streams that fail, stop short, or are interrupted.
+ghost use Rattle.std.specs.Prelude.{◌≡◌, Some, false};
 
-use super::*;
-use crate::stream::{StreamError, Streamed};
+use std::alloc::Global;
 use std::io;
 use std::io::{Read, Write};
 use std::test::Fail;
+use unwind_commands::{RunError, Sink, Source, StreamError, Streamed, run};
 
 /// Gives at most `step` bytes at a call, and fails at each call once `calls_left` have been made.
 #[derive(Drop)]
@@ -108,75 +108,109 @@ impl<T: Write> Write for Nervous<T> {
     }
 }
 
-const TEXT: &[u8] = b"{\"arch\": \"x86_64\", \"policy\": \"may\", \"commands\": []}";
+/// Two steps from the worked section: before the function's push and after it. A command after them
+/// writes nothing.
+const DOCUMENT: &str =
+    r#"{"arch":"x86_64","policy":"may","commands":[{"do":"unwinder"},{"do":"cache"},
+{"do":"load","unwinder":0,"name":"m","start":"0x100000","end":"0x102000","base":"0x100000","base_svma":"0x0","sections":
+[{"name":".eh_frame","data":"100000000000000001000178100c0708900100001c0000001800000000100000000000001000000000000000410e108602430d0600000000"}]},
+{"do":"step","unwinder":0,"cache":0,"kind":"ip","address":"0x101000","regs":{"ip":"0x101000","sp":"0x10","bp":"0x20"},
+"stack":{"start":"0x10","words":["0x100300"]}},
+{"do":"step","unwinder":0,"cache":0,"kind":"ip","address":"0x101002","regs":{"ip":"0x101002","sp":"0x20","bp":"0x20"},
+"stack":{"start":"0x20","words":["0x40","0x100200"]}},
+{"do":"cache"}]}"#;
+
+/// What a run over the document writes.
+const ANSWERS: &str =
+    "some 0x100300 ip 0x100300 sp 0x18 bp 0x20\nsome 0x100200 ip 0x100200 sp 0x30 bp 0x40\n";
+
+/// The document, so many bytes at a call.
+fn source_in_steps<'a>(step: usize, calls_left: usize) -> Script<'a>
+    ensures { result.failed ≡ false }
+{
+    Script {
+        rest: DOCUMENT.as_bytes(),
+        step,
+        calls_left,
+        failed: false,
+    }
+}
+
+/// An empty record, which takes so many bytes at a call.
+fn sink_in_steps(alloc: Global, step: usize, calls_left: usize) -> Record
+    ensures { result.failed ≡ false }
+{
+    Record {
+        written: Vec::new(alloc),
+        step,
+        calls_left,
+        failed: false,
+    }
+}
 
 #[test]
 fn reads_in_pieces(rt: HostRuntime) -> Result<(), Fail> {
-    for step in [1, 3, 7, 50, 51, 52] {
-        let mut source = Script {
-            rest: TEXT,
-            step,
-            calls_left: 100,
-            failed: false,
-        };
-        let document = read_document(rt.alloc(), &mut source)?;
-        assert_eq!(rt; document.as_slice(), TEXT, "in steps of {step}");
+    let length = DOCUMENT.len();
+    for step in [1, 3, 7, length - 1, length, length + 1] {
+        let mut source = source_in_steps(step, 2_000);
+        let mut sink = sink_in_steps(rt.alloc(), 1_000, 2);
+        assert_eq!(rt; run(rt.alloc(), &mut source, &mut sink)?.status(), 0);
+        assert_eq!(rt;
+            sink.written.as_slice(),
+            ANSWERS.as_bytes(),
+            "in steps of {step}"
+        );
         assert!(rt; !source.failed());
     }
     Ok(())
 }
 
+/// Where a read fails nothing is written, though it be the one that would find the end.
 #[test]
 fn each_read_fails_in_turn(rt: HostRuntime) -> Result<(), Fail> {
-    for calls in 0..9 {
-        let mut source = Script {
-            rest: TEXT,
-            step: 7,
-            calls_left: calls,
-            failed: false,
-        };
-        let outcome = read_document(rt.alloc(), &mut source);
-        assert_eq!(rt; outcome.err(), Some(RunError::Read), "after {calls} reads");
+    for calls in 0..=DOCUMENT.len().div_ceil(100) {
+        let mut source = source_in_steps(100, calls);
+        let mut sink = sink_in_steps(rt.alloc(), 1_000, 2);
+        let ending = run(rt.alloc(), &mut source, &mut sink);
+        assert_eq!(rt; ending.err(), Some(RunError::Read), "after {calls} reads");
         assert!(rt; source.failed());
-        assert_eq!(rt; source.rest.len(), TEXT.len().saturating_sub(7 * calls));
-    }
-    Ok(())
-}
-
-#[test]
-fn writes_in_pieces(rt: HostRuntime) -> Result<(), Fail> {
-    for step in [1, 3, 7, 50, 51, 52] {
-        let mut sink = Record {
-            written: Vec::new(rt.alloc()),
-            step,
-            calls_left: 100,
-            failed: false,
-        };
-        write_all(&mut sink, TEXT)?;
-        assert_eq!(rt; sink.written.as_slice(), TEXT, "in steps of {step}");
-        write_all(&mut sink, b"")?;
-        assert_eq!(rt; sink.written.as_slice(), TEXT);
+        assert_eq!(rt;
+            source.rest.len(),
+            DOCUMENT.len().saturating_sub(100 * calls)
+        );
+        assert!(rt; sink.written.is_empty());
         assert!(rt; !sink.failed());
     }
     Ok(())
 }
 
 #[test]
-fn each_write_fails_in_turn(rt: HostRuntime) -> Result<(), Fail> {
-    for calls in 0..8 {
-        let mut sink = Record {
-            written: Vec::new(rt.alloc()),
-            step: 7,
-            calls_left: calls,
-            failed: false,
-        };
+fn writes_in_pieces(rt: HostRuntime) -> Result<(), Fail> {
+    for step in [1, 3, 7, 41, 42, 43] {
+        let mut source = source_in_steps(1_000, 10);
+        let mut sink = sink_in_steps(rt.alloc(), step, 100);
+        assert_eq!(rt; run(rt.alloc(), &mut source, &mut sink)?.status(), 0);
         assert_eq!(rt;
-            write_all(&mut sink, TEXT),
-            Err(RunError::Write),
-            "after {calls} writes"
+            sink.written.as_slice(),
+            ANSWERS.as_bytes(),
+            "in steps of {step}"
         );
+        assert!(rt; !sink.failed());
+    }
+    Ok(())
+}
+
+/// What was written before the call that fails is a beginning of the answers.
+#[test]
+fn each_write_fails_in_turn(rt: HostRuntime) -> Result<(), Fail> {
+    for calls in 0..12 {
+        let mut source = source_in_steps(1_000, 10);
+        let mut sink = sink_in_steps(rt.alloc(), 7, calls);
+        let ending = run(rt.alloc(), &mut source, &mut sink);
+        assert_eq!(rt; ending.err(), Some(RunError::Write), "after {calls} writes");
         assert!(rt; sink.failed());
-        assert_eq!(rt; sink.written.as_slice(), &TEXT[..7 * calls]);
+        assert_eq!(rt; sink.written.as_slice(), &ANSWERS.as_bytes()[..7 * calls]);
+        assert!(rt; !source.failed());
     }
     Ok(())
 }
@@ -196,50 +230,67 @@ impl Write for Full {
 }
 
 #[test]
-fn interrupted_calls_are_made_again(rt: HostRuntime) -> Result<(), Fail> {
+fn interrupted_reads_are_made_again(rt: HostRuntime) -> Result<(), Fail> {
     let mut source = Streamed::new(Nervous {
-        inner: TEXT,
+        inner: DOCUMENT.as_bytes(),
         is_quiet: false,
         calls_left: 2,
     });
-    let document = read_document(rt.alloc(), &mut source)?;
-    assert_eq!(rt; document.as_slice(), TEXT);
-    assert_eq!(rt;
-        read_document(rt.alloc(), &mut source).err(),
-        Some(RunError::Read)
-    );
-    assert!(rt; Source::failed(&source));
+    let mut sink = sink_in_steps(rt.alloc(), 1_000, 2);
+    assert_eq!(rt; run(rt.alloc(), &mut source, &mut sink)?.status(), 0);
+    assert_eq!(rt; sink.written.as_slice(), ANSWERS.as_bytes());
+    let again = run(rt.alloc(), &mut source, &mut sink);
+    assert_eq!(rt; again.err(), Some(RunError::Read));
+    assert!(rt; source.failed());
+    assert_eq!(rt; sink.written.as_slice(), ANSWERS.as_bytes());
+    Ok(())
+}
 
+#[test]
+fn interrupted_writes_are_made_again(rt: HostRuntime) -> Result<(), Fail> {
     let mut sink = Streamed::new(Nervous {
         inner: Vec::new(rt.alloc()),
         is_quiet: false,
         calls_left: 2,
     });
-    write_all(&mut sink, TEXT)?;
-    write_all(&mut sink, b"\n")?;
-    assert_eq!(rt; write_all(&mut sink, TEXT), Err(RunError::Write));
-    assert!(rt; Sink::failed(&sink));
+    assert_eq!(rt;
+        run(rt.alloc(), &mut source_in_steps(1_000, 10), &mut sink)?.status(),
+        0
+    );
+    let again = run(rt.alloc(), &mut source_in_steps(1_000, 10), &mut sink);
+    assert_eq!(rt; again.err(), Some(RunError::Write));
+    assert!(rt; sink.failed());
     let written = sink.into_inner().inner;
-    assert_eq!(rt; written.len(), TEXT.len() + 1);
+    assert_eq!(rt; written.as_slice(), ANSWERS.as_bytes());
     Ok(())
 }
 
+/// A line of no bytes needs no writer that takes any.
 #[test]
 fn a_writer_that_takes_nothing_fails(rt: HostRuntime) -> Result<(), Fail> {
+    let mut empty = Streamed::new(
+        br#"{"arch":"x86_64","policy":"may","commands":[{"do":"cache"}]}"#.as_slice(),
+    );
     let mut sink = Streamed::new(Full);
-    write_all(&mut sink, b"")?;
-    assert_eq!(rt; write_all(&mut sink, TEXT), Err(RunError::Write));
+    assert_eq!(rt; run(rt.alloc(), &mut empty, &mut sink)?.status(), 0);
+    let ending = run(rt.alloc(), &mut source_in_steps(1_000, 10), &mut sink);
+    assert_eq!(rt; ending.err(), Some(RunError::Write));
     assert!(rt; sink.failed());
     Ok(())
 }
 
 #[test]
-fn a_long_document_is_read_one_byte_past_the_limit(rt: HostRuntime) -> Result<(), Fail> {
-    let mut source = Streamed::new(io::repeat(b' '));
-    let document = read_document(rt.alloc(), &mut source)?;
-    assert_eq!(rt; document.len(), DOCUMENT_LIMIT + 1);
-    let mut source = Streamed::new(io::repeat(b' ').take(DOCUMENT_LIMIT as u64));
-    let document = read_document(rt.alloc(), &mut source)?;
-    assert_eq!(rt; document.len(), DOCUMENT_LIMIT);
+fn errors_say_what_failed(rt: HostRuntime) -> Result<(), Fail> {
+    for (error, text) in [
+        (RunError::Read, "the document couldn't be read"),
+        (RunError::Write, "an answer couldn't be written"),
+        (RunError::OutOfMemory, "out of memory"),
+    ] {
+        assert_eq!(rt; error.to_string(rt.alloc())?.as_str(), text);
+    }
+    assert_eq!(rt;
+        StreamError.to_string(rt.alloc())?.as_str(),
+        "a stream failed"
+    );
     Ok(())
 }
