@@ -1,12 +1,13 @@
 -- What is found in a section that more bytes follow.
-use Rattle.std.proofs.Common.{◌≡◌, ℕ, zero, suc, ◌+◌, ◌*◌, ◌<◌, ◌≤◌, List, [], ◌∷◌, ◌++◌, length, ◌==◌, not, ◌&&◌, Bool, true, false, cond, if◌then◌else◌, Option, Some, None, Result, Ok, Err, nat_le, nat_lt, refl, arith, length-append}
+use Rattle.std.proofs.Common.{◌≡◌, ℕ, zero, suc, ◌+◌, ◌*◌, ◌<◌, ◌≤◌, List, [], ◌∷◌, ◌++◌, length, ◌==◌, not, ◌&&◌, Bool, true, false, cond, if◌then◌else◌, Option, Some, None, Result, Ok, Err, nat_lt, refl, arith, length-append}
 use Rattle.std.proofs.lemmas.Bool.Decides.{nat_tests}
 use Rattle.std.specs.Prelude.{IsTrue}
 use Rattle.dwarf_constants.specs.Format.{word_size}
 use Rattle.dwarf_constants.specs.declared.common.Format.{Format}
+use Rattle.dwarf_constants.specs.declared.constants.form.TheConstants.{DW_FORM_implicit_const}
 use Rattle.dwarf_constants.specs.declared.error.Error.{Error}
-use Rattle.dwarf_constants.specs.declared.error.Error.TheVariants.{AbbreviationTagZero, AttributeFormZero, AttributeNameZero, DuplicateAbbreviationCode, InvalidAbbreviationChildren}
-use Rattle.dwarf_read_core.specs.AbbreviationTable.{Attribute, Declaration, attribute_at, attribute_of, attributes_at, attributes_within, children_at, declaration_at, declaration_of, declarations_within, has_code, next_of, table_at, table_in, tag_at}
+use Rattle.dwarf_constants.specs.declared.error.Error.TheVariants.{AbbreviationTagZero, AttributeFormZero, AttributeNameZero, DuplicateAbbreviationCode}
+use Rattle.dwarf_read_core.specs.AbbreviationTable.{Attribute, Declaration, attribute_at, attribute_of, attributes_at, attributes_within, children_at, children_of, declaration_at, declaration_of, declarations_within, has_code, next_of, table_at, table_in, tag_at}
 use Rattle.dwarf_read_core.specs.AddressSets.{next_address, next_set, set_at, set_behind}
 use Rattle.dwarf_read_core.specs.ClosedTables.{StaysIf, is_closed_at, is_closed_in, is_closed_within, closes, closes_at}
 use Rattle.dwarf_read_core.specs.Sections.{address_in, entry_in, range_in, string_in, string_offset_in}
@@ -71,7 +72,7 @@ next_address_stays size more s some = next_where (length s.bytes == 0) (λ (s : 
 
 -- attributes
 attribute_of_steady : (name form : ℕ) → IsSteady (λ left. attribute_of name (form, left))
-attribute_of_steady name form = λ more left. cond_stays more (form == 0x21) _ _ _ _
+attribute_of_steady name form = λ more left. cond_stays more (form == DW_FORM_implicit_const.0) _ _ _ _
     (then_stays more (signed_at left) (signed_at (extended_stretch more left)) (λ value. Ok (Some (record { name = name; form = form; constant = Some value.0 }), value.1)) (signed_steady more left) (λ value left. refl))
     refl
 
@@ -105,7 +106,7 @@ tag_steady : IsSteady tag_at
 tag_steady = steady_then unsigned_16_at (λ tag. requirement (not (tag.0 == 0)) AbbreviationTagZero >>= λ _. Ok tag) unsigned_16_steady (λ tag more left. given_stays more (not (tag == 0)) AbbreviationTagZero (Ok (tag, left)) (Ok (tag, extended_stretch more left)) refl)
 
 children_steady : IsSteady children_at
-children_steady = steady_then byte_at (λ byte. requirement (nat_le byte.0 1) (InvalidAbbreviationChildren (record { 0 = byte.0 })) >>= λ _. Ok (byte.0 == 1, byte.1)) byte_steady (λ byte more left. given_stays more (nat_le byte 1) (InvalidAbbreviationChildren (record { 0 = byte })) (Ok (byte == 1, left)) (Ok (byte == 1, extended_stretch more left)) refl)
+children_steady = steady_then byte_at (λ byte. children_of byte.0 >>= λ children. Ok (children, byte.1)) byte_steady (λ byte more left. value_stays more (children_of byte) left)
 
 declaration_of_steady : (code : ℕ) → IsSteady (declaration_of code)
 declaration_of_steady code =

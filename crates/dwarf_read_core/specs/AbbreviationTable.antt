@@ -2,6 +2,8 @@
 use Rattle.std.specs.Prelude.{ℕ, suc, zero, ℤ, ◌==◌, ◌≡◌, List, [], ◌∷◌, ◌++◌, length, ◌⊎◌, Bool, true, false, not, Option, Some, None, option_map, ◌&&◌, Result, Ok, Err, nat_le, if◌then◌else◌}
 use Rattle.dwarf_constants.specs.declared.error.Error.{Error}
 use Rattle.dwarf_constants.specs.declared.error.Error.TheVariants.{AbbreviationTagZero, AttributeFormZero, AttributeNameZero, DuplicateAbbreviationCode, InvalidAbbreviationChildren, OutOfMemory}
+use Rattle.dwarf_constants.specs.declared.constants.TheConstants.{DW_CHILDREN_no, DW_CHILDREN_yes}
+use Rattle.dwarf_constants.specs.declared.constants.form.TheConstants.{DW_FORM_implicit_const}
 use Rattle.dwarf_readers.specs.Leb128.{signed_at, unsigned_16_at, unsigned_at}
 use Rattle.dwarf_readers.specs.Place.{Stretch, ◌>>=◌, behind_at, byte_at, end_of, ends_at, requirement}
 
@@ -18,19 +20,21 @@ pub record Declaration : Type 0 where
   pub children : Bool
   pub attributes : List Attribute
 
--- the attribute of this name and form; form 0x21 is followed by its value
+-- the attribute of this name and form, whose value stands behind it for DW_FORM_implicit_const
 abbrev pub attribute_of : ℕ → ℕ × Stretch → Result (Option Attribute × Stretch) Error
 attribute_of name form =
-    if form.0 == 0x21 then signed_at form.1 >>= (λ value. Ok (Some (record { name = name; form = form.0; constant = Some value.0 }), value.1))
+    if form.0 == DW_FORM_implicit_const.0 then (do
+      value ← signed_at form.1
+      Ok (Some (record { name = name; form = form.0; constant = Some value.0 }), value.1))
     else Ok (Some (record { name = name; form = form.0; constant = None }), form.1)
 
 -- the next attribute, or none at the pair of zeros
 abbrev pub attribute_at : Stretch → Result (Option Attribute × Stretch) Error
-attribute_at s =
-    unsigned_16_at s >>= λ name.
-    unsigned_16_at name.1 >>= λ form.
-    (if name.0 == 0 then (if form.0 == 0 then Ok (None, form.1) else Err AttributeNameZero)
-    else (if form.0 == 0 then Err AttributeFormZero else attribute_of name.0 form))
+attribute_at s = do
+  name ← unsigned_16_at s
+  form ← unsigned_16_at name.1
+  if name.0 == 0 then (if form.0 == 0 then Ok (None, form.1) else Err AttributeNameZero)
+      else (if form.0 == 0 then Err AttributeFormZero else attribute_of name.0 form)
 
 -- what is next, if anything: the end answers one way, and an item goes on another way
 abbrev pub next_of : {A B : Type 0} → (Stretch → Result B Error) → (A → Stretch → Result B Error) → Option A → Stretch → Result B Error
@@ -40,33 +44,51 @@ next_of end item (Some a) s = item a s
 -- the attributes before the pair of zeros behind those seen, in at most n steps
 abbrev pub attributes_within : ℕ → List Attribute → Stretch → Result (List Attribute × Stretch) Error
 attributes_within zero seen s = Err (ends_at (end_of s))
-attributes_within (suc n) seen s = attribute_at s >>= λ next. next_of (λ t. Ok (seen, t)) (λ attribute t. attributes_within n (seen ++ attribute ∷ []) t) next.0 next.1
+attributes_within (suc n) seen s = do
+  next ← attribute_at s
+  next_of (λ t. Ok (seen, t)) (λ attribute t. attributes_within n (seen ++ attribute ∷ []) t) next.0 next.1
 
 -- the attributes before the pair of zeros: each takes a byte at least
 unfoldable pub attributes_at : Stretch → Result (List Attribute × Stretch) Error
 attributes_at s = attributes_within (suc (length s.bytes)) [] s
 
+-- whether entries have children, by the byte that says so
+abbrev pub children_of : ℕ → Result Bool Error
+children_of byte =
+    if byte == DW_CHILDREN_no.0 then Ok false
+    else (if byte == DW_CHILDREN_yes.0 then Ok true
+    else Err (InvalidAbbreviationChildren (record { 0 = byte })))
+
 -- whether entries have children
 abbrev pub children_at : Stretch → Result (Bool × Stretch) Error
-children_at s = byte_at s >>= λ byte. requirement (nat_le byte.0 1) (InvalidAbbreviationChildren (record { 0 = byte.0 })) >>= λ _. Ok (byte.0 == 1, byte.1)
+children_at s = do
+  byte ← byte_at s
+  children ← children_of byte.0
+  Ok (children, byte.1)
 
 -- a tag, which isn't 0
 abbrev pub tag_at : Stretch → Result (ℕ × Stretch) Error
-tag_at s = unsigned_16_at s >>= λ tag. requirement (not (tag.0 == 0)) AbbreviationTagZero >>= λ _. Ok tag
+tag_at s = do
+  tag ← unsigned_16_at s
+  _ ← requirement (not (tag.0 == 0)) AbbreviationTagZero
+  Ok tag
 
 -- the declaration of this code
 abbrev pub declaration_of : ℕ → Stretch → Result (Option Declaration × Stretch) Error
-declaration_of code s =
-    tag_at s >>= λ tag.
-    children_at tag.1 >>= λ children.
-    attributes_at children.1 >>= λ attributes.
-    Ok (Some (record { code = code; tag = tag.0; children = children.0; attributes = attributes.0 }), attributes.1)
+declaration_of code s = do
+  tag ← tag_at s
+  children ← children_at tag.1
+  attributes ← attributes_at children.1
+  let found : Declaration =
+      record { code = code; tag = tag.0; children = children.0; attributes = attributes.0 }
+  Ok (Some found, attributes.1)
 
 -- the next declaration, or none at code 0 or where the bytes end
 abbrev pub declaration_at : Stretch → Result (Option Declaration × Stretch) Error
 declaration_at s =
-    if length s.bytes == 0 then Ok (None, s)
-    else unsigned_at s >>= (λ code. if code.0 == 0 then Ok (None, code.1) else declaration_of code.0 code.1)
+    if length s.bytes == 0 then Ok (None, s) else (do
+      code ← unsigned_at s
+      if code.0 == 0 then Ok (None, code.1) else declaration_of code.0 code.1)
 
 -- a declaration of this code is among these
 abbrev pub has_code : ℕ → List Declaration → Bool
@@ -76,7 +98,11 @@ has_code code (d ∷ ds) = if d.code == code then true else has_code code ds
 -- the declarations up to the table's end behind those seen, in at most n steps; no two have one code
 abbrev pub declarations_within : ℕ → List Declaration → Stretch → Result (List Declaration) Error
 declarations_within zero seen s = Err (ends_at (end_of s))
-declarations_within (suc n) seen s = declaration_at s >>= λ next. next_of (λ _. Ok seen) (λ d t. requirement (not (has_code d.code seen)) (DuplicateAbbreviationCode d.code) >>= λ _. declarations_within n (seen ++ d ∷ []) t) next.0 next.1
+declarations_within (suc n) seen s = do
+  next ← declaration_at s
+  next_of (λ _. Ok seen) (λ d t. do
+    _ ← requirement (not (has_code d.code seen)) (DuplicateAbbreviationCode d.code)
+    declarations_within n (seen ++ d ∷ []) t) next.0 next.1
 
 -- the table at a stretch's start: each declaration takes a byte at least
 unfoldable pub table_at : Stretch → Result (List Declaration) Error
@@ -84,7 +110,9 @@ table_at s = declarations_within (suc (length s.bytes)) [] s
 
 -- the table at an offset
 abbrev pub table_in : ℕ → Stretch → Result (List Declaration) Error
-table_in offset section = behind_at offset section >>= table_at
+table_in offset section = do
+  s ← behind_at offset section
+  table_at s
 
 -- the declaration of a code
 abbrev pub declaration_for : ℕ → List Declaration → Option Declaration

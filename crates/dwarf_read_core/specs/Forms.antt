@@ -1,30 +1,61 @@
--- The sizes of attribute values that their forms alone decide (DWARF 5, 7.5.6).
+-- The sizes of attribute values that their forms alone decide (DWARF 5, 7.5.5 and 7.5.6).
 use Rattle.std.specs.Prelude.{ℕ, ◌==◌, List, [], ◌∷◌, Bool, true, false, Option, Some, None, if◌then◌else◌}
 use Rattle.dwarf_constants.specs.Format.{word_size}
 use Rattle.dwarf_constants.specs.declared.common.Encoding.{Encoding}
+use Rattle.dwarf_constants.specs.declared.constants.form.DwForm.{DwForm}
+use Rattle.dwarf_constants.specs.declared.constants.form.TheConstants.{DW_FORM_GNU_ref_alt, DW_FORM_GNU_strp_alt, DW_FORM_addr, DW_FORM_addrx1, DW_FORM_addrx2, DW_FORM_addrx3, DW_FORM_addrx4, DW_FORM_data1, DW_FORM_data16, DW_FORM_data2, DW_FORM_data4, DW_FORM_data8, DW_FORM_flag, DW_FORM_flag_present, DW_FORM_implicit_const, DW_FORM_line_strp, DW_FORM_ref1, DW_FORM_ref2, DW_FORM_ref4, DW_FORM_ref8, DW_FORM_ref_addr, DW_FORM_ref_sig8, DW_FORM_ref_sup4, DW_FORM_ref_sup8, DW_FORM_sec_offset, DW_FORM_strp, DW_FORM_strp_sup, DW_FORM_strx1, DW_FORM_strx2, DW_FORM_strx3, DW_FORM_strx4}
 
--- the form is among these
-abbrev pub among : ℕ → List ℕ → Bool
+-- the form of this number is among these
+abbrev pub among : ℕ → List DwForm → Bool
 among form [] = false
-among form (f ∷ fs) = if form == f then true else among form fs
+among form (f ∷ fs) = if form == f.0 then true else among form fs
 
--- of the forms whose size is always the same: flag_present and implicit_const, which take no byte; flag, data1, ref1,
--- strx1 and addrx1; those of two, three, four, eight and sixteen bytes
+-- the forms of values that take no byte
+abbrev pub forms_of_0 : List DwForm
+forms_of_0 = DW_FORM_flag_present ∷ DW_FORM_implicit_const ∷ []
+
+-- .. one byte
+abbrev pub forms_of_1 : List DwForm
+forms_of_1 = DW_FORM_data1 ∷ DW_FORM_flag ∷ DW_FORM_ref1 ∷ DW_FORM_strx1 ∷ DW_FORM_addrx1 ∷ []
+
+-- .. two
+abbrev pub forms_of_2 : List DwForm
+forms_of_2 = DW_FORM_data2 ∷ DW_FORM_ref2 ∷ DW_FORM_strx2 ∷ DW_FORM_addrx2 ∷ []
+
+-- .. three
+abbrev pub forms_of_3 : List DwForm
+forms_of_3 = DW_FORM_strx3 ∷ DW_FORM_addrx3 ∷ []
+
+-- .. four
+abbrev pub forms_of_4 : List DwForm
+forms_of_4 = DW_FORM_data4 ∷ DW_FORM_ref4 ∷ DW_FORM_ref_sup4 ∷ DW_FORM_strx4 ∷ DW_FORM_addrx4 ∷ []
+
+-- .. eight
+abbrev pub forms_of_8 : List DwForm
+forms_of_8 = DW_FORM_data8 ∷ DW_FORM_ref8 ∷ DW_FORM_ref_sig8 ∷ DW_FORM_ref_sup8 ∷ []
+
+-- the forms of values that are offsets, as long as the format has them
+abbrev pub forms_of_offsets : List DwForm
+forms_of_offsets =
+    DW_FORM_strp ∷ DW_FORM_sec_offset ∷ DW_FORM_strp_sup ∷ DW_FORM_line_strp
+    ∷ DW_FORM_GNU_ref_alt ∷ DW_FORM_GNU_strp_alt ∷ []
+
+-- of the forms whose size is always the same
 abbrev pub fixed_size : ℕ → Option ℕ
 fixed_size form =
-    if among form (0x19 ∷ 0x21 ∷ []) then Some 0
-    else (if among form (0x0b ∷ 0x0c ∷ 0x11 ∷ 0x25 ∷ 0x29 ∷ []) then Some 1
-    else (if among form (0x05 ∷ 0x12 ∷ 0x26 ∷ 0x2a ∷ []) then Some 2
-    else (if among form (0x27 ∷ 0x2b ∷ []) then Some 3
-    else (if among form (0x06 ∷ 0x13 ∷ 0x1c ∷ 0x28 ∷ 0x2c ∷ []) then Some 4
-    else (if among form (0x07 ∷ 0x14 ∷ 0x20 ∷ 0x24 ∷ []) then Some 8
-    else (if form == 0x1e then Some 16 else None))))))
+    if among form forms_of_0 then Some 0
+    else (if among form forms_of_1 then Some 1
+    else (if among form forms_of_2 then Some 2
+    else (if among form forms_of_3 then Some 3
+    else (if among form forms_of_4 then Some 4
+    else (if among form forms_of_8 then Some 8
+    else (if form == DW_FORM_data16.0 then Some 16 else None))))))
 
--- of all forms: addr has the size of addresses; strp, sec_offset, strp_sup, line_strp and the two of GNU have an
--- offset's size; ref_addr has an address's size in version 2, and an offset's after it
+-- of all forms; DW_FORM_ref_addr has an address's size in version 2, and an offset's after it
 abbrev pub form_size : Encoding → ℕ → Option ℕ
 form_size e form =
-    if form == 0x01 then Some e.address_size
-    else (if among form (0x0e ∷ 0x17 ∷ 0x1d ∷ 0x1f ∷ 0x1f20 ∷ 0x1f21 ∷ []) then Some (word_size e.format)
-    else (if form == 0x10 then Some (if e.version == 2 then e.address_size else word_size e.format)
+    if form == DW_FORM_addr.0 then Some e.address_size
+    else (if among form forms_of_offsets then Some (word_size e.format)
+    else (if form == DW_FORM_ref_addr.0
+    then Some (if e.version == 2 then e.address_size else word_size e.format)
     else fixed_size form))

@@ -25,24 +25,37 @@ str_offsets_section s = s.section
 
 -- a part of a section, by its offset and its size
 abbrev pub range_in : ℕ → ℕ → Stretch → Result Stretch Error
-range_in offset size section = behind_at offset section >>= prefix_at size
+range_in offset size section = do
+  s ← behind_at offset section
+  prefix_at size s
 
 -- the section's reader
 abbrev pub addr_section : {R : Type 0} → DebugAddr R → R
 addr_section s = s.section
 
--- the string at an offset (DWARF 5, 7.26 and 6.1.1)
+-- the string at an offset (DWARF 5, 7.5.5, class string)
 abbrev pub string_in : ℕ → Stretch → Result Stretch Error
-string_in offset section = behind_at offset section >>= λ s. string_at s >>= λ string. Ok string.0
+string_in offset section = do
+  s ← behind_at offset section
+  string ← string_at s
+  Ok string.0
 
 -- what is left behind the base and so many entries of this size, where that offset is below the limit
 abbrev pub entry_in : ℕ → ℕ → ℕ → ℕ → Stretch → Result Stretch Error
-entry_in limit base index size section = offset_below limit (base + index * size) >>= λ offset. behind_at offset section
+entry_in limit base index size section = do
+  offset ← offset_below limit (base + index * size)
+  behind_at offset section
 
 -- the string offset of this index (DWARF 5, 7.26)
 abbrev pub string_offset_in : ℕ → Format → ℕ → ℕ → Stretch → Result ℕ Error
-string_offset_in limit format base index section = entry_in limit base index (word_size format) section >>= λ s. word_at limit format s >>= λ offset. Ok offset.0
+string_offset_in limit format base index section = do
+  s ← entry_in limit base index (word_size format) section
+  offset ← word_at limit format s
+  Ok offset.0
 
 -- the address of this index (DWARF 5, 7.27)
 abbrev pub address_in : ℕ → ℕ → ℕ → ℕ → Stretch → Result ℕ Error
-address_in limit size base index section = entry_in limit base index size section >>= λ s. address_at size s >>= λ address. Ok address.0
+address_in limit size base index section = do
+  s ← entry_in limit base index size section
+  address ← address_at size s
+  Ok address.0

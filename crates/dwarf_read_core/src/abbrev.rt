@@ -14,6 +14,15 @@ mod cache;
 
 use crate::section::Section;
 pub use cache::{AbbreviationsCache, AbbreviationsCacheStrategy};
+use dwarf_constants::constants::{
+    DW_CHILDREN_no, DW_CHILDREN_yes, DW_FORM_GNU_ref_alt, DW_FORM_GNU_strp_alt, DW_FORM_addr,
+    DW_FORM_addrx1, DW_FORM_addrx2, DW_FORM_addrx3, DW_FORM_addrx4, DW_FORM_data1, DW_FORM_data2,
+    DW_FORM_data4, DW_FORM_data8, DW_FORM_data16, DW_FORM_flag, DW_FORM_flag_present,
+    DW_FORM_implicit_const, DW_FORM_line_strp, DW_FORM_ref_addr, DW_FORM_ref_sig8,
+    DW_FORM_ref_sup4, DW_FORM_ref_sup8, DW_FORM_ref1, DW_FORM_ref2, DW_FORM_ref4, DW_FORM_ref8,
+    DW_FORM_sec_offset, DW_FORM_strp, DW_FORM_strp_sup, DW_FORM_strx1, DW_FORM_strx2,
+    DW_FORM_strx3, DW_FORM_strx4,
+};
 use dwarf_constants::{DebugAbbrevOffset, DwChildren, DwForm, Encoding, Error, Result, SectionId};
 use dwarf_readers::{EndianSlice, Endianity, Reader};
 use std::alloc::Global;
@@ -31,7 +40,7 @@ pub struct AttributeSpecification {
 impl AttributeSpecification {
     /// An attribute of this name and form. A value is given exactly for `DW_FORM_implicit_const`.
     pub fn new(name: u16, form: DwForm, implicit_const_value: Option<i64>) -> AttributeSpecification
-        requires { IsSome implicit_const_value ↔ (form.0 ≡ 0x21) }
+        requires { IsSome implicit_const_value ↔ (form.0 ≡ DW_FORM_implicit_const.0) }
         ensures { attribute result ≡ record { name = name; form = form.0; constant = implicit_const_value } }
     {
         AttributeSpecification {
@@ -59,7 +68,7 @@ impl AttributeSpecification {
     pub fn implicit_const_value(&self) -> Option<i64>
         ensures { result ≡ (attribute self.now).constant }
     {
-        if self.form.0 == 0x21 {
+        if self.form == DW_FORM_implicit_const {
             Some(self.implicit_const_value)
         } else {
             None
@@ -70,30 +79,34 @@ impl AttributeSpecification {
     pub fn size(&self, encoding: Encoding) -> Option<usize>
         ensures { result ≡ form_size encoding (attribute self.now).form }
     {
-        let form = self.form.0;
         let word = encoding.format.word_size() as usize;
-        match form {
-            0x01 => Some(encoding.address_size as usize),
-            0x0e | 0x17 | 0x1d | 0x1f | 0x1f20 | 0x1f21 => Some(word),
-            0x10 if encoding.version == 2 => Some(encoding.address_size as usize),
-            0x10 => Some(word),
-            _ => fixed_form_size(form),
+        match self.form {
+            DW_FORM_addr => Some(encoding.address_size as usize),
+            DW_FORM_strp
+            | DW_FORM_sec_offset
+            | DW_FORM_strp_sup
+            | DW_FORM_line_strp
+            | DW_FORM_GNU_ref_alt
+            | DW_FORM_GNU_strp_alt => Some(word),
+            DW_FORM_ref_addr if encoding.version == 2 => Some(encoding.address_size as usize),
+            DW_FORM_ref_addr => Some(word),
+            form => fixed_form_size(form),
         }
     }
 }
 
 // The size of a form's values in bytes, if it is always the same.
-fn fixed_form_size(form: u16) -> Option<usize>
-    ensures { result ≡ fixed_size form }
+fn fixed_form_size(form: DwForm) -> Option<usize>
+    ensures { result ≡ fixed_size form.0 }
 {
     match form {
-        0x19 | 0x21 => Some(0),
-        0x0b | 0x0c | 0x11 | 0x25 | 0x29 => Some(1),
-        0x05 | 0x12 | 0x26 | 0x2a => Some(2),
-        0x27 | 0x2b => Some(3),
-        0x06 | 0x13 | 0x1c | 0x28 | 0x2c => Some(4),
-        0x07 | 0x14 | 0x20 | 0x24 => Some(8),
-        0x1e => Some(16),
+        DW_FORM_flag_present | DW_FORM_implicit_const => Some(0),
+        DW_FORM_data1 | DW_FORM_flag | DW_FORM_ref1 | DW_FORM_strx1 | DW_FORM_addrx1 => Some(1),
+        DW_FORM_data2 | DW_FORM_ref2 | DW_FORM_strx2 | DW_FORM_addrx2 => Some(2),
+        DW_FORM_strx3 | DW_FORM_addrx3 => Some(3),
+        DW_FORM_data4 | DW_FORM_ref4 | DW_FORM_ref_sup4 | DW_FORM_strx4 | DW_FORM_addrx4 => Some(4),
+        DW_FORM_data8 | DW_FORM_ref8 | DW_FORM_ref_sig8 | DW_FORM_ref_sup8 => Some(8),
+        DW_FORM_data16 => Some(16),
         _ => None,
     }
 }
@@ -105,24 +118,24 @@ fn read_attribute<R: Reader>(input: &mut R) -> Result<Option<AttributeSpecificat
     ensures less { OnOk result (length (R.stretch input.new).bytes < length (R.stretch input.old).bytes) }
 {
     let name = input.read_uleb128_u16()?;
-    let form = input.read_uleb128_u16()?;
+    let form = DwForm(input.read_uleb128_u16()?);
     if name == 0 {
-        if form == 0 {
+        if form.0 == 0 {
             return Ok(None);
         }
         return Err(Error::AttributeNameZero);
     }
-    if form == 0 {
+    if form.0 == 0 {
         return Err(Error::AttributeFormZero);
     }
-    let implicit_const_value = if form == 0x21 {
+    let implicit_const_value = if form == DW_FORM_implicit_const {
         input.read_sleb128()?
     } else {
         0
     };
     Ok(Some(AttributeSpecification {
         name,
-        form: DwForm(form),
+        form,
         implicit_const_value,
     }))
 }
@@ -136,11 +149,7 @@ fn read_attributes<R: Reader>(alloc: Global, input: &mut R) -> Result<Vec<Attrib
     let mut attributes = Vec::new(alloc);
     'attributes: loop {
         match read_attribute(input)? {
-            Some(attribute) => {
-                if attributes.push(attribute).is_err() {
-                    return Err(Error::OutOfMemory);
-                }
-            }
+            Some(attribute) => attributes.push(attribute)?,
             None => return Ok(attributes),
         }
     }
@@ -191,11 +200,12 @@ fn read_children<R: Reader>(input: &mut R) -> Result<bool>
     ensures refused { IfErr result (λ e. children_at (R.stretch input.old) ≡ Err e) }
     ensures less { OnOk result (length (R.stretch input.new).bytes < length (R.stretch input.old).bytes) }
 {
-    let children = input.read_u8()?;
-    if children > 1 {
-        return Err(Error::InvalidAbbreviationChildren(DwChildren(children)));
+    let children = DwChildren(input.read_u8()?);
+    match children {
+        DW_CHILDREN_no => Ok(false),
+        DW_CHILDREN_yes => Ok(true),
+        _ => Err(Error::InvalidAbbreviationChildren(children)),
     }
-    Ok(children == 1)
 }
 
 // Reads a tag.
@@ -317,13 +327,11 @@ impl Abbreviations {
             mut sparse,
         } = self;
         let place = declarations.len();
-        if declarations.push(abbreviation).is_err() {
-            return Err(Error::OutOfMemory);
-        }
+        declarations.push(abbreviation)?;
         if dense == place && code == place as u64 + 1 {
             dense += 1;
-        } else if sparse.insert(code, place).is_err() {
-            return Err(Error::OutOfMemory);
+        } else {
+            sparse.insert(code, place)?;
         }
         Ok(Abbreviations {
             declarations,
@@ -378,12 +386,12 @@ impl<R: Reader> DebugAbbrev<R> {
 }
 
 impl<T> DebugAbbrev<T> {
-    ghost use Rattle.std.specs.Fn.{FnOnceReturnsAt};
+    ghost use Rattle.std.specs.Fn.{FnOnceReturnsAt, FnOnceTakesAt};
     ghost use Rattle.dwarf_read_core.specs.DebugAbbrev.{abbrev_section};
 
     /// The section over what `borrow` makes of this one's.
     pub fn borrow<'a, R, F: FnOnce(&'a T) -> R>(&'a self, borrow: F) -> DebugAbbrev<R>
-        requires { F.IsAlwaysCallable borrow }
+        requires { FnOnceTakesAt F.FnOnce borrow (abbrev_section self.now) }
         ensures { FnOnceReturnsAt F.FnOnce borrow (abbrev_section self.now) (abbrev_section result) }
     {
         DebugAbbrev {

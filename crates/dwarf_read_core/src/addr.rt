@@ -51,12 +51,12 @@ impl<R: Reader> DebugAddr<R> {
 }
 
 impl<T> DebugAddr<T> {
-    ghost use Rattle.std.specs.Fn.{FnOnceReturnsAt};
+    ghost use Rattle.std.specs.Fn.{FnOnceReturnsAt, FnOnceTakesAt};
     ghost use Rattle.dwarf_read_core.specs.Sections.{addr_section};
 
     /// The section over what `borrow` makes of this one's.
     pub fn borrow<'a, R, F: FnOnce(&'a T) -> R>(&'a self, borrow: F) -> DebugAddr<R>
-        requires { F.IsAlwaysCallable borrow }
+        requires { FnOnceTakesAt F.FnOnce borrow (addr_section self.now) }
         ensures { FnOnceReturnsAt F.FnOnce borrow (addr_section self.now) (addr_section result) }
     {
         DebugAddr {

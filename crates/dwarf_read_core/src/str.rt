@@ -12,7 +12,7 @@ use dwarf_constants::{
 };
 use dwarf_readers::{EndianSlice, Endianity, Reader, ReaderOffset};
 
-/// The strings of `.debug_str` (DWARF 5, 7.26).
+/// The strings of `.debug_str` (DWARF 5, 7.5.5, class string).
 #[derive(Debug, Clone, Copy)]
 pub struct DebugStr<R> {
     section: R,
@@ -44,12 +44,12 @@ impl<R: Reader> DebugStr<R> {
 }
 
 impl<T> DebugStr<T> {
-    ghost use Rattle.std.specs.Fn.{FnOnceReturnsAt};
+    ghost use Rattle.std.specs.Fn.{FnOnceReturnsAt, FnOnceTakesAt};
     ghost use Rattle.dwarf_read_core.specs.Sections.{str_section};
 
     /// The section over what `borrow` makes of this one's.
     pub fn borrow<'a, R, F: FnOnce(&'a T) -> R>(&'a self, borrow: F) -> DebugStr<R>
-        requires { F.IsAlwaysCallable borrow }
+        requires { FnOnceTakesAt F.FnOnce borrow (str_section self.now) }
         ensures { FnOnceReturnsAt F.FnOnce borrow (str_section self.now) (str_section result) }
     {
         DebugStr {
@@ -86,7 +86,7 @@ impl<R: Reader> Section<R> for DebugStr<R> {
     }
 }
 
-/// The strings of `.debug_line_str` (DWARF 5, 7.26).
+/// The strings of `.debug_line_str` (DWARF 5, 7.5.5, class string).
 #[derive(Debug, Clone, Copy)]
 pub struct DebugLineStr<R> {
     section: R,
@@ -118,12 +118,12 @@ impl<R: Reader> DebugLineStr<R> {
 }
 
 impl<T> DebugLineStr<T> {
-    ghost use Rattle.std.specs.Fn.{FnOnceReturnsAt};
+    ghost use Rattle.std.specs.Fn.{FnOnceReturnsAt, FnOnceTakesAt};
     ghost use Rattle.dwarf_read_core.specs.Sections.{line_str_section};
 
     /// The section over what `borrow` makes of this one's.
     pub fn borrow<'a, R, F: FnOnce(&'a T) -> R>(&'a self, borrow: F) -> DebugLineStr<R>
-        requires { F.IsAlwaysCallable borrow }
+        requires { FnOnceTakesAt F.FnOnce borrow (line_str_section self.now) }
         ensures { FnOnceReturnsAt F.FnOnce borrow (line_str_section self.now) (line_str_section result) }
     {
         DebugLineStr {
@@ -198,12 +198,12 @@ impl<R: Reader> DebugStrOffsets<R> {
 }
 
 impl<T> DebugStrOffsets<T> {
-    ghost use Rattle.std.specs.Fn.{FnOnceReturnsAt};
+    ghost use Rattle.std.specs.Fn.{FnOnceReturnsAt, FnOnceTakesAt};
     ghost use Rattle.dwarf_read_core.specs.Sections.{str_offsets_section};
 
     /// The section over what `borrow` makes of this one's.
     pub fn borrow<'a, R, F: FnOnce(&'a T) -> R>(&'a self, borrow: F) -> DebugStrOffsets<R>
-        requires { F.IsAlwaysCallable borrow }
+        requires { FnOnceTakesAt F.FnOnce borrow (str_offsets_section self.now) }
         ensures { FnOnceReturnsAt F.FnOnce borrow (str_offsets_section self.now) (str_offsets_section result) }
     {
         DebugStrOffsets {

@@ -29,6 +29,7 @@ pub enum AbbreviationsCacheStrategy {
 /// Tables of abbreviations by their offsets in one `.debug_abbrev`, for the units that share them.
 #[derive(Debug, Drop)]
 pub struct AbbreviationsCache {
+    alloc: Global,
     tables: BTreeMap<u64, Result<Rc<Abbreviations>>>,
 }
 
@@ -38,6 +39,7 @@ impl AbbreviationsCache {
         ensures { (q : ℕ) → kept_answer result q ≡ None }
     {
         AbbreviationsCache {
+            alloc,
             tables: BTreeMap::new(alloc),
         }
     }
@@ -47,7 +49,6 @@ impl AbbreviationsCache {
     /// which is never kept; the cache is then as before.
     pub fn populate<R: Reader, I: Iterator<Item = Result<DebugAbbrevOffset<R::Offset>>> + Drop>(
         &mut self,
-        alloc: Global,
         strategy: AbbreviationsCacheStrategy,
         debug_abbrev: &DebugAbbrev<R>,
         offsets: I,
@@ -58,8 +59,8 @@ impl AbbreviationsCache {
         ensures refused { IfErr result (λ e. (e ≡ error.OutOfMemory) ⊎ ((came : List (DebugAbbrevOffset R.Offset)) × (left : I) × YieldsThen I.next_gives offsets (map (λ o. Ok o) came) (Some (Err e)) left)) }
         ensures unchanged { OnErr result ((q : ℕ) → kept_answer self.new q ≡ kept_answer self.old q) }
     {
-        let mut seen = BTreeSet::new(alloc);
-        let mut cache = AbbreviationsCache::new(alloc);
+        let mut seen = BTreeSet::new(self.alloc);
+        let mut cache = AbbreviationsCache::new(self.alloc);
         for offset in offsets {
             let offset = offset?;
             let number = offset.0.into_u64();
@@ -68,7 +69,7 @@ impl AbbreviationsCache {
                 AbbreviationsCacheStrategy::All => true,
             };
             if wanted {
-                cache.keep(alloc, debug_abbrev, offset)?;
+                cache.keep(debug_abbrev, offset)?;
             }
         }
         *self = cache;
@@ -78,7 +79,6 @@ impl AbbreviationsCache {
     // Keeps what the section says at an offset, if nothing is kept for it.
     fn keep<R: Reader>(
         &mut self,
-        alloc: Global,
         debug_abbrev: &DebugAbbrev<R>,
         offset: DebugAbbrevOffset<R::Offset>,
     ) -> Result<()>
@@ -89,10 +89,8 @@ impl AbbreviationsCache {
         if self.tables.contains_key(&number) {
             return Ok(());
         }
-        let answer = answer_to_keep(alloc, debug_abbrev, offset)?;
-        if self.tables.insert(number, answer).is_err() {
-            return Err(Error::OutOfMemory);
-        }
+        let answer = answer_to_keep(self.alloc, debug_abbrev, offset)?;
+        self.tables.insert(number, answer)?;
         Ok(())
     }
 
@@ -107,13 +105,7 @@ impl AbbreviationsCache {
         ensures unchanged { OnErr result ((q : ℕ) → kept_answer self.new q ≡ kept_answer self.old q) }
         ensures memory { IfErr result (λ e. e ≡ error.OutOfMemory) }
     {
-        if self
-            .tables
-            .insert(offset.0.into_u64(), Ok(abbreviations))
-            .is_err()
-        {
-            return Err(Error::OutOfMemory);
-        }
+        self.tables.insert(offset.0.into_u64(), Ok(abbreviations))?;
         Ok(())
     }
 
@@ -121,16 +113,15 @@ impl AbbreviationsCache {
     /// error that is kept or that the section gives, or with want of memory.
     pub fn get<R: Reader>(
         &self,
-        alloc: Global,
         debug_abbrev: &DebugAbbrev<R>,
         offset: DebugAbbrevOffset<R::Offset>,
     ) -> Result<Rc<Abbreviations>>
         ensures { GivesOrMemory (λ table. declarations table.value) result (unwrap_or (kept_answer self.now (R.Offset.value offset.0)) (table_in (R.Offset.value offset.0) (R.stretch (abbrev_section debug_abbrev.now)))) }
     {
         match self.tables.get(&offset.0.into_u64()) {
-            Some(Ok(table)) => table.clone().map_err(|_| Error::OutOfMemory),
+            Some(Ok(table)) => Ok(table.clone()?),
             Some(Err(error)) => Err(*error),
-            None => shared(alloc, debug_abbrev.abbreviations(alloc, offset)?),
+            None => shared(self.alloc, debug_abbrev.abbreviations(self.alloc, offset)?),
         }
     }
 }
@@ -139,7 +130,7 @@ impl AbbreviationsCache {
 fn shared(alloc: Global, table: Abbreviations) -> Result<Rc<Abbreviations>>
     ensures { GivesOrMemory (λ table. declarations table.value) result (Ok (declarations table)) }
 {
-    Rc::new(alloc, table).map_err(|_| Error::OutOfMemory)
+    Ok(Rc::new(alloc, table)?)
 }
 
 // What the section says at an offset, a table or an error. Want of memory isn't said by it.
@@ -164,8 +155,6 @@ fn comes_again(seen: &mut BTreeSet<u64>, offset: u64) -> Result<bool>
     ensures seen { OnOk result ((q : ℕ) → contains nat_cmp seen.new q ≡ (if q == offset then true else contains nat_cmp seen.old q)) }
     ensures memory { IfErr result (λ e. e ≡ error.OutOfMemory) }
 {
-    match seen.insert(offset) {
-        Ok(is_new) => Ok(!is_new),
-        Err(_) => Err(Error::OutOfMemory),
-    }
+    let is_new = seen.insert(offset)?;
+    Ok(!is_new)
 }

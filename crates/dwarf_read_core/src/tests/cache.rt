@@ -16,7 +16,7 @@ fn tag(
     offset: usize,
 ) -> Result<Option<u16>, Error> {
     let section = DebugAbbrev::new(bytes, LittleEndian);
-    let table = cache.get(rt.alloc(), &section, DebugAbbrevOffset(offset))?;
+    let table = cache.get(&section, DebugAbbrevOffset(offset))?;
     Ok(table.get(1).map(|abbreviation| abbreviation.tag()))
 }
 
@@ -31,7 +31,7 @@ fn populate(
         Ok(offset) => Ok(DebugAbbrevOffset(*offset)),
         Err(error) => Err(*error),
     });
-    cache.populate(rt.alloc(), strategy, &section, offsets)
+    cache.populate(strategy, &section, offsets)
 }
 
 #[test]
@@ -165,16 +165,16 @@ fn a_shared_table_and_another(rt: HostRuntime) -> Result<(), Fail> {
     let offsets = units.iter().map(|offset| Ok(DebugAbbrevOffset(*offset)));
     let strategy = AbbreviationsCacheStrategy::Duplicates;
     let mut cache = AbbreviationsCache::new(rt.alloc());
-    cache.populate(rt.alloc(), strategy, &section, offsets)?;
-    let shared = cache.get(rt.alloc(), &section, DebugAbbrevOffset(0))?;
+    cache.populate(strategy, &section, offsets)?;
+    let shared = cache.get(&section, DebugAbbrevOffset(0))?;
     let unit = shared.get(1).ok_or("code 1")?;
     assert_eq!(rt; unit.attributes().len(), 2);
-    let empty = cache.get(rt.alloc(), &section, DebugAbbrevOffset(9))?;
+    let empty = cache.get(&section, DebugAbbrevOffset(9))?;
     assert_eq!(rt; empty.get(1).is_none(), true);
     let other = table(&rt, &[0x01, 0x11, 0x00, 0x25, 0x21, 0x7f, 0, 0])?;
     let other = Rc::new(rt.alloc(), other).map_err(|_| Error::OutOfMemory)?;
     cache.set(DebugAbbrevOffset(9usize), other)?;
-    let found = cache.get(rt.alloc(), &section, DebugAbbrevOffset(9))?;
+    let found = cache.get(&section, DebugAbbrevOffset(9))?;
     let unit = found.get(1).ok_or("code 1")?;
     let attribute = unit.attributes().first().ok_or("an attribute")?;
     assert_eq!(rt; attribute.implicit_const_value(), Some(-1));

@@ -24,7 +24,7 @@ attributes-preserved g c =
     let t = g.R.Reader.stretch c.read_attribute.new.input in
     let read : attribute_at (g.R.Reader.stretch c.attributes.input) ≡ Ok (Some (attribute c.in-Some.attribute), t) =
     c.in_ok-attribute.ensures.read ∙ ap (λ a. Ok (option_map attribute a, t)) c.in-Some.is in
-    let pushed : c.push.new.self.items ≡ c.attributes.attributes.items ++ c.in-Some.attribute ∷ [] = rw c.if-is_err.ensures.negation at c.push.ensures.items in
+    let pushed : c.push.new.self.items ≡ c.attributes.attributes.items ++ c.in-Some.attribute ∷ [] = c.in_ok-push-in-Some.ensures.items in
     let seen : map attribute c.push.new.self.items ≡ map attribute c.attributes.attributes.items ++ attribute c.in-Some.attribute ∷ [] = ap (map attribute) pushed ∙ map_push attribute c.attributes.attributes.items c.in-Some.attribute in
     record {
       same = rw seen (attributes_more _ _ _ _ _ c.attributes.invariant.same read c.in_ok-attribute.ensures.less);
