@@ -6,11 +6,13 @@ use Rattle.std.proofs.lemmas.Int.{ints}
 use Rattle.std.proofs.lemmas.List.{length-take-le}
 use Rattle.std.proofs.Math.Nat.{pow-le-pow_right}
 use Rattle.std.specs.Int.{w64, cast_signed}
+use Rattle.dwarf_constants.specs.declared.error.Error.{Error}
 use Rattle.dwarf_constants.specs.declared.error.Error.TheVariants.{BadSignedLeb128}
+use Rattle.dwarf_readers.specs.Groups.{AreGroups, EndsInGroups}
 use Rattle.dwarf_readers.specs.Leb128.{signed_at, signed_in_range, signed_value}
-use Rattle.dwarf_readers.specs.Place.{Stretch, behind, end_of, ends_at}
+use Rattle.dwarf_readers.specs.Place.{Stretch}
 use Rattle.dwarf_readers.proofs.Strings.{Room, room, seven_bits, number_done, number_long, number_short, number_unfit, sign_of}
-use Rattle.dwarf_readers.proofs.Values.{IsGroups, end_of_groups, value_of}
+use Rattle.dwarf_readers.proofs.Values.{end_of_groups, value_of}
 
 -- the tests of the range
 fits_range : (n : ℕ) → n < 2 ^ 63 → (int_le (neg_ℤ (pos (2 ^ 63))) (pos n) && int_lt (pos n) (pos (2 ^ 63))) ≡ true
@@ -26,17 +28,17 @@ below_range : (n p : ℕ) → n + 2 ^ 63 < p → (int_le (neg_ℤ (pos (2 ^ 63))
 below_range n p large = grind (arith, ints, nat_tests)
 
 -- the value of the bytes, by the sign
-value_plus : (s : Stretch) (low last count : ℕ) → IsGroups s 10 low last count → last < 64 → signed_value (take (count + 1) s.bytes) ≡ pos (low + 128 ^ count * last)
-value_plus s low last count is plus =
-    let value = value_of s 10 low last count is (omega arith) in
-    let byte : slice_index s.bytes count % 128 ≡ last = omega (arith, is.last) in
+value_plus : (s t : Stretch) (low last count : ℕ) → AreGroups 10 s low last count t → last < 64 → signed_value (take (count + 1) s.bytes) ≡ pos (low + 128 ^ count * last)
+value_plus s t low last count is plus =
+    let value = value_of 10 s t low last count is (omega arith) in
+    let byte : slice_index s.bytes count % 128 ≡ last = omega (arith, is.byte) in
     let test : nat_le 64 last ≡ false = grind (arith, nat_tests) in
     rw (sign_of s.bytes count is.inside, byte, test, value) refl
 
-value_minus : (s : Stretch) (low last count : ℕ) → IsGroups s 10 low last count → 64 ≤ last → last < 128 → signed_value (take (count + 1) s.bytes) ≡ pos (low + 128 ^ count * last) -ℤ pos (128 ^ (count + 1))
-value_minus s low last count is minus end =
-    let value = value_of s 10 low last count is end in
-    let byte : slice_index s.bytes count % 128 ≡ last = omega (arith, is.last) in
+value_minus : (s t : Stretch) (low last count : ℕ) → AreGroups 10 s low last count t → 64 ≤ last → last < 128 → signed_value (take (count + 1) s.bytes) ≡ pos (low + 128 ^ count * last) -ℤ pos (128 ^ (count + 1))
+value_minus s t low last count is minus end =
+    let value = value_of 10 s t low last count is end in
+    let byte : slice_index s.bytes count % 128 ≡ last = omega (arith, is.byte) in
     let test : nat_le 64 last ≡ true = grind (arith, nat_tests) in
     let size : length (take (count + 1) s.bytes) ≡ count + 1 = length-take-le (count + 1) s.bytes (omega (arith, is.inside)) in
     rw (sign_of s.bytes count is.inside, byte, test, value, size) refl
@@ -48,38 +50,38 @@ out_of_range : (string : List ℕ) (v : ℤ) → signed_value string ≡ v → (
 out_of_range string v is test = rw (is, test) refl
 
 -- what was read, where its value fits
-signed_here : (s t : Stretch) (low last count : ℕ) (v : ℤ) → IsGroups s 10 low last count → last < 128 → t ≡ behind (count + 1) s → signed_in_range (take (count + 1) s.bytes) ≡ Some v → signed_at s ≡ Ok (v, t)
-signed_here s t low last count v is end left fits =
-    let end_here : slice_index s.bytes count < 128 = omega (arith, is.last) in
-    rw left (number_done 10 BadSignedLeb128 signed_in_range s count v is.count is.inside is.marked end_here fits)
+signed_here : (s t : Stretch) (low last count : ℕ) (v : ℤ) → AreGroups 10 s low last count t → last < 128 → signed_in_range (take (count + 1) s.bytes) ≡ Some v → signed_at s ≡ Ok (v, t)
+signed_here s t low last count v is end fits =
+    let end_here : slice_index s.bytes count < 128 = omega (arith, is.byte) in
+    rw is.rest (number_done 10 BadSignedLeb128 signed_in_range s count v is.within is.inside is.marked end_here fits)
 
-signed_nowhere : (s : Stretch) (low last count : ℕ) → IsGroups s 10 low last count → last < 128 → signed_in_range (take (count + 1) s.bytes) ≡ None → signed_at s ≡ Err BadSignedLeb128
-signed_nowhere s low last count is end unfit =
-    let end_here : slice_index s.bytes count < 128 = omega (arith, is.last) in
-    number_unfit 10 BadSignedLeb128 signed_in_range s count is.count is.inside is.marked end_here unfit
+signed_nowhere : (s t : Stretch) (low last count : ℕ) → AreGroups 10 s low last count t → last < 128 → signed_in_range (take (count + 1) s.bytes) ≡ None → signed_at s ≡ Err BadSignedLeb128
+signed_nowhere s t low last count is end unfit =
+    let end_here : slice_index s.bytes count < 128 = omega (arith, is.byte) in
+    number_unfit 10 BadSignedLeb128 signed_in_range s count is.within is.inside is.marked end_here unfit
 
-pub signed_short : (s : Stretch) → length s.bytes < 10 → ((k : ℕ) → k < length s.bytes → 128 ≤ slice_index s.bytes k) → signed_at s ≡ Err (ends_at (end_of s))
-signed_short s few marked = number_short 10 BadSignedLeb128 signed_in_range s few marked
+pub signed_short : (s t : Stretch) (e : Error) → EndsInGroups 10 s e t → signed_at s ≡ Err e
+signed_short s t e is = rw is.eof (number_short 10 BadSignedLeb128 signed_in_range s is.few is.marked)
 
 -- a tenth byte that isn't all zeros or all ones
-pub signed_refused : (s : Stretch) (low last count : ℕ) → IsGroups s 10 low last count → count ≡ 9 → (last ≡ 0 → ⊥) → (last ≡ 127 → ⊥) → signed_at s ≡ Err BadSignedLeb128
-signed_refused s low last count is nine zero ones =
+pub signed_refused : (s t : Stretch) (low last count : ℕ) → AreGroups 10 s low last count t → count ≡ 9 → (last ≡ 0 → ⊥) → (last ≡ 127 → ⊥) → signed_at s ≡ Err BadSignedLeb128
+signed_refused s t low last count is nine zero ones =
     let power : 128 ^ count ≡ 128 ^ 9 = ap (λ (k : ℕ). 128 ^ k) nine in
     let scaled : 128 ^ count * last ≡ 128 ^ 9 * last = ap (λ (k : ℕ). k * last) power in
     let next : 128 ^ (count + 1) ≡ 128 ^ 10 = ap (λ (k : ℕ). 128 ^ (k + 1)) nine in
     let below : low < 128 ^ 9 = rw power at is.below in
     elim (cases_lt last 64) [
       | inl plus ↦
-          signed_nowhere s low last count is (omega arith)
-          (out_of_range (take (count + 1) s.bytes) (pos (low + 128 ^ count * last)) (value_plus s low last count is plus) (above_range (low + 128 ^ count * last) (omega arith)))
+          signed_nowhere s t low last count is (omega arith)
+          (out_of_range (take (count + 1) s.bytes) (pos (low + 128 ^ count * last)) (value_plus s t low last count is plus) (above_range (low + 128 ^ count * last) (omega arith)))
       | inr minus ↦ elim (cases_lt last 128) [
         | inl end ↦
-            signed_nowhere s low last count is end
-            (out_of_range (take (count + 1) s.bytes) (pos (low + 128 ^ count * last) -ℤ pos (128 ^ (count + 1))) (value_minus s low last count is minus end)
+            signed_nowhere s t low last count is end
+            (out_of_range (take (count + 1) s.bytes) (pos (low + 128 ^ count * last) -ℤ pos (128 ^ (count + 1))) (value_minus s t low last count is minus end)
             (below_range (low + 128 ^ count * last) (128 ^ (count + 1)) (omega arith)))
         | inr marked ↦
             number_long 10 BadSignedLeb128 signed_in_range s (omega (arith, is.inside))
-            (λ k h. below_more (λ k. 128 ≤ slice_index s.bytes k) count is.marked (omega (arith, is.last)) k (omega arith))
+            (λ k h. below_more (λ k. 128 ≤ slice_index s.bytes k) count is.marked (omega (arith, is.byte)) k (omega arith))
       ]
     ]
 
@@ -134,17 +136,17 @@ cast_minus m n p sum less fits =
     rw (test, same) (sym (difference n p less))
 
 -- the value by a sum below 2^63
-pub signed_plus : (s t : Stretch) (low last count : ℕ) → IsGroups s 10 low last count → last < 64 → (count ≡ 9 → last ≡ 0) → t ≡ behind (count + 1) s → signed_at s ≡ Ok (cast_signed w64 (low + (128 ^ count * last) % 2 ^ 64), t)
-signed_plus s t low last count is plus zero left =
-    let size : low + 128 ^ count * last < 2 ^ 63 = plus_fits low last count is.below plus is.count zero in
+pub signed_plus : (s t : Stretch) (low last count : ℕ) → AreGroups 10 s low last count t → last < 64 → (count ≡ 9 → last ≡ 0) → signed_at s ≡ Ok (cast_signed w64 (low + (128 ^ count * last) % 2 ^ 64), t)
+signed_plus s t low last count is plus zero =
+    let size : low + 128 ^ count * last < 2 ^ 63 = plus_fits low last count is.below plus is.within zero in
     let whole : (128 ^ count * last) % 2 ^ 64 ≡ 128 ^ count * last = omega arith in
     rw (whole, cast_plus (low + 128 ^ count * last) size)
-    (signed_here s t low last count (pos (low + 128 ^ count * last)) is (omega arith) left
-    (in_range (take (count + 1) s.bytes) (pos (low + 128 ^ count * last)) (value_plus s low last count is plus) (fits_range (low + 128 ^ count * last) size)))
+    (signed_here s t low last count (pos (low + 128 ^ count * last)) is (omega arith)
+    (in_range (take (count + 1) s.bytes) (pos (low + 128 ^ count * last)) (value_plus s t low last count is plus) (fits_range (low + 128 ^ count * last) size)))
 
 -- the value by a tenth byte of ones
-pub signed_top : (s t : Stretch) (low last count : ℕ) → IsGroups s 10 low last count → count ≡ 9 → last ≡ 127 → t ≡ behind (count + 1) s → signed_at s ≡ Ok (cast_signed w64 (low + (128 ^ count * last) % 2 ^ 64), t)
-signed_top s t low last count is nine ones left =
+pub signed_top : (s t : Stretch) (low last count : ℕ) → AreGroups 10 s low last count t → count ≡ 9 → last ≡ 127 → signed_at s ≡ Ok (cast_signed w64 (low + (128 ^ count * last) % 2 ^ 64), t)
+signed_top s t low last count is nine ones =
     let power : 128 ^ count ≡ 128 ^ 9 = ap (λ (k : ℕ). 128 ^ k) nine in
     let scaled : 128 ^ count * last ≡ 128 ^ 9 * last = ap (λ (k : ℕ). k * last) power in
     let next : 128 ^ (count + 1) ≡ 128 ^ 10 = ap (λ (k : ℕ). 128 ^ (k + 1)) nine in
@@ -152,19 +154,19 @@ signed_top s t low last count is nine ones left =
     let over : 128 ^ count * last ≡ 128 ^ 9 * 127 = omega arith in
     let rest : (128 ^ count * last) % 2 ^ 64 ≡ 2 ^ 63 = rw over refl in
     rw (rest, cast_minus (low + 2 ^ 63) (low + 128 ^ count * last) (128 ^ (count + 1)) (omega arith) (omega arith) (omega arith))
-    (signed_here s t low last count (pos (low + 128 ^ count * last) -ℤ pos (128 ^ (count + 1))) is (omega arith) left
-    (in_range (take (count + 1) s.bytes) (pos (low + 128 ^ count * last) -ℤ pos (128 ^ (count + 1))) (value_minus s low last count is (omega arith) (omega arith))
+    (signed_here s t low last count (pos (low + 128 ^ count * last) -ℤ pos (128 ^ (count + 1))) is (omega arith)
+    (in_range (take (count + 1) s.bytes) (pos (low + 128 ^ count * last) -ℤ pos (128 ^ (count + 1))) (value_minus s t low last count is (omega arith) (omega arith))
     (fits_below (low + 128 ^ count * last) (128 ^ (count + 1)) (omega arith) (omega arith))))
 
 -- the value by a sum and the weight of its sign
-pub signed_minus : (s t : Stretch) (low last count : ℕ) → IsGroups s 10 low last count → count < 9 → 64 ≤ last → last < 128 → t ≡ behind (count + 1) s → signed_at s ≡ Ok (cast_signed w64 ((low + (128 ^ count * last) % 2 ^ 64 + (2 ^ 64 - 128 ^ (count + 1))) % 2 ^ 64), t)
-signed_minus s t low last count is less minus end left =
+pub signed_minus : (s t : Stretch) (low last count : ℕ) → AreGroups 10 s low last count t → count < 9 → 64 ≤ last → last < 128 → signed_at s ≡ Ok (cast_signed w64 ((low + (128 ^ count * last) % 2 ^ 64 + (2 ^ 64 - 128 ^ (count + 1))) % 2 ^ 64), t)
+signed_minus s t low last count is less minus end =
     let group : Room low last count = room low last count is.below end (omega arith) in
     let whole : (128 ^ count * last) % 2 ^ 64 ≡ 128 ^ count * last = omega (arith, group.below, group.fits) in
     let rest : (low + 128 ^ count * last + (2 ^ 64 - 128 ^ (count + 1))) % 2 ^ 64 ≡ low + 128 ^ count * last + (2 ^ 64 - 128 ^ (count + 1)) = omega (arith, group.below, group.fits) in
     rw (whole, rest, cast_minus (low + 128 ^ count * last + (2 ^ 64 - 128 ^ (count + 1))) (low + 128 ^ count * last) (128 ^ (count + 1)) (omega (arith, group.below, group.fits)) (omega (arith, group.below)) (omega (arith, group.below, group.fits)))
-    (signed_here s t low last count (pos (low + 128 ^ count * last) -ℤ pos (128 ^ (count + 1))) is end left
-    (in_range (take (count + 1) s.bytes) (pos (low + 128 ^ count * last) -ℤ pos (128 ^ (count + 1))) (value_minus s low last count is minus end)
+    (signed_here s t low last count (pos (low + 128 ^ count * last) -ℤ pos (128 ^ (count + 1))) is end
+    (in_range (take (count + 1) s.bytes) (pos (low + 128 ^ count * last) -ℤ pos (128 ^ (count + 1))) (value_minus s t low last count is minus end)
     (fits_below (low + 128 ^ count * last) (128 ^ (count + 1)) (omega (arith, group.below)) (omega (arith, group.below, group.fits)))))
 
 -- the weight of the sign
@@ -174,14 +176,14 @@ weight_is count less =
     rw (seven_bits (count + 1)) (omega arith)
 
 -- the tenth byte isn't marked
-pub end_of_tenth : (s : Stretch) (low last count : ℕ) → IsGroups s 10 low last count → (count ≡ 9 → (last ≡ 0) ⊎ (last ≡ 127)) → last < 128
-end_of_tenth s low last count is top = end_of_groups s 10 low last count 128 is (omega arith) (λ h. elim (top (omega arith)) [ inl zero ↦ omega arith | inr ones ↦ omega arith ])
+pub end_of_tenth : (s t : Stretch) (low last count : ℕ) → AreGroups 10 s low last count t → (count ≡ 9 → (last ≡ 0) ⊎ (last ≡ 127)) → last < 128
+end_of_tenth s t low last count is top = end_of_groups 10 s t low last count 128 is (omega arith) (λ h. elim (top (omega arith)) [ inl zero ↦ omega arith | inr ones ↦ omega arith ])
 
 -- the value by a sum alone
-pub signed_sum : (s t : Stretch) (low last count : ℕ) → IsGroups s 10 low last count → (count ≡ 9 → (last ≡ 0) ⊎ (last ≡ 127)) → (count ≡ 9) ⊎ (last < 64) → t ≡ behind (count + 1) s → signed_at s ≡ Ok (cast_signed w64 (low + (128 ^ count * last) % 2 ^ 64), t)
-signed_sum s t low last count is top (inr plus) left =
-    signed_plus s t low last count is plus (λ nine. elim (top nine) [ inl zero ↦ zero | inr ones ↦ absurd (omega arith) ]) left
-signed_sum s t low last count is top (inl nine) left = elim (top nine) [
-  | inl zero ↦ signed_plus s t low last count is (omega arith) (λ h. zero) left
-  | inr ones ↦ signed_top s t low last count is nine ones left
+pub signed_sum : (s t : Stretch) (low last count : ℕ) → AreGroups 10 s low last count t → (count ≡ 9 → (last ≡ 0) ⊎ (last ≡ 127)) → (count ≡ 9) ⊎ (last < 64) → signed_at s ≡ Ok (cast_signed w64 (low + (128 ^ count * last) % 2 ^ 64), t)
+signed_sum s t low last count is top (inr plus) =
+    signed_plus s t low last count is plus (λ nine. elim (top nine) [ inl zero ↦ zero | inr ones ↦ absurd (omega arith) ])
+signed_sum s t low last count is top (inl nine) = elim (top nine) [
+  | inl zero ↦ signed_plus s t low last count is (omega arith) (λ h. zero)
+  | inr ones ↦ signed_top s t low last count is nine ones
 ]

@@ -1,5 +1,5 @@
 -- Numbers of variable length, byte by byte.
-use Rattle.std.proofs.Common.{◌≡◌, ℕ, zero, suc, ◌+◌, ◌-◌, ◌*◌, ◌%◌, ◌^◌, ◌<◌, ◌≤◌, List, [], ◌∷◌, length, take, drop, slice_index, true, false, Option, Some, None, Ok, Err, nat_lt, nat_le, refl, ap, sym, ◌∙◌, arith, add-one, add-zero, get_or, length-drop}
+use Rattle.std.proofs.Common.{◌≡◌, ℕ, zero, suc, ◌+◌, ◌-◌, ◌*◌, ◌%◌, ◌^◌, ◌<◌, ◌≤◌, List, [], ◌∷◌, length, take, drop, slice_index, Bool, true, false, cond, Option, Some, None, Ok, Err, nat_lt, nat_le, refl, ap, sym, ◌∙◌, arith, add-one, add-zero, get_or, length-drop}
 use Rattle.std.proofs.lemmas.Bool.Decides.{nat_tests}
 use Rattle.std.proofs.lemmas.List.{get_or-drop, get_or-take, length-take-le}
 use Rattle.std.proofs.lemmas.Nat.{pow-add}
@@ -70,6 +70,18 @@ first_read s b t h =
       byte = sym (ap (λ (p : ℕ × Stretch). p.0) is);
       left = sym (ap (λ (p : ℕ × Stretch). p.1) is);
     }
+
+-- .. and isn't there
+pub byte_missing : (s : Stretch) (i : ℕ) (e : Error) → byte_at (behind i s) ≡ Err e → (length s.bytes ≤ i) × (e ≡ ends_at (s.place + i))
+byte_missing s i e h =
+    let size : length (drop i s.bytes) ≡ length s.bytes - i = length-drop i s.bytes in
+    let is = refused_by (nat_lt (length (drop i s.bytes)) 1) (ends_at (s.place + i)) e (slice_index (drop i s.bytes) 0, behind 1 (behind i s)) h in
+    let test = is.0 in
+    (grind (arith, nat_tests), is.1)
+  where
+    refused_by : {A : Type 0} (test : Bool) (x e : Error) (y : A) → cond test (Err x) (Ok y) ≡ Err e → (test ≡ true) × (e ≡ x)
+    refused_by true x e y h = (refl, cc)
+    refused_by false x e y h = absurd (cc)
 
 -- the string at the front ends with the byte at i
 pub string_found : (bs : List ℕ) (i n : ℕ) → i < n → i < length bs → ((k : ℕ) → k < i → 128 ≤ slice_index bs k) → slice_index bs i < 128 → string_of (take n bs) ≡ Some (take (i + 1) bs)

@@ -41,9 +41,13 @@ unsigned_below k string = if nat_lt (unsigned_value string) (2 ^ k) then Some (u
 abbrev pub signed_in_range : List ℕ → Option ℤ
 signed_in_range string = if int_le (neg_ℤ (pos (2 ^ 63))) (signed_value string) && int_lt (signed_value string) (pos (2 ^ 63)) then Some (signed_value string) else None
 
+-- an unsigned number of at most n bytes that fits k bits
+abbrev pub unsigned_within : ℕ → ℕ → Stretch → Result (ℕ × Stretch) Error
+unsigned_within n k s = leb128_within n BadUnsignedLeb128 (unsigned_below k) s (string_of (take n s.bytes))
+
 -- an unsigned number of at most ten bytes that fits 64 bits
 abbrev pub unsigned_at : Stretch → Result (ℕ × Stretch) Error
-unsigned_at s = leb128_within 10 BadUnsignedLeb128 (unsigned_below 64) s (string_of (take 10 s.bytes))
+unsigned_at s = unsigned_within 10 64 s
 
 -- a signed number of at most ten bytes that fits 64 bits
 abbrev pub signed_at : Stretch → Result (ℤ × Stretch) Error
@@ -51,11 +55,14 @@ signed_at s = leb128_within 10 BadSignedLeb128 signed_in_range s (string_of (tak
 
 -- an unsigned number of at most three bytes that fits 16 bits, as registers are read
 abbrev pub unsigned_16_at : Stretch → Result (ℕ × Stretch) Error
-unsigned_16_at s = leb128_within 3 BadUnsignedLeb128 (unsigned_below 16) s (string_of (take 3 s.bytes))
+unsigned_16_at s = unsigned_within 3 16 s
 
 -- an unsigned number that fits 32 bits too
 abbrev pub unsigned_32_at : Stretch → Result (ℕ × Stretch) Error
-unsigned_32_at s = unsigned_at s >>= λ n. requirement (nat_lt n.0 (2 ^ 32)) BadUnsignedLeb128 >>= λ _. Ok n
+unsigned_32_at s = do
+  n ← unsigned_at s
+  _ ← requirement (nat_lt n.0 (2 ^ 32)) BadUnsignedLeb128
+  Ok n
 
 -- what is left behind the bytes that decide: the first n, or all where there are fewer
 abbrev pub left_by_leb128 : ℕ → Stretch → Stretch

@@ -4,6 +4,7 @@ pub mod Offset
 pub mod Remainder
 pub mod Leb128
 pub mod InitialLength
+pub mod Groups
 pub mod EndianSlice
 pub mod Spelling
 pub mod Unsigned

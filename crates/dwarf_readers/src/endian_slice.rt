@@ -261,6 +261,7 @@ impl<'a, E: Endianity> Reader for EndianSlice<'a, E> {
         EndianSlice::to_string_lossy(self, alloc)
     }
 
+    #[inline(always)]
     fn read_u8(&mut self) -> Result<u8> {
         if self.slice.is_empty() {
             return Err(Error::UnexpectedEof(self.offset_id()));

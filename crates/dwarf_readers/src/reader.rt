@@ -288,6 +288,7 @@ pub trait Reader: Debug + Copy {
     }
 
     /// Reads an unsigned number of at most ten bytes.
+    #[inline(always)]
     final fn read_uleb128(&mut self) -> Result<u64>
     where
         Self: Sized,
@@ -314,6 +315,7 @@ pub trait Reader: Debug + Copy {
     }
 
     /// Reads an unsigned number of at most three bytes that fits 16 bits.
+    #[inline(always)]
     final fn read_uleb128_u16(&mut self) -> Result<u16>
     where
         Self: Sized,
@@ -325,6 +327,7 @@ pub trait Reader: Debug + Copy {
     }
 
     /// Reads a signed number of at most ten bytes.
+    #[inline(always)]
     final fn read_sleb128(&mut self) -> Result<i64>
     where
         Self: Sized,

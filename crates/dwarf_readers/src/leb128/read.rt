@@ -1,8 +1,9 @@
 //! Reading of numbers of variable length.
 
-ghost use Rattle.std.specs.Prelude.{◌≡◌, ◌≢◌, ◌≤◌, ◌<◌, ◌+◌, ◌^◌, ◌⊎◌, ℕ, length, take, slice_index, IfOk, IfErr, OnErr, OnOk};
-ghost use Rattle.dwarf_readers.specs.Leb128.{behind_string, left_by_leb128, signed_at, string_of, unsigned_16_at, unsigned_at, unsigned_value};
-ghost use Rattle.dwarf_readers.specs.Place.{Moves, Reads, behind, end_of, ends_at};
+ghost use Rattle.std.specs.Prelude.{◌≡◌, ◌≤◌, ◌<◌, ◌+◌, ◌*◌, ◌^◌, length, IfOk, IfErr, OnErr, OnOk};
+ghost use Rattle.dwarf_readers.specs.Groups.{AreGroups, EndsInGroups};
+ghost use Rattle.dwarf_readers.specs.Leb128.{behind_string, left_by_leb128, signed_at, string_of, unsigned_16_at, unsigned_at, unsigned_within};
+ghost use Rattle.dwarf_readers.specs.Place.{Moves, Reads, behind};
 
 use crate::reader::Reader;
 use dwarf_constants::{Error, Result};
@@ -18,21 +19,13 @@ struct Groups {
 }
 
 // Reads a number's bytes, at most `most`.
+#[inline(always)]
 fn read_groups<R: Reader>(r: &mut R, most: u32) -> Result<Groups>
     requires some { 1 ≤ most }
     requires fits { most ≤ 10 }
-    ensures count { IfOk result (λ x. x.count < most) }
-    ensures inside { IfOk result (λ x. x.count < length (R.stretch r.old).bytes) }
-    ensures marked { IfOk result (λ x. (k : ℕ) → k < x.count → 128 ≤ slice_index (R.stretch r.old).bytes k) }
-    ensures low { IfOk result (λ x. x.low ≡ unsigned_value (take x.count (R.stretch r.old).bytes)) }
-    ensures below { IfOk result (λ x. x.low < 128 ^ x.count) }
-    ensures last { IfOk result (λ x. x.last ≡ slice_index (R.stretch r.old).bytes x.count) }
-    ensures ends { IfOk result (λ x. 128 ≤ x.last → x.count + 1 ≡ most) }
-    ensures left { IfOk result (λ x. R.stretch r.new ≡ behind (x.count + 1) (R.stretch r.old)) }
-    ensures eof { IfErr result (λ e. e ≡ ends_at (end_of (R.stretch r.old))) }
-    ensures short { OnErr result (length (R.stretch r.old).bytes < most) }
-    ensures open { OnErr result ((k : ℕ) → k < length (R.stretch r.old).bytes → 128 ≤ slice_index (R.stretch r.old).bytes k) }
-    ensures all { OnErr result (R.stretch r.new ≡ behind (length (R.stretch r.old).bytes) (R.stretch r.old)) }
+    ensures groups { IfOk result (λ x.
+        AreGroups most (R.stretch r.old) x.low x.last x.count (R.stretch r.new)) }
+    ensures missing { IfErr result (λ e. EndsInGroups most (R.stretch r.old) e (R.stretch r.new)) }
 {
     let mut low = 0;
     let mut count = 0;
@@ -54,37 +47,53 @@ pub fn skip<R: Reader>(r: &mut R) -> Result<()>
     Ok(())
 }
 
-/// Reads an unsigned number of at most ten bytes. Fails with `BadUnsignedLeb128` where there is none
-/// in the next ten bytes that fits 64 bits.
-pub fn unsigned<R: Reader>(r: &mut R) -> Result<u64>
-    ensures read { Reads result (unsigned_at (R.stretch r.old)) (R.stretch r.new) }
+// Reads an unsigned number of at most `most` bytes that fits `bits` bits. Fewer bytes than `most`
+// always fit.
+#[inline(always)]
+fn read_unsigned<R: Reader>(r: &mut R, most: u32, bits: u32) -> Result<u64>
+    requires some { 1 ≤ bits }
+    requires word { bits ≤ 64 }
+    requires enough { bits ≤ 7 * most }
+    requires needed { 7 * most < bits + 7 }
+    ensures read { Reads result (unsigned_within most bits (R.stretch r.old)) (R.stretch r.new) }
+    ensures below { IfOk result (λ value. value < 2 ^ bits) }
     ensures shorter { OnOk result (length (R.stretch r.new).bytes < length (R.stretch r.old).bytes) }
-    ensures refused { OnErr result (R.stretch r.new ≡ left_by_leb128 10 (R.stretch r.old)) }
+    ensures refused { OnErr result (R.stretch r.new ≡ left_by_leb128 most (R.stretch r.old)) }
 {
-    let groups = read_groups(r, 10)?;
-    if groups.count == 9 && groups.last > 1 {
+    // What the last byte of `most` has to be below.
+    let limit = 1u8 << (bits - 7 * (most - 1));
+    let groups = read_groups(r, most)?;
+    if groups.count + 1 == most && groups.last >= limit {
         return Err(Error::BadUnsignedLeb128);
     }
     Ok(groups.low + (u64::from(groups.last) << (7 * groups.count)))
 }
 
+/// Reads an unsigned number of at most ten bytes. Fails with `BadUnsignedLeb128` where there is none
+/// in the next ten bytes that fits 64 bits.
+#[inline(always)]
+pub fn unsigned<R: Reader>(r: &mut R) -> Result<u64>
+    ensures read { Reads result (unsigned_at (R.stretch r.old)) (R.stretch r.new) }
+    ensures shorter { OnOk result (length (R.stretch r.new).bytes < length (R.stretch r.old).bytes) }
+    ensures refused { OnErr result (R.stretch r.new ≡ left_by_leb128 10 (R.stretch r.old)) }
+{
+    read_unsigned(r, 10, 64)
+}
+
 /// Reads an unsigned number of at most three bytes, as register numbers, tags and attributes are
 /// read. Fails with `BadUnsignedLeb128` where there is none in the next three bytes that fits 16 bits.
+#[inline(always)]
 pub fn u16<R: Reader>(r: &mut R) -> Result<u16>
     ensures read { Reads result (unsigned_16_at (R.stretch r.old)) (R.stretch r.new) }
     ensures shorter { OnOk result (length (R.stretch r.new).bytes < length (R.stretch r.old).bytes) }
     ensures refused { OnErr result (R.stretch r.new ≡ left_by_leb128 3 (R.stretch r.old)) }
 {
-    let groups = read_groups(r, 3)?;
-    if groups.count == 2 && groups.last > 3 {
-        return Err(Error::BadUnsignedLeb128);
-    }
-    let value = groups.low + (u64::from(groups.last) << (7 * groups.count));
-    Ok(value as u16)
+    Ok(read_unsigned(r, 3, 16)? as u16)
 }
 
 /// Reads a signed number of at most ten bytes. Fails with `BadSignedLeb128` where there is none in
 /// the next ten bytes that fits 64 bits.
+#[inline(always)]
 pub fn signed<R: Reader>(r: &mut R) -> Result<i64>
     ensures read { Reads result (signed_at (R.stretch r.old)) (R.stretch r.new) }
     ensures shorter { OnOk result (length (R.stretch r.new).bytes < length (R.stretch r.old).bytes) }

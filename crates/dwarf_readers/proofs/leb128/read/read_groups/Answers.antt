@@ -1,6 +1,7 @@
-use Rattle.std.proofs.Common.{◌≡◌, ◌≤◌, ◌+◌, ◌*◌, ◌%◌, ◌^◌, ℕ, slice_index, ap, sym, ◌∙◌, arith, below_more}
-use Rattle.dwarf_readers.specs.Place.{byte_at}
-use Rattle.dwarf_readers.proofs.Strings.{ByteRead, Room, byte_read, room, value_more}
+use Rattle.std.proofs.Common.{◌≡◌, ◌≤◌, ◌+◌, ◌*◌, ◌%◌, ◌^◌, ℕ, length, slice_index, ap, sym, ◌∙◌, arith, below_more}
+use Rattle.std.proofs.lemmas.Result.{err_from_is_err_and}
+use Rattle.dwarf_readers.specs.Place.{behind, byte_at, ends_at}
+use Rattle.dwarf_readers.proofs.Strings.{ByteRead, Room, byte_missing, byte_read, room, value_more}
 use Rattle.dwarf_readers.proofs.leb128.read.read_groups.Goals as goal
 
 pub overflow_add-low : goal.overflow_add-low
@@ -27,3 +28,18 @@ loop-last-preserved g c =
       last = read.byte;
       left = read.left;
     }
+
+pub returns-in_err-last-2-clause-missing : goal.returns-in_err-last-2-clause-missing
+returns-in_err-last-2-clause-missing g c =
+    let s = g.R.Reader.stretch c.args.r.now in
+    let invariant = c.loop-last.invariant in
+    let count = c.loop-last.count in
+    let e = err_from_is_err_and c.from_residual-in_err-last-2.result c.from_residual-in_err-last-2.ensures.1 in
+    let missing = byte_missing s (count + 1) _ (sym (ap byte_at invariant.left) ∙ c.in_err-last-2.ensures.read) in
+    let size : count + 1 ≡ length s.bytes = omega (arith, missing.0, invariant.inside) in
+    rw (e.1, e.2) (record {
+      few = omega (arith, c.if-count-most.true);
+      marked = λ k h. below_more (λ k. 128 ≤ slice_index s.bytes k) count invariant.marked (omega (arith, invariant.last)) k (omega arith);
+      eof = missing.1 ∙ ap (λ (i : ℕ). ends_at (s.place + i)) size;
+      rest = c.in_err-last-2.ensures.unchanged ∙ invariant.left ∙ ap (λ (i : ℕ). behind i s) size;
+    })
