@@ -1,5 +1,5 @@
 -- What the decoded commands are, without where they lie in memory.
-use Rattle.std.specs.Prelude.{List, map, option_map, Result, Ok, Err, string_bytes}
+use Rattle.std.specs.Prelude.{◌≡◌, List, map, option_map, Result, Ok, Err, string_bytes}
 use Rattle.unwind_commands.specs.declared.document.command.Command.{Command}
 use Rattle.unwind_commands.specs.declared.document.command.Command.TheVariants as commands
 use Rattle.unwind_commands.specs.declared.document.command.Load.{Load}
@@ -7,9 +7,8 @@ use Rattle.unwind_commands.specs.declared.document.command.Section.{Section}
 use Rattle.unwind_commands.specs.declared.document.command.Stack.{Stack}
 use Rattle.unwind_commands.specs.declared.document.command.Step.{Step}
 use Rattle.unwind_commands.specs.declared.document.made.Made as memory
-use Rattle.unwind_commands.specs.declared.document.fault.Fault.{Fault}
-use Rattle.unwind_commands.specs.declared.document.fault.DecodeError.{DecodeError}
-use Rattle.unwind_commands.specs.declared.document.fault.DecodeError.TheVariants as errors
+use Rattle.unwind_commands.specs.declared.document.fault.Refusal.{Refusal}
+use Rattle.unwind_commands.specs.declared.document.fault.Refusal.TheVariants as refusal
 use Rattle.unwind_commands.specs.Commands.{SectionData, Loading, Words, Stepping, Task, Made, make_unwinder, make_cache, load_module, take_step}
 
 -- the value as f sees it, or the same error
@@ -69,7 +68,8 @@ tasks_of cs = map task_of cs
 abbrev pub made_view : memory.Made → Made
 made_view m = record { loaded = m.loaded.items; caches = m.caches }
 
--- what a fault asks, and nothing where memory ran out
-abbrev pub OnFault : DecodeError → (Fault → Type 0) → Type 0
-OnFault (errors.Fault f) P = P f
-OnFault errors.OutOfMemory P = Unit {0}
+-- what a call answers, seen by a view, is what is decoded or the fault of it, and may be anything where memory ran out
+abbrev pub Decodes : {A B F : Type 0} → (A → B) → Result A (Refusal F) → Result B F → Type 0
+Decodes view (Ok value) decoded = decoded ≡ Ok (view value)
+Decodes view (Err (refusal.Fault fault)) decoded = decoded ≡ Err fault
+Decodes view (Err refusal.OutOfMemory) decoded = Unit {0}

@@ -3,6 +3,10 @@ use Rattle.std.specs.Prelude.{ℕ, List, ◌++◌, codes, decimal, nat_le, if◌
 use Rattle.unwind_commands.specs.declared.document.fault.FaultName.{FaultName}
 use Rattle.unwind_commands.specs.declared.document.fault.FaultName.TheVariants.{TooLong, NotJson, FloatNumber, BadDocument, BadCommand, BadNumber, BadHex, UnknownNumber}
 use Rattle.unwind_commands.specs.declared.document.fault.Fault.{Fault}
+use Rattle.unwind_commands.specs.declared.document.fault.Refusal.{Refusal}
+use Rattle.unwind_commands.specs.declared.document.fault.Refusal.TheVariants as refusal
+use Rattle.std.specs.declared.alloc.AllocError.{AllocError}
+use Rattle.std.specs.Allocator.{alloc_error}
 
 -- the place of a fault in the order of the classes
 abbrev pub class : FaultName → ℕ
@@ -35,6 +39,18 @@ abbrev pub ◌⊛◌ : {A B : Type 0} → Checked (A → B) → Checked A → Ch
 (Ok f) ⊛ (Err b) = Err b
 (Err a) ⊛ (Ok x) = Err a
 (Err a) ⊛ (Err b) = Err (first_fault a b)
+
+-- what the check of a unit answers: a fault is that of the unit of this number
+abbrev pub unit_answer : {A : Type 0} → ℕ → Result A (Refusal FaultName) → Result A (Refusal Fault)
+unit_answer number (Ok value) = Ok value
+unit_answer number (Err (refusal.Fault name)) = Err (refusal.Fault (record { name = name; number = number }))
+unit_answer number (Err refusal.OutOfMemory) = Err refusal.OutOfMemory
+
+-- a fault waits to be weighed with others, want of memory does not
+abbrev pub weighed : {A : Type 0} → Result A (Refusal FaultName) → Result (Checked A) AllocError
+weighed (Ok value) = Ok (Ok value)
+weighed (Err (refusal.Fault name)) = Ok (Err name)
+weighed (Err refusal.OutOfMemory) = Err alloc_error
 
 -- both values, or the fault that counts
 abbrev pub both : {A B : Type 0} → Checked A → Checked B → Checked (A × B)

@@ -1,9 +1,10 @@
 //! The document: JSON text in, typed commands or the first fault out.
-ghost use Rattle.std.specs.Prelude.{◌≡◌, IfErr, IfOk};
+ghost use Rattle.std.specs.Prelude.{◌≡◌, IfOk, ok_or};
 ghost use Rattle.serde_json.specs.View.{items_view, members_view, view};
 ghost use Rattle.unwind_commands.specs.Document.{have_own_float, commands_from, decoded, document_in, has_float_outside, few_commands, is_supported, json_of, nothing_made, has_own_float, is_text};
 ghost use Rattle.unwind_commands.specs.Commands.{AreSound};
-ghost use Rattle.unwind_commands.specs.CommandViews.{OnFault, result_map, tasks_of};
+ghost use Rattle.unwind_commands.specs.CommandViews.{Decodes, result_map, tasks_of};
+ghost use Rattle.unwind_commands.specs.declared.document.fault.FaultName.TheVariants.{NotJson};
 
 mod address;
 mod command;
@@ -16,8 +17,8 @@ mod step;
 
 use command::command_in;
 pub use command::{AddressRange, Command, FrameKind, Load, Section, Stack, Step};
-use fault::Checked;
-pub use fault::{DecodeError, Fault, FaultName};
+use fault::{Checked, in_unit};
+pub use fault::{Fault, FaultName, Refusal};
 use field::has_only;
 use float::has_float;
 use made::{Made, add};
@@ -108,21 +109,14 @@ fn document_in(document: &Value) -> Checked<&Vec<Value>>
     if !is_supported(document) {
         return Err(FaultName::BadDocument);
     }
-    match document.get("commands") {
-        Some(value) => match value.as_array() {
-            Some(items) => few_commands(items),
-            None => Err(FaultName::BadDocument),
-        },
-        None => Err(FaultName::BadDocument),
-    }
+    let commands = document.get("commands").ok_or(FaultName::BadDocument)?;
+    few_commands(commands.as_array().ok_or(FaultName::BadDocument)?)
 }
 
 /// The commands, or the first fault among them.
-fn commands(alloc: Global, items: &Vec<Value>) -> Result<Vec<Command>, DecodeError>
-    ensures ok { IfOk result (λ v. commands_from 1 nothing_made (items_view items.now.items)
-        ≡ Ok (tasks_of v.items)) }
-    ensures err { IfErr result (λ e. OnFault e
-        (λ f. commands_from 1 nothing_made (items_view items.now.items) ≡ Err f)) }
+fn commands(alloc: Global, items: &Vec<Value>) -> Result<Vec<Command>, Refusal<Fault>>
+    ensures { Decodes (λ commands. tasks_of commands.items) result
+        (commands_from 1 nothing_made (items_view items.now.items)) }
 {
     let mut made = Made {
         loaded: Vec::new(alloc),
@@ -131,29 +125,23 @@ fn commands(alloc: Global, items: &Vec<Value>) -> Result<Vec<Command>, DecodeErr
     let mut commands = Vec::new(alloc);
     let mut number: u64 = 1;
     for item in items {
-        match command_in(alloc, item, &made)? {
-            Ok(command) => {
-                add(&mut made, &command)?;
-                commands.push(command)?;
-            }
-            Err(name) => return Err(DecodeError::Fault(Fault { name, number })),
-        }
+        let command = in_unit(number, command_in(alloc, item, &made))?;
+        add(&mut made, &command)?;
+        commands.push(command)?;
         number += 1;
     }
     Ok(commands)
 }
 
 /// The JSON value that bytes spell.
-fn read(alloc: Global, text: &[u8]) -> Result<Value, DecodeError>
-    ensures ok { IfOk result (λ d. json_of text.now ≡ Some (view d)) }
-    ensures err { IfErr result (λ e. OnFault e (λ f. (json_of text.now ≡ None)
-        × (f ≡ record { name = FaultName.NotJson; number = 0 }))) }
+fn read(alloc: Global, text: &[u8]) -> Result<Value, Refusal<FaultName>>
+    ensures { Decodes view result (ok_or (json_of text.now) NotJson) }
 {
     match Value::from_slice(alloc, text) {
         Ok(document) => Ok(document),
         Err(e) => match e.classify() {
-            Category::Memory => Err(DecodeError::OutOfMemory),
-            _ => Err(DecodeError::Fault(Fault::of_document(FaultName::NotJson))),
+            Category::Memory => Err(Refusal::OutOfMemory),
+            _ => Err(Refusal::Fault(FaultName::NotJson)),
         },
     }
 }
@@ -162,19 +150,16 @@ fn read(alloc: Global, text: &[u8]) -> Result<Value, DecodeError>
 /// with the fields `arch`, `policy` and `commands`. Unit 0 is the document itself, and the
 /// commands count from 1. The units are checked one after the other, and of the faults of a
 /// unit the one of the first class counts. Memory may run out on any document.
-pub fn decode(alloc: Global, text: &[u8]) -> Result<Vec<Command>, DecodeError>
-    ensures ok { IfOk result (λ v. decoded text.now ≡ Ok (tasks_of v.items)) }
-    ensures err { IfErr result (λ e. OnFault e (λ f. decoded text.now ≡ Err f)) }
+pub fn decode(alloc: Global, text: &[u8]) -> Result<Vec<Command>, Refusal<Fault>>
+    ensures decoded { Decodes (λ commands. tasks_of commands.items) result (decoded text.now) }
 
     // What a command names was made by those before it.
-    ensures sound { IfOk result (λ v. AreSound nothing_made (tasks_of v.items)) }
+    ensures sound { IfOk result (λ commands. AreSound nothing_made (tasks_of commands.items)) }
 {
     if text.len() > MAX_LEN {
-        return Err(DecodeError::Fault(Fault::of_document(FaultName::TooLong)));
+        return Err(Refusal::Fault(Fault::of_document(FaultName::TooLong)));
     }
-    let document = read(alloc, text)?;
-    match document_in(&document) {
-        Ok(items) => commands(alloc, items),
-        Err(name) => Err(DecodeError::Fault(Fault::of_document(name))),
-    }
+    let document = in_unit(0, read(alloc, text))?;
+    let items = document_in(&document).map_err(Fault::of_document)?;
+    commands(alloc, items)
 }

@@ -6,7 +6,7 @@ ghost use Rattle.unwind_commands.specs.Numbered.{AreNumbered};
 ghost use Rattle.unwind_commands.specs.Stream.{AppendsFront};
 ghost use Rattle.unwind_commands.specs.CommandViews.{tasks_of};
 
-use crate::document::{Command, DecodeError, decode};
+use crate::document::{Command, Refusal, decode};
 use crate::instances::Instances;
 use crate::status::{Outcome, RunError};
 use crate::stream::{Sink, Source};
@@ -52,12 +52,12 @@ fn answer<W: Sink>(alloc: Global, document: &[u8], writer: &mut W) -> Result<Out
             run_commands(alloc, commands, writer)?;
             Ok(Outcome::Completed)
         }
-        Err(DecodeError::Fault(fault)) => {
+        Err(Refusal::Fault(fault)) => {
             let line = format!(in alloc; "{fault}\n")?;
             write_all(writer, line.as_bytes())?;
             Ok(Outcome::Faulted)
         }
-        Err(DecodeError::OutOfMemory) => Err(RunError::OutOfMemory),
+        Err(Refusal::OutOfMemory) => Err(RunError::OutOfMemory),
     }
 }
 

@@ -1,10 +1,14 @@
 -- Laws of checks: which fault counts, and checks of values that lie in memory.
-use Rattle.std.proofs.Common.{◌≡◌, List, [], ◌∷◌, ◌++◌, Option, Some, None, Ok, Err, refl, sym, ap, ◌∙◌, arith, append_assoc}
+use Rattle.std.proofs.Common.{◌≡◌, ℕ, List, [], ◌∷◌, ◌++◌, Option, Some, None, Result, Ok, Err, refl, sym, ap, subst, ◌∙◌, arith, append_assoc}
+use Rattle.std.specs.Prelude.{IsErrAnd}
 use Rattle.std.proofs.lemmas.List.{append-nil}
 use Rattle.std.proofs.lemmas.Bool.Decides.{nat_tests}
 use Rattle.unwind_commands.specs.declared.document.fault.FaultName.{FaultName}
-use Rattle.unwind_commands.specs.Faults.{Checked, first_fault, with_fault, ◌⊛◌, both}
-use Rattle.unwind_commands.specs.CommandViews.{result_map}
+use Rattle.unwind_commands.specs.Faults.{Checked, first_fault, with_fault, unit_answer, weighed, ◌⊛◌, both}
+use Rattle.unwind_commands.specs.declared.document.fault.Refusal.{Refusal}
+use Rattle.unwind_commands.specs.declared.document.fault.Refusal.TheVariants as refusal
+use Rattle.unwind_commands.specs.CommandViews.{Decodes, result_map}
+use Rattle.unwind_commands.specs.Document.{in_unit}
 
 -- two checks of values in memory are the checks of what the values show
 pub both-views : {A B C D : Type 0} (f : A → C) (g : B → D) (a : Checked A) (b : Checked B)
@@ -21,6 +25,10 @@ pub ⊛-both : {A B C : Type 0} (f : A → B → C) (a : Checked A) (b : Checked
 ⊛-both f (Ok a) (Err n) = refl
 ⊛-both f (Err m) (Ok b) = refl
 ⊛-both f (Err m) (Err n) = refl
+
+-- equal values of checks
+pub ok_is : {A E : Type 0} (x y : A) → ◌≡◌ {A = Result A E} (Ok x) (Ok y) → x ≡ y
+ok_is x y is = cc
 
 -- ---- lists
 
@@ -59,6 +67,47 @@ joined-bad (Some m) xs name (Err n) = ap (λ f. Err f) (sym (first_fault-assoc m
 pub joined-end : {A : Type 0} (checked : Checked (List A)) → joined checked (Ok []) ≡ checked
 joined-end (Ok xs) = ap (λ zs. Ok zs) (append-nil xs)
 joined-end (Err n) = refl
+
+-- ---- refusals
+
+-- what was weighed is what is decoded
+pub weighed-decoded : {A B : Type 0} (view : A → B) (answer : Result A (Refusal FaultName)) (checked : Checked A) (decoded : Checked B)
+    → Decodes view answer decoded → weighed answer ≡ Ok checked → result_map view checked ≡ decoded
+weighed-decoded view (Ok value) checked decoded is same = ap (result_map view) (sym (ok_is _ _ same)) ∙ sym is
+weighed-decoded view (Err (refusal.Fault name)) checked decoded is same = ap (result_map view) (sym (ok_is _ _ same)) ∙ sym is
+weighed-decoded view (Err refusal.OutOfMemory) checked decoded is same = absurd cc
+
+-- a fault that ends the check, as it is passed on
+pub passed_on : {A B : Type 0} (view : A → B) (answer : Result A (Refusal FaultName)) (name : FaultName) (decoded : Checked B)
+    → IsErrAnd answer (λ given. given ≡ refusal.Fault name) → Err name ≡ decoded → Decodes view answer decoded
+passed_on view (Ok value) name decoded given is = absurd given
+passed_on view (Err given) name decoded same is = subst (λ r. Decodes view (Err r) decoded) (sym same) (sym is)
+
+-- a refusal that ends the check, as it is passed on
+pub same_refusal : {A B F : Type 0} (view : A → B) (answer : Result A (Refusal F)) (why : Refusal F) (decoded : Result B F)
+    → IsErrAnd answer (λ given. given ≡ why) → Decodes view (Err why) decoded → Decodes view answer decoded
+same_refusal view (Ok value) why decoded given is = absurd given
+same_refusal view (Err given) why decoded same is = subst (λ r. Decodes view (Err r) decoded) (sym same) is
+
+-- what the check of a unit answers
+pub unit_answer-decoded : {A B : Type 0} (view : A → B) (n : ℕ) (answer : Result A (Refusal FaultName)) (decoded : Checked B)
+    → Decodes view answer decoded → Decodes view (unit_answer n answer) (in_unit n decoded)
+unit_answer-decoded view n (Ok value) decoded is = ap (in_unit n) is
+unit_answer-decoded view n (Err (refusal.Fault name)) decoded is = ap (in_unit n) is
+unit_answer-decoded view n (Err refusal.OutOfMemory) decoded is = tt
+
+-- a unit's value is what is decoded
+pub unit_answer-good : {A B : Type 0} (view : A → B) (n : ℕ) (answer : Result A (Refusal FaultName)) (decoded : Checked B) (value : A)
+    → Decodes view answer decoded → unit_answer n answer ≡ Ok value → decoded ≡ Ok (view value)
+unit_answer-good view n (Ok given) decoded value is same = is ∙ ap (λ v. Ok (view v)) (ok_is _ _ same)
+unit_answer-good view n (Err (refusal.Fault name)) decoded value is same = absurd cc
+unit_answer-good view n (Err refusal.OutOfMemory) decoded value is same = absurd cc
+
+-- the same, where no memory is taken
+pub same_fault : {A : Type 0} (answer : Checked A) (name : FaultName) (decoded : Checked A)
+    → IsErrAnd answer (λ given. given ≡ name) → Err name ≡ decoded → answer ≡ decoded
+same_fault (Ok value) name decoded given is = absurd given
+same_fault (Err given) name decoded same is = ap (λ n. Err n) same ∙ is
 
 -- ---- several fields
 

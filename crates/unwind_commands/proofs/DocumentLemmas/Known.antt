@@ -7,9 +7,9 @@ use Rattle.serde_json.specs.Data.{Data, Items, no_items, item}
 use Rattle.serde_json.specs.Written.{has_float}
 use Rattle.unwind_commands.specs.declared.document.fault.FaultName.TheVariants.{FloatNumber, BadCommand, BadNumber, UnknownNumber}
 use Rattle.unwind_commands.specs.declared.document.fault.Fault.{Fault}
-use Rattle.unwind_commands.specs.declared.document.fault.DecodeError.{DecodeError}
+use Rattle.unwind_commands.specs.declared.document.fault.Refusal.{Refusal}
 use Rattle.unwind_commands.specs.declared.document.command.Command.{Command}
-use Rattle.unwind_commands.specs.CommandViews.{tasks_of}
+use Rattle.unwind_commands.specs.CommandViews.{Decodes, tasks_of}
 use Rattle.unwind_commands.specs.declared.document.command.FrameKind.{FrameKind}
 use Rattle.unwind_commands.specs.declared.document.command.FrameKind.TheVariants.{Ip, Ra}
 use Rattle.unwind_commands.specs.declared.document.command.Verb.{Verb}
@@ -19,6 +19,7 @@ use Rattle.unwind_commands.specs.Json.{field, text_in, address_in, number_in, ha
 use Rattle.serde_json.specs.Find.{get}
 use Rattle.unwind_commands.specs.Commands.{Made, Task, make_unwinder, make_cache, load_module, take_step, Stepping, Loading, Words, IsSound, IsSoundStep, AreSound, kind_in, words_in, registers_in, sections_in, made_number, stepping_of, loading_of, stack_names, step_names, load_names, number_below, frame_at, frame_in, stack_at, stack_in, step_in, free_unwinder, unwinder_to_load, load_in, verb_in, task_in, command_in, made_after}
 use Rattle.unwind_commands.specs.Document.{in_unit, with_task, commands_from, nothing_made}
+use Rattle.unwind_commands.proofs.DocumentLemmas.Checks.{ok_is}
 
 -- ---- what a check that holds was made of
 
@@ -46,9 +47,6 @@ last_ok (Ok g) (Ok a) y is = (g, a, refl, refl, cc)
 last_ok (Ok g) (Err n) y is = absurd cc
 last_ok (Err m) (Ok a) y is = absurd cc
 last_ok (Err m) (Err n) y is = absurd cc
-
-ok_is : {A E : Type 0} (x y : A) → ◌≡◌ {A = Result A E} (Ok x) (Ok y) → x ≡ y
-ok_is x y is = cc
 
 -- the fields of a step gave values, and the step is made of these
 five_ok : {A B C D E F : Type 0} (f : A → B → C → D → E → F) (a : Checked A) (b : Checked B) (c : Checked C) (d : Checked D) (e : Checked E) (y : F)
@@ -194,7 +192,8 @@ commands_sound n made (item d ds) ts is =
     (command_sound made d s.0 (unit_ok n (command_in made d) s.0 s.1), commands_sound (n + 1) (made_after made s.0) ds w.0 w.1)
 
 -- the commands that a call returned are sound
-pub returned_sound : (r : Result (Vec Command Global) DecodeError) (ds : Items) → IfOk r (λ v. commands_from 1 nothing_made ds ≡ Ok (tasks_of v.items))
-    → IfOk r (λ v. AreSound nothing_made (tasks_of v.items))
-returned_sound (Ok v) ds is = commands_sound 1 nothing_made ds (tasks_of v.items) is
-returned_sound (Err e) ds is = tt
+pub returned_sound : (r : Result (Vec Command Global) (Refusal Fault)) (ds : Items)
+    → Decodes (λ commands. tasks_of commands.items) r (commands_from 1 nothing_made ds)
+    → IfOk r (λ commands. AreSound nothing_made (tasks_of commands.items))
+returned_sound (Ok commands) ds is = commands_sound 1 nothing_made ds (tasks_of commands.items) is
+returned_sound (Err refusal) ds is = tt

@@ -1,5 +1,5 @@
 -- The fields of a step.
-use Rattle.std.proofs.Common.{◌≡◌, ℕ, Bool, true, cond, Ok, sym, ap, ◌∙◌}
+use Rattle.std.proofs.Common.{◌≡◌, ℕ, List, Bool, true, cond, Ok, Vec, Global, sym, ap, ◌∙◌}
 use Rattle.unwind_commands.specs.declared.document.command.FrameKind.{FrameKind}
 use Rattle.unwind_commands.specs.declared.document.command.Stack.{Stack}
 use Rattle.unwind_commands.specs.declared.document.step.Registers.{Registers}
@@ -22,6 +22,15 @@ three_registers ip sp bp one two a b c ip_is sp_is bp_is one_is two_is =
     and-field (λ p. registers p.0 p.1) (λ v. v) one bp two _ c
     (and-field registers (λ v. v) ip sp one _ b (first-field registers (λ v. v) ip a (as_it_is ip a ip_is)) (as_it_is sp b sp_is) one_is)
     (as_it_is bp c bp_is) two_is
+
+abbrev pub Numbers : Type 0
+Numbers = Vec ℕ Global
+
+pub two_fields : (start : Checked ℕ) (words : Checked Numbers) (one : Checked (ℕ × Numbers)) (S : Checked ℕ) (W : Checked (List ℕ))
+    → start ≡ S → result_map (λ v. v.items) words ≡ W → one ≡ both start words
+    → result_map (λ p. (p.0, p.1.items)) one ≡ both S W
+two_fields start words one S W start_is words_is one_is =
+    and-field (λ x y. (x, y)) (λ v. v.items) start words one _ W (first-field (λ x y. (x, y)) (λ v. v) start S (as_it_is start S start_is)) words_is one_is
 
 pub five_fields : (u c : Checked ℕ) (f : Checked (FrameKind × ℕ)) (r : Checked Registers) (s : Checked Stack)
     (one : Checked (ℕ × ℕ)) (two : Checked ((ℕ × ℕ) × (FrameKind × ℕ))) (three : Checked (((ℕ × ℕ) × (FrameKind × ℕ)) × Registers))

@@ -5,6 +5,9 @@ use Rattle.unwind_commands.specs.declared.document.fault.FaultName.TheVariants.{
 use Rattle.serde_json.specs.Data.{Data, Items, item}
 use Rattle.unwind_commands.specs.declared.document.fault.FaultName.{FaultName}
 use Rattle.unwind_commands.specs.declared.document.fault.Fault.{Fault}
+use Rattle.unwind_commands.specs.declared.document.fault.Refusal.{Refusal}
+use Rattle.unwind_commands.specs.declared.document.fault.Refusal.TheVariants as refusal
+use Rattle.unwind_commands.specs.CommandViews.{Decodes}
 use Rattle.unwind_commands.specs.Faults.{Checked, ◌>>=◌}
 use Rattle.unwind_commands.specs.Commands.{Task, Made, command_in, made_after}
 use Rattle.unwind_commands.specs.Document.{commands_from, in_unit, with_task, decoded, document_in, json_of, max_len, nothing_made}
@@ -41,6 +44,13 @@ behind-step all done later n made next d ds task is good makes more =
 pub behind-fault : (tasks : List Task) (n : ℕ) (made : Made) (d : Data) (ds : Items) (name : FaultName) → command_in made d ≡ Err name
     → behind tasks (commands_from n made (item d ds)) ≡ Err (record { name = name; number = n })
 behind-fault tasks n made d ds name bad = ap (λ r. behind tasks (go_on n made ds r)) bad
+
+-- one command is refused
+pub behind-refused : {A B : Type 0} (seen : A → Task) (view : B → List Task) (all : Result (List Task) Fault) (tasks : List Task) (n : ℕ) (made : Made) (d : Data) (ds : Items) (why : Refusal Fault)
+    → all ≡ behind tasks (commands_from n made (item d ds)) → Decodes seen (Err why) (in_unit n (command_in made d)) → Decodes view (Err why) all
+behind-refused seen view all tasks n made d ds (refusal.Fault fault) is bad =
+    is ∙ ap (λ r. behind tasks (r >>= λ task. with_task task (commands_from (n + 1) (made_after made task) ds))) bad
+behind-refused seen view all tasks n made d ds refusal.OutOfMemory is bad = tt
 
 -- ---- the whole document
 

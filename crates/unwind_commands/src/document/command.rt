@@ -1,18 +1,18 @@
 //! The commands of a document.
-ghost use Rattle.std.specs.Prelude.{◌≡◌, IfOk, codes};
+ghost use Rattle.std.specs.Prelude.{◌≡◌, codes};
 ghost use Rattle.serde_json.specs.View.{view};
 ghost use Rattle.unwind_commands.specs.Commands.{command_in, task_in, verb_in};
 ghost use Rattle.unwind_commands.specs.Json.{field};
-ghost use Rattle.unwind_commands.specs.CommandViews.{made_view, result_map, task_of};
+ghost use Rattle.unwind_commands.specs.CommandViews.{Decodes, made_view, task_of};
 
-use super::fault::{Checked, FaultName};
+use super::fault::{Checked, FaultName, Refusal};
 use super::field::{has_only, text_field};
 use super::float::has_float;
 use super::load::load_in;
 use super::made::Made;
 use super::step::step_in;
 use serde_json::Value;
-use std::alloc::{AllocError, Global};
+use std::alloc::Global;
 
 /// A command of a document.
 #[derive(Debug, Drop)]
@@ -120,31 +120,15 @@ fn task_in(
     object: &Value,
     verb: Verb,
     made: &Made,
-) -> Result<Checked<Command>, AllocError>
-    ensures { IfOk result (λ r. result_map task_of r
-        ≡ task_in (made_view made.now) (view object.now) verb) }
+) -> Result<Command, Refusal<FaultName>>
+    ensures { Decodes task_of result (task_in (made_view made.now) (view object.now) verb) }
 {
     match verb {
-        Verb::Unwinder => {
-            if !has_only(object, &["do"]) {
-                return Ok(Err(FaultName::BadCommand));
-            }
-            Ok(Ok(Command::Unwinder))
-        }
-        Verb::Cache => {
-            if !has_only(object, &["do"]) {
-                return Ok(Err(FaultName::BadCommand));
-            }
-            Ok(Ok(Command::Cache))
-        }
-        Verb::Load => match load_in(alloc, object, made)? {
-            Ok(load) => Ok(Ok(Command::Load(load))),
-            Err(name) => Ok(Err(name)),
-        },
-        Verb::Step => match step_in(alloc, object, made)? {
-            Ok(step) => Ok(Ok(Command::Step(step))),
-            Err(name) => Ok(Err(name)),
-        },
+        Verb::Unwinder if has_only(object, &["do"]) => Ok(Command::Unwinder),
+        Verb::Cache if has_only(object, &["do"]) => Ok(Command::Cache),
+        Verb::Unwinder | Verb::Cache => Err(Refusal::Fault(FaultName::BadCommand)),
+        Verb::Load => Ok(Command::Load(load_in(alloc, object, made)?)),
+        Verb::Step => Ok(Command::Step(step_in(alloc, object, made)?)),
     }
 }
 
@@ -153,15 +137,11 @@ pub(crate) fn command_in(
     alloc: Global,
     value: &Value,
     made: &Made,
-) -> Result<Checked<Command>, AllocError>
-    ensures { IfOk result (λ r. result_map task_of r
-        ≡ command_in (made_view made.now) (view value.now)) }
+) -> Result<Command, Refusal<FaultName>>
+    ensures { Decodes task_of result (command_in (made_view made.now) (view value.now)) }
 {
     if has_float(value) {
-        return Ok(Err(FaultName::FloatNumber));
+        return Err(Refusal::Fault(FaultName::FloatNumber));
     }
-    match verb_field(value) {
-        Ok(verb) => task_in(alloc, value, verb, made),
-        Err(name) => Ok(Err(name)),
-    }
+    task_in(alloc, value, verb_field(value)?, made)
 }

@@ -1,6 +1,6 @@
 //! The faults of a document.
 ghost use Rattle.std.specs.Prelude.{◌≡◌};
-ghost use Rattle.unwind_commands.specs.Faults.{class, first_fault, both, fault_name, with_fault};
+ghost use Rattle.unwind_commands.specs.Faults.{class, first_fault, both, fault_name, unit_answer, weighed, with_fault};
 
 use std::alloc::{AllocError, AllocFailed};
 use std::fmt;
@@ -103,32 +103,52 @@ impl fmt::Display for Fault {
     }
 }
 
-/// Why a document is not decoded.
-#[derive(Debug, Drop)]
-pub enum DecodeError {
-    /// It has a fault, and this is the first.
-    Fault(Fault),
+/// Why there is no value.
+#[derive(Clone, Copy, Debug, PartialEq, Eq)]
+pub enum Refusal<F> {
+    /// There is a fault.
+    Fault(F),
     /// Memory ran out.
     OutOfMemory,
 }
 
-impl From<AllocError> for DecodeError {
-    ghost use Rattle.unwind_commands.specs.declared.document.fault.DecodeError.TheVariants.{OutOfMemory};
+impl From<FaultName> for Refusal<FaultName> {
+    ghost use Rattle.unwind_commands.specs.declared.document.fault.Refusal.TheVariants as refusal;
 
-    ghost from_gives = { λ _ e. e ≡ OutOfMemory };
+    ghost from_gives = { λ name given. given ≡ refusal.Fault name };
 
-    fn from(_e: AllocError) -> DecodeError {
-        DecodeError::OutOfMemory
+    fn from(name: FaultName) -> Refusal<FaultName> {
+        Refusal::Fault(name)
     }
 }
 
-impl<T: Drop> From<AllocFailed<T>> for DecodeError {
-    ghost use Rattle.unwind_commands.specs.declared.document.fault.DecodeError.TheVariants.{OutOfMemory};
+impl From<Fault> for Refusal<Fault> {
+    ghost use Rattle.unwind_commands.specs.declared.document.fault.Refusal.TheVariants as refusal;
 
-    ghost from_gives = { λ _ e. e ≡ OutOfMemory };
+    ghost from_gives = { λ fault given. given ≡ refusal.Fault fault };
 
-    fn from(_e: AllocFailed<T>) -> DecodeError {
-        DecodeError::OutOfMemory
+    fn from(fault: Fault) -> Refusal<Fault> {
+        Refusal::Fault(fault)
+    }
+}
+
+impl<F> From<AllocError> for Refusal<F> {
+    ghost use Rattle.unwind_commands.specs.declared.document.fault.Refusal.TheVariants.{OutOfMemory};
+
+    ghost from_gives = { λ _ refusal. refusal ≡ OutOfMemory };
+
+    fn from(_error: AllocError) -> Refusal<F> {
+        Refusal::OutOfMemory
+    }
+}
+
+impl<F, T: Drop> From<AllocFailed<T>> for Refusal<F> {
+    ghost use Rattle.unwind_commands.specs.declared.document.fault.Refusal.TheVariants.{OutOfMemory};
+
+    ghost from_gives = { λ _ refusal. refusal ≡ OutOfMemory };
+
+    fn from(_error: AllocFailed<T>) -> Refusal<F> {
+        Refusal::OutOfMemory
     }
 }
 
@@ -154,5 +174,30 @@ pub(crate) fn with_fault(fault: Option<FaultName>, name: FaultName) -> Option<Fa
     match fault {
         None => Some(name),
         Some(first) => Some(first.first_fault(name)),
+    }
+}
+
+/// What the check of a unit answers: its fault is that unit's.
+pub(crate) fn in_unit<T>(
+    number: u64,
+    answer: Result<T, Refusal<FaultName>>,
+) -> Result<T, Refusal<Fault>>
+    ensures { result ≡ unit_answer number answer }
+{
+    match answer {
+        Ok(value) => Ok(value),
+        Err(Refusal::Fault(name)) => Err(Refusal::Fault(Fault { name, number })),
+        Err(Refusal::OutOfMemory) => Err(Refusal::OutOfMemory),
+    }
+}
+
+/// Want of memory ends a check at once. A fault waits, to be weighed with those of other fields.
+pub(crate) fn weighed<T>(answer: Result<T, Refusal<FaultName>>) -> Result<Checked<T>, AllocError>
+    ensures { result ≡ weighed answer }
+{
+    match answer {
+        Ok(value) => Ok(Ok(value)),
+        Err(Refusal::Fault(name)) => Ok(Err(name)),
+        Err(Refusal::OutOfMemory) => Err(AllocError),
     }
 }

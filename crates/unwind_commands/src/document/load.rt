@@ -4,10 +4,10 @@ ghost use Rattle.serde_json.specs.Find.{as_str, get};
 ghost use Rattle.serde_json.specs.View.{view, items_view};
 ghost use Rattle.unwind_commands.specs.Json.{bytes_in, list_of, field, optional_value, text_in};
 ghost use Rattle.unwind_commands.specs.Commands.{are_distinct, is_refused, load_in, names_of, range_between, section_in, section_name_in, sections_in, unwinder_to_load};
-ghost use Rattle.unwind_commands.specs.CommandViews.{load_view, made_view, result_map, section_view, sections_view};
+ghost use Rattle.unwind_commands.specs.CommandViews.{Decodes, load_view, made_view, section_view, sections_view};
 
 use super::command::{AddressRange, Load, Section};
-use super::fault::{Checked, FaultName, both, with_fault};
+use super::fault::{Checked, FaultName, Refusal, both, weighed, with_fault};
 use super::field::{
     address_field, address_in, has_only, needed, number_field, text_field, text_in,
 };
@@ -37,19 +37,15 @@ fn is_refused(name: &str) -> bool
 }
 
 /// The name of a section.
-fn section_name(alloc: Global, object: &Value) -> Result<Checked<String>, AllocError>
-    ensures { IfOk result (λ r. result_map (λ s. string_bytes s) r
-        ≡ field section_name_in (codes "name") (view object.now)) }
+fn section_name(alloc: Global, object: &Value) -> Result<String, Refusal<FaultName>>
+    ensures { Decodes string_bytes result
+        (field section_name_in (codes "name") (view object.now)) }
 {
-    match text_field(object, "name") {
-        Ok(text) => {
-            if is_refused(text) {
-                return Ok(Err(FaultName::BadCommand));
-            }
-            Ok(Ok(String::from_str(alloc, text)?))
-        }
-        Err(name) => Ok(Err(name)),
+    let text = text_field(object, "name")?;
+    if is_refused(text) {
+        return Err(Refusal::Fault(FaultName::BadCommand));
     }
+    Ok(String::from_str(alloc, text)?)
 }
 
 /// The addresses of a start with its end, or neither.
@@ -68,47 +64,40 @@ fn range_in(object: &Value) -> Checked<Option<AddressRange>>
 }
 
 /// The bytes that a text spells, two hexadecimal digits each.
-fn bytes_in(alloc: Global, value: &Value) -> Result<Checked<Vec<u8>>, AllocError>
-    ensures { IfOk result (λ r. result_map (λ b. b.items) r ≡ bytes_in (view value.now)) }
+fn bytes_in(alloc: Global, value: &Value) -> Result<Vec<u8>, Refusal<FaultName>>
+    ensures { Decodes (λ bytes. bytes.items) result (bytes_in (view value.now)) }
 {
-    match text_in(value) {
-        Ok(text) => match hex::decode(alloc, text.as_bytes()) {
-            Ok(bytes) => Ok(Ok(bytes)),
-            Err(FromHexError::OutOfMemory) => Err(AllocError),
-            Err(_) => Ok(Err(FaultName::BadHex)),
-        },
-        Err(name) => Ok(Err(name)),
+    let text = text_in(value)?;
+    match hex::decode(alloc, text.as_bytes()) {
+        Ok(bytes) => Ok(bytes),
+        Err(FromHexError::OutOfMemory) => Err(Refusal::OutOfMemory),
+        Err(_) => Err(Refusal::Fault(FaultName::BadHex)),
     }
 }
 
 /// The bytes of a section, where it has some.
-fn bytes_field(alloc: Global, object: &Value) -> Result<Checked<Option<Vec<u8>>>, AllocError>
-    ensures { IfOk result (λ r. result_map (option_map (λ b. b.items)) r
-        ≡ optional_value bytes_in (get (codes "data") (view object.now))) }
+fn bytes_field(alloc: Global, object: &Value) -> Result<Option<Vec<u8>>, Refusal<FaultName>>
+    ensures { Decodes (option_map (λ bytes. bytes.items)) result
+        (optional_value bytes_in (get (codes "data") (view object.now))) }
 {
     match object.get("data") {
-        Some(value) => match bytes_in(alloc, value)? {
-            Ok(bytes) => Ok(Ok(Some(bytes))),
-            Err(name) => Ok(Err(name)),
-        },
-        None => Ok(Ok(None)),
+        Some(value) => Ok(Some(bytes_in(alloc, value)?)),
+        None => Ok(None),
     }
 }
 
 /// A value that has to be a section.
-fn section_in(alloc: Global, value: &Value) -> Result<Checked<Section>, AllocError>
-    ensures { IfOk result (λ r. result_map section_view r ≡ section_in (view value.now)) }
+fn section_in(alloc: Global, value: &Value) -> Result<Section, Refusal<FaultName>>
+    ensures { Decodes section_view result (section_in (view value.now)) }
 {
     if !has_only(value, &["name", "start", "end", "data"]) {
-        return Ok(Err(FaultName::BadCommand));
+        return Err(Refusal::Fault(FaultName::BadCommand));
     }
-    let name = section_name(alloc, value)?;
+    let name = weighed(section_name(alloc, value))?;
     let range = range_in(value);
-    let bytes = bytes_field(alloc, value)?;
-    match both(both(name, range), bytes) {
-        Ok(((name, range), bytes)) => Ok(Ok(Section { name, range, bytes })),
-        Err(name) => Ok(Err(name)),
-    }
+    let bytes = weighed(bytes_field(alloc, value))?;
+    let ((name, range), bytes) = both(both(name, range), bytes)?;
+    Ok(Section { name, range, bytes })
 }
 
 /// The name of a section, where it has one.
@@ -138,49 +127,42 @@ fn are_distinct(alloc: Global, items: &Vec<Value>) -> Result<bool, AllocError>
 }
 
 /// Each element has to be a section.
-fn sections(alloc: Global, items: &Vec<Value>) -> Result<Checked<Vec<Section>>, AllocError>
-    ensures { IfOk result (λ r. result_map (λ v. sections_view v.items) r
-        ≡ list_of section_in (items_view items.now.items)) }
+fn sections(alloc: Global, items: &Vec<Value>) -> Result<Vec<Section>, Refusal<FaultName>>
+    ensures { Decodes (λ sections. sections_view sections.items) result
+        (list_of section_in (items_view items.now.items)) }
 {
     let mut sections = Vec::new(alloc);
     let mut fault = None;
     for item in items {
-        match section_in(alloc, item)? {
+        match weighed(section_in(alloc, item))? {
             Ok(section) => sections.push(section)?,
             Err(name) => fault = with_fault(fault, name),
         }
     }
     match fault {
-        None => Ok(Ok(sections)),
-        Some(name) => Ok(Err(name)),
+        None => Ok(sections),
+        Some(name) => Err(Refusal::Fault(name)),
     }
 }
 
 /// A value that has to be a list of sections, of which no two have one name.
-fn sections_in(alloc: Global, value: &Value) -> Result<Checked<Vec<Section>>, AllocError>
-    ensures { IfOk result (λ r. result_map (λ v. sections_view v.items) r
-        ≡ sections_in (view value.now)) }
+fn sections_in(alloc: Global, value: &Value) -> Result<Vec<Section>, Refusal<FaultName>>
+    ensures { Decodes (λ sections. sections_view sections.items) result
+        (sections_in (view value.now)) }
 {
-    match value.as_array() {
-        Some(items) => {
-            if !are_distinct(alloc, items)? {
-                return Ok(Err(FaultName::BadCommand));
-            }
-            sections(alloc, items)
-        }
-        None => Ok(Err(FaultName::BadCommand)),
+    let items = value.as_array().ok_or(FaultName::BadCommand)?;
+    if !are_distinct(alloc, items)? {
+        return Err(Refusal::Fault(FaultName::BadCommand));
     }
+    sections(alloc, items)
 }
 
 /// The sections of a module.
-fn sections_field(alloc: Global, object: &Value) -> Result<Checked<Vec<Section>>, AllocError>
-    ensures { IfOk result (λ r. result_map (λ v. sections_view v.items) r
-        ≡ field sections_in (codes "sections") (view object.now)) }
+fn sections_field(alloc: Global, object: &Value) -> Result<Vec<Section>, Refusal<FaultName>>
+    ensures { Decodes (λ sections. sections_view sections.items) result
+        (field sections_in (codes "sections") (view object.now)) }
 {
-    match needed(object, "sections") {
-        Ok(value) => sections_in(alloc, value),
-        Err(name) => Ok(Err(name)),
-    }
+    sections_in(alloc, needed(object, "sections")?)
 }
 
 /// The unwinder that the module is for, which has none yet.
@@ -199,14 +181,10 @@ fn unwinder_to_load(object: &Value, made: &Made) -> Checked<usize>
 }
 
 /// The name of a module.
-fn module_name(alloc: Global, object: &Value) -> Result<Checked<String>, AllocError>
-    ensures { IfOk result (λ r. result_map (λ s. string_bytes s) r
-        ≡ field text_in (codes "name") (view object.now)) }
+fn module_name(alloc: Global, object: &Value) -> Result<String, Refusal<FaultName>>
+    ensures { Decodes string_bytes result (field text_in (codes "name") (view object.now)) }
 {
-    match text_field(object, "name") {
-        Ok(text) => Ok(Ok(String::from_str(alloc, text)?)),
-        Err(name) => Ok(Err(name)),
-    }
+    Ok(String::from_str(alloc, text_field(object, "name")?)?)
 }
 
 /// A module for an unwinder that an earlier command made and that has none.
@@ -214,9 +192,8 @@ pub(crate) fn load_in(
     alloc: Global,
     object: &Value,
     made: &Made,
-) -> Result<Checked<Load>, AllocError>
-    ensures { IfOk result (λ r. result_map load_view r
-        ≡ load_in (made_view made.now) (view object.now)) }
+) -> Result<Load, Refusal<FaultName>>
+    ensures { Decodes load_view result (load_in (made_view made.now) (view object.now)) }
 {
     let names = [
         "do",
@@ -229,26 +206,27 @@ pub(crate) fn load_in(
         "sections",
     ];
     if !has_only(object, &names) {
-        return Ok(Err(FaultName::BadCommand));
+        return Err(Refusal::Fault(FaultName::BadCommand));
     }
     let unwinder = unwinder_to_load(object, made);
-    let name = module_name(alloc, object)?;
+    let name = weighed(module_name(alloc, object))?;
     let start = address_field(object, "start");
     let end = address_field(object, "end");
     let base = address_field(object, "base");
     let base_svma = address_field(object, "base_svma");
-    let sections = sections_field(alloc, object)?;
+    let sections = weighed(sections_field(alloc, object))?;
     let front = both(both(both(unwinder, name), start), end);
-    match both(both(both(front, base), base_svma), sections) {
-        Ok(((((((unwinder, name), start), end), base), base_svma), sections)) => Ok(Ok(Load {
-            unwinder,
-            name,
-            start,
-            end,
-            base,
-            base_svma,
-            sections,
-        })),
-        Err(name) => Ok(Err(name)),
-    }
+    let ((((((unwinder, name), start), end), base), base_svma), sections) = both(
+        both(both(front, base), base_svma),
+        sections,
+    )?;
+    Ok(Load {
+        unwinder,
+        name,
+        start,
+        end,
+        base,
+        base_svma,
+        sections,
+    })
 }

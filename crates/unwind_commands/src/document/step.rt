@@ -1,16 +1,16 @@
 //! Steps.
-ghost use Rattle.std.specs.Prelude.{◌≡◌, codes, IfOk};
+ghost use Rattle.std.specs.Prelude.{◌≡◌, codes};
 ghost use Rattle.serde_json.specs.View.{view, items_view};
 ghost use Rattle.unwind_commands.specs.Json.{address_in, list_of, field};
 ghost use Rattle.unwind_commands.specs.Commands.{made_number, kind_in, frame_in, registers_in, words_in, stack_at, stack_in, step_in};
-ghost use Rattle.unwind_commands.specs.CommandViews.{result_map, words_view, step_view, made_view};
+ghost use Rattle.unwind_commands.specs.CommandViews.{Decodes, result_map, words_view, step_view, made_view};
 
 use super::command::{FrameKind, Stack, Step};
-use super::fault::{Checked, FaultName, both, with_fault};
+use super::fault::{Checked, FaultName, Refusal, both, weighed, with_fault};
 use super::field::{address_field, address_in, has_only, needed, number_field, text_field};
 use super::made::Made;
 use serde_json::Value;
-use std::alloc::{AllocError, Global};
+use std::alloc::Global;
 
 /// The registers of a step.
 #[derive(Clone, Copy, Debug, PartialEq, Eq)]
@@ -64,10 +64,8 @@ fn registers_in(value: &Value) -> Checked<Registers>
     let ip = address_field(value, "ip");
     let sp = address_field(value, "sp");
     let bp = address_field(value, "bp");
-    match both(both(ip, sp), bp) {
-        Ok(((ip, sp), bp)) => Ok(Registers { ip, sp, bp }),
-        Err(name) => Err(name),
-    }
+    let ((ip, sp), bp) = both(both(ip, sp), bp)?;
+    Ok(Registers { ip, sp, bp })
 }
 
 /// The registers of a step.
@@ -78,19 +76,16 @@ fn registers_field(object: &Value) -> Checked<Registers>
 }
 
 /// A value that has to be a list of words.
-fn words_in(alloc: Global, value: &Value) -> Result<Checked<Vec<u64>>, AllocError>
-    ensures { IfOk result (λ r. result_map (λ v. v.items) r ≡ words_in (view value.now)) }
+fn words_in(alloc: Global, value: &Value) -> Result<Vec<u64>, Refusal<FaultName>>
+    ensures { Decodes (λ words. words.items) result (words_in (view value.now)) }
 {
-    match value.as_array() {
-        Some(items) => addresses(alloc, items),
-        None => Ok(Err(FaultName::BadCommand)),
-    }
+    addresses(alloc, value.as_array().ok_or(FaultName::BadCommand)?)
 }
 
 /// Each element has to be the text of an address.
-fn addresses(alloc: Global, items: &Vec<Value>) -> Result<Checked<Vec<u64>>, AllocError>
-    ensures { IfOk result (λ r. result_map (λ v. v.items) r
-        ≡ list_of address_in (items_view items.now.items)) }
+fn addresses(alloc: Global, items: &Vec<Value>) -> Result<Vec<u64>, Refusal<FaultName>>
+    ensures { Decodes (λ words. words.items) result
+        (list_of address_in (items_view items.now.items)) }
 {
     let mut addresses = Vec::new(alloc);
     let mut fault = None;
@@ -101,34 +96,29 @@ fn addresses(alloc: Global, items: &Vec<Value>) -> Result<Checked<Vec<u64>>, All
         }
     }
     match fault {
-        None => Ok(Ok(addresses)),
-        Some(name) => Ok(Err(name)),
+        None => Ok(addresses),
+        Some(name) => Err(Refusal::Fault(name)),
     }
 }
 
 /// The words of a stack.
-fn words_field(alloc: Global, object: &Value) -> Result<Checked<Vec<u64>>, AllocError>
-    ensures { IfOk result (λ r. result_map (λ v. v.items) r
-        ≡ field words_in (codes "words") (view object.now)) }
+fn words_field(alloc: Global, object: &Value) -> Result<Vec<u64>, Refusal<FaultName>>
+    ensures { Decodes (λ words. words.items) result
+        (field words_in (codes "words") (view object.now)) }
 {
-    match needed(object, "words") {
-        Ok(value) => words_in(alloc, value),
-        Err(name) => Ok(Err(name)),
-    }
+    words_in(alloc, needed(object, "words")?)
 }
 
 /// A value that has to be a stack.
-fn stack_in(alloc: Global, value: &Value) -> Result<Checked<Stack>, AllocError>
-    ensures { IfOk result (λ r. result_map words_view r ≡ stack_in (view value.now)) }
+fn stack_in(alloc: Global, value: &Value) -> Result<Stack, Refusal<FaultName>>
+    ensures { Decodes words_view result (stack_in (view value.now)) }
 {
     if !has_only(value, &["start", "words"]) {
-        return Ok(Err(FaultName::BadCommand));
+        return Err(Refusal::Fault(FaultName::BadCommand));
     }
-    let words = words_field(alloc, value)?;
-    match both(address_field(value, "start"), words) {
-        Ok((start, words)) => Ok(stack_at(start, words)),
-        Err(name) => Ok(Err(name)),
-    }
+    let words = weighed(words_field(alloc, value))?;
+    let (start, words) = both(address_field(value, "start"), words)?;
+    Ok(stack_at(start, words)?)
 }
 
 /// The words at their addresses, of which the last has to be one too.
@@ -144,14 +134,10 @@ fn stack_at(start: u64, words: Vec<u64>) -> Checked<Stack>
 }
 
 /// The stack of a step.
-fn stack_field(alloc: Global, object: &Value) -> Result<Checked<Stack>, AllocError>
-    ensures { IfOk result (λ r. result_map words_view r
-        ≡ field stack_in (codes "stack") (view object.now)) }
+fn stack_field(alloc: Global, object: &Value) -> Result<Stack, Refusal<FaultName>>
+    ensures { Decodes words_view result (field stack_in (codes "stack") (view object.now)) }
 {
-    match needed(object, "stack") {
-        Ok(value) => stack_in(alloc, value),
-        Err(name) => Ok(Err(name)),
-    }
+    stack_in(alloc, needed(object, "stack")?)
 }
 
 /// A step of an unwinder with a cache that earlier commands made.
@@ -159,9 +145,8 @@ pub(crate) fn step_in(
     alloc: Global,
     object: &Value,
     made: &Made,
-) -> Result<Checked<Step>, AllocError>
-    ensures { IfOk result (λ r. result_map step_view r
-        ≡ step_in (made_view made.now) (view object.now)) }
+) -> Result<Step, Refusal<FaultName>>
+    ensures { Decodes step_view result (step_in (made_view made.now) (view object.now)) }
 {
     if !has_only(
         object,
@@ -169,24 +154,25 @@ pub(crate) fn step_in(
             "do", "unwinder", "cache", "kind", "address", "regs", "stack",
         ],
     ) {
-        return Ok(Err(FaultName::BadCommand));
+        return Err(Refusal::Fault(FaultName::BadCommand));
     }
     let unwinder = made_number(object, "unwinder", made.loaded.len());
     let cache = made_number(object, "cache", made.caches);
     let frame = frame_in(object);
     let registers = registers_field(object);
-    let stack = stack_field(alloc, object)?;
-    match both(both(both(both(unwinder, cache), frame), registers), stack) {
-        Ok(((((unwinder, cache), (kind, address)), registers), stack)) => Ok(Ok(Step {
-            unwinder,
-            cache,
-            kind,
-            address,
-            ip: registers.ip,
-            sp: registers.sp,
-            bp: registers.bp,
-            stack,
-        })),
-        Err(name) => Ok(Err(name)),
-    }
+    let stack = weighed(stack_field(alloc, object))?;
+    let ((((unwinder, cache), (kind, address)), registers), stack) = both(
+        both(both(both(unwinder, cache), frame), registers),
+        stack,
+    )?;
+    Ok(Step {
+        unwinder,
+        cache,
+        kind,
+        address,
+        ip: registers.ip,
+        sp: registers.sp,
+        bp: registers.bp,
+        stack,
+    })
 }

@@ -1,11 +1,28 @@
-use Rattle.std.proofs.Common.{◌+◌, ◌∷◌, [], drop, sym, ap, ◌∙◌, arith}
+use Rattle.std.proofs.Common.{Vec, Global, ◌+◌, ◌∷◌, [], drop, sym, ap, subst, ◌∙◌, arith}
 use Rattle.std.proofs.lemmas.List.{map-append}
 use Rattle.serde_json.specs.View.{view, items_view}
-use Rattle.unwind_commands.specs.Document.{commands_from}
-use Rattle.unwind_commands.specs.CommandViews.{made_view, result_map, task_of, tasks_of}
+use Rattle.unwind_commands.specs.declared.document.command.Command.{Command}
+use Rattle.unwind_commands.specs.Commands.{command_in}
+use Rattle.unwind_commands.specs.Document.{commands_from, in_unit, nothing_made}
+use Rattle.unwind_commands.specs.CommandViews.{Decodes, made_view, task_of, tasks_of}
 use Rattle.unwind_commands.proofs.DocumentLemmas.Lists.{drop-element}
-use Rattle.unwind_commands.proofs.DocumentLemmas.Tasks.{behind, behind-step}
+use Rattle.unwind_commands.proofs.DocumentLemmas.Tasks.{behind, behind-step, behind-refused}
+use Rattle.unwind_commands.proofs.DocumentLemmas.Checks.{same_refusal, unit_answer-decoded, unit_answer-good}
 use Rattle.unwind_commands.proofs.document.commands.Goals as goal
+
+pub returns-in_err-command : goal.returns-in_err-command
+returns-in_err-command c =
+    let l = c.loop-item in
+    let vs = c.deref-item-items.result.now in
+    let rest = items_view (drop (l.item-index + 1) vs) in
+    let done = tasks_of l.commands.items in
+    same_refusal _ _ c.in_err-command.field-0.0 _ c.from_residual.ensures.1
+    (behind-refused task_of (λ (v : Vec Command Global). tasks_of v.items) _ done l.number (made_view l.made) (view c.item-item.result) rest c.in_err-command.field-0.0
+    (sym (ap (λ vs. commands_from 1 nothing_made (items_view vs)) c.deref-item-items.ensures.value) ∙ l.invariant.same
+    ∙ ap (λ ws. behind done (commands_from l.number (made_view l.made) (items_view ws))) (drop-element vs l.item-index c.item-item.result c.loop-item-test.true c.item-item.is))
+    (subst (λ r. Decodes task_of r (in_unit l.number (command_in (made_view l.made) (view c.item-item.result)))) c.in_err-command.was
+    (subst (λ r. Decodes task_of r (in_unit l.number (command_in (made_view l.made) (view c.item-item.result)))) (sym c.in_unit.ensures)
+    (unit_answer-decoded task_of l.number _ _ c.command_in.ensures))))
 
 pub loop-item-preserved : goal.loop-item-preserved
 loop-item-preserved c =
@@ -15,12 +32,12 @@ loop-item-preserved c =
     let done = tasks_of l.commands.items in
     record {
       same =
-          behind-step _ done _ l.number (made_view l.made) _ (view c.item-item.result) rest (task_of c.in-Ok.command)
+          behind-step _ done _ l.number (made_view l.made) _ (view c.item-item.result) rest (task_of c.in_ok-command.command)
           (l.invariant.same
           ∙ ap (λ ws. behind done (commands_from l.number (made_view l.made) (items_view ws))) (drop-element vs l.item-index c.item-item.result c.loop-item-test.true c.item-item.is))
-          (sym c.in_ok-command.ensures ∙ ap (result_map task_of) c.in-Ok.is)
-          c.in_ok-add-in-Ok.ensures.ok
-          (ap tasks_of c.in_ok-push-in-Ok.ensures.items ∙ map-append task_of l.commands.items (c.in-Ok.command ∷ []));
+          (unit_answer-good task_of l.number _ _ _ c.command_in.ensures (sym c.in_unit.ensures ∙ c.in_ok-command.was))
+          c.in_ok-add.ensures.ok
+          (ap tasks_of c.in_ok-push.ensures.items ∙ map-append task_of l.commands.items (c.in_ok-command.command ∷ []));
       counted = omega (arith, l.invariant.counted);
-      few = omega (arith, l.invariant.few, c.in_ok-add-in-Ok.ensures.few);
+      few = omega (arith, l.invariant.few, c.in_ok-add.ensures.few);
     }

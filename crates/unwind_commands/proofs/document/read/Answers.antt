@@ -1,12 +1,16 @@
-use Rattle.std.proofs.Common.{Some}
+use Rattle.std.proofs.Common.{Some, ap}
+use Rattle.std.specs.Prelude.{ok_or}
 use Rattle.serde_json.specs.View.{view}
+use Rattle.unwind_commands.specs.declared.document.fault.FaultName.TheVariants.{NotJson}
 use Rattle.unwind_commands.proofs.DocumentLemmas.Texts.{json_of-utf8, json_of-refused}
 use Rattle.unwind_commands.proofs.document.read.Goals as goal
 
-pub returns-in-Ok-clause-ok : goal.returns-in-Ok-clause-ok
-returns-in-Ok-clause-ok c =
-    json_of-utf8 c.args.text.now (Some (view c.in-Ok.document)) c.in-Ok.ensures.ok.0 c.in-Ok.ensures.ok.1
+pub returns-in-Ok : goal.returns-in-Ok
+returns-in-Ok c =
+    ap (λ d. ok_or d NotJson)
+    (json_of-utf8 c.args.text.now (Some (view c.in-Ok.document)) c.in-Ok.ensures.ok.0 c.in-Ok.ensures.ok.1)
 
-pub returns-in_default-clause-err : goal.returns-in_default-clause-err
-returns-in_default-clause-err c =
-    (json_of-refused c.args.text.now (c.in-Err.ensures.err (λ m. c.in_default.not-Memory (c.classify.ensures.memory.1 m))), c.of_document.ensures)
+pub returns-in_default : goal.returns-in_default
+returns-in_default c =
+    ap (λ d. ok_or d NotJson)
+    (json_of-refused c.args.text.now (c.in-Err.ensures.err (λ m. c.in_default.not-Memory (c.classify.ensures.memory.1 m))))

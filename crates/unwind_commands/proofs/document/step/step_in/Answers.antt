@@ -2,23 +2,28 @@ use Rattle.std.proofs.Common.{sym, ap, ◌∙◌, codes}
 use Rattle.serde_json.specs.View.{view}
 use Rattle.unwind_commands.specs.Commands.{stepping_of, made_number}
 use Rattle.unwind_commands.specs.CommandViews.{result_map, words_view}
+use Rattle.unwind_commands.proofs.DocumentLemmas.Checks.{weighed-decoded, passed_on}
 use Rattle.unwind_commands.proofs.DocumentLemmas.Steps.{under, five_fields}
 use Rattle.unwind_commands.proofs.document.step.step_in.Goals as goal
 
-pub returns-in-Ok : goal.returns-in-Ok
-returns-in-Ok c =
-    under _ _ _ _ (sym c.has_only.ensures ∙ c.if-not-has_only.false)
-    (ap (result_map (λ p. stepping_of p.0.0.0.0 p.0.0.0.1 p.0.0.1 p.0.1 (words_view p.1))) (sym c.in-Ok.is)
+pub returns-in_err-unwinder : goal.returns-in_err-unwinder
+returns-in_err-unwinder c =
+    passed_on _ _ _ _ c.from_residual-in_err-unwinder.ensures.1
+    (under _ _ _ _ (sym c.has_only.ensures ∙ c.if-not-has_only.false)
+    (ap (result_map (λ p. stepping_of p.0.0.0.0 p.0.0.0.1 p.0.0.1 p.0.1 (words_view p.1))) (sym c.in_err-unwinder.was)
     ∙ five_fields _ _ _ _ _ _ _ _ _ _ _ _ _ _
     (c.made_number-unwinder.ensures ∙ ap (λ n. made_number n (codes "unwinder") (view c.args.object.now)) (c.len.ensures ∙ c.args.made.now.loaded.ok.0))
-    c.made_number-cache.ensures c.frame_in-frame.ensures c.registers_field-registers.ensures c.in_ok-stack.ensures
-    c.both.ensures c.both-2.ensures c.both-3.ensures c.both-4.ensures)
+    c.made_number-cache.ensures c.frame_in-frame.ensures c.registers_field-registers.ensures
+    (weighed-decoded _ _ _ _ c.stack_field.ensures (sym c.weighed.ensures ∙ c.in_ok-stack.was))
+    c.both.ensures c.both-2.ensures c.both-3.ensures c.both-4.ensures))
 
-pub returns-in-Err : goal.returns-in-Err
-returns-in-Err c =
-    under _ _ _ _ (sym c.has_only.ensures ∙ c.if-not-has_only.false)
-    (ap (result_map (λ p. stepping_of p.0.0.0.0 p.0.0.0.1 p.0.0.1 p.0.1 (words_view p.1))) (sym c.in-Err.is)
+pub returns : goal.returns
+returns c =
+    sym
+    (under _ _ _ _ (sym c.has_only.ensures ∙ c.if-not-has_only.false)
+    (ap (result_map (λ p. stepping_of p.0.0.0.0 p.0.0.0.1 p.0.0.1 p.0.1 (words_view p.1))) (sym c.in_ok-unwinder.was)
     ∙ five_fields _ _ _ _ _ _ _ _ _ _ _ _ _ _
     (c.made_number-unwinder.ensures ∙ ap (λ n. made_number n (codes "unwinder") (view c.args.object.now)) (c.len.ensures ∙ c.args.made.now.loaded.ok.0))
-    c.made_number-cache.ensures c.frame_in-frame.ensures c.registers_field-registers.ensures c.in_ok-stack.ensures
-    c.both.ensures c.both-2.ensures c.both-3.ensures c.both-4.ensures)
+    c.made_number-cache.ensures c.frame_in-frame.ensures c.registers_field-registers.ensures
+    (weighed-decoded _ _ _ _ c.stack_field.ensures (sym c.weighed.ensures ∙ c.in_ok-stack.was))
+    c.both.ensures c.both-2.ensures c.both-3.ensures c.both-4.ensures))
