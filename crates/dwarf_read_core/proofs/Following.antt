@@ -1,5 +1,5 @@
 -- What is found in a section that more bytes follow.
-use Rattle.std.proofs.Common.{◌≡◌, ℕ, zero, suc, ◌+◌, ◌*◌, ◌<◌, ◌≤◌, List, [], ◌∷◌, ◌++◌, length, ◌==◌, not, ◌&&◌, Bool, true, false, cond, if◌then◌else◌, Option, Some, None, Result, Ok, Err, nat_lt, refl, arith, length-append}
+use Rattle.std.proofs.Common.{◌≡◌, ℕ, zero, suc, ◌+◌, ◌*◌, ◌<◌, ◌≤◌, List, [], ◌∷◌, ◌++◌, length, ◌==◌, not, ◌&&◌, Bool, true, false, cond, if◌then◌else◌, Option, Some, None, option_map, Result, Ok, Err, nat_lt, refl, arith, length-append}
 use Rattle.std.proofs.lemmas.Bool.Decides.{nat_tests}
 use Rattle.std.specs.Prelude.{IsTrue}
 use Rattle.dwarf_constants.specs.Format.{word_size}
@@ -11,6 +11,8 @@ use Rattle.dwarf_read_core.specs.AbbreviationTable.{Attribute, Declaration, attr
 use Rattle.dwarf_read_core.specs.AddressSets.{next_address, next_set, set_at, set_behind}
 use Rattle.dwarf_read_core.specs.ClosedTables.{StaysIf, is_closed_at, is_closed_in, is_closed_within, closes, closes_at}
 use Rattle.dwarf_read_core.specs.Sections.{address_in, entry_in, range_in, string_in, string_offset_in}
+use Rattle.dwarf_read_core.specs.MoreItems.{StaysNext}
+use Rattle.dwarf_readers.specs.Remainder.{item_at}
 use Rattle.dwarf_readers.specs.InitialLength.{address_at, initial_length_at, word_at}
 use Rattle.dwarf_readers.specs.Leb128.{signed_at, unsigned_16_at, unsigned_at}
 use Rattle.dwarf_readers.specs.More.{IsSteady, IsSteadyMove, IsSteadySearch, Stays, StaysAs, extended_stretch}
@@ -62,13 +64,19 @@ next_where false read more s is some same =
     let test : (length (s.bytes ++ more) == 0) ≡ false = grind (arith, nat_tests, length-append) in
     rw test same
 
-pub next_set_stays : (limit offset : ℕ) (more : List ℕ) (s : Stretch) → 0 < length s.bytes → Stays more (next_set limit offset s) (next_set limit offset (extended_stretch more s))
-next_set_stays limit offset more s some = next_where (length s.bytes == 0) (λ (s : Stretch). set_at limit offset s >>= λ set. Ok (Some set.0, set.1)) more s refl some
-    (then_stays more (set_at limit offset s) (set_at limit offset (extended_stretch more s)) (λ set. Ok (Some set.0, set.1)) (set_steady limit offset more s) (λ set left. refl))
+-- the next item where bytes are left
+item_stays : {A : Type 0} (read : Stretch → Result (A × Stretch) Error) (more : List ℕ) (s : Stretch) → 0 < length s.bytes → Stays more (read s) (read (extended_stretch more s)) → StaysNext more (item_at read s) (item_at read (extended_stretch more s))
+item_stays {A = A} read more s some same =
+    let here : (length s.bytes == 0) ≡ false = grind (arith, nat_tests) in
+    let there : (length (s.bytes ++ more) == 0) ≡ false = grind (arith, nat_tests, length-append) in
+    let item = λ (found : A × Stretch). let next : Result (Option (A × Stretch)) Error = Ok (Some found) in next in
+    rw (here, there) (then_stays_as (λ (read : A × Stretch). (read.0, extended_stretch more read.1)) (option_map (λ (next : A × Stretch). (next.0, extended_stretch more next.1))) (read s) (read (extended_stretch more s)) item item same (λ found. refl))
 
-pub next_address_stays : (size : ℕ) (more : List ℕ) (s : Stretch) → 0 < length s.bytes → Stays more (next_address size s) (next_address size (extended_stretch more s))
-next_address_stays size more s some = next_where (length s.bytes == 0) (λ (s : Stretch). address_at size s >>= λ address. Ok (Some address.0, address.1)) more s refl some
-    (then_stays more (address_at size s) (address_at size (extended_stretch more s)) (λ address. Ok (Some address.0, address.1)) (address_steady size more s) (λ address left. refl))
+pub next_set_stays : (limit offset : ℕ) (more : List ℕ) (s : Stretch) → 0 < length s.bytes → StaysNext more (next_set limit offset s) (next_set limit offset (extended_stretch more s))
+next_set_stays limit offset more s some = item_stays (set_at limit offset) more s some (set_steady limit offset more s)
+
+pub next_address_stays : (size : ℕ) (more : List ℕ) (s : Stretch) → 0 < length s.bytes → StaysNext more (next_address size s) (next_address size (extended_stretch more s))
+next_address_stays size more s some = item_stays (address_at size) more s some (address_steady size more s)
 
 -- attributes
 attribute_of_steady : (name form : ℕ) → IsSteady (λ left. attribute_of name (form, left))

@@ -3,12 +3,7 @@ use Rattle.std.specs.Prelude.{List, map}
 use Rattle.dwarf_read_core.specs.AbbreviationTable.{Declaration}
 use Rattle.dwarf_read_core.specs.Abbreviations.{declaration}
 use Rattle.dwarf_read_core.specs.declared.abbrev.Abbreviations.{Abbreviations}
-use Rattle.dwarf_read_core.specs.declared.abbrev.DebugAbbrev.{DebugAbbrev}
 
 -- the declarations of a table
 abbrev pub declarations : Abbreviations → List Declaration
 declarations table = map declaration table.declarations.items
-
--- the section's reader
-abbrev pub abbrev_section : {R : Type 0} → DebugAbbrev R → R
-abbrev_section s = s.section

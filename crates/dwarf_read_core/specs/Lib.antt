@@ -7,4 +7,4 @@ pub mod DebugAbbrev
 pub mod Forms
 pub mod ClosedTables
 pub mod AddressViews
-pub mod SetsLeft
+pub mod MoreItems

@@ -3,35 +3,15 @@ use Rattle.std.specs.Prelude.{ℕ, ◌+◌, ◌*◌, Result, Ok}
 use Rattle.dwarf_constants.specs.Format.{word_size}
 use Rattle.dwarf_constants.specs.declared.common.Format.{Format}
 use Rattle.dwarf_constants.specs.declared.error.Error.{Error}
-use Rattle.dwarf_read_core.specs.declared.addr.DebugAddr.{DebugAddr}
-use Rattle.dwarf_read_core.specs.declared.str.DebugLineStr.{DebugLineStr}
-use Rattle.dwarf_read_core.specs.declared.str.DebugStr.{DebugStr}
-use Rattle.dwarf_read_core.specs.declared.str.DebugStrOffsets.{DebugStrOffsets}
 use Rattle.dwarf_readers.specs.InitialLength.{address_at, word_at}
 use Rattle.dwarf_readers.specs.Offset.{offset_below}
 use Rattle.dwarf_readers.specs.Place.{Stretch, ◌>>=◌, behind_at, prefix_at, string_at}
-
--- the section's reader
-abbrev pub str_section : {R : Type 0} → DebugStr R → R
-str_section s = s.section
-
--- the section's reader
-abbrev pub line_str_section : {R : Type 0} → DebugLineStr R → R
-line_str_section s = s.section
-
--- the section's reader
-abbrev pub str_offsets_section : {R : Type 0} → DebugStrOffsets R → R
-str_offsets_section s = s.section
 
 -- a part of a section, by its offset and its size
 abbrev pub range_in : ℕ → ℕ → Stretch → Result Stretch Error
 range_in offset size section = do
   s ← behind_at offset section
   prefix_at size s
-
--- the section's reader
-abbrev pub addr_section : {R : Type 0} → DebugAddr R → R
-addr_section s = s.section
 
 -- the string at an offset (DWARF 5, 7.5.5, class string)
 abbrev pub string_in : ℕ → Stretch → Result Stretch Error

@@ -27,6 +27,7 @@ use dwarf_constants::{DebugAbbrevOffset, DwChildren, DwForm, Encoding, Error, Re
 use dwarf_readers::{EndianSlice, Endianity, Reader};
 use std::alloc::Global;
 use std::collections::BTreeMap;
+use std::marker::Model;
 
 /// An attribute of an abbreviation (DWARF 5, 7.5.3).
 #[derive(Debug, Clone, Copy, PartialEq, Eq)]
@@ -354,21 +355,28 @@ pub struct DebugAbbrev<R> {
     section: R,
 }
 
+impl<R> Model for DebugAbbrev<R> {
+    ghost Value = { R };
+
+    ghost view = { λ s. s.section };
+
+    ghost inverse = { λ r. record { section = r } };
+}
+
 impl<'a, E: Endianity> DebugAbbrev<EndianSlice<'a, E>> {
-    ghost use Rattle.dwarf_read_core.specs.DebugAbbrev.{abbrev_section};
     ghost use Rattle.dwarf_readers.specs.EndianSlice.{stretch_of};
     ghost use Rattle.dwarf_readers.specs.Place.{whole};
 
     /// The section of these bytes.
     pub fn new(debug_abbrev_section: &'a [u8], endian: E) -> Self
-        ensures { stretch_of E.is_big (abbrev_section result) ≡ whole (E.is_big endian) debug_abbrev_section.now }
+        ensures { stretch_of E.is_big result ≡ whole (E.is_big endian) debug_abbrev_section.now }
     {
         Self::from(EndianSlice::new(debug_abbrev_section, endian))
     }
 }
 
 impl<R: Reader> DebugAbbrev<R> {
-    ghost use Rattle.dwarf_read_core.specs.DebugAbbrev.{abbrev_section, declarations};
+    ghost use Rattle.dwarf_read_core.specs.DebugAbbrev.{declarations};
 
     /// The table at an offset: the declarations up to code 0 or the section's end. Fails with the
     /// first fault.
@@ -377,7 +385,7 @@ impl<R: Reader> DebugAbbrev<R> {
         alloc: Global,
         debug_abbrev_offset: DebugAbbrevOffset<R::Offset>,
     ) -> Result<Abbreviations>
-        ensures { GivesOrMemory declarations result (table_in (R.Offset.value debug_abbrev_offset.0) (R.stretch (abbrev_section self.now))) }
+        ensures { GivesOrMemory declarations result (table_in (R.Offset.value debug_abbrev_offset.0) (R.stretch self.now)) }
     {
         let mut input = self.section;
         input.skip(debug_abbrev_offset.0)?;
@@ -387,12 +395,11 @@ impl<R: Reader> DebugAbbrev<R> {
 
 impl<T> DebugAbbrev<T> {
     ghost use Rattle.std.specs.Fn.{FnOnceReturnsAt, FnOnceTakesAt};
-    ghost use Rattle.dwarf_read_core.specs.DebugAbbrev.{abbrev_section};
 
     /// The section over what `borrow` makes of this one's.
     pub fn borrow<'a, R, F: FnOnce(&'a T) -> R>(&'a self, borrow: F) -> DebugAbbrev<R>
-        requires { FnOnceTakesAt F.FnOnce borrow (abbrev_section self.now) }
-        ensures { FnOnceReturnsAt F.FnOnce borrow (abbrev_section self.now) (abbrev_section result) }
+        requires { FnOnceTakesAt F.FnOnce borrow self.now }
+        ensures { FnOnceReturnsAt F.FnOnce borrow self.now result }
     {
         DebugAbbrev {
             section: borrow(&self.section),
@@ -401,9 +408,7 @@ impl<T> DebugAbbrev<T> {
 }
 
 impl<R> From<R> for DebugAbbrev<R> {
-    ghost use Rattle.dwarf_read_core.specs.DebugAbbrev.{abbrev_section};
-
-    ghost from_gives = { λ r s. abbrev_section s ≡ r };
+    ghost from_gives = { λ r s. s ≡ r };
 
     fn from(section: R) -> DebugAbbrev<R> {
         DebugAbbrev { section }
@@ -411,11 +416,9 @@ impl<R> From<R> for DebugAbbrev<R> {
 }
 
 impl<R: Reader> Section<R> for DebugAbbrev<R> {
-    ghost use Rattle.dwarf_read_core.specs.DebugAbbrev.{abbrev_section};
-
     ghost which = { id.DebugAbbrev };
 
-    ghost section = { λ s. abbrev_section s };
+    ghost section = { λ s. s };
 
     ghost of = { λ r s gives. gives };
 

@@ -1,8 +1,8 @@
 //! `.debug_addr`.
 
-ghost use Rattle.std.specs.Prelude.{◌≡◌, ◌<◌, ◌+◌, ◌==◌, [], length, Some, None, Ok, Err, IfOk, IfErr, IsSome, OnErr, OnOk, ◌≤◌};
+ghost use Rattle.std.specs.Prelude.{◌≡◌, ◌<◌, ◌+◌, ◌≤◌, length, Some, None, Ok, Err, OnOk};
 ghost use Rattle.dwarf_constants.specs.declared.common.SectionId.TheVariants as id;
-ghost use Rattle.dwarf_readers.specs.Place.{Gives, Reads, ReadsAs, empty_stretch};
+ghost use Rattle.dwarf_readers.specs.Place.{Gives, Reads};
 
 use crate::section::Section;
 use crate::str::entry_offset;
@@ -18,9 +18,17 @@ pub struct DebugAddr<R> {
     section: R,
 }
 
+impl<R> Model for DebugAddr<R> {
+    ghost Value = { R };
+
+    ghost view = { λ s. s.section };
+
+    ghost inverse = { λ r. record { section = r } };
+}
+
 impl<R: Reader> DebugAddr<R> {
-    ghost use Rattle.dwarf_read_core.specs.AddressSets.{sets_at, sets_in};
-    ghost use Rattle.dwarf_read_core.specs.Sections.{addr_section, address_in};
+    ghost use Rattle.dwarf_read_core.specs.AddressSets.{sets_in};
+    ghost use Rattle.dwarf_read_core.specs.Sections.{address_in};
 
     /// The address of this index behind a base.
     pub fn get_address(
@@ -29,7 +37,8 @@ impl<R: Reader> DebugAddr<R> {
         base: DebugAddrBase<R::Offset>,
         index: DebugAddrIndex<R::Offset>,
     ) -> Result<u64>
-        ensures { Gives (λ address. address) result (address_in R.Offset.limit address_size (R.Offset.value base.0) (R.Offset.value index.0) (R.stretch (addr_section self.now))) }
+        ensures { Gives (λ address. address) result (address_in R.Offset.limit address_size
+            (R.Offset.value base.0) (R.Offset.value index.0) (R.stretch self.now)) }
     {
         let mut reader = self.section;
         reader.skip(entry_offset(base.0, index.0, address_size)?)?;
@@ -38,8 +47,7 @@ impl<R: Reader> DebugAddr<R> {
 
     /// The headers of the sets, in order.
     pub fn headers(&self) -> AddrHeaderIter<R>
-        ensures left { result ≡ record { input = R.stretch (addr_section self.now); offset = 0 } }
-        ensures sets { sets_at R.Offset.limit result.offset result.input ≡ sets_in R.Offset.limit (R.stretch (addr_section self.now)) }
+        ensures { result ≡ sets_in R.Offset.limit (R.stretch self.now) }
     {
         // Every place in the section fits the type of offsets, as its length does.
         let _len = self.section.len();
@@ -52,12 +60,11 @@ impl<R: Reader> DebugAddr<R> {
 
 impl<T> DebugAddr<T> {
     ghost use Rattle.std.specs.Fn.{FnOnceReturnsAt, FnOnceTakesAt};
-    ghost use Rattle.dwarf_read_core.specs.Sections.{addr_section};
 
     /// The section over what `borrow` makes of this one's.
     pub fn borrow<'a, R, F: FnOnce(&'a T) -> R>(&'a self, borrow: F) -> DebugAddr<R>
-        requires { FnOnceTakesAt F.FnOnce borrow (addr_section self.now) }
-        ensures { FnOnceReturnsAt F.FnOnce borrow (addr_section self.now) (addr_section result) }
+        requires { FnOnceTakesAt F.FnOnce borrow self.now }
+        ensures { FnOnceReturnsAt F.FnOnce borrow self.now result }
     {
         DebugAddr {
             section: borrow(&self.section),
@@ -66,9 +73,7 @@ impl<T> DebugAddr<T> {
 }
 
 impl<R> From<R> for DebugAddr<R> {
-    ghost use Rattle.dwarf_read_core.specs.Sections.{addr_section};
-
-    ghost from_gives = { λ r s. addr_section s ≡ r };
+    ghost from_gives = { λ r s. s ≡ r };
 
     fn from(section: R) -> DebugAddr<R> {
         DebugAddr { section }
@@ -76,11 +81,9 @@ impl<R> From<R> for DebugAddr<R> {
 }
 
 impl<R: Reader> Section<R> for DebugAddr<R> {
-    ghost use Rattle.dwarf_read_core.specs.Sections.{addr_section};
-
     ghost which = { id.DebugAddr };
 
-    ghost section = { λ s. addr_section s };
+    ghost section = { λ s. s };
 
     ghost of = { λ r s gives. gives };
 
@@ -103,28 +106,24 @@ pub struct AddrHeaderIter<R: Reader> {
 }
 
 impl<R: Reader> Model for AddrHeaderIter<R> {
-    ghost use Rattle.std.specs.Prelude.{◌+◌, ◌<◌, length};
-    ghost use Rattle.dwarf_read_core.specs.SetsLeft.{SetsLeft};
+    ghost use Rattle.std.specs.Prelude.{◌+◌, ◌<◌, List, Result, length};
+    ghost use Rattle.dwarf_constants.specs.declared.error.Error.{Error};
+    ghost use Rattle.dwarf_read_core.specs.AddressSets.{AddressSet, sets_left};
 
-    ghost Value = { SetsLeft };
+    ghost Value = { List (Result AddressSet Error) };
 
-    ghost view = { λ i. record { input = R.stretch i.input; offset = R.Offset.value i.offset.0 } };
+    ghost view = { λ i. sets_left R.Offset.limit
+        (R.Offset.value i.offset.0 + length (R.stretch i.input).bytes) (R.stretch i.input) };
 
     ghost invariant = { λ i. R.Offset.value i.offset.0 + length (R.stretch i.input).bytes < R.Offset.limit };
 }
 
 impl<R: Reader> AddrHeaderIter<R> {
-    ghost use Rattle.std.specs.Prelude.{option_map};
-    ghost use Rattle.dwarf_read_core.specs.AddressSets.{GivesNext, next_set, sets_at};
-    ghost use Rattle.dwarf_read_core.specs.AddressViews.{set_of};
+    ghost use Rattle.lists.specs.Items.{GivesNext};
 
     /// The next header, or `None` at the end of the section.
     pub fn next(&mut self) -> Result<Option<AddrHeader<R>>>
-        ensures read { ReadsAs (option_map (set_of R.stretch R.Offset.value)) result (next_set R.Offset.limit self.old.offset self.old.input) self.new.input }
-        ensures offset { IfOk result (λ _. self.new.offset + length self.new.input.bytes ≡ self.old.offset + length self.old.input.bytes) }
-        ensures refused { OnErr result (self.new.input.bytes ≡ []) }
-        ensures less { IfOk result (λ h. IsSome h → length self.new.input.bytes < length self.old.input.bytes) }
-        ensures sets { GivesNext (set_of R.stretch R.Offset.value) result (sets_at R.Offset.limit self.old.offset self.old.input) (sets_at R.Offset.limit self.new.offset self.new.input) }
+        ensures { GivesNext (λ set. set) result self.old self.new }
     {
         if self.input.is_empty() {
             return Ok(None);
@@ -145,16 +144,13 @@ impl<R: Reader> AddrHeaderIter<R> {
 }
 
 impl<R: Reader> Iterator for AddrHeaderIter<R> {
-    ghost use Rattle.std.specs.Iterator.{YieldsFirstBy, item_count};
-    ghost use Rattle.std.specs.Result.{result_map_both};
-    ghost use Rattle.dwarf_read_core.specs.AddressSets.{sets_at};
-    ghost use Rattle.dwarf_read_core.specs.AddressViews.{set_of};
+    ghost use Rattle.std.specs.Iterator.{YieldsFirst, item_count};
 
     type Item = Result<AddrHeader<R>>;
 
-    ghost next_gives = { YieldsFirstBy (result_map_both (set_of R.stretch R.Offset.value) (λ e. e)) (λ s. sets_at R.Offset.limit s.offset s.input) };
+    ghost next_gives = { YieldsFirst (λ sets. sets) };
 
-    ghost remaining = { item_count (λ s. sets_at R.Offset.limit s.offset s.input) };
+    ghost remaining = { item_count (λ sets. sets) };
 
     fn next(&mut self) -> Option<Result<AddrHeader<R>>> {
         AddrHeaderIter::next(self).transpose()
@@ -183,15 +179,28 @@ pub struct AddrHeader<R: Reader> {
     entries: R,
 }
 
+impl<R: Reader> Model for AddrHeader<R> {
+    ghost use Rattle.dwarf_read_core.specs.AddressSets.{AddressSet};
+
+    ghost Value = { AddressSet };
+
+    ghost view = { λ h. record {
+      offset = R.Offset.value h.offset.0;
+      length = R.Offset.value h.length;
+      encoding = h.encoding;
+      addresses = R.stretch h.entries;
+    } };
+}
+
 impl<R: Reader> AddrHeader<R> {
     ghost use Rattle.dwarf_read_core.specs.AddressSets.{addresses_of, set_at};
-    ghost use Rattle.dwarf_read_core.specs.AddressViews.{addresses_left, set_of};
+    ghost use Rattle.dwarf_read_core.specs.AddressViews.{addresses_left};
 
     // Reads the set at this offset.
     fn parse(input: &mut R, offset: DebugAddrOffset<R::Offset>) -> Result<AddrHeader<R>>
-        ensures read { IfOk result (λ h. set_at R.Offset.limit (R.Offset.value offset.0) (R.stretch input.old) ≡ Ok (set_of R.stretch R.Offset.value h, R.stretch input.new)) }
+        ensures read { Reads result (set_at R.Offset.limit (R.Offset.value offset.0)
+            (R.stretch input.old)) (R.stretch input.new) }
         ensures less { OnOk result (length (R.stretch input.new).bytes < length (R.stretch input.old).bytes) }
-        ensures refused { IfErr result (λ e. set_at R.Offset.limit (R.Offset.value offset.0) (R.stretch input.old) ≡ Err e) }
     {
         let (length, format) = input.read_initial_length()?;
         let mut entries = input.split(length)?;
@@ -219,28 +228,28 @@ impl<R: Reader> AddrHeader<R> {
 
     /// The offset of the set in the section.
     pub fn offset(&self) -> DebugAddrOffset<R::Offset>
-        ensures { R.Offset.value result.0 ≡ (set_of R.stretch R.Offset.value self.now).offset }
+        ensures { R.Offset.value result.0 ≡ self.now.offset }
     {
         self.offset
     }
 
     /// The length that the set says, in bytes.
     pub fn length(&self) -> R::Offset
-        ensures { R.Offset.value result ≡ (set_of R.stretch R.Offset.value self.now).length }
+        ensures { R.Offset.value result ≡ self.now.length }
     {
         self.length
     }
 
     /// The size of the set's addresses, its format and its version.
     pub fn encoding(&self) -> Encoding
-        ensures { result ≡ (set_of R.stretch R.Offset.value self.now).encoding }
+        ensures { result ≡ self.now.encoding }
     {
         self.encoding
     }
 
     /// The addresses of the set, in order.
     pub fn entries(&self) -> AddrEntryIter<R>
-        ensures { addresses_left R.stretch result ≡ addresses_of (set_of R.stretch R.Offset.value self.now) }
+        ensures { addresses_left R.stretch result ≡ addresses_of self.now }
     {
         AddrEntryIter {
             input: self.entries,
@@ -258,12 +267,13 @@ pub struct AddrEntryIter<R> {
 }
 
 impl<R: Reader> AddrEntryIter<R> {
-    ghost use Rattle.dwarf_read_core.specs.AddressSets.{GivesNext};
+    ghost use Rattle.lists.specs.Items.{GivesNext};
     ghost use Rattle.dwarf_read_core.specs.AddressViews.{addresses_left};
 
     /// The next address, or `None` at the end of the set.
     pub fn next(&mut self) -> Result<Option<u64>>
-        ensures { GivesNext (λ address. address) result (addresses_left R.stretch self.old) (addresses_left R.stretch self.new) }
+        ensures { GivesNext (λ address. address) result
+            (addresses_left R.stretch self.old) (addresses_left R.stretch self.new) }
     {
         if self.input.is_empty() {
             return Ok(None);

@@ -11,6 +11,7 @@ use dwarf_constants::{
     Result, SectionId,
 };
 use dwarf_readers::{EndianSlice, Endianity, Reader, ReaderOffset};
+use std::marker::Model;
 
 /// The strings of `.debug_str` (DWARF 5, 7.5.5, class string).
 #[derive(Debug, Clone, Copy)]
@@ -18,24 +19,31 @@ pub struct DebugStr<R> {
     section: R,
 }
 
+impl<R> Model for DebugStr<R> {
+    ghost Value = { R };
+
+    ghost view = { λ s. s.section };
+
+    ghost inverse = { λ r. record { section = r } };
+}
+
 impl<'a, E: Endianity> DebugStr<EndianSlice<'a, E>> {
     ghost use Rattle.dwarf_readers.specs.EndianSlice.{stretch_of};
-    ghost use Rattle.dwarf_read_core.specs.Sections.{str_section};
 
     /// The section of these bytes.
     pub fn new(debug_str_section: &'a [u8], endian: E) -> Self
-        ensures { stretch_of E.is_big (str_section result) ≡ whole (E.is_big endian) debug_str_section.now }
+        ensures { stretch_of E.is_big result ≡ whole (E.is_big endian) debug_str_section.now }
     {
         Self::from(EndianSlice::new(debug_str_section, endian))
     }
 }
 
 impl<R: Reader> DebugStr<R> {
-    ghost use Rattle.dwarf_read_core.specs.Sections.{str_section, string_in};
+    ghost use Rattle.dwarf_read_core.specs.Sections.{string_in};
 
     /// The string at an offset, without its zero byte.
     pub fn get_str(&self, offset: DebugStrOffset<R::Offset>) -> Result<R>
-        ensures { Gives R.stretch result (string_in (R.Offset.value offset.0) (R.stretch (str_section self.now))) }
+        ensures { Gives R.stretch result (string_in (R.Offset.value offset.0) (R.stretch self.now)) }
     {
         let mut reader = self.section;
         reader.skip(offset.0)?;
@@ -45,12 +53,11 @@ impl<R: Reader> DebugStr<R> {
 
 impl<T> DebugStr<T> {
     ghost use Rattle.std.specs.Fn.{FnOnceReturnsAt, FnOnceTakesAt};
-    ghost use Rattle.dwarf_read_core.specs.Sections.{str_section};
 
     /// The section over what `borrow` makes of this one's.
     pub fn borrow<'a, R, F: FnOnce(&'a T) -> R>(&'a self, borrow: F) -> DebugStr<R>
-        requires { FnOnceTakesAt F.FnOnce borrow (str_section self.now) }
-        ensures { FnOnceReturnsAt F.FnOnce borrow (str_section self.now) (str_section result) }
+        requires { FnOnceTakesAt F.FnOnce borrow self.now }
+        ensures { FnOnceReturnsAt F.FnOnce borrow self.now result }
     {
         DebugStr {
             section: borrow(&self.section),
@@ -59,9 +66,7 @@ impl<T> DebugStr<T> {
 }
 
 impl<R> From<R> for DebugStr<R> {
-    ghost use Rattle.dwarf_read_core.specs.Sections.{str_section};
-
-    ghost from_gives = { λ r s. str_section s ≡ r };
+    ghost from_gives = { λ r s. s ≡ r };
 
     fn from(section: R) -> DebugStr<R> {
         DebugStr { section }
@@ -69,11 +74,9 @@ impl<R> From<R> for DebugStr<R> {
 }
 
 impl<R: Reader> Section<R> for DebugStr<R> {
-    ghost use Rattle.dwarf_read_core.specs.Sections.{str_section};
-
     ghost which = { id.DebugStr };
 
-    ghost section = { λ s. str_section s };
+    ghost section = { λ s. s };
 
     ghost of = { λ r s gives. gives };
 
@@ -92,24 +95,31 @@ pub struct DebugLineStr<R> {
     section: R,
 }
 
+impl<R> Model for DebugLineStr<R> {
+    ghost Value = { R };
+
+    ghost view = { λ s. s.section };
+
+    ghost inverse = { λ r. record { section = r } };
+}
+
 impl<'a, E: Endianity> DebugLineStr<EndianSlice<'a, E>> {
     ghost use Rattle.dwarf_readers.specs.EndianSlice.{stretch_of};
-    ghost use Rattle.dwarf_read_core.specs.Sections.{line_str_section};
 
     /// The section of these bytes.
     pub fn new(debug_line_str_section: &'a [u8], endian: E) -> Self
-        ensures { stretch_of E.is_big (line_str_section result) ≡ whole (E.is_big endian) debug_line_str_section.now }
+        ensures { stretch_of E.is_big result ≡ whole (E.is_big endian) debug_line_str_section.now }
     {
         Self::from(EndianSlice::new(debug_line_str_section, endian))
     }
 }
 
 impl<R: Reader> DebugLineStr<R> {
-    ghost use Rattle.dwarf_read_core.specs.Sections.{line_str_section, string_in};
+    ghost use Rattle.dwarf_read_core.specs.Sections.{string_in};
 
     /// The string at an offset, without its zero byte.
     pub fn get_str(&self, offset: DebugLineStrOffset<R::Offset>) -> Result<R>
-        ensures { Gives R.stretch result (string_in (R.Offset.value offset.0) (R.stretch (line_str_section self.now))) }
+        ensures { Gives R.stretch result (string_in (R.Offset.value offset.0) (R.stretch (self.now))) }
     {
         let mut reader = self.section;
         reader.skip(offset.0)?;
@@ -119,12 +129,11 @@ impl<R: Reader> DebugLineStr<R> {
 
 impl<T> DebugLineStr<T> {
     ghost use Rattle.std.specs.Fn.{FnOnceReturnsAt, FnOnceTakesAt};
-    ghost use Rattle.dwarf_read_core.specs.Sections.{line_str_section};
 
     /// The section over what `borrow` makes of this one's.
     pub fn borrow<'a, R, F: FnOnce(&'a T) -> R>(&'a self, borrow: F) -> DebugLineStr<R>
-        requires { FnOnceTakesAt F.FnOnce borrow (line_str_section self.now) }
-        ensures { FnOnceReturnsAt F.FnOnce borrow (line_str_section self.now) (line_str_section result) }
+        requires { FnOnceTakesAt F.FnOnce borrow (self.now) }
+        ensures { FnOnceReturnsAt F.FnOnce borrow (self.now) result }
     {
         DebugLineStr {
             section: borrow(&self.section),
@@ -133,9 +142,7 @@ impl<T> DebugLineStr<T> {
 }
 
 impl<R> From<R> for DebugLineStr<R> {
-    ghost use Rattle.dwarf_read_core.specs.Sections.{line_str_section};
-
-    ghost from_gives = { λ r s. line_str_section s ≡ r };
+    ghost from_gives = { λ r s. s ≡ r };
 
     fn from(section: R) -> DebugLineStr<R> {
         DebugLineStr { section }
@@ -143,11 +150,9 @@ impl<R> From<R> for DebugLineStr<R> {
 }
 
 impl<R: Reader> Section<R> for DebugLineStr<R> {
-    ghost use Rattle.dwarf_read_core.specs.Sections.{line_str_section};
-
     ghost which = { id.DebugLineStr };
 
-    ghost section = { λ s. line_str_section s };
+    ghost section = { λ s. s };
 
     ghost of = { λ r s gives. gives };
 
@@ -179,8 +184,16 @@ pub struct DebugStrOffsets<R> {
     section: R,
 }
 
+impl<R> Model for DebugStrOffsets<R> {
+    ghost Value = { R };
+
+    ghost view = { λ s. s.section };
+
+    ghost inverse = { λ r. record { section = r } };
+}
+
 impl<R: Reader> DebugStrOffsets<R> {
-    ghost use Rattle.dwarf_read_core.specs.Sections.{str_offsets_section, string_offset_in};
+    ghost use Rattle.dwarf_read_core.specs.Sections.{string_offset_in};
 
     /// The offset in `.debug_str` of the string of this index.
     pub fn get_str_offset(
@@ -189,7 +202,8 @@ impl<R: Reader> DebugStrOffsets<R> {
         base: DebugStrOffsetsBase<R::Offset>,
         index: DebugStrOffsetsIndex<R::Offset>,
     ) -> Result<DebugStrOffset<R::Offset>>
-        ensures { Gives (λ offset. R.Offset.value offset.0) result (string_offset_in R.Offset.limit format (R.Offset.value base.0) (R.Offset.value index.0) (R.stretch (str_offsets_section self.now))) }
+        ensures { Gives (λ offset. R.Offset.value offset.0) result (string_offset_in R.Offset.limit
+            format (R.Offset.value base.0) (R.Offset.value index.0) (R.stretch self.now)) }
     {
         let mut reader = self.section;
         reader.skip(entry_offset(base.0, index.0, format.word_size())?)?;
@@ -199,12 +213,11 @@ impl<R: Reader> DebugStrOffsets<R> {
 
 impl<T> DebugStrOffsets<T> {
     ghost use Rattle.std.specs.Fn.{FnOnceReturnsAt, FnOnceTakesAt};
-    ghost use Rattle.dwarf_read_core.specs.Sections.{str_offsets_section};
 
     /// The section over what `borrow` makes of this one's.
     pub fn borrow<'a, R, F: FnOnce(&'a T) -> R>(&'a self, borrow: F) -> DebugStrOffsets<R>
-        requires { FnOnceTakesAt F.FnOnce borrow (str_offsets_section self.now) }
-        ensures { FnOnceReturnsAt F.FnOnce borrow (str_offsets_section self.now) (str_offsets_section result) }
+        requires { FnOnceTakesAt F.FnOnce borrow self.now }
+        ensures { FnOnceReturnsAt F.FnOnce borrow self.now result }
     {
         DebugStrOffsets {
             section: borrow(&self.section),
@@ -213,9 +226,7 @@ impl<T> DebugStrOffsets<T> {
 }
 
 impl<R> From<R> for DebugStrOffsets<R> {
-    ghost use Rattle.dwarf_read_core.specs.Sections.{str_offsets_section};
-
-    ghost from_gives = { λ r s. str_offsets_section s ≡ r };
+    ghost from_gives = { λ r s. s ≡ r };
 
     fn from(section: R) -> DebugStrOffsets<R> {
         DebugStrOffsets { section }
@@ -223,11 +234,9 @@ impl<R> From<R> for DebugStrOffsets<R> {
 }
 
 impl<R: Reader> Section<R> for DebugStrOffsets<R> {
-    ghost use Rattle.dwarf_read_core.specs.Sections.{str_offsets_section};
-
     ghost which = { id.DebugStrOffsets };
 
-    ghost section = { λ s. str_offsets_section s };
+    ghost section = { λ s. s };
 
     ghost of = { λ r s gives. gives };
 

@@ -8,7 +8,7 @@ ghost use Rattle.dwarf_constants.specs.declared.common.DebugAbbrevOffset.{DebugA
 ghost use Rattle.dwarf_constants.specs.declared.error.Error.TheVariants as error;
 ghost use Rattle.dwarf_read_core.specs.AbbreviationTable.{GivesOrMemory, table_in};
 ghost use Rattle.dwarf_read_core.specs.AbbreviationsCache.{table_answer, kept_answer, populated_answer};
-ghost use Rattle.dwarf_read_core.specs.DebugAbbrev.{abbrev_section, declarations};
+ghost use Rattle.dwarf_read_core.specs.DebugAbbrev.{declarations};
 
 use super::{Abbreviations, DebugAbbrev};
 use dwarf_constants::{DebugAbbrevOffset, Error, Result};
@@ -55,7 +55,7 @@ impl AbbreviationsCache {
     ) -> Result<()>
         requires can { I.can_next offsets }
         requires ends { IsFinite (I.remaining offsets) }
-        ensures populated { OnOk result ((came : List (DebugAbbrevOffset R.Offset)) × Drains I.next_gives offsets (map (λ o. Ok o) came) × ((q : ℕ) → kept_answer self.new q ≡ populated_answer strategy (map (λ o. R.Offset.value o.0) came) (R.stretch (abbrev_section debug_abbrev.now)) q)) }
+        ensures populated { OnOk result ((came : List (DebugAbbrevOffset R.Offset)) × Drains I.next_gives offsets (map (λ o. Ok o) came) × ((q : ℕ) → kept_answer self.new q ≡ populated_answer strategy (map (λ o. R.Offset.value o.0) came) (R.stretch debug_abbrev.now) q)) }
         ensures refused { IfErr result (λ e. (e ≡ error.OutOfMemory) ⊎ ((came : List (DebugAbbrevOffset R.Offset)) × (left : I) × YieldsThen I.next_gives offsets (map (λ o. Ok o) came) (Some (Err e)) left)) }
         ensures unchanged { OnErr result ((q : ℕ) → kept_answer self.new q ≡ kept_answer self.old q) }
     {
@@ -82,7 +82,7 @@ impl AbbreviationsCache {
         debug_abbrev: &DebugAbbrev<R>,
         offset: DebugAbbrevOffset<R::Offset>,
     ) -> Result<()>
-        ensures kept { OnOk result ((q : ℕ) → kept_answer self.new q ≡ (if q == R.Offset.value offset.0 then Some (unwrap_or (kept_answer self.old q) (table_in q (R.stretch (abbrev_section debug_abbrev.now)))) else kept_answer self.old q)) }
+        ensures kept { OnOk result ((q : ℕ) → kept_answer self.new q ≡ (if q == R.Offset.value offset.0 then Some (unwrap_or (kept_answer self.old q) (table_in q (R.stretch debug_abbrev.now))) else kept_answer self.old q)) }
         ensures memory { IfErr result (λ e. e ≡ error.OutOfMemory) }
     {
         let number = offset.0.into_u64();
@@ -116,7 +116,7 @@ impl AbbreviationsCache {
         debug_abbrev: &DebugAbbrev<R>,
         offset: DebugAbbrevOffset<R::Offset>,
     ) -> Result<Rc<Abbreviations>>
-        ensures { GivesOrMemory (λ table. declarations table.value) result (unwrap_or (kept_answer self.now (R.Offset.value offset.0)) (table_in (R.Offset.value offset.0) (R.stretch (abbrev_section debug_abbrev.now)))) }
+        ensures { GivesOrMemory (λ table. declarations table.value) result (unwrap_or (kept_answer self.now (R.Offset.value offset.0)) (table_in (R.Offset.value offset.0) (R.stretch debug_abbrev.now))) }
     {
         match self.tables.get(&offset.0.into_u64()) {
             Some(Ok(table)) => Ok(table.clone()?),
@@ -139,7 +139,7 @@ fn answer_to_keep<R: Reader>(
     debug_abbrev: &DebugAbbrev<R>,
     offset: DebugAbbrevOffset<R::Offset>,
 ) -> Result<Result<Rc<Abbreviations>>>
-    ensures said { IfOk result (λ answer. table_answer answer ≡ table_in (R.Offset.value offset.0) (R.stretch (abbrev_section debug_abbrev.now))) }
+    ensures said { IfOk result (λ answer. table_answer answer ≡ table_in (R.Offset.value offset.0) (R.stretch debug_abbrev.now)) }
     ensures memory { IfErr result (λ e. e ≡ error.OutOfMemory) }
 {
     match debug_abbrev.abbreviations(alloc, offset) {

@@ -1,0 +1,11 @@
+-- What bytes that follow a stretch change of the items that are read from it.
+use Rattle.std.specs.Prelude.{List, ℕ, option_map}
+use Rattle.dwarf_constants.specs.declared.error.Error.{Error}
+use Rattle.dwarf_readers.specs.More.{StaysAs, extended_stretch}
+use Rattle.dwarf_readers.specs.Place.{Stretch}
+use Rattle.lists.specs.Items.{Answer}
+
+-- The next item stays, and more bytes follow what is left behind it.
+abbrev pub StaysNext : {A : Type 0} → List ℕ → Answer Stretch A Error → Answer Stretch A Error → Type 0
+StaysNext more before after =
+    StaysAs (option_map (λ next. (next.0, extended_stretch more next.1))) before after
