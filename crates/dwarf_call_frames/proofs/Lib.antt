@@ -9,4 +9,3 @@ pub mod Places
 pub mod RowsFor
 pub mod RuleLists
 pub mod TableSteps
-pub mod WorkedRows

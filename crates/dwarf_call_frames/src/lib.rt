@@ -7,8 +7,6 @@ mod expressions;
 mod instructions;
 mod rows;
 mod table;
-#[cfg(test)]
-mod tests;
 
 use dwarf_read_core::{EndianSlice, LittleEndian};
 pub use entries::{

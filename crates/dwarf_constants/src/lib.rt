@@ -5,8 +5,6 @@ mod arch;
 mod common;
 pub mod constants;
 mod error;
-#[cfg(test)]
-mod tests;
 
 pub use arch::{AArch64, X86_64};
 pub use common::{

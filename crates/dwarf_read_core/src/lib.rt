@@ -7,8 +7,6 @@ mod addr;
 pub mod more;
 mod section;
 mod str;
-#[cfg(test)]
-mod tests;
 
 pub use abbrev::{
     Abbreviation, Abbreviations, AbbreviationsCache, AbbreviationsCacheStrategy,

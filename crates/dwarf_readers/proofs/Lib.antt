@@ -6,6 +6,5 @@ pub mod SignedValues
 pub mod Spellings
 pub mod SignedSpellings
 pub mod Following
-pub mod Backward
 pub mod Lengths
 pub mod Laws

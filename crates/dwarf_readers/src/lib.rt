@@ -10,10 +10,7 @@ pub mod more;
 mod reader;
 mod reader_offset;
 pub mod remainders;
-pub mod reversed;
 mod steps;
-#[cfg(test)]
-mod tests;
 
 pub use endian_slice::EndianSlice;
 pub use endianity::{BigEndian, Endianity, LittleEndian, NativeEndian, RunTimeEndian};

@@ -1,17 +1,16 @@
+//! Numbers, texts and places of readers.
+
 mod numbers;
 mod second_reader;
 mod spelled;
 
-use crate::{
+use crate::little;
+use dwarf_constants::{Error, Format, ReaderOffsetId};
+use dwarf_readers::{
     BigEndian, EndianSlice, Endianity, LittleEndian, NativeEndian, Reader, ReaderOffset,
     RunTimeEndian, leb128, read_u8_array,
 };
-use dwarf_constants::{Error, Format, ReaderOffsetId};
 use std::test::Fail;
-
-fn little(bytes: &[u8]) -> EndianSlice<'_, LittleEndian> {
-    EndianSlice::new(bytes, LittleEndian)
-}
 
 fn eof<T>(place: u64) -> Result<T, Error> {
     Err(Error::UnexpectedEof(ReaderOffsetId(place)))

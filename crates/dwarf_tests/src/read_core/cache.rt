@@ -1,6 +1,6 @@
 use super::table;
-use crate::{AbbreviationsCache, AbbreviationsCacheStrategy, DebugAbbrev};
 use dwarf_constants::{DebugAbbrevOffset, Error};
+use dwarf_read_core::{AbbreviationsCache, AbbreviationsCacheStrategy, DebugAbbrev};
 use dwarf_readers::LittleEndian;
 use std::rc::Rc;
 use std::test::Fail;

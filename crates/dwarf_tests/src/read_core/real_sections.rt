@@ -3,12 +3,12 @@
 
 ghost use Rattle.std.specs.Prelude.{◌<◌};
 
-use crate::{
-    Abbreviation, AddrHeader, DebugAbbrev, DebugAddr, DebugLineStr, DebugStr, DebugStrOffsets,
-};
 use dwarf_constants::{
     DebugAbbrevOffset, DebugAddrBase, DebugAddrIndex, DebugLineStrOffset, DebugStrOffset,
     DebugStrOffsetsBase, DebugStrOffsetsIndex, Format,
+};
+use dwarf_read_core::{
+    Abbreviation, AddrHeader, DebugAbbrev, DebugAddr, DebugLineStr, DebugStr, DebugStrOffsets,
 };
 use dwarf_readers::{EndianSlice, LittleEndian};
 use std::alloc::Global;

@@ -1,20 +1,16 @@
 //! Numbers of every length that matters, and reads that lack bytes.
 
-use crate::{BigEndian, EndianSlice, LittleEndian, Reader, ReaderOffset, leb128, read_u8_array};
+use super::eof;
+use crate::little;
 use dwarf_constants::{Error, Format, ReaderOffsetId, Result};
+use dwarf_readers::{
+    BigEndian, EndianSlice, LittleEndian, Reader, ReaderOffset, leb128, read_u8_array,
+};
 use std::fmt::Debug;
 use std::process::Abort;
 
 // The bytes of a number, what is read from them, and the place behind the read.
 type Row<'a, T> = (&'a [u8], Result<T>, u64);
-
-fn little(bytes: &[u8]) -> EndianSlice<'_, LittleEndian> {
-    EndianSlice::new(bytes, LittleEndian)
-}
-
-fn eof<T>(place: u64) -> Result<T> {
-    Err(Error::UnexpectedEof(ReaderOffsetId(place)))
-}
 
 // Wants this answer, and the reader at this place.
 fn stands<T: PartialEq + Debug + Drop>(

@@ -1,17 +1,12 @@
 //! A section whose code pushes and sets a frame pointer, and refusals.
 
-use crate::{CallFrameInstruction, CieOrFde, EhFrame};
+use crate::WORKED;
+use dwarf_call_frames::{CallFrameInstruction, CieOrFde, EhFrame};
 use dwarf_read_core::{Error, Register};
-
-static SECTION: [u8; 56] = [
-    0x10, 0, 0, 0, 0, 0, 0, 0, 1, 0, 1, 0x78, 0x10, 0x0c, 7, 8, 0x90, 1, 0, 0, 0x1c, 0, 0, 0, 0x18,
-    0, 0, 0, 0, 0x10, 0, 0, 0, 0, 0, 0, 0x10, 0, 0, 0, 0, 0, 0, 0, 0x41, 0x0e, 0x10, 0x86, 2, 0x43,
-    0x0d, 6, 0, 0, 0, 0,
-];
 
 #[test]
 fn entries_of_a_section(rt: HostRuntime) {
-    let frame = EhFrame::new(&SECTION);
+    let frame = EhFrame::new(&WORKED);
     let mut entries = frame.entries();
     assert!(rt; matches!(entries.next(), Ok(Some(CieOrFde::Cie(_)))));
     let mut found = None;
@@ -32,7 +27,7 @@ fn entries_of_a_section(rt: HostRuntime) {
 
 #[test]
 fn an_entry_and_its_instructions(rt: HostRuntime) {
-    let fde = EhFrame::new(&SECTION).fde_from_offset(20);
+    let fde = EhFrame::new(&WORKED).fde_from_offset(20);
     assert!(rt; fde.is_ok());
     let Ok(fde) = fde else {
         return;

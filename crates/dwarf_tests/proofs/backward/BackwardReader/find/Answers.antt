@@ -1,7 +1,7 @@
 use Rattle.std.proofs.Common.{◌≡◌, ◌∙◌, None, Some, reverse, sym}
 use Rattle.dwarf_readers.specs.Place.{count_before}
-use Rattle.dwarf_readers.proofs.Laws.{position_is_count}
-use Rattle.dwarf_read_core.proofs.tests.second_reader.BackwardReader.find.Goals as goal
+use Rattle.dwarf_tests.proofs.Reversed.{position_is_count}
+use Rattle.dwarf_tests.proofs.backward.BackwardReader.find.Goals as goal
 
 pub returns-in-Some : goal.returns-in-Some
 returns-in-Some c =

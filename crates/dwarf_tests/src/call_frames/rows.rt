@@ -1,18 +1,13 @@
 //! The rows of a function that pushes and sets a frame pointer.
 
-use crate::{CfaRule, EhFrame, FrameDescriptionEntry, RegisterRule, UnwindContext, UnwindTable};
+use crate::WORKED;
+use dwarf_call_frames::{
+    CfaRule, EhFrame, FrameDescriptionEntry, RegisterRule, UnwindContext, UnwindTable,
+};
 use dwarf_read_core::{DwCfa, Error, X86_64};
 use std::test::Fail;
 
-// A CIE with the CFA at RSP + 8 and the return address at CFA - 8; an FDE of 0x1000 to 0x1010: one byte further the CFA is at
-// RSP + 16 and RBP at CFA - 16, three bytes further the CFA is counted from RBP.
-static SECTION: [u8; 56] = [
-    0x10, 0, 0, 0, 0, 0, 0, 0, 1, 0, 1, 0x78, 0x10, 0x0c, 7, 8, 0x90, 1, 0, 0, 0x1c, 0, 0, 0, 0x18,
-    0, 0, 0, 0, 0x10, 0, 0, 0, 0, 0, 0, 0x10, 0, 0, 0, 0, 0, 0, 0, 0x41, 0x0e, 0x10, 0x86, 2, 0x43,
-    0x0d, 6, 0, 0, 0, 0,
-];
-
-// The same with DW_CFA_restore, which isn't taken, in the CIE.
+// The worked section with DW_CFA_restore, which isn't taken, in the CIE.
 static REFUSED: [u8; 56] = [
     0x10, 0, 0, 0, 0, 0, 0, 0, 1, 0, 1, 0x78, 0x10, 0x0c, 7, 8, 0x90, 1, 0xc6, 0, 0x1c, 0, 0, 0,
     0x18, 0, 0, 0, 0, 0x10, 0, 0, 0, 0, 0, 0, 0x10, 0, 0, 0, 0, 0, 0, 0, 0x41, 0x0e, 0x10, 0x86, 2,
@@ -26,7 +21,7 @@ fn fde(section: &[u8]) -> Result<FrameDescriptionEntry<'_>, Error> {
 #[test]
 fn rows_in_order(rt: HostRuntime) -> Result<(), Fail> {
     let mut context = UnwindContext::new(rt.alloc())?;
-    let mut table = UnwindTable::new(&mut context, &fde(&SECTION)?);
+    let mut table = UnwindTable::new(&mut context, &fde(&WORKED)?);
     let bounds = [(0x1000, 0x1001), (0x1001, 0x1004), (0x1004, 0x1010)];
     for (start, end) in bounds {
         let row = table.next_row()?;
@@ -42,7 +37,7 @@ fn rows_in_order(rt: HostRuntime) -> Result<(), Fail> {
 #[test]
 fn rows_for_addresses(rt: HostRuntime) -> Result<(), Fail> {
     let mut context = UnwindContext::new(rt.alloc())?;
-    let fde = fde(&SECTION)?;
+    let fde = fde(&WORKED)?;
     let rows = [
         (0x1000, X86_64::RSP, 8, None),
         (0x1001, X86_64::RSP, 16, Some(RegisterRule::Offset(-16))),
@@ -63,7 +58,7 @@ fn rows_for_addresses(rt: HostRuntime) -> Result<(), Fail> {
 #[test]
 fn no_row(rt: HostRuntime) -> Result<(), Fail> {
     let mut context = UnwindContext::new(rt.alloc())?;
-    let fde = fde(&SECTION)?;
+    let fde = fde(&WORKED)?;
     for address in [0xfff, 0x1010] {
         let row = fde.unwind_info_for_address(&mut context, address);
         assert_eq!(rt; row.err(), Some(Error::NoUnwindInfoForAddress));
@@ -78,7 +73,7 @@ fn a_context_after_a_refusal(rt: HostRuntime) -> Result<(), Fail> {
     let row = refused.unwind_info_for_address(&mut context, 0x1004);
     let restore = Error::UnknownCallFrameInstruction(DwCfa(0xc6));
     assert_eq!(rt; row.err(), Some(restore));
-    let fde = fde(&SECTION)?;
+    let fde = fde(&WORKED)?;
     let row = fde.unwind_info_for_address(&mut context, 0x1000)?;
     assert_eq!(rt; row.start_address(), 0x1000);
     assert_eq!(rt; row.register(X86_64::RBP), None);

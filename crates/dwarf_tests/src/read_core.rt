@@ -1,21 +1,20 @@
+//! Tables, strings and addresses of sections.
+
 mod cache;
 mod real_sections;
 mod second_reader;
 
-use crate::{
-    Abbreviations, AttributeSpecification, DebugAbbrev, DebugAddr, DebugStr, DebugStrOffsets,
-    Section,
-};
+use crate::little;
 use dwarf_constants::{
     DebugAbbrevOffset, DebugAddrBase, DebugAddrIndex, DebugStrOffset, DebugStrOffsetsBase,
     DebugStrOffsetsIndex, DwChildren, DwForm, Encoding, Error, Format, ReaderOffsetId,
 };
+use dwarf_read_core::{
+    Abbreviations, AttributeSpecification, DebugAbbrev, DebugAddr, DebugStr, DebugStrOffsets,
+    Section,
+};
 use dwarf_readers::{EndianSlice, LittleEndian, Reader};
 use std::test::Fail;
-
-fn little(bytes: &[u8]) -> EndianSlice<'_, LittleEndian> {
-    EndianSlice::new(bytes, LittleEndian)
-}
 
 fn table(rt: &HostRuntime, bytes: &[u8]) -> Result<Abbreviations, Error> {
     DebugAbbrev::new(bytes, LittleEndian).abbreviations(rt.alloc(), DebugAbbrevOffset(0))

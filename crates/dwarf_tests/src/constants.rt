@@ -1,7 +1,7 @@
 //! The tables against the standard's own order, and what is printed.
 //! A row of names counts up from its first value, as the tables of the standard do; `-` is a gap.
-use crate::constants::*;
-use crate::{
+use dwarf_constants::constants::*;
+use dwarf_constants::{
     AArch64, DebugFrameOffset, DebugStrOffsetsBase, DwarfFileType, EhFrameOffset, Encoding, Error,
     Format, LineEncoding, ReaderOffsetId, Register, SectionId, X86_64,
 };

@@ -1,5 +1,5 @@
-use crate::leb128::{Leb128, read, sleb128_size, uleb128_size};
-use crate::{EndianSlice, LittleEndian};
+use crate::little;
+use dwarf_readers::leb128::{Leb128, read, sleb128_size, uleb128_size};
 
 #[test]
 fn unsigned_examples(rt: HostRuntime) {
@@ -33,10 +33,7 @@ fn signed_edges(rt: HostRuntime) {
     assert_eq!(rt; Leb128::signed(i64::MIN).bytes(), least.as_slice());
     let most = [0xff, 0xff, 0xff, 0xff, 0xff, 0xff, 0xff, 0xff, 0xff, 0x00];
     assert_eq!(rt; Leb128::signed(i64::MAX).bytes(), most.as_slice());
-    assert_eq!(rt;
-        read::signed(&mut EndianSlice::new(&most, LittleEndian)),
-        Ok(i64::MAX)
-    );
+    assert_eq!(rt; read::signed(&mut little(&most)), Ok(i64::MAX));
 }
 
 #[test]

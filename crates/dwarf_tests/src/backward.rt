@@ -1,23 +1,18 @@
-//! Sections over a reader whose bytes lie otherwise than an `EndianSlice`'s.
+//! A reader whose bytes lie otherwise than an `EndianSlice`'s.
 
 ghost use Rattle.std.specs.Prelude.{◌≡◌, ◌<◌, ◌+◌, ◌^◌, ◌==◌, IfErr, IfOk, length, position, reverse};
 ghost use Rattle.dwarf_constants.specs.declared.error.Error.TheVariants.{OutOfMemory};
 ghost use Rattle.dwarf_readers.specs.Place.{ends_at};
 
-use crate::{DebugAbbrev, DebugAddr, DebugStr, Section};
-use dwarf_constants::{
-    DebugAbbrevOffset, DebugAddrBase, DebugAddrIndex, DebugStrOffset, Error, ReaderOffsetId,
-    Result, SectionId,
-};
+use dwarf_constants::{Error, ReaderOffsetId, Result};
 use dwarf_readers::{Endianity, Reader, RunTimeEndian};
 use std::alloc::Global;
 use std::borrow::{CowSlice, CowStr};
-use std::test::Fail;
 
-// Bytes that are stored back to front: the next byte is the last that is stored. No piece of a section lies in memory
-// as it is read, so nothing can be lent.
+/// Bytes that are stored back to front: the next byte is the last that is stored. No piece of a
+/// section lies in memory as it is read, so nothing can be lent.
 #[derive(Debug, Clone, Copy)]
-struct Backward<'a> {
+pub struct Backward<'a> {
     stored: &'a [u8],
     endian: RunTimeEndian,
     first: u64,
@@ -25,7 +20,20 @@ struct Backward<'a> {
     ghost fits: { first + length stored.now < 2 ^ 64 },
 }
 
-impl Backward<'_> {
+impl<'a> Backward<'a> {
+    /// A part of a section, whose first byte is at this place and stored last.
+    pub fn new_at(stored: &'a [u8], endian: RunTimeEndian, first: u64) -> Backward<'a>
+        requires small { length stored.now < 2 ^ 32 }
+        requires fits { first + length stored.now < 2 ^ 64 }
+        ensures { ⟦<Backward<'a> as Reader>⟧.stretch result ≡ record { bytes = reverse stored.now; place = first; big = ⟦<RunTimeEndian as Endianity>⟧.is_big endian } }
+    {
+        Backward {
+            stored,
+            endian,
+            first,
+        }
+    }
+
     // The bytes in the order of the section.
     fn forward(&self, alloc: Global) -> Result<Vec<u8>>
         ensures bytes { IfOk result (λ v. v.items ≡ reverse self.now.stored.now) }
@@ -75,7 +83,7 @@ impl Reader for Backward<'_> {
         self.stored = &[];
     }
 
-    #[tactic(auto, using(dwarf_readers::proofs::Laws::truncated))]
+    #[tactic(auto, using(crate::proofs::Reversed::truncated))]
     fn truncate(&mut self, len: u32) -> Result<()> {
         let rest = self.rest(len as usize)?;
         self.stored = &self.stored[rest..];
@@ -104,7 +112,7 @@ impl Reader for Backward<'_> {
         }
     }
 
-    #[tactic(auto, using(dwarf_readers::proofs::Laws::skipped))]
+    #[tactic(auto, using(crate::proofs::Reversed::skipped))]
     fn skip(&mut self, len: u32) -> Result<()> {
         let rest = self.rest(len as usize)?;
         *self = Backward {
@@ -154,84 +162,4 @@ impl Reader for Backward<'_> {
         buf.reverse();
         Ok(())
     }
-}
-
-fn little(stored: &[u8]) -> Backward<'_>
-    requires { length stored.now < 100 }
-{
-    Backward {
-        stored,
-        endian: RunTimeEndian::Little,
-        first: 0,
-    }
-}
-
-#[test]
-fn sections_over_a_second_reader(rt: HostRuntime) -> std::result::Result<(), Fail> {
-    let mut table = [0x01, 0x11, 0x01, 0x25, 0x0e, 0, 0, 0x02, 0x24, 0, 0, 0, 0];
-    table.reverse();
-    let section = DebugAbbrev::from(little(&table));
-    let found = section.abbreviations(rt.alloc(), DebugAbbrevOffset(0))?;
-    assert_eq!(rt; found.get(1).ok_or("code 1")?.tag(), 0x11);
-    assert_eq!(rt; found.get(2).ok_or("code 2")?.tag(), 0x24);
-    assert_eq!(rt; found.get(3).is_none(), true);
-    assert_eq!(rt;
-        section
-            .abbreviations(rt.alloc(), DebugAbbrevOffset(14))
-            .err(),
-        Some(Error::UnexpectedEof(ReaderOffsetId(0)))
-    );
-
-    let mut strings = [0x61, 0x62, 0, 0x63, 0];
-    strings.reverse();
-    let section = DebugStr::from(little(&strings));
-    let string = section.get_str(DebugStrOffset(3))?;
-    assert_eq!(rt; &*string.to_slice(rt.alloc())?, [0x63].as_slice());
-    assert_eq!(rt; string.offset_id(), ReaderOffsetId(3));
-
-    let mut set = [
-        0x0c, 0, 0, 0, 0x05, 0, 0x04, 0, 0x11, 0, 0, 0, 0x22, 0, 0, 0,
-    ];
-    set.reverse();
-    let section = DebugAddr::from(little(&set));
-    assert_eq!(rt;
-        section.get_address(4, DebugAddrBase(8), DebugAddrIndex(1))?,
-        0x22
-    );
-    let mut headers = section.headers();
-    let header = headers.next()?.ok_or("a set")?;
-    assert_eq!(rt; header.length(), 12);
-    let mut entries = header.entries();
-    assert_eq!(rt; entries.next()?, Some(0x11));
-    assert_eq!(rt; entries.next()?, Some(0x22));
-    assert_eq!(rt; entries.next()?, None);
-    Ok(())
-}
-
-#[test]
-fn parts_of_a_section_over_a_second_reader(rt: HostRuntime) -> std::result::Result<(), Fail> {
-    let mut strings = [0x61, 0x62, 0, 0x63, 0];
-    strings.reverse();
-    let section = DebugStr::load(|id: SectionId| -> Result<Backward<'_>> {
-        match id {
-            SectionId::DebugStr => Ok(little(&strings)),
-            _ => Err(Error::BadUtf8),
-        }
-    })?;
-    let part = section.dwp_range(1, 3)?;
-    let reader = Section::reader(&part);
-    assert_eq!(rt; reader.len(), 3);
-    assert_eq!(rt; reader.offset_id(), ReaderOffsetId(1));
-    let found = part.lookup_offset_id(ReaderOffsetId(4));
-    assert_eq!(rt; found, Some((SectionId::DebugStr, 3)));
-    assert_eq!(rt; part.lookup_offset_id(ReaderOffsetId(5)), None);
-    assert_eq!(rt;
-        section.dwp_range(6, 0).map(|_| ()).err(),
-        Some(Error::UnexpectedEof(ReaderOffsetId(0)))
-    );
-    assert_eq!(rt;
-        section.dwp_range(2, 4).map(|_| ()).err(),
-        Some(Error::UnexpectedEof(ReaderOffsetId(2)))
-    );
-    Ok(())
 }

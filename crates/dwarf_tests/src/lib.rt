@@ -1,0 +1,16 @@
+//! Tests of the crates that read DWARF, by their public calls, and what these tests share.
+#![tactic(auto)]
+
+pub mod backward;
+#[cfg(test)]
+mod call_frames;
+#[cfg(test)]
+mod constants;
+#[cfg(test)]
+mod read_core;
+#[cfg(test)]
+mod readers;
+pub mod worked;
+
+pub use backward::Backward;
+pub use worked::{WORKED, little};
