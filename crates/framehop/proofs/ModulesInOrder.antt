@@ -1,25 +1,12 @@
 -- Modules in the order of their starts: which one a search by halves finds, and where a new one goes.
-use Rattle.std.proofs.Common.{◌≡◌, ℕ, zero, suc, ◌<◌, ◌≤◌, refl, ◌∙◌, ap, arith, Some, None, Bool, true, false, List, [], ◌∷◌, length, map, take, get_or, cond}
+use Rattle.std.proofs.Common.{◌≡◌, ℕ, zero, suc, ◌<◌, ◌≤◌, refl, ◌∙◌, ap, arith, Some, None, Bool, true, false, List, [], ◌∷◌, length, map, take, get_or}
 use Rattle.std.specs.Prelude.{nat_lt, nat_le, insert, if◌then◌else◌, Result, Ok, Err, OnOk, is_ok}
-use Rattle.std.specs.List.{filter, list_all}
-use Rattle.std.proofs.lemmas.List.{get_or-map, get_or-take, get_or_default, length-map, length-take-le}
+use Rattle.std.specs.List.{filter}
+use Rattle.std.proofs.lemmas.List.{get_or-map, get_or-take, length-map, length-take-le}
 use Rattle.std.specs.List.Sorted.{IsNonDecreasingBy}
 use Rattle.std.proofs.lemmas.List.Sorted.{IsNonDecreasingBy-insert}
-use Rattle.lists.specs.Last.{last_of}
-use Rattle.lists.proofs.Laws.{last_of-cons}
-use Rattle.framehop.specs.ModuleFound.{Loaded, is_last_start, nearest_module, with_module}
-
--- the last of a list that passes a test is the last of those that pass
-last_of-filter : {A : Type 0} (p : A → Bool) (xs : List A) (i : ℕ) (d : A) → length xs ≡ suc i → p (get_or xs i d) ≡ true → last_of (filter p xs) ≡ Some (get_or xs i d)
-last_of-filter p [] i d len passes = absurd (omega arith)
-last_of-filter p (x ∷ []) zero d len passes = rw passes refl
-last_of-filter p (x ∷ []) (suc i) d len passes = absurd (omega arith)
-last_of-filter p (x ∷ y ∷ ys) zero d len passes = absurd (omega arith)
-last_of-filter p (x ∷ y ∷ ys) (suc i) d len passes = behind (p x) (last_of-filter p (y ∷ ys) i d (omega arith) passes)
-  where
-    behind : (b : Bool) → last_of (filter p (y ∷ ys)) ≡ Some (get_or (y ∷ ys) i d) → last_of (cond b (x ∷ filter p (y ∷ ys)) (filter p (y ∷ ys))) ≡ Some (get_or (y ∷ ys) i d)
-    behind true h = last_of-cons x (get_or (y ∷ ys) i d) (filter p (y ∷ ys)) h
-    behind false h = h
+use Rattle.lists.proofs.Laws.{last_of-at, last_greatest-sorted}
+use Rattle.framehop.specs.ModuleFound.{Loaded, nearest_module, with_module}
 
 module _ {X : Type 0} (view : X → Loaded) where
   -- where none passes, the filter is empty
@@ -37,14 +24,6 @@ module _ {X : Type 0} (view : X → Loaded) where
   filter-front p (x ∷ xs) (suc i) within passes fails =
       rw (passes 0 x (omega arith), filter-front p xs i (omega arith) (λ k d h. passes (suc k) d (omega arith)) (λ k d h l. fails (suc k) d (omega arith) (omega arith))) refl
 
-  -- none starts above a bound
-  all-below : (bound : ℕ) (xs : List X) → ((k : ℕ) (d : X) → k < length xs → (view (get_or xs k d)).start ≤ bound) → list_all (λ other. nat_le other.start bound) (map view xs) ≡ true
-  all-below bound [] below = refl
-  all-below bound (x ∷ xs) below =
-      let here : (view x).start ≤ bound = below 0 x (omega arith) in
-      let test : nat_le (view x).start bound ≡ true = grind arith in
-      rw test (all-below bound xs (λ k d h. below (suc k) d (omega arith)))
-
   -- the module before the place where the starts pass an address is the nearest
   pub nearest-found : (xs : List X) (address i : ℕ) (d : X) → IsNonDecreasingBy (λ x. (view x).start) xs → i < length xs
       → ((k : ℕ) (d : X) → k < suc i → nat_le (view (get_or xs k d)).start address ≡ true)
@@ -55,13 +34,12 @@ module _ {X : Type 0} (view : X → Loaded) where
       let len : length front ≡ suc i = length-take-le (suc i) xs (omega arith) in
       let at : (k : ℕ) (e : X) → k < suc i → get_or front k e ≡ get_or xs k e = λ k e h. get_or-take (suc i) xs k e h in
       let last : get_or (map view front) i (view d) ≡ view (get_or xs i d) = get_or-map view front i d (view d) (omega arith) ∙ ap view (at i d (omega arith)) in
-      let below : (k : ℕ) (e : X) → k < length front → (view (get_or front k e)).start ≤ (view (get_or xs i d)).start
-      = λ k e h. rw (at k e (omega arith), get_or_default xs i d e within) (ordered k i e (omega arith) within) in
       let same : filter (λ m. nat_le m.start address) (map view xs) ≡ map view front = filter-front (λ m. nat_le m.start address) xs (suc i) (omega arith) passes fails in
       let ys : List Loaded = map view front in
       let size : length ys ≡ suc i = length-map front view ∙ len in
-      let first : is_last_start ys (get_or ys i (view d)) ≡ true = rw last (all-below (view (get_or xs i d)).start front below) in
-      rw (same, last_of-filter (is_last_start ys) ys i (view d) size first, last) refl
+      let sorted : IsNonDecreasingBy (λ m. m.start) ys
+      = λ k n e le lt. rw (get_or-map view front k d e (omega arith), get_or-map view front n d e (omega arith), at k d (omega arith), at n d (omega arith)) (ordered k n d le (omega arith)) in
+      rw same (last_greatest-sorted (λ m. m.start) ys sorted ∙ last_of-at ys i (view d) size ∙ ap (λ m. Some m) last)
 
   -- where the first start is above an address, no module is near
   pub nearest-none : (xs : List X) (address : ℕ) → ((k : ℕ) (d : X) → k < length xs → nat_le (view (get_or xs k d)).start address ≡ false) → nearest_module (map view xs) address ≡ None

@@ -1,5 +1,5 @@
 -- Where a rule says a row exactly, the numbers of its answer are the row's.
-use Rattle.std.proofs.Common.{◌≡◌, ℕ, ◌+◌, ◌*◌, ◌<◌, ◌^◌, refl, sym, subst, arith, Option, Some, None, Bool, true, false}
+use Rattle.std.proofs.Common.{◌≡◌, ℕ, ◌+◌, ◌*◌, ◌<◌, ◌^◌, refl, sym, ap, subst, arith, Option, Some, None, Bool, true, false}
 use Rattle.std.specs.Prelude.{ℤ, pos, negsuc, ◌+ℤ◌, ◌-ℤ◌, ◌*ℤ◌, option_and_then, option_map, unwrap_or, nat_le, ◌==◌, ◌&&◌, if◌then◌else◌}
 use Rattle.std.proofs.lemmas.Int.{ints}
 use Rattle.std.specs.Ordering.{int_eq}
@@ -7,9 +7,9 @@ use Rattle.std.proofs.lemmas.Bool.{eqb-true}
 use Rattle.std.proofs.lemmas.Bool.Decides.{Decides-int_eq}
 use Rattle.dwarf_constants.specs.declared.common.Register.{Register}
 use Rattle.framehop_rules.specs.Callback.{Words}
-use Rattle.framehop_rules.specs.Outcome.{Outcome, Ends, Refuses, Gives, Caller, and_then, address, word}
+use Rattle.framehop_rules.specs.Outcome.{Outcome, Ends, Refuses, Answers, Caller, and_then, address, word}
 use Rattle.framehop_rules.specs.Registers.{ip_of, sp_of, bp_of}
-use Rattle.framehop_rules.specs.RuleMeaning.{raised_frame, by_frame_pointer, stored_bp, restored_frame, return_address, Moved, caller_registers, returned_caller, rule_meaning}
+use Rattle.framehop_rules.specs.RuleMeaning.{raised_frame, by_frame_pointer, stored_bp, restored_frame, return_address, StackFrame, caller_registers, returned_caller, rule_meaning}
 use Rattle.framehop_rules.specs.declared.error.Error.{Error}
 use Rattle.framehop_rules.specs.declared.error.Error.TheVariants.{DidNotAdvance, FramepointerUnwindingMovedBackwards}
 use Rattle.framehop_rules.specs.declared.x86_64.unwind_rule.UnwindRuleX86_64.{UnwindRuleX86_64}
@@ -21,18 +21,19 @@ use Rattle.dwarf_call_frames.specs.declared.rows.RegisterRule.{RegisterRule}
 use Rattle.dwarf_call_frames.specs.declared.rows.RegisterRule.TheVariants as rule
 use Rattle.framehop.specs.ScaledRow.{Parts, eighth_of, as_u16, as_i16, scaled_rule, from_return_address, from_register, from_sp, from_bp}
 use Rattle.framehop.specs.RowAnswer.{value_of, in_range, plus, column_value, caller_at, row_answer}
-use Rattle.framehop.specs.Judge.{with_numbers}
+use Rattle.framehop.specs.Attempt.{Scales}
+use Rattle.framehop.specs.Judge.{row_outcome, by_attempt}
 
 -- ---- what a part of a rule gives
 
 -- a first part that gives, and then the second
-and_then-gives : {A B : Type 0} (x : Outcome A) (f : A → Outcome B) (c : B) → and_then x f ≡ Gives c → (v : A) × (x ≡ Gives v) × (f v ≡ Gives c)
+and_then-gives : {A B : Type 0} (x : Outcome A) (f : A → Outcome B) (c : B) → and_then x f ≡ Answers c → (v : A) × (x ≡ Answers v) × (f v ≡ Answers c)
 and_then-gives Ends f c h = cc
 and_then-gives (Refuses e) f c h = cc
-and_then-gives (Gives v) f c h = (v, refl, h)
+and_then-gives (Answers v) f c h = (v, refl, h)
 
 -- an address that is given is in range
-address-gives : (z : ℤ) (a : ℕ) → address z ≡ Gives a → in_range z ≡ Some a
+address-gives : (z : ℤ) (a : ℕ) → address z ≡ Answers a → in_range z ≡ Some a
 address-gives (pos n) a h = grind arith
 address-gives (negsuc n) a h = cc
 
@@ -49,25 +50,25 @@ in_range-at : (a : ℕ) → a < 2 ^ 64 → in_range (pos a) ≡ Some a
 in_range-at a h = grind arith
 
 -- a part that gives has passed its test
-past-test : {A : Type 0} (b : Bool) (e : Error) (x : Outcome A) (v : A) → (if b then Refuses e else x) ≡ Gives v → x ≡ Gives v
+past-test : {A : Type 0} (b : Bool) (e : Error) (x : Outcome A) (v : A) → (if b then Refuses e else x) ≡ Answers v → x ≡ Answers v
 past-test true e x v h = cc
 past-test false e x v h = h
 
 -- a word that is given is there
-word-gives : (there : Option ℕ) (at to : ℕ) → word (λ _. there) at ≡ Gives to → there ≡ Some to
+word-gives : (there : Option ℕ) (at to : ℕ) → word (λ _. there) at ≡ Answers to → there ≡ Some to
 word-gives (Some value) at to h = cc
 word-gives None at to h = cc
 
 -- a word that is read as a return address
 answered : (there : Option ℕ) (at : ℕ) (loops : ℕ → Bool) (to : ℕ)
-    → and_then (word (λ _. there) at) (λ found. if found == 0 then Ends else if loops found then Refuses DidNotAdvance else Gives found) ≡ Gives to → there ≡ Some to
+    → and_then (word (λ _. there) at) (λ found. if found == 0 then Ends else if loops found then Refuses DidNotAdvance else Answers found) ≡ Answers to → there ≡ Some to
 answered (Some found) at loops to h = grind arith
 answered None at loops to h = cc
 
 -- the return address that is given is what the column at the CFA less 8 gives
-return-gives : (registers : UnwindRegsX86_64) (words : Words) (sp to : ℕ) → return_address registers words sp ≡ Gives to → column_value words sp (rule.Offset (negsuc 7)) ≡ Some to
+return-gives : (registers : UnwindRegsX86_64) (words : Words) (sp to : ℕ) → return_address registers words sp ≡ Answers to → column_value words sp (rule.Offset (negsuc 7)) ≡ Some to
 return-gives registers words sp to h =
-    let f : ℕ → Outcome ℕ = λ at. and_then (word words at) (λ found. if found == 0 then Ends else if (sp == sp_of registers) && (found == ip_of registers) then Refuses DidNotAdvance else Gives found) in
+    let f : ℕ → Outcome ℕ = λ at. and_then (word words at) (λ found. if found == 0 then Ends else if (sp == sp_of registers) && (found == ip_of registers) then Refuses DidNotAdvance else Answers found) in
     let (at, placed, read) = and_then-gives (address (pos sp -ℤ pos 8)) f to h in
     let there = answered (words at) at (λ found. (sp == sp_of registers) && (found == ip_of registers)) to read in
     rw (address-gives (pos sp -ℤ pos 8) at placed) there
@@ -75,12 +76,12 @@ return-gives registers words sp to h =
 -- the caller that is given is the row's at its CFA, where the row has the frame pointer that the rule moved to
 returned-gives : (registers : UnwindRegsX86_64) (words : Words) (cfa : CfaRule) (bp : Option RegisterRule) (sp new_bp : ℕ) (caller : Caller UnwindRegsX86_64)
     → unwrap_or (option_and_then (column_value words sp) bp) (bp_of registers) ≡ new_bp
-    → returned_caller registers words (sp, new_bp) ≡ Gives caller
+    → returned_caller registers words (sp, new_bp) ≡ Answers caller
     → caller_at registers words (record { cfa = cfa; bp = bp; ra = Some (rule.Offset (negsuc 7)) }) sp ≡ Some caller
 returned-gives registers words cfa bp sp new_bp caller column h =
-    let f : ℕ → Outcome (Caller UnwindRegsX86_64) = λ to. Gives (record { return_address = to; registers = caller_registers registers to sp new_bp }) in
+    let f : ℕ → Outcome (Caller UnwindRegsX86_64) = λ to. Answers (record { return_address = to; registers = caller_registers registers to sp new_bp }) in
     let (to, read, given) = and_then-gives (return_address registers words sp) f caller h in
-    rw (return-gives registers words sp to read, column) (let e : f to ≡ Gives caller = given in cc)
+    rw (return-gives registers words sp to read, column) (let e : f to ≡ Answers caller = given in cc)
 
 -- ---- what the parts of a row say
 
@@ -114,13 +115,13 @@ i16-is : (n x : ℤ) → as_i16 n ≡ Some x → n ≡ x
 i16-is (pos a) x h = grind arith
 i16-is (negsuc a) x h = grind arith
 
--- the numbers of a row where the rule answers
-with_numbers-same : (numbers : Option (Caller UnwindRegsX86_64)) (outcome : Outcome (Caller UnwindRegsX86_64))
-    → ((caller : Caller UnwindRegsX86_64) → outcome ≡ Gives caller → numbers ≡ Some caller) → with_numbers numbers outcome ≡ outcome
-with_numbers-same None outcome same = refl
-with_numbers-same (Some numbers) Ends same = refl
-with_numbers-same (Some numbers) (Refuses e) same = refl
-with_numbers-same (Some numbers) (Gives caller) same = let h = same caller refl in cc
+-- where the rule answers as the row, what both come to is what the rule comes to
+row_outcome-same : (numbers : Option (Caller UnwindRegsX86_64)) (outcome : Outcome (Caller UnwindRegsX86_64))
+    → ((caller : Caller UnwindRegsX86_64) → outcome ≡ Answers caller → numbers ≡ Some caller)
+    → and_then outcome (λ _. row_outcome numbers) ≡ outcome
+row_outcome-same numbers Ends same = refl
+row_outcome-same numbers (Refuses e) same = refl
+row_outcome-same numbers (Answers caller) same = ap row_outcome (same caller refl)
 
 -- ---- the law, for each form of a row
 
@@ -138,17 +139,17 @@ value-at-6 : (registers : UnwindRegsX86_64) (register : Register) → register.0
 value-at-6 registers register is = rw is
 
 -- what a move gives is what is returned from
-moved-back : (registers : UnwindRegsX86_64) (words : Words) (moved to : Moved) (caller : Caller UnwindRegsX86_64)
-    → Gives to ≡ Gives moved → returned_caller registers words moved ≡ Gives caller → returned_caller registers words to ≡ Gives caller
-moved-back registers words moved to caller moves_to h = let e : to ≡ moved = cc in let P : Moved → Type 0 = λ m. returned_caller registers words m ≡ Gives caller in subst P (sym e) h
+moved-back : (registers : UnwindRegsX86_64) (words : Words) (moved to : StackFrame) (caller : Caller UnwindRegsX86_64)
+    → Answers to ≡ Answers moved → returned_caller registers words moved ≡ Answers caller → returned_caller registers words to ≡ Answers caller
+moved-back registers words moved to caller moves_to h = let e : to ≡ moved = cc in let P : StackFrame → Type 0 = λ m. returned_caller registers words m ≡ Answers caller in subst P (sym e) h
 
 -- the stack pointer goes up, the frame pointer stays
 raised-gives : (registers : UnwindRegsX86_64) (words : Words) (register : Register) (offset : ℤ) (x : ℕ) (caller : Caller UnwindRegsX86_64)
     → register.0 ≡ 7 → offset ≡ pos (8 * x)
-    → and_then (raised_frame registers (8 * x)) (returned_caller registers words) ≡ Gives caller
+    → and_then (raised_frame registers (8 * x)) (returned_caller registers words) ≡ Answers caller
     → row_answer registers words (record { cfa = RegisterAndOffset register offset; bp = None; ra = Some (rule.Offset (negsuc 7)) }) ≡ Some caller
 raised-gives registers words register offset x caller at_7 is h =
-    let f : ℕ → Outcome Moved = λ sp. Gives (sp, bp_of registers) in
+    let f : ℕ → Outcome StackFrame = λ sp. Answers (sp, bp_of registers) in
     let (moved, up, back) = and_then-gives (raised_frame registers (8 * x)) (returned_caller registers words) caller h in
     let (sp, placed, moves_to) = and_then-gives (address (pos (sp_of registers) +ℤ pos (8 * x))) f moved up in
     row-gives registers words register offset None (sp_of registers) sp caller (value-at-7 registers register at_7)
@@ -156,19 +157,19 @@ raised-gives registers words register offset x caller at_7 is h =
     (returned-gives registers words (RegisterAndOffset register offset) None sp (bp_of registers) caller refl (moved-back registers words moved (sp, bp_of registers) caller moves_to back))
 
 -- the frame pointer that is restored in a step is what its column gives, or the one that stays
-stored-is : (first : Bool) (registers : UnwindRegsX86_64) (there : Option ℕ) (at bp : ℕ) → stored_bp first registers (λ _. there) at ≡ Gives bp → unwrap_or there (bp_of registers) ≡ bp
+stored-is : (first : Bool) (registers : UnwindRegsX86_64) (there : Option ℕ) (at bp : ℕ) → stored_bp first registers (λ _. there) at ≡ Answers bp → unwrap_or there (bp_of registers) ≡ bp
 stored-is first registers (Some value) at bp h = cc
 stored-is first registers None at bp h = grind arith
 
 -- the stack pointer goes up, the frame pointer is restored
 restored-gives : (first : Bool) (registers : UnwindRegsX86_64) (words : Words) (register : Register) (offset stored : ℤ) (x : ℕ) (y : ℤ) (caller : Caller UnwindRegsX86_64)
     → register.0 ≡ 7 → offset ≡ pos (8 * x) → offset +ℤ stored ≡ pos 8 *ℤ y
-    → and_then (restored_frame first registers words (8 * x) (pos 8 *ℤ y)) (returned_caller registers words) ≡ Gives caller
+    → and_then (restored_frame first registers words (8 * x) (pos 8 *ℤ y)) (returned_caller registers words) ≡ Answers caller
     → row_answer registers words (record { cfa = RegisterAndOffset register offset; bp = Some (rule.Offset stored); ra = Some (rule.Offset (negsuc 7)) }) ≡ Some caller
 restored-gives first registers words register offset stored x y caller at_7 is both h =
-    let f : ℕ → ℕ → Outcome Moved = λ sp bp. Gives (sp, bp) in
-    let k : ℕ → ℕ → Outcome Moved = λ sp at. and_then (stored_bp first registers words at) (f sp) in
-    let j : ℕ → Outcome Moved = λ sp. and_then (address (pos (sp_of registers) +ℤ pos 8 *ℤ y)) (k sp) in
+    let f : ℕ → ℕ → Outcome StackFrame = λ sp bp. Answers (sp, bp) in
+    let k : ℕ → ℕ → Outcome StackFrame = λ sp at. and_then (stored_bp first registers words at) (f sp) in
+    let j : ℕ → Outcome StackFrame = λ sp. and_then (address (pos (sp_of registers) +ℤ pos 8 *ℤ y)) (k sp) in
     let (moved, up, back) = and_then-gives (restored_frame first registers words (8 * x) (pos 8 *ℤ y)) (returned_caller registers words) caller h in
     let (sp, placed, on) = and_then-gives (address (pos (sp_of registers) +ℤ pos (8 * x))) j moved up in
     let (at, found, further) = and_then-gives (address (pos (sp_of registers) +ℤ pos 8 *ℤ y)) (k sp) moved on in
@@ -184,11 +185,11 @@ restored-gives first registers words register offset stored x y caller at_7 is b
 -- the frame pointer is followed
 followed-gives : (registers : UnwindRegsX86_64) (words : Words) (register : Register) (caller : Caller UnwindRegsX86_64)
     → register.0 ≡ 6
-    → and_then (by_frame_pointer registers words) (returned_caller registers words) ≡ Gives caller
+    → and_then (by_frame_pointer registers words) (returned_caller registers words) ≡ Answers caller
     → row_answer registers words (record { cfa = RegisterAndOffset register (pos 16); bp = Some (rule.Offset (negsuc 15)); ra = Some (rule.Offset (negsuc 7)) }) ≡ Some caller
 followed-gives registers words register caller at_6 h =
-    let f : ℕ → ℕ → Outcome Moved = λ sp bp. Gives (sp, bp) in
-    let k : ℕ → Outcome Moved = λ sp. if nat_le sp (sp_of registers) then Refuses FramepointerUnwindingMovedBackwards else and_then (word words (bp_of registers)) (f sp) in
+    let f : ℕ → ℕ → Outcome StackFrame = λ sp bp. Answers (sp, bp) in
+    let k : ℕ → Outcome StackFrame = λ sp. if nat_le sp (sp_of registers) then Refuses FramepointerUnwindingMovedBackwards else and_then (word words (bp_of registers)) (f sp) in
     let (moved, up, back) = and_then-gives (by_frame_pointer registers words) (returned_caller registers words) caller h in
     let (sp, placed, on) = and_then-gives (address (pos (bp_of registers) +ℤ pos 16)) k moved up in
     let here = address-gives (pos (bp_of registers) +ℤ pos 16) sp placed in
@@ -218,17 +219,17 @@ signed-words-of offset y h = let (q, eighth, fits) = and_then-some as_i16 (eight
 
 -- for a CFA that counts from the stack pointer
 law-sp : (first : Bool) (registers : UnwindRegsX86_64) (words : Words) (register : Register) (offset : ℤ) (bp : Option RegisterRule) (how : UnwindRuleX86_64) (caller : Caller UnwindRegsX86_64)
-    → register.0 ≡ 7 → from_sp offset bp ≡ Some how → rule_meaning how first registers words ≡ Gives caller
+    → register.0 ≡ 7 → from_sp offset bp ≡ Some how → rule_meaning how first registers words ≡ Answers caller
     → row_answer registers words (row_at register offset bp) ≡ Some caller
 law-sp first registers words register offset None how caller at_7 says h =
     let (x, scaled, is) = option_map-some OffsetSp (option_and_then as_u16 (eighth_of offset)) how says in
-    let P : UnwindRuleX86_64 → Type 0 = λ r. rule_meaning r first registers words ≡ Gives caller in
+    let P : UnwindRuleX86_64 → Type 0 = λ r. rule_meaning r first registers words ≡ Answers caller in
     raised-gives registers words register offset x caller at_7 (words-of offset x scaled) (subst P (sym is) h)
 law-sp first registers words register offset (Some (rule.Offset stored)) how caller at_7 says h =
     let f : ℕ → Option UnwindRuleX86_64 = λ x. option_map (OffsetSpAndRestoreBp x) (option_and_then as_i16 (eighth_of (offset +ℤ stored))) in
     let (x, scaled, on) = and_then-some f (option_and_then as_u16 (eighth_of offset)) how says in
     let (y, both, is) = option_map-some (OffsetSpAndRestoreBp x) (option_and_then as_i16 (eighth_of (offset +ℤ stored))) how on in
-    let P : UnwindRuleX86_64 → Type 0 = λ r. rule_meaning r first registers words ≡ Gives caller in
+    let P : UnwindRuleX86_64 → Type 0 = λ r. rule_meaning r first registers words ≡ Answers caller in
     restored-gives first registers words register offset stored x y caller at_7 (words-of offset x scaled) (signed-words-of (offset +ℤ stored) y both) (subst P (sym is) h)
 
 -- the one row from the frame pointer that a rule says
@@ -242,34 +243,34 @@ from_bp-is offset stored how says =
 
 -- a step by the frame pointer that gives has followed it
 follow-gives : (first : Bool) (registers : UnwindRegsX86_64) (words : Words) (caller : Caller UnwindRegsX86_64)
-    → rule_meaning UseFramePointer first registers words ≡ Gives caller → and_then (by_frame_pointer registers words) (returned_caller registers words) ≡ Gives caller
+    → rule_meaning UseFramePointer first registers words ≡ Answers caller → and_then (by_frame_pointer registers words) (returned_caller registers words) ≡ Answers caller
 follow-gives first registers words caller h = at_end (bp_of registers == 0) (by_frame_pointer registers words) (returned_caller registers words) caller h
   where
-    at_end : {A B : Type 0} (b : Bool) (x : Outcome A) (f : A → Outcome B) (c : B) → and_then (if b then Ends else x) f ≡ Gives c → and_then x f ≡ Gives c
+    at_end : {A B : Type 0} (b : Bool) (x : Outcome A) (f : A → Outcome B) (c : B) → and_then (if b then Ends else x) f ≡ Answers c → and_then x f ≡ Answers c
     at_end true x f c h = cc
     at_end false x f c h = h
 
 -- for a CFA that counts from the frame pointer
 law-bp : (first : Bool) (registers : UnwindRegsX86_64) (words : Words) (register : Register) (offset : ℤ) (bp : Option RegisterRule) (how : UnwindRuleX86_64) (caller : Caller UnwindRegsX86_64)
-    → register.0 ≡ 6 → from_bp offset bp ≡ Some how → rule_meaning how first registers words ≡ Gives caller
+    → register.0 ≡ 6 → from_bp offset bp ≡ Some how → rule_meaning how first registers words ≡ Answers caller
     → row_answer registers words (row_at register offset bp) ≡ Some caller
 law-bp first registers words register offset None how caller at_6 says h = cc
 law-bp first registers words register offset (Some (rule.Offset stored)) how caller at_6 says h =
     let (high, low, is) = from_bp-is offset stored how says in
-    let P : UnwindRuleX86_64 → Type 0 = λ r. rule_meaning r first registers words ≡ Gives caller in
+    let P : UnwindRuleX86_64 → Type 0 = λ r. rule_meaning r first registers words ≡ Answers caller in
     rw (high, low) (followed-gives registers words register caller at_6 (follow-gives first registers words caller (subst P is h)))
 
--- where a rule says a row, and gives a caller, the row gives that caller
-law-gives : (cfa : CfaRule) (bp ra : Option RegisterRule) (how : UnwindRuleX86_64) (first : Bool) (registers : UnwindRegsX86_64) (words : Words) (caller : Caller UnwindRegsX86_64)
-    → from_return_address cfa bp ra ≡ Some how → rule_meaning how first registers words ≡ Gives caller
+-- by the parts of the row
+law-by_parts : (cfa : CfaRule) (bp ra : Option RegisterRule) (how : UnwindRuleX86_64) (first : Bool) (registers : UnwindRegsX86_64) (words : Words) (caller : Caller UnwindRegsX86_64)
+    → from_return_address cfa bp ra ≡ Some how → rule_meaning how first registers words ≡ Answers caller
     → row_answer registers words (record { cfa = cfa; bp = bp; ra = ra }) ≡ Some caller
-law-gives cfa bp None how first registers words caller says h =
+law-by_parts cfa bp None how first registers words caller says h =
     let is : EndOfStack ≡ how = cc in
-    let P : UnwindRuleX86_64 → Type 0 = λ r. rule_meaning r first registers words ≡ Gives caller in
-    let ended : Ends ≡ Gives caller = subst P (sym is) h in cc
-law-gives (Expression expression) bp (Some (rule.Offset stored)) how first registers words caller says h =
+    let P : UnwindRuleX86_64 → Type 0 = λ r. rule_meaning r first registers words ≡ Answers caller in
+    let ended : Ends ≡ Answers caller = subst P (sym is) h in cc
+law-by_parts (Expression expression) bp (Some (rule.Offset stored)) how first registers words caller says h =
     by_test (int_eq stored (negsuc 7)) None None how (λ _ none. cc) (λ _ none. cc) says
-law-gives (RegisterAndOffset register offset) bp (Some (rule.Offset stored)) how first registers words caller says h =
+law-by_parts (RegisterAndOffset register offset) bp (Some (rule.Offset stored)) how first registers words caller says h =
     by_test (int_eq stored (negsuc 7)) (from_register register offset bp) None how
     (λ at row. rw ((Decides-int_eq stored (negsuc 7)).0 at)
     (by_test (register.0 == 7) (from_sp offset bp) (if register.0 == 6 then from_bp offset bp else None) how
@@ -282,9 +283,14 @@ law-gives (RegisterAndOffset register offset) bp (Some (rule.Offset stored)) how
     (λ _ none. cc)
     says
 
--- the numbers of a rule's answer are those of the row that it says
-pub law : (parts : Parts) (how : UnwindRuleX86_64) (first : Bool) (registers : UnwindRegsX86_64) (words : Words)
-    → scaled_rule parts ≡ Some how → with_numbers (row_answer registers words parts) (rule_meaning how first registers words) ≡ rule_meaning how first registers words
-law parts how first registers words says =
-    with_numbers-same (row_answer registers words parts) (rule_meaning how first registers words)
-    (λ caller h. law-gives parts.cfa parts.bp parts.ra how first registers words caller says h)
+-- where a rule says a row, and answers a caller, the row gives that caller
+pub law : (parts : Parts) (how : UnwindRuleX86_64) (first : Bool) (registers : UnwindRegsX86_64) (words : Words) (caller : Caller UnwindRegsX86_64)
+    → scaled_rule parts ≡ Some how → rule_meaning how first registers words ≡ Answers caller → row_answer registers words parts ≡ Some caller
+law parts how first registers words caller says h = law-by_parts parts.cfa parts.bp parts.ra how first registers words caller says h
+
+-- so what is judged of a scaled row is what its rule comes to
+pub scaled-judged : (parts : Parts) (how : UnwindRuleX86_64) (first : Bool) (registers : UnwindRegsX86_64) (words : Words)
+    → scaled_rule parts ≡ Some how → by_attempt first registers words (Scales how parts) ≡ rule_meaning how first registers words
+scaled-judged parts how first registers words says =
+    row_outcome-same (row_answer registers words parts) (rule_meaning how first registers words)
+    (λ caller h. law parts how first registers words caller says h)

@@ -24,7 +24,7 @@ use Rattle.framehop.specs.Attempt.{Attempt, Rules, Scales, Evaluates, Fails, by_
 use Rattle.framehop.specs.Judge.{is_first, or_else, by_attempt, by_module, judge}
 use Rattle.framehop.specs.DirectRow.{direct_answer}
 use Rattle.framehop.specs.UnwindResults.{Trial, trial, direct_trial, with_registers, KeepsUnlessDirect, outcome_of_result}
-use Rattle.framehop.proofs.RowsOfRules.{law}
+use Rattle.framehop.proofs.RowsOfRules.{scaled-judged}
 
 -- the rule of a row that is said exactly is the one that says it
 abbrev IsExact : Attempt → Type 0
@@ -101,7 +101,7 @@ executed : (first : Bool) (registers left : UnwindRegsX86_64) (words : Words) (a
     → with_registers left answer ≡ trial first registers words attempted → KeepsUnlessDirect answer registers left
     → by_attempt first registers words attempted ≡ outcome_of_result (or_fallback answer) first left words
 executed first registers left words (Rules rule) answer exact is keeps = by_its_rule first registers left words rule answer is
-executed first registers left words (Scales rule parts) answer exact is keeps = law parts rule first registers words exact ∙ by_its_rule first registers left words rule answer is
+executed first registers left words (Scales rule parts) answer exact is keeps = scaled-judged parts rule first registers words exact ∙ by_its_rule first registers left words rule answer is
 executed first registers left words (Evaluates section parts) answer exact is keeps = directly first registers left words (direct_answer first registers words section parts) answer is keeps
 executed first registers left words (Fails failure) (Ok answer) exact is keeps = cc
 executed first registers left words (Fails failure) (Err other) exact is keeps = ap (λ r. rule_meaning UseFramePointer first r words) (sym keeps)

@@ -2,7 +2,7 @@
 use Rattle.std.proofs.Common.{◌≡◌, ℕ, ◌/◌, ◌%◌, List, [], ◌∷◌, refl, Some, None}
 use Rattle.std.specs.Prelude.{slice_get, ◌==◌, if◌then◌else◌}
 use Rattle.framehop_rules.specs.Callback.{Words}
-use Rattle.framehop_rules.specs.Outcome.{Outcome, Refuses, Gives, Caller}
+use Rattle.framehop_rules.specs.Outcome.{Outcome, Refuses, Answers, Caller}
 use Rattle.framehop_rules.specs.Registers.{ip_of, sp_of, bp_of}
 use Rattle.framehop_rules.specs.declared.error.Error.TheVariants.{FramepointerUnwindingMovedBackwards, IntegerOverflow}
 use Rattle.framehop_rules.specs.declared.code_address.FrameAddress.TheVariants.{InstructionPointer}
@@ -44,7 +44,7 @@ registers ip sp bp = record { ip = ip; regs = 0 ∷ 0 ∷ 0 ∷ 0 ∷ 0 ∷ 0 �
 
 -- return address, SP and RBP of an answer
 abbrev numbers : Outcome (Caller UnwindRegsX86_64) → List ℕ
-numbers (Gives caller) = caller.return_address ∷ ip_of caller.registers ∷ sp_of caller.registers ∷ bp_of caller.registers ∷ []
+numbers (Answers caller) = caller.return_address ∷ ip_of caller.registers ∷ sp_of caller.registers ∷ bp_of caller.registers ∷ []
 numbers outcome = []
 
 at_the_start : numbers (judge (loaded pushes) (InstructionPointer 0x101000) (registers 0x101000 0x10 0x20) words) ≡ 0x100300 ∷ 0x100300 ∷ 0x18 ∷ 0x20 ∷ []

@@ -12,7 +12,8 @@ use Rattle.framehop.specs.ScaledRow.{Parts, parts_of, scaled_rule}
 use Rattle.framehop.specs.EntryFor.{has_index, indexed_entry}
 use Rattle.framehop.specs.ModuleFound.{Loaded}
 
--- what a module says of an address: a rule, a row that a rule says exactly, a row of a section that no rule says, or nothing, for a reason
+-- what a module says of an address: a rule, a row that a rule says exactly, a row of a section that no rule says, or
+-- nothing, for a reason
 pub data Attempt : Type 0 where
   Rules : UnwindRuleX86_64 → Attempt
   Scales : UnwindRuleX86_64 → Parts → Attempt
@@ -36,11 +37,14 @@ by_row section fde (Err e) = Rules JustReturnIfFirstFrameOtherwiseFp
 -- what an FDE of a section says of an address
 abbrev pub by_fde : List ℕ → ℕ → Option Fde → Attempt
 by_fde section address None = Fails DwarfCfiIndexCouldNotFindAddress
-by_fde section address (Some fde) = if nat_lt address (2 ^ 64) then by_row section fde (row_for fde address) else Fails (Dwarf LookupAddressOverflow)
+by_fde section address (Some fde) =
+    if nat_lt address (2 ^ 64) then by_row section fde (row_for fde address) else Fails (Dwarf LookupAddressOverflow)
 
 -- what the entries of a section say of an address that is relative to a base
 abbrev pub by_entries : List ℕ → ℕ → ℕ → Listing → Attempt
-by_entries section base relative listing = if has_index base listing then by_fde section (base + relative) (indexed_entry base relative listing) else Fails NoModuleUnwindData
+by_entries section base relative listing =
+    if has_index base listing then by_fde section (base + relative) (indexed_entry base relative listing)
+    else Fails NoModuleUnwindData
 
 -- what a section says, where the module has one
 abbrev pub by_section : ℕ → ℕ → Option (List ℕ) → Attempt

@@ -31,7 +31,8 @@ sum_of base offset = if nat_lt base (2 ^ 63) then in_half (pos base +ℤ offset)
 
 -- a register's value plus an offset, modulo 2^64
 abbrev pub plus_wrapped : UnwindRegsX86_64 → (Register × ℤ) → Option ℕ
-plus_wrapped registers (register, offset) = option_map (λ base. (base + cast_unsigned w64 offset) % 2 ^ 64) (value_of registers register)
+plus_wrapped registers (register, offset) =
+    option_map (λ base. (base + cast_unsigned w64 offset) % 2 ^ 64) (value_of registers register)
 
 -- the value of an expression: it has one where it adds an offset to a register that has a value
 abbrev pub expression_value : UnwindRegsX86_64 → Result Stretch Error → Option ℕ
@@ -40,7 +41,8 @@ expression_value registers (Err e) = None
 
 -- the canonical frame address
 abbrev pub direct_cfa : List ℕ → UnwindRegsX86_64 → CfaRule → Option ℕ
-direct_cfa section registers (RegisterAndOffset register offset) = option_and_then (λ base. sum_of base offset) (value_of registers register)
+direct_cfa section registers (RegisterAndOffset register offset) =
+    option_and_then (λ base. sum_of base offset) (value_of registers register)
 direct_cfa section registers (Expression expression) = expression_value registers (expression_at section expression)
 
 -- where a column is stored, at a CFA
@@ -63,7 +65,8 @@ direct_return_address words cfa ra = option_or (option_and_then (direct_column w
 abbrev pub direct_bp : UnwindRegsX86_64 → Words → ℕ → Option RegisterRule → ℕ
 direct_bp registers words cfa bp = unwrap_or (option_and_then (direct_column words cfa) bp) (bp_of registers)
 
--- why a step is refused: it changes neither the stack pointer nor the code address, or, of a later frame, lowers the stack pointer
+-- why a step is refused: it changes neither the stack pointer nor the code address, or, of a later frame, lowers the
+-- stack pointer
 abbrev pub direct_refusal : Bool → UnwindRegsX86_64 → ℕ → ℕ → Option DwarfUnwinderError
 direct_refusal first registers cfa to =
     if (cfa == sp_of registers) && (to == ip_of registers) then Some DidNotAdvance
@@ -71,21 +74,30 @@ direct_refusal first registers cfa to =
     else None
 
 -- the caller, unless there is a refusal
-abbrev pub caller_unless : Option DwarfUnwinderError → Caller UnwindRegsX86_64 → Result (Caller UnwindRegsX86_64) DwarfUnwinderError
+abbrev pub caller_unless : Option DwarfUnwinderError → Caller UnwindRegsX86_64
+    → Result (Caller UnwindRegsX86_64) DwarfUnwinderError
 caller_unless None caller = Ok caller
 caller_unless (Some refusal) caller = Err refusal
 
 -- the caller by its return address: the stack pointer is the CFA, and all else but RBP stays
-abbrev pub direct_by_return_address : Bool → UnwindRegsX86_64 → Words → Parts → ℕ → Option ℕ → Result (Caller UnwindRegsX86_64) DwarfUnwinderError
+abbrev pub direct_by_return_address : Bool → UnwindRegsX86_64 → Words → Parts → ℕ → Option ℕ
+    → Result (Caller UnwindRegsX86_64) DwarfUnwinderError
 direct_by_return_address first registers words parts cfa None = Err CouldNotRecoverReturnAddress
 direct_by_return_address first registers words parts cfa (Some to) =
-    caller_unless (direct_refusal first registers cfa to) (record { return_address = to; registers = caller_registers registers to cfa (direct_bp registers words cfa parts.bp) })
+    caller_unless (direct_refusal first registers cfa to) (record {
+      return_address = to;
+      registers = caller_registers registers to cfa (direct_bp registers words cfa parts.bp);
+    })
 
 -- the caller by its CFA
-abbrev pub direct_by_cfa : Bool → UnwindRegsX86_64 → Words → Parts → Option ℕ → Result (Caller UnwindRegsX86_64) DwarfUnwinderError
+abbrev pub direct_by_cfa : Bool → UnwindRegsX86_64 → Words → Parts → Option ℕ
+    → Result (Caller UnwindRegsX86_64) DwarfUnwinderError
 direct_by_cfa first registers words parts None = Err CouldNotRecoverCfa
-direct_by_cfa first registers words parts (Some cfa) = direct_by_return_address first registers words parts cfa (direct_return_address words cfa parts.ra)
+direct_by_cfa first registers words parts (Some cfa) =
+    direct_by_return_address first registers words parts cfa (direct_return_address words cfa parts.ra)
 
 -- the caller that a row of a section gives in a first or a later frame, or the first refusal
-abbrev pub direct_answer : Bool → UnwindRegsX86_64 → Words → List ℕ → Parts → Result (Caller UnwindRegsX86_64) DwarfUnwinderError
-direct_answer first registers words section parts = direct_by_cfa first registers words parts (direct_cfa section registers parts.cfa)
+abbrev pub direct_answer : Bool → UnwindRegsX86_64 → Words → List ℕ → Parts
+    → Result (Caller UnwindRegsX86_64) DwarfUnwinderError
+direct_answer first registers words section parts =
+    direct_by_cfa first registers words parts (direct_cfa section registers parts.cfa)

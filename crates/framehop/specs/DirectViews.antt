@@ -7,6 +7,10 @@ use Rattle.framehop.specs.declared.dwarf.DwarfUnwinderError.{DwarfUnwinderError}
 use Rattle.framehop.specs.declared.x86_64.dwarf.DirectCaller.{DirectCaller}
 
 -- the caller's return address and registers, where these are the frame's
-abbrev pub caller_shown : UnwindRegsX86_64 → Result DirectCaller DwarfUnwinderError → Result (Caller UnwindRegsX86_64) DwarfUnwinderError
-caller_shown registers (Ok caller) = Ok (record { return_address = caller.return_address; registers = caller_registers registers caller.return_address caller.sp caller.bp })
+abbrev pub caller_shown : UnwindRegsX86_64 → Result DirectCaller DwarfUnwinderError
+    → Result (Caller UnwindRegsX86_64) DwarfUnwinderError
+caller_shown registers (Ok caller) = Ok (record {
+  return_address = caller.return_address;
+  registers = caller_registers registers caller.return_address caller.sp caller.bp;
+})
 caller_shown registers (Err failure) = Err failure

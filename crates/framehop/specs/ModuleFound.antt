@@ -1,7 +1,7 @@
 -- Modules, and the one that an address is in.
 use Rattle.std.specs.Prelude.{ℕ, ◌-◌, ◌^◌, List, [], ◌∷◌, Bool, ◌&&◌, ◌||◌, Option, Some, None, option_and_then, ◌==◌, nat_lt, nat_le, if◌then◌else◌}
-use Rattle.std.specs.List.{filter, list_all}
-use Rattle.lists.specs.Last.{last_of}
+use Rattle.std.specs.List.{filter}
+use Rattle.lists.specs.Greatest.{last_greatest}
 
 -- a module as it is loaded: its range of addresses, the address that relative addresses count from, what its sections
 -- call that address, and the bytes of its `.eh_frame`, if it has some
@@ -12,17 +12,10 @@ pub record Loaded : Type 0 where
   pub base_svma : ℕ
   pub eh_frame : Option (List ℕ)
 
--- no module of the list starts above this one
-abbrev pub is_last_start : List Loaded → Loaded → Bool
-is_last_start modules module_ = list_all (λ other. nat_le other.start module_.start) modules
-
--- the last of the modules with the greatest start
-abbrev pub last_of_last_start : List Loaded → Option Loaded
-last_of_last_start modules = last_of (filter (is_last_start modules) modules)
-
 -- the last of the modules with the greatest start at or below an address
 abbrev pub nearest_module : List Loaded → ℕ → Option Loaded
-nearest_module modules address = last_of_last_start (filter (λ module_. nat_le module_.start address) modules)
+nearest_module modules address =
+    last_greatest (λ module_. module_.start) (filter (λ module_. nat_le module_.start address) modules)
 
 -- the address is in the module: at its very start its end isn't asked
 abbrev pub is_inside : ℕ → Loaded → Bool
@@ -43,4 +36,5 @@ module_found modules address = option_and_then (if_inside address) (nearest_modu
 -- a module put into a list: before the first of an equal or a greater start
 abbrev pub with_module : Loaded → List Loaded → List Loaded
 with_module module_ [] = module_ ∷ []
-with_module module_ (other ∷ others) = if nat_le module_.start other.start then module_ ∷ other ∷ others else other ∷ with_module module_ others
+with_module module_ (other ∷ others) =
+    if nat_le module_.start other.start then module_ ∷ other ∷ others else other ∷ with_module module_ others

@@ -3,8 +3,8 @@ use Rattle.std.specs.Prelude.{ℕ, ◌^◌, ℤ, pos, negsuc, ◌+ℤ◌, Option
 use Rattle.dwarf_constants.specs.declared.common.Register.{Register}
 use Rattle.framehop_rules.specs.Callback.{Words}
 use Rattle.framehop_rules.specs.Outcome.{Caller}
-use Rattle.framehop_rules.specs.Registers.{ip_of, sp_of, bp_of, with_ip, with_register}
-use Rattle.framehop_rules.specs.declared.x86_64.unwindregs.Reg.TheVariants as reg
+use Rattle.framehop_rules.specs.Registers.{ip_of, sp_of, bp_of}
+use Rattle.framehop_rules.specs.RuleMeaning.{caller_registers}
 use Rattle.framehop_rules.specs.declared.x86_64.unwindregs.UnwindRegsX86_64.{UnwindRegsX86_64}
 use Rattle.dwarf_call_frames.specs.declared.rows.CfaRule.{CfaRule}
 use Rattle.dwarf_call_frames.specs.declared.rows.CfaRule.TheVariants.{RegisterAndOffset, Expression}
@@ -31,23 +31,25 @@ plus base offset = in_range (pos base +ℤ offset)
 
 -- the canonical frame address, where it counts from a register
 abbrev pub cfa_value : UnwindRegsX86_64 → CfaRule → Option ℕ
-cfa_value registers (RegisterAndOffset register offset) = option_and_then (λ base. plus base offset) (value_of registers register)
+cfa_value registers (RegisterAndOffset register offset) =
+    option_and_then (λ base. plus base offset) (value_of registers register)
 cfa_value registers (Expression expression) = None
 
 -- what a column gives at a CFA
 abbrev pub column_value : Words → ℕ → RegisterRule → Option ℕ
 column_value words cfa (rule.Offset offset) = option_and_then words (plus cfa offset)
 
--- the caller with a CFA and a return address: the CFA is its stack pointer, and its RBP is what the column gives, or stays
+-- the caller with a CFA and a return address: the CFA is its stack pointer, its RBP is what the column gives, or stays
 abbrev pub caller_from : UnwindRegsX86_64 → Words → Option RegisterRule → ℕ → ℕ → Caller UnwindRegsX86_64
 caller_from registers words bp cfa return_address = record {
   return_address = return_address;
-  registers = with_register (with_register (with_ip registers return_address) reg.RSP cfa) reg.RBP (unwrap_or (option_and_then (column_value words cfa) bp) (bp_of registers));
+  registers = caller_registers registers return_address cfa (unwrap_or (option_and_then (column_value words cfa) bp) (bp_of registers));
 }
 
 -- the caller at a CFA, where its return address can be read
 abbrev pub caller_at : UnwindRegsX86_64 → Words → Parts → ℕ → Option (Caller UnwindRegsX86_64)
-caller_at registers words parts cfa = option_map (caller_from registers words parts.bp cfa) (option_and_then (column_value words cfa) parts.ra)
+caller_at registers words parts cfa =
+    option_map (caller_from registers words parts.bp cfa) (option_and_then (column_value words cfa) parts.ra)
 
 -- the row's answer, where it has a CFA and a return address
 abbrev pub row_answer : UnwindRegsX86_64 → Words → Parts → Option (Caller UnwindRegsX86_64)

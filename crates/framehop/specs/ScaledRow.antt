@@ -58,7 +58,9 @@ is_at offset (rule.Offset stored) = int_eq stored offset
 abbrev pub from_sp : ℤ → Option RegisterRule → Option UnwindRuleX86_64
 from_sp offset None = option_map OffsetSp (option_and_then as_u16 (eighth_of offset))
 from_sp offset (Some (rule.Offset stored)) =
-    option_and_then (λ x. option_map (OffsetSpAndRestoreBp x) (option_and_then as_i16 (eighth_of (offset +ℤ stored)))) (option_and_then as_u16 (eighth_of offset))
+    option_and_then (λ x.
+    option_map (OffsetSpAndRestoreBp x) (option_and_then as_i16 (eighth_of (offset +ℤ stored))))
+    (option_and_then as_u16 (eighth_of offset))
 
 -- the CFA is RBP plus an offset: the caller's RBP lies at RBP, and the return address above it
 abbrev pub from_bp : ℤ → Option RegisterRule → Option UnwindRuleX86_64

@@ -1,7 +1,7 @@
 -- What the parts of a step answer, and the registers that they leave.
 use Rattle.std.specs.Prelude.{◌≡◌, Bool, Result, Ok, Err}
 use Rattle.framehop_rules.specs.Callback.{Words}
-use Rattle.framehop_rules.specs.Outcome.{Outcome, Gives, Caller}
+use Rattle.framehop_rules.specs.Outcome.{Outcome, Answers, Caller}
 use Rattle.framehop_rules.specs.RuleMeaning.{rule_meaning}
 use Rattle.framehop_rules.specs.declared.x86_64.unwindregs.UnwindRegsX86_64.{UnwindRegsX86_64}
 use Rattle.framehop.specs.declared.dwarf.DwarfUnwinderError.{DwarfUnwinderError}
@@ -51,4 +51,5 @@ KeepsUnlessDirect (Err failure) before after = after ≡ before
 -- what an answer comes to: a rule by its meaning, a direct answer with the registers that it left
 abbrev pub outcome_of_result : UnwindResult → Bool → UnwindRegsX86_64 → Words → Outcome (Caller UnwindRegsX86_64)
 outcome_of_result (ExecRule rule) first registers words = rule_meaning rule first registers words
-outcome_of_result (Uncacheable return_address) first registers words = Gives (record { return_address = return_address; registers = registers })
+outcome_of_result (Uncacheable return_address) first registers words =
+    Answers (record { return_address = return_address; registers = registers })

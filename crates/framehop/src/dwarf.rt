@@ -22,7 +22,7 @@ pub(crate) enum DwarfUnwinderError {
     LookupAddressOverflow,
     /// The row's CFA has no value.
     CouldNotRecoverCfa,
-    /// Neither the row's column of the return address has a value, nor can the word below the CFA be read.
+    /// The row's column of the return address has no value, and the word below the CFA can't be read.
     CouldNotRecoverReturnAddress,
     /// The step would answer the frame that it started from.
     DidNotAdvance,

@@ -37,8 +37,10 @@ fn index_of(
     eh_frame: &Option<Vec<u8>>,
     base_svma: u64,
 ) -> Result<Option<DwarfCfiIndex>, AllocError>
-    ensures indexed { IfOk result (λ index. IsIndexed index base_svma (option_map (λ section. section.items) eh_frame.now)) }
-    ensures unindexed { IfOk result (λ index. IsUnindexed index base_svma (option_map (λ section. section.items) eh_frame.now)) }
+    ensures indexed { IfOk result (λ index.
+        IsIndexed index base_svma (option_map (λ section. section.items) eh_frame.now)) }
+    ensures unindexed { IfOk result (λ index.
+        IsUnindexed index base_svma (option_map (λ section. section.items) eh_frame.now)) }
 {
     let Some(section) = eh_frame else {
         return Ok(None);
@@ -113,8 +115,10 @@ impl Module {
     /// The distance of an address from the module's base, where the module contains the address.
     fn relative_address(&self, address: u64) -> Option<u32>
         ensures none { IfNone result (if_inside address (module_view self.now) ≡ None) }
-        ensures inside { IfSome result (λ _. if_inside address (module_view self.now) ≡ Some (module_view self.now)) }
-        ensures relative { IfSome result (λ relative. relative ≡ address - (module_view self.now).base) }
+        ensures inside { IfSome result (λ _.
+            if_inside address (module_view self.now) ≡ Some (module_view self.now)) }
+        ensures relative { IfSome result (λ relative.
+            relative ≡ address - (module_view self.now).base) }
     {
         if !self.contains(address) {
             return None;
@@ -188,7 +192,8 @@ impl UnwinderInternal {
     /// Puts a module before those of an equal or a greater start. Where memory for it is refused,
     /// it comes back and nothing changes.
     pub fn add_module(&mut self, module: Module) -> Result<(), AllocFailed<Module>>
-        ensures ok { OnOk result (loaded_in self.new ≡ with_module (module_view «module») (loaded_in self.old)) }
+        ensures ok { OnOk result
+            (loaded_in self.new ≡ with_module (module_view «module») (loaded_in self.old)) }
         ensures refused { OnErr result (loaded_in self.new ≡ loaded_in self.old) }
         ensures returned { IfErr result (λ failed. failed.value ≡ «module») }
     {
@@ -201,8 +206,8 @@ impl UnwinderInternal {
 
     /// The last of the modules that start at or below an address.
     fn nearest_module(&self, address: u64) -> Option<&Module>
-        ensures { MatchOption result (nearest_module (loaded_in self.now) address ≡ None)
-            (λ module_. nearest_module (loaded_in self.now) address ≡ Some (module_view module_.now)) }
+        ensures { MatchOption result (nearest_module (loaded_in self.now) address ≡ None) (λ module_.
+            nearest_module (loaded_in self.now) address ≡ Some (module_view module_.now)) }
     {
         let index = self
             .modules
@@ -214,8 +219,10 @@ impl UnwinderInternal {
     /// The module that an address is in, and the address relative to its base.
     pub fn find_module_for_address(&self, address: u64) -> Option<(&Module, u32)>
         ensures none { IfNone result (module_found (loaded_in self.now) address ≡ None) }
-        ensures module_ { IfSome result (λ found. module_found (loaded_in self.now) address ≡ Some (module_view found.0.now)) }
-        ensures relative { IfSome result (λ found. found.1 ≡ address - (module_view found.0.now).base) }
+        ensures module_ { IfSome result (λ found.
+            module_found (loaded_in self.now) address ≡ Some (module_view found.0.now)) }
+        ensures relative { IfSome result (λ found.
+            found.1 ≡ address - (module_view found.0.now).base) }
     {
         let module = self.nearest_module(address)?;
         let relative_address = module.relative_address(address)?;

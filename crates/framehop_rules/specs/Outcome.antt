@@ -8,22 +8,22 @@ use Rattle.framehop_rules.specs.declared.error.Error.TheVariants.{CouldNotReadSt
 pub data Outcome (A : Type 0) : Type 0 where
   Ends : Outcome A
   Refuses : Error → Outcome A
-  Gives : A → Outcome A
+  Answers : A → Outcome A
 
 -- The first part, then the second with the value that the first gave.
 abbrev pub and_then : {A B : Type 0} → Outcome A → (A → Outcome B) → Outcome B
 and_then Ends next = Ends
 and_then (Refuses error) next = Refuses error
-and_then (Gives value) next = next value
+and_then (Answers value) next = next value
 
 -- An address from 0 to 2^64 - 1; any other number is an overflow.
 abbrev pub address : ℤ → Outcome ℕ
-address (pos a) = if nat_lt a (2 ^ 64) then Gives a else Refuses IntegerOverflow
+address (pos a) = if nat_lt a (2 ^ 64) then Answers a else Refuses IntegerOverflow
 address (negsuc a) = Refuses IntegerOverflow
 
 -- The word at an address, which has to be readable.
 abbrev pub word : Words → ℕ → Outcome ℕ
-word words at = elim (words at) [ Some value ↦ Gives value | None ↦ Refuses (CouldNotReadStack at) ]
+word words at = elim (words at) [ Some value ↦ Answers value | None ↦ Refuses (CouldNotReadStack at) ]
 
 -- The caller of a frame: the return address, and the registers there.
 pub record Caller (Registers : Type 0) : Type 0 where
@@ -34,13 +34,13 @@ pub record Caller (Registers : Type 0) : Type 0 where
 abbrev pub answer_of_outcome : {Registers : Type 0} → Outcome (Caller Registers) → Result (Option ℕ) Error
 answer_of_outcome Ends = Ok None
 answer_of_outcome (Refuses error) = Err error
-answer_of_outcome (Gives caller) = Ok (Some caller.return_address)
+answer_of_outcome (Answers caller) = Ok (Some caller.return_address)
 
 -- The registers that `exec` leaves: the caller's, or those from before where there is none.
 abbrev pub registers_after : {Registers : Type 0} → Registers → Outcome (Caller Registers) → Registers
 registers_after before Ends = before
 registers_after before (Refuses error) = before
-registers_after before (Gives caller) = caller.registers
+registers_after before (Answers caller) = caller.registers
 
 -- A step that comes to an outcome: its answer, and the registers that it leaves.
 pub record IsStep {Registers : Type 0} (result : Result (Option ℕ) Error) (old new : Registers)
@@ -50,13 +50,13 @@ pub record IsStep {Registers : Type 0} (result : Result (Option ℕ) Error) (old
 
 -- What a part of a rule comes to, from what the code answers for it.
 abbrev pub outcome_of : {A : Type 0} → Result A Error → Outcome A
-outcome_of (Ok value) = Gives value
+outcome_of (Ok value) = Answers value
 outcome_of (Err error) = Refuses error
 
 -- The same, where the code may answer the end of the stack.
 abbrev pub outcome_or_end_of : {A : Type 0} → Result (Option A) Error → Outcome A
 outcome_or_end_of (Ok None) = Ends
-outcome_or_end_of (Ok (Some value)) = Gives value
+outcome_or_end_of (Ok (Some value)) = Answers value
 outcome_or_end_of (Err error) = Refuses error
 
 -- An error that a rule can refuse with.

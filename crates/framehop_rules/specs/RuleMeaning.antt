@@ -3,7 +3,7 @@
 -- Checks and reads go in the written order, and the first one that fails is the refusal.
 use Rattle.std.specs.Prelude.{ℕ, ◌*◌, ℤ, pos, ◌+ℤ◌, ◌-ℤ◌, ◌*ℤ◌, Bool, ◌&&◌, ◌==◌, nat_lt, nat_le, if◌then◌else◌, Some, None}
 use Rattle.framehop_rules.specs.Callback.{Words}
-use Rattle.framehop_rules.specs.Outcome.{Outcome, Ends, Refuses, Gives, and_then, address, word, Caller}
+use Rattle.framehop_rules.specs.Outcome.{Outcome, Ends, Refuses, Answers, and_then, address, word, Caller}
 use Rattle.framehop_rules.specs.Registers.{ip_of, sp_of, bp_of, with_ip, with_register}
 use Rattle.framehop_rules.specs.declared.error.Error.TheVariants.{CouldNotReadStack, FramepointerUnwindingMovedBackwards, DidNotAdvance}
 use Rattle.framehop_rules.specs.declared.x86_64.unwind_rule.UnwindRuleX86_64.{UnwindRuleX86_64}
@@ -12,41 +12,41 @@ use Rattle.framehop_rules.specs.declared.x86_64.unwindregs.Reg.TheVariants.{RBP,
 use Rattle.framehop_rules.specs.declared.x86_64.unwindregs.UnwindRegsX86_64.{UnwindRegsX86_64}
 
 -- The caller's stack pointer and frame pointer.
-abbrev pub Moved : Type 0
-Moved = ℕ × ℕ
+abbrev pub StackFrame : Type 0
+StackFrame = ℕ × ℕ
 
 -- The stack pointer goes up by these bytes, the frame pointer stays.
-abbrev pub raised_frame : UnwindRegsX86_64 → ℕ → Outcome Moved
+abbrev pub raised_frame : UnwindRegsX86_64 → ℕ → Outcome StackFrame
 raised_frame registers bytes =
     and_then (address (pos (sp_of registers) +ℤ pos bytes)) (λ sp.
-    Gives (sp, bp_of registers))
+    Answers (sp, bp_of registers))
 
 -- The frame pointer points at the caller's, with the return address above it.
-abbrev pub by_frame_pointer : UnwindRegsX86_64 → Words → Outcome Moved
+abbrev pub by_frame_pointer : UnwindRegsX86_64 → Words → Outcome StackFrame
 by_frame_pointer registers words =
     and_then (address (pos (bp_of registers) +ℤ pos 16)) (λ sp.
     if nat_le sp (sp_of registers) then Refuses FramepointerUnwindingMovedBackwards else
     and_then (word words (bp_of registers)) (λ bp.
-    Gives (sp, bp)))
+    Answers (sp, bp)))
 
 -- The caller's frame pointer, stored at an address. In a first frame it may have been popped
 -- already: below the stack pointer nothing needs to be readable, and it is in its register then.
 abbrev pub stored_bp : Bool → UnwindRegsX86_64 → Words → ℕ → Outcome ℕ
 stored_bp is_first registers words at = elim (words at) [
-  | Some value ↦ Gives value
-  | None ↦ if is_first && nat_lt at (sp_of registers) then Gives (bp_of registers) else Refuses (CouldNotReadStack at)
+  | Some value ↦ Answers value
+  | None ↦ if is_first && nat_lt at (sp_of registers) then Answers (bp_of registers) else Refuses (CouldNotReadStack at)
 ]
 
 -- The stack pointer goes up by these bytes, the frame pointer is stored at an offset from it.
-abbrev pub restored_frame : Bool → UnwindRegsX86_64 → Words → ℕ → ℤ → Outcome Moved
+abbrev pub restored_frame : Bool → UnwindRegsX86_64 → Words → ℕ → ℤ → Outcome StackFrame
 restored_frame is_first registers words bytes offset =
     and_then (address (pos (sp_of registers) +ℤ pos bytes)) (λ sp.
     and_then (address (pos (sp_of registers) +ℤ offset)) (λ at.
     and_then (stored_bp is_first registers words at) (λ bp.
-    Gives (sp, bp))))
+    Answers (sp, bp))))
 
 -- What each rule does to the stack pointer and the frame pointer.
-abbrev pub moves : UnwindRuleX86_64 → Bool → UnwindRegsX86_64 → Words → Outcome Moved
+abbrev pub moves : UnwindRuleX86_64 → Bool → UnwindRegsX86_64 → Words → Outcome StackFrame
 moves EndOfStack is_first registers words = Ends
 moves JustReturn is_first registers words = raised_frame registers 8
 moves JustReturnIfFirstFrameOtherwiseFp is_first registers words =
@@ -64,17 +64,17 @@ return_address registers words sp =
     and_then (word words at) (λ to.
     if to == 0 then Ends else
     if (sp == sp_of registers) && (to == ip_of registers) then Refuses DidNotAdvance else
-    Gives to))
+    Answers to))
 
 -- The caller's registers: all that the rule doesn't name stay.
 abbrev pub caller_registers : UnwindRegsX86_64 → ℕ → ℕ → ℕ → UnwindRegsX86_64
 caller_registers registers ip sp bp = with_register (with_register (with_ip registers ip) RSP sp) RBP bp
 
 -- What every rule ends with.
-abbrev pub returned_caller : UnwindRegsX86_64 → Words → Moved → Outcome (Caller UnwindRegsX86_64)
+abbrev pub returned_caller : UnwindRegsX86_64 → Words → StackFrame → Outcome (Caller UnwindRegsX86_64)
 returned_caller registers words (sp, bp) =
     and_then (return_address registers words sp) (λ to.
-    Gives (record { return_address = to; registers = caller_registers registers to sp bp }))
+    Answers (record { return_address = to; registers = caller_registers registers to sp bp }))
 
 -- The meaning of a rule, for a frame with these registers, first or later, on a stack of these words.
 abbrev pub rule_meaning : UnwindRuleX86_64 → Bool → UnwindRegsX86_64 → Words → Outcome (Caller UnwindRegsX86_64)

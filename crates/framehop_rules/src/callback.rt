@@ -12,7 +12,8 @@ pub trait Statement {
 pub fn one_read_over_words<F: FnMut(u64) -> Result<u64, ()>, P: Statement>()
     ensures none { (state : F) → ((words : Words) → P.holds words)
         → OverWords F.step state state P.holds }
-    ensures read { (old new : F) (at : ℕ) (r : Result ℕ (Unit {0})) → at < 2 ^ 64 → F.step old at r new
+    ensures read { (old new : F) (at : ℕ) (r : Result ℕ (Unit {0}))
+        → at < 2 ^ 64 → F.step old at r new
         → ((words : Words) → r ≡ read_answer (words at) → P.holds words)
         → OverWords F.step old new P.holds }
 {}

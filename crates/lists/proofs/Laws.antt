@@ -1,8 +1,9 @@
 -- Laws of lists. Each is the contract of a function of the crate.
-use Rattle.std.proofs.Common.{◌≡◌, ℕ, zero, suc, ◌<◌, ◌≤◌, Bool, true, false, List, [], ◌∷◌, ◌++◌, Option, Some, None, Result, Ok, Err, refl, sym, ap, subst, ◌∙◌, arith}
+use Rattle.std.proofs.Common.{◌≡◌, ℕ, zero, suc, ◌<◌, ◌≤◌, Bool, true, false, List, [], ◌∷◌, ◌++◌, length, get_or, Option, Some, None, Result, Ok, Err, refl, sym, ap, subst, ◌∙◌, arith}
 use Rattle.std.specs.Prelude.{nat_lt, nat_le, ◌&&◌}
-use Rattle.std.specs.List.{find, list_all}
-use Rattle.lists.specs.Greatest.{is_greatest, first_greatest, greater, greater_of}
+use Rattle.std.specs.List.{filter, find, list_all}
+use Rattle.std.specs.List.Sorted.{IsNonDecreasingBy}
+use Rattle.lists.specs.Greatest.{is_greatest, first_greatest, last_greatest, greater, greater_of}
 use Rattle.lists.specs.Items.{Answer, items_from, items_within, items_of, rest_from, rest_within, rest_of, Shrinks, GivesNext, LeavesNone, step_taken}
 use Rattle.lists.specs.Last.{last_of}
 
@@ -36,6 +37,22 @@ pub last_of-none : {A : Type 0} (xs : List A) → last_of xs ≡ None → xs ≡
 last_of-none [] h = refl
 last_of-none (x ∷ []) h = cc
 last_of-none (x ∷ y ∷ ys) h = let e : y ∷ ys ≡ [] = last_of-none (y ∷ ys) h in cc
+
+-- the last of a list stands at its last place
+pub last_of-at : {A : Type 0} (xs : List A) (i : ℕ) (d : A) → length xs ≡ suc i → last_of xs ≡ Some (get_or xs i d)
+last_of-at [] i d len = absurd (omega arith)
+last_of-at (x ∷ []) zero d len = refl
+last_of-at (x ∷ []) (suc i) d len = absurd (omega arith)
+last_of-at (x ∷ y ∷ ys) zero d len = absurd (omega arith)
+last_of-at (x ∷ y ∷ ys) (suc i) d len = last_of-at (y ∷ ys) i d (omega arith)
+
+-- the last of a list, where it passes a test, is the last of those that pass
+last_of-filter : {A : Type 0} (p : A → Bool) (xs : List A) (y : A) → last_of xs ≡ Some y → p y ≡ true → last_of (filter p xs) ≡ Some y
+last_of-filter p [] y h passes = cc
+last_of-filter p (x ∷ []) y h passes = let same : x ≡ y = cc in let here : p x ≡ true = rw same passes in rw here h
+last_of-filter p (x ∷ z ∷ zs) y h passes =
+    let others = last_of-filter p (z ∷ zs) y h passes in
+    by_case (p x) (λ is. rw is (last_of-cons x y (filter p (z ∷ zs)) others)) (λ is. rw is others)
 
 -- ---- the greatest
 
@@ -108,6 +125,25 @@ module _ {A : Type 0} (key : A → ℕ) where
   pub first_greatest-cons : (f : A) (ys : List A) → first_greatest key (f ∷ ys) ≡ greater_of key (Some f) (first_greatest key ys)
   first_greatest-cons f [] = let self : nat_le (key f) (key f) ≡ true = grind arith in rw self refl
   first_greatest-cons f (y ∷ ys) = let (g, found, last) = has_greatest y ys in let (first, greatest) = step f g (y ∷ ys) found last in first ∙ ap (greater_of key (Some f)) (sym found)
+
+  -- in a list in the order of the keys none is above the last
+  last-greatest : (xs : List A) (y : A) → IsNonDecreasingBy key xs → last_of xs ≡ Some y → is_greatest key xs y ≡ true
+  last-greatest [] y up h = refl
+  last-greatest (x ∷ []) y up h =
+      let same : x ≡ y = cc in let here : nat_le (key x) (key y) ≡ true = rw same (grind arith) in rw here refl
+  last-greatest (x ∷ z ∷ zs) y up h =
+      let others = last-greatest (z ∷ zs) y (λ i j d le lt. up (suc i) (suc j) d (omega arith) (omega arith)) h in
+      let (next, more) = both (nat_le (key z) (key y)) (list_all (λ other. nat_le (key other) (key y)) zs) others in
+      let first : key x ≤ key z = up 0 1 x (omega arith) (omega arith) in
+      let here : nat_le (key x) (key y) ≡ true = grind arith in
+      rw (here, next) more
+
+  -- there the last of the greatest is the last
+  pub last_greatest-sorted : (xs : List A) → IsNonDecreasingBy key xs → last_greatest key xs ≡ last_of xs
+  last_greatest-sorted xs up =
+      by_option (last_of xs)
+      (λ y is. last_of-filter (is_greatest key xs) xs y is (last-greatest xs y up is) ∙ sym is)
+      (λ none. rw (last_of-none xs none) refl)
 
 -- ---- items
 

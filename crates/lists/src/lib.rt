@@ -3,8 +3,10 @@
 //! is a law of them: it does nothing when the program runs.
 #![tactic(auto)]
 
-ghost use Rattle.std.specs.Prelude.{◌≡◌, ℕ, Bool, true, false, List, [], ◌∷◌, ◌++◌, Option, Some, None, Result};
-ghost use Rattle.lists.specs.Greatest.{first_greatest, greater_of};
+ghost use Rattle.std.specs.Prelude.{◌≡◌, ◌+◌, ℕ, Bool, true, false, List, [], ◌∷◌, ◌++◌, Option, Some, None, Result, length};
+ghost use Rattle.std.specs.List.{slice_index_or};
+ghost use Rattle.std.specs.List.Sorted.{IsNonDecreasingBy};
+ghost use Rattle.lists.specs.Greatest.{first_greatest, last_greatest, greater_of};
 ghost use Rattle.lists.specs.Items.{Answer, GivesNext, LeavesNone, Shrinks, items_from, items_of, rest_from, rest_of, step_taken};
 ghost use Rattle.lists.specs.Last.{last_of};
 
@@ -19,11 +21,20 @@ pub fn last_by_parts<A>()
     ensures push { (xs : List A) (y : A) → last_of (xs ++ y ∷ []) ≡ Some y }
     ensures cons { (x y : A) (xs : List A) → last_of xs ≡ Some y → last_of (x ∷ xs) ≡ Some y }
     ensures none { (xs : List A) → last_of xs ≡ None → xs ≡ [] }
+    ensures at { (xs : List A) (i : ℕ) (d : A) → length xs ≡ i + 1
+        → last_of xs ≡ Some (slice_index_or xs i d) }
 {}
 
 /// The first of the elements with the greatest key, where one more goes to the front.
 pub fn greatest_by_parts<A>()
-    ensures { (key : A → ℕ) (x : A) (xs : List A) → first_greatest key (x ∷ xs) ≡ greater_of key (Some x) (first_greatest key xs) }
+    ensures { (key : A → ℕ) (x : A) (xs : List A)
+        → first_greatest key (x ∷ xs) ≡ greater_of key (Some x) (first_greatest key xs) }
+{}
+
+/// In a list in the order of the keys the last of the elements with the greatest key is the last.
+pub fn greatest_in_order<A>()
+    ensures { (key : A → ℕ) (xs : List A) → IsNonDecreasingBy key xs
+        → last_greatest key xs ≡ last_of xs }
 {}
 
 /// Items begin with what one step gives, and go on with those of what is left behind it.

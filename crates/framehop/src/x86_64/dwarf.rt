@@ -1,14 +1,16 @@
 //! The rows of x86_64: as unwind rules, or evaluated.
 
-ghost use Rattle.std.specs.Prelude.{◌≡◌, option_and_then};
-ghost use Rattle.framehop_rules.specs.Callback.{OverWords};
+ghost use Rattle.std.specs.Prelude.{◌≡◌, Bool, option_and_then};
+ghost use Rattle.framehop_rules.specs.Callback.{Words, OverWords};
 ghost use Rattle.framehop.specs.Attempt.{by_parts};
 ghost use Rattle.framehop.specs.DirectRow.{direct_return_address, direct_refusal, direct_answer};
 ghost use Rattle.framehop.specs.DirectViews.{caller_shown};
 ghost use Rattle.dwarf_call_frames.specs.EntryViews.{section_bytes};
 ghost use Rattle.framehop.specs.UnwindResults.{trial, with_registers, of_dwarf, KeepsUnlessDirect};
-ghost use Rattle.framehop.specs.Judge.{RulesSayTheirRows};
-ghost use Rattle.framehop.specs.ScaledRow.{eighth_of, as_u16, as_i16, from_sp, from_bp, from_return_address, scaled_rule};
+ghost use Rattle.framehop_rules.specs.Outcome.{Answers, Caller};
+ghost use Rattle.framehop_rules.specs.RuleMeaning.{rule_meaning};
+ghost use Rattle.framehop.specs.RowAnswer.{row_answer};
+ghost use Rattle.framehop.specs.ScaledRow.{Parts, eighth_of, as_u16, as_i16, from_sp, from_bp, from_return_address, scaled_rule};
 ghost use Rattle.framehop.specs.RowViews.{parts_shown};
 
 use crate::dwarf::DwarfUnwinderError;
@@ -209,9 +211,14 @@ pub(crate) fn unwind_frame<F: FnMut(u64) -> Result<u64, ()>>(
     Ok(UnwindResult::Uncacheable(caller.return_address))
 }
 
-/// Where a rule says a row exactly, the rule's answer has the row's numbers, for all registers and
-/// all stacks: RIP, RSP and RBP of the caller are those that the row's CFA and columns give. So a
-/// row that is translated needs no evaluation of its own.
-fn rule_answers_as_its_row()
-    ensures { RulesSayTheirRows }
+/// A law of scaled rows: where a rule says a row exactly and the rule answers, its answer is the
+/// row's, for all registers and all stacks. RIP, RSP and RBP of the caller are those that the row's
+/// CFA and columns give, so that a row that is translated needs no evaluation of its own. The
+/// function does nothing when the program runs.
+pub fn rule_answers_as_its_row()
+    ensures { (parts : Parts) (rule : UnwindRuleX86_64) (first : Bool) (registers : UnwindRegsX86_64)
+        (words : Words) (caller : Caller UnwindRegsX86_64)
+        → scaled_rule parts ≡ Some rule
+        → rule_meaning rule first registers words ≡ Answers caller
+        → row_answer registers words parts ≡ Some caller }
 {}

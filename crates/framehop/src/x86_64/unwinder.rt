@@ -32,7 +32,8 @@ impl UnwinderX86_64 {
     /// Adds a module, before those of an equal or a greater start. Where memory for it is refused,
     /// it comes back and nothing changes.
     pub fn add_module(&mut self, module: Module) -> Result<(), AllocFailed<Module>>
-        ensures ok { OnOk result (modules_of self.new ≡ with_module (module_view «module») (modules_of self.old)) }
+        ensures ok { OnOk result
+            (modules_of self.new ≡ with_module (module_view «module») (modules_of self.old)) }
         ensures refused { OnErr result (modules_of self.new ≡ modules_of self.old) }
         ensures returned { IfErr result (λ failed. failed.value ≡ «module») }
     {

@@ -1,6 +1,6 @@
 use Rattle.std.proofs.Common.{◌≡◌, ℕ, ◌<◌, ◌≤◌, Bool, true, false, arith}
 use Rattle.std.specs.Prelude.{Option, Some, None}
-use Rattle.framehop_rules.specs.Outcome.{Gives, Refuses, word}
+use Rattle.framehop_rules.specs.Outcome.{Answers, Refuses, word}
 use Rattle.framehop_rules.specs.Registers.{sp_of, bp_of}
 use Rattle.framehop_rules.specs.RuleMeaning.{stored_bp}
 use Rattle.framehop_rules.specs.declared.error.Error.{Error}
@@ -11,14 +11,14 @@ use Rattle.framehop_rules.proofs.x86_64.unwind_rule.read_stored_bp.Goals.{else-i
 
 -- a word that was read is what was stored
 read : (there : Option ℕ) (is_first : Bool) (registers : UnwindRegsX86_64) (at bp : ℕ)
-    → Gives bp ≡ word (λ _. there) at → Gives bp ≡ stored_bp is_first registers (λ _. there) at
+    → Answers bp ≡ word (λ _. there) at → Answers bp ≡ stored_bp is_first registers (λ _. there) at
 read (Some found) is_first registers at bp is = grind arith
 read None is_first registers at bp is = grind arith
 
 -- an unreadable word below the stack pointer of a first frame
 popped : (there : Option ℕ) (registers : UnwindRegsX86_64) (at : ℕ) (error : Error)
     → Refuses error ≡ word (λ _. there) at → at < sp_of registers
-    → Gives (bp_of registers) ≡ stored_bp true registers (λ _. there) at
+    → Answers (bp_of registers) ≡ stored_bp true registers (λ _. there) at
 popped (Some found) registers at error is below = grind arith
 popped None registers at error is below = grind arith
 

@@ -2,7 +2,7 @@ use Rattle.std.proofs.Common.{◌≡◌, ℕ, ◌*◌, ℤ, pos, ◌*ℤ◌, Boo
 use Rattle.std.proofs.lemmas.Int.{to_z-of_z}
 use Rattle.framehop_rules.specs.Callback.{Words}
 use Rattle.framehop_rules.specs.Outcome.{Outcome, outcome_of}
-use Rattle.framehop_rules.specs.RuleMeaning.{Moved, moves, restored_frame}
+use Rattle.framehop_rules.specs.RuleMeaning.{StackFrame, moves, restored_frame}
 use Rattle.framehop_rules.specs.declared.x86_64.unwind_rule.UnwindRuleX86_64.{UnwindRuleX86_64}
 use Rattle.framehop_rules.specs.declared.x86_64.unwind_rule.UnwindRuleX86_64.TheVariants.{OffsetSpAndRestoreBp}
 use Rattle.framehop_rules.specs.declared.x86_64.unwindregs.UnwindRegsX86_64.{UnwindRegsX86_64}
@@ -11,7 +11,7 @@ use Rattle.framehop_rules.proofs.x86_64.unwind_rule.UnwindRuleX86_64.moved.Goals
 
 -- the moves that restore the frame pointer, at offsets in bytes
 restoring : (rule : UnwindRuleX86_64) (is_first : Bool) (registers : UnwindRegsX86_64) (words : Words) (x : ℕ) (y : ℤ)
-    (bytes : ℕ) (offset : ℤ) (outcome : Outcome Moved) → SFits w16 y → SFits w64 offset → rule ≡ OffsetSpAndRestoreBp x y
+    (bytes : ℕ) (offset : ℤ) (outcome : Outcome StackFrame) → SFits w16 y → SFits w64 offset → rule ≡ OffsetSpAndRestoreBp x y
     → bytes ≡ 8 * x → offset ≡ pos 8 *ℤ to_z w16 (of_z w16 y)
     → outcome ≡ restored_frame is_first registers words bytes (to_z w64 (of_z w64 offset))
     → outcome ≡ moves rule is_first registers words

@@ -2,8 +2,8 @@ use Rattle.std.proofs.Common.{◌≡◌, ℕ, Bool, ap, ◌∙◌, sym, refl}
 use Rattle.std.proofs.lemmas.Result.{err_from_is_err_and}
 use Rattle.std.specs.Prelude.{Option, Some, Result, Ok, Err}
 use Rattle.framehop_rules.specs.Callback.{Words}
-use Rattle.framehop_rules.specs.Outcome.{Gives, and_then, answer_of_outcome, registers_after, outcome_or_end_of}
-use Rattle.framehop_rules.specs.RuleMeaning.{Moved, moves, return_address, caller_registers, returned_caller, rule_meaning}
+use Rattle.framehop_rules.specs.Outcome.{Answers, and_then, answer_of_outcome, registers_after, outcome_or_end_of}
+use Rattle.framehop_rules.specs.RuleMeaning.{StackFrame, moves, return_address, caller_registers, returned_caller, rule_meaning}
 use Rattle.framehop_rules.specs.declared.error.Error.{Error}
 use Rattle.framehop_rules.specs.declared.x86_64.unwind_rule.UnwindRuleX86_64.{UnwindRuleX86_64}
 use Rattle.framehop_rules.specs.declared.x86_64.unwindregs.UnwindRegsX86_64.{UnwindRegsX86_64}
@@ -12,12 +12,12 @@ use Rattle.framehop_rules.proofs.x86_64.unwind_rule.UnwindRuleX86_64UnwindRule.e
 
 -- the rule's meaning, from what the moves and the read of the return address gave
 meaning_is : (rule : UnwindRuleX86_64) (is_first : Bool) (registers : UnwindRegsX86_64) (words : Words) (sp bp : ℕ)
-    (moved : Option Moved) → moved ≡ Some (sp, bp) → outcome_or_end_of (Ok moved) ≡ moves rule is_first registers words
+    (moved : Option StackFrame) → moved ≡ Some (sp, bp) → outcome_or_end_of (Ok moved) ≡ moves rule is_first registers words
     → (read answer : Result (Option ℕ) Error) → read ≡ answer → outcome_or_end_of read ≡ return_address registers words sp
-    → and_then (outcome_or_end_of answer) (λ to. Gives (record { return_address = to; registers = caller_registers registers to sp bp }))
+    → and_then (outcome_or_end_of answer) (λ to. Answers (record { return_address = to; registers = caller_registers registers to sp bp }))
     ≡ rule_meaning rule is_first registers words
 meaning_is rule is_first registers words sp bp moved is moved_is read answer read_is returns =
-    ap (λ r. and_then r (λ to. Gives (record { return_address = to; registers = caller_registers registers to sp bp })))
+    ap (λ r. and_then r (λ to. Answers (record { return_address = to; registers = caller_registers registers to sp bp })))
     (ap outcome_or_end_of (sym read_is) ∙ returns)
     ∙ ap (λ m. and_then m (returned_caller registers words)) (sym (ap (λ o. outcome_or_end_of (Ok o)) is) ∙ moved_is)
 
