@@ -1,212 +1,176 @@
-//! Values from outside and printed texts.
-
+//! Single steps by each rule, the registers, the addresses of frames, and printed texts.
 use crate::worked::word_at;
 use framehop_rules::x86_64::{Reg, UnwindRegsX86_64, UnwindRuleX86_64};
 use framehop_rules::{Error, FrameAddress, HexNum, UnwindRule};
 use std::process::Abort;
+use std::test::Fail;
 
-/// One step from `regs`: its answer, and the registers ip, sp and bp after it.
+/// The registers ip, sp and bp.
+type Registers = (u64, u64, u64);
+
+/// A frame of the worked stack.
+const START: Registers = (0x101000, 0x10, 0x20);
+
+const EITHER: UnwindRuleX86_64 = UnwindRuleX86_64::JustReturnIfFirstFrameOtherwiseFp;
+
+/// SP is higher by so many words.
+fn raised(words: u16) -> UnwindRuleX86_64 {
+    UnwindRuleX86_64::OffsetSp {
+        sp_offset_by_8: words,
+    }
+}
+
+/// SP is higher by so many words, and BP stored so many words above SP.
+fn restored(words: u16, bp: i16) -> UnwindRuleX86_64 {
+    UnwindRuleX86_64::OffsetSpAndRestoreBp {
+        sp_offset_by_8: words,
+        bp_storage_offset_from_sp_by_8: bp,
+    }
+}
+
+/// One step over the part of the worked stack from an address on: its answer, and the registers
+/// after it.
 fn assert_step(
     rt: &impl Abort,
     rule: UnwindRuleX86_64,
     is_first_frame: bool,
-    (ip, sp, bp): (u64, u64, u64),
+    lowest: u64,
+    (ip, sp, bp): Registers,
     answer: Result<Option<u64>, Error>,
-    after: (u64, u64, u64),
+    after: Registers,
 ) {
     let mut regs = UnwindRegsX86_64::new(ip, sp, bp);
-    let mut read_stack = |address: u64| word_at(address);
+    let mut read_stack = |address: u64| if address < lowest {
+        Err(())
+    } else {
+        word_at(address)
+    };
     assert_eq!(rt;
         rule.exec(is_first_frame, &mut regs, &mut read_stack),
         answer,
-        "{rule:?}"
+        "{rule:?} at {ip:x}, {sp:x}, {bp:x}"
     );
-    assert_eq!(rt; (regs.ip(), regs.sp(), regs.bp()), after, "{rule:?}");
-}
-
-#[test]
-fn walks_a_stack(rt: HostRuntime) {
-    let offset = UnwindRuleX86_64::OffsetSp { sp_offset_by_8: 1 };
-    let frame_pointer = UnwindRuleX86_64::UseFramePointer;
-    assert_step(
-        &rt,
-        offset,
-        true,
-        (0x100400, 0x10, 0x20),
-        Ok(Some(0x100300)),
-        (0x100300, 0x18, 0x20),
-    );
-    assert_step(
-        &rt,
-        frame_pointer,
-        true,
-        (0x100300, 0x10, 0x20),
-        Ok(Some(0x100200)),
-        (0x100200, 0x30, 0x40),
-    );
-    assert_step(
-        &rt,
-        frame_pointer,
-        false,
-        (0x100200, 0x30, 0x40),
-        Ok(Some(0x100100)),
-        (0x100100, 0x50, 0x70),
-    );
-    assert_step(
-        &rt,
-        frame_pointer,
-        false,
-        (0x100100, 0x50, 0x70),
-        Ok(None),
-        (0x100100, 0x50, 0x70),
+    assert_eq!(rt;
+        (regs.ip(), regs.sp(), regs.bp()),
+        after,
+        "{rule:?} at {ip:x}, {sp:x}, {bp:x}"
     );
 }
 
+/// The first four are a walk, of which the last frame is the third.
 #[test]
-fn executes_each_rule(rt: HostRuntime) {
-    let start = (0x101000, 0x10, 0x20);
-    let just_return = UnwindRuleX86_64::JustReturn;
-    let either = UnwindRuleX86_64::JustReturnIfFirstFrameOtherwiseFp;
-    let restore = UnwindRuleX86_64::OffsetSpAndRestoreBp {
-        sp_offset_by_8: 4,
-        bp_storage_offset_from_sp_by_8: 2,
-    };
-    let popped = UnwindRuleX86_64::OffsetSpAndRestoreBp {
-        sp_offset_by_8: 3,
-        bp_storage_offset_from_sp_by_8: -2,
-    };
-    assert_step(
-        &rt,
-        UnwindRuleX86_64::EndOfStack,
-        true,
-        start,
-        Ok(None),
-        start,
-    );
-    assert_step(
-        &rt,
-        just_return,
-        true,
-        start,
-        Ok(Some(0x100300)),
-        (0x100300, 0x18, 0x20),
-    );
-    assert_step(
-        &rt,
-        either,
-        true,
-        start,
-        Ok(Some(0x100300)),
-        (0x100300, 0x18, 0x20),
-    );
-    assert_step(
-        &rt,
-        either,
-        false,
-        start,
-        Ok(Some(0x100200)),
-        (0x100200, 0x30, 0x40),
-    );
-    assert_step(
-        &rt,
-        restore,
-        true,
-        start,
-        Ok(Some(0x100200)),
-        (0x100200, 0x30, 0x40),
-    );
-    assert_step(
-        &rt,
-        popped,
-        true,
-        (0x101000, 0x8, 0x20),
-        Err(Error::IntegerOverflow),
-        (0x101000, 0x8, 0x20),
-    );
+fn answers_callers(rt: HostRuntime) {
+    for (rule, is_first_frame, before, after) in [
+        (
+            raised(1),
+            true,
+            (0x100400, 0x10, 0x20),
+            (0x100300, 0x18, 0x20),
+        ),
+        (
+            UnwindRuleX86_64::UseFramePointer,
+            true,
+            (0x100300, 0x10, 0x20),
+            (0x100200, 0x30, 0x40),
+        ),
+        (
+            UnwindRuleX86_64::UseFramePointer,
+            false,
+            (0x100200, 0x30, 0x40),
+            (0x100100, 0x50, 0x70),
+        ),
+        (
+            UnwindRuleX86_64::JustReturn,
+            true,
+            START,
+            (0x100300, 0x18, 0x20),
+        ),
+        (EITHER, true, START, (0x100300, 0x18, 0x20)),
+        (EITHER, false, START, (0x100200, 0x30, 0x40)),
+        (restored(4, 2), true, START, (0x100200, 0x30, 0x40)),
+    ] {
+        assert_step(
+            &rt,
+            rule,
+            is_first_frame,
+            0,
+            before,
+            Ok(Some(after.0)),
+            after,
+        );
+    }
 }
 
+/// Where no caller is answered the registers stay.
 #[test]
-fn refuses(rt: HostRuntime) {
-    let just_return = UnwindRuleX86_64::JustReturn;
-    let stays = UnwindRuleX86_64::OffsetSp { sp_offset_by_8: 0 };
-    let frame_pointer = UnwindRuleX86_64::UseFramePointer;
-    let restore = UnwindRuleX86_64::OffsetSpAndRestoreBp {
-        sp_offset_by_8: 1,
-        bp_storage_offset_from_sp_by_8: 100,
-    };
+fn ends_and_refuses(rt: HostRuntime) {
     let last = u64::MAX - 7;
-    assert_step(
-        &rt,
-        just_return,
-        true,
-        (1, last, 2),
-        Err(Error::IntegerOverflow),
-        (1, last, 2),
-    );
-    assert_step(
-        &rt,
-        stays,
-        true,
-        (1, 0, 2),
-        Err(Error::IntegerOverflow),
-        (1, 0, 2),
-    );
-    assert_step(
-        &rt,
-        stays,
-        true,
-        (0x100300, 0x18, 2),
-        Err(Error::DidNotAdvance),
-        (0x100300, 0x18, 2),
-    );
-    assert_step(
-        &rt,
-        just_return,
-        true,
-        (1, 0x80, 2),
-        Err(Error::CouldNotReadStack(0x80)),
-        (1, 0x80, 2),
-    );
-    assert_step(
-        &rt,
-        frame_pointer,
-        false,
-        (1, 0x30, 0x20),
-        Err(Error::FramepointerUnwindingMovedBackwards),
-        (1, 0x30, 0x20),
-    );
-    assert_step(
-        &rt,
-        restore,
-        true,
-        (1, 0x10, 2),
-        Err(Error::CouldNotReadStack(0x330)),
-        (1, 0x10, 2),
-    );
+    for (rule, is_first_frame, before, answer) in [
+        (
+            UnwindRuleX86_64::UseFramePointer,
+            false,
+            (0x100100, 0x50, 0x70),
+            Ok(None),
+        ),
+        (UnwindRuleX86_64::EndOfStack, true, START, Ok(None)),
+        (
+            restored(3, -2),
+            true,
+            (0x101000, 0x8, 0x20),
+            Err(Error::IntegerOverflow),
+        ),
+        (
+            UnwindRuleX86_64::JustReturn,
+            true,
+            (1, last, 2),
+            Err(Error::IntegerOverflow),
+        ),
+        (raised(0), true, (1, 0, 2), Err(Error::IntegerOverflow)),
+        (
+            raised(0),
+            true,
+            (0x100300, 0x18, 2),
+            Err(Error::DidNotAdvance),
+        ),
+        (
+            UnwindRuleX86_64::JustReturn,
+            true,
+            (1, 0x80, 2),
+            Err(Error::CouldNotReadStack(0x80)),
+        ),
+        (
+            UnwindRuleX86_64::UseFramePointer,
+            false,
+            (1, 0x30, 0x20),
+            Err(Error::FramepointerUnwindingMovedBackwards),
+        ),
+        (
+            restored(1, 100),
+            true,
+            (1, 0x10, 2),
+            Err(Error::CouldNotReadStack(0x330)),
+        ),
+    ] {
+        assert_step(&rt, rule, is_first_frame, 0, before, answer, before);
+    }
 }
 
 /// Below the stack pointer of a first frame an unreadable word leaves RBP in its register.
 #[test]
 fn reads_below_the_stack_pointer(rt: HostRuntime) {
-    let rule = UnwindRuleX86_64::OffsetSpAndRestoreBp {
-        sp_offset_by_8: 1,
-        bp_storage_offset_from_sp_by_8: -1,
-    };
-    for (is_first_frame, answer) in [
-        (true, Ok(Some(0x100300))),
-        (false, Err(Error::CouldNotReadStack(0x8))),
+    for (is_first_frame, answer, after) in [
+        (true, Ok(Some(0x100300)), (0x100300, 0x18, 0x20)),
+        (false, Err(Error::CouldNotReadStack(0x8)), START),
     ] {
-        let mut regs = UnwindRegsX86_64::new(0x101000, 0x10, 0x20);
-        let mut read_stack = |address: u64| if address < 0x10 {
-            Err(())
-        } else {
-            word_at(address)
-        };
-        assert_eq!(rt;
-            rule.exec(is_first_frame, &mut regs, &mut read_stack),
-            answer
+        assert_step(
+            &rt,
+            restored(1, -1),
+            is_first_frame,
+            0x10,
+            START,
+            answer,
+            after,
         );
-        assert_eq!(rt; regs.bp(), 0x20);
     }
 }
 
@@ -274,7 +238,7 @@ fn takes_addresses(rt: HostRuntime) {
 }
 
 #[test]
-fn prints(rt: HostRuntime) -> Result<(), std::test::Fail> {
+fn prints(rt: HostRuntime) -> Result<(), Fail> {
     for (error, text) in [
         (
             Error::CouldNotReadStack(0x1f8),

@@ -1,4 +1,4 @@
-//! Steps over one module, on a stack of sixteen words from address 0 on.
+//! Steps over one module, on the worked stack.
 use crate::worked::{EH_FRAME, word_at};
 use framehop::x86_64::{CacheX86_64, UnwindRegsX86_64, UnwinderX86_64};
 use framehop::{FrameAddress, Module};
@@ -14,19 +14,15 @@ const BY_EXPRESSION: [u8; 84] = [
     0x00, 0x00, 0x00, 0x00,
 ];
 
-/// The step from a frame in the module, as its return address, stack pointer and frame pointer.
-fn step(rt: &HostRuntime, ip: u64, sp: u64, bp: u64) -> Result<(Option<u64>, u64, u64), Fail> {
-    step_in(rt, &EH_FRAME, ip, sp, bp)
-}
+/// The registers ip, sp and bp.
+type Registers = (u64, u64, u64);
 
-/// The same, of a module with another section.
-fn step_in(
+/// What a step answers in a module with this section, and the registers that it leaves.
+fn step(
     rt: &HostRuntime,
     section: &[u8],
-    ip: u64,
-    sp: u64,
-    bp: u64,
-) -> Result<(Option<u64>, u64, u64), Fail> {
+    (ip, sp, bp): Registers,
+) -> Result<(Option<u64>, Registers), Fail> {
     let section = section.to_vec(rt.alloc())?;
     let module = Module::new(rt.alloc(), 0x100000..0x102000, 0x100000, 0, Some(section))?;
     let mut unwinder = UnwinderX86_64::new(rt.alloc());
@@ -36,42 +32,51 @@ fn step_in(
     let address = FrameAddress::from_instruction_pointer(ip);
     let mut read = word_at;
     let return_address = unwinder.unwind_frame(address, &mut regs, &mut cache, &mut read)?;
-    Ok((return_address, regs.sp(), regs.bp()))
+    Ok((return_address, (regs.ip(), regs.sp(), regs.bp())))
 }
 
 #[test]
-fn before_the_push_rsp_is_raised(rt: HostRuntime) -> Result<(), Fail> {
-    let caller = step(&rt, 0x101000, 0x10, 0x20)?;
-    assert_eq!(rt; caller, (Some(0x100300), 0x18, 0x20));
-    Ok(())
-}
-
-#[test]
-fn after_the_push_rbp_is_restored(rt: HostRuntime) -> Result<(), Fail> {
-    let caller = step(&rt, 0x101002, 0x20, 0x20)?;
-    assert_eq!(rt; caller, (Some(0x100200), 0x30, 0x40));
-    Ok(())
-}
-
-#[test]
-fn in_the_body_the_frame_pointer_is_followed(rt: HostRuntime) -> Result<(), Fail> {
-    let caller = step(&rt, 0x101004, 0x18, 0x20)?;
-    assert_eq!(rt; caller, (Some(0x100200), 0x30, 0x40));
-    Ok(())
-}
-
-#[test]
-fn by_an_expression_rsp_is_raised(rt: HostRuntime) -> Result<(), Fail> {
-    let caller = step_in(&rt, &BY_EXPRESSION, 0x101010, 0x10, 0x20)?;
-    assert_eq!(rt; caller, (Some(0x100300), 0x18, 0x20));
+fn a_row_gives_the_caller(rt: HostRuntime) -> Result<(), Fail> {
+    for (place, section, frame, caller) in [
+        (
+            "before the push RSP is raised",
+            EH_FRAME.as_slice(),
+            (0x101000, 0x10, 0x20),
+            (0x100300, 0x18, 0x20),
+        ),
+        (
+            "after the push RBP is restored",
+            EH_FRAME.as_slice(),
+            (0x101002, 0x20, 0x20),
+            (0x100200, 0x30, 0x40),
+        ),
+        (
+            "in the body the frame pointer is followed",
+            EH_FRAME.as_slice(),
+            (0x101004, 0x18, 0x20),
+            (0x100200, 0x30, 0x40),
+        ),
+        (
+            "by an expression RSP is raised",
+            BY_EXPRESSION.as_slice(),
+            (0x101010, 0x10, 0x20),
+            (0x100300, 0x18, 0x20),
+        ),
+    ] {
+        let (return_address, registers) = step(&rt, section, frame)?;
+        assert_eq!(rt; return_address, Some(caller.0), "{place}");
+        assert_eq!(rt; registers, caller, "{place}");
+    }
     Ok(())
 }
 
 #[test]
 fn a_module_tells_its_place(rt: HostRuntime) -> Result<(), Fail> {
     let module = Module::new(rt.alloc(), 0x100000..0x102000, 0x0ff000, 0, None)?;
-    assert_eq!(rt; module.avma_range().start, 0x100000);
-    assert_eq!(rt; module.avma_range().end, 0x102000);
-    assert_eq!(rt; module.base_avma(), 0x0ff000);
+    let range = module.avma_range();
+    assert_eq!(rt;
+        (range.start, range.end, module.base_avma()),
+        (0x100000, 0x102000, 0x0ff000)
+    );
     Ok(())
 }
