@@ -184,33 +184,6 @@ pub struct DebugRngListsIndex<T = usize>(pub T);
 #[derive(Debug, Clone, Copy, PartialEq, Eq, PartialOrd, Ord, Hash)]
 pub struct DebugStrOffset<T = usize>(pub T);
 
-/// The offset of a unit's entries in `.debug_str_offsets`, in bytes.
-#[derive(Debug, Clone, Copy, PartialEq, Eq, PartialOrd, Ord, Hash)]
-pub struct DebugStrOffsetsBase<T = usize>(pub T);
-
-impl<Offset: From<u8>> DebugStrOffsetsBase<Offset> {
-    ghost use Rattle.dwarf_constants.specs.Format.{default_str_offsets_base};
-
-    /// The base of a unit that names none: behind the header that version 5 put before the entries
-    /// of a `.dwo` file, else the section's start.
-    pub fn default_for_encoding_and_file(
-        encoding: Encoding,
-        file_type: DwarfFileType,
-    ) -> DebugStrOffsetsBase<Offset>
-        ensures { Offset.from_gives (default_str_offsets_base encoding file_type) result.0 }
-    {
-        let base: u8 = if encoding.version >= 5 && file_type == DwarfFileType::Dwo {
-            match encoding.format {
-                Format::Dwarf64 => 16,
-                Format::Dwarf32 => 8,
-            }
-        } else {
-            0
-        };
-        DebugStrOffsetsBase(Offset::from(base))
-    }
-}
-
 /// A place in a unit's entries in `.debug_str_offsets`, in entries.
 #[derive(Debug, Clone, Copy, PartialEq, Eq, PartialOrd, Ord, Hash)]
 pub struct DebugStrOffsetsIndex<T = usize>(pub T);

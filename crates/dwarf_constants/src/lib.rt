@@ -11,10 +11,10 @@ pub use common::{
     DebugAbbrevOffset, DebugAddrBase, DebugAddrIndex, DebugAddrOffset, DebugArangesOffset,
     DebugFrameOffset, DebugInfoOffset, DebugLineOffset, DebugLineStrOffset, DebugLocListsBase,
     DebugLocListsIndex, DebugMacinfoOffset, DebugMacroOffset, DebugNamesOffset, DebugRngListsBase,
-    DebugRngListsIndex, DebugStrOffset, DebugStrOffsetsBase, DebugStrOffsetsIndex,
-    DebugTypeSignature, DebugTypesOffset, DwarfFileType, DwoId, EhFrameOffset, Encoding, Format,
-    LineEncoding, LocationListsOffset, RangeListsOffset, RawRangeListsOffset, ReaderOffsetId,
-    Register, SectionId, UnitOffset, UnitSectionOffset, Vendor,
+    DebugRngListsIndex, DebugStrOffset, DebugStrOffsetsIndex, DebugTypeSignature, DebugTypesOffset,
+    DwarfFileType, DwoId, EhFrameOffset, Encoding, Format, LineEncoding, LocationListsOffset,
+    RangeListsOffset, RawRangeListsOffset, ReaderOffsetId, Register, SectionId, UnitOffset,
+    UnitSectionOffset, Vendor,
 };
 pub use constants::{
     DwAccess, DwAddr, DwAte, DwCc, DwCfa, DwChildren, DwDefaulted, DwDs, DwDsc, DwEhPe, DwEnd,

@@ -17,17 +17,17 @@ pub use dwarf_constants::{
     AArch64, DebugAbbrevOffset, DebugAddrBase, DebugAddrIndex, DebugAddrOffset, DebugArangesOffset,
     DebugFrameOffset, DebugInfoOffset, DebugLineOffset, DebugLineStrOffset, DebugLocListsBase,
     DebugLocListsIndex, DebugMacinfoOffset, DebugMacroOffset, DebugNamesOffset, DebugRngListsBase,
-    DebugRngListsIndex, DebugStrOffset, DebugStrOffsetsBase, DebugStrOffsetsIndex,
-    DebugTypeSignature, DebugTypesOffset, DwAccess, DwAddr, DwAte, DwCc, DwCfa, DwChildren,
-    DwDefaulted, DwDs, DwDsc, DwEhPe, DwEnd, DwForm, DwId, DwIdx, DwInl, DwLang, DwLle, DwLnct,
-    DwLne, DwLns, DwMacinfo, DwMacro, DwOp, DwOrd, DwRle, DwSect, DwSectV2, DwUt, DwVirtuality,
-    DwVis, DwarfFileType, DwoId, EhFrameOffset, Encoding, Error, Format, LineEncoding,
-    LocationListsOffset, RangeListsOffset, RawRangeListsOffset, ReaderOffsetId, Register, Result,
-    SectionId, UnitOffset, UnitSectionOffset, Vendor, X86_64, constants,
+    DebugRngListsIndex, DebugStrOffset, DebugStrOffsetsIndex, DebugTypeSignature, DebugTypesOffset,
+    DwAccess, DwAddr, DwAte, DwCc, DwCfa, DwChildren, DwDefaulted, DwDs, DwDsc, DwEhPe, DwEnd,
+    DwForm, DwId, DwIdx, DwInl, DwLang, DwLle, DwLnct, DwLne, DwLns, DwMacinfo, DwMacro, DwOp,
+    DwOrd, DwRle, DwSect, DwSectV2, DwUt, DwVirtuality, DwVis, DwarfFileType, DwoId, EhFrameOffset,
+    Encoding, Error, Format, LineEncoding, LocationListsOffset, RangeListsOffset,
+    RawRangeListsOffset, ReaderOffsetId, Register, Result, SectionId, UnitOffset,
+    UnitSectionOffset, Vendor, X86_64, constants,
 };
 pub use dwarf_readers::{
-    BigEndian, EndianSlice, Endianity, LittleEndian, NativeEndian, Reader, ReaderOffset,
-    RunTimeEndian, Steps, leb128, read_u8_array,
+    BigEndian, DebugStrOffsetsBase, EndianSlice, Endianity, LittleEndian, NativeEndian, Reader,
+    ReaderOffset, RunTimeEndian, Steps, leb128, read_u8_array,
 };
 pub use section::Section;
 pub use str::{DebugLineStr, DebugStr, DebugStrOffsets};

@@ -7,10 +7,9 @@ ghost use Rattle.dwarf_readers.specs.Place.{Gives, whole};
 
 use crate::section::Section;
 use dwarf_constants::{
-    DebugLineStrOffset, DebugStrOffset, DebugStrOffsetsBase, DebugStrOffsetsIndex, Error, Format,
-    Result, SectionId,
+    DebugLineStrOffset, DebugStrOffset, DebugStrOffsetsIndex, Error, Format, Result, SectionId,
 };
-use dwarf_readers::{EndianSlice, Endianity, Reader, ReaderOffset};
+use dwarf_readers::{DebugStrOffsetsBase, EndianSlice, Endianity, Reader, ReaderOffset};
 use std::marker::Model;
 
 /// The strings of `.debug_str` (DWARF 5, 7.5.5, class string).

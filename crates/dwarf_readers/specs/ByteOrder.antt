@@ -1,5 +1,5 @@
 -- Numbers of several bytes, in either byte order (DWARF 5, 7.27).
-use Rattle.std.specs.Prelude.{ℕ, ◌+◌, ◌*◌, ◌^◌, List, [], ◌∷◌, length, Bool, true, false}
+use Rattle.std.specs.Prelude.{ℕ, ◌+◌, ◌*◌, ◌^◌, List, [], ◌∷◌, length, Bool, true, false, not}
 use Rattle.std.specs.Int.{bytes_low_first, bytes_high_first}
 
 -- the number in some bytes, the least significant byte first
@@ -21,3 +21,8 @@ number_of false bytes = little_endian bytes
 abbrev pub bytes_of : Bool → ℕ → ℕ → List ℕ
 bytes_of true n x = bytes_high_first n x
 bytes_of false n x = bytes_low_first 0 n x
+
+-- both orders are big-endian, or neither is
+abbrev pub same_order : Bool → Bool → Bool
+same_order true big = big
+same_order false big = not big

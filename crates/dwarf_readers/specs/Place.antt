@@ -11,6 +11,11 @@ pub record Stretch : Type 0 where
   pub place : ℕ
   pub big : Bool
 
+-- Two stretches have the same bytes and the same byte order, wherever they stand.
+pub record AreAlike (s t : Stretch) : Type 0 where
+  pub bytes : s.bytes ≡ t.bytes
+  pub order : s.big ≡ t.big
+
 -- a section as a whole
 abbrev pub whole : Bool → List ℕ → Stretch
 whole big section = record { bytes = section; place = 0; big = big }

@@ -1,9 +1,9 @@
 //! The order in which the bytes of a number stand.
 
-ghost use Rattle.std.specs.Prelude.{◌≡◌, ◌≤◌, ◌<◌, ◌++◌, Bool, true, false, not, length, take, drop};
+ghost use Rattle.std.specs.Prelude.{◌≡◌, ◌≤◌, ◌<◌, ◌++◌, Bool, true, false, not, refl, length, take, drop};
 ghost use Rattle.std.specs.Int.{w16, w32, w64, cast_signed};
 ghost use Rattle.dwarf_readers.specs.declared.endianity.RunTimeEndian.TheVariants.{Little, Big};
-ghost use Rattle.dwarf_readers.specs.ByteOrder.{number_of, bytes_of};
+ghost use Rattle.dwarf_readers.specs.ByteOrder.{number_of, bytes_of, same_order};
 
 use std::fmt::Debug;
 
@@ -168,14 +168,19 @@ pub trait Endianity: Debug + Default + Clone + Copy + PartialEq + Eq {
             buf[..16].copy_from_slice(&n.to_le_bytes());
         }
     }
+
+    /// Byte orders are equal where both or neither has the most significant byte first.
+    ghost equal: { (a b : Self) → Self.eq a b ≡ same_order (is_big a) (is_big b) };
 }
 
 /// The least significant byte comes first.
-#[derive(Debug, Clone, Copy, PartialEq, Eq, Default)]
+#[derive(Debug, Clone, Copy, PartialEq, Eq, Hash, Default)]
 pub struct LittleEndian;
 
 impl Endianity for LittleEndian {
     ghost is_big = { λ _. false };
+
+    ghost equal = { λ a b. refl };
 
     fn is_big_endian(self) -> bool {
         false
@@ -183,11 +188,13 @@ impl Endianity for LittleEndian {
 }
 
 /// The most significant byte comes first.
-#[derive(Debug, Clone, Copy, PartialEq, Eq, Default)]
+#[derive(Debug, Clone, Copy, PartialEq, Eq, Hash, Default)]
 pub struct BigEndian;
 
 impl Endianity for BigEndian {
     ghost is_big = { λ _. true };
+
+    ghost equal = { λ a b. refl };
 
     fn is_big_endian(self) -> bool {
         true
@@ -197,8 +204,12 @@ impl Endianity for BigEndian {
 /// The byte order of this machine.
 pub type NativeEndian = LittleEndian;
 
+/// The byte order of this machine, as a value.
+#[allow(non_upper_case_globals)]
+pub const NativeEndian: NativeEndian = LittleEndian;
+
 /// A byte order that is known when the program runs.
-#[derive(Debug, Clone, Copy, PartialEq, Eq)]
+#[derive(Debug, Clone, Copy, PartialEq, Eq, Hash)]
 pub enum RunTimeEndian {
     Little,
     Big,
@@ -214,6 +225,14 @@ impl Default for RunTimeEndian {
 
 impl Endianity for RunTimeEndian {
     ghost is_big = { elim [ Little ↦ false | Big ↦ true ] };
+
+    ghost equal = { λ a b. elim a as (λ x. ⟦<RunTimeEndian as PartialEq>⟧.eq x b
+        ≡ same_order (elim x [ Little ↦ false | Big ↦ true ]) (elim b [ Little ↦ false | Big ↦ true ])) [
+          | Little ↦ elim b as (λ y. ⟦<RunTimeEndian as PartialEq>⟧.eq Little y
+              ≡ same_order false (elim y [ Little ↦ false | Big ↦ true ])) [ Little ↦ refl | Big ↦ refl ]
+          | Big ↦ elim b as (λ y. ⟦<RunTimeEndian as PartialEq>⟧.eq Big y
+              ≡ same_order true (elim y [ Little ↦ false | Big ↦ true ])) [ Little ↦ refl | Big ↦ refl ]
+        ] };
 
     fn is_big_endian(self) -> bool {
         matches!(self, RunTimeEndian::Big)

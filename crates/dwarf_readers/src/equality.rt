@@ -2,15 +2,20 @@
 
 ghost use Rattle.std.specs.Prelude.{◌≡◌, IsTrue};
 ghost use Rattle.dwarf_readers.specs.declared.endian_slice.EndianSlice.{EndianSlice};
-ghost use Rattle.dwarf_readers.specs.EndianSlice.{endian_of, stretch_of};
+ghost use Rattle.dwarf_readers.specs.EndianSlice.{stretch_of};
+ghost use Rattle.dwarf_readers.specs.Place.{AreAlike};
 
 use crate::endian_slice::EndianSlice;
 use crate::endianity::Endianity;
 use std::hash::Hash;
 
-/// Equal slices have the same bytes and equal byte orders, wherever they stand, and hash alike.
+/// Two slices are equal exactly where their bytes and their byte orders are, wherever they stand, and
+/// then they hash alike.
 pub fn equal_slices_are_alike<'a, E: Endianity + Hash>()
-    ensures bytes { (a b : EndianSlice E) → IsTrue (⟦<EndianSlice<'a, E> as PartialEq>⟧.eq a b) → (stretch_of E.is_big a).bytes ≡ (stretch_of E.is_big b).bytes }
-    ensures order { (a b : EndianSlice E) → IsTrue (⟦<EndianSlice<'a, E> as PartialEq>⟧.eq a b) → IsTrue (E.eq (endian_of a) (endian_of b)) }
-    ensures hash { (a b : EndianSlice E) → IsTrue (⟦<EndianSlice<'a, E> as PartialEq>⟧.eq a b) → ⟦<EndianSlice<'a, E> as Hash>⟧.hash_input a ≡ ⟦<EndianSlice<'a, E> as Hash>⟧.hash_input b }
+    ensures equal { (a b : EndianSlice E) → IsTrue (⟦<EndianSlice<'a, E> as PartialEq>⟧.eq a b)
+        → AreAlike (stretch_of E.is_big a) (stretch_of E.is_big b) }
+    ensures alike { (a b : EndianSlice E) → AreAlike (stretch_of E.is_big a) (stretch_of E.is_big b)
+        → IsTrue (⟦<EndianSlice<'a, E> as PartialEq>⟧.eq a b) }
+    ensures hash { (a b : EndianSlice E) → AreAlike (stretch_of E.is_big a) (stretch_of E.is_big b)
+        → ⟦<EndianSlice<'a, E> as Hash>⟧.hash_input a ≡ ⟦<EndianSlice<'a, E> as Hash>⟧.hash_input b }
 {}

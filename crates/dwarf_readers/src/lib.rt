@@ -11,9 +11,11 @@ mod reader;
 mod reader_offset;
 pub mod remainders;
 mod steps;
+mod str_offsets_base;
 
 pub use endian_slice::EndianSlice;
 pub use endianity::{BigEndian, Endianity, LittleEndian, NativeEndian, RunTimeEndian};
 pub use reader::{Reader, read_u8_array};
 pub use reader_offset::ReaderOffset;
 pub use steps::Steps;
+pub use str_offsets_base::DebugStrOffsetsBase;

@@ -2,8 +2,8 @@
 //! A row of names counts up from its first value, as the tables of the standard do; `-` is a gap.
 use dwarf_constants::constants::*;
 use dwarf_constants::{
-    AArch64, DebugFrameOffset, DebugStrOffsetsBase, DwarfFileType, EhFrameOffset, Encoding, Error,
-    Format, LineEncoding, ReaderOffsetId, Register, SectionId, X86_64,
+    AArch64, DebugFrameOffset, EhFrameOffset, Error, Format, LineEncoding, ReaderOffsetId,
+    Register, SectionId, X86_64,
 };
 use std::alloc::{AllocError, Global};
 use std::fmt;
@@ -339,24 +339,6 @@ fn encodings_have_sizes_and_defaults(rt: HostRuntime) {
     );
     assert_eq!(rt; DebugFrameOffset::from(0x10u32), DebugFrameOffset(0x10));
     assert_eq!(rt; EhFrameOffset::from(0x10usize), EhFrameOffset(0x10));
-}
-
-#[test]
-fn string_offsets_begin_behind_a_header_in_new_split_files(rt: HostRuntime) {
-    for (format, version, file_type, base) in [
-        (Format::Dwarf32, 5, DwarfFileType::Dwo, 8),
-        (Format::Dwarf64, 5, DwarfFileType::Dwo, 16),
-        (Format::Dwarf64, 4, DwarfFileType::Dwo, 0),
-        (Format::Dwarf32, 5, DwarfFileType::Main, 0),
-    ] {
-        let encoding = Encoding {
-            address_size: 8,
-            format,
-            version,
-        };
-        let found = DebugStrOffsetsBase::<u64>::default_for_encoding_and_file(encoding, file_type);
-        assert_eq!(rt; found, DebugStrOffsetsBase(base));
-    }
 }
 
 #[test]

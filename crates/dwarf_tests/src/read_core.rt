@@ -6,14 +6,14 @@ mod second_reader;
 
 use crate::little;
 use dwarf_constants::{
-    DebugAbbrevOffset, DebugAddrBase, DebugAddrIndex, DebugStrOffset, DebugStrOffsetsBase,
-    DebugStrOffsetsIndex, DwChildren, DwForm, Encoding, Error, Format, ReaderOffsetId,
+    DebugAbbrevOffset, DebugAddrBase, DebugAddrIndex, DebugStrOffset, DebugStrOffsetsIndex,
+    DwChildren, DwForm, Encoding, Error, Format, ReaderOffsetId,
 };
 use dwarf_read_core::{
     Abbreviations, AttributeSpecification, DebugAbbrev, DebugAddr, DebugStr, DebugStrOffsets,
     Section,
 };
-use dwarf_readers::{EndianSlice, LittleEndian, Reader};
+use dwarf_readers::{DebugStrOffsetsBase, EndianSlice, LittleEndian, Reader};
 use std::test::Fail;
 
 fn table(rt: &HostRuntime, bytes: &[u8]) -> Result<Abbreviations, Error> {

@@ -5,10 +5,10 @@ mod second_reader;
 mod spelled;
 
 use crate::little;
-use dwarf_constants::{Error, Format, ReaderOffsetId};
+use dwarf_constants::{DwarfFileType, Encoding, Error, Format, ReaderOffsetId};
 use dwarf_readers::{
-    BigEndian, EndianSlice, Endianity, LittleEndian, NativeEndian, Reader, ReaderOffset,
-    RunTimeEndian, leb128, read_u8_array,
+    BigEndian, DebugStrOffsetsBase, EndianSlice, Endianity, LittleEndian, NativeEndian, Reader,
+    ReaderOffset, RunTimeEndian, leb128, read_u8_array,
 };
 use std::test::Fail;
 
@@ -86,6 +86,7 @@ fn byte_orders(rt: HostRuntime) -> Result<(), Fail> {
     BigEndian.write_u16(&mut out, 0x1234);
     assert_eq!(rt; out.as_slice(), [0x12, 0x34].as_slice());
     assert_eq!(rt; NativeEndian::default().is_little_endian(), true);
+    assert_eq!(rt; NativeEndian.is_little_endian(), true);
     Ok(())
 }
 
@@ -147,4 +148,22 @@ fn spellings(rt: HostRuntime) {
     assert_eq!(rt; leb128::uleb128_size(127), 1);
     assert_eq!(rt; leb128::uleb128_size(128), 2);
     assert_eq!(rt; leb128::uleb128_size(0xffff_ffff_ffff_ffff), 10);
+}
+
+#[test]
+fn string_offsets_begin_behind_a_header_in_new_split_files(rt: HostRuntime) {
+    for (format, version, file_type, base) in [
+        (Format::Dwarf32, 5, DwarfFileType::Dwo, 8),
+        (Format::Dwarf64, 5, DwarfFileType::Dwo, 16),
+        (Format::Dwarf64, 4, DwarfFileType::Dwo, 0),
+        (Format::Dwarf32, 5, DwarfFileType::Main, 0),
+    ] {
+        let encoding = Encoding {
+            address_size: 8,
+            format,
+            version,
+        };
+        let found = DebugStrOffsetsBase::<u64>::default_for_encoding_and_file(encoding, file_type);
+        assert_eq!(rt; found, DebugStrOffsetsBase(base));
+    }
 }

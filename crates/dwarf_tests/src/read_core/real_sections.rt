@@ -5,12 +5,12 @@ ghost use Rattle.std.specs.Prelude.{◌<◌};
 
 use dwarf_constants::{
     DebugAbbrevOffset, DebugAddrBase, DebugAddrIndex, DebugLineStrOffset, DebugStrOffset,
-    DebugStrOffsetsBase, DebugStrOffsetsIndex, Format,
+    DebugStrOffsetsIndex, Format,
 };
 use dwarf_read_core::{
     Abbreviation, AddrHeader, DebugAbbrev, DebugAddr, DebugLineStr, DebugStr, DebugStrOffsets,
 };
-use dwarf_readers::{EndianSlice, LittleEndian};
+use dwarf_readers::{DebugStrOffsetsBase, EndianSlice, LittleEndian};
 use std::alloc::Global;
 use std::process::Abort;
 use std::test::Fail;
