@@ -16,9 +16,9 @@ module_view module_ = record {
 }
 
 -- the modules of an unwinder, in the order of their starts
-abbrev pub loaded_in : UnwinderInternal → List Loaded
-loaded_in unwinder = map module_view unwinder.modules.items
+abbrev pub module_list : UnwinderInternal → List Loaded
+module_list unwinder = map module_view unwinder.modules.items
 
 -- the modules of an unwinder of x86_64
 abbrev pub modules_of : UnwinderX86_64 → List Loaded
-modules_of unwinder = loaded_in unwinder.0
+modules_of unwinder = module_list unwinder.0

@@ -154,7 +154,7 @@ impl Module {
             return Err(UnwinderError::DwarfCfiIndexCouldNotFindAddress);
         };
         let address = lookup_address(self.base_svma, relative_address)?;
-        match unwind_frame_with_fde(
+        unwind_frame_with_fde(
             &section,
             &fde,
             address,
@@ -162,10 +162,8 @@ impl Module {
             regs,
             context,
             read_stack,
-        ) {
-            Ok(result) => Ok(result),
-            Err(failure) => Err(UnwinderError::Dwarf(failure)),
-        }
+        )
+        .map_err(UnwinderError::Dwarf)
     }
 }
 
@@ -177,12 +175,12 @@ pub(crate) struct UnwinderInternal {
 }
 
 impl UnwinderInternal {
-    ghost use Rattle.framehop.specs.ModuleViews.{module_view, loaded_in};
+    ghost use Rattle.framehop.specs.ModuleViews.{module_view, module_list};
     ghost use Rattle.framehop.specs.ModuleFound.{nearest_module, module_found, with_module};
 
     /// An unwinder without a module.
     pub fn new(alloc: Global) -> Self
-        ensures { loaded_in result ≡ [] }
+        ensures { module_list result ≡ [] }
     {
         UnwinderInternal {
             modules: Vec::new(alloc),
@@ -193,8 +191,8 @@ impl UnwinderInternal {
     /// it comes back and nothing changes.
     pub fn add_module(&mut self, module: Module) -> Result<(), AllocFailed<Module>>
         ensures ok { OnOk result
-            (loaded_in self.new ≡ with_module (module_view «module») (loaded_in self.old)) }
-        ensures refused { OnErr result (loaded_in self.new ≡ loaded_in self.old) }
+            (module_list self.new ≡ with_module (module_view «module») (module_list self.old)) }
+        ensures refused { OnErr result (module_list self.new ≡ module_list self.old) }
         ensures returned { IfErr result (λ failed. failed.value ≡ «module») }
     {
         let start = module.avma_range.start;
@@ -206,8 +204,8 @@ impl UnwinderInternal {
 
     /// The last of the modules that start at or below an address.
     fn nearest_module(&self, address: u64) -> Option<&Module>
-        ensures { MatchOption result (nearest_module (loaded_in self.now) address ≡ None) (λ module_.
-            nearest_module (loaded_in self.now) address ≡ Some (module_view module_.now)) }
+        ensures { MatchOption result (nearest_module (module_list self.now) address ≡ None) (λ module_.
+            nearest_module (module_list self.now) address ≡ Some (module_view module_.now)) }
     {
         let index = self
             .modules
@@ -218,9 +216,9 @@ impl UnwinderInternal {
 
     /// The module that an address is in, and the address relative to its base.
     pub fn find_module_for_address(&self, address: u64) -> Option<(&Module, u32)>
-        ensures none { IfNone result (module_found (loaded_in self.now) address ≡ None) }
+        ensures none { IfNone result (module_found (module_list self.now) address ≡ None) }
         ensures module_ { IfSome result (λ found.
-            module_found (loaded_in self.now) address ≡ Some (module_view found.0.now)) }
+            module_found (module_list self.now) address ≡ Some (module_view found.0.now)) }
         ensures relative { IfSome result (λ found.
             found.1 ≡ address - (module_view found.0.now).base) }
     {

@@ -1,22 +1,29 @@
 -- What the indexed entry says is what the module says.
-use Rattle.std.proofs.Common.{◌≡◌, Some, ap, sym, ◌∙◌}
-use Rattle.std.specs.Prelude.{option_map}
+use Rattle.std.proofs.Common.{◌≡◌, Some, Result, Ok, Err, ap, sym, ◌∙◌, rules}
+use Rattle.std.specs.Prelude.{option_map, MatchResult, IsErrAnd}
 use Rattle.dwarf_call_frames.specs.EntryViews.{section_bytes}
-use Rattle.framehop.specs.UnwindResults.{trial}
+use Rattle.framehop.specs.declared.dwarf.DwarfUnwinderError.{DwarfUnwinderError}
+use Rattle.framehop.specs.declared.error.UnwinderError.{UnwinderError}
+use Rattle.framehop.specs.declared.error.UnwinderError.TheVariants.{Dwarf}
+use Rattle.framehop.specs.UnwindResults.{trial, with_registers, of_dwarf}
 use Rattle.framehop_rules.proofs.Laws.{over_weaker}
 use Rattle.framehop.proofs.IndexedModules.{address-indexed}
 use Rattle.framehop.proofs.unwinder.Module.unwind_frame.Goals as goal
 
-pub returns-in-Ok-clause-trial : goal.returns-in-Ok-clause-trial
-returns-in-Ok-clause-trial g c =
-    let bytes : option_map (λ section. section.items) c.args.self.now.eh_frame ≡ Some (section_bytes c.new-section.result)
-    = ap (option_map (λ section. section.items)) c.in-Some.is ∙ ap (λ section. Some section) (sym (c.new-section.ensures ∙ c.as_slice.ensures.value)) in
-    let same = address-indexed c.args.self.now c.in-Some-index.index (section_bytes c.new-section.result) c.args.relative_address c.in_ok-address.address c.indexed_fde.result c.in-Some-indexed_fde.fde bytes c.in-Some-index.is c.indexed_fde.ensures c.in-Some-indexed_fde.is c.in_ok-address.ensures.some in
-    over_weaker c.in-Ok.ensures.trial (λ words is. is ∙ ap (trial c.args.is_first_frame c.args.regs.now words) same)
+-- a result whose failure became one of the unwinder's
+mapped-is : {A : Type 0} (r : Result A DwarfUnwinderError) (mapped : Result A UnwinderError) (P : DwarfUnwinderError → UnwinderError → Type 0)
+    → ((e : DwarfUnwinderError) (failure : UnwinderError) → P e failure → failure ≡ Dwarf e)
+    → MatchResult r (λ x. mapped ≡ Ok x) (λ e. IsErrAnd mapped (P e)) → mapped ≡ of_dwarf r
+mapped-is (Ok x) mapped P is h = h
+mapped-is (Err e) (Ok x) P is h = absurd h
+mapped-is (Err e) (Err failure) P is h = ap Err (is e failure h)
 
-pub returns-in-Err-clause-trial : goal.returns-in-Err-clause-trial
-returns-in-Err-clause-trial g c =
+-- what the module says is what the entry says
+pub returns-clause-trial : goal.returns-clause-trial
+returns-clause-trial g c =
     let bytes : option_map (λ section. section.items) c.args.self.now.eh_frame ≡ Some (section_bytes c.new-section.result)
     = ap (option_map (λ section. section.items)) c.in-Some.is ∙ ap (λ section. Some section) (sym (c.new-section.ensures ∙ c.as_slice.ensures.value)) in
     let same = address-indexed c.args.self.now c.in-Some-index.index (section_bytes c.new-section.result) c.args.relative_address c.in_ok-address.address c.indexed_fde.result c.in-Some-indexed_fde.fde bytes c.in-Some-index.is c.indexed_fde.ensures c.in-Some-indexed_fde.is c.in_ok-address.ensures.some in
-    over_weaker c.in-Err.ensures.trial (λ words is. is ∙ ap (trial c.args.is_first_frame c.args.regs.now words) same)
+    let mapped = mapped-is c.unwind_frame_with_fde.result c.map_err.result _ (λ e d is. search rules) c.map_err.ensures.cases in
+    over_weaker c.unwind_frame_with_fde.ensures.trial (λ words is.
+    ap (with_registers c.unwind_frame_with_fde.new.regs) mapped ∙ is ∙ ap (trial c.args.is_first_frame c.args.regs.now words) same)
