@@ -1,18 +1,21 @@
 -- What is found in a section that more bytes follow.
-use Rattle.std.proofs.Common.{◌≡◌, ℕ, zero, suc, ◌+◌, ◌*◌, ◌<◌, ◌≤◌, List, [], ◌∷◌, ◌++◌, length, ◌==◌, not, ◌&&◌, Bool, true, false, cond, if◌then◌else◌, Option, Some, None, option_map, Result, Ok, Err, nat_lt, refl, arith, length-append}
+use Rattle.std.proofs.Common.{◌≡◌, ℕ, zero, suc, ◌+◌, ◌*◌, ◌<◌, ◌≤◌, List, [], ◌∷◌, ◌++◌, length, ◌==◌, not, Bool, true, false, cond, if◌then◌else◌, Option, Some, None, option_map, Result, Ok, Err, nat_lt, refl, arith, length-append}
 use Rattle.std.proofs.lemmas.Bool.Decides.{nat_tests}
 use Rattle.std.specs.Prelude.{IsTrue}
 use Rattle.dwarf_constants.specs.Format.{word_size}
 use Rattle.dwarf_constants.specs.declared.common.Format.{Format}
 use Rattle.dwarf_constants.specs.declared.constants.form.TheConstants.{DW_FORM_implicit_const}
 use Rattle.dwarf_constants.specs.declared.error.Error.{Error}
-use Rattle.dwarf_constants.specs.declared.error.Error.TheVariants.{AbbreviationTagZero, AttributeFormZero, AttributeNameZero, DuplicateAbbreviationCode}
-use Rattle.dwarf_read_core.specs.AbbreviationTable.{Attribute, Declaration, attribute_at, attribute_of, attributes_at, attributes_within, children_at, children_of, declaration_at, declaration_of, declarations_within, has_code, next_of, table_at, table_in, tag_at}
+use Rattle.dwarf_constants.specs.declared.error.Error.TheVariants.{AbbreviationTagZero, AttributeFormZero, AttributeNameZero}
+use Rattle.dwarf_read_core.specs.AbbreviationTable.{Attribute, Declaration, attribute_at, attribute_of, attributes_at, attributes_within, children_at, children_of, declaration_of, next_declaration, next_of, table_at, table_in, table_of, tag_at, with_declaration}
 use Rattle.dwarf_read_core.specs.AddressSets.{next_address, next_set, set_at, set_behind}
-use Rattle.dwarf_read_core.specs.ClosedTables.{StaysIf, is_closed_at, is_closed_in, is_closed_within, closes, closes_at}
+use Rattle.dwarf_read_core.specs.ClosedTables.{StaysIf, is_closed_at, is_closed_in, is_code_0}
 use Rattle.dwarf_read_core.specs.Sections.{address_in, entry_in, range_in, string_in, string_offset_in}
 use Rattle.dwarf_read_core.specs.MoreItems.{StaysNext}
+use Rattle.dwarf_read_core.proofs.Tables.{declarations_shrink}
 use Rattle.dwarf_readers.specs.Remainder.{item_at}
+use Rattle.lists.specs.Items.{Answer, items_from, items_within, rest_from, rest_within}
+use Rattle.lists.proofs.Laws.{by_case}
 use Rattle.dwarf_readers.specs.InitialLength.{address_at, initial_length_at, word_at}
 use Rattle.dwarf_readers.specs.Leb128.{signed_at, unsigned_16_at, unsigned_at}
 use Rattle.dwarf_readers.specs.More.{IsSteady, IsSteadyMove, IsSteadySearch, Stays, StaysAs, extended_stretch}
@@ -64,13 +67,18 @@ next_where false read more s is some same =
     let test : (length (s.bytes ++ more) == 0) ≡ false = grind (arith, nat_tests, length-append) in
     rw test same
 
+-- what was read as the next item
+item_found : {A : Type 0} (before after : Result (A × Stretch) Error) (more : List ℕ) → Stays more before after → StaysNext more (before >>= λ item. Ok (Some item)) (after >>= λ item. Ok (Some item))
+item_found {A = A} before after more same =
+    let item = λ (found : A × Stretch). let next : Result (Option (A × Stretch)) Error = Ok (Some found) in next in
+    then_stays_as (λ (read : A × Stretch). (read.0, extended_stretch more read.1)) (option_map (λ (next : A × Stretch). (next.0, extended_stretch more next.1))) before after item item same (λ found. refl)
+
 -- the next item where bytes are left
 item_stays : {A : Type 0} (read : Stretch → Result (A × Stretch) Error) (more : List ℕ) (s : Stretch) → 0 < length s.bytes → Stays more (read s) (read (extended_stretch more s)) → StaysNext more (item_at read s) (item_at read (extended_stretch more s))
-item_stays {A = A} read more s some same =
+item_stays read more s some same =
     let here : (length s.bytes == 0) ≡ false = grind (arith, nat_tests) in
     let there : (length (s.bytes ++ more) == 0) ≡ false = grind (arith, nat_tests, length-append) in
-    let item = λ (found : A × Stretch). let next : Result (Option (A × Stretch)) Error = Ok (Some found) in next in
-    rw (here, there) (then_stays_as (λ (read : A × Stretch). (read.0, extended_stretch more read.1)) (option_map (λ (next : A × Stretch). (next.0, extended_stretch more next.1))) (read s) (read (extended_stretch more s)) item item same (λ found. refl))
+    rw (here, there) (item_found (read s) (read (extended_stretch more s)) more same)
 
 pub next_set_stays : (limit offset : ℕ) (more : List ℕ) (s : Stretch) → 0 < length s.bytes → StaysNext more (next_set limit offset s) (next_set limit offset (extended_stretch more s))
 next_set_stays limit offset more s some = item_stays (set_at limit offset) more s some (set_steady limit offset more s)
@@ -118,55 +126,53 @@ children_steady = steady_then byte_at (λ byte. children_of byte.0 >>= λ childr
 
 declaration_of_steady : (code : ℕ) → IsSteady (declaration_of code)
 declaration_of_steady code =
-    let found = λ (tag : ℕ) (children : Bool) (attributes : List Attribute × Stretch). Ok (Some (record { code = code; tag = tag; children = children; attributes = attributes.0 }), attributes.1) in
+    let found = λ (tag : ℕ) (children : Bool) (attributes : List Attribute × Stretch). Ok (record { code = code; tag = tag; children = children; attributes = attributes.0 }, attributes.1) in
     steady_then tag_at (λ tag. children_at tag.1 >>= λ children. attributes_at children.1 >>= found tag.0 children.0) tag_steady
     (λ tag. steady_then children_at (λ children. attributes_at children.1 >>= found tag children.0) children_steady
     (λ children. steady_then attributes_at (found tag children) attributes_steady (λ attributes more left. refl)))
 
-code_steady : IsSteady (λ s. unsigned_at s >>= λ code. if code.0 == 0 then Ok (None, code.1) else declaration_of code.0 code.1)
-code_steady = steady_then unsigned_at (λ code. if code.0 == 0 then Ok (None, code.1) else declaration_of code.0 code.1) unsigned_steady
-    (λ code more left. cond_stays more (code == 0) (Ok (None, left)) (Ok (None, extended_stretch more left)) _ _ refl (declaration_of_steady code more left))
+-- the declaration behind a code
+behind_code : (test : Bool) (code : ℕ) (more : List ℕ) (t : Stretch)
+    → StaysNext more (cond test (Ok None) (declaration_of code t >>= λ d. Ok (Some d))) (cond test (Ok None) (declaration_of code (extended_stretch more t) >>= λ d. Ok (Some d)))
+behind_code true code more t = refl
+behind_code false code more t = item_found (declaration_of code t) (declaration_of code (extended_stretch more t)) more (declaration_of_steady code more t)
 
 -- a declaration where bytes are left
-declaration_stays : (more : List ℕ) (s : Stretch) → 0 < length s.bytes → Stays more (declaration_at s) (declaration_at (extended_stretch more s))
-declaration_stays more s some = next_where (length s.bytes == 0) (λ (s : Stretch). unsigned_at s >>= λ code. if code.0 == 0 then Ok (None, code.1) else declaration_of code.0 code.1) more s refl some (code_steady more s)
-
--- what stays behind a test that doesn't look at the bytes
-given_stays_if : {A : Type 0} (Condition : Type 0) (test : Bool) (e : Error) (before after : Result A Error) → StaysIf Condition before after → StaysIf Condition (requirement test e >>= λ _. before) (requirement test e >>= λ _. after)
-given_stays_if Condition true e before after same = same
-given_stays_if Condition false e before after same = λ lasting. refl
-
--- the declarations behind what is next, in at most n steps
-abbrev behind_next : ℕ → List Declaration → Option Declaration × Stretch → Result (List Declaration) Error
-behind_next n seen next = next_of (λ _. Ok seen) (λ d t. requirement (not (has_code d.code seen)) (DuplicateAbbreviationCode d.code) >>= λ _. declarations_within n (seen ++ d ∷ []) t) next.0 next.1
+declaration_stays : (more : List ℕ) (s : Stretch) → (length s.bytes == 0) ≡ false → StaysNext more (next_declaration s) (next_declaration (extended_stretch more s))
+declaration_stays more s here =
+    let there : (length (s.bytes ++ more) == 0) ≡ false = grind (arith, nat_tests, length-append) in
+    rw (here, there) (then_stays_as (λ (read : ℕ × Stretch). (read.0, extended_stretch more read.1)) (option_map (λ (next : Declaration × Stretch). (next.0, extended_stretch more next.1))) (unsigned_at s) (unsigned_at (extended_stretch more s)) (λ code. if code.0 == 0 then Ok None else declaration_of code.0 code.1 >>= λ d. Ok (Some d)) (λ code. if code.0 == 0 then Ok None else declaration_of code.0 code.1 >>= λ d. Ok (Some d)) (unsigned_steady more s) (λ code. behind_code (code.0 == 0) code.0 more code.1))
 
 -- n steps are enough where code 0 closes the table, and so are m
 abbrev StaysWithin : ℕ → ℕ → List ℕ → Type 0
-StaysWithin n m more = (seen : List Declaration) (s : Stretch) → StaysIf (IsTrue (is_closed_within n s)) (declarations_within n seen s) (declarations_within m seen (extended_stretch more s))
+StaysWithin n m more = (seen : List Declaration) (s : Stretch) → length s.bytes < n
+    → StaysIf (IsTrue (is_code_0 (rest_within n next_declaration s))) (table_of seen (items_within n next_declaration s)) (table_of seen (items_within m next_declaration (extended_stretch more s)))
 
-next_stays : (n m : ℕ) (seen : List Declaration) (more : List ℕ) → StaysWithin n m more → (found : Option Declaration) (t : Stretch) → StaysIf (IsTrue (closes (is_closed_within n) found t)) (behind_next n seen (found, t)) (behind_next m seen (found, extended_stretch more t))
-next_stays n m seen more rest None t = λ closed. refl
-next_stays n m seen more rest (Some d) t = given_stays_if (IsTrue (is_closed_within n t)) (not (has_code d.code seen)) (DuplicateAbbreviationCode d.code) (declarations_within n (seen ++ d ∷ []) t) (declarations_within m (seen ++ d ∷ []) (extended_stretch more t)) (rest (seen ++ d ∷ []) t)
+-- .. behind a declaration
+table_goes_on : {A : Type 0} (Condition : Type 0) (table : Result A Error) (next later : A → Result (List Declaration) Error) → ((seen : A) → StaysIf Condition (next seen) (later seen)) → StaysIf Condition (table >>= next) (table >>= later)
+table_goes_on Condition (Ok table) next later same = same table
+table_goes_on Condition (Err e) next later same = λ lasting. refl
 
-read_stays : (n m : ℕ) (seen : List Declaration) (more : List ℕ) (before after : Result (Option Declaration × Stretch) Error) → Stays more before after → StaysWithin n m more → StaysIf (IsTrue (closes_at (is_closed_within n) before)) (before >>= behind_next n seen) (after >>= behind_next m seen)
-read_stays n m seen more (Ok next) after same rest = rw same (next_stays n m seen more rest next.0 next.1)
-read_stays n m seen more (Err e) after same rest = λ lasting. rw (same lasting) refl
-
-step_stays : (empty : Bool) (n m : ℕ) (seen : List Declaration) (more : List ℕ) (s : Stretch) → (length s.bytes == 0) ≡ empty → StaysWithin n m more → StaysIf (IsTrue (not empty && closes_at (is_closed_within n) (declaration_at s))) (declaration_at s >>= behind_next n seen) (declaration_at (extended_stretch more s) >>= behind_next m seen)
-step_stays true n m seen more s is rest = rw is (λ closed. absurd (cc))
-step_stays false n m seen more s is rest =
-    let some : 0 < length s.bytes = grind (arith, nat_tests) in
-    read_stays n m seen more (declaration_at s) (declaration_at (extended_stretch more s)) (declaration_stays more s some) rest
+step_stays : (n m : ℕ) (more : List ℕ) (seen : List Declaration) (s : Stretch) (before after : Answer Stretch Declaration Error) → next_declaration s ≡ before → (length s.bytes == 0) ≡ false → length s.bytes < suc n → StaysNext more before after → StaysWithin n m more
+    → StaysIf (IsTrue (is_code_0 (rest_from (rest_within n next_declaration) s before))) (table_of seen (items_from (items_within n next_declaration) before)) (table_of seen (items_from (items_within m next_declaration) after))
+step_stays n m more seen s (Ok (Some (d, t))) after is some enough same others =
+    let less : length t.bytes < length s.bytes = declarations_shrink.smaller s t d is in
+    rw same (table_goes_on (IsTrue (is_code_0 (rest_within n next_declaration t))) (with_declaration seen d) (λ table. table_of table (items_within n next_declaration t)) (λ table. table_of table (items_within m next_declaration (extended_stretch more t))) (λ table. others table t (omega arith)))
+step_stays n m more seen s (Ok None) after is some enough same others = rw same (λ closed. refl)
+step_stays n m more seen s (Err e) after is some enough same others = λ lasting. rw (same lasting) refl
 
 declarations_stay : (n m : ℕ) (more : List ℕ) → n ≤ m → StaysWithin n m more
-declarations_stay zero m more less = λ seen s lasting. absurd (lasting (end_of s) refl)
+declarations_stay zero m more less = λ seen s enough. absurd (omega arith)
 declarations_stay (suc n) zero more less = absurd (omega arith)
-declarations_stay (suc n) (suc m) more less = λ seen s. step_stays (length s.bytes == 0) n m seen more s refl (declarations_stay n m more (omega arith))
+declarations_stay (suc n) (suc m) more less = λ seen s enough.
+    by_case (length s.bytes == 0)
+    (λ empty. rw empty (λ closed. absurd (cc)))
+    (λ some. step_stays n m more seen s (next_declaration s) (next_declaration (extended_stretch more s)) refl some enough (declaration_stays more s some) (declarations_stay n m more (omega arith)))
 
 -- a table that code 0 closes
 pub table_stays : (more : List ℕ) (s : Stretch) → StaysIf (IsTrue (is_closed_at s)) (table_at s) (table_at (extended_stretch more s))
 unfolding table_at is_closed_at
-table_stays more s = declarations_stay (suc (length s.bytes)) (suc (length (s.bytes ++ more))) more (omega (arith, length-append s.bytes more)) [] s
+table_stays more s = declarations_stay (suc (length s.bytes)) (suc (length (s.bytes ++ more))) more (omega (arith, length-append s.bytes more)) [] s (omega arith)
 
 table_behind : (test : Bool) (e : Error) (s : Stretch) (more : List ℕ) (after : Result Stretch Error) → StaysAs (extended_stretch more) (cond test (Err e) (Ok s)) after → StaysIf (IsTrue (is_closed_at s)) (cond test (Err e) (Ok s) >>= table_at) (after >>= table_at)
 table_behind true e s more after same = λ lasting. rw (same lasting) refl

@@ -1,12 +1,12 @@
 -- How offsets that come populate a cache.
-use Rattle.std.proofs.Common.{◌≡◌, ℕ, ◌+◌, ◌<◌, ◌≤◌, ◌⊎◌, inl, inr, List, [], ◌∷◌, ◌++◌, ◌==◌, Bool, true, false, cond, Option, Some, None, Result, Ok, unwrap_or, map, refl, sym, ap, subst, ◌∙◌, ⊎_elim, arith}
+use Rattle.std.proofs.Common.{◌≡◌, ℕ, ◌+◌, ◌<◌, ◌≤◌, List, [], ◌∷◌, ◌++◌, ◌==◌, Bool, true, false, cond, Option, Some, None, Result, Ok, unwrap_or, map, refl, sym, ap, subst, ◌∙◌, ⊎_elim, arith}
 use Rattle.std.specs.Prelude.{count_by, nat_le}
 use Rattle.std.proofs.lemmas.Bool.{cases_eq}
 use Rattle.std.proofs.lemmas.Bool.Decides.{nat_tests}
 use Rattle.std.proofs.lemmas.List.{map_push}
 use Rattle.std.proofs.lemmas.List.Sums.{sum_by-append}
 use Rattle.dwarf_constants.specs.declared.error.Error.{Error}
-use Rattle.dwarf_read_core.specs.AbbreviationsCache.{least_count}
+use Rattle.dwarf_read_core.specs.AbbreviationsCache.{is_kept, least_count}
 use Rattle.dwarf_read_core.specs.declared.abbrev.cache.AbbreviationsCacheStrategy.{AbbreviationsCacheStrategy}
 use Rattle.dwarf_read_core.specs.declared.abbrev.cache.AbbreviationsCacheStrategy.TheVariants.{All, Duplicates}
 
@@ -90,45 +90,38 @@ pub nothing_so_far : {A O : Type 0} (answer : ℕ → A) (number : O → ℕ) (s
 nothing_so_far answer number Duplicates keeps seen empty none = record { came = []; all = refl; kept = empty; noticed = λ _. none }
 nothing_so_far answer number All keeps seen empty none = record { came = []; all = refl; kept = empty; noticed = λ _. none }
 
--- whether the next number is wanted, and which have then been seen
-pub record Chosen (strategy : AbbreviationsCacheStrategy) (n : ℕ) (seen now : ℕ → Bool) (wanted : Bool) : Type 0 where
-  pub more : strategy ≡ Duplicates → (q : ℕ) → now q ≡ cond (q == n) true (seen q)
-  pub which : ((strategy ≡ Duplicates) × (wanted ≡ seen n)) ⊎ ((strategy ≡ All) × (wanted ≡ true))
+wanted_enough : (strategy : AbbreviationsCacheStrategy) (n : ℕ) (came : List ℕ) (seen : ℕ → Bool) → true ≡ is_kept strategy (seen n) → (strategy ≡ Duplicates → Seen came seen) → least_count strategy ≤ times n came + 1
+wanted_enough All n came seen wanted noticed = omega arith
+wanted_enough Duplicates n came seen wanted noticed =
+    let before : true ≡ nat_le 1 (times n came) = wanted ∙ noticed refl n in
+    grind (arith, nat_tests)
 
-wanted_enough : (strategy : AbbreviationsCacheStrategy) (n : ℕ) (came : List ℕ) (seen now : ℕ → Bool) → Chosen strategy n seen now true → (strategy ≡ Duplicates → Seen came seen) → least_count strategy ≤ times n came + 1
-wanted_enough All n came seen now chosen noticed = omega arith
-wanted_enough Duplicates n came seen now chosen noticed = elim chosen.which [
-  | inl twice ↦
-      let before : true ≡ nat_le 1 (times n came) = twice.1 ∙ noticed refl n in
-      grind (arith, nat_tests)
-  | inr all ↦ absurd (cc (all.0))
-]
+unwanted_few : (strategy : AbbreviationsCacheStrategy) (n : ℕ) (came : List ℕ) (seen : ℕ → Bool) → false ≡ is_kept strategy (seen n) → (strategy ≡ Duplicates → Seen came seen) → times n came + 1 < least_count strategy
+unwanted_few All n came seen wanted noticed = absurd (cc)
+unwanted_few Duplicates n came seen wanted noticed =
+    let before : false ≡ nat_le 1 (times n came) = wanted ∙ noticed refl n in
+    grind (arith, nat_tests)
 
-unwanted_few : (strategy : AbbreviationsCacheStrategy) (n : ℕ) (came : List ℕ) (seen now : ℕ → Bool) → Chosen strategy n seen now false → (strategy ≡ Duplicates → Seen came seen) → times n came + 1 < least_count strategy
-unwanted_few strategy n came seen now chosen noticed = elim chosen.which [
-  | inl once ↦
-      let before : false ≡ nat_le 1 (times n came) = once.1 ∙ noticed once.0 n in
-      let few : times n came < 1 = grind (arith, nat_tests) in
-      rw once.0 (omega arith)
-  | inr all ↦ absurd (cc (all.1))
-]
+-- the offset is seen where that counts
+abbrev pub SeenAlso : AbbreviationsCacheStrategy → ℕ → (ℕ → Bool) → (ℕ → Bool) → Type 0
+SeenAlso strategy n seen now = strategy ≡ Duplicates → (q : ℕ) → now q ≡ cond (q == n) true (seen q)
 
-pub so_far_kept : {A O : Type 0} (answer : ℕ → A) (number : O → ℕ) (strategy : AbbreviationsCacheStrategy) (keeps now : ℕ → Option A) (seen noticed : ℕ → Bool) (gave : List (Result O Error)) (item : Result O Error) (o : O) → item ≡ Ok o → SoFar answer number strategy keeps seen gave → Chosen strategy (number o) seen noticed true → ((q : ℕ) → now q ≡ cond (q == number o) (Some (unwrap_or (keeps q) (answer q))) (keeps q)) → SoFar answer number strategy now noticed (gave ++ item ∷ [])
-so_far_kept answer number strategy keeps now seen noticed gave item o is so chosen then =
+pub so_far_kept : {A O : Type 0} (answer : ℕ → A) (number : O → ℕ) (strategy : AbbreviationsCacheStrategy) (keeps now : ℕ → Option A) (seen noticed : ℕ → Bool) (gave : List (Result O Error)) (item : Result O Error) (o : O) → item ≡ Ok o → SoFar answer number strategy keeps seen gave → true ≡ is_kept strategy (seen (number o)) → SeenAlso strategy (number o) seen noticed → ((q : ℕ) → now q ≡ cond (q == number o) (Some (unwrap_or (keeps q) (answer q))) (keeps q)) → SoFar answer number strategy now noticed (gave ++ item ∷ [])
+so_far_kept answer number strategy keeps now seen noticed gave item o is so wanted more then =
     let came : map number (so.came ++ o ∷ []) ≡ map number so.came ++ number o ∷ [] = map_push number so.came o in
     record {
       came = so.came ++ o ∷ [];
       all = rw (so.all, is) (sym (map_push (λ o. Ok o) so.came o));
-      kept = rw came (keeps_more answer (least_count strategy) (number o) (map number so.came) keeps now so.kept then (wanted_enough strategy (number o) (map number so.came) seen noticed chosen so.noticed));
-      noticed = λ twice. rw came (seen_more (number o) (map number so.came) seen noticed (so.noticed twice) (chosen.more twice));
+      kept = rw came (keeps_more answer (least_count strategy) (number o) (map number so.came) keeps now so.kept then (wanted_enough strategy (number o) (map number so.came) seen wanted so.noticed));
+      noticed = λ twice. rw came (seen_more (number o) (map number so.came) seen noticed (so.noticed twice) (more twice));
     }
 
-pub so_far_passed : {A O : Type 0} (answer : ℕ → A) (number : O → ℕ) (strategy : AbbreviationsCacheStrategy) (keeps : ℕ → Option A) (seen noticed : ℕ → Bool) (gave : List (Result O Error)) (item : Result O Error) (o : O) → item ≡ Ok o → SoFar answer number strategy keeps seen gave → Chosen strategy (number o) seen noticed false → SoFar answer number strategy keeps noticed (gave ++ item ∷ [])
-so_far_passed answer number strategy keeps seen noticed gave item o is so chosen =
+pub so_far_passed : {A O : Type 0} (answer : ℕ → A) (number : O → ℕ) (strategy : AbbreviationsCacheStrategy) (keeps : ℕ → Option A) (seen noticed : ℕ → Bool) (gave : List (Result O Error)) (item : Result O Error) (o : O) → item ≡ Ok o → SoFar answer number strategy keeps seen gave → false ≡ is_kept strategy (seen (number o)) → SeenAlso strategy (number o) seen noticed → SoFar answer number strategy keeps noticed (gave ++ item ∷ [])
+so_far_passed answer number strategy keeps seen noticed gave item o is so wanted more =
     let came : map number (so.came ++ o ∷ []) ≡ map number so.came ++ number o ∷ [] = map_push number so.came o in
     record {
       came = so.came ++ o ∷ [];
       all = rw (so.all, is) (sym (map_push (λ o. Ok o) so.came o));
-      kept = rw came (keeps_same answer (least_count strategy) (number o) (map number so.came) keeps so.kept (unwanted_few strategy (number o) (map number so.came) seen noticed chosen so.noticed));
-      noticed = λ twice. rw came (seen_more (number o) (map number so.came) seen noticed (so.noticed twice) (chosen.more twice));
+      kept = rw came (keeps_same answer (least_count strategy) (number o) (map number so.came) keeps so.kept (unwanted_few strategy (number o) (map number so.came) seen wanted so.noticed));
+      noticed = λ twice. rw came (seen_more (number o) (map number so.came) seen noticed (so.noticed twice) (more twice));
     }

@@ -6,6 +6,8 @@ use Rattle.dwarf_constants.specs.declared.constants.TheConstants.{DW_CHILDREN_no
 use Rattle.dwarf_constants.specs.declared.constants.form.TheConstants.{DW_FORM_implicit_const}
 use Rattle.dwarf_readers.specs.Leb128.{signed_at, unsigned_16_at, unsigned_at}
 use Rattle.dwarf_readers.specs.Place.{Stretch, ◌>>=◌, behind_at, byte_at, end_of, ends_at, requirement}
+use Rattle.dwarf_readers.specs.Remainder.{size_of}
+use Rattle.lists.specs.Items.{Answer, items_of}
 
 -- an attribute of an abbreviation: its name, its form, and the value that the abbreviation itself gives it
 pub record Attribute : Type 0 where
@@ -37,7 +39,8 @@ attribute_at s = do
       else (if form.0 == 0 then Err AttributeFormZero else attribute_of name.0 form)
 
 -- what is next, if anything: the end answers one way, and an item goes on another way
-abbrev pub next_of : {A B : Type 0} → (Stretch → Result B Error) → (A → Stretch → Result B Error) → Option A → Stretch → Result B Error
+abbrev pub next_of : {A B : Type 0} → (Stretch → Result B Error) → (A → Stretch → Result B Error)
+    → Option A → Stretch → Result B Error
 next_of end item None s = end s
 next_of end item (Some a) s = item a s
 
@@ -46,7 +49,8 @@ abbrev pub attributes_within : ℕ → List Attribute → Stretch → Result (Li
 attributes_within zero seen s = Err (ends_at (end_of s))
 attributes_within (suc n) seen s = do
   next ← attribute_at s
-  next_of (λ t. Ok (seen, t)) (λ attribute t. attributes_within n (seen ++ attribute ∷ []) t) next.0 next.1
+  next_of (λ t. Ok (seen, t))
+      (λ attribute t. attributes_within n (seen ++ attribute ∷ []) t) next.0 next.1
 
 -- the attributes before the pair of zeros: each takes a byte at least
 unfoldable pub attributes_at : Stretch → Result (List Attribute × Stretch) Error
@@ -74,39 +78,47 @@ tag_at s = do
   Ok tag
 
 -- the declaration of this code
-abbrev pub declaration_of : ℕ → Stretch → Result (Option Declaration × Stretch) Error
+abbrev pub declaration_of : ℕ → Stretch → Result (Declaration × Stretch) Error
 declaration_of code s = do
   tag ← tag_at s
   children ← children_at tag.1
   attributes ← attributes_at children.1
   let found : Declaration =
       record { code = code; tag = tag.0; children = children.0; attributes = attributes.0 }
-  Ok (Some found, attributes.1)
+  Ok (found, attributes.1)
+
+-- the next declaration, or none at code 0
+abbrev pub coded_declaration : Stretch → Answer Stretch Declaration Error
+coded_declaration s = do
+  code ← unsigned_at s
+  if code.0 == 0 then Ok None else (do
+    declaration ← declaration_of code.0 code.1
+    Ok (Some declaration))
 
 -- the next declaration, or none at code 0 or where the bytes end
-abbrev pub declaration_at : Stretch → Result (Option Declaration × Stretch) Error
-declaration_at s =
-    if length s.bytes == 0 then Ok (None, s) else (do
-      code ← unsigned_at s
-      if code.0 == 0 then Ok (None, code.1) else declaration_of code.0 code.1)
+abbrev pub next_declaration : Stretch → Answer Stretch Declaration Error
+next_declaration s = if length s.bytes == 0 then Ok None else coded_declaration s
 
 -- a declaration of this code is among these
 abbrev pub has_code : ℕ → List Declaration → Bool
 has_code code [] = false
 has_code code (d ∷ ds) = if d.code == code then true else has_code code ds
 
--- the declarations up to the table's end behind those seen, in at most n steps; no two have one code
-abbrev pub declarations_within : ℕ → List Declaration → Stretch → Result (List Declaration) Error
-declarations_within zero seen s = Err (ends_at (end_of s))
-declarations_within (suc n) seen s = do
-  next ← declaration_at s
-  next_of (λ _. Ok seen) (λ d t. do
-    _ ← requirement (not (has_code d.code seen)) (DuplicateAbbreviationCode d.code)
-    declarations_within n (seen ++ d ∷ []) t) next.0 next.1
+-- the table with one more declaration, whose code has to be a new one
+abbrev pub with_declaration : List Declaration → Declaration → Result (List Declaration) Error
+with_declaration table d = do
+  _ ← requirement (not (has_code d.code table)) (DuplicateAbbreviationCode d.code)
+  Ok (table ++ d ∷ [])
 
--- the table at a stretch's start: each declaration takes a byte at least
+-- the table that these make behind the declarations seen, up to the first refusal
+abbrev pub table_of : List Declaration → List (Result Declaration Error) → Result (List Declaration) Error
+table_of seen [] = Ok seen
+table_of seen (Err fault ∷ items) = Err fault
+table_of seen (Ok d ∷ items) = with_declaration seen d >>= λ table. table_of table items
+
+-- the table at a stretch's start
 unfoldable pub table_at : Stretch → Result (List Declaration) Error
-table_at s = declarations_within (suc (length s.bytes)) [] s
+table_at s = table_of [] (items_of size_of next_declaration s)
 
 -- the table at an offset
 abbrev pub table_in : ℕ → Stretch → Result (List Declaration) Error

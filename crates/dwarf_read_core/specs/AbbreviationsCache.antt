@@ -1,5 +1,5 @@
 -- What caches of abbreviation tables keep.
-use Rattle.std.specs.Prelude.{ℕ, ◌==◌, List, Option, Some, None, Result, Ok, Err, count_by, if◌then◌else◌, nat_le, option_map}
+use Rattle.std.specs.Prelude.{ℕ, ◌==◌, ◌≡◌, Bool, true, unwrap_or, List, Option, Some, None, Result, Ok, Err, count_by, if◌then◌else◌, nat_le, option_map}
 use Rattle.std.specs.BTreeMap.{get}
 use Rattle.std.specs.Ordering.{nat_cmp}
 use Rattle.std.specs.declared.rc.Rc.{Rc}
@@ -26,6 +26,21 @@ abbrev pub least_count : AbbreviationsCacheStrategy → ℕ
 least_count Duplicates = 2
 least_count All = 1
 
+-- an offset that comes is kept, by whether it came before
+abbrev pub is_kept : AbbreviationsCacheStrategy → Bool → Bool
+is_kept Duplicates again = again
+is_kept All again = true
+
 -- what is kept for an offset where these came: the section's answer, if the offset came often enough
 abbrev pub populated_answer : AbbreviationsCacheStrategy → List ℕ → Stretch → ℕ → Option (Result (List Declaration) Error)
-populated_answer strategy came section offset = if nat_le (least_count strategy) (count_by (λ o. o == offset) came) then Some (table_in offset section) else None
+populated_answer strategy came section offset =
+    if nat_le (least_count strategy) (count_by (λ o. o == offset) came) then Some (table_in offset section)
+    else None
+
+-- what a cache answers for an offset: what it keeps, or else what the section says
+abbrev pub cached_answer : AbbreviationsCache → Stretch → ℕ → Result (List Declaration) Error
+cached_answer cache section offset = unwrap_or (kept_answer cache offset) (table_in offset section)
+
+-- Both caches keep the same.
+abbrev pub KeepsSame : AbbreviationsCache → AbbreviationsCache → Type 0
+KeepsSame old new = (offset : ℕ) → kept_answer new offset ≡ kept_answer old offset

@@ -1,28 +1,25 @@
 -- Tables of abbreviations that code 0 closes (DWARF 5, 7.5.3), and not the section's end.
-use Rattle.std.specs.Prelude.{◌≡◌, ℕ, suc, zero, length, ◌==◌, ◌&&◌, Bool, true, false, not, Option, Some, None, Result, Ok, Err}
+use Rattle.std.specs.Prelude.{◌≡◌, ℕ, length, ◌==◌, ◌&&◌, Bool, true, false, not, Some, None, Result, Ok, Err}
 use Rattle.dwarf_constants.specs.declared.error.Error.{Error}
-use Rattle.dwarf_read_core.specs.AbbreviationTable.{Declaration, declaration_at}
+use Rattle.dwarf_read_core.specs.AbbreviationTable.{next_declaration}
 use Rattle.dwarf_readers.specs.More.{IsLasting}
 use Rattle.dwarf_readers.specs.Place.{Stretch, behind}
+use Rattle.dwarf_readers.specs.Remainder.{size_of}
+use Rattle.lists.specs.Items.{Answer, rest_of}
 
--- what is next is code 0, or a declaration behind which the table is closed
-abbrev pub closes : (Stretch → Bool) → Option Declaration → Stretch → Bool
-closes closed_behind None s = true
-closes closed_behind (Some d) s = closed_behind s
+-- the answer is that the items end
+abbrev pub is_end : {A : Type 0} → Answer Stretch A Error → Bool
+is_end (Ok None) = true
+is_end (Ok (Some item)) = false
+is_end (Err fault) = false
 
--- the same of what was read, which isn't refused
-abbrev pub closes_at : (Stretch → Bool) → Result (Option Declaration × Stretch) Error → Bool
-closes_at closed_behind (Ok next) = closes closed_behind next.0 next.1
-closes_at closed_behind (Err e) = false
+-- code 0 stands at a stretch's start
+abbrev pub is_code_0 : Stretch → Bool
+is_code_0 s = not (length s.bytes == 0) && is_end (next_declaration s)
 
--- code 0 stands behind at most n declarations
-abbrev pub is_closed_within : ℕ → Stretch → Bool
-is_closed_within zero s = false
-is_closed_within (suc n) s = not (length s.bytes == 0) && closes_at (is_closed_within n) (declaration_at s)
-
--- code 0 closes the table at a stretch's start
+-- code 0 closes the table at a stretch's start: it stands behind the last declaration
 unfoldable pub is_closed_at : Stretch → Bool
-is_closed_at s = is_closed_within (suc (length s.bytes)) s
+is_closed_at s = is_code_0 (rest_of size_of next_declaration s)
 
 -- code 0 closes the table at an offset
 abbrev pub is_closed_in : ℕ → Stretch → Bool

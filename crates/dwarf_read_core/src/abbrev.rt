@@ -5,7 +5,7 @@ ghost use Rattle.std.specs.BTreeMap.{get};
 ghost use Rattle.std.specs.Ordering.{nat_cmp};
 ghost use Rattle.dwarf_constants.specs.declared.common.SectionId.TheVariants as id;
 ghost use Rattle.dwarf_constants.specs.declared.error.Error.TheVariants as error;
-ghost use Rattle.dwarf_read_core.specs.AbbreviationTable.{GivesOrMemory, attribute_at, attributes_at, children_at, declaration_at, declaration_of, declaration_for, has_code, is_among_first, place_of, table_at, table_in, tag_at};
+ghost use Rattle.dwarf_read_core.specs.AbbreviationTable.{GivesOrMemory, attribute_at, attributes_at, children_at, declaration_of, declaration_for, has_code, is_among_first, next_declaration, place_of, table_at, table_in, tag_at, with_declaration};
 ghost use Rattle.dwarf_read_core.specs.Abbreviations.{attribute, declaration};
 ghost use Rattle.dwarf_read_core.specs.Forms.{fixed_size, form_size};
 ghost use Rattle.dwarf_readers.specs.Place.{Reads, ReadsAs};
@@ -42,7 +42,8 @@ impl AttributeSpecification {
     /// An attribute of this name and form. A value is given exactly for `DW_FORM_implicit_const`.
     pub fn new(name: u16, form: DwForm, implicit_const_value: Option<i64>) -> AttributeSpecification
         requires { IsSome implicit_const_value ↔ (form.0 ≡ DW_FORM_implicit_const.0) }
-        ensures { attribute result ≡ record { name = name; form = form.0; constant = implicit_const_value } }
+        ensures { attribute result
+            ≡ record { name = name; form = form.0; constant = implicit_const_value } }
     {
         AttributeSpecification {
             name,
@@ -114,9 +115,8 @@ fn fixed_form_size(form: DwForm) -> Option<usize>
 
 // Reads the next attribute, or `None` at the pair of zeros.
 fn read_attribute<R: Reader>(input: &mut R) -> Result<Option<AttributeSpecification>>
-    ensures read { IfOk result (λ a. attribute_at (R.stretch input.old) ≡ Ok (option_map attribute a, R.stretch input.new)) }
-    ensures refused { IfErr result (λ e. attribute_at (R.stretch input.old) ≡ Err e) }
-    ensures less { OnOk result (length (R.stretch input.new).bytes < length (R.stretch input.old).bytes) }
+    ensures { ReadsAs (option_map attribute) result
+        (attribute_at (R.stretch input.old)) (R.stretch input.new) }
 {
     let name = input.read_uleb128_u16()?;
     let form = DwForm(input.read_uleb128_u16()?);
@@ -143,9 +143,8 @@ fn read_attribute<R: Reader>(input: &mut R) -> Result<Option<AttributeSpecificat
 
 // Reads the attributes before the pair of zeros.
 fn read_attributes<R: Reader>(alloc: Global, input: &mut R) -> Result<Vec<AttributeSpecification>>
-    ensures read { IfOk result (λ v. attributes_at (R.stretch input.old) ≡ Ok (map attribute v.items, R.stretch input.new)) }
-    ensures refused { IfErr result (λ e. (attributes_at (R.stretch input.old) ≡ Err e) ⊎ (e ≡ error.OutOfMemory)) }
-    ensures less { OnOk result (length (R.stretch input.new).bytes < length (R.stretch input.old).bytes) }
+    ensures { GivesOrMemory (λ v. (map attribute v.items, R.stretch input.new)) result
+        (attributes_at (R.stretch input.old)) }
 {
     let mut attributes = Vec::new(alloc);
     'attributes: loop {
@@ -197,9 +196,7 @@ impl Abbreviation {
 
 // Reads whether entries have children.
 fn read_children<R: Reader>(input: &mut R) -> Result<bool>
-    ensures read { IfOk result (λ b. children_at (R.stretch input.old) ≡ Ok (b, R.stretch input.new)) }
-    ensures refused { IfErr result (λ e. children_at (R.stretch input.old) ≡ Err e) }
-    ensures less { OnOk result (length (R.stretch input.new).bytes < length (R.stretch input.old).bytes) }
+    ensures { Reads result (children_at (R.stretch input.old)) (R.stretch input.new) }
 {
     let children = DwChildren(input.read_u8()?);
     match children {
@@ -211,9 +208,7 @@ fn read_children<R: Reader>(input: &mut R) -> Result<bool>
 
 // Reads a tag.
 fn read_tag<R: Reader>(input: &mut R) -> Result<u16>
-    ensures read { IfOk result (λ tag. tag_at (R.stretch input.old) ≡ Ok (tag, R.stretch input.new)) }
-    ensures refused { IfErr result (λ e. tag_at (R.stretch input.old) ≡ Err e) }
-    ensures less { OnOk result (length (R.stretch input.new).bytes < length (R.stretch input.old).bytes) }
+    ensures { Reads result (tag_at (R.stretch input.old)) (R.stretch input.new) }
 {
     let tag = input.read_uleb128_u16()?;
     if tag == 0 {
@@ -224,9 +219,8 @@ fn read_tag<R: Reader>(input: &mut R) -> Result<u16>
 
 // Reads the declaration of this code.
 fn read_declaration<R: Reader>(alloc: Global, input: &mut R, code: u64) -> Result<Abbreviation>
-    ensures read { IfOk result (λ a. declaration_of code (R.stretch input.old) ≡ Ok (Some (declaration a), R.stretch input.new)) }
-    ensures refused { IfErr result (λ e. (declaration_of code (R.stretch input.old) ≡ Err e) ⊎ (e ≡ error.OutOfMemory)) }
-    ensures less { OnOk result (length (R.stretch input.new).bytes < length (R.stretch input.old).bytes) }
+    ensures { GivesOrMemory (λ a. (declaration a, R.stretch input.new)) result
+        (declaration_of code (R.stretch input.old)) }
 {
     let tag = read_tag(input)?;
     let has_children = read_children(input)?;
@@ -241,9 +235,8 @@ fn read_declaration<R: Reader>(alloc: Global, input: &mut R, code: u64) -> Resul
 
 // Reads the next declaration, or `None` at code 0 or where the bytes end.
 fn read_abbreviation<R: Reader>(alloc: Global, input: &mut R) -> Result<Option<Abbreviation>>
-    ensures read { IfOk result (λ a. declaration_at (R.stretch input.old) ≡ Ok (option_map declaration a, R.stretch input.new)) }
-    ensures refused { IfErr result (λ e. (declaration_at (R.stretch input.old) ≡ Err e) ⊎ (e ≡ error.OutOfMemory)) }
-    ensures less { IfOk result (λ a. IsSome a → length (R.stretch input.new).bytes < length (R.stretch input.old).bytes) }
+    ensures { GivesOrMemory (option_map (λ a. (declaration a, R.stretch input.new))) result
+        (next_declaration (R.stretch input.old)) }
 {
     if input.is_empty() {
         return Ok(None);
@@ -264,7 +257,8 @@ pub struct Abbreviations {
     dense: usize,
     // The places of the others, by their codes.
     sparse: BTreeMap<u64, usize>,
-    ghost places: { (code : ℕ) → place_of code (map declaration declarations.items) ≡ (if is_among_first code dense then Some (code - 1) else get nat_cmp sparse code) },
+    ghost places: { (code : ℕ) → place_of code (map declaration declarations.items)
+        ≡ (if is_among_first code dense then Some (code - 1) else get nat_cmp sparse code) },
 }
 
 impl Abbreviations {
@@ -314,9 +308,8 @@ impl Abbreviations {
 
     // Puts an abbreviation behind the others, if none has its code.
     fn insert(self, abbreviation: Abbreviation) -> Result<Abbreviations>
-        ensures fresh { OnOk result (has_code (declaration abbreviation).code (declarations self) ≡ false) }
-        ensures behind { IfOk result (λ table. declarations table ≡ declarations self ++ declaration abbreviation ∷ []) }
-        ensures refused { IfErr result (λ e. ((e ≡ error.DuplicateAbbreviationCode (declaration abbreviation).code) × (has_code (declaration abbreviation).code (declarations self) ≡ true)) ⊎ (e ≡ error.OutOfMemory)) }
+        ensures { GivesOrMemory declarations result
+            (with_declaration (declarations self) (declaration abbreviation)) }
     {
         let code = abbreviation.code;
         if self.has(code) {
@@ -385,7 +378,8 @@ impl<R: Reader> DebugAbbrev<R> {
         alloc: Global,
         debug_abbrev_offset: DebugAbbrevOffset<R::Offset>,
     ) -> Result<Abbreviations>
-        ensures { GivesOrMemory declarations result (table_in (R.Offset.value debug_abbrev_offset.0) (R.stretch self.now)) }
+        ensures { GivesOrMemory declarations result
+            (table_in (R.Offset.value debug_abbrev_offset.0) (R.stretch self.now)) }
     {
         let mut input = self.section;
         input.skip(debug_abbrev_offset.0)?;

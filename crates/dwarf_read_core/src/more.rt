@@ -15,8 +15,10 @@ ghost use Rattle.dwarf_readers.specs.Place.{Stretch};
 /// section.
 pub fn searches_stay()
     ensures string { (offset : ℕ) → IsSteadySearch (string_in offset) }
-    ensures string_offset { (limit : ℕ) (format : Format) (base index : ℕ) → IsSteadySearch (string_offset_in limit format base index) }
-    ensures address { (limit size base index : ℕ) → IsSteadySearch (address_in limit size base index) }
+    ensures string_offset { (limit : ℕ) (format : Format) (base index : ℕ)
+        → IsSteadySearch (string_offset_in limit format base index) }
+    ensures address { (limit size base index : ℕ)
+        → IsSteadySearch (address_in limit size base index) }
     ensures range { (offset size : ℕ) → IsSteadySearch (range_in offset size) }
 {}
 

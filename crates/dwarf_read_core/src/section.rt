@@ -67,7 +67,8 @@ pub trait Section<R: Reader>: From<R> {
     final fn dwp_range(&self, offset: u32, size: u32) -> Result<Self>
     where
         Self: Sized,
-        ensures { Gives (λ s. R.stretch (section s)) result (range_in offset size (R.stretch (section self.now))) }
+        ensures { Gives (λ s. R.stretch (section s)) result
+            (range_in offset size (R.stretch (section self.now))) }
     {
         let mut reader = *self.reader();
         reader.skip(R::Offset::from_u32(offset))?;
@@ -80,7 +81,8 @@ pub trait Section<R: Reader>: From<R> {
     where
         Self: Sized,
         ensures which { IfSome result (λ found. found.0 ≡ which) }
-        ensures offset { option_map (λ found. R.Offset.value found.1) result ≡ place_within (R.stretch (section self.now)) id.0 }
+        ensures offset { option_map (λ found. R.Offset.value found.1) result
+            ≡ place_within (R.stretch (section self.now)) id.0 }
     {
         match self.reader().lookup_offset_id(id) {
             Some(offset) => Some((Self::id(), offset)),

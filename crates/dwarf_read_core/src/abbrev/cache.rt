@@ -1,13 +1,14 @@
 //! Tables of `.debug_abbrev` that are read once and shared.
 
-ghost use Rattle.std.specs.Prelude.{◌≡◌, ℕ, ◌==◌, ◌⊎◌, List, if◌then◌else◌, true, None, Some, Ok, Err, IfOk, IfErr, OnErr, OnOk, map, unwrap_or};
+ghost use Rattle.std.specs.Prelude.{◌≡◌, ℕ, ◌==◌, ◌⊎◌, List, if◌then◌else◌, true, None, Some, Ok, Err, IfOk, IfErr, OnErr, OnOk, map};
 ghost use Rattle.std.specs.BTreeSet.{contains};
 ghost use Rattle.std.specs.Iterator.{Drains, IsFinite, YieldsThen};
 ghost use Rattle.std.specs.Ordering.{nat_cmp};
 ghost use Rattle.dwarf_constants.specs.declared.common.DebugAbbrevOffset.{DebugAbbrevOffset};
 ghost use Rattle.dwarf_constants.specs.declared.error.Error.TheVariants as error;
 ghost use Rattle.dwarf_read_core.specs.AbbreviationTable.{GivesOrMemory, table_in};
-ghost use Rattle.dwarf_read_core.specs.AbbreviationsCache.{table_answer, kept_answer, populated_answer};
+ghost use Rattle.dwarf_read_core.specs.AbbreviationsCache.{KeepsSame, cached_answer, is_kept, kept_answer, populated_answer, table_answer};
+ghost use Rattle.dwarf_read_core.specs.declared.abbrev.cache.AbbreviationsCacheStrategy.TheVariants as strategies;
 ghost use Rattle.dwarf_read_core.specs.DebugAbbrev.{declarations};
 
 use super::{Abbreviations, DebugAbbrev};
@@ -55,19 +56,21 @@ impl AbbreviationsCache {
     ) -> Result<()>
         requires can { I.can_next offsets }
         requires ends { IsFinite (I.remaining offsets) }
-        ensures populated { OnOk result ((came : List (DebugAbbrevOffset R.Offset)) × Drains I.next_gives offsets (map (λ o. Ok o) came) × ((q : ℕ) → kept_answer self.new q ≡ populated_answer strategy (map (λ o. R.Offset.value o.0) came) (R.stretch debug_abbrev.now) q)) }
-        ensures refused { IfErr result (λ e. (e ≡ error.OutOfMemory) ⊎ ((came : List (DebugAbbrevOffset R.Offset)) × (left : I) × YieldsThen I.next_gives offsets (map (λ o. Ok o) came) (Some (Err e)) left)) }
-        ensures unchanged { OnErr result ((q : ℕ) → kept_answer self.new q ≡ kept_answer self.old q) }
+        ensures populated { OnOk result ((came : List (DebugAbbrevOffset R.Offset))
+            × Drains I.next_gives offsets (map (λ o. Ok o) came)
+            × ((q : ℕ) → kept_answer self.new q ≡ populated_answer strategy
+            (map (λ o. R.Offset.value o.0) came) (R.stretch debug_abbrev.now) q)) }
+        ensures refused { IfErr result (λ e. (e ≡ error.OutOfMemory)
+            ⊎ ((came : List (DebugAbbrevOffset R.Offset)) × (left : I)
+            × YieldsThen I.next_gives offsets (map (λ o. Ok o) came) (Some (Err e)) left)) }
+        ensures unchanged { OnErr result (KeepsSame self.old self.new) }
     {
         let mut seen = BTreeSet::new(self.alloc);
         let mut cache = AbbreviationsCache::new(self.alloc);
         for offset in offsets {
             let offset = offset?;
             let number = offset.0.into_u64();
-            let wanted = match strategy {
-                AbbreviationsCacheStrategy::Duplicates => comes_again(&mut seen, number)?,
-                AbbreviationsCacheStrategy::All => true,
-            };
+            let wanted = is_wanted(strategy, &mut seen, number)?;
             if wanted {
                 cache.keep(debug_abbrev, offset)?;
             }
@@ -82,7 +85,9 @@ impl AbbreviationsCache {
         debug_abbrev: &DebugAbbrev<R>,
         offset: DebugAbbrevOffset<R::Offset>,
     ) -> Result<()>
-        ensures kept { OnOk result ((q : ℕ) → kept_answer self.new q ≡ (if q == R.Offset.value offset.0 then Some (unwrap_or (kept_answer self.old q) (table_in q (R.stretch debug_abbrev.now))) else kept_answer self.old q)) }
+        ensures kept { OnOk result ((q : ℕ) → kept_answer self.new q
+            ≡ (if q == R.Offset.value offset.0 then Some (cached_answer self.old (R.stretch debug_abbrev.now) q)
+            else kept_answer self.old q)) }
         ensures memory { IfErr result (λ e. e ≡ error.OutOfMemory) }
     {
         let number = offset.0.into_u64();
@@ -101,8 +106,10 @@ impl AbbreviationsCache {
         offset: DebugAbbrevOffset<Offset>,
         abbreviations: Rc<Abbreviations>,
     ) -> Result<()>
-        ensures kept { OnOk result ((q : ℕ) → kept_answer self.new q ≡ (if q == Offset.value offset.0 then Some (Ok (declarations abbreviations.value)) else kept_answer self.old q)) }
-        ensures unchanged { OnErr result ((q : ℕ) → kept_answer self.new q ≡ kept_answer self.old q) }
+        ensures kept { OnOk result ((q : ℕ) → kept_answer self.new q
+            ≡ (if q == Offset.value offset.0 then Some (Ok (declarations abbreviations.value))
+            else kept_answer self.old q)) }
+        ensures unchanged { OnErr result (KeepsSame self.old self.new) }
         ensures memory { IfErr result (λ e. e ≡ error.OutOfMemory) }
     {
         self.tables.insert(offset.0.into_u64(), Ok(abbreviations))?;
@@ -116,7 +123,8 @@ impl AbbreviationsCache {
         debug_abbrev: &DebugAbbrev<R>,
         offset: DebugAbbrevOffset<R::Offset>,
     ) -> Result<Rc<Abbreviations>>
-        ensures { GivesOrMemory (λ table. declarations table.value) result (unwrap_or (kept_answer self.now (R.Offset.value offset.0)) (table_in (R.Offset.value offset.0) (R.stretch debug_abbrev.now))) }
+        ensures { GivesOrMemory (λ table. declarations table.value) result
+            (cached_answer self.now (R.stretch debug_abbrev.now) (R.Offset.value offset.0)) }
     {
         match self.tables.get(&offset.0.into_u64()) {
             Some(Ok(table)) => Ok(table.clone()?),
@@ -139,7 +147,8 @@ fn answer_to_keep<R: Reader>(
     debug_abbrev: &DebugAbbrev<R>,
     offset: DebugAbbrevOffset<R::Offset>,
 ) -> Result<Result<Rc<Abbreviations>>>
-    ensures said { IfOk result (λ answer. table_answer answer ≡ table_in (R.Offset.value offset.0) (R.stretch debug_abbrev.now)) }
+    ensures said { IfOk result (λ answer. table_answer answer
+        ≡ table_in (R.Offset.value offset.0) (R.stretch debug_abbrev.now)) }
     ensures memory { IfErr result (λ e. e ≡ error.OutOfMemory) }
 {
     match debug_abbrev.abbreviations(alloc, offset) {
@@ -149,12 +158,23 @@ fn answer_to_keep<R: Reader>(
     }
 }
 
-// Whether an offset is among those seen, to which it is added.
-fn comes_again(seen: &mut BTreeSet<u64>, offset: u64) -> Result<bool>
-    ensures again { IfOk result (λ again. again ≡ contains nat_cmp seen.old offset) }
-    ensures seen { OnOk result ((q : ℕ) → contains nat_cmp seen.new q ≡ (if q == offset then true else contains nat_cmp seen.old q)) }
+// Whether a table is kept for an offset that comes behind those seen, to which it is added if they
+// count.
+fn is_wanted(
+    strategy: AbbreviationsCacheStrategy,
+    seen: &mut BTreeSet<u64>,
+    offset: u64,
+) -> Result<bool>
+    ensures wanted { IfOk result (λ wanted. wanted ≡ is_kept strategy (contains nat_cmp seen.old offset)) }
+    ensures seen { OnOk result (strategy ≡ strategies.Duplicates → (q : ℕ) → contains nat_cmp seen.new q
+        ≡ (if q == offset then true else contains nat_cmp seen.old q)) }
     ensures memory { IfErr result (λ e. e ≡ error.OutOfMemory) }
 {
-    let is_new = seen.insert(offset)?;
-    Ok(!is_new)
+    match strategy {
+        AbbreviationsCacheStrategy::Duplicates => {
+            let is_new = seen.insert(offset)?;
+            Ok(!is_new)
+        }
+        AbbreviationsCacheStrategy::All => Ok(true),
+    }
 }
