@@ -1,9 +1,9 @@
 -- What a run has written, and what is left to write.
-use Rattle.std.proofs.Common.{◌≡◌, ℕ, List, [], ◌∷◌, ◌++◌, length, take, reverse, Bool, true, false, ◌↔◌, IsTrue, Result, Ok, Err, Option, Some, None, refl, sym, ◌∙◌, ap, subst, append_assoc}
+use Rattle.std.proofs.Common.{◌≡◌, ℕ, List, [], ◌∷◌, ◌++◌, length, take, drop, reverse, Bool, true, false, ◌↔◌, IsTrue, Result, Ok, Err, Option, Some, None, refl, sym, ◌∙◌, ap, subst, append_assoc}
 use Rattle.std.proofs.Math.Seq.{take-append_seam}
-use Rattle.std.proofs.lemmas.List.{append-nil, reverse-append, length-append, length-set}
+use Rattle.std.proofs.lemmas.List.{append-nil, take-append-drop, reverse-append, length-append, length-set}
 use Rattle.std.specs.Io.KnownBytes.{Appends}
-use Rattle.std.specs.Prelude.{IsErrOf}
+use Rattle.std.specs.Prelude.{IsErrOf, OnErr}
 use Rattle.unwind_commands.specs.declared.status.RunError.{RunError}
 use Rattle.unwind_commands.specs.declared.status.RunError.TheVariants.{Write}
 use Rattle.unwind_commands.specs.declared.document.command.Command.{Command}
@@ -42,6 +42,17 @@ written_all old new all (front, added, whole) = subst (λ (xs : List ℕ). Appen
 pub written_front : (old new : Option (List ℕ)) (left all : List ℕ) → IsWritten old new left all → AppendsFront old new all
 written_front old new left all (front, added, whole) = (length front, subst (λ (xs : List ℕ). Appends old new xs) (sym (take-append_seam front left) ∙ ap (take (length front)) whole) added)
 
+-- a front of a line is written before the rest
+pub begun_line : (old mid new : Option (List ℕ)) (line left all : List ℕ) → IsWritten old mid (line ++ left) all → AppendsFront mid new line → AppendsFront old new all
+begun_line old mid new line left all written (count, added) =
+    written_front old new (drop count line ++ left) all
+    (written_more old mid new (take count line) (drop count line ++ left) all
+    (subst (λ (xs : List ℕ). IsWritten old mid xs all) (ap (λ (xs : List ℕ). xs ++ left) (sym (take-append-drop count line)) ∙ append_assoc (take count line) (drop count line) left) written) added)
+
+-- nothing is a front of anything
+pub begun_none : (old : Option (List ℕ)) (all : List ℕ) → AppendsFront old old all
+begun_none old all = written_front old old all all (written_none old all)
+
 -- the last of the commands that are kept in reverse is the next
 pub next_task : (all kept : List Command) (command : Command) → all ≡ kept ++ command ∷ [] → tasks_of (reverse all) ≡ task_of command ∷ tasks_of (reverse kept)
 next_task all kept command h = ap (λ (cs : List Command). tasks_of (reverse cs)) h ∙ ap tasks_of (reverse-append kept (command ∷ []))
@@ -71,3 +82,14 @@ numbered_after old new caches caches_now task tasks made counted h =
 pub written_next : (old mid new : Option (List ℕ)) (before after : List (List Loaded)) (task : Task) (tasks : List Task) (line all : List ℕ) → after ≡ unwinders_after before task → line ≡ line_of before task → IsWritten old mid (lines_of before (task ∷ tasks)) all → Appends mid new line → IsWritten old new (lines_of after tasks) all
 written_next old mid new before after task tasks line all made lined h added =
     written_more old mid new line (lines_of after tasks) all (subst (λ (left : List ℕ). IsWritten old mid left all) (ap (λ (xs : List ℕ). xs ++ lines_of (unwinders_after before task) tasks) (sym lined) ∙ ap (λ (us : List (List Loaded)). line ++ lines_of us tasks) (sym made)) h) added
+
+-- a front of the line of the next command is written
+pub begun_next : (old mid new : Option (List ℕ)) (before : List (List Loaded)) (task : Task) (tasks : List Task) (line all : List ℕ) → line ≡ line_of before task → IsWritten old mid (lines_of before (task ∷ tasks)) all → AppendsFront mid new line → AppendsFront old new all
+begun_next old mid new before task tasks line all lined h added =
+    let left = lines_of (unwinders_after before task) tasks in
+    begun_line old mid new line left all (subst (λ (xs : List ℕ). IsWritten old mid xs all) (ap (λ (xs : List ℕ). xs ++ left) (sym lined)) h) added
+
+-- what holds in any case holds after an error
+pub on_err : {T E P : Type 0} (r : Result T E) → P → OnErr r P
+on_err (Ok value) holds = tt
+on_err (Err error) holds = holds

@@ -9,7 +9,7 @@ use Rattle.unwind_commands.specs.declared.document.command.Step.{Step}
 use Rattle.unwind_commands.specs.declared.document.made.Made as memory
 use Rattle.unwind_commands.specs.declared.document.fault.Refusal.{Refusal}
 use Rattle.unwind_commands.specs.declared.document.fault.Refusal.TheVariants as refusal
-use Rattle.unwind_commands.specs.Commands.{SectionData, Loading, Words, Stepping, Task, Made, make_unwinder, make_cache, load_module, take_step}
+use Rattle.unwind_commands.specs.Commands.{SectionData, Loading, StackWords, Stepping, Task, Made, make_unwinder, make_cache, load_module, take_step}
 
 -- the value as f sees it, or the same error
 abbrev pub result_map : {A B E : Type 0} → (A → B) → Result A E → Result B E
@@ -37,7 +37,7 @@ load_view l = record {
 }
 
 -- a stack
-abbrev pub words_view : Stack → Words
+abbrev pub words_view : Stack → StackWords
 words_view s = record { start = s.start; words = s.words.items }
 
 -- a step

@@ -14,7 +14,7 @@ use Rattle.unwind_commands.specs.declared.document.step.Registers.{Registers}
 use Rattle.unwind_commands.specs.declared.document.command.Verb.{Verb}
 use Rattle.unwind_commands.specs.declared.document.command.Verb.TheVariants as verb
 use Rattle.unwind_commands.specs.Faults.{Checked, ◌⊛◌, both, ◌>>=◌}
-use Rattle.unwind_commands.specs.Json.{text_in, address_in, number_in, bytes_in, field, optional_value, list_of, has_only}
+use Rattle.unwind_commands.specs.Json.{text_value, address_value, number_value, bytes_value, field, optional_value, list_of, has_only}
 
 -- ---- what is decoded
 
@@ -35,7 +35,7 @@ pub record Loading : Type 0 where
   pub sections : List SectionData
 
 -- the words of a stack, eight bytes each, from an address on
-pub record Words : Type 0 where
+pub record StackWords : Type 0 where
   pub start : ℕ
   pub words : List ℕ
 
@@ -48,7 +48,7 @@ pub record Stepping : Type 0 where
   pub ip : ℕ
   pub sp : ℕ
   pub bp : ℕ
-  pub stack : Words
+  pub stack : StackWords
 
 -- a command
 pub data Task : Type 0 where
@@ -70,7 +70,9 @@ number_below count n = if nat_lt n count then Ok n else Err UnknownNumber
 
 -- the number in a field, of something that an earlier command made
 abbrev pub made_number : ℕ → List ℕ → Data → Checked ℕ
-made_number count name d = field number_in name d >>= number_below count
+made_number count name d = do
+  number ← field number_value name d
+  number_below count number
 
 -- how the address of a frame is meant
 abbrev pub kind_of : List ℕ → Option FrameKind
@@ -79,7 +81,7 @@ kind_of text = if bytes_eq text (codes "ip") then Some Ip else if bytes_eq text 
 -- a value that has to say so
 abbrev pub kind_in : Data → Checked FrameKind
 kind_in d = do
-  text ← text_in d
+  text ← text_value d
   ok_or (kind_of text) BadCommand
 
 -- the address of a frame: no return address is 0
@@ -90,7 +92,7 @@ frame_at Ra address = if address == 0 then Err BadNumber else Ok (Ra, address)
 -- the fields of a step that name its frame
 abbrev pub frame_in : Data → Checked (FrameKind × ℕ)
 frame_in d = do
-  frame ← both (field kind_in (codes "kind") d) (field address_in (codes "address") d)
+  frame ← both (field kind_in (codes "kind") d) (field address_value (codes "address") d)
   frame_at frame.0 frame.1
 
 -- the fields of the registers
@@ -102,35 +104,40 @@ abbrev pub registers_in : Data → Checked Registers
 registers_in d =
     if has_only register_names d
     then Ok (λ ip sp bp. record { ip = ip; sp = sp; bp = bp })
-    ⊛ field address_in (codes "ip") d ⊛ field address_in (codes "sp") d ⊛ field address_in (codes "bp") d
+    ⊛ field address_value (codes "ip") d ⊛ field address_value (codes "sp") d ⊛ field address_value (codes "bp") d
     else Err BadCommand
 
 -- the words of a stack, of which the last has an address below 2^64 too
-abbrev pub stack_at : ℕ → List ℕ → Checked Words
+abbrev pub stack_at : ℕ → List ℕ → Checked StackWords
 stack_at start words =
     if nat_lt (start + 8 * (length words - 1)) (2 ^ 64) then Ok (record { start = start; words = words }) else Err BadNumber
 
 -- a value that has to be a list of words
 abbrev pub words_in : Data → Checked (List ℕ)
-words_in d = ok_or (as_array d) BadCommand >>= list_of address_in
+words_in d = do
+  items ← ok_or (as_array d) BadCommand
+  list_of address_value items
 
 -- the fields of a stack
 abbrev pub stack_names : List (List ℕ)
 stack_names = codes "start" ∷ codes "words" ∷ []
 
+-- the fields of a value that has to be a stack
+abbrev pub stack_fields : Data → Checked StackWords
+stack_fields d = do
+  stack ← both (field address_value (codes "start") d) (field words_in (codes "words") d)
+  stack_at stack.0 stack.1
+
 -- a value that has to be a stack
-abbrev pub stack_in : Data → Checked Words
-stack_in d =
-    if has_only stack_names d
-    then (both (field address_in (codes "start") d) (field words_in (codes "words") d) >>= λ stack. stack_at stack.0 stack.1)
-    else Err BadCommand
+abbrev pub stack_in : Data → Checked StackWords
+stack_in d = if has_only stack_names d then stack_fields d else Err BadCommand
 
 -- the fields of a step
 abbrev pub step_names : List (List ℕ)
 step_names = codes "do" ∷ codes "unwinder" ∷ codes "cache" ∷ codes "kind" ∷ codes "address" ∷ codes "regs" ∷ codes "stack" ∷ []
 
 -- the step of these parts
-abbrev pub stepping_of : ℕ → ℕ → FrameKind × ℕ → Registers → Words → Stepping
+abbrev pub stepping_of : ℕ → ℕ → FrameKind × ℕ → Registers → StackWords → Stepping
 stepping_of unwinder cache frame regs stack = record {
   unwinder = unwinder;
   cache = cache;
@@ -165,7 +172,7 @@ is_refused text = list_any (λ name. bytes_eq name text) refused_names
 -- a value that has to be the name of a section
 abbrev pub section_name_in : Data → Checked (List ℕ)
 section_name_in d = do
-  text ← text_in d
+  text ← text_value d
   if is_refused text then Err BadCommand else Ok text
 
 -- where a section lies: a start with its end, or neither
@@ -174,7 +181,7 @@ range_between None None = Ok None
 range_between (Some start) None = Err BadCommand
 range_between None (Some end) = Err BadCommand
 range_between (Some start) (Some end) =
-    Ok (λ start end. Some (record { start = start; end = end })) ⊛ address_in start ⊛ address_in end
+    Ok (λ start end. Some (record { start = start; end = end })) ⊛ address_value start ⊛ address_value end
 
 -- the fields of a section
 abbrev pub section_names : List (List ℕ)
@@ -186,7 +193,7 @@ section_in d =
     if has_only section_names d
     then Ok (λ name range bytes. record { name = name; range = range; bytes = bytes })
     ⊛ field section_name_in (codes "name") d ⊛ range_between (get (codes "start") d) (get (codes "end") d)
-    ⊛ optional_value bytes_in (get (codes "data") d)
+    ⊛ optional_value bytes_value (get (codes "data") d)
     else Err BadCommand
 
 -- the names of the sections that have one
@@ -209,7 +216,9 @@ sections_at ds = if are_distinct (names_of ds) then list_of section_in ds else E
 
 -- a value that has to be the list of the sections
 abbrev pub sections_in : Data → Checked (List SectionData)
-sections_in d = ok_or (as_array d) BadCommand >>= sections_at
+sections_in d = do
+  items ← ok_or (as_array d) BadCommand
+  sections_at items
 
 -- the number of an unwinder that has no module: a second one is not taken yet
 abbrev pub free_unwinder : List Bool → ℕ → Checked ℕ
@@ -217,7 +226,9 @@ free_unwinder loaded n = if slice_index_or loaded n false then Err BadCommand el
 
 -- the unwinder that a module is for
 abbrev pub unwinder_to_load : List Bool → Data → Checked ℕ
-unwinder_to_load loaded d = field number_in (codes "unwinder") d >>= free_unwinder loaded
+unwinder_to_load loaded d = do
+  number ← field number_value (codes "unwinder") d
+  free_unwinder loaded number
 
 -- the fields of a load
 abbrev pub load_names : List (List ℕ)
@@ -241,9 +252,9 @@ loading_of unwinder name start end base base_svma sections = record {
 abbrev pub load_in : Made → Data → Checked Loading
 load_in made d =
     if has_only load_names d
-    then Ok loading_of ⊛ unwinder_to_load made.loaded d ⊛ field text_in (codes "name") d
-    ⊛ field address_in (codes "start") d ⊛ field address_in (codes "end") d
-    ⊛ field address_in (codes "base") d ⊛ field address_in (codes "base_svma") d
+    then Ok loading_of ⊛ unwinder_to_load made.loaded d ⊛ field text_value (codes "name") d
+    ⊛ field address_value (codes "start") d ⊛ field address_value (codes "end") d
+    ⊛ field address_value (codes "base") d ⊛ field address_value (codes "base_svma") d
     ⊛ field sections_in (codes "sections") d
     else Err BadCommand
 
@@ -261,7 +272,7 @@ verb_of text =
 -- a value that has to say so
 abbrev pub verb_in : Data → Checked Verb
 verb_in d = do
-  text ← text_in d
+  text ← text_value d
   ok_or (verb_of text) BadCommand
 
 -- the command that does it
@@ -271,9 +282,15 @@ task_in made d verb.Cache = if has_only (codes "do" ∷ []) d then Ok make_cache
 task_in made d verb.Load = Ok load_module ⊛ load_in made d
 task_in made d verb.Step = Ok take_step ⊛ step_in made d
 
+-- the task of a value that has to be a command
+abbrev pub command_fields : Made → Data → Checked Task
+command_fields made d = do
+  verb ← field verb_in (codes "do") d
+  task_in made d verb
+
 -- one command, after what earlier ones made
 abbrev pub command_in : Made → Data → Checked Task
-command_in made d = if has_float d then Err FloatNumber else field verb_in (codes "do") d >>= task_in made d
+command_in made d = if has_float d then Err FloatNumber else command_fields made d
 
 -- what is made once a command is done
 abbrev pub made_after : Made → Task → Made

@@ -9,6 +9,7 @@ use Rattle.serde_json.specs.Read.{read}
 use Rattle.serde_json.specs.Written.{has_float}
 use Rattle.unwind_commands.specs.declared.document.fault.FaultName.TheVariants.{TooLong, NotJson, FloatNumber, BadDocument}
 use Rattle.unwind_commands.specs.declared.document.fault.Fault.{Fault}
+use Rattle.unwind_commands.specs.declared.document.TheConstants.{DOCUMENT_LIMIT, COMMAND_LIMIT}
 use Rattle.unwind_commands.specs.Faults.{Checked, ◌>>=◌}
 use Rattle.unwind_commands.specs.Json.{has_only}
 use Rattle.unwind_commands.specs.Commands.{Task, Made, command_in, made_after}
@@ -49,20 +50,20 @@ is_supported d =
     has_only document_names d && is_text (codes "x86_64") (codes "arch") d
     && (is_text (codes "may") (codes "policy") d || is_text (codes "must") (codes "policy") d)
 
--- the most commands that a document may have
-abbrev pub max_commands : ℕ
-max_commands = 65536
-
 -- the commands, if they are not more
 unfoldable pub few_commands : Items → Checked Items
-few_commands ds = if nat_le (items_len ds) max_commands then Ok ds else Err BadDocument
+few_commands ds = if nat_le (items_len ds) COMMAND_LIMIT then Ok ds else Err BadDocument
 
--- the commands that are still to be decoded, of a document whose own fields are as they have to be
+-- the commands that are still to be decoded
+abbrev pub items_in : Data → Checked Items
+items_in d = do
+  items ← ok_or (option_and_then as_array (get (codes "commands") d)) BadDocument
+  few_commands items
+
+-- the same, of a document whose own fields are as they have to be
 unfoldable pub document_in : Data → Checked Items
 document_in d =
-    if has_float_outside d then Err FloatNumber
-    else if is_supported d then ok_or (option_and_then as_array (get (codes "commands") d)) BadDocument >>= few_commands
-    else Err BadDocument
+    if has_float_outside d then Err FloatNumber else if is_supported d then items_in d else Err BadDocument
 
 -- a fault is that of the unit of this number
 abbrev pub in_unit : {A : Type 0} → ℕ → Checked A → Result A Fault
@@ -77,19 +78,16 @@ with_task task (Err fault) = Err fault
 -- the commands from the one of this number on, or their first fault
 abbrev pub commands_from : ℕ → Made → Items → Result (List Task) Fault
 commands_from n made no_items = Ok []
-commands_from n made (item d ds) =
-    in_unit n (command_in made d) >>= λ task. with_task task (commands_from (n + 1) (made_after made task) ds)
+commands_from n made (item d ds) = do
+  task ← in_unit n (command_in made d)
+  with_task task (commands_from (n + 1) (made_after made task) ds)
 
 -- before the first command
 abbrev pub nothing_made : Made
 nothing_made = record { loaded = []; caches = 0 }
 
--- the most bytes that a document may have
-abbrev pub max_len : ℕ
-max_len = 16777216
-
 -- the commands of a document's bytes, or their first fault: unit 0 is the document itself, the commands count from 1
-abbrev pub decoded : List ℕ → Result (List Task) Fault
-decoded bytes =
-    if nat_lt max_len (length bytes) then Err (record { name = TooLong; number = 0 })
+abbrev pub content_of : List ℕ → Result (List Task) Fault
+content_of bytes =
+    if nat_lt DOCUMENT_LIMIT (length bytes) then Err (record { name = TooLong; number = 0 })
     else in_unit 0 (ok_or (json_of bytes) NotJson >>= document_in) >>= commands_from 1 nothing_made

@@ -15,36 +15,38 @@ hex_number n [] = Some n
 hex_number n (c ∷ digits) = option_and_then (λ d. hex_number (n * 16 + d) digits) (hex_digit_value c)
 
 -- the address that a text spells: `0x`, then 1 to 16 hexadecimal digits of either case
-abbrev pub address_of : List ℕ → Option ℕ
-address_of text =
+abbrev pub spelled_address : List ℕ → Option ℕ
+spelled_address text =
     if bytes_eq (take 2 text) (codes "0x") && nat_le 3 (length text) && nat_le (length text) 18
     then hex_number 0 (drop 2 text) else None
 
 -- a value that has to be a text
-abbrev pub text_in : Data → Checked (List ℕ)
-text_in d = ok_or (as_str d) BadCommand
+abbrev pub text_value : Data → Checked (List ℕ)
+text_value d = ok_or (as_str d) BadCommand
 
 -- a value that has to be the text of an address
-abbrev pub address_in : Data → Checked ℕ
-address_in d = do
-  text ← text_in d
-  ok_or (address_of text) BadNumber
+abbrev pub address_value : Data → Checked ℕ
+address_value d = do
+  text ← text_value d
+  ok_or (spelled_address text) BadNumber
 
 -- a value that has to be a whole number: a negative one is out of range
-abbrev pub number_in : Data → Checked ℕ
-number_in d = do
+abbrev pub number_value : Data → Checked ℕ
+number_value d = do
   n ← ok_or (as_number d) BadCommand
   ok_or (as_u64 n) BadNumber
 
 -- a value that has to be the text of bytes: two hexadecimal digits of either case for each
-abbrev pub bytes_in : Data → Checked (List ℕ)
-bytes_in d = do
-  text ← text_in d
+abbrev pub bytes_value : Data → Checked (List ℕ)
+bytes_value d = do
+  text ← text_value d
   ok_or (result_ok (decode_of text)) BadHex
 
 -- a field that has to be there
 abbrev pub field : {A : Type 0} → (Data → Checked A) → List ℕ → Data → Checked A
-field value_in name d = ok_or (get name d) BadCommand >>= value_in
+field value_in name d = do
+  value ← ok_or (get name d) BadCommand
+  value_in value
 
 -- a value that may be left out
 abbrev pub optional_value : {A : Type 0} → (Data → Checked A) → Option Data → Checked (Option A)

@@ -28,7 +28,9 @@ answer_text (Err error) = codes "error " ++ error_name error
 
 -- the registers of x86_64 that a step leaves, each after its name
 abbrev pub registers_text : UnwindRegsX86_64 → List ℕ
-registers_text registers = codes " ip " ++ hexadecimal (ip_of registers) ++ codes " sp " ++ hexadecimal (sp_of registers) ++ codes " bp " ++ hexadecimal (bp_of registers)
+registers_text registers =
+    codes " ip " ++ hexadecimal (ip_of registers) ++ codes " sp " ++ hexadecimal (sp_of registers)
+    ++ codes " bp " ++ hexadecimal (bp_of registers)
 
 -- what a step answers, and the registers that it leaves
 abbrev pub step_text : Result (Option ℕ) Error → UnwindRegsX86_64 → List ℕ

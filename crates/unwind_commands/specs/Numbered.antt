@@ -8,7 +8,8 @@ abbrev pub IsNumbered : ℕ → ℕ → Task → Type 0
 IsNumbered unwinders caches make_unwinder = Unit {0}
 IsNumbered unwinders caches make_cache = Unit {0}
 IsNumbered unwinders caches (load_module l) = l.unwinder < unwinders
-IsNumbered unwinders caches (take_step s) = (s.unwinder < unwinders) × (s.cache < caches) × (s.kind ≡ Ra → s.address ≢ 0)
+IsNumbered unwinders caches (take_step s) =
+    (s.unwinder < unwinders) × (s.cache < caches) × (s.kind ≡ Ra → s.address ≢ 0)
 
 -- how many unwinders there are after a command
 abbrev pub unwinder_count_after : ℕ → Task → ℕ
@@ -23,4 +24,6 @@ caches_after caches _ = caches
 -- each command's numbers are known where it stands
 abbrev pub AreNumbered : ℕ → ℕ → List Task → Type 0
 AreNumbered unwinders caches [] = Unit {0}
-AreNumbered unwinders caches (task ∷ tasks) = IsNumbered unwinders caches task × AreNumbered (unwinder_count_after unwinders task) (caches_after caches task) tasks
+AreNumbered unwinders caches (task ∷ tasks) =
+    IsNumbered unwinders caches task
+    × AreNumbered (unwinder_count_after unwinders task) (caches_after caches task) tasks

@@ -1,12 +1,12 @@
 -- What a clause reads of a stream.
 use Rattle.std.specs.Prelude.{Bool, ℕ, ◌+◌, List, take, Option}
 use Rattle.std.specs.Io.KnownBytes.{Appends}
-use Rattle.unwind_commands.specs.declared.transfer.TheConstants.{DOCUMENT_LIMIT}
+use Rattle.unwind_commands.specs.declared.document.TheConstants.{DOCUMENT_LIMIT}
 use Rattle.unwind_commands.specs.declared.stream.Streamed.{Streamed}
 
 -- the reader or writer that a stream carries
-abbrev pub carried : {T : Type 0} → Streamed T → T
-carried stream = stream.inner
+abbrev pub inner_of : {T : Type 0} → Streamed T → T
+inner_of stream = stream.inner
 
 -- whether one of a stream's calls has failed
 abbrev pub has_broken : {T : Type 0} → Streamed T → Bool

@@ -8,11 +8,10 @@ use Rattle.framehop_rules.specs.declared.x86_64.unwindregs.UnwindRegsX86_64.{Unw
 use Rattle.unwind_commands.specs.declared.document.command.FrameKind.{FrameKind}
 use Rattle.unwind_commands.specs.declared.document.command.FrameKind.TheVariants.{Ip, Ra}
 use Rattle.unwind_commands.specs.declared.document.fault.Fault.{Fault}
-use Rattle.unwind_commands.specs.declared.status.Outcome.{Outcome}
-use Rattle.unwind_commands.specs.declared.status.Outcome.TheVariants.{Completed, Faulted}
-use Rattle.unwind_commands.specs.Commands as commands
-use Rattle.unwind_commands.specs.Commands.{SectionData, Loading, Stepping, Task, make_unwinder, make_cache, load_module, take_step}
-use Rattle.unwind_commands.specs.Document.{decoded}
+use Rattle.unwind_commands.specs.declared.status.Ending.{Ending}
+use Rattle.unwind_commands.specs.declared.status.Ending.TheVariants.{Completed, Faulted}
+use Rattle.unwind_commands.specs.Commands.{StackWords, SectionData, Loading, Stepping, Task, make_unwinder, load_module, take_step}
+use Rattle.unwind_commands.specs.Document.{content_of}
 use Rattle.unwind_commands.specs.Faults.{fault_line}
 use Rattle.framehop.specs.Judge.{judge_at}
 use Rattle.unwind_commands.specs.Lines.{line, outcome_line}
@@ -21,20 +20,29 @@ use Rattle.framehop.specs.ModuleFound.{Loaded, with_module}
 -- the data of the first section that has this name and data
 abbrev pub data_named : List ℕ → List SectionData → Option (List ℕ)
 data_named name [] = None
-data_named name (section ∷ sections) = option_or (if bytes_eq section.name name then section.bytes else None) (data_named name sections)
+data_named name (section ∷ sections) =
+    option_or (if bytes_eq section.name name then section.bytes else None) (data_named name sections)
 
 -- the bytes of call frame information, by its name in ELF or in Mach-O
 abbrev pub eh_frame_of : List SectionData → Option (List ℕ)
-eh_frame_of sections = option_or (data_named (codes ".eh_frame") sections) (data_named (codes "__eh_frame") sections)
+eh_frame_of sections =
+    option_or (data_named (codes ".eh_frame") sections) (data_named (codes "__eh_frame") sections)
 
 -- the module that a command loads
 abbrev pub loaded_by : Loading → Loaded
-loaded_by l = record { start = l.start; end = l.end; base = l.base; base_svma = l.base_svma; eh_frame = eh_frame_of l.sections }
+loaded_by l = record {
+  start = l.start;
+  end = l.end;
+  base = l.base;
+  base_svma = l.base_svma;
+  eh_frame = eh_frame_of l.sections;
+}
 
 -- the words of a stack: one at each eighth byte from its start, as far as they go
-abbrev pub words_of : commands.Words → Words
+abbrev pub words_of : StackWords → Words
 words_of stack at =
-    if nat_le stack.start at && ((at - stack.start) % 8 == 0) then slice_get stack.words ((at - stack.start) / 8) else None
+    if nat_le stack.start at && ((at - stack.start) % 8 == 0)
+    then slice_get stack.words ((at - stack.start) / 8) else None
 
 -- the modules of an unwinder, by its number
 abbrev pub modules_at : List (List Loaded) → ℕ → List Loaded
@@ -43,7 +51,8 @@ modules_at unwinders n = slice_index_or unwinders n []
 -- the modules of each unwinder after a command
 abbrev pub unwinders_after : List (List Loaded) → Task → List (List Loaded)
 unwinders_after unwinders make_unwinder = unwinders ++ [] ∷ []
-unwinders_after unwinders (load_module l) = slice_set unwinders l.unwinder (with_module (loaded_by l) (modules_at unwinders l.unwinder))
+unwinders_after unwinders (load_module l) =
+    slice_set unwinders l.unwinder (with_module (loaded_by l) (modules_at unwinders l.unwinder))
 unwinders_after unwinders _ = unwinders
 
 -- an instruction pointer is the address of a first frame
@@ -62,7 +71,9 @@ registers_of s = new_registers s.ip s.sp s.bp
 
 -- the line of a step over modules
 abbrev pub line_at : List Loaded → Stepping → List ℕ
-line_at modules s = outcome_line (registers_of s) (judge_at modules (is_first_kind s.kind) (lookup_address_at s.kind s.address) (registers_of s) (words_of s.stack))
+line_at modules s =
+    outcome_line (registers_of s)
+    (judge_at modules (is_first_kind s.kind) (lookup_address_at s.kind s.address) (registers_of s) (words_of s.stack))
 
 -- what a command writes
 abbrev pub line_of : List (List Loaded) → Task → List ℕ
@@ -81,13 +92,13 @@ answer_to (Err fault) = line (fault_line fault)
 
 -- what is written for the bytes of a document
 abbrev pub text_of : List ℕ → List ℕ
-text_of bytes = answer_to (decoded bytes)
+text_of bytes = answer_to (content_of bytes)
 
 -- how the run ends
-abbrev pub ending_of : Result (List Task) Fault → Outcome
-ending_of (Ok tasks) = Completed
-ending_of (Err fault) = Faulted
+abbrev pub ending_for : Result (List Task) Fault → Ending
+ending_for (Ok tasks) = Completed
+ending_for (Err fault) = Faulted
 
 -- how the run of a document ends
-abbrev pub outcome_of : List ℕ → Outcome
-outcome_of bytes = ending_of (decoded bytes)
+abbrev pub ending_of : List ℕ → Ending
+ending_of bytes = ending_for (content_of bytes)

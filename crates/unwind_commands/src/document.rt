@@ -1,7 +1,7 @@
 //! The document: JSON text in, typed commands or the first fault out.
 ghost use Rattle.std.specs.Prelude.{◌≡◌, IfOk, ok_or};
 ghost use Rattle.serde_json.specs.View.{items_view, members_view, view};
-ghost use Rattle.unwind_commands.specs.Document.{have_own_float, commands_from, decoded, document_in, has_float_outside, few_commands, is_supported, json_of, nothing_made, has_own_float, is_text};
+ghost use Rattle.unwind_commands.specs.Document.{have_own_float, commands_from, content_of, document_in, has_float_outside, few_commands, is_supported, json_of, nothing_made, has_own_float, is_text};
 ghost use Rattle.unwind_commands.specs.Commands.{AreSound};
 ghost use Rattle.unwind_commands.specs.CommandViews.{Decodes, result_map, tasks_of};
 ghost use Rattle.unwind_commands.specs.declared.document.fault.FaultName.TheVariants.{NotJson};
@@ -26,9 +26,9 @@ use serde_json::{Category, Map, Value};
 use std::alloc::Global;
 
 /// The most bytes that a document may have.
-pub const MAX_LEN: usize = 16_777_216;
+pub const DOCUMENT_LIMIT: usize = 16_777_216;
 /// The most commands that a document may have.
-pub const MAX_COMMANDS: usize = 65_536;
+pub const COMMAND_LIMIT: usize = 65_536;
 
 /// Whether a member has a float that is the document's: the elements of a list
 /// of commands are units of their own.
@@ -92,7 +92,7 @@ fn few_commands(items: &Vec<Value>) -> Checked<&Vec<Value>>
     ensures { result_map (λ v. items_view v.now.items) result
         ≡ few_commands (items_view items.now.items) }
 {
-    if items.len() > MAX_COMMANDS {
+    if items.len() > COMMAND_LIMIT {
         return Err(FaultName::BadDocument);
     }
     Ok(items)
@@ -151,12 +151,12 @@ fn read(alloc: Global, text: &[u8]) -> Result<Value, Refusal<FaultName>>
 /// commands count from 1. The units are checked one after the other, and of the faults of a
 /// unit the one of the first class counts. Memory may run out on any document.
 pub fn decode(alloc: Global, text: &[u8]) -> Result<Vec<Command>, Refusal<Fault>>
-    ensures decoded { Decodes (λ commands. tasks_of commands.items) result (decoded text.now) }
+    ensures decoded { Decodes (λ commands. tasks_of commands.items) result (content_of text.now) }
 
     // What a command names was made by those before it.
     ensures sound { IfOk result (λ commands. AreSound nothing_made (tasks_of commands.items)) }
 {
-    if text.len() > MAX_LEN {
+    if text.len() > DOCUMENT_LIMIT {
         return Err(Refusal::Fault(Fault::of_document(FaultName::TooLong)));
     }
     let document = in_unit(0, read(alloc, text))?;

@@ -39,10 +39,14 @@ impl Instances {
 
     /// Carries out a command, and answers what it writes.
     pub fn perform(&mut self, alloc: Global, command: Command) -> Result<String, AllocError>
-        requires { IsNumbered (length (modules_in self.old)) (caches_in self.old) (task_of command) }
-        ensures line { IfOk result (λ line. string_bytes line ≡ line_of (modules_in self.old) (task_of command)) }
-        ensures unwinders { OnOk result (modules_in self.new ≡ unwinders_after (modules_in self.old) (task_of command)) }
-        ensures caches { OnOk result (caches_in self.new ≡ caches_after (caches_in self.old) (task_of command)) }
+        requires { IsNumbered (length (modules_in self.old)) (caches_in self.old)
+            (task_of command) }
+        ensures line { IfOk result (λ line.
+            string_bytes line ≡ line_of (modules_in self.old) (task_of command)) }
+        ensures unwinders { OnOk result
+            (modules_in self.new ≡ unwinders_after (modules_in self.old) (task_of command)) }
+        ensures caches { OnOk result
+            (caches_in self.new ≡ caches_after (caches_in self.old) (task_of command)) }
     {
         match command {
             Command::Unwinder => self.unwinders.push(UnwinderX86_64::new(alloc))?,
@@ -56,7 +60,8 @@ impl Instances {
     /// Gives an unwinder a module.
     fn load(&mut self, alloc: Global, load: Load) -> Result<(), AllocError>
         requires { load.unwinder < length (modules_in self.old) }
-        ensures unwinders { OnOk result (modules_in self.new ≡ unwinders_after (modules_in self.old) (task_of (Command.Load load))) }
+        ensures unwinders { OnOk result (modules_in self.new
+            ≡ unwinders_after (modules_in self.old) (task_of (Command.Load load))) }
         ensures caches { caches_in self.new ≡ caches_in self.old }
     {
         let eh_frame = eh_frame_data(load.sections);
@@ -68,8 +73,10 @@ impl Instances {
 
     /// Makes a step, and answers its line.
     fn step(&mut self, alloc: Global, step: &Step) -> Result<String, AllocError>
-        requires { IsNumbered (length (modules_in self.old)) (caches_in self.old) (task_of (Command.Step step.now)) }
-        ensures line { IfOk result (λ line. string_bytes line ≡ line_of (modules_in self.old) (task_of (Command.Step step.now))) }
+        requires { IsNumbered (length (modules_in self.old)) (caches_in self.old)
+            (task_of (Command.Step step.now)) }
+        ensures line { IfOk result (λ line. string_bytes line
+            ≡ line_of (modules_in self.old) (task_of (Command.Step step.now))) }
         ensures unwinders { modules_in self.new ≡ modules_in self.old }
         ensures caches { caches_in self.new ≡ caches_in self.old }
     {
@@ -113,9 +120,11 @@ fn word_at(stack: &Stack, address: u64) -> Result<u64, ()>
 /// The place of the first section that has this name and data.
 fn place_of(sections: &[Section], name: &str) -> Option<usize>
     ensures within { IfSome result (λ i. i < length sections.now) }
-    ensures data_ { IfSome result (λ i. (d : Section) →
-        data_named name.now (sections_view sections.now) ≡ (section_view (slice_index_or sections.now i d)).bytes) }
-    ensures has_data { IfSome result (λ _. IsSome (data_named name.now (sections_view sections.now))) }
+    ensures data_ { IfSome result (λ i. (d : Section)
+        → data_named name.now (sections_view sections.now)
+        ≡ (section_view (slice_index_or sections.now i d)).bytes) }
+    ensures has_data { IfSome result (λ _.
+        IsSome (data_named name.now (sections_view sections.now))) }
     ensures none { IfNone result (data_named name.now (sections_view sections.now) ≡ None) }
 {
     for (i, section) in sections.iter().enumerate() {

@@ -10,5 +10,5 @@ mod stream;
 mod transfer;
 
 pub use program::run;
-pub use status::{Outcome, RunError};
+pub use status::{Ending, RunError};
 pub use stream::{Sink, Source, StreamError, Streamed};

@@ -1,61 +1,66 @@
 //! One run of the program: a document in, its answers out.
-ghost use Rattle.std.specs.Prelude.{◌≡◌, ◌↔◌, ◌≢◌, [], false, IsTrue, IfOk, IfErr, IfSome, IsErrOf, OnOk};
+ghost use Rattle.std.specs.Prelude.{◌≡◌, ◌↔◌, ◌≢◌, [], false, IsTrue, IfOk, IfErr, IfSome, IsErrOf, OnErr, OnOk};
 ghost use Rattle.std.specs.Io.KnownBytes.{Appends};
-ghost use Rattle.unwind_commands.specs.Text.{text_of, outcome_of, lines_of};
+ghost use Rattle.unwind_commands.specs.Text.{text_of, ending_of, lines_of};
 ghost use Rattle.unwind_commands.specs.Numbered.{AreNumbered};
 ghost use Rattle.unwind_commands.specs.Stream.{AppendsFront};
 ghost use Rattle.unwind_commands.specs.CommandViews.{tasks_of};
 
 use crate::document::{Command, Refusal, decode};
 use crate::instances::Instances;
-use crate::status::{Outcome, RunError};
+use crate::status::{Ending, RunError};
 use crate::stream::{Sink, Source};
 use crate::transfer::{read_document, write_all};
 use std::alloc::Global;
 
 /// Reads a document, and writes a line for each of its steps, or one for its first fault.
 ///
-/// Want of memory ends the run; what was written is then a front of the whole text.
+/// A run that stops before its end has written a front of the whole text, and nothing where
+/// the document couldn't be read.
 pub fn run<R: Source, W: Sink>(
     alloc: Global,
     reader: &mut R,
     writer: &mut W,
-) -> Result<Outcome, RunError>
+) -> Result<Ending, RunError>
     requires reader { R.has_failed reader.old ≡ false }
     requires writer { W.has_failed writer.old ≡ false }
 
     ensures text { OnOk result (IfSome (R.remaining reader.old) (λ document.
         Appends (W.contents writer.old) (W.contents writer.new) (text_of document))) }
-    ensures outcome { IfOk result (λ outcome. IfSome (R.remaining reader.old) (λ document. outcome ≡ outcome_of document)) }
+    ensures ending { IfOk result (λ ending.
+        IfSome (R.remaining reader.old) (λ document. ending ≡ ending_of document)) }
 
     ensures read { IsErrOf result RunError.Read ↔ IsTrue (R.has_failed reader.new) }
     ensures write { IsErrOf result RunError.Write ↔ IsTrue (W.has_failed writer.new) }
-    ensures memory { IsErrOf result RunError.OutOfMemory → IfSome (R.remaining reader.old) (λ document.
-        AppendsFront (W.contents writer.old) (W.contents writer.new) (text_of document)) }
+    ensures begun { OnErr result (IfSome (R.remaining reader.old) (λ document.
+        AppendsFront (W.contents writer.old) (W.contents writer.new) (text_of document))) }
+    ensures unwritten { IsErrOf result RunError.Read
+        → W.contents writer.new ≡ W.contents writer.old }
 {
     let document = read_document(alloc, reader)?;
     answer(alloc, document.as_slice(), writer)
 }
 
 /// Writes what a document's bytes ask for.
-fn answer<W: Sink>(alloc: Global, document: &[u8], writer: &mut W) -> Result<Outcome, RunError>
+fn answer<W: Sink>(alloc: Global, document: &[u8], writer: &mut W) -> Result<Ending, RunError>
     requires { W.has_failed writer.old ≡ false }
-    ensures text { OnOk result (Appends (W.contents writer.old) (W.contents writer.new) (text_of document.now)) }
-    ensures outcome { IfOk result (λ outcome. outcome ≡ outcome_of document.now) }
+    ensures text { OnOk result (Appends (W.contents writer.old) (W.contents writer.new)
+        (text_of document.now)) }
+    ensures ending { IfOk result (λ ending. ending ≡ ending_of document.now) }
     ensures write { IsErrOf result RunError.Write ↔ IsTrue (W.has_failed writer.new) }
     ensures no_read { IfErr result (λ error. error ≢ RunError.Read) }
-    ensures memory { IsErrOf result RunError.OutOfMemory →
-        AppendsFront (W.contents writer.old) (W.contents writer.new) (text_of document.now) }
+    ensures begun { OnErr result (AppendsFront (W.contents writer.old) (W.contents writer.new)
+        (text_of document.now)) }
 {
     match decode(alloc, document) {
         Ok(commands) => {
             run_commands(alloc, commands, writer)?;
-            Ok(Outcome::Completed)
+            Ok(Ending::Completed)
         }
         Err(Refusal::Fault(fault)) => {
             let line = format!(in alloc; "{fault}\n")?;
             write_all(writer, line.as_bytes())?;
-            Ok(Outcome::Faulted)
+            Ok(Ending::Faulted)
         }
         Err(Refusal::OutOfMemory) => Err(RunError::OutOfMemory),
     }
@@ -69,11 +74,12 @@ fn run_commands<W: Sink>(
 ) -> Result<(), RunError>
     requires writer { W.has_failed writer.old ≡ false }
     requires numbered { AreNumbered 0 0 (tasks_of commands.items) }
-    ensures text { OnOk result (Appends (W.contents writer.old) (W.contents writer.new) (lines_of [] (tasks_of commands.items))) }
+    ensures text { OnOk result (Appends (W.contents writer.old) (W.contents writer.new)
+        (lines_of [] (tasks_of commands.items))) }
     ensures write { IsErrOf result RunError.Write ↔ IsTrue (W.has_failed writer.new) }
     ensures no_read { IfErr result (λ error. error ≢ RunError.Read) }
-    ensures memory { IsErrOf result RunError.OutOfMemory →
-        AppendsFront (W.contents writer.old) (W.contents writer.new) (lines_of [] (tasks_of commands.items)) }
+    ensures begun { OnErr result (AppendsFront (W.contents writer.old) (W.contents writer.new)
+        (lines_of [] (tasks_of commands.items))) }
 {
     commands.reverse();
     let mut instances = Instances::new(alloc);

@@ -2,7 +2,7 @@
 ghost use Rattle.std.specs.Prelude.{◌≡◌, ◌<◌, ◌||◌, ℕ, List, length, Bool, false, Option, Some, IfOk, codes, is_err};
 ghost use Rattle.std.specs.Io.{ReadsAtMost, WritesAtMost};
 ghost use Rattle.std.specs.Io.KnownBytes.{ReadConsumes, WriteAppends};
-ghost use Rattle.unwind_commands.specs.Stream.{carried, has_broken};
+ghost use Rattle.unwind_commands.specs.Stream.{inner_of, has_broken};
 
 use std::io::{Read, Write};
 use std::{fmt, io};
@@ -27,11 +27,13 @@ pub trait Source {
     /// Whether a call has failed.
     ghost has_failed: { Self → Bool };
 
-    /// Reads bytes into the front of `buffer`, and answers how many: fewer than there is room for at any call,
-    /// and 0 only at the end or where `buffer` is empty. A call that fails reads nothing.
+    /// Reads bytes into the front of `buffer`, and answers how many: fewer than there is room for
+    /// at any call, and 0 only at the end or where `buffer` is empty. A call that fails reads
+    /// nothing.
     fn read_some(&mut self, buffer: &mut [u8]) -> Result<usize, StreamError>
         ensures bound { ReadsAtMost result buffer.new }
-        ensures bytes { ReadConsumes (remaining self.old) (remaining self.new) result buffer.new }
+        ensures bytes { ReadConsumes (remaining self.old) (remaining self.new)
+            result buffer.new }
         ensures failed { has_failed self.new ≡ (has_failed self.old || is_err result) };
 
     /// Whether a call has failed, so that bytes may be missing.
@@ -47,8 +49,8 @@ pub trait Sink {
     /// Whether a call has failed.
     ghost has_failed: { Self → Bool };
 
-    /// Writes a front of `bytes`, and answers how many. It fails, and writes nothing, where not one of several
-    /// bytes can be written.
+    /// Writes a front of `bytes`, and answers how many. It fails, and writes nothing, where not
+    /// one of several bytes can be written.
     fn write_some(&mut self, bytes: &[u8]) -> Result<usize, StreamError>
         ensures bound { WritesAtMost result bytes.now }
         ensures bytes { WriteAppends (contents self.old) (contents self.new) result bytes.now }
@@ -70,7 +72,7 @@ pub struct Streamed<T> {
 impl<T> Streamed<T> {
     /// Carries a reader or writer, of which no call has failed yet.
     pub fn new(inner: T) -> Self
-        ensures carried { carried result ≡ inner }
+        ensures inner { inner_of result ≡ inner }
         ensures failed { has_broken result ≡ false }
     {
         Streamed {
@@ -81,14 +83,14 @@ impl<T> Streamed<T> {
 
     /// The reader or writer.
     pub fn into_inner(self) -> T
-        ensures { result ≡ carried self }
+        ensures { result ≡ inner_of self }
     {
         self.inner
     }
 }
 
 impl<T: Read> Source for Streamed<T> {
-    ghost remaining = { λ stream. T.remaining (carried stream) };
+    ghost remaining = { λ stream. T.remaining (inner_of stream) };
 
     ghost has_failed = { has_broken };
 
@@ -106,7 +108,7 @@ impl<T: Read> Source for Streamed<T> {
 }
 
 impl<T: Write> Sink for Streamed<T> {
-    ghost contents = { λ stream. T.contents (carried stream) };
+    ghost contents = { λ stream. T.contents (inner_of stream) };
 
     ghost has_failed = { has_broken };
 

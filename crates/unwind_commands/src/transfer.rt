@@ -1,26 +1,27 @@
 //! Reads a whole document, and writes a whole answer.
 ghost use Rattle.std.specs.Prelude.{◌≡◌, ◌≢◌, ◌+◌, ◌<◌, ◌≤◌, ◌↔◌, ◌++◌, ℕ, List, take, length, vec_len, false, IsTrue, IfOk, IfErr, IfSome, OnOk, OnErr, IsErrOf, IsOkUnless};
 ghost use Rattle.std.specs.Io.KnownBytes.{Appends, Consumes, IsAtEnd};
-ghost use Rattle.unwind_commands.specs.Stream.{part_read};
-ghost use Rattle.unwind_commands.specs.declared.transfer.TheConstants.{DOCUMENT_LIMIT};
+ghost use Rattle.unwind_commands.specs.Stream.{AppendsFront, part_read};
+ghost use Rattle.unwind_commands.specs.declared.document.TheConstants.{DOCUMENT_LIMIT};
 
+use crate::document::DOCUMENT_LIMIT;
 use crate::status::RunError;
 use crate::stream::{Sink, Source};
 use std::alloc::{AllocError, Global};
 
-/// The greatest length of a document, in bytes.
-pub const DOCUMENT_LIMIT: usize = 16_777_216;
-
 /// How many bytes one read asks for.
 const CHUNK: usize = 65_536;
 
-/// Reads a document to its end. Of one that is longer than [`DOCUMENT_LIMIT`] it reads one byte more than that.
+/// Reads a document to its end. Of one that is longer than [`DOCUMENT_LIMIT`] it reads one byte
+/// more than that.
 pub fn read_document<S: Source>(alloc: Global, source: &mut S) -> Result<Vec<u8>, RunError>
     requires { S.has_failed source.old ≡ false }
-    ensures document { IfOk result (λ document. IfSome (S.remaining source.old) (λ all. document.items ≡ part_read all)) }
+    ensures document { IfOk result (λ document.
+        IfSome (S.remaining source.old) (λ all. document.items ≡ part_read all)) }
     ensures whole { IfOk result (λ document. vec_len document ≤ DOCUMENT_LIMIT
         → IfSome (S.remaining source.old) (λ all. document.items ≡ all)) }
-    ensures rest { IfOk result (λ document. Consumes (S.remaining source.old) (S.remaining source.new) document.items) }
+    ensures rest { IfOk result (λ document.
+        Consumes (S.remaining source.old) (S.remaining source.new) document.items) }
     ensures bound { IfOk result (λ document. vec_len document ≤ DOCUMENT_LIMIT + 1) }
     ensures read { IsErrOf result RunError.Read ↔ IsTrue (S.has_failed source.new) }
     ensures no_write { IfErr result (λ error. error ≢ RunError.Write) }
@@ -31,10 +32,12 @@ pub fn read_document<S: Source>(alloc: Global, source: &mut S) -> Result<Vec<u8>
 /// Reads to the end of the source, or `most` bytes where there are more.
 fn read_up_to<S: Source>(alloc: Global, source: &mut S, most: usize) -> Result<Vec<u8>, RunError>
     requires { S.has_failed source.old ≡ false }
-    ensures front { IfOk result (λ bytes. IfSome (S.remaining source.old) (λ all. bytes.items ≡ take most all)) }
+    ensures front { IfOk result (λ bytes.
+        IfSome (S.remaining source.old) (λ all. bytes.items ≡ take most all)) }
     ensures whole { IfOk result (λ bytes. vec_len bytes < most
         → IfSome (S.remaining source.old) (λ all. bytes.items ≡ all)) }
-    ensures rest { IfOk result (λ bytes. Consumes (S.remaining source.old) (S.remaining source.new) bytes.items) }
+    ensures rest { IfOk result (λ bytes.
+        Consumes (S.remaining source.old) (S.remaining source.new) bytes.items) }
     ensures bound { IfOk result (λ bytes. vec_len bytes ≤ most) }
     ensures read { IsErrOf result RunError.Read ↔ IsTrue (S.has_failed source.new) }
     ensures no_write { IfErr result (λ error. error ≢ RunError.Write) }
@@ -58,7 +61,8 @@ fn new_chunk(alloc: Global) -> Result<Vec<u8>, AllocError>
     vec![in alloc; 0u8; CHUNK]
 }
 
-/// Reads up to `room` bytes, by way of `chunk`, to the end of `document`, and answers how many: 0 at the source's end.
+/// Reads up to `room` bytes, by way of `chunk`, to the end of `document`, and answers how many:
+/// 0 at the source's end.
 fn read_piece<S: Source>(
     source: &mut S,
     chunk: &mut [u8],
@@ -68,9 +72,11 @@ fn read_piece<S: Source>(
     requires room { 0 < room }
     requires chunk { room ≤ length chunk.old }
     requires fresh { S.has_failed source.old ≡ false }
-    ensures grows { IfOk result (λ count. vec_len document.new ≡ vec_len document.old + count) }
+    ensures grows { IfOk result (λ count.
+        vec_len document.new ≡ vec_len document.old + count) }
     ensures bound { IfOk result (λ count. count ≤ room) }
-    ensures piece { OnOk result ((piece : List ℕ) × (document.new.items ≡ document.old.items ++ piece)
+    ensures piece { OnOk result ((piece : List ℕ)
+        × (document.new.items ≡ document.old.items ++ piece)
         × Consumes (S.remaining source.old) (S.remaining source.new) piece) }
     ensures end { result ≡ Ok 0 → IsAtEnd (S.remaining source.new) }
     ensures read { IsErrOf result RunError.Read ↔ IsTrue (S.has_failed source.new) }
@@ -86,8 +92,10 @@ fn read_piece<S: Source>(
 /// Writes all of `bytes`.
 pub fn write_all<S: Sink>(sink: &mut S, bytes: &[u8]) -> Result<(), RunError>
     requires { S.has_failed sink.old ≡ false }
-    ensures written { OnOk result (Appends (S.contents sink.old) (S.contents sink.new) bytes.now) }
-    ensures begun { OnErr result ((count : ℕ) × Appends (S.contents sink.old) (S.contents sink.new) (take count bytes.now)) }
+    ensures written { OnOk result
+        (Appends (S.contents sink.old) (S.contents sink.new) bytes.now) }
+    ensures begun { OnErr result
+        (AppendsFront (S.contents sink.old) (S.contents sink.new) bytes.now) }
     ensures write { IsErrOf result RunError.Write ↔ IsTrue (S.has_failed sink.new) }
     ensures only_write { IsOkUnless result RunError.Write }
 {

@@ -2,9 +2,9 @@
 ghost use Rattle.std.specs.Prelude.{◌≡◌, [], IfOk, Some, codes, option_map, unwrap_or};
 ghost use Rattle.serde_json.specs.Read.{read as read_text};
 ghost use Rattle.serde_json.specs.View.{view};
-ghost use Rattle.unwind_commands.specs.Text.{outcome_of, text_of};
-ghost use Rattle.unwind_commands.specs.declared.status.Outcome.TheVariants.{Completed, Faulted};
-ghost use Rattle.unwind_rows.specs.Wanted.{is_wanted, number_in, text_in};
+ghost use Rattle.unwind_commands.specs.Text.{ending_of, text_of};
+ghost use Rattle.unwind_commands.specs.declared.status.Ending.TheVariants.{Completed, Faulted};
+ghost use Rattle.unwind_rows.specs.Wanted.{document_of, is_wanted, number_field, text_field};
 
 use anyhow::{Context, Result};
 use serde_json::Value;
@@ -35,16 +35,19 @@ impl Row {
 
     /// The row's name.
     pub fn name(&self) -> &str
-        ensures { result.now ≡ unwrap_or (text_in (codes "name") (view self.now.fields)) [] }
+        ensures { result.now ≡ unwrap_or (text_field (codes "name") (view self.now.fields)) [] }
     {
         self.text("name").unwrap_or("")
     }
 
     /// Runs the row's document over memory.
     pub fn run(&self, alloc: Global) -> Result<Answer>
-        ensures bytes { IfOk result (λ answer. answer.bytes.items ≡ text_of (unwrap_or (text_in (codes "text") (view self.now.fields)) [])) }
-        ensures completed { IfOk result (λ answer. outcome_of (unwrap_or (text_in (codes "text") (view self.now.fields)) []) ≡ Completed → answer.status ≡ 0) }
-        ensures faulted { IfOk result (λ answer. outcome_of (unwrap_or (text_in (codes "text") (view self.now.fields)) []) ≡ Faulted → answer.status ≡ 2) }
+        ensures bytes { IfOk result (λ answer.
+            answer.bytes.items ≡ text_of (document_of (view self.now.fields))) }
+        ensures completed { IfOk result (λ answer.
+            ending_of (document_of (view self.now.fields)) ≡ Completed → answer.status ≡ 0) }
+        ensures faulted { IfOk result (λ answer.
+            ending_of (document_of (view self.now.fields)) ≡ Faulted → answer.status ≡ 2) }
     {
         let mut source = Streamed::new(self.text("text").unwrap_or("").as_bytes());
         let mut sink = Streamed::new(Vec::new(alloc));
@@ -57,7 +60,8 @@ impl Row {
 
     /// Whether the answer is the one that the row wants. None is, where the row doesn't say.
     pub fn wants(&self, answer: &Answer) -> bool
-        ensures { result ≡ is_wanted (view self.now.fields) answer.now.bytes.items answer.now.status }
+        ensures { result
+            ≡ is_wanted (view self.now.fields) answer.now.bytes.items answer.now.status }
     {
         let Some(stdout) = self.text("stdout") else {
             return false;
@@ -70,7 +74,7 @@ impl Row {
 
     // The text in a field.
     fn text(&self, field: &str) -> Option<&str>
-        ensures { option_map (λ s. s.now) result ≡ text_in field.now (view self.now.fields) }
+        ensures { option_map (λ s. s.now) result ≡ text_field field.now (view self.now.fields) }
     {
         match self.fields.get(field) {
             Some(value) => value.as_str(),
@@ -80,7 +84,7 @@ impl Row {
 
     // The number in a field.
     fn number(&self, field: &str) -> Option<u64>
-        ensures { result ≡ number_in field.now (view self.now.fields) }
+        ensures { result ≡ number_field field.now (view self.now.fields) }
     {
         match self.fields.get(field) {
             Some(value) => value.as_u64(),

@@ -12,7 +12,7 @@ fn main(rt: HostRuntime) -> ExitCode {
     let mut source = Streamed::new(rt.reader());
     let mut sink = Streamed::new(io::writer(&rt));
     match run(rt.alloc(), &mut source, &mut sink) {
-        Ok(outcome) => ExitCode::from(outcome.status()),
+        Ok(ending) => ExitCode::from(ending.status()),
         Err(_) => ExitCode::FAILURE,
     }
 }

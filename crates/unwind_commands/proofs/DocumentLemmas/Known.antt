@@ -15,9 +15,9 @@ use Rattle.unwind_commands.specs.declared.document.command.FrameKind.TheVariants
 use Rattle.unwind_commands.specs.declared.document.command.Verb.{Verb}
 use Rattle.unwind_commands.specs.declared.document.command.Verb.TheVariants as verb
 use Rattle.unwind_commands.specs.Faults.{Checked, ◌⊛◌, both, ◌>>=◌}
-use Rattle.unwind_commands.specs.Json.{field, text_in, address_in, number_in, has_only}
+use Rattle.unwind_commands.specs.Json.{field, text_value, address_value, number_value, has_only}
 use Rattle.serde_json.specs.Find.{get}
-use Rattle.unwind_commands.specs.Commands.{Made, Task, make_unwinder, make_cache, load_module, take_step, Stepping, Loading, Words, IsSound, IsSoundStep, AreSound, kind_in, words_in, registers_in, sections_in, made_number, stepping_of, loading_of, stack_names, step_names, load_names, number_below, frame_at, frame_in, stack_at, stack_in, step_in, free_unwinder, unwinder_to_load, load_in, verb_in, task_in, command_in, made_after}
+use Rattle.unwind_commands.specs.Commands.{Made, Task, make_unwinder, make_cache, load_module, take_step, Stepping, Loading, StackWords, IsSound, IsSoundStep, AreSound, kind_in, words_in, registers_in, sections_in, made_number, stepping_of, loading_of, stack_names, step_names, load_names, number_below, frame_at, frame_in, stack_at, stack_in, step_in, free_unwinder, unwinder_to_load, load_in, verb_in, task_in, command_in, made_after}
 use Rattle.unwind_commands.specs.Document.{in_unit, with_task, commands_from, nothing_made}
 use Rattle.unwind_commands.proofs.DocumentLemmas.Checks.{ok_is}
 
@@ -108,26 +108,26 @@ frame_sound Ra address frame is ra =
 
 frame_in_sound : (d : Data) (frame : FrameKind × ℕ) → frame_in d ≡ Ok frame → frame.0 ≡ Ra → frame.1 ≢ 0
 frame_in_sound d frame is =
-    let s = bind_ok (both (field kind_in (codes "kind") d) (field address_in (codes "address") d)) (λ f. frame_at f.0 f.1) frame is in
+    let s = bind_ok (both (field kind_in (codes "kind") d) (field address_value (codes "address") d)) (λ f. frame_at f.0 f.1) frame is in
     frame_sound s.0.0 s.0.1 frame s.2
 
-abbrev Fit : Words → Type 0
+abbrev Fit : StackWords → Type 0
 Fit stack = stack.start + 8 * (length stack.words - 1) < 2 ^ 64
 
-stack_sound : (start : ℕ) (words : List ℕ) (stack : Words) → stack_at start words ≡ Ok stack → Fit stack
+stack_sound : (start : ℕ) (words : List ℕ) (stack : StackWords) → stack_at start words ≡ Ok stack → Fit stack
 stack_sound start words stack is =
-    let made : Words = record { start = start; words = words } in
+    let made : StackWords = record { start = start; words = words } in
     let t = test_ok (nat_lt (start + 8 * (length words - 1)) (2 ^ 64)) (Ok made) BadNumber stack is in
     subst Fit (ok_is made stack t.1) (ltb-true _ _ t.0)
 
-stack_in_sound : (d : Data) (stack : Words) → stack_in d ≡ Ok stack → Fit stack
+stack_in_sound : (d : Data) (stack : StackWords) → stack_in d ≡ Ok stack → Fit stack
 stack_in_sound d stack is =
-    let fields = both (field address_in (codes "start") d) (field words_in (codes "words") d) in
+    let fields = both (field address_value (codes "start") d) (field words_in (codes "words") d) in
     let t = test_ok (has_only stack_names d) (fields >>= λ s. stack_at s.0 s.1) BadCommand stack is in
     let s = bind_ok fields (λ s. stack_at s.0 s.1) stack t.1 in
     stack_sound s.0.0 s.0.1 stack s.2
 
-stack_field_sound : (d : Data) (stack : Words) → field stack_in (codes "stack") d ≡ Ok stack → Fit stack
+stack_field_sound : (d : Data) (stack : StackWords) → field stack_in (codes "stack") d ≡ Ok stack → Fit stack
 stack_field_sound d stack is =
     let s = bind_ok (ok_or (get (codes "stack") d) BadCommand) stack_in stack is in
     stack_in_sound s.0 stack s.2
@@ -139,8 +139,8 @@ step_sound made d step is =
     let t = test_ok (has_only step_names d) (Ok stepping_of ⊛ u ⊛ c ⊛ frame_in d ⊛ field registers_in (codes "regs") d ⊛ field stack_in (codes "stack") d) BadCommand step is in
     let p = five_ok stepping_of u c (frame_in d) (field registers_in (codes "regs") d) (field stack_in (codes "stack") d) step t.1 in
     subst (IsSoundStep made) (sym p.9) (record {
-      unwinder = number_known (length made.loaded) (field number_in (codes "unwinder") d) p.0 p.5;
-      cache = number_known made.caches (field number_in (codes "cache") d) p.1 p.6;
+      unwinder = number_known (length made.loaded) (field number_value (codes "unwinder") d) p.0 p.5;
+      cache = number_known made.caches (field number_value (codes "cache") d) p.1 p.6;
       address = frame_in_sound d p.2 p.7;
       words = stack_field_sound d p.4 p.8;
     })
@@ -148,11 +148,11 @@ step_sound made d step is =
 load_sound : (made : Made) (d : Data) (load : Loading) → load_in made d ≡ Ok load → load.unwinder < length made.loaded
 load_sound made d load is =
     let u = unwinder_to_load made.loaded d in
-    let t = test_ok (has_only load_names d) (Ok loading_of ⊛ u ⊛ field text_in (codes "name") d ⊛ field address_in (codes "start") d ⊛ field address_in (codes "end") d
-    ⊛ field address_in (codes "base") d ⊛ field address_in (codes "base_svma") d ⊛ field sections_in (codes "sections") d) BadCommand load is in
-    let known : u ≡ Ok load.unwinder = seven_ok loading_of (λ l. l.unwinder) (λ u n s e b v ss. refl) u (field text_in (codes "name") d) (field address_in (codes "start") d) (field address_in (codes "end") d)
-    (field address_in (codes "base") d) (field address_in (codes "base_svma") d) (field sections_in (codes "sections") d) load t.1 in
-    let s = bind_ok (field number_in (codes "unwinder") d) (free_unwinder made.loaded) load.unwinder known in
+    let t = test_ok (has_only load_names d) (Ok loading_of ⊛ u ⊛ field text_value (codes "name") d ⊛ field address_value (codes "start") d ⊛ field address_value (codes "end") d
+    ⊛ field address_value (codes "base") d ⊛ field address_value (codes "base_svma") d ⊛ field sections_in (codes "sections") d) BadCommand load is in
+    let known : u ≡ Ok load.unwinder = seven_ok loading_of (λ l. l.unwinder) (λ u n s e b v ss. refl) u (field text_value (codes "name") d) (field address_value (codes "start") d) (field address_value (codes "end") d)
+    (field address_value (codes "base") d) (field address_value (codes "base_svma") d) (field sections_in (codes "sections") d) load t.1 in
+    let s = bind_ok (field number_value (codes "unwinder") d) (free_unwinder made.loaded) load.unwinder known in
     let q = test_not (slice_index_or made.loaded s.0 false) (number_below (length made.loaded) s.0) BadCommand load.unwinder s.2 in
     below_count (length made.loaded) s.0 load.unwinder q.1
 

@@ -4,7 +4,7 @@ use Rattle.unwind_commands.specs.declared.document.command.FrameKind.{FrameKind}
 use Rattle.unwind_commands.specs.declared.document.command.Stack.{Stack}
 use Rattle.unwind_commands.specs.declared.document.step.Registers.{Registers}
 use Rattle.unwind_commands.specs.Faults.{Checked, ◌⊛◌, both}
-use Rattle.unwind_commands.specs.Commands.{stepping_of, Words}
+use Rattle.unwind_commands.specs.Commands.{stepping_of, StackWords}
 use Rattle.unwind_commands.specs.CommandViews.{result_map, words_view}
 use Rattle.unwind_commands.proofs.DocumentLemmas.Checks.{first-field, and-field, as_it_is}
 
@@ -35,7 +35,7 @@ two_fields start words one S W start_is words_is one_is =
 pub five_fields : (u c : Checked ℕ) (f : Checked (FrameKind × ℕ)) (r : Checked Registers) (s : Checked Stack)
     (one : Checked (ℕ × ℕ)) (two : Checked ((ℕ × ℕ) × (FrameKind × ℕ))) (three : Checked (((ℕ × ℕ) × (FrameKind × ℕ)) × Registers))
     (four : Checked ((((ℕ × ℕ) × (FrameKind × ℕ)) × Registers) × Stack))
-    (U C : Checked ℕ) (F : Checked (FrameKind × ℕ)) (R : Checked Registers) (S : Checked Words)
+    (U C : Checked ℕ) (F : Checked (FrameKind × ℕ)) (R : Checked Registers) (S : Checked StackWords)
     → u ≡ U → c ≡ C → f ≡ F → r ≡ R → result_map words_view s ≡ S
     → one ≡ both u c → two ≡ both one f → three ≡ both two r → four ≡ both three s
     → result_map (λ p. stepping_of p.0.0.0.0 p.0.0.0.1 p.0.0.1 p.0.1 (words_view p.1)) four ≡ Ok stepping_of ⊛ U ⊛ C ⊛ F ⊛ R ⊛ S

@@ -10,7 +10,8 @@ use Rattle.unwind_commands.specs.declared.document.fault.Refusal.TheVariants as 
 use Rattle.unwind_commands.specs.CommandViews.{Decodes}
 use Rattle.unwind_commands.specs.Faults.{Checked, ◌>>=◌}
 use Rattle.unwind_commands.specs.Commands.{Task, Made, command_in, made_after}
-use Rattle.unwind_commands.specs.Document.{commands_from, in_unit, with_task, decoded, document_in, json_of, max_len, nothing_made}
+use Rattle.unwind_commands.specs.Document.{commands_from, in_unit, with_task, content_of, document_in, json_of, nothing_made}
+use Rattle.unwind_commands.specs.declared.document.TheConstants.{DOCUMENT_LIMIT}
 
 -- commands that are decoded, and what the rest gives
 abbrev pub behind : List Task → Result (List Task) Fault → Result (List Task) Fault
@@ -58,23 +59,23 @@ behind-refused seen view all tasks n made d ds refusal.OutOfMemory is bad = tt
 abbrev of_json : Option Data → Result (List Task) Fault
 of_json d = in_unit 0 (ok_or d NotJson >>= document_in) >>= commands_from 1 nothing_made
 
-pub decoded-long : (bytes : List ℕ) → nat_lt max_len (length bytes) ≡ true → decoded bytes ≡ Err (record { name = TooLong; number = 0 })
-decoded-long bytes long = ap (λ b. cond b (Err (record { name = TooLong; number = 0 })) (of_json (json_of bytes))) long
+pub content_of-long : (bytes : List ℕ) → nat_lt DOCUMENT_LIMIT (length bytes) ≡ true → content_of bytes ≡ Err (record { name = TooLong; number = 0 })
+content_of-long bytes long = ap (λ b. cond b (Err (record { name = TooLong; number = 0 })) (of_json (json_of bytes))) long
 
-pub decoded-short : (bytes : List ℕ) (d : Option Data) → nat_lt max_len (length bytes) ≡ false → json_of bytes ≡ d → decoded bytes ≡ of_json d
-decoded-short bytes d short is =
+pub content_of-short : (bytes : List ℕ) (d : Option Data) → nat_lt DOCUMENT_LIMIT (length bytes) ≡ false → json_of bytes ≡ d → content_of bytes ≡ of_json d
+content_of-short bytes d short is =
     ap (λ b. cond b (Err (record { name = TooLong; number = 0 })) (of_json (json_of bytes))) short ∙ ap of_json is
 
-pub decoded-no-json : (bytes : List ℕ) → nat_lt max_len (length bytes) ≡ false → json_of bytes ≡ None
-    → decoded bytes ≡ Err (record { name = NotJson; number = 0 })
-decoded-no-json bytes short none = decoded-short bytes None short none
+pub content_of-no-json : (bytes : List ℕ) → nat_lt DOCUMENT_LIMIT (length bytes) ≡ false → json_of bytes ≡ None
+    → content_of bytes ≡ Err (record { name = NotJson; number = 0 })
+content_of-no-json bytes short none = content_of-short bytes None short none
 
-pub decoded-bad : (bytes : List ℕ) (d : Data) (name : FaultName) → nat_lt max_len (length bytes) ≡ false → json_of bytes ≡ Some d → document_in d ≡ Err name
-    → decoded bytes ≡ Err (record { name = name; number = 0 })
-decoded-bad bytes d name short is bad =
-    decoded-short bytes (Some d) short is ∙ ap (λ r. in_unit 0 r >>= commands_from 1 nothing_made) bad
+pub content_of-bad : (bytes : List ℕ) (d : Data) (name : FaultName) → nat_lt DOCUMENT_LIMIT (length bytes) ≡ false → json_of bytes ≡ Some d → document_in d ≡ Err name
+    → content_of bytes ≡ Err (record { name = name; number = 0 })
+content_of-bad bytes d name short is bad =
+    content_of-short bytes (Some d) short is ∙ ap (λ r. in_unit 0 r >>= commands_from 1 nothing_made) bad
 
-pub decoded-good : (bytes : List ℕ) (d : Data) (ds : Items) → nat_lt max_len (length bytes) ≡ false → json_of bytes ≡ Some d → document_in d ≡ Ok ds
-    → decoded bytes ≡ commands_from 1 nothing_made ds
-decoded-good bytes d ds short is good =
-    decoded-short bytes (Some d) short is ∙ ap (λ r. in_unit 0 r >>= commands_from 1 nothing_made) good
+pub content_of-good : (bytes : List ℕ) (d : Data) (ds : Items) → nat_lt DOCUMENT_LIMIT (length bytes) ≡ false → json_of bytes ≡ Some d → document_in d ≡ Ok ds
+    → content_of bytes ≡ commands_from 1 nothing_made ds
+content_of-good bytes d ds short is good =
+    content_of-short bytes (Some d) short is ∙ ap (λ r. in_unit 0 r >>= commands_from 1 nothing_made) good

@@ -1,7 +1,7 @@
 //! Addresses as texts.
 ghost use Rattle.std.specs.Prelude.{◌≡◌, ◌<◌, ◌≤◌, length, IfSome};
 ghost use Rattle.hex.specs.Hex.{hex_digit_value};
-ghost use Rattle.unwind_commands.specs.Json.{hex_number, address_of};
+ghost use Rattle.unwind_commands.specs.Json.{hex_number, spelled_address};
 
 /// The value of a hexadecimal digit of either case.
 fn digit_of(c: u8) -> Option<u8>
@@ -30,7 +30,7 @@ fn number_of(digits: &[u8]) -> Option<u64>
 
 /// The address that a text spells: `0x`, then 1 to 16 hexadecimal digits of either case.
 pub(crate) fn address_of(text: &str) -> Option<u64>
-    ensures { result ≡ address_of text.now }
+    ensures { result ≡ spelled_address text.now }
 {
     let bytes = text.as_bytes();
     if bytes.len() < 3 || bytes.len() > 18 || bytes[0] != b'0' || bytes[1] != b'x' {

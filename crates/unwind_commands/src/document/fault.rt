@@ -9,7 +9,7 @@ use std::fmt;
 /// fields or one command, the fault counts whose name stands first here.
 #[derive(Clone, Copy, Debug, PartialEq, Eq)]
 pub enum FaultName {
-    /// More than 16,777,216 bytes.
+    /// More bytes than a document may have.
     TooLong,
     /// No UTF-8, or no JSON that the reader takes.
     NotJson,

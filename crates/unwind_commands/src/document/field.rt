@@ -4,7 +4,7 @@ ghost use Rattle.serde_json.specs.View.{view, members_view};
 ghost use Rattle.serde_json.specs.Find.{get};
 ghost use Rattle.unwind_commands.specs.CommandViews.{result_map};
 ghost use Rattle.unwind_commands.specs.declared.document.fault.FaultName.TheVariants.{BadCommand};
-ghost use Rattle.unwind_commands.specs.Json.{text_in, address_in, number_in, field, are_among, has_only};
+ghost use Rattle.unwind_commands.specs.Json.{text_value, address_value, number_value, field, are_among, has_only};
 
 use super::address::address_of;
 use super::fault::{Checked, FaultName};
@@ -42,35 +42,35 @@ pub(crate) fn needed<'a>(object: &'a Value, name: &str) -> Checked<&'a Value>
 
 /// A value that has to be a text.
 pub(crate) fn text_in(value: &Value) -> Checked<&str>
-    ensures { result_map (λ s. s.now) result ≡ text_in (view value.now) }
+    ensures { result_map (λ s. s.now) result ≡ text_value (view value.now) }
 {
     value.as_str().ok_or(FaultName::BadCommand)
 }
 
 /// A value that has to be the text of an address.
 pub(crate) fn address_in(value: &Value) -> Checked<u64>
-    ensures { result ≡ address_in (view value.now) }
+    ensures { result ≡ address_value (view value.now) }
 {
     address_of(text_in(value)?).ok_or(FaultName::BadNumber)
 }
 
 /// The text in a field.
 pub(crate) fn text_field<'a>(object: &'a Value, name: &str) -> Checked<&'a str>
-    ensures { result_map (λ s. s.now) result ≡ field text_in name.now (view object.now) }
+    ensures { result_map (λ s. s.now) result ≡ field text_value name.now (view object.now) }
 {
     text_in(needed(object, name)?)
 }
 
 /// The address in a field.
 pub(crate) fn address_field(object: &Value, name: &str) -> Checked<u64>
-    ensures { result ≡ field address_in name.now (view object.now) }
+    ensures { result ≡ field address_value name.now (view object.now) }
 {
     address_in(needed(object, name)?)
 }
 
 /// The whole number in a field.
 pub(crate) fn number_field(object: &Value, name: &str) -> Checked<u64>
-    ensures { result ≡ field number_in name.now (view object.now) }
+    ensures { result ≡ field number_value name.now (view object.now) }
 {
     let number = needed(object, name)?
         .as_number()

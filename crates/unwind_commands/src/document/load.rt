@@ -2,7 +2,7 @@
 ghost use Rattle.std.specs.Prelude.{◌≡◌, codes, option_map, option_and_then, IfOk, string_bytes};
 ghost use Rattle.serde_json.specs.Find.{as_str, get};
 ghost use Rattle.serde_json.specs.View.{view, items_view};
-ghost use Rattle.unwind_commands.specs.Json.{bytes_in, list_of, field, optional_value, text_in};
+ghost use Rattle.unwind_commands.specs.Json.{bytes_value, list_of, field, optional_value, text_value};
 ghost use Rattle.unwind_commands.specs.Commands.{are_distinct, is_refused, load_in, names_of, range_between, section_in, section_name_in, sections_in, unwinder_to_load};
 ghost use Rattle.unwind_commands.specs.CommandViews.{Decodes, load_view, made_view, section_view, sections_view};
 
@@ -65,7 +65,7 @@ fn range_in(object: &Value) -> Checked<Option<AddressRange>>
 
 /// The bytes that a text spells, two hexadecimal digits each.
 fn bytes_in(alloc: Global, value: &Value) -> Result<Vec<u8>, Refusal<FaultName>>
-    ensures { Decodes (λ bytes. bytes.items) result (bytes_in (view value.now)) }
+    ensures { Decodes (λ bytes. bytes.items) result (bytes_value (view value.now)) }
 {
     let text = text_in(value)?;
     match hex::decode(alloc, text.as_bytes()) {
@@ -78,7 +78,7 @@ fn bytes_in(alloc: Global, value: &Value) -> Result<Vec<u8>, Refusal<FaultName>>
 /// The bytes of a section, where it has some.
 fn bytes_field(alloc: Global, object: &Value) -> Result<Option<Vec<u8>>, Refusal<FaultName>>
     ensures { Decodes (option_map (λ bytes. bytes.items)) result
-        (optional_value bytes_in (get (codes "data") (view object.now))) }
+        (optional_value bytes_value (get (codes "data") (view object.now))) }
 {
     match object.get("data") {
         Some(value) => Ok(Some(bytes_in(alloc, value)?)),
@@ -182,7 +182,7 @@ fn unwinder_to_load(object: &Value, made: &Made) -> Checked<usize>
 
 /// The name of a module.
 fn module_name(alloc: Global, object: &Value) -> Result<String, Refusal<FaultName>>
-    ensures { Decodes string_bytes result (field text_in (codes "name") (view object.now)) }
+    ensures { Decodes string_bytes result (field text_value (codes "name") (view object.now)) }
 {
     Ok(String::from_str(alloc, text_field(object, "name")?)?)
 }

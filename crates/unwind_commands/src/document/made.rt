@@ -17,7 +17,8 @@ pub(crate) struct Made {
 /// Adds what a command makes.
 pub(crate) fn add(made: &mut Made, command: &Command) -> Result<(), AllocError>
     requires { made.old.caches + 1 < 2 ^ 64 }
-    ensures ok { OnOk result (made_view made.new ≡ made_after (made_view made.old) (task_of command.now)) }
+    ensures ok { OnOk result
+        (made_view made.new ≡ made_after (made_view made.old) (task_of command.now)) }
     ensures few { OnOk result (made.new.caches ≤ made.old.caches + 1) }
 {
     match command {

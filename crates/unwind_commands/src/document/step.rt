@@ -1,7 +1,7 @@
 //! Steps.
 ghost use Rattle.std.specs.Prelude.{◌≡◌, codes};
 ghost use Rattle.serde_json.specs.View.{view, items_view};
-ghost use Rattle.unwind_commands.specs.Json.{address_in, list_of, field};
+ghost use Rattle.unwind_commands.specs.Json.{address_value, list_of, field};
 ghost use Rattle.unwind_commands.specs.Commands.{made_number, kind_in, frame_in, registers_in, words_in, stack_at, stack_in, step_in};
 ghost use Rattle.unwind_commands.specs.CommandViews.{Decodes, result_map, words_view, step_view, made_view};
 
@@ -85,7 +85,7 @@ fn words_in(alloc: Global, value: &Value) -> Result<Vec<u64>, Refusal<FaultName>
 /// Each element has to be the text of an address.
 fn addresses(alloc: Global, items: &Vec<Value>) -> Result<Vec<u64>, Refusal<FaultName>>
     ensures { Decodes (λ words. words.items) result
-        (list_of address_in (items_view items.now.items)) }
+        (list_of address_value (items_view items.now.items)) }
 {
     let mut addresses = Vec::new(alloc);
     let mut fault = None;

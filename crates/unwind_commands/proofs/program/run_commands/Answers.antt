@@ -4,12 +4,18 @@ use Rattle.unwind_commands.specs.InstanceViews.{modules_in, caches_in}
 use Rattle.unwind_commands.specs.Text.{lines_of}
 use Rattle.unwind_commands.specs.Commands.{Task}
 use Rattle.unwind_commands.specs.CommandViews.{tasks_of, task_of}
-use Rattle.unwind_commands.proofs.Runs.{IsWritten, written_front, written_next, numbered_after, next_task, not_failed}
+use Rattle.unwind_commands.proofs.Runs.{IsWritten, begun_next, on_err, written_front, written_next, numbered_after, next_task, not_failed}
 use Rattle.unwind_commands.proofs.program.run_commands.Goals as goal
 
-pub returns-in_err-line-clause-memory : goal.returns-in_err-line-clause-memory
-returns-in_err-line-clause-memory g c = λ _.
-    written_front (g.W.Sink.contents c.args.writer.now) (g.W.Sink.contents c.loop-command.writer) (lines_of (modules_in c.loop-command.instances) (tasks_of (reverse c.loop-command.commands.items))) (lines_of [] (tasks_of c.args.commands.items)) c.loop-command.invariant.written
+pub returns-in_err-line-clause-begun : goal.returns-in_err-line-clause-begun
+returns-in_err-line-clause-begun g c =
+    on_err _ (written_front (g.W.Sink.contents c.args.writer.now) (g.W.Sink.contents c.loop-command.writer) (lines_of (modules_in c.loop-command.instances) (tasks_of (reverse c.loop-command.commands.items))) (lines_of [] (tasks_of c.args.commands.items)) c.loop-command.invariant.written)
+
+pub returns-in_err-write_all-clause-begun : goal.returns-in_err-write_all-clause-begun
+returns-in_err-write_all-clause-begun g c =
+    let next = next_task c.loop-command.commands.items c.pop.new.self.items c.in-Some.command c.in-Some.ensures.items in
+    let written = subst (λ (ts : List Task). IsWritten (g.W.Sink.contents c.args.writer.now) (g.W.Sink.contents c.loop-command.writer) (lines_of (modules_in c.loop-command.instances) ts) (lines_of [] (tasks_of c.args.commands.items))) next c.loop-command.invariant.written in
+    on_err _ (begun_next (g.W.Sink.contents c.args.writer.now) (g.W.Sink.contents c.loop-command.writer) (g.W.Sink.contents c.write_all.new.sink) (modules_in c.loop-command.instances) (task_of c.in-Some.command) (tasks_of (reverse c.pop.new.self.items)) c.as_bytes.result.now (lines_of [] (tasks_of c.args.commands.items)) (c.as_bytes.ensures.value ∙ c.in_ok-line.ensures.line) written c.in_err-write_all.ensures.begun)
 
 pub loop-command-preserved : goal.loop-command-preserved
 loop-command-preserved g c =
