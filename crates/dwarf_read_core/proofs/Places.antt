@@ -1,6 +1,6 @@
 -- Where the declarations of codes stand.
 use Rattle.std.proofs.Common.{◌≡◌, ℕ, suc, ◌+◌, ◌-◌, List, [], ◌∷◌, ◌++◌, length, ◌==◌, Bool, true, false, cond, Option, Some, None, is_some, option_map, refl, sym, ap, subst, ◌∙◌, ⊎_elim, arith}
-use Rattle.std.specs.Prelude.{map, slice_get, Result, Ok, Err, OnOk, is_ok}
+use Rattle.std.specs.Prelude.{map, slice_get}
 use Rattle.std.specs.Borrow.{Bor}
 use Rattle.std.specs.Slice.{IsItemAt}
 use Rattle.std.proofs.lemmas.Bool.{cases_eq}
@@ -102,11 +102,6 @@ stand_in_order ds d dense others stand fresh all next = λ code. ⊎_elim
 not_first : (first : Bool) (i : ℕ) (other now : Option ℕ) → cond first (Some i) other ≡ None → cond first (Some i) now ≡ now
 not_first true i other now fresh = cc
 not_first false i other now fresh = refl
-
--- what holds on success, where the test says success
-pub on_success : {T E P : Type 0} (r : Result T E) → is_ok r ≡ true → OnOk r P → P
-on_success (Ok x) succeeds p = p
-on_success (Err e) succeeds p = cc
 
 -- another code, put among the others
 pub stand_apart : (ds : List Declaration) (d : Declaration) (dense : ℕ) (others now : ℕ → Option ℕ) → StandAt ds dense others → place_of d.code ds ≡ None → now d.code ≡ Some (length ds) → ((code : ℕ) → (d.code ≡ code → ⊥) → now code ≡ others code) → StandAt (ds ++ d ∷ []) dense now

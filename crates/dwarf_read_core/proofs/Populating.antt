@@ -65,10 +65,10 @@ keeps_same answer often n came keeps is few = λ q. ⊎_elim
     (cases_eq n q)
 
 -- the numbers that came are those seen
-abbrev pub Seen : List ℕ → (ℕ → Bool) → Type 0
-Seen came seen = (q : ℕ) → seen q ≡ nat_le 1 (times q came)
+abbrev pub Notices : List ℕ → (ℕ → Bool) → Type 0
+Notices came seen = (q : ℕ) → seen q ≡ nat_le 1 (times q came)
 
-pub seen_more : (n : ℕ) (came : List ℕ) (seen now : ℕ → Bool) → Seen came seen → ((q : ℕ) → now q ≡ cond (q == n) true (seen q)) → Seen (came ++ n ∷ []) now
+pub seen_more : (n : ℕ) (came : List ℕ) (seen now : ℕ → Bool) → Notices came seen → ((q : ℕ) → now q ≡ cond (q == n) true (seen q)) → Notices (came ++ n ∷ []) now
 seen_more n came seen now is then = λ q. ⊎_elim
     (λ (same : n ≡ q).
     let here : (n == n) ≡ true = grind (arith, nat_tests) in
@@ -84,29 +84,29 @@ pub record SoFar {A O : Type 0} (answer : ℕ → A) (number : O → ℕ) (strat
   pub came : List O
   pub all : gave ≡ map (λ o. Ok o) came
   pub kept : Keeps answer (least_count strategy) (map number came) keeps
-  pub noticed : strategy ≡ Duplicates → Seen (map number came) seen
+  pub noticed : strategy ≡ Duplicates → Notices (map number came) seen
 
 pub nothing_so_far : {A O : Type 0} (answer : ℕ → A) (number : O → ℕ) (strategy : AbbreviationsCacheStrategy) (keeps : ℕ → Option A) (seen : ℕ → Bool) → ((q : ℕ) → keeps q ≡ None) → ((q : ℕ) → seen q ≡ false) → SoFar answer number strategy keeps seen []
 nothing_so_far answer number Duplicates keeps seen empty none = record { came = []; all = refl; kept = empty; noticed = λ _. none }
 nothing_so_far answer number All keeps seen empty none = record { came = []; all = refl; kept = empty; noticed = λ _. none }
 
-wanted_enough : (strategy : AbbreviationsCacheStrategy) (n : ℕ) (came : List ℕ) (seen : ℕ → Bool) → true ≡ is_kept strategy (seen n) → (strategy ≡ Duplicates → Seen came seen) → least_count strategy ≤ times n came + 1
+wanted_enough : (strategy : AbbreviationsCacheStrategy) (n : ℕ) (came : List ℕ) (seen : ℕ → Bool) → true ≡ is_kept strategy (seen n) → (strategy ≡ Duplicates → Notices came seen) → least_count strategy ≤ times n came + 1
 wanted_enough All n came seen wanted noticed = omega arith
 wanted_enough Duplicates n came seen wanted noticed =
     let before : true ≡ nat_le 1 (times n came) = wanted ∙ noticed refl n in
     grind (arith, nat_tests)
 
-unwanted_few : (strategy : AbbreviationsCacheStrategy) (n : ℕ) (came : List ℕ) (seen : ℕ → Bool) → false ≡ is_kept strategy (seen n) → (strategy ≡ Duplicates → Seen came seen) → times n came + 1 < least_count strategy
+unwanted_few : (strategy : AbbreviationsCacheStrategy) (n : ℕ) (came : List ℕ) (seen : ℕ → Bool) → false ≡ is_kept strategy (seen n) → (strategy ≡ Duplicates → Notices came seen) → times n came + 1 < least_count strategy
 unwanted_few All n came seen wanted noticed = absurd (cc)
 unwanted_few Duplicates n came seen wanted noticed =
     let before : false ≡ nat_le 1 (times n came) = wanted ∙ noticed refl n in
     grind (arith, nat_tests)
 
 -- the offset is seen where that counts
-abbrev pub SeenAlso : AbbreviationsCacheStrategy → ℕ → (ℕ → Bool) → (ℕ → Bool) → Type 0
-SeenAlso strategy n seen now = strategy ≡ Duplicates → (q : ℕ) → now q ≡ cond (q == n) true (seen q)
+abbrev pub Adds : AbbreviationsCacheStrategy → ℕ → (ℕ → Bool) → (ℕ → Bool) → Type 0
+Adds strategy n seen now = strategy ≡ Duplicates → (q : ℕ) → now q ≡ cond (q == n) true (seen q)
 
-pub so_far_kept : {A O : Type 0} (answer : ℕ → A) (number : O → ℕ) (strategy : AbbreviationsCacheStrategy) (keeps now : ℕ → Option A) (seen noticed : ℕ → Bool) (gave : List (Result O Error)) (item : Result O Error) (o : O) → item ≡ Ok o → SoFar answer number strategy keeps seen gave → true ≡ is_kept strategy (seen (number o)) → SeenAlso strategy (number o) seen noticed → ((q : ℕ) → now q ≡ cond (q == number o) (Some (unwrap_or (keeps q) (answer q))) (keeps q)) → SoFar answer number strategy now noticed (gave ++ item ∷ [])
+pub so_far_kept : {A O : Type 0} (answer : ℕ → A) (number : O → ℕ) (strategy : AbbreviationsCacheStrategy) (keeps now : ℕ → Option A) (seen noticed : ℕ → Bool) (gave : List (Result O Error)) (item : Result O Error) (o : O) → item ≡ Ok o → SoFar answer number strategy keeps seen gave → true ≡ is_kept strategy (seen (number o)) → Adds strategy (number o) seen noticed → ((q : ℕ) → now q ≡ cond (q == number o) (Some (unwrap_or (keeps q) (answer q))) (keeps q)) → SoFar answer number strategy now noticed (gave ++ item ∷ [])
 so_far_kept answer number strategy keeps now seen noticed gave item o is so wanted more then =
     let came : map number (so.came ++ o ∷ []) ≡ map number so.came ++ number o ∷ [] = map_push number so.came o in
     record {
@@ -116,7 +116,7 @@ so_far_kept answer number strategy keeps now seen noticed gave item o is so want
       noticed = λ twice. rw came (seen_more (number o) (map number so.came) seen noticed (so.noticed twice) (more twice));
     }
 
-pub so_far_passed : {A O : Type 0} (answer : ℕ → A) (number : O → ℕ) (strategy : AbbreviationsCacheStrategy) (keeps : ℕ → Option A) (seen noticed : ℕ → Bool) (gave : List (Result O Error)) (item : Result O Error) (o : O) → item ≡ Ok o → SoFar answer number strategy keeps seen gave → false ≡ is_kept strategy (seen (number o)) → SeenAlso strategy (number o) seen noticed → SoFar answer number strategy keeps noticed (gave ++ item ∷ [])
+pub so_far_passed : {A O : Type 0} (answer : ℕ → A) (number : O → ℕ) (strategy : AbbreviationsCacheStrategy) (keeps : ℕ → Option A) (seen noticed : ℕ → Bool) (gave : List (Result O Error)) (item : Result O Error) (o : O) → item ≡ Ok o → SoFar answer number strategy keeps seen gave → false ≡ is_kept strategy (seen (number o)) → Adds strategy (number o) seen noticed → SoFar answer number strategy keeps noticed (gave ++ item ∷ [])
 so_far_passed answer number strategy keeps seen noticed gave item o is so wanted more =
     let came : map number (so.came ++ o ∷ []) ≡ map number so.came ++ number o ∷ [] = map_push number so.came o in
     record {

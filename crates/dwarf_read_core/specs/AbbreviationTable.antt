@@ -15,7 +15,8 @@ pub record Attribute : Type 0 where
   pub form : ℕ
   pub constant : Option ℤ
 
--- a declaration: the code of an abbreviation, the tag of its entries, whether they have children, and their attributes
+-- a declaration: the code of an abbreviation, the tag of its entries, whether they have children, and
+-- their attributes
 pub record Declaration : Type 0 where
   pub code : ℕ
   pub tag : ℕ
@@ -45,7 +46,8 @@ next_of end item None s = end s
 next_of end item (Some a) s = item a s
 
 -- the attributes before the pair of zeros behind those seen, in at most n steps
-abbrev pub attributes_within : ℕ → List Attribute → Stretch → Result (List Attribute × Stretch) Error
+abbrev pub attributes_within : ℕ → List Attribute → Stretch
+    → Result (List Attribute × Stretch) Error
 attributes_within zero seen s = Err (ends_at (end_of s))
 attributes_within (suc n) seen s = do
   next ← attribute_at s
@@ -111,7 +113,8 @@ with_declaration table d = do
   Ok (table ++ d ∷ [])
 
 -- the table that these make behind the declarations seen, up to the first refusal
-abbrev pub table_of : List Declaration → List (Result Declaration Error) → Result (List Declaration) Error
+abbrev pub table_of : List Declaration → List (Result Declaration Error)
+    → Result (List Declaration) Error
 table_of seen [] = Ok seen
 table_of seen (Err fault ∷ items) = Err fault
 table_of seen (Ok d ∷ items) = with_declaration seen d >>= λ table. table_of table items

@@ -13,7 +13,8 @@ use Rattle.dwarf_read_core.specs.declared.abbrev.cache.AbbreviationsCacheStrateg
 use Rattle.dwarf_readers.specs.Place.{Stretch}
 
 -- the answer that a table or an error is
-abbrev pub table_answer : {Z : Type 0} → Result (Rc Abbreviations Z) Error → Result (List Declaration) Error
+abbrev pub table_answer : {Z : Type 0} → Result (Rc Abbreviations Z) Error
+    → Result (List Declaration) Error
 table_answer (Ok table) = Ok (declarations table.value)
 table_answer (Err e) = Err e
 
@@ -32,7 +33,8 @@ is_kept Duplicates again = again
 is_kept All again = true
 
 -- what is kept for an offset where these came: the section's answer, if the offset came often enough
-abbrev pub populated_answer : AbbreviationsCacheStrategy → List ℕ → Stretch → ℕ → Option (Result (List Declaration) Error)
+abbrev pub populated_answer : AbbreviationsCacheStrategy → List ℕ → Stretch → ℕ
+    → Option (Result (List Declaration) Error)
 populated_answer strategy came section offset =
     if nat_le (least_count strategy) (count_by (λ o. o == offset) came) then Some (table_in offset section)
     else None

@@ -6,6 +6,7 @@ use Rattle.dwarf_readers.specs.Place.{Stretch}
 use Rattle.lists.specs.Items.{Answer}
 
 -- The next item stays, and more bytes follow what is left behind it.
-abbrev pub StaysNext : {A : Type 0} → List ℕ → Answer Stretch A Error → Answer Stretch A Error → Type 0
+abbrev pub StaysNext : {A : Type 0} → List ℕ → Answer Stretch A Error → Answer Stretch A Error
+    → Type 0
 StaysNext more before after =
     StaysAs (option_map (λ next. (next.0, extended_stretch more next.1))) before after

@@ -336,7 +336,8 @@ impl Abbreviations {
 
     /// The abbreviation of a code.
     pub fn get(&self, code: u64) -> Option<&Abbreviation>
-        ensures { option_map (λ a. declaration a.now) result ≡ declaration_for code (declarations self.now) }
+        ensures { option_map (λ a. declaration a.now) result
+            ≡ declaration_for code (declarations self.now) }
     {
         self.declarations.get(self.place(code)?)
     }

@@ -115,7 +115,8 @@ impl<R: Reader> Model for AddrHeaderIter<R> {
     ghost view = { λ i. sets_left R.Offset.limit
         (R.Offset.value i.offset.0 + length (R.stretch i.input).bytes) (R.stretch i.input) };
 
-    ghost invariant = { λ i. R.Offset.value i.offset.0 + length (R.stretch i.input).bytes < R.Offset.limit };
+    ghost invariant = { λ i. R.Offset.value i.offset.0 + length (R.stretch i.input).bytes
+        < R.Offset.limit };
 }
 
 impl<R: Reader> AddrHeaderIter<R> {
@@ -200,7 +201,8 @@ impl<R: Reader> AddrHeader<R> {
     fn parse(input: &mut R, offset: DebugAddrOffset<R::Offset>) -> Result<AddrHeader<R>>
         ensures read { Reads result (set_at R.Offset.limit (R.Offset.value offset.0)
             (R.stretch input.old)) (R.stretch input.new) }
-        ensures less { OnOk result (length (R.stretch input.new).bytes < length (R.stretch input.old).bytes) }
+        ensures less { OnOk result
+            (length (R.stretch input.new).bytes < length (R.stretch input.old).bytes) }
     {
         let (length, format) = input.read_initial_length()?;
         let mut entries = input.split(length)?;

@@ -86,7 +86,8 @@ impl AbbreviationsCache {
         offset: DebugAbbrevOffset<R::Offset>,
     ) -> Result<()>
         ensures kept { OnOk result ((q : ℕ) → kept_answer self.new q
-            ≡ (if q == R.Offset.value offset.0 then Some (cached_answer self.old (R.stretch debug_abbrev.now) q)
+            ≡ (if q == R.Offset.value offset.0
+            then Some (cached_answer self.old (R.stretch debug_abbrev.now) q)
             else kept_answer self.old q)) }
         ensures memory { IfErr result (λ e. e ≡ error.OutOfMemory) }
     {
@@ -165,8 +166,10 @@ fn is_wanted(
     seen: &mut BTreeSet<u64>,
     offset: u64,
 ) -> Result<bool>
-    ensures wanted { IfOk result (λ wanted. wanted ≡ is_kept strategy (contains nat_cmp seen.old offset)) }
-    ensures seen { OnOk result (strategy ≡ strategies.Duplicates → (q : ℕ) → contains nat_cmp seen.new q
+    ensures wanted { IfOk result
+        (λ wanted. wanted ≡ is_kept strategy (contains nat_cmp seen.old offset)) }
+    ensures seen { OnOk result (strategy ≡ strategies.Duplicates
+        → (q : ℕ) → contains nat_cmp seen.new q
         ≡ (if q == offset then true else contains nat_cmp seen.old q)) }
     ensures memory { IfErr result (λ e. e ≡ error.OutOfMemory) }
 {
