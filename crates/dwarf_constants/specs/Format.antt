@@ -11,7 +11,7 @@ abbrev pub word_size : Format → ℕ
 word_size Dwarf32 = 4
 word_size Dwarf64 = 8
 
--- the bytes of an initial length: a word, in the 64-bit format behind an escape (DWARF 5, 7.4)
+-- the bytes of an initial length: a word, in the 64-bit format behind an escape (DWARF 5, 7.2.2)
 abbrev pub initial_length_size : Format → ℕ
 initial_length_size Dwarf32 = 4
 initial_length_size Dwarf64 = 4 + 8

@@ -9,7 +9,7 @@ use std::fmt;
 /// Why bytes of a section were refused.
 #[derive(Debug, Clone, Copy, PartialEq, Eq)]
 pub enum Error {
-    // Numbers and strings (DWARF 5, 7.4 and 7.6).
+    // Lengths, addresses, strings and numbers of variable length (DWARF 5, 7.2.2, 7.5.5, 7.6).
     /// The bytes end here, before the value does.
     UnexpectedEof(ReaderOffsetId),
     BadUnsignedLeb128,

@@ -1,4 +1,4 @@
--- Numbers of several bytes, in either byte order (DWARF 5, 7.27).
+-- Numbers of several bytes, in either byte order: that of the file that a section is of, as ELF's header says it.
 use Rattle.std.specs.Prelude.{ℕ, ◌+◌, ◌*◌, ◌^◌, List, [], ◌∷◌, length, Bool, true, false, not}
 use Rattle.std.specs.Int.{bytes_low_first, bytes_high_first}
 

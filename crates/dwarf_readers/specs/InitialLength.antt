@@ -1,4 +1,4 @@
--- Lengths, offsets and addresses, whose size in bytes is said elsewhere (DWARF 5, 7.4).
+-- Lengths, offsets and addresses, whose size in bytes is said elsewhere (DWARF 5, 7.2.2, 7.4 and 7.5.5).
 use Rattle.std.specs.Prelude.{ℕ, ◌==◌, ◌||◌, Bool, Result, Ok, Err, nat_lt, if◌then◌else◌}
 use Rattle.dwarf_constants.specs.Format.{word_size}
 use Rattle.dwarf_constants.specs.declared.common.Format.{Format}
@@ -15,7 +15,9 @@ left_by (Err e) s = s
 
 -- the number as an offset, and what is left
 abbrev pub as_offset : ℕ → ℕ × Stretch → Result (ℕ × Stretch) Error
-as_offset limit n = offset_below limit n.0 >>= λ offset. Ok (offset, n.1)
+as_offset limit n = do
+  offset ← offset_below limit n.0
+  Ok (offset, n.1)
 
 -- an offset of the format's size (DWARF 5, 7.4)
 abbrev pub word_at : ℕ → Format → Stretch → Result (ℕ × Stretch) Error
@@ -24,11 +26,15 @@ word_at limit format s = number_at (word_size format) s >>= as_offset limit
 -- the length that four bytes say, or that eight bytes behind them say in the 64-bit format (DWARF 5, 7.2.2)
 abbrev pub length_behind : ℕ → ℕ × Stretch → Result ((ℕ × Format) × Stretch) Error
 length_behind limit n =
-    if nat_lt n.0 0xfffffff0 then as_offset limit n >>= (λ length. Ok ((length.0, Dwarf32), length.1))
-    else (if n.0 == 0xffffffff then word_at limit Dwarf64 n.1 >>= (λ length. Ok ((length.0, Dwarf64), length.1))
-    else Err UnknownReservedLength)
+    if nat_lt n.0 0xfffffff0 then (do
+      length ← as_offset limit n
+      Ok ((length.0, Dwarf32), length.1))
+    else if n.0 == 0xffffffff then (do
+      length ← word_at limit Dwarf64 n.1
+      Ok ((length.0, Dwarf64), length.1))
+    else Err UnknownReservedLength
 
--- an initial length and its format (DWARF 5, 7.4)
+-- an initial length and its format (DWARF 5, 7.2.2)
 abbrev pub initial_length_at : ℕ → Stretch → Result ((ℕ × Format) × Stretch) Error
 initial_length_at limit s = number_at 4 s >>= length_behind limit
 
@@ -47,15 +53,22 @@ is_size n = n == 1 || n == 2 || n == 4 || n == 8
 
 -- the size of addresses
 abbrev pub address_size_at : Stretch → Result (ℕ × Stretch) Error
-address_size_at s = byte_at s >>= λ size. requirement (is_size size.0) (UnsupportedAddressSize size.0) >>= λ _. Ok size
+address_size_at s = do
+  size ← byte_at s
+  _ ← requirement (is_size size.0) (UnsupportedAddressSize size.0)
+  Ok size
 
 -- an address of this size
 abbrev pub address_at : ℕ → Stretch → Result (ℕ × Stretch) Error
-address_at size s = requirement (is_size size) (UnsupportedAddressSize size) >>= λ _. number_at size s
+address_at size s = do
+  _ ← requirement (is_size size) (UnsupportedAddressSize size)
+  number_at size s
 
 -- the number in an offset of this size
 abbrev pub sized_number_at : ℕ → Stretch → Result (ℕ × Stretch) Error
-sized_number_at size s = requirement (is_size size) (UnsupportedOffsetSize size) >>= λ _. number_at size s
+sized_number_at size s = do
+  _ ← requirement (is_size size) (UnsupportedOffsetSize size)
+  number_at size s
 
 -- an offset of this size
 abbrev pub sized_offset_at : ℕ → ℕ → Stretch → Result (ℕ × Stretch) Error

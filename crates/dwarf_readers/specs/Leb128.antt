@@ -39,7 +39,9 @@ unsigned_below k string = if nat_lt (unsigned_value string) (2 ^ k) then Some (u
 
 -- the signed value, where it fits 64 bits
 abbrev pub signed_in_range : List ℕ → Option ℤ
-signed_in_range string = if int_le (neg_ℤ (pos (2 ^ 63))) (signed_value string) && int_lt (signed_value string) (pos (2 ^ 63)) then Some (signed_value string) else None
+signed_in_range string =
+    if int_le (neg_ℤ (pos (2 ^ 63))) (signed_value string) && int_lt (signed_value string) (pos (2 ^ 63))
+    then Some (signed_value string) else None
 
 -- an unsigned number of at most n bytes that fits k bits
 abbrev pub unsigned_within : ℕ → ℕ → Stretch → Result (ℕ × Stretch) Error

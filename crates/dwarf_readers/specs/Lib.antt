@@ -1,4 +1,5 @@
 pub mod ByteOrder
+pub mod RunTimeEndian
 pub mod Place
 pub mod Offset
 pub mod Remainder

@@ -73,11 +73,15 @@ number_at n s = if nat_lt (length s.bytes) n then Err (ends_at s.place) else Ok 
 
 -- the number in the first bytes, in two's complement, and what is left
 abbrev pub signed_number_at : Width → Stretch → Result (ℤ × Stretch) Error
-signed_number_at w s = if nat_lt (length s.bytes) (byte_len w) then Err (ends_at s.place) else Ok (cast_signed w (number_of s.big (take (byte_len w) s.bytes)), behind (byte_len w) s)
+signed_number_at w s =
+    if nat_lt (length s.bytes) (byte_len w) then Err (ends_at s.place)
+    else Ok (cast_signed w (number_of s.big (take (byte_len w) s.bytes)), behind (byte_len w) s)
 
 -- the first byte in two's complement, and what is left
 abbrev pub signed_byte_at : Stretch → Result (ℤ × Stretch) Error
-signed_byte_at s = if nat_lt (length s.bytes) 1 then Err (ends_at s.place) else Ok (cast_signed w8 (slice_index s.bytes 0), behind 1 s)
+signed_byte_at s =
+    if nat_lt (length s.bytes) 1 then Err (ends_at s.place)
+    else Ok (cast_signed w8 (slice_index s.bytes 0), behind 1 s)
 
 -- how many bytes stand before the first of this value
 abbrev pub count_before : ℕ → List ℕ → Option ℕ
@@ -91,7 +95,9 @@ found_at s None = Err (ends_at s.place)
 
 -- the bytes before the first zero as a stretch, and what is left behind the zero
 abbrev pub string_at : Stretch → Result (Stretch × Stretch) Error
-string_at s = found_at s (count_before 0 s.bytes) >>= λ n. Ok (prefix n s, behind (n + 1) s)
+string_at s = do
+  n ← found_at s (count_before 0 s.bytes)
+  Ok (prefix n s, behind (n + 1) s)
 
 -- this place counted from the start of the stretch, where it lies in it or at its end
 abbrev pub place_within : Stretch → ℕ → Option ℕ

@@ -32,7 +32,9 @@ TakesItem n s answer = LeavesLess (option_map (λ x. x.1)) n s answer
 
 -- what is read where bytes are left, and the end where none are
 abbrev pub item_at : {A : Type 0} → (Stretch → Result (A × Stretch) Error) → Stretch → Answer Stretch A Error
-item_at read s = if length s.bytes == 0 then Ok None else (read s >>= λ item. Ok (Some item))
+item_at read s = if length s.bytes == 0 then Ok None else (do
+  item ← read s
+  Ok (Some item))
 
 -- how many bytes a stretch has
 abbrev pub size_of : Stretch → ℕ

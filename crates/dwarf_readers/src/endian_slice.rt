@@ -21,7 +21,8 @@ pub struct EndianSlice<'a, E> {
 }
 
 impl<'a, E: Copy> Clone for EndianSlice<'a, E> {
-    ghost is_clone = { λ s copy. (copy.slice.now ≡ s.slice.now) × (copy.endian ≡ s.endian) × (copy.first ≡ s.first) };
+    ghost is_clone = { λ s copy. (copy.slice.now ≡ s.slice.now)
+        × (copy.endian ≡ s.endian) × (copy.first ≡ s.first) };
 
     ghost is_infallible = { λ _. Unit {0} };
 
@@ -58,7 +59,8 @@ impl<'a, E: Endianity> EndianSlice<'a, E> {
     /// A part of a section, whose first byte is at this place.
     pub fn new_at(slice: &'a [u8], endian: E, first: u64) -> Self
         requires { first + length slice.now < 2 ^ 64 }
-        ensures { stretch_of E.is_big result ≡ record { bytes = slice.now; place = first; big = E.is_big endian } }
+        ensures { stretch_of E.is_big result
+            ≡ record { bytes = slice.now; place = first; big = E.is_big endian } }
     {
         EndianSlice {
             slice,
@@ -99,7 +101,8 @@ impl<'a, E: Endianity> EndianSlice<'a, E> {
     pub fn offset_from(&self, base: EndianSlice<'a, E>) -> usize
         requires from { (stretch_of E.is_big base).place ≤ (stretch_of E.is_big self.now).place }
         requires to { (stretch_of E.is_big self.now).place ≤ end_of (stretch_of E.is_big base) }
-        ensures { result + (stretch_of E.is_big base.entry).place ≡ (stretch_of E.is_big self.now).place }
+        ensures { result + (stretch_of E.is_big base.entry).place
+            ≡ (stretch_of E.is_big self.now).place }
     {
         (self.first - base.first) as usize
     }
@@ -108,7 +111,8 @@ impl<'a, E: Endianity> EndianSlice<'a, E> {
     pub fn to_string(&self) -> Result<&'a str>
         ensures text { IfOk result (λ text. text.now ≡ (stretch_of E.is_big self.now).bytes) }
         ensures valid { IfOk result (λ text. IsUtf8 (stretch_of E.is_big self.now).bytes) }
-        ensures refused { IfErr result (λ e. (e ≡ BadUtf8) × ¬ (IsUtf8 (stretch_of E.is_big self.now).bytes)) }
+        ensures refused { IfErr result
+            (λ e. (e ≡ BadUtf8) × ¬ (IsUtf8 (stretch_of E.is_big self.now).bytes)) }
     {
         match str::from_utf8(self.slice) {
             Ok(text) => Ok(text),
@@ -119,7 +123,8 @@ impl<'a, E: Endianity> EndianSlice<'a, E> {
     /// The bytes as a text in which U+FFFD stands for what is no character. It is copied only where
     /// there is such a part.
     pub fn to_string_lossy(&self, alloc: Global) -> Result<CowStr<'a, Global>>
-        ensures text { IfOk result (λ text. IsUtf8 (stretch_of E.is_big self.now).bytes → cow_str_bytes text ≡ (stretch_of E.is_big self.now).bytes) }
+        ensures text { IfOk result (λ text. IsUtf8 (stretch_of E.is_big self.now).bytes
+            → cow_str_bytes text ≡ (stretch_of E.is_big self.now).bytes) }
         ensures memory { IfErr result (λ e. e ≡ OutOfMemory) }
     {
         match str::from_utf8(self.slice) {
@@ -135,7 +140,8 @@ impl<'a, E: Endianity> EndianSlice<'a, E> {
     pub fn range(&self, idx: Range<usize>) -> Self
         requires order { idx.start ≤ idx.end }
         requires inside { idx.end ≤ length (stretch_of E.is_big self.now).bytes }
-        ensures { stretch_of E.is_big result ≡ prefix (idx.end - idx.start) (behind idx.start (stretch_of E.is_big self.now)) }
+        ensures { stretch_of E.is_big result
+            ≡ prefix (idx.end - idx.start) (behind idx.start (stretch_of E.is_big self.now)) }
     {
         EndianSlice {
             slice: &self.slice[idx.start..idx.end],

@@ -224,14 +224,20 @@ impl Default for RunTimeEndian {
 }
 
 impl Endianity for RunTimeEndian {
-    ghost is_big = { elim [ Little ↦ false | Big ↦ true ] };
+    ghost use Rattle.dwarf_readers.specs.RunTimeEndian.{runs_big};
+
+    ghost is_big = { runs_big };
 
     ghost equal = { λ a b. elim a as (λ x. ⟦<RunTimeEndian as PartialEq>⟧.eq x b
-        ≡ same_order (elim x [ Little ↦ false | Big ↦ true ]) (elim b [ Little ↦ false | Big ↦ true ])) [
-          | Little ↦ elim b as (λ y. ⟦<RunTimeEndian as PartialEq>⟧.eq Little y
-              ≡ same_order false (elim y [ Little ↦ false | Big ↦ true ])) [ Little ↦ refl | Big ↦ refl ]
-          | Big ↦ elim b as (λ y. ⟦<RunTimeEndian as PartialEq>⟧.eq Big y
-              ≡ same_order true (elim y [ Little ↦ false | Big ↦ true ])) [ Little ↦ refl | Big ↦ refl ]
+        ≡ same_order (runs_big x) (runs_big b)) [
+          | Little ↦ elim b as (λ y. ⟦<RunTimeEndian as PartialEq>⟧.eq Little y ≡ not (runs_big y)) [
+            | Little ↦ refl
+            | Big ↦ refl
+          ]
+          | Big ↦ elim b as (λ y. ⟦<RunTimeEndian as PartialEq>⟧.eq Big y ≡ runs_big y) [
+            | Little ↦ refl
+            | Big ↦ refl
+          ]
         ] };
 
     fn is_big_endian(self) -> bool {

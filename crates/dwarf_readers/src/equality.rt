@@ -17,5 +17,6 @@ pub fn equal_slices_are_alike<'a, E: Endianity + Hash>()
     ensures alike { (a b : EndianSlice E) → AreAlike (stretch_of E.is_big a) (stretch_of E.is_big b)
         → IsTrue (⟦<EndianSlice<'a, E> as PartialEq>⟧.eq a b) }
     ensures hash { (a b : EndianSlice E) → AreAlike (stretch_of E.is_big a) (stretch_of E.is_big b)
-        → ⟦<EndianSlice<'a, E> as Hash>⟧.hash_input a ≡ ⟦<EndianSlice<'a, E> as Hash>⟧.hash_input b }
+        → ⟦<EndianSlice<'a, E> as Hash>⟧.hash_input a
+        ≡ ⟦<EndianSlice<'a, E> as Hash>⟧.hash_input b }
 {}

@@ -31,7 +31,7 @@ pub fn leb128_reads_stay()
     ensures skip { IsSteadyMove (λ s. behind_string s (string_of s.bytes)) }
 {}
 
-/// Lengths, offsets and addresses (DWARF 5, 7.4).
+/// Lengths, offsets and addresses (DWARF 5, 7.2.2, 7.4 and 7.5.5).
 pub fn lengths_stay()
     ensures initial_length { (limit : ℕ) → IsSteady (initial_length_at limit) }
     ensures word { (limit : ℕ) (format : Format) → IsSteady (word_at limit format) }
@@ -53,17 +53,21 @@ pub fn answers_stay<A, B>()
         → StaysAs second (before and_then next) (after and_then later) }
     ensures then_read { (more : List ℕ) (before after : Result (A × Stretch) Error)
         (next : A × Stretch → Result (B × Stretch) Error) → Stays more before after
-        → ((x : A) (left : Stretch) → Stays more (next (x, left)) (next (x, extended_stretch more left)))
+        → ((x : A) (left : Stretch)
+        → Stays more (next (x, left)) (next (x, extended_stretch more left)))
         → Stays more (before and_then next) (after and_then next) }
     ensures then_steady { (read : Stretch → Result (A × Stretch) Error)
         (next : A × Stretch → Result (B × Stretch) Error) → IsSteady read
         → ((x : A) → IsSteady (λ left. next (x, left))) → IsSteady (λ s. read s and_then next) }
     ensures behind_test { (more : List ℕ) (test : Bool) (e : Error)
         (before after : Result (A × Stretch) Error) → Stays more before after
-        → Stays more (requirement test e and_then λ _. before) (requirement test e and_then λ _. after) }
-    ensures either { (more : List ℕ) (test : Bool) (a b c d : Result (A × Stretch) Error) → Stays more a b
+        → Stays more (requirement test e and_then λ _. before)
+        (requirement test e and_then λ _. after) }
+    ensures either { (more : List ℕ) (test : Bool) (a b c d : Result (A × Stretch) Error)
+        → Stays more a b
         → Stays more c d → Stays more (if test then a else c) (if test then b else d) }
     ensures value { (more : List ℕ) (value : Result A Error) (left : Stretch)
-        → Stays more (value and_then λ x. Ok (x, left)) (value and_then λ x. Ok (x, extended_stretch more left)) }
+        → Stays more (value and_then λ x. Ok (x, left))
+        (value and_then λ x. Ok (x, extended_stretch more left)) }
     ensures refusal { (more : List ℕ) (e : Error) → Stays {A = A} more (Err e) (Err e) }
 {}

@@ -9,6 +9,7 @@ ghost use Rattle.dwarf_constants.specs.Format.{word_size};
 ghost use Rattle.dwarf_readers.specs.InitialLength.{address_at, address_size_at, initial_length_at, left_by, left_by_initial_length, sized_number_at, sized_offset_at, word_at};
 ghost use Rattle.dwarf_readers.specs.Leb128.{behind_string, left_by_leb128, signed_at, string_of, unsigned_16_at, unsigned_32_at, unsigned_at};
 ghost use Rattle.dwarf_readers.specs.Place.{Gives, Moves, Reads, ReadsAs, Stretch, behind, behind_at, byte_at, bytes_at, count_before, empty_stretch, end_of, found_at, prefix_at, number_at, place_within, signed_byte_at, signed_number_at, split_at, string_at};
+ghost use Rattle.dwarf_readers.specs.Remainder.{size_of};
 
 use crate::endianity::Endianity;
 use crate::leb128;
@@ -35,8 +36,8 @@ pub trait Reader: Debug + Copy {
 
     /// How many bytes are left.
     fn len(&self) -> Self::Offset
-        ensures len { Self.Offset.value result ≡ length (stretch self.now).bytes }
-        ensures fits { length (stretch self.now).bytes < Self.Offset.limit };
+        ensures len { Self.Offset.value result ≡ size_of (stretch self.now) }
+        ensures fits { size_of (stretch self.now) < Self.Offset.limit };
 
     /// Lets go of all bytes that are left. The place stays.
     fn empty(&mut self)
@@ -44,7 +45,8 @@ pub trait Reader: Debug + Copy {
 
     /// Lets go of all but the first `len` bytes.
     fn truncate(&mut self, len: Self::Offset) -> Result<()>
-        ensures moved { Moves result (prefix_at (Self.Offset.value len) (stretch self.old)) (stretch self.new) }
+        ensures moved { Moves result (prefix_at (Self.Offset.value len) (stretch self.old))
+            (stretch self.new) }
         ensures unchanged { OnErr result (stretch self.new ≡ stretch self.old) };
 
     /// How far this reader stands behind the start of `base`, in bytes.
@@ -63,16 +65,19 @@ pub trait Reader: Debug + Copy {
 
     /// How many bytes stand before the first of this value.
     fn find(&self, byte: u8) -> Result<Self::Offset>
-        ensures { Gives Self.Offset.value result (found_at (stretch self.now) (count_before byte (stretch self.now).bytes)) };
+        ensures { Gives Self.Offset.value result
+            (found_at (stretch self.now) (count_before byte (stretch self.now).bytes)) };
 
     /// Goes over the next `len` bytes.
     fn skip(&mut self, len: Self::Offset) -> Result<()>
-        ensures moved { Moves result (behind_at (Self.Offset.value len) (stretch self.old)) (stretch self.new) }
+        ensures moved { Moves result (behind_at (Self.Offset.value len) (stretch self.old))
+            (stretch self.new) }
         ensures unchanged { OnErr result (stretch self.new ≡ stretch self.old) };
 
     /// A reader of the next `len` bytes. This one then stands behind them.
     fn split(&mut self, len: Self::Offset) -> Result<Self>
-        ensures read { ReadsAs stretch result (split_at (Self.Offset.value len) (stretch self.old)) (stretch self.new) }
+        ensures read { ReadsAs stretch result (split_at (Self.Offset.value len) (stretch self.old))
+            (stretch self.new) }
         ensures unchanged { OnErr result (stretch self.new ≡ stretch self.old) };
 
     /// The bytes that are left. They are copied only where they don't lie in one piece.
@@ -84,21 +89,24 @@ pub trait Reader: Debug + Copy {
     fn to_string(&self, alloc: Global) -> Result<CowStr<'_, Global>>
         ensures text { IfOk result (λ text. cow_str_bytes text ≡ (stretch self.now).bytes) }
         ensures valid { IfOk result (λ text. IsUtf8 (stretch self.now).bytes) }
-        ensures refused { IfErr result (λ e. (e ≡ BadUtf8) × ¬ (IsUtf8 (stretch self.now).bytes) ⊎ (e ≡ OutOfMemory)) };
+        ensures refused { IfErr result
+            (λ e. (e ≡ BadUtf8) × ¬ (IsUtf8 (stretch self.now).bytes) ⊎ (e ≡ OutOfMemory)) };
 
     /// The bytes that are left, as a text in which U+FFFD stands for what is no character.
     fn to_string_lossy(&self, alloc: Global) -> Result<CowStr<'_, Global>>
-        ensures text { IfOk result (λ text. IsUtf8 (stretch self.now).bytes → cow_str_bytes text ≡ (stretch self.now).bytes) }
+        ensures text { IfOk result (λ text. IsUtf8 (stretch self.now).bytes
+            → cow_str_bytes text ≡ (stretch self.now).bytes) }
         ensures memory { IfErr result (λ e. e ≡ OutOfMemory) };
 
     /// Reads bytes until `buf` is full.
     fn read_slice(&mut self, buf: &mut [u8]) -> Result<()>
-        ensures read { ReadsAs (λ _. buf.new) result (bytes_at (length buf.old) (stretch self.old)) (stretch self.new) }
+        ensures read { ReadsAs (λ _. buf.new) result
+            (bytes_at (length buf.old) (stretch self.old)) (stretch self.new) }
         ensures unchanged { OnErr result (stretch self.new ≡ stretch self.old) };
 
     /// Whether no bytes are left.
     fn is_empty(&self) -> bool
-        ensures { result ≡ (length (stretch self.now).bytes == 0) }
+        ensures { result ≡ (size_of (stretch self.now) == 0) }
     {
         self.len().into_u64() == 0
     }
@@ -199,11 +207,13 @@ pub trait Reader: Debug + Copy {
         Ok(string)
     }
 
-    /// Reads an initial length (DWARF 5, 7.4). Fails with `UnknownReservedLength` where the first
+    /// Reads an initial length (DWARF 5, 7.2.2 and 7.4). Fails with `UnknownReservedLength` where the first
     /// four bytes are a reserved value, and with `UnsupportedOffset` where the offset type is too small.
     fn read_initial_length(&mut self) -> Result<(Self::Offset, Format)>
-        ensures read { ReadsAs (λ r. (Self.Offset.value r.0, r.1)) result (initial_length_at Self.Offset.limit (stretch self.old)) (stretch self.new) }
-        ensures refused { OnErr result (stretch self.new ≡ left_by_initial_length (number_at 4 (stretch self.old)) (stretch self.old)) }
+        ensures read { ReadsAs (λ r. (Self.Offset.value r.0, r.1)) result
+            (initial_length_at Self.Offset.limit (stretch self.old)) (stretch self.new) }
+        ensures refused { OnErr result (stretch self.new
+            ≡ left_by_initial_length (number_at 4 (stretch self.old)) (stretch self.old)) }
     {
         let length = self.read_u32()?;
         if length < 0xffff_fff0 {
@@ -218,7 +228,8 @@ pub trait Reader: Debug + Copy {
     /// Reads the size of addresses in bytes: 1, 2, 4 or 8, else `UnsupportedAddressSize`.
     fn read_address_size(&mut self) -> Result<u8>
         ensures read { Reads result (address_size_at (stretch self.old)) (stretch self.new) }
-        ensures refused { OnErr result (stretch self.new ≡ left_by (byte_at (stretch self.old)) (stretch self.old)) }
+        ensures refused { OnErr result
+            (stretch self.new ≡ left_by (byte_at (stretch self.old)) (stretch self.old)) }
     {
         let size = self.read_u8()?;
         match size {
@@ -229,7 +240,8 @@ pub trait Reader: Debug + Copy {
 
     /// Reads an address of this size in bytes: 1, 2, 4 or 8, else `UnsupportedAddressSize`.
     fn read_address(&mut self, address_size: u8) -> Result<u64>
-        ensures read { Reads result (address_at address_size (stretch self.old)) (stretch self.new) }
+        ensures read { Reads result (address_at address_size (stretch self.old))
+            (stretch self.new) }
         ensures unchanged { OnErr result (stretch self.new ≡ stretch self.old) }
     {
         match address_size {
@@ -240,8 +252,10 @@ pub trait Reader: Debug + Copy {
 
     /// Reads an offset of the format's size.
     fn read_word(&mut self, format: Format) -> Result<Self::Offset>
-        ensures read { ReadsAs Self.Offset.value result (word_at Self.Offset.limit format (stretch self.old)) (stretch self.new) }
-        ensures refused { OnErr result (stretch self.new ≡ left_by (number_at (word_size format) (stretch self.old)) (stretch self.old)) }
+        ensures read { ReadsAs Self.Offset.value result
+            (word_at Self.Offset.limit format (stretch self.old)) (stretch self.new) }
+        ensures refused { OnErr result (stretch self.new
+            ≡ left_by (number_at (word_size format) (stretch self.old)) (stretch self.old)) }
     {
         let word = match format {
             Format::Dwarf64 => self.read_u64()?,
@@ -252,24 +266,30 @@ pub trait Reader: Debug + Copy {
 
     /// Reads a length of the format's size.
     fn read_length(&mut self, format: Format) -> Result<Self::Offset>
-        ensures read { ReadsAs Self.Offset.value result (word_at Self.Offset.limit format (stretch self.old)) (stretch self.new) }
-        ensures refused { OnErr result (stretch self.new ≡ left_by (number_at (word_size format) (stretch self.old)) (stretch self.old)) }
+        ensures read { ReadsAs Self.Offset.value result
+            (word_at Self.Offset.limit format (stretch self.old)) (stretch self.new) }
+        ensures refused { OnErr result (stretch self.new
+            ≡ left_by (number_at (word_size format) (stretch self.old)) (stretch self.old)) }
     {
         self.read_word(format)
     }
 
     /// Reads an offset of the format's size.
     fn read_offset(&mut self, format: Format) -> Result<Self::Offset>
-        ensures read { ReadsAs Self.Offset.value result (word_at Self.Offset.limit format (stretch self.old)) (stretch self.new) }
-        ensures refused { OnErr result (stretch self.new ≡ left_by (number_at (word_size format) (stretch self.old)) (stretch self.old)) }
+        ensures read { ReadsAs Self.Offset.value result
+            (word_at Self.Offset.limit format (stretch self.old)) (stretch self.new) }
+        ensures refused { OnErr result (stretch self.new
+            ≡ left_by (number_at (word_size format) (stretch self.old)) (stretch self.old)) }
     {
         self.read_word(format)
     }
 
     /// Reads an offset of this size in bytes: 1, 2, 4 or 8, else `UnsupportedOffsetSize`.
     fn read_sized_offset(&mut self, size: u8) -> Result<Self::Offset>
-        ensures read { ReadsAs Self.Offset.value result (sized_offset_at Self.Offset.limit size (stretch self.old)) (stretch self.new) }
-        ensures refused { OnErr result (stretch self.new ≡ left_by (sized_number_at size (stretch self.old)) (stretch self.old)) }
+        ensures read { ReadsAs Self.Offset.value result
+            (sized_offset_at Self.Offset.limit size (stretch self.old)) (stretch self.new) }
+        ensures refused { OnErr result (stretch self.new
+            ≡ left_by (sized_number_at size (stretch self.old)) (stretch self.old)) }
     {
         match size {
             1 | 2 | 4 | 8 => Self::Offset::from_u64(self.read_uint(size as usize)?),
@@ -281,8 +301,11 @@ pub trait Reader: Debug + Copy {
     final fn skip_leb128(&mut self) -> Result<()>
     where
         Self: Sized,
-        ensures moved { Moves result (behind_string (stretch self.old) (string_of (stretch self.old).bytes)) (stretch self.new) }
-        ensures refused { OnErr result (stretch self.new ≡ behind (length (stretch self.old).bytes) (stretch self.old)) }
+        ensures moved { Moves result
+            (behind_string (stretch self.old) (string_of (stretch self.old).bytes))
+            (stretch self.new) }
+        ensures refused { OnErr result
+            (stretch self.new ≡ behind (size_of (stretch self.old)) (stretch self.old)) }
     {
         leb128::read::skip(self)
     }
@@ -293,7 +316,7 @@ pub trait Reader: Debug + Copy {
     where
         Self: Sized,
         ensures read { Reads result (unsigned_at (stretch self.old)) (stretch self.new) }
-        ensures shorter { OnOk result (length (stretch self.new).bytes < length (stretch self.old).bytes) }
+        ensures shorter { OnOk result (size_of (stretch self.new) < size_of (stretch self.old)) }
         ensures refused { OnErr result (stretch self.new ≡ left_by_leb128 10 (stretch self.old)) }
     {
         leb128::read::unsigned(self)
@@ -304,8 +327,9 @@ pub trait Reader: Debug + Copy {
     where
         Self: Sized,
         ensures read { Reads result (unsigned_32_at (stretch self.old)) (stretch self.new) }
-        ensures shorter { OnOk result (length (stretch self.new).bytes < length (stretch self.old).bytes) }
-        ensures refused { OnErr result (stretch self.new ≡ left_by (unsigned_at (stretch self.old)) (left_by_leb128 10 (stretch self.old))) }
+        ensures shorter { OnOk result (size_of (stretch self.new) < size_of (stretch self.old)) }
+        ensures refused { OnErr result (stretch self.new
+            ≡ left_by (unsigned_at (stretch self.old)) (left_by_leb128 10 (stretch self.old))) }
     {
         let value = leb128::read::unsigned(self)?;
         if value > 0xffff_ffff {
@@ -320,7 +344,7 @@ pub trait Reader: Debug + Copy {
     where
         Self: Sized,
         ensures read { Reads result (unsigned_16_at (stretch self.old)) (stretch self.new) }
-        ensures shorter { OnOk result (length (stretch self.new).bytes < length (stretch self.old).bytes) }
+        ensures shorter { OnOk result (size_of (stretch self.new) < size_of (stretch self.old)) }
         ensures refused { OnErr result (stretch self.new ≡ left_by_leb128 3 (stretch self.old)) }
     {
         leb128::read::u16(self)
@@ -332,7 +356,7 @@ pub trait Reader: Debug + Copy {
     where
         Self: Sized,
         ensures read { Reads result (signed_at (stretch self.old)) (stretch self.new) }
-        ensures shorter { OnOk result (length (stretch self.new).bytes < length (stretch self.old).bytes) }
+        ensures shorter { OnOk result (size_of (stretch self.new) < size_of (stretch self.old)) }
         ensures refused { OnErr result (stretch self.new ≡ left_by_leb128 10 (stretch self.old)) }
     {
         leb128::read::signed(self)

@@ -17,7 +17,8 @@ pub fn fixed_reads_take()
     ensures byte { (s : Stretch) → Takes 1 s (byte_at s) }
     ensures signed_byte { (s : Stretch) → Takes 1 s (signed_byte_at s) }
     ensures number { (n : ℕ) (s : Stretch) → Takes n s (number_at n s) }
-    ensures signed_number { (w : Width) (s : Stretch) → Takes (byte_len w) s (signed_number_at w s) }
+    ensures signed_number { (w : Width) (s : Stretch)
+        → Takes (byte_len w) s (signed_number_at w s) }
     ensures bytes { (n : ℕ) (s : Stretch) → Takes n s (bytes_at n s) }
     ensures split { (n : ℕ) (s : Stretch) → Takes n s (split_at n s) }
     ensures behind { (n : ℕ) (s : Stretch) → Passes n s (behind_at n s) }
@@ -32,11 +33,13 @@ pub fn leb128_reads_take()
     ensures skip { (s : Stretch) → Passes 1 s (behind_string s (string_of s.bytes)) }
 {}
 
-/// Lengths, offsets and addresses (DWARF 5, 7.2.2 and 7.4). No address has the size 0.
+/// Lengths, offsets and addresses (DWARF 5, 7.2.2, 7.4 and 7.5.5). No address has the size 0.
 pub fn lengths_take()
     ensures initial_length { (limit : ℕ) (s : Stretch) → Takes 4 s (initial_length_at limit s) }
-    ensures word { (limit : ℕ) (format : Format) (s : Stretch) → Takes (word_size format) s (word_at limit format s) }
-    ensures sized_offset { (limit size : ℕ) (s : Stretch) → Takes size s (sized_offset_at limit size s) }
+    ensures word { (limit : ℕ) (format : Format) (s : Stretch)
+        → Takes (word_size format) s (word_at limit format s) }
+    ensures sized_offset { (limit size : ℕ) (s : Stretch)
+        → Takes size s (sized_offset_at limit size s) }
     ensures address_size { (s : Stretch) → Takes 1 s (address_size_at s) }
     ensures address { (size : ℕ) (s : Stretch) → Takes size s (address_at size s) }
     ensures address_one { (size : ℕ) (s : Stretch) → Takes 1 s (address_at size s) }
@@ -49,18 +52,26 @@ pub fn strings_take()
 
 /// What is left by one answer after another, by either of two, and by one where it is known.
 pub fn answers_leave<X, Y>()
-    ensures then_other { (rest : X → Option Stretch) (other : Y → Option Stretch) (n m : ℕ) (s : Stretch)
+    ensures then_other { (rest : X → Option Stretch) (other : Y → Option Stretch)
+        (n m : ℕ) (s : Stretch)
         (first : Result X Error) (next : X → Result Y Error) → LeavesLess rest n s first
-        → ((x : X) → IsShorter n s (rest x) → LeavesLess other m s (next x)) → LeavesLess other m s (first and_then next) }
-    ensures either { (rest : X → Option Stretch) (n : ℕ) (s : Stretch) (test : Bool) (a b : Result X Error)
-        → LeavesLess rest n s a → LeavesLess rest n s b → LeavesLess rest n s (if test then a else b) }
+        → ((x : X) → IsShorter n s (rest x) → LeavesLess other m s (next x))
+        → LeavesLess other m s (first and_then next) }
+    ensures either { (rest : X → Option Stretch) (n : ℕ) (s : Stretch)
+        (test : Bool) (a b : Result X Error)
+        → LeavesLess rest n s a → LeavesLess rest n s b
+        → LeavesLess rest n s (if test then a else b) }
     ensures ok { (rest : X → Option Stretch) (n : ℕ) (s : Stretch) (x : X)
         → IsShorter n s (rest x) → LeavesLess rest n s (Ok x) }
-    ensures err { (rest : X → Option Stretch) (n : ℕ) (s : Stretch) (e : Error) → LeavesLess rest n s (Err e) }
-    ensures none { (n : ℕ) (s : Stretch) (value : Result X Error) → LeavesLess (λ _. None) n s value }
+    ensures err { (rest : X → Option Stretch) (n : ℕ) (s : Stretch) (e : Error)
+        → LeavesLess rest n s (Err e) }
+    ensures none { (n : ℕ) (s : Stretch) (value : Result X Error)
+        → LeavesLess (λ _. None) n s value }
     ensures from { (rest : X → Option Stretch) (n m : ℕ) (s t : Stretch) (answer : Result X Error)
-        → LeavesLess rest n t answer → m + length t.bytes ≤ n + length s.bytes → LeavesLess rest m s answer }
-    ensures known { (rest : X → Option Stretch) (n : ℕ) (s : Stretch) (answer : Result X Error) (x : X)
+        → LeavesLess rest n t answer → m + length t.bytes ≤ n + length s.bytes
+        → LeavesLess rest m s answer }
+    ensures known { (rest : X → Option Stretch) (n : ℕ) (s : Stretch)
+        (answer : Result X Error) (x : X)
         → LeavesLess rest n s answer → answer ≡ Ok x → IsShorter n s (rest x) }
 {}
 

@@ -1,9 +1,10 @@
 //! Reading of numbers of variable length.
 
-ghost use Rattle.std.specs.Prelude.{◌≡◌, ◌≤◌, ◌<◌, ◌+◌, ◌*◌, ◌^◌, length, IfOk, IfErr, OnErr, OnOk};
+ghost use Rattle.std.specs.Prelude.{◌≡◌, ◌≤◌, ◌<◌, ◌+◌, ◌*◌, ◌^◌, IfOk, IfErr, OnErr, OnOk};
 ghost use Rattle.dwarf_readers.specs.Groups.{AreGroups, EndsInGroups};
 ghost use Rattle.dwarf_readers.specs.Leb128.{behind_string, left_by_leb128, signed_at, string_of, unsigned_16_at, unsigned_at, unsigned_within};
 ghost use Rattle.dwarf_readers.specs.Place.{Moves, Reads, behind};
+ghost use Rattle.dwarf_readers.specs.Remainder.{size_of};
 
 use crate::reader::Reader;
 use dwarf_constants::{Error, Result};
@@ -40,8 +41,10 @@ fn read_groups<R: Reader>(r: &mut R, most: u32) -> Result<Groups>
 
 /// Goes over a number of any length.
 pub fn skip<R: Reader>(r: &mut R) -> Result<()>
-    ensures moved { Moves result (behind_string (R.stretch r.old) (string_of (R.stretch r.old).bytes)) (R.stretch r.new) }
-    ensures refused { OnErr result (R.stretch r.new ≡ behind (length (R.stretch r.old).bytes) (R.stretch r.old)) }
+    ensures moved { Moves result
+        (behind_string (R.stretch r.old) (string_of (R.stretch r.old).bytes)) (R.stretch r.new) }
+    ensures refused { OnErr result
+        (R.stretch r.new ≡ behind (size_of (R.stretch r.old)) (R.stretch r.old)) }
 {
     'string: while r.read_u8()? >= 128 {}
     Ok(())
@@ -57,7 +60,7 @@ fn read_unsigned<R: Reader>(r: &mut R, most: u32, bits: u32) -> Result<u64>
     requires needed { 7 * most < bits + 7 }
     ensures read { Reads result (unsigned_within most bits (R.stretch r.old)) (R.stretch r.new) }
     ensures below { IfOk result (λ value. value < 2 ^ bits) }
-    ensures shorter { OnOk result (length (R.stretch r.new).bytes < length (R.stretch r.old).bytes) }
+    ensures shorter { OnOk result (size_of (R.stretch r.new) < size_of (R.stretch r.old)) }
     ensures refused { OnErr result (R.stretch r.new ≡ left_by_leb128 most (R.stretch r.old)) }
 {
     // What the last byte of `most` has to be below.
@@ -74,7 +77,7 @@ fn read_unsigned<R: Reader>(r: &mut R, most: u32, bits: u32) -> Result<u64>
 #[inline(always)]
 pub fn unsigned<R: Reader>(r: &mut R) -> Result<u64>
     ensures read { Reads result (unsigned_at (R.stretch r.old)) (R.stretch r.new) }
-    ensures shorter { OnOk result (length (R.stretch r.new).bytes < length (R.stretch r.old).bytes) }
+    ensures shorter { OnOk result (size_of (R.stretch r.new) < size_of (R.stretch r.old)) }
     ensures refused { OnErr result (R.stretch r.new ≡ left_by_leb128 10 (R.stretch r.old)) }
 {
     read_unsigned(r, 10, 64)
@@ -85,7 +88,7 @@ pub fn unsigned<R: Reader>(r: &mut R) -> Result<u64>
 #[inline(always)]
 pub fn u16<R: Reader>(r: &mut R) -> Result<u16>
     ensures read { Reads result (unsigned_16_at (R.stretch r.old)) (R.stretch r.new) }
-    ensures shorter { OnOk result (length (R.stretch r.new).bytes < length (R.stretch r.old).bytes) }
+    ensures shorter { OnOk result (size_of (R.stretch r.new) < size_of (R.stretch r.old)) }
     ensures refused { OnErr result (R.stretch r.new ≡ left_by_leb128 3 (R.stretch r.old)) }
 {
     Ok(read_unsigned(r, 3, 16)? as u16)
@@ -96,7 +99,7 @@ pub fn u16<R: Reader>(r: &mut R) -> Result<u16>
 #[inline(always)]
 pub fn signed<R: Reader>(r: &mut R) -> Result<i64>
     ensures read { Reads result (signed_at (R.stretch r.old)) (R.stretch r.new) }
-    ensures shorter { OnOk result (length (R.stretch r.new).bytes < length (R.stretch r.old).bytes) }
+    ensures shorter { OnOk result (size_of (R.stretch r.new) < size_of (R.stretch r.old)) }
     ensures refused { OnErr result (R.stretch r.new ≡ left_by_leb128 10 (R.stretch r.old)) }
 {
     let groups = read_groups(r, 10)?;

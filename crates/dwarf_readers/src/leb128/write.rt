@@ -71,7 +71,9 @@ impl Leb128 {
 
 /// What `Leb128::unsigned` spells is read again, and exactly the bytes that follow are left.
 pub fn unsigned_again()
-    ensures { (v : ℕ) (rest : List ℕ) (place : ℕ) (big : Bool) → v < 2 ^ 64 → unsigned_at (record { bytes = unsigned_string v ++ rest; place = place; big = big }) ≡ Ok (v, record { bytes = rest; place = place + length (unsigned_string v); big = big }) }
+    ensures { (v : ℕ) (rest : List ℕ) (place : ℕ) (big : Bool) → v < 2 ^ 64
+        → unsigned_at (record { bytes = unsigned_string v ++ rest; place = place; big = big })
+        ≡ Ok (v, record { bytes = rest; place = place + length (unsigned_string v); big = big }) }
 {}
 
 /// No string of bytes that has the value of what `Leb128::unsigned` spells is shorter.
@@ -81,12 +83,16 @@ pub fn unsigned_is_shortest()
 
 /// What `Leb128::signed` spells is read again, and exactly the bytes that follow are left.
 pub fn signed_again()
-    ensures { (v : ℤ) (rest : List ℕ) (place : ℕ) (big : Bool) → neg_ℤ (pos (2 ^ 63)) ≤ℤ v → v <ℤ pos (2 ^ 63) → signed_at (record { bytes = signed_string v ++ rest; place = place; big = big }) ≡ Ok (v, record { bytes = rest; place = place + length (signed_string v); big = big }) }
+    ensures { (v : ℤ) (rest : List ℕ) (place : ℕ) (big : Bool)
+        → neg_ℤ (pos (2 ^ 63)) ≤ℤ v → v <ℤ pos (2 ^ 63)
+        → signed_at (record { bytes = signed_string v ++ rest; place = place; big = big })
+        ≡ Ok (v, record { bytes = rest; place = place + length (signed_string v); big = big }) }
 {}
 
 /// No string of bytes that has the value of what `Leb128::signed` spells is shorter.
 pub fn signed_is_shortest()
-    ensures { (v : ℤ) → neg_ℤ (pos (2 ^ 63)) ≤ℤ v → v <ℤ pos (2 ^ 63) → IsShortest signed_value (signed_string v) }
+    ensures { (v : ℤ) → neg_ℤ (pos (2 ^ 63)) ≤ℤ v → v <ℤ pos (2 ^ 63)
+        → IsShortest signed_value (signed_string v) }
 {}
 
 /// How many bytes the shortest spelling of an unsigned number has.
