@@ -1,5 +1,5 @@
 -- The signed values of numbers that were read byte by byte.
-use Rattle.std.proofs.Common.{◌≡◌, ℕ, ◌+◌, ◌-◌, ◌*◌, ◌%◌, ◌^◌, ◌<◌, ◌≤◌, ◌⊎◌, ◌&&◌, inl, inr, ℤ, pos, negsuc, suc, neg_ℤ, ◌-ℤ◌, List, length, take, slice_index, true, false, Some, None, Ok, Err, int_le, int_lt, nat_le, nat_lt, refl, ap, sym, ◌∙◌, arith, below_more}
+use Rattle.std.proofs.Common.{◌≡◌, Bool, ◌||◌, ◌==◌, ◌≢◌, ℕ, ◌+◌, ◌-◌, ◌*◌, ◌%◌, ◌^◌, ◌<◌, ◌≤◌, ◌⊎◌, ◌&&◌, inl, inr, ℤ, pos, negsuc, suc, neg_ℤ, ◌-ℤ◌, List, length, take, slice_index, true, false, Some, None, Ok, Err, int_le, int_lt, nat_le, nat_lt, refl, ap, sym, ◌∙◌, arith, below_more}
 use Rattle.std.proofs.lemmas.Bool.{cases_lt}
 use Rattle.std.proofs.lemmas.Bool.Decides.{nat_tests}
 use Rattle.std.proofs.lemmas.Int.{ints}
@@ -187,3 +187,24 @@ signed_sum s t low last count is top (inl nine) = elim (top nine) [
   | inl zero ↦ signed_plus s t low last count is (omega arith) (λ h. zero)
   | inr ones ↦ signed_top s t low last count is nine ones
 ]
+
+-- what the code knows of groups that it doesn't refuse: their sum fits 64 bits
+pub record SignedFits (low last count : ℕ) : Type 0 where
+  pub top : count ≡ 9 → (last ≡ 0) ⊎ (last ≡ 127)
+  pub end : last < 128
+  pub sum : Sum low last count
+
+sign_of_test : (test : Bool) (last : ℕ) → test ≡ (last == 0 || last == 127) → test ≡ true → (last ≡ 0) ⊎ (last ≡ 127)
+sign_of_test test last is holds = elim (cases_lt last 1) [
+  | inl zero ↦ inl (omega arith)
+  | inr more ↦ grind (arith, nat_tests)
+]
+
+pub signed_unfit : (s t : Stretch) (low last count : ℕ) (test : Bool) → AreGroups 10 s low last count t → test ≡ (last == 0 || last == 127) → count ≡ 9 → test ≡ false → signed_at s ≡ Err BadSignedLeb128
+signed_unfit s t low last count test is sign nine fails = signed_refused s t low last count is nine (λ zero. grind (arith, nat_tests)) (λ ones. grind (arith, nat_tests))
+
+pub signed_fits : (s t : Stretch) (low last count : ℕ) (test : Bool) → AreGroups 10 s low last count t → test ≡ (last == 0 || last == 127) → ((count ≡ 9) × (test ≡ true)) ⊎ (count ≢ 9) → SignedFits low last count
+signed_fits s t low last count test is sign passed =
+    let top : count ≡ 9 → (last ≡ 0) ⊎ (last ≡ 127) = λ h. elim passed [ inl holds ↦ sign_of_test test last sign holds.1 | inr other ↦ absurd (other h) ] in
+    let end : last < 128 = end_of_tenth s t low last count is top in
+    record { top = top; end = end; sum = sum_fits low last count is.below end is.within top }

@@ -53,8 +53,8 @@ pub trait ReaderOffset: Debug
 
     /// The difference, or `None` where it is below 0.
     fn checked_sub(self, other: Self) -> Option<Self>
-        ensures { option_map value result
-            ≡ (if nat_le (value other) (value self) then Some (value self - value other) else None) };
+        ensures { option_map value result ≡ (if nat_le (value other) (value self)
+            then Some (value self - value other) else None) };
 
     /// A sum below the limit may be asked for.
     ghost adds: { (a b : Self) → value a + value b < limit → Self.can_add a b };

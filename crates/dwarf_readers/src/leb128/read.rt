@@ -1,6 +1,6 @@
 //! Reading of numbers of variable length.
 
-ghost use Rattle.std.specs.Prelude.{◌≡◌, ◌≤◌, ◌<◌, ◌+◌, ◌*◌, ◌^◌, IfOk, IfErr, OnErr, OnOk};
+ghost use Rattle.std.specs.Prelude.{◌≡◌, ◌≤◌, ◌<◌, ◌+◌, ◌*◌, ◌^◌, ◌==◌, ◌||◌, IfOk, IfErr, OnErr, OnOk};
 ghost use Rattle.dwarf_readers.specs.Groups.{AreGroups, EndsInGroups};
 ghost use Rattle.dwarf_readers.specs.Leb128.{behind_string, left_by_leb128, signed_at, string_of, unsigned_16_at, unsigned_at, unsigned_within};
 ghost use Rattle.dwarf_readers.specs.Place.{Moves, Reads, behind};
@@ -94,6 +94,13 @@ pub fn u16<R: Reader>(r: &mut R) -> Result<u16>
     Ok(read_unsigned(r, 3, 16)? as u16)
 }
 
+// Whether seven bits are one bit, repeated.
+fn is_sign(group: u8) -> bool
+    ensures { result ≡ (group == 0 || group == 127) }
+{
+    group == 0 || group == 0x7f
+}
+
 /// Reads a signed number of at most ten bytes. Fails with `BadSignedLeb128` where there is none in
 /// the next ten bytes that fits 64 bits.
 #[inline(always)]
@@ -103,7 +110,9 @@ pub fn signed<R: Reader>(r: &mut R) -> Result<i64>
     ensures refused { OnErr result (R.stretch r.new ≡ left_by_leb128 10 (R.stretch r.old)) }
 {
     let groups = read_groups(r, 10)?;
-    if groups.count == 9 && groups.last != 0 && groups.last != 0x7f {
+    // Of a tenth byte only the lowest bit is left: the others repeat it.
+    let is_sign = is_sign(groups.last);
+    if groups.count == 9 && !is_sign {
         return Err(Error::BadSignedLeb128);
     }
     let value = groups.low + (u64::from(groups.last) << (7 * groups.count));
