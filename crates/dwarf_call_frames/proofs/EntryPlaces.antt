@@ -1,13 +1,15 @@
 -- Each FDE of a section is what stands at its offset.
 use Rattle.std.proofs.Common.{◌≡◌, ℕ, zero, suc, ◌+◌, ◌-◌, ◌≤◌, Bool, true, false, cond, List, length, drop, Option, Some, None, Result, Ok, Err, refl, sym, ap, ◌∙◌, arith}
 use Rattle.std.specs.Prelude.{◌==◌, nat_lt, nat_le}
-use Rattle.std.specs.List.{All}
+use Rattle.std.specs.List.{All, filter_map, cons_option}
+use Rattle.std.specs.Result.{result_ok}
 use Rattle.std.proofs.lemmas.List.{drop-drop, length-drop}
 use Rattle.std.proofs.lemmas.List.Elements.{All-nil, All-cons}
 use Rattle.dwarf_constants.specs.declared.error.Error.{Error}
 use Rattle.dwarf_constants.specs.declared.error.Error.TheVariants.{UnknownReservedLength, OffsetOutOfBounds}
 use Rattle.dwarf_readers.specs.Place.{Stretch, ◌>>=◌, whole, behind, prefix, number_at, split_at, requirement, ends_at}
-use Rattle.dwarf_call_frames.specs.Entries.{Cie, PartialFde, Fde, Entry, CieEntry, FdeEntry, Listing, entry_bytes_at, cie_at, cie_from_offset, entry_within, entry_in, entry_at, fde_of, fde_among, fde_from_offset, StandsAtItsOffset, listed, fdes_from, fdes_within, entries_of}
+use Rattle.dwarf_call_frames.specs.Entries.{Cie, PartialFde, Fde, Entry, CieEntry, FdeEntry, entry_bytes_at, cie_at, cie_from_offset, entry_within, entry_in, entry_at, fde_of, fde_among, fde_from_offset, StandsAtItsOffset, length_limit, first_entry, entries_from, fde_in, whole_fdes}
+use Rattle.lists.specs.Items.{items_from, items_within}
 use Rattle.lists.proofs.Laws.{by_case}
 use Rattle.dwarf_call_frames.proofs.Places.{same_stretch}
 
@@ -71,10 +73,10 @@ frames-if section true other h = tt
 frames-if section false other h = h
 
 frames-number : (section : List ℕ) (read : Result (ℕ × Stretch) Error) → Rests section read
-    → Frames section (read >>= λ size. cond (size.0 == 0) (Ok None) (requirement (nat_lt size.0 0xffff_fff0) UnknownReservedLength >>= λ _. (split_at size.0 size.1 >>= λ x. Ok (Some x))))
+    → Frames section (read >>= λ size. cond (size.0 == 0) (Ok None) (requirement (nat_lt size.0 length_limit) UnknownReservedLength >>= λ _. (split_at size.0 size.1 >>= λ x. Ok (Some x))))
 frames-number section (Err e) h = tt
 frames-number section (Ok (size, s)) h =
-    frames-if section (size == 0) _ (frames-given section (nat_lt size 0xffff_fff0) UnknownReservedLength (split_at size s) (rest-if section size s (prefix size s) (ends_at s.place) h))
+    frames-if section (size == 0) _ (frames-given section (nat_lt size length_limit) UnknownReservedLength (split_at size s) (rest-if section size s (prefix size s) (ends_at s.place) h))
 
 frames : (section : List ℕ) (s : Stretch) → IsRest section s → Frames section (entry_bytes_at s)
 frames section s h = frames-number section (number_at 4 s) (rest-if section 4 s _ (ends_at s.place) h)
@@ -148,32 +150,36 @@ at-place section s h =
     let fits : nat_lt (length section) s.place ≡ false = let le = h.within in grind arith in
     rw fits (ap (λ rest. entry_at s.place rest >>= fde_among section s.place) (same_rest section s h))
 
-there-listed : (section : List ℕ) (s : Stretch) (partial : PartialFde) (rest : Stretch) (others : Listing) → IsRest section s
-    → entry_at s.place s ≡ Ok (Some (FdeEntry partial, rest)) → partial.offset ≡ s.place → All (StandsAtItsOffset section) others.fdes
-    → All (StandsAtItsOffset section) (listed others (fde_of section partial)).fdes
-there-listed section s partial rest others h is place all = by (fde_of section partial) refl (keeps-offset section partial)
-  where
-    by : (read : Result Fde Error) → fde_of section partial ≡ read → KeepsOffset partial.offset read → All (StandsAtItsOffset section) (listed others read).fdes
-    by (Err e) same keeps = All-nil (StandsAtItsOffset section)
-    by (Ok fde) same keeps =
-        All-cons (StandsAtItsOffset section) fde others.fdes
-        (ap (fde_from_offset section) (keeps ∙ place) ∙ at-place section s h ∙ ap (λ read. read >>= fde_among section s.place) is ∙ same) all
+-- the FDEs among the entries of a stretch
+abbrev whole_within : ℕ → List ℕ → Stretch → List Fde
+whole_within n section s = filter_map result_ok (filter_map (fde_in section) (items_within n first_entry s))
 
-there-within : (n : ℕ) (section : List ℕ) (s : Stretch) → IsRest section s → All (StandsAtItsOffset section) (fdes_within n section s).fdes
+-- behind an entry, each FDE stands at its offset
+abbrev Others : ℕ → List ℕ → Type 0
+Others n section = (rest : Stretch) → IsRest section rest → All (StandsAtItsOffset section) (whole_within n section rest)
+
+there-within : (n : ℕ) (section : List ℕ) (s : Stretch) → IsRest section s → All (StandsAtItsOffset section) (whole_within n section s)
 there-within zero section s h = All-nil (StandsAtItsOffset section)
 there-within (suc n) section s h =
     by_case (length s.bytes == 0)
     (λ is. rw is (All-nil (StandsAtItsOffset section)))
-    (λ is. rw is (by (entry_at s.place s) refl (at-entry section s.place s h) (λ rest at. there-within n section rest at)))
+    (λ is. rw is (by_entry (there-within n section) (entry_at s.place s) refl (at-entry section s.place s h)))
   where
-    by : (read : Result (Option (Entry × Stretch)) Error) → entry_at s.place s ≡ read → IsAt section s.place read
-        → ((rest : Stretch) → IsRest section rest → All (StandsAtItsOffset section) (fdes_within n section rest).fdes)
-        → All (StandsAtItsOffset section) (fdes_from section (fdes_within n section) read).fdes
-    by (Err e) same at others = All-nil (StandsAtItsOffset section)
-    by (Ok None) same at others = All-nil (StandsAtItsOffset section)
-    by (Ok (Some (CieEntry cie, rest))) same at others = others rest at.1
-    by (Ok (Some (FdeEntry partial, rest))) same at others = there-listed section s partial rest (fdes_within n section rest) h same at.0 (others rest at.1)
+    by_fde : Others n section → (partial : PartialFde) (rest : Stretch) (read : Result Fde Error) → entry_at s.place s ≡ Ok (Some (FdeEntry partial, rest)) → partial.offset ≡ s.place → IsRest section rest
+        → fde_of section partial ≡ read → KeepsOffset partial.offset read → All (StandsAtItsOffset section) (cons_option (result_ok read) (whole_within n section rest))
+    by_fde others partial rest (Err e) is place at same keeps = others rest at
+    by_fde others partial rest (Ok fde) is place at same keeps =
+        All-cons (StandsAtItsOffset section) fde (whole_within n section rest)
+        (ap (fde_from_offset section) (keeps ∙ place) ∙ at-place section s h ∙ ap (λ read. read >>= fde_among section s.place) is ∙ same) (others rest at)
+
+    by_entry : Others n section → (read : Result (Option (Entry × Stretch)) Error) → entry_at s.place s ≡ read → IsAt section s.place read
+        → All (StandsAtItsOffset section) (filter_map result_ok (filter_map (fde_in section) (items_from (items_within n first_entry) read)))
+    by_entry others (Err e) is at = All-nil (StandsAtItsOffset section)
+    by_entry others (Ok None) is at = All-nil (StandsAtItsOffset section)
+    by_entry others (Ok (Some (CieEntry cie, rest))) is at = others rest at.1
+    by_entry others (Ok (Some (FdeEntry partial, rest))) is at = by_fde others partial rest (fde_of section partial) is at.0 at.1 refl (keeps-offset section partial)
 
 -- each FDE of a section is what stands at its offset
-pub stands-there : (section : List ℕ) → All (StandsAtItsOffset section) (entries_of section).fdes
-stands-there section = there-within (length section) section (whole false section) (rest-whole section)
+pub stands-there : (section : List ℕ) → All (StandsAtItsOffset section) (whole_fdes section)
+unfolding entries_from
+stands-there section = there-within (suc (length section)) section (whole false section) (rest-whole section)

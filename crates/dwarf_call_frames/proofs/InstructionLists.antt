@@ -1,93 +1,61 @@
 -- The list of instructions, one read after the other.
-use Rattle.std.proofs.Common.{◌≡◌, ℕ, zero, suc, ◌-◌, ◌/◌, ◌<◌, ◌≤◌, Bool, true, false, cond, List, [], ◌∷◌, length, take, Result, Ok, Err, refl, sym, ap, ◌∙◌, arith}
-use Rattle.std.specs.Prelude.{◌==◌, nat_lt}
-use Rattle.std.proofs.Math.Dec.{eqb-suc-zero}
+use Rattle.std.proofs.Common.{◌≡◌, ℕ, ◌-◌, ◌<◌, true, false, length, Option, Some, None, Result, Ok, Err, IfOk, IfSome, refl, ap, arith}
+use Rattle.std.specs.Prelude.{◌==◌}
+use Rattle.lists.specs.Items.{GivesNext, LeavesNone, Shrinks, step_taken}
+use Rattle.lists.proofs.Laws.{gives-next}
+use Rattle.dwarf_constants.specs.declared.constants.TheConstants.{DW_CFA_advance_loc, DW_CFA_offset, DW_CFA_nop, DW_CFA_def_cfa, DW_CFA_def_cfa_register, DW_CFA_def_cfa_offset, DW_CFA_def_cfa_expression}
 use Rattle.dwarf_constants.specs.declared.error.Error.{Error}
-use Rattle.dwarf_constants.specs.declared.error.Error.TheVariants.{BadUnsignedLeb128}
-use Rattle.dwarf_readers.specs.Leb128.{unsigned_at, unsigned_16_at, unsigned_below, string_of}
-use Rattle.dwarf_readers.specs.Place.{Stretch, ◌>>=◌, behind, behind_at, ends_at}
-use Rattle.dwarf_call_frames.specs.declared.expressions.UnwindExpression.{UnwindExpression}
+use Rattle.dwarf_readers.specs.Place.{Stretch, ◌>>=◌}
+use Rattle.dwarf_readers.specs.Remainder.{Takes, item_at, size_of}
+use Rattle.dwarf_readers.proofs.Laws.{behind_passes, byte_takes, item_takes, items_shrink, leaves_err, leaves_from, leaves_if, leaves_ok, leaves_then, unsigned_takes, unsigned_16_takes}
 use Rattle.dwarf_call_frames.specs.declared.instructions.CallFrameInstruction.{CallFrameInstruction}
-use Rattle.dwarf_call_frames.specs.Instructions.{skipped_expression, extended_at, operands_at, instruction_at, listed, instructions_within, instructions_of}
-use Rattle.dwarf_call_frames.proofs.Lengths.{Leaves, leaves_then, leaves_if, leaves_ok, leaves_leb128, leaves_err, leaves_here, IsShort, leaves_byte, leaves_more, behind_less}
+use Rattle.dwarf_call_frames.specs.Instructions.{passed_expression, extended_at, low_bits, told_at, instruction_at, instructions_of}
 
-leaves_unsigned : (n : ℕ) (s : Stretch) → length s.bytes ≤ n → Leaves n (unsigned_at s)
-leaves_unsigned n s le = leaves_more (length s.bytes) n _ le (leaves_leb128 10 BadUnsignedLeb128 (unsigned_below 64) s (string_of (take 10 s.bytes)))
+expression_takes : (s : Stretch) → Takes 1 s (passed_expression s)
+expression_takes s = leaves_then (unsigned_takes s) (λ count le. leaves_then (leaves_from {m = 1} (behind_passes count.0 count.1) (omega arith)) (λ left less. leaves_ok less))
 
-leaves_unsigned_16 : (n : ℕ) (s : Stretch) → length s.bytes ≤ n → Leaves n (unsigned_16_at s)
-leaves_unsigned_16 n s le = leaves_more (length s.bytes) n _ le (leaves_leb128 3 BadUnsignedLeb128 (unsigned_below 16) s (string_of (take 3 s.bytes)))
-
-abbrev expression_from : ℕ → ℕ → UnwindExpression
-expression_from place count = record { offset = place; length = count }
-
-abbrev behind_if : Bool → ℕ → Stretch → Result Stretch Error
-behind_if short count s = cond short (Err (ends_at s.place)) (Ok (behind count s))
-
-leaves_skip : (n count : ℕ) (s : Stretch) → length s.bytes ≤ n → Leaves n (behind_at count s >>= (λ left. Ok (expression_from s.place count, left)))
-leaves_skip n count s le = skipped (nat_lt (length s.bytes) count)
-  where
-    skipped : (b : Bool) → Leaves n (behind_if b count s >>= (λ left. Ok (expression_from s.place count, left)))
-    skipped true = leaves_err
-    skipped false = leaves_here (omega (arith, behind_less count s))
-
-leaves_skipped : (n : ℕ) (s : Stretch) → length s.bytes ≤ n → Leaves n (skipped_expression s)
-leaves_skipped n s le = leaves_then (leaves_unsigned n s le) (λ count more. leaves_skip n count.0 count.1 more)
-
-leaves_extended : (n opcode : ℕ) (s : Stretch) → length s.bytes ≤ n → Leaves n (extended_at opcode s)
-leaves_extended n opcode s le =
-    leaves_if _ (opcode == 0x00) _ _ (leaves_here le)
-    (leaves_if _ (opcode == 0x0c) _ _ (leaves_then (leaves_unsigned_16 n s le) (λ r more. leaves_then (leaves_unsigned n r.1 more) (λ o rest. leaves_here rest)))
-    (leaves_if _ (opcode == 0x0d) _ _ (leaves_then (leaves_unsigned_16 n s le) (λ r rest. leaves_here rest))
-    (leaves_if _ (opcode == 0x0e) _ _ (leaves_then (leaves_unsigned n s le) (λ o rest. leaves_here rest))
-    (leaves_if _ (opcode == 0x0f) _ _ (leaves_then (leaves_skipped n s le) (λ e rest. leaves_here rest))
+extended_takes : (opcode : ℕ) (s : Stretch) → Takes 0 s (extended_at opcode s)
+extended_takes opcode s =
+    leaves_if (opcode == DW_CFA_nop.0) (leaves_ok (omega arith))
+    (leaves_if (opcode == DW_CFA_def_cfa.0) (leaves_then (unsigned_16_takes s) (λ register le. leaves_then (leaves_from {m = 0} (unsigned_takes register.1) (omega arith)) (λ offset less. leaves_ok less)))
+    (leaves_if (opcode == DW_CFA_def_cfa_register.0) (leaves_then (unsigned_16_takes s) (λ register le. leaves_ok (omega arith)))
+    (leaves_if (opcode == DW_CFA_def_cfa_offset.0) (leaves_then (unsigned_takes s) (λ offset le. leaves_ok (omega arith)))
+    (leaves_if (opcode == DW_CFA_def_cfa_expression.0) (leaves_then (expression_takes s) (λ expression le. leaves_ok (omega arith)))
     leaves_err))))
 
-leaves_operands : (n opcode : ℕ) (s : Stretch) → length s.bytes ≤ n → Leaves n (operands_at opcode s)
-leaves_operands n opcode s le =
-    leaves_if _ (opcode / 64 == 0) _ _ (leaves_extended n opcode s le)
-    (leaves_if _ (opcode / 64 == 1) _ _ (leaves_here le)
-    (leaves_if _ (opcode / 64 == 2) _ _ (leaves_then (leaves_unsigned n s le) (λ o rest. leaves_here rest))
-    leaves_err))
+told_takes : (opcode : ℕ) (s : Stretch) → Takes 0 s (told_at opcode s)
+told_takes opcode s =
+    leaves_if (opcode - low_bits opcode == DW_CFA_advance_loc.0) (leaves_ok (omega arith))
+    (leaves_if (opcode - low_bits opcode == DW_CFA_offset.0) (leaves_then (unsigned_takes s) (λ offset le. leaves_ok (omega arith)))
+    (extended_takes opcode s))
 
 -- an instruction takes a byte at least
-pub leaves_instruction : (s : Stretch) → Leaves (length s.bytes - 1) (instruction_at s)
-leaves_instruction s = leaves_then (leaves_byte s) (λ opcode le. leaves_operands (length s.bytes - 1) opcode.0 opcode.1 le)
+instruction_takes : (s : Stretch) → Takes 1 s (instruction_at s)
+instruction_takes s = leaves_then (byte_takes s) (λ opcode le. leaves_from {m = 1} (told_takes opcode.0 opcode.1) (omega arith))
 
-pub instruction_falls : (s : Stretch) (i : CallFrameInstruction) (rest : Stretch) → 0 < length s.bytes → instruction_at s ≡ Ok (i, rest) → length rest.bytes < length s.bytes
-instruction_falls s i rest some is = let le = leaves_ok (length s.bytes - 1) (instruction_at s) i rest (leaves_instruction s) is in omega arith
+instructions_shrink : Shrinks size_of (item_at instruction_at)
+instructions_shrink = items_shrink (item_at instruction_at) (λ s. item_takes 1 instruction_at s (instruction_takes s))
 
-abbrev Reads : Type 0
-Reads = Result (CallFrameInstruction × Stretch) Error
+-- what a call of next says by the step that it takes
+pub record Next (result : Result (Option CallFrameInstruction) Error) (s rest : Stretch) : Type 0 where
+  pub list : GivesNext (λ i. i) result (instructions_of s) (instructions_of rest)
+  pub falls : IfOk result (λ next. IfSome next (λ _. length rest.bytes < length s.bytes))
 
-listed_alike : (n m k : ℕ) (read : Reads) → IsShort k read → ((s : Stretch) → length s.bytes ≤ k → instructions_within n s ≡ instructions_within m s) → listed (instructions_within n) read ≡ listed (instructions_within m) read
-listed_alike n m k (Ok x) h alike = ap (λ (others : List (Result CallFrameInstruction Error)). Ok x.0 ∷ others) (alike x.1 h)
-listed_alike n m k (Err e) h alike = refl
+falls_taken : (result : Result (Option CallFrameInstruction) Error) (s rest : Stretch) → item_at instruction_at s ≡ step_taken (λ i. i) result rest → IfOk result (λ next. IfSome next (λ _. length rest.bytes < length s.bytes))
+falls_taken (Ok (Some i)) s rest is = instructions_shrink.smaller s rest i is
+falls_taken (Ok None) s rest is = tt
+falls_taken (Err e) s rest is = tt
 
-unfolded : (n b : ℕ) (bs : List ℕ) (place : ℕ) (big : Bool) → instructions_within (suc n) (record { bytes = b ∷ bs; place = place; big = big }) ≡ listed (instructions_within n) (instruction_at (record { bytes = b ∷ bs; place = place; big = big }))
-unfolded n b bs place big =
-    let some : (suc (length bs) == 0) ≡ false = eqb-suc-zero (length bs) in
-    rw some refl
+pub next_taken : (result : Result (Option CallFrameInstruction) Error) (s rest : Stretch) → item_at instruction_at s ≡ step_taken (λ i. i) result rest → LeavesNone result (item_at instruction_at rest) → Next result s rest
+unfolding instructions_of
+next_taken result s rest is none = record {
+  list = gives-next size_of (item_at instruction_at) instructions_shrink (λ i. i) result s rest is none;
+  falls = falls_taken result s rest is;
+}
 
--- a count of bytes that is enough says nothing else than another
-pub enough : (n m : ℕ) (bytes : List ℕ) (place : ℕ) (big : Bool) → length bytes ≤ n → length bytes ≤ m → instructions_within n (record { bytes = bytes; place = place; big = big }) ≡ instructions_within m (record { bytes = bytes; place = place; big = big })
-enough zero zero bytes place big p q = refl
-enough zero (suc m) [] place big p q = refl
-enough (suc n) zero [] place big p q = refl
-enough (suc n) (suc m) [] place big p q = refl
-enough zero (suc m) (b ∷ bs) place big p q = absurd (omega arith)
-enough (suc n) zero (b ∷ bs) place big p q = absurd (omega arith)
-enough (suc n) (suc m) (b ∷ bs) place big p q =
-    let first = leaves_more (suc (length bs) - 1) (length bs) (instruction_at (record { bytes = b ∷ bs; place = place; big = big })) (omega arith) (leaves_instruction (record { bytes = b ∷ bs; place = place; big = big })) in
-    let alike = listed_alike n m (length bs) (instruction_at (record { bytes = b ∷ bs; place = place; big = big })) first.short (λ s le. enough n m s.bytes s.place s.big (omega arith) (omega arith)) in
-    unfolded n b bs place big ∙ alike ∙ sym (unfolded m b bs place big)
+-- where bytes are left, an item is the instruction there, and else there is none
+pub item_there : (s : Stretch) (read : Result (CallFrameInstruction × Stretch) Error) → (length s.bytes == 0) ≡ false → instruction_at s ≡ read → item_at instruction_at s ≡ (read >>= λ item. Ok (Some item))
+item_there s read some is = rw some (ap (λ answer. answer >>= λ item. Ok (Some item)) is)
 
-goes_on_from : (bytes : List ℕ) (place : ℕ) (big : Bool) (i : CallFrameInstruction) (rest : Stretch) → 0 < length bytes → instruction_at (record { bytes = bytes; place = place; big = big }) ≡ Ok (i, rest) → instructions_of (record { bytes = bytes; place = place; big = big }) ≡ Ok i ∷ instructions_of rest
-goes_on_from [] place big i rest some is = absurd (omega arith)
-goes_on_from (b ∷ bs) place big i rest some is =
-    let less = instruction_falls (record { bytes = b ∷ bs; place = place; big = big }) i rest some is in
-    let others = enough (length bs) (length rest.bytes) rest.bytes rest.place rest.big (omega arith) (omega arith) in
-    unfolded (length bs) b bs place big ∙ ap (listed (instructions_within (length bs))) is ∙ ap (λ (others : List (Result CallFrameInstruction Error)). Ok i ∷ others) others
-
--- the list is the first instruction and then the list of what is left behind it
-pub goes_on : (s : Stretch) (i : CallFrameInstruction) (rest : Stretch) → 0 < length s.bytes → instruction_at s ≡ Ok (i, rest) → instructions_of s ≡ Ok i ∷ instructions_of rest
-goes_on s i rest some is = goes_on_from s.bytes s.place s.big i rest some is
+pub item_none : (s : Stretch) → (length s.bytes == 0) ≡ true → item_at instruction_at s ≡ Ok None
+item_none s none = rw none refl

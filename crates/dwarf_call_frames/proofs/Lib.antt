@@ -4,7 +4,6 @@ pub mod EntryPlaces
 pub mod Fronts
 pub mod InstructionLists
 pub mod Laws
-pub mod Lengths
 pub mod Places
 pub mod RowsFor
 pub mod RuleLists

@@ -1,11 +1,15 @@
 -- The entries of a section `.eh_frame` (DWARF 5, 6.4.1; LSB 5.0, 10.6.1). Taken are 32-bit lengths, and CIEs of
 -- version 1 without an augmentation; any other entry is a fault.
-use Rattle.std.specs.Prelude.{◌≡◌, ℕ, zero, suc, ◌+◌, ◌-◌, ◌%◌, ◌^◌, ℤ, List, [], ◌∷◌, length, false, Option, Some, None, Result, Ok, Err, ◌==◌, nat_lt, nat_le, if◌then◌else◌}
+use Rattle.std.specs.Prelude.{◌≡◌, ℕ, ◌+◌, ◌-◌, ◌%◌, ◌^◌, ℤ, List, length, false, Option, Some, None, Result, Ok, Err, ◌==◌, nat_lt, nat_le, if◌then◌else◌}
+use Rattle.std.specs.List.{filter_map}
+use Rattle.std.specs.Result.{result_ok}
+use Rattle.lists.specs.Items.{items_of, rest_of}
 use Rattle.dwarf_constants.specs.declared.common.Register.{Register}
 use Rattle.dwarf_constants.specs.declared.error.Error.{Error}
 use Rattle.dwarf_constants.specs.declared.error.Error.TheVariants.{UnknownReservedLength, UnknownVersion, UnknownAugmentation, OffsetOutOfBounds, NotCieId, NotCiePointer, NoEntryAtGivenOffset}
 use Rattle.dwarf_readers.specs.Leb128.{unsigned_at, signed_at}
 use Rattle.dwarf_readers.specs.Place.{Stretch, ◌>>=◌, behind_at, byte_at, requirement, number_at, split_at, whole}
+use Rattle.dwarf_readers.specs.Remainder.{size_of}
 
 -- a common information entry, and where it stands
 pub record Cie : Type 0 where
@@ -38,12 +42,16 @@ pub data Entry : Type 0 where
   CieEntry : Cie → Entry
   FdeEntry : PartialFde → Entry
 
+-- the lengths of 32 bits; those from here on are reserved, and one of them tells that 64 bits follow (DWARF 5, 7.4)
+abbrev pub length_limit : ℕ
+length_limit = 0xffff_fff0
+
 -- what a length says: the bytes of an entry and what is left behind them, or nothing for a length of 0
 abbrev pub entry_bytes_at : Stretch → Result (Option (Stretch × Stretch)) Error
 entry_bytes_at s = do
   size ← number_at 4 s
   if size.0 == 0 then Ok None else (do
-    _ ← requirement (nat_lt size.0 0xffff_fff0) UnknownReservedLength
+    _ ← requirement (nat_lt size.0 length_limit) UnknownReservedLength
     parts ← split_at size.0 size.1
     Ok (Some parts))
 
@@ -124,40 +132,49 @@ fde_from_offset section offset = do
 abbrev pub StandsAtItsOffset : List ℕ → Fde → Type 0
 StandsAtItsOffset section fde = fde_from_offset section fde.offset ≡ Ok fde
 
--- the FDEs of a section in their order, and the first fault, of an entry or of an FDE's parts, that ends the list before the section ends
-pub record Listing : Type 0 where
-  pub fdes : List Fde
-  pub fault : Option Error
+-- ---- the list of a section's entries
 
--- a list with one more FDE at its front
-abbrev pub with_fde : Fde → Listing → Listing
-with_fde fde listing = record { fdes = fde ∷ listing.fdes; fault = listing.fault }
+-- the entries of a stretch in their order; an entry that is refused is the last
+unfoldable pub entries_from : Stretch → List (Result Entry Error)
+entries_from s = items_of size_of first_entry s
 
--- a list that ends here
-abbrev pub ended : Option Error → Listing
-ended fault = record { fdes = []; fault = fault }
+-- the entries of a section
+abbrev pub entries_of : List ℕ → List (Result Entry Error)
+entries_of section = entries_from (whole false section)
 
--- an FDE and then the others, unless it is a fault
-abbrev pub listed : Listing → Result Fde Error → Listing
-listed others (Ok fde) = with_fde fde others
-listed others (Err e) = ended (Some e)
+-- how a list of entries ends: where the section does, at a length of 0, or at an entry that is refused
+pub data ListEnd : Type 0 where
+  SectionEnd : ListEnd
+  Terminator : ListEnd
+  Fault : Error → ListEnd
 
--- the FDEs from an entry on
-abbrev pub fdes_from : List ℕ → (Stretch → Listing) → Result (Option (Entry × Stretch)) Error → Listing
-fdes_from section others (Err e) = ended (Some e)
-fdes_from section others (Ok None) = ended None
-fdes_from section others (Ok (Some (CieEntry cie, rest))) = others rest
-fdes_from section others (Ok (Some (FdeEntry fde, rest))) = listed (others rest) (fde_of section fde)
+-- the end without a fault: what is left has no bytes, or begins with a length of 0
+abbrev pub plain_end : Stretch → ListEnd
+plain_end rest = if length rest.bytes == 0 then SectionEnd else Terminator
 
--- the FDEs of a stretch of no more than n bytes
-abbrev pub fdes_within : ℕ → List ℕ → Stretch → Listing
-fdes_within zero section s = ended None
-fdes_within (suc n) section s = fdes_from section (fdes_within n section) (first_entry s)
+-- the end by what is left behind the last entry, and by what is read there
+abbrev pub end_by : Stretch → Result (Option (Entry × Stretch)) Error → ListEnd
+end_by rest (Err e) = Fault e
+end_by rest (Ok first) = plain_end rest
 
--- the FDEs of a stretch of a section, and the fault that ends the list
-abbrev pub entries_from : List ℕ → Stretch → Listing
-entries_from section s = fdes_within (length s.bytes) section s
+-- how the list of a stretch ends
+unfoldable pub list_end_from : Stretch → ListEnd
+list_end_from s = let rest = rest_of size_of first_entry s in end_by rest (first_entry rest)
 
--- the FDEs of a section
-abbrev pub entries_of : List ℕ → Listing
-entries_of section = entries_from section (whole false section)
+-- how the list of a section ends
+abbrev pub list_end : List ℕ → ListEnd
+list_end section = list_end_from (whole false section)
+
+-- the FDE of an item of the list, with its CIE or refused, where the item is one
+abbrev pub fde_in : List ℕ → Result Entry Error → Option (Result Fde Error)
+fde_in section (Ok (CieEntry cie)) = None
+fde_in section (Ok (FdeEntry partial)) = Some (fde_of section partial)
+fde_in section (Err e) = None
+
+-- the FDEs of a section in their order
+abbrev pub fdes_of : List ℕ → List (Result Fde Error)
+fdes_of section = filter_map (fde_in section) (entries_of section)
+
+-- those that aren't refused
+abbrev pub whole_fdes : List ℕ → List Fde
+whole_fdes section = filter_map result_ok (fdes_of section)

@@ -1,5 +1,5 @@
 -- Entries and their iterators as contracts see them.
-use Rattle.std.specs.Prelude.{ℕ, List, Option, Some, None, Result, Ok, Err}
+use Rattle.std.specs.Prelude.{◌≡◌, ℕ, List, Option, Some, None, Result, Ok, Err}
 use Rattle.dwarf_constants.specs.declared.error.Error.{Error}
 use Rattle.dwarf_readers.specs.Place.{Stretch}
 use Rattle.dwarf_call_frames.specs.declared.entries.EhFrame.{EhFrame}
@@ -11,7 +11,7 @@ use Rattle.dwarf_call_frames.specs.declared.entries.PartialFrameDescriptionEntry
 use Rattle.dwarf_call_frames.specs.declared.entries.FrameDescriptionEntry.{FrameDescriptionEntry}
 use Rattle.dwarf_call_frames.specs.declared.instructions.CallFrameInstructionIter.{CallFrameInstructionIter}
 use Rattle.dwarf_call_frames.specs.EndianSlice.{stretch}
-use Rattle.dwarf_call_frames.specs.Entries.{Cie, PartialFde, Fde, Entry, CieEntry, FdeEntry}
+use Rattle.dwarf_call_frames.specs.Entries.{Cie, PartialFde, Fde, Entry, CieEntry, FdeEntry, Fault, plain_end, list_end_from}
 
 -- the bytes of a section
 abbrev pub section_bytes : EhFrame → List ℕ
@@ -42,8 +42,8 @@ abbrev pub entry_view : CieOrFde → Entry
 entry_view (kind.Cie cie) = CieEntry (cie_view cie)
 entry_view (kind.Fde partial) = FdeEntry (partial_view partial)
 
--- what next answers, with what is then left
-abbrev pub next_entry : Result (Option CieOrFde) Error → Stretch → Result (Option (Entry × Stretch)) Error
-next_entry (Ok None) left = Ok None
-next_entry (Ok (Some entry)) left = Ok (Some (entry_view entry, left))
-next_entry (Err e) left = Err e
+-- A call of next tells how the list ends: an entry leaves it open, and no entry says where it is.
+abbrev pub TellsEnd : Result (Option CieOrFde) Error → Stretch → Stretch → Type 0
+TellsEnd (Ok (Some entry)) before after = list_end_from before ≡ list_end_from after
+TellsEnd (Ok None) before after = list_end_from before ≡ plain_end before
+TellsEnd (Err e) before after = list_end_from before ≡ Fault e

@@ -1,9 +1,12 @@
 -- Expressions of call frame information (DWARF 5, 2.5). Those that have a value add an offset to a register.
-use Rattle.std.specs.Prelude.{◌≡◌, ℕ, ◌+◌, ◌-◌, ◌≤◌, ℤ, List, length, take, drop, Bool, false, ◌&&◌, Option, Some, None, Result, Ok, Err, ◌==◌, nat_le, if◌then◌else◌}
+use Rattle.std.specs.Prelude.{◌≡◌, ℕ, ◌+◌, ◌-◌, ◌≤◌, ℤ, List, length, take, drop, Bool, false, ◌&&◌, Option, Result, Ok, ◌==◌, nat_le}
+use Rattle.std.specs.Result.{result_ok}
 use Rattle.dwarf_constants.specs.declared.common.Register.{Register}
+use Rattle.dwarf_constants.specs.declared.constants.TheConstants.{DW_OP_breg0, DW_OP_breg31}
 use Rattle.dwarf_constants.specs.declared.error.Error.{Error}
+use Rattle.dwarf_constants.specs.declared.error.Error.TheVariants.{UnsupportedEvaluation}
 use Rattle.dwarf_readers.specs.Leb128.{signed_at}
-use Rattle.dwarf_readers.specs.Place.{Stretch, ◌>>=◌, behind_at, byte_at, prefix, split_at, whole}
+use Rattle.dwarf_readers.specs.Place.{Stretch, ◌>>=◌, behind_at, byte_at, prefix, requirement, split_at, whole}
 use Rattle.dwarf_call_frames.specs.declared.expressions.Expression.{Expression}
 use Rattle.dwarf_call_frames.specs.declared.expressions.UnwindExpression.{UnwindExpression}
 use Rattle.dwarf_call_frames.specs.EndianSlice.{stretch}
@@ -29,20 +32,15 @@ pub record LiesIn (section : List ℕ) (s : Stretch) : Type 0 where
 abbrev pub PassedBytesAreNamed : Type 0
 PassedBytesAreNamed = (section : List ℕ) (s : Stretch) (n : ℕ) → LiesIn section s → n ≤ length s.bytes → expression_at section (record { offset = s.place; length = n }) ≡ Ok (prefix n s)
 
--- the operation is DW_OP_breg0 to DW_OP_breg31, with the opcodes 0x70 to 0x8f
+-- the operation is DW_OP_breg0 to DW_OP_breg31
 abbrev pub is_breg : ℕ → Bool
-is_breg opcode = nat_le 0x70 opcode && nat_le opcode 0x8f
+is_breg opcode = nat_le DW_OP_breg0.0 opcode && nat_le opcode DW_OP_breg31.0
 
--- the register of the opcode and the offset behind it, where nothing follows
-abbrev pub with_offset_read : ℕ → Result (ℤ × Stretch) Error → Option (Register × ℤ)
-with_offset_read opcode (Ok (offset, left)) = if is_breg opcode && length left.bytes == 0 then Some (record { 0 = opcode - 0x70 }, offset) else None
-with_offset_read opcode (Err e) = None
-
--- the same, once the opcode is read
-abbrev pub with_opcode_read : Result (ℕ × Stretch) Error → Option (Register × ℤ)
-with_opcode_read (Ok (opcode, rest)) = with_offset_read opcode (signed_at rest)
-with_opcode_read (Err e) = None
-
--- the register and the offset of an expression that is one operation DW_OP_breg0 to DW_OP_breg31 (DWARF 5, 2.5.1.2) and nothing else
+-- the register and the offset of an expression that is one operation DW_OP_breg0 to DW_OP_breg31 (DWARF 5, 2.5.1.2)
+-- and nothing else: the opcode has the register, and the offset stands behind it
 abbrev pub register_plus : Stretch → Option (Register × ℤ)
-register_plus s = with_opcode_read (byte_at s)
+register_plus s = result_ok (do
+  opcode ← byte_at s
+  offset ← signed_at opcode.1
+  _ ← requirement (is_breg opcode.0 && length offset.1.bytes == 0) UnsupportedEvaluation
+  Ok (record { 0 = opcode.0 - DW_OP_breg0.0 }, offset.0))

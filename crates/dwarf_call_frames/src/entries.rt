@@ -1,9 +1,10 @@
 ghost use Rattle.std.specs.List.{All};
-ghost use Rattle.std.specs.Prelude.{◌≡◌, ◌<◌, ◌≤◌, ◌↔◌, ℕ, List, [], length, false, IfOk, IfSome, IsTrue, OnErr, IfNone};
+ghost use Rattle.lists.specs.Items.{GivesNext, step_taken};
+ghost use Rattle.std.specs.Prelude.{◌≡◌, ◌<◌, ◌≤◌, ◌↔◌, ℕ, List, length, false, IfOk, IfSome, IsTrue};
 ghost use Rattle.dwarf_readers.specs.Place.{Gives, whole};
 ghost use Rattle.dwarf_call_frames.specs.EndianSlice.{stretch};
-ghost use Rattle.dwarf_call_frames.specs.Entries.{cie_at, entry_within, entry_at, first_entry, fdes_from, entries_from, entries_of, fde_of, StandsAtItsOffset, cie_from_offset, fde_from_offset, end_address};
-ghost use Rattle.dwarf_call_frames.specs.EntryViews.{section_bytes, entries_left, instructions_left, cie_view, partial_view, fde_view, entry_view, next_entry};
+ghost use Rattle.dwarf_call_frames.specs.Entries.{cie_at, entry_within, entry_at, entries_from, whole_fdes, fde_of, StandsAtItsOffset, cie_from_offset, fde_from_offset, end_address};
+ghost use Rattle.dwarf_call_frames.specs.EntryViews.{section_bytes, entries_left, instructions_left, cie_view, partial_view, fde_view, entry_view, TellsEnd};
 
 use crate::SectionReader;
 use crate::instructions::CallFrameInstructionIter;
@@ -78,13 +79,10 @@ impl<'a> CfiEntriesIter<'a> {
     /// The next entry, or nothing at a length of 0 and at the section's end. After an error or nothing it answers only `Ok(None)`.
     #[inline(always)]
     pub fn next(&mut self) -> Result<Option<CieOrFde<'a>>>
-        ensures ok { first_entry (entries_left self.old) ≡ next_entry result (entries_left self.new) }
-        ensures refused { OnErr result ((entries_left self.new).bytes ≡ []) }
-        ensures ended { IfOk result (λ next. IfNone next ((entries_left self.new).bytes ≡ [])) }
-        // the FDEs from here on are those of this answer and those from there on
-        ensures list { (section : List ℕ) → entries_from section (entries_left self.old)
-            ≡ fdes_from section (entries_from section) (next_entry result (entries_left self.new)) }
-        ensures falls { IfOk result (λ next. IfSome next (λ _. length (entries_left self.new).bytes < length (entries_left self.old).bytes)) }
+        ensures list { GivesNext entry_view result (entries_from (entries_left self.old)) (entries_from (entries_left self.new)) }
+        ensures end { TellsEnd result (entries_left self.old) (entries_left self.new) }
+        ensures falls { IfOk result (λ next. IfSome next (λ _.
+            length (entries_left self.new).bytes < length (entries_left self.old).bytes)) }
     {
         if self.input.is_empty() {
             return Ok(None);
@@ -260,16 +258,19 @@ impl<'a> FrameDescriptionEntry<'a> {
     }
 }
 
+/// The lengths from here on are reserved (DWARF 5, 7.4).
+const RESERVED_LENGTHS: u32 = 0xffff_fff0;
+
 // Reads the entry at the front, which stands at `offset`. There is none at a length of 0.
 #[inline(always)]
 fn parse_entry<'a>(offset: u64, input: &mut SectionReader<'a>) -> Result<Option<CieOrFde<'a>>>
-    ensures { entry_at offset (stretch input.old) ≡ next_entry result (stretch input.new) }
+    ensures { entry_at offset (stretch input.old) ≡ step_taken entry_view result (stretch input.new) }
 {
     let size = input.read_u32()?;
     if size == 0 {
         return Ok(None);
     }
-    if size >= 0xffff_fff0 {
+    if size >= RESERVED_LENGTHS {
         return Err(Error::UnknownReservedLength);
     }
     let body = input.split(size as usize)?;
@@ -327,8 +328,8 @@ fn parse_cie<'a>(offset: u64, input: SectionReader<'a>) -> Result<CommonInformat
     })
 }
 
-/// Each FDE in the list of a section's entries is what [`EhFrame::fde_from_offset`] gives at its
-/// offset.
+/// Each FDE in the list of a section's entries that isn't refused is what
+/// [`EhFrame::fde_from_offset`] gives at its offset.
 pub fn listed_fdes_stand_at_their_offsets()
-    ensures { (section : List ℕ) → All (StandsAtItsOffset section) (entries_of section).fdes }
+    ensures { (section : List ℕ) → All (StandsAtItsOffset section) (whole_fdes section) }
 {}

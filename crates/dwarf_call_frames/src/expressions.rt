@@ -6,6 +6,7 @@ ghost use Rattle.dwarf_call_frames.specs.EntryViews.{section_bytes};
 ghost use Rattle.dwarf_call_frames.specs.Expressions.{expression_at, expression_stretch, register_plus, PassedBytesAreNamed};
 
 use crate::{EhFrame, SectionReader};
+use dwarf_constants::constants::{DW_OP_breg0, DW_OP_breg31};
 use dwarf_read_core::{Error, Reader, Register, Result};
 
 /// The place of an expression in its section.
@@ -49,10 +50,10 @@ impl<'a> Expression<'a> {
         let mut rest = self.0;
         let opcode = rest.read_u8().ok()?;
         let offset = rest.read_sleb128().ok()?;
-        if opcode < 0x70 || opcode > 0x8f || !rest.is_empty() {
+        if opcode < DW_OP_breg0.0 || opcode > DW_OP_breg31.0 || !rest.is_empty() {
             return None;
         }
-        Some((Register(u16::from(opcode - 0x70)), offset))
+        Some((Register(u16::from(opcode - DW_OP_breg0.0)), offset))
     }
 }
 

@@ -1,10 +1,15 @@
-ghost use Rattle.std.specs.Prelude.{◌≡◌, ◌<◌, [], length, IfOk, IfErr, IfSome, OnErr, MatchOption};
+ghost use Rattle.std.specs.Prelude.{◌≡◌, ◌<◌, length, IfOk, IfSome};
+ghost use Rattle.lists.specs.Items.{GivesNext};
 ghost use Rattle.dwarf_readers.specs.Place.{Reads};
 ghost use Rattle.dwarf_call_frames.specs.EndianSlice.{stretch};
-ghost use Rattle.dwarf_call_frames.specs.Instructions.{skipped_expression, extended_at, operands_at, instruction_at, instructions_of, with_next};
+ghost use Rattle.dwarf_call_frames.specs.Instructions.{passed_expression, extended_at, instruction_at, instructions_of};
 ghost use Rattle.dwarf_call_frames.specs.EntryViews.{instructions_left};
 
 use crate::{SectionReader, UnwindExpression};
+use dwarf_constants::constants::{
+    DW_CFA_advance_loc, DW_CFA_def_cfa, DW_CFA_def_cfa_expression, DW_CFA_def_cfa_offset,
+    DW_CFA_def_cfa_register, DW_CFA_nop, DW_CFA_offset,
+};
 use dwarf_read_core::{DwCfa, Error, Reader, Register, Result};
 
 /// A call frame instruction (DWARF 5, 6.4.2), its operands as they are encoded.
@@ -55,14 +60,10 @@ impl<'a> CallFrameInstructionIter<'a> {
     /// The next instruction, or nothing behind the last. After an error it answers only `Ok(None)`.
     #[inline(always)]
     pub fn next(&mut self) -> Result<Option<CallFrameInstruction>>
-        // what is read, or that nothing is left
-        ensures ok { IfOk result (λ next. MatchOption next (length (instructions_left self.old).bytes ≡ 0)
-            (λ instruction. instruction_at (instructions_left self.old) ≡ Ok (instruction, instructions_left self.new))) }
-        ensures refused { IfErr result (λ e. instruction_at (instructions_left self.old) ≡ Err e) }
-        ensures ended { OnErr result ((instructions_left self.new).bytes ≡ []) }
-        // the list from here on is this answer and the list from there on
-        ensures list { instructions_of (instructions_left self.old) ≡ with_next result (instructions_of (instructions_left self.new)) }
-        ensures falls { IfOk result (λ next. IfSome next (λ _. length (instructions_left self.new).bytes < length (instructions_left self.old).bytes)) }
+        ensures list { GivesNext (λ instruction. instruction) result (instructions_of (instructions_left self.old))
+            (instructions_of (instructions_left self.new)) }
+        ensures falls { IfOk result (λ next. IfSome next (λ _.
+            length (instructions_left self.new).bytes < length (instructions_left self.old).bytes)) }
     {
         if self.input.is_empty() {
             return Ok(None);
@@ -77,61 +78,63 @@ impl<'a> CallFrameInstructionIter<'a> {
     }
 }
 
-/// Reads an instruction: the high two bits of its opcode tell one of three with an operand in the low six, or that all bits tell it.
+/// How many values the low six bits of an opcode have. They are an operand where the high two tell the instruction.
+const LOW_VALUES: u8 = 1 << 6;
+
+/// Reads an instruction, which the high two bits of its opcode tell, or all.
 #[inline(always)]
 fn parse(input: &mut SectionReader) -> Result<CallFrameInstruction>
     ensures { Reads result (instruction_at (stretch input.old)) (stretch input.new) }
 {
     let opcode = input.read_u8()?;
-    let low = opcode % 64;
-    match opcode / 64 {
-        0 => parse_extended(opcode, input),
-        1 => Ok(CallFrameInstruction::AdvanceLoc {
+    let low = opcode % LOW_VALUES;
+    match DwCfa(opcode - low) {
+        DW_CFA_advance_loc => Ok(CallFrameInstruction::AdvanceLoc {
             delta: u32::from(low),
         }),
-        2 => {
+        DW_CFA_offset => {
             let factored_offset = input.read_uleb128()?;
             Ok(CallFrameInstruction::Offset {
                 register: Register(u16::from(low)),
                 factored_offset,
             })
         }
-        _ => Err(Error::UnknownCallFrameInstruction(DwCfa(opcode))),
+        _ => parse_extended(DwCfa(opcode), input),
     }
 }
 
-/// Reads the operands of an opcode whose high two bits are 0.
+/// Reads the operands of an instruction that all bits of its opcode tell.
 #[inline(always)]
-fn parse_extended(opcode: u8, input: &mut SectionReader) -> Result<CallFrameInstruction>
-    ensures { Reads result (extended_at opcode (stretch input.old)) (stretch input.new) }
+fn parse_extended(opcode: DwCfa, input: &mut SectionReader) -> Result<CallFrameInstruction>
+    ensures { Reads result (extended_at opcode.0 (stretch input.old)) (stretch input.new) }
 {
     match opcode {
-        0x00 => Ok(CallFrameInstruction::Nop),
-        0x0c => {
+        DW_CFA_nop => Ok(CallFrameInstruction::Nop),
+        DW_CFA_def_cfa => {
             let register = Register(input.read_uleb128_u16()?);
             let offset = input.read_uleb128()?;
             Ok(CallFrameInstruction::DefCfa { register, offset })
         }
-        0x0d => {
+        DW_CFA_def_cfa_register => {
             let register = Register(input.read_uleb128_u16()?);
             Ok(CallFrameInstruction::DefCfaRegister { register })
         }
-        0x0e => {
+        DW_CFA_def_cfa_offset => {
             let offset = input.read_uleb128()?;
             Ok(CallFrameInstruction::DefCfaOffset { offset })
         }
-        0x0f => {
+        DW_CFA_def_cfa_expression => {
             let expression = parse_expression(input)?;
             Ok(CallFrameInstruction::DefCfaExpression { expression })
         }
-        _ => Err(Error::UnknownCallFrameInstruction(DwCfa(opcode))),
+        _ => Err(Error::UnknownCallFrameInstruction(opcode)),
     }
 }
 
 /// Passes an expression behind its length, and keeps its place.
 #[inline(always)]
 fn parse_expression(input: &mut SectionReader) -> Result<UnwindExpression>
-    ensures { Reads result (skipped_expression (stretch input.old)) (stretch input.new) }
+    ensures { Reads result (passed_expression (stretch input.old)) (stretch input.new) }
 {
     let length = input.read_uleb128()?;
     let offset = input.offset_id().0;

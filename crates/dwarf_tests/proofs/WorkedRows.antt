@@ -1,6 +1,7 @@
 -- The definitions on a section that pushes and sets a frame pointer.
 use Rattle.std.proofs.Common.{◌≡◌, ℕ, List, [], ◌∷◌, refl}
-use Rattle.dwarf_call_frames.specs.Entries.{Fde, entries_of}
+use Rattle.dwarf_call_frames.specs.Entries.{Fde, entries_from, whole_fdes}
+use Rattle.dwarf_call_frames.specs.Instructions.{instructions_of}
 use Rattle.dwarf_call_frames.specs.Rows.{rows_of, Row}
 
 section : List ℕ
@@ -10,8 +11,8 @@ starts : List Fde → List ℕ
 starts [] = []
 starts (fde ∷ fdes) = fde.initial_address ∷ fde.offset ∷ starts fdes
 
-one_fde : starts (entries_of section).fdes ≡ 0x1000 ∷ 0x14 ∷ []
-unfolding section starts
+one_fde : starts (whole_fdes section) ≡ 0x1000 ∷ 0x14 ∷ []
+unfolding section starts entries_from
 one_fde = refl
 
 bounds : List Row → List ℕ
@@ -23,6 +24,6 @@ unfolding bounds
 all_bounds [] = []
 all_bounds (fde ∷ fdes) = bounds (rows_of fde).rows
 
-three_rows : all_bounds (entries_of section).fdes ≡ 0x1000 ∷ 0x1001 ∷ 0x1001 ∷ 0x1004 ∷ 0x1004 ∷ 0x1010 ∷ []
-unfolding section all_bounds bounds
+three_rows : all_bounds (whole_fdes section) ≡ 0x1000 ∷ 0x1001 ∷ 0x1001 ∷ 0x1004 ∷ 0x1004 ∷ 0x1010 ∷ []
+unfolding section all_bounds bounds entries_from instructions_of
 three_rows = refl

@@ -1,7 +1,8 @@
 -- An index that is sorted from the FDEs of a section finds what the section's index has.
-use Rattle.std.proofs.Common.{◌≡◌, ℕ, ◌+◌, ◌-◌, ◌<◌, ◌≤◌, Bool, true, false, cond, List, [], ◌∷◌, ◌++◌, map, reverse, Option, Some, None, nat_cmp, is_lt, refl, sym, ap, ◌∙◌, arith}
+use Rattle.std.proofs.Common.{◌≡◌, ℕ, ◌+◌, ◌-◌, ◌<◌, ◌≤◌, Bool, true, false, cond, List, [], ◌∷◌, ◌++◌, map, reverse, Option, Some, None, Result, Ok, Err, nat_cmp, is_lt, refl, sym, ap, ◌∙◌, arith}
 use Rattle.std.specs.Prelude.{nat_le, nat_lt, ◌&&◌, is_none, option_map}
-use Rattle.std.specs.List.{All, filter, find, list_all}
+use Rattle.std.specs.List.{All, cons_option, filter, filter_map, find, list_all}
+use Rattle.std.specs.Result.{result_ok}
 use Rattle.std.specs.Option.{option_or}
 use Rattle.std.specs.List.Sorted.{IsNonDecreasingBy, IsPermutation, IsStableByKey, ties}
 use Rattle.std.proofs.lemmas.Bool.{and_parts}
@@ -13,13 +14,12 @@ use Rattle.dwarf_constants.specs.declared.error.Error.{Error}
 use Rattle.dwarf_readers.specs.Place.{Stretch}
 use Rattle.framehop.specs.declared.cfi_index.IndexedFde.{IndexedFde}
 use Rattle.framehop.specs.declared.cfi_index.DwarfCfiIndexError.{DwarfCfiIndexError}
-use Rattle.framehop.specs.declared.cfi_index.DwarfCfiIndexError.TheVariants.{Gimli}
-use Rattle.dwarf_call_frames.specs.Entries.{Fde, Listing, entries_of, entries_from}
-use Rattle.framehop.specs.EntryFor.{indexed_among, fits_index, has_index}
+use Rattle.dwarf_call_frames.specs.Entries.{Fde, Entry, CieEntry, FdeEntry, entries_of, entries_from, fde_of, fde_in, whole_fdes}
+use Rattle.framehop.specs.EntryFor.{indexed_among, fits_index, fde_fits, item_fits, has_index}
 use Rattle.lists.specs.Greatest.{is_greatest, greater}
 use Rattle.lists.specs.Last.{last_of}
-use Rattle.framehop.specs.CfiIndex.{index_refusal, first_or, index_error, index_entry, offset_in, Indexes}
-use Rattle.lists.proofs.Laws.{by_case}
+use Rattle.framehop.specs.CfiIndex.{index_refusal, fde_error, item_error, first_value, index_error, index_entry, offset_in, Indexes}
+use Rattle.lists.proofs.Laws.{by_case, by_option}
 use Rattle.framehop.proofs.EntryIndex.{later_of, find-has, indexed-cons}
 use Rattle.framehop.proofs.CfiIndexOrder.{none-passes, last-passes, none-higher, last-alike, find-back}
 
@@ -111,44 +111,62 @@ none-indexed base a (f ∷ fs) fit all =
 same_start : (m n : ℕ) → (ties (λ x y. is_lt (nat_cmp x y)) m n ≡ true → n ≡ m) × (n ≡ m → ties (λ x y. is_lt (nat_cmp x y)) m n ≡ true)
 same_start m n = (λ h. grind (arith, nat_tests), λ h. grind (arith, nat_tests))
 
-module _ (base : ℕ) (listing : Listing) (ys : List IndexedFde) (has : has_index base listing ≡ true) (up : IsNonDecreasingBy (λ y. y.start) ys)
-    (moved : IsPermutation (reverse (map (index_entry base) listing.fdes)) ys) (stable : IsStableByKey (λ y. y.start) nat_cmp (reverse (map (index_entry base) listing.fdes)) ys) where
+-- the FDEs among items of a section's list that aren't refused
+abbrev pub whole_among : List ℕ → List (Result Entry Error) → List Fde
+whole_among section items = filter_map result_ok (filter_map (fde_in section) items)
+
+-- where each item fits, each FDE does
+whole-fit : (base : ℕ) (section : List ℕ) (items : List (Result Entry Error)) → list_all (item_fits base section) items ≡ true → list_all (fits_index base) (whole_among section items) ≡ true
+whole-fit base section [] h = refl
+whole-fit base section (Ok (CieEntry cie) ∷ items) h = whole-fit base section items h
+whole-fit base section (Err e ∷ items) h = cc
+whole-fit base section (Ok (FdeEntry partial) ∷ items) h =
+    let (here, others) = and_parts (fde_fits base (fde_of section partial)) (list_all (item_fits base section) items) h in
+    by_fde (fde_of section partial) here (whole-fit base section items others)
+  where
+    by_fde : (fde : Result Fde Error) → fde_fits base fde ≡ true → list_all (fits_index base) (whole_among section items) ≡ true
+        → list_all (fits_index base) (cons_option (result_ok fde) (whole_among section items)) ≡ true
+    by_fde (Ok fde) fits others = rw fits others
+    by_fde (Err e) fits others = cc
+
+module _ (base : ℕ) (section : List ℕ) (ys : List IndexedFde) (has : has_index base section ≡ true) (up : IsNonDecreasingBy (λ y. y.start) ys)
+    (moved : IsPermutation (reverse (map (index_entry base) (whole_fdes section))) ys) (stable : IsStableByKey (λ y. y.start) nat_cmp (reverse (map (index_entry base) (whole_fdes section))) ys) where
   -- what all have in the list that is sorted, all have in the section
-  unsorted : (P : IndexedFde → Type 0) → All P ys → All P (map (index_entry base) listing.fdes)
+  unsorted : (P : IndexedFde → Type 0) → All P ys → All P (map (index_entry base) (whole_fdes section))
   unsorted P all =
-      let xs : List IndexedFde = map (index_entry base) listing.fdes in
+      let xs : List IndexedFde = map (index_entry base) (whole_fdes section) in
       All-permutation P (reverse xs) xs (IsPermutation-sym xs (reverse xs) (IsPermutation-reverse xs))
       (All-permutation P ys (reverse xs) (IsPermutation-sym (reverse xs) ys moved) all)
 
-  fitting : list_all (fits_index base) listing.fdes ≡ true
-  fitting = (and_parts (is_none listing.fault) (list_all (fits_index base) listing.fdes) has).1
+  fitting : list_all (fits_index base) (whole_fdes section) ≡ true
+  fitting = whole-fit base section (entries_of section) has
 
-  found-some : (a : ℕ) (x : IndexedFde) → last_of (filter (λ y. nat_le y.start a) ys) ≡ Some x → Some x.offset ≡ option_map (λ f. f.offset) (indexed_among (base + a) listing.fdes)
+  found-some : (a : ℕ) (x : IndexedFde) → last_of (filter (λ y. nat_le y.start a) ys) ≡ Some x → Some x.offset ≡ option_map (λ f. f.offset) (indexed_among (base + a) (whole_fdes section))
   found-some a x last =
       let p : IndexedFde → Bool = ties (λ u v. is_lt (nat_cmp u.start v.start)) x in
-      let xs : List IndexedFde = map (index_entry base) listing.fdes in
+      let xs : List IndexedFde = map (index_entry base) (whole_fdes section) in
       let only : (y : IndexedFde) → p y ≡ true → y.start ≡ x.start = λ y. (same_start x.start y.start).0 in
       let all : (y : IndexedFde) → y.start ≡ x.start → p y ≡ true = λ y. (same_start x.start y.start).1 in
       let last_alike : last_of (filter p ys) ≡ Some x = last-alike (λ y. y.start) a p ys x only (all x refl) up last in
       let found : find p xs ≡ Some x = sym (find-back p xs) ∙ ap last_of (sym (stable x)) ∙ last_alike in
       let passes : nat_le x.start a ≡ true = last-passes (λ y. nat_le y.start a) ys x last in
       let low : x.start ≤ a = grind arith in
-      let (g, same, start, place) = first-greatest base a listing.fdes x p only all low fitting found (unsorted (λ y. nat_le y.start a ≡ true → y.start ≤ x.start) (none-higher (λ y. y.start) a ys x up last)) in
+      let (g, same, start, place) = first-greatest base a (whole_fdes section) x p only all low fitting found (unsorted (λ y. nat_le y.start a ≡ true → y.start ≤ x.start) (none-higher (λ y. y.start) a ys x up last)) in
       ap (λ n. Some n) (sym place) ∙ sym (ap (option_map (λ f. f.offset)) same)
 
-  found-none : (a : ℕ) → last_of (filter (λ y. nat_le y.start a) ys) ≡ None → indexed_among (base + a) listing.fdes ≡ None
+  found-none : (a : ℕ) → last_of (filter (λ y. nat_le y.start a) ys) ≡ None → indexed_among (base + a) (whole_fdes section) ≡ None
   found-none a last =
-      let empty = none-indexed base a listing.fdes fitting (unsorted (λ y. nat_le y.start a ≡ false) (none-passes (λ y. nat_le y.start a) ys last)) in
+      let empty = none-indexed base a (whole_fdes section) fitting (unsorted (λ y. nat_le y.start a ≡ false) (none-passes (λ y. nat_le y.start a) ys last)) in
       rw empty refl
 
   -- the sorted list is an index of the section
-  pub indexes-sorted : Indexes ys base listing
-  indexes-sorted = (has, λ a. rw has (by a (last_of (filter (λ y. nat_le y.start a) ys)) refl), length_permutation (reverse kept) ys moved ∙ length-reverse kept ∙ length-map listing.fdes (index_entry base))
+  pub indexes-sorted : Indexes ys base section
+  indexes-sorted = (has, λ a. rw has (by a (last_of (filter (λ y. nat_le y.start a) ys)) refl), length_permutation (reverse kept) ys moved ∙ length-reverse kept ∙ length-map (whole_fdes section) (index_entry base))
     where
       kept : List IndexedFde
-      kept = map (index_entry base) listing.fdes
+      kept = map (index_entry base) (whole_fdes section)
 
-      by : (a : ℕ) (o : Option IndexedFde) → last_of (filter (λ y. nat_le y.start a) ys) ≡ o → offset_in ys a ≡ option_map (λ f. f.offset) (indexed_among (base + a) listing.fdes)
+      by : (a : ℕ) (o : Option IndexedFde) → last_of (filter (λ y. nat_le y.start a) ys) ≡ o → offset_in ys a ≡ option_map (λ f. f.offset) (indexed_among (base + a) (whole_fdes section))
       by a (Some x) e = ap (option_map (λ y. y.offset)) e ∙ found-some a x e
       by a None e = ap (option_map (λ y. y.offset)) e ∙ sym (ap (option_map (λ f. f.offset)) (found-none a e))
 
@@ -160,42 +178,42 @@ fits-all base f h = grind (arith, nat_tests)
 fits-not : (base : ℕ) (f : Fde) (e : DwarfCfiIndexError) → index_refusal base f ≡ Some e → fits_index base f ≡ false
 fits-not base f e h = grind (arith, nat_tests)
 
-no-error : (base : ℕ) (fault : Option Error) (fs : List Fde) → first_or (index_refusal base) (option_map Gimli fault) fs ≡ None → (is_none fault && list_all (fits_index base) fs) ≡ true
-no-error base None [] h = refl
-no-error base (Some e) [] h = cc
-no-error base fault (f ∷ fs) h = by (index_refusal base f) refl (λ e. no-error base fault fs e) h
-  where
-    by : (o : Option DwarfCfiIndexError) → index_refusal base f ≡ o → (first_or (index_refusal base) (option_map Gimli fault) fs ≡ None → (is_none fault && list_all (fits_index base) fs) ≡ true)
-        → option_or o (first_or (index_refusal base) (option_map Gimli fault) fs) ≡ None → (is_none fault && (fits_index base f && list_all (fits_index base) fs)) ≡ true
-    by (Some e) is others found = cc
-    by None is others found = let fits : fits_index base f ≡ true = fits-all base f is in rw fits (others found)
+-- an FDE, an item and a list of items fit exactly where there is no error
+fits-as : (base : ℕ) (f : Fde) → fits_index base f ≡ is_none (index_refusal base f)
+fits-as base f = by_option (index_refusal base f) (λ e is. rw is (fits-not base f e is)) (λ is. rw is (fits-all base f is))
 
-some-error : (base : ℕ) (fault : Option Error) (fs : List Fde) (error : DwarfCfiIndexError) → first_or (index_refusal base) (option_map Gimli fault) fs ≡ Some error → (is_none fault && list_all (fits_index base) fs) ≡ false
-some-error base None [] error h = cc
-some-error base (Some e) [] error h = refl
-some-error base fault (f ∷ fs) error h = by (index_refusal base f) refl (λ e. some-error base fault fs error e) h
-  where
-    either : (a b : Bool) → b ≡ false → (a && b) ≡ false
-    either true b e = e
-    either false b e = refl
+fde-fits-as : (base : ℕ) (fde : Result Fde Error) → fde_fits base fde ≡ is_none (fde_error base fde)
+fde-fits-as base (Ok fde) = fits-as base fde
+fde-fits-as base (Err e) = refl
 
-    by : (o : Option DwarfCfiIndexError) → index_refusal base f ≡ o → (first_or (index_refusal base) (option_map Gimli fault) fs ≡ Some error → (is_none fault && list_all (fits_index base) fs) ≡ false)
-        → option_or o (first_or (index_refusal base) (option_map Gimli fault) fs) ≡ Some error → (is_none fault && (fits_index base f && list_all (fits_index base) fs)) ≡ false
-    by (Some e) is others found = let fails : fits_index base f ≡ false = fits-not base f e is in rw fails (either (is_none fault) false refl)
-    by None is others found = let fits : fits_index base f ≡ true = fits-all base f is in rw fits (others found)
+item-fits-as : (base : ℕ) (section : List ℕ) (item : Result Entry Error) → item_fits base section item ≡ is_none (item_error base section item)
+item-fits-as base section (Ok (CieEntry cie)) = refl
+item-fits-as base section (Ok (FdeEntry partial)) = fde-fits-as base (fde_of section partial)
+item-fits-as base section (Err e) = refl
+
+both-none : {A : Type 0} (a b : Option A) → (is_none a && is_none b) ≡ is_none (option_or a b)
+both-none None b = refl
+both-none (Some x) b = refl
+
+all-fit-as : (base : ℕ) (section : List ℕ) (items : List (Result Entry Error)) → list_all (item_fits base section) items ≡ is_none (first_value (item_error base section) items)
+all-fit-as base section [] = refl
+all-fit-as base section (item ∷ items) =
+    ap (λ b. b && list_all (item_fits base section) items) (item-fits-as base section item)
+    ∙ ap (λ b. is_none (item_error base section item) && b) (all-fit-as base section items)
+    ∙ both-none (item_error base section item) (first_value (item_error base section) items)
 
 -- a section without an error has an index
-pub has-index : (base : ℕ) (listing : Listing) → index_error base listing ≡ None → has_index base listing ≡ true
-has-index base listing h = no-error base listing.fault listing.fdes h
+pub has-index : (base : ℕ) (section : List ℕ) → index_error base section ≡ None → has_index base section ≡ true
+has-index base section h = all-fit-as base section (entries_of section) ∙ ap is_none h
 
 -- a section with one has none
-pub has-no-index : (base : ℕ) (listing : Listing) (error : DwarfCfiIndexError) → index_error base listing ≡ Some error → has_index base listing ≡ false
-has-no-index base listing error h = some-error base listing.fault listing.fdes error h
+pub has-no-index : (base : ℕ) (section : List ℕ) (error : DwarfCfiIndexError) → index_error base section ≡ Some error → has_index base section ≡ false
+has-no-index base section error h = all-fit-as base section (entries_of section) ∙ ap is_none h
 
 -- ---- the pass over the entries
 
 -- what a pass has gathered, where this much of the section is left: an error is that of the rest, and what is kept of
 -- the FDEs is what was gathered and what is kept of the rest
 pub record Gathered (section : List ℕ) (base : ℕ) (kept : List IndexedFde) (left : Stretch) : Type 0 where
-  pub error : index_error base (entries_of section) ≡ index_error base (entries_from section left)
-  pub fdes : map (index_entry base) (entries_of section).fdes ≡ kept ++ map (index_entry base) (entries_from section left).fdes
+  pub error : index_error base section ≡ first_value (item_error base section) (entries_from left)
+  pub fdes : map (index_entry base) (whole_fdes section) ≡ kept ++ map (index_entry base) (whole_among section (entries_from left))

@@ -15,7 +15,7 @@ use Rattle.framehop.specs.declared.dwarf.DwarfUnwinderError.{DwarfUnwinderError}
 use Rattle.framehop.specs.declared.unwind_result.UnwindResult.{UnwindResult}
 use Rattle.framehop.specs.declared.unwind_result.UnwindResult.TheVariants.{ExecRule, Uncacheable}
 use Rattle.framehop.specs.declared.error.UnwinderError.{UnwinderError}
-use Rattle.dwarf_call_frames.specs.Entries.{Fde, entries_of}
+use Rattle.dwarf_call_frames.specs.Entries.{Fde}
 use Rattle.dwarf_call_frames.specs.Rows.{Row, row_for}
 use Rattle.framehop.specs.ScaledRow.{Parts, scaled_rule, parts_of}
 use Rattle.framehop.specs.EntryFor.{has_index, indexed_entry}
@@ -52,7 +52,7 @@ exact-fde section address (Some fde) = exact-if (nat_lt address (2 ^ 64)) _ _ (e
 exact-section : (base relative : ℕ) (section : Option (List ℕ)) → IsExact (by_section base relative section)
 exact-section base relative None = tt
 exact-section base relative (Some section) =
-    exact-if (has_index base (entries_of section)) _ _ (exact-fde section (base + relative) (indexed_entry base relative (entries_of section))) tt
+    exact-if (has_index base section) _ _ (exact-fde section (base + relative) (indexed_entry base relative section)) tt
 
 -- what is executed after a failure is the frame pointer's rule
 abbrev pub or_fallback : Result UnwindResult UnwinderError → UnwindResult

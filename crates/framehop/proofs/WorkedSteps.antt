@@ -1,6 +1,8 @@
 -- The definition of a step, computed on worked examples: one section, words of a stack and registers.
 use Rattle.std.proofs.Common.{◌≡◌, ℕ, ◌/◌, ◌%◌, List, [], ◌∷◌, refl, Some, None}
 use Rattle.std.specs.Prelude.{slice_get, ◌==◌, if◌then◌else◌}
+use Rattle.dwarf_call_frames.specs.Entries.{entries_from}
+use Rattle.dwarf_call_frames.specs.Instructions.{instructions_of}
 use Rattle.framehop_rules.specs.Callback.{Words}
 use Rattle.framehop_rules.specs.Outcome.{Outcome, Refuses, Answers, Caller}
 use Rattle.framehop_rules.specs.Registers.{ip_of, sp_of, bp_of}
@@ -48,25 +50,33 @@ numbers (Answers caller) = caller.return_address ∷ ip_of caller.registers ∷ 
 numbers outcome = []
 
 at_the_start : numbers (judge (loaded pushes) (InstructionPointer 0x101000) (registers 0x101000 0x10 0x20) words) ≡ 0x100300 ∷ 0x100300 ∷ 0x18 ∷ 0x20 ∷ []
+unfolding entries_from instructions_of
 at_the_start = refl
 
 after_the_push : numbers (judge (loaded pushes) (InstructionPointer 0x101002) (registers 0x101002 0x20 0x20) words) ≡ 0x100200 ∷ 0x100200 ∷ 0x30 ∷ 0x40 ∷ []
+unfolding entries_from instructions_of
 after_the_push = refl
 
 in_the_body : numbers (judge (loaded pushes) (InstructionPointer 0x101004) (registers 0x101004 0x18 0x20) words) ≡ 0x100200 ∷ 0x100200 ∷ 0x30 ∷ 0x40 ∷ []
+unfolding entries_from instructions_of
 in_the_body = refl
 
 of_a_cut_section : numbers (judge (loaded cut) (InstructionPointer 0x101000) (registers 0x101000 0x10 0x20) words) ≡ 0x100200 ∷ 0x100200 ∷ 0x30 ∷ 0x40 ∷ []
+unfolding entries_from instructions_of
 of_a_cut_section = refl
 
 below_the_stack : judge (loaded no_offset) (InstructionPointer 0x101000) (registers 0x101000 0 0x20) words ≡ Refuses IntegerOverflow
+unfolding entries_from instructions_of
 below_the_stack = refl
 
 by_12_bytes : numbers (judge (loaded twelve) (InstructionPointer 0x101000) (registers 0x101000 0x14 0x20) words) ≡ 4 ∷ 4 ∷ 0x20 ∷ 0x20 ∷ []
+unfolding entries_from instructions_of
 by_12_bytes = refl
 
 by_an_expression : numbers (judge (loaded by_expression) (InstructionPointer 0x101010) (registers 0x101010 0x10 0x20) words) ≡ 0x100300 ∷ 0x100300 ∷ 0x18 ∷ 0x20 ∷ []
+unfolding entries_from instructions_of
 by_an_expression = refl
 
 above_the_stack : judge (loaded by_expression) (InstructionPointer 0x101010) (registers 0x101010 0x1000 0x20) words ≡ Refuses FramepointerUnwindingMovedBackwards
+unfolding entries_from instructions_of
 above_the_stack = refl

@@ -6,7 +6,7 @@ use Rattle.framehop_rules.specs.declared.x86_64.unwind_rule.UnwindRuleX86_64.The
 use Rattle.framehop.specs.declared.dwarf.DwarfUnwinderError.TheVariants.{LookupAddressOverflow}
 use Rattle.framehop.specs.declared.error.UnwinderError.{UnwinderError}
 use Rattle.framehop.specs.declared.error.UnwinderError.TheVariants.{Dwarf, NoModuleUnwindData, DwarfCfiIndexCouldNotFindAddress}
-use Rattle.dwarf_call_frames.specs.Entries.{Fde, Listing, entries_of}
+use Rattle.dwarf_call_frames.specs.Entries.{Fde}
 use Rattle.dwarf_call_frames.specs.Rows.{Row, row_for}
 use Rattle.framehop.specs.ScaledRow.{Parts, parts_of, scaled_rule}
 use Rattle.framehop.specs.EntryFor.{has_index, indexed_entry}
@@ -41,15 +41,15 @@ by_fde section address (Some fde) =
     if nat_lt address (2 ^ 64) then by_row section fde (row_for fde address) else Fails (Dwarf LookupAddressOverflow)
 
 -- what the entries of a section say of an address that is relative to a base
-abbrev pub by_entries : List ℕ → ℕ → ℕ → Listing → Attempt
-by_entries section base relative listing =
-    if has_index base listing then by_fde section (base + relative) (indexed_entry base relative listing)
+abbrev pub by_entries : List ℕ → ℕ → ℕ → Attempt
+by_entries section base relative =
+    if has_index base section then by_fde section (base + relative) (indexed_entry base relative section)
     else Fails NoModuleUnwindData
 
 -- what a section says, where the module has one
 abbrev pub by_section : ℕ → ℕ → Option (List ℕ) → Attempt
 by_section base relative None = Fails NoModuleUnwindData
-by_section base relative (Some section) = by_entries section base relative (entries_of section)
+by_section base relative (Some section) = by_entries section base relative
 
 -- what a module says of a relative address
 abbrev pub attempt : Loaded → ℕ → Attempt

@@ -1,11 +1,12 @@
 -- What an index of a section's FDEs is made of, and why a section has none.
-use Rattle.std.specs.Prelude.{◌≡◌, ℕ, ◌-◌, ◌^◌, List, [], ◌∷◌, length, true, Option, Some, None, option_map, nat_lt, nat_le, if◌then◌else◌}
+use Rattle.std.specs.Prelude.{◌≡◌, ℕ, ◌-◌, ◌^◌, List, [], ◌∷◌, length, true, Option, Some, None, option_map, Result, Ok, Err, nat_lt, nat_le, if◌then◌else◌}
 use Rattle.std.specs.List.{filter}
 use Rattle.std.specs.Option.{option_or}
 use Rattle.framehop.specs.declared.cfi_index.IndexedFde.{IndexedFde}
 use Rattle.framehop.specs.declared.cfi_index.DwarfCfiIndexError.{DwarfCfiIndexError}
 use Rattle.framehop.specs.declared.cfi_index.DwarfCfiIndexError.TheVariants.{Gimli, CouldNotSubtractBaseAddress, RelativeAddressTooBig, FdeOffsetTooBig}
-use Rattle.dwarf_call_frames.specs.Entries.{Fde, Listing}
+use Rattle.dwarf_constants.specs.declared.error.Error.{Error}
+use Rattle.dwarf_call_frames.specs.Entries.{Fde, Entry, CieEntry, FdeEntry, entries_of, fde_of, whole_fdes}
 use Rattle.framehop.specs.EntryFor.{has_index, indexed_entry}
 use Rattle.lists.specs.Last.{last_of}
 
@@ -13,14 +14,25 @@ use Rattle.lists.specs.Last.{last_of}
 abbrev pub index_refusal : ℕ → Fde → Option DwarfCfiIndexError
 index_refusal base fde = if nat_lt fde.initial_address base then Some CouldNotSubtractBaseAddress else if nat_le (2 ^ 32) (fde.initial_address - base) then Some RelativeAddressTooBig else if nat_le (2 ^ 32) fde.offset then Some FdeOffsetTooBig else None
 
--- the first value of a test, from the front of a list on, or else another
-abbrev pub first_or : {A B : Type 0} → (A → Option B) → Option B → List A → Option B
-first_or test other [] = other
-first_or test other (x ∷ xs) = option_or (test x) (first_or test other xs)
+-- the same of an FDE that may be refused
+abbrev pub fde_error : ℕ → Result Fde Error → Option DwarfCfiIndexError
+fde_error base (Ok fde) = index_refusal base fde
+fde_error base (Err e) = Some (Gimli e)
 
--- the error of the first entry against an index: of the first FDE that it can't have, or else the fault that ends the list
-abbrev pub index_error : ℕ → Listing → Option DwarfCfiIndexError
-index_error base listing = first_or (index_refusal base) (option_map Gimli listing.fault) listing.fdes
+-- why an index can't have an item of the section's list, if it can't: a fault, or its FDE
+abbrev pub item_error : ℕ → List ℕ → Result Entry Error → Option DwarfCfiIndexError
+item_error base section (Ok (CieEntry cie)) = None
+item_error base section (Ok (FdeEntry partial)) = fde_error base (fde_of section partial)
+item_error base section (Err e) = Some (Gimli e)
+
+-- the first value that a list's elements have
+abbrev pub first_value : {A B : Type 0} → (A → Option B) → List A → Option B
+first_value value [] = None
+first_value value (x ∷ xs) = option_or (value x) (first_value value xs)
+
+-- the error of the first entry of a section against an index
+abbrev pub index_error : ℕ → List ℕ → Option DwarfCfiIndexError
+index_error base section = first_value (item_error base section) (entries_of section)
 
 -- what an index keeps of an FDE: its start relative to the base, and its place
 abbrev pub index_entry : ℕ → Fde → IndexedFde
@@ -30,6 +42,9 @@ index_entry base fde = record { start = fde.initial_address - base; offset = fde
 abbrev pub offset_in : List IndexedFde → ℕ → Option ℕ
 offset_in kept relative = option_map (λ fde. fde.offset) (last_of (filter (λ fde. nat_le fde.start relative) kept))
 
--- these are an index of the listing: it has one, each address finds its entry, and as many are kept as it has FDEs
-abbrev pub Indexes : List IndexedFde → ℕ → Listing → Type 0
-Indexes kept base listing = (has_index base listing ≡ true) × ((relative : ℕ) → offset_in kept relative ≡ option_map (λ fde. fde.offset) (indexed_entry base relative listing)) × (length kept ≡ length listing.fdes)
+-- these are an index of the section: it has one, each address finds its entry, and as many are kept as it has FDEs
+abbrev pub Indexes : List IndexedFde → ℕ → List ℕ → Type 0
+Indexes kept base section =
+    (has_index base section ≡ true)
+    × ((relative : ℕ) → offset_in kept relative ≡ option_map (λ fde. fde.offset) (indexed_entry base relative section))
+    × (length kept ≡ length (whole_fdes section))

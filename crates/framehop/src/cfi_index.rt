@@ -1,8 +1,8 @@
 //! The index of a section `.eh_frame`: which entry is for an address.
 
-ghost use Rattle.std.specs.Prelude.{◌≡◌, ◌≢◌, ◌<◌, ◌≤◌, ◌^◌, ℕ, suc, None, Some, option_map, map, length, codes, Result, Ok, Err, IfOk, IfErr};
+ghost use Rattle.std.specs.Prelude.{◌≡◌, ◌≢◌, ◌<◌, ◌≤◌, ◌^◌, ℕ, suc, List, None, Some, option_map, map, length, codes, Result, Ok, Err, IfOk, IfErr};
 ghost use Rattle.std.specs.List.Sorted.{IsNonDecreasingBy, IsPartitionPoint};
-ghost use Rattle.dwarf_call_frames.specs.Entries.{Listing, entries_of};
+ghost use Rattle.dwarf_call_frames.specs.Entries.{whole_fdes};
 ghost use Rattle.dwarf_call_frames.specs.EntryViews.{section_bytes, fde_view};
 ghost use Rattle.framehop.specs.EntryFor.{indexed_entry};
 ghost use Rattle.framehop.specs.CfiIndex.{index_refusal, index_entry, index_error};
@@ -105,10 +105,10 @@ fn indexed_fdes(
     base_svma: u64,
 ) -> Result<Vec<IndexedFde>, DwarfCfiIndexError>
     ensures kept { IfOk result (λ kept.
-        kept.items ≡ map (index_entry base_svma) (entries_of (section_bytes section.now)).fdes) }
-    ensures index { IfOk result (λ kept. index_error base_svma (entries_of (section_bytes section.now)) ≡ None) }
+        kept.items ≡ map (index_entry base_svma) (whole_fdes (section_bytes section.now))) }
+    ensures index { IfOk result (λ kept. index_error base_svma (section_bytes section.now) ≡ None) }
     ensures error { IfErr result (λ error. error ≢ OutOfMemory
-        → index_error base_svma (entries_of (section_bytes section.now)) ≡ Some error) }
+        → index_error base_svma (section_bytes section.now) ≡ Some error) }
 {
     let mut fdes = Vec::new(alloc);
     let mut entries = section.entries();
@@ -187,10 +187,10 @@ impl DwarfCfiIndex {
         section: &EhFrame,
         base_svma: u64,
     ) -> Result<Self, DwarfCfiIndexError>
-        ensures index { IfOk result (λ index. IsIndexOf index base_svma (entries_of (section_bytes section.now))) }
-        ensures none_against { IfOk result (λ index. index_error base_svma (entries_of (section_bytes section.now)) ≡ None) }
+        ensures index { IfOk result (λ index. IsIndexOf index base_svma (section_bytes section.now)) }
+        ensures none_against { IfOk result (λ index. index_error base_svma (section_bytes section.now) ≡ None) }
         ensures error { IfErr result (λ error. error ≢ OutOfMemory
-            → index_error base_svma (entries_of (section_bytes section.now)) ≡ Some error) }
+            → index_error base_svma (section_bytes section.now) ≡ Some error) }
     {
         let mut fdes = indexed_fdes(alloc, section, base_svma)?;
         fdes.reverse();
@@ -202,8 +202,8 @@ impl DwarfCfiIndex {
     /// of those with the greatest start at or below it the first in the section. `None` where each
     /// starts above. Reads at most ceil(log2(n)) + 1 of the n starts.
     pub fn fde_offset_for_relative_address(&self, rel_lookup_address: u32) -> Option<u32>
-        ensures { (base_svma : ℕ) (listing : Listing) → IsIndexOf self.now base_svma listing
-            → result ≡ option_map (λ fde. fde.offset) (indexed_entry base_svma rel_lookup_address listing) }
+        ensures { (base_svma : ℕ) (section : List ℕ) → IsIndexOf self.now base_svma section
+            → result ≡ option_map (λ fde. fde.offset) (indexed_entry base_svma rel_lookup_address section) }
     {
         self.look_up(rel_lookup_address).fde_offset
     }
@@ -211,12 +211,12 @@ impl DwarfCfiIndex {
     /// As `fde_offset_for_relative_address`, with the number of starts that were read: of n at most
     /// ceil(log2(n)) + 1, and at least floor(log2(n + 1)).
     pub fn look_up(&self, rel_lookup_address: u32) -> LookUp
-        ensures found { (base_svma : ℕ) (listing : Listing) → IsIndexOf self.now base_svma listing
-            → result.fde_offset ≡ option_map (λ fde. fde.offset) (indexed_entry base_svma rel_lookup_address listing) }
-        ensures few { (base_svma : ℕ) (listing : Listing) → IsIndexOf self.now base_svma listing
-            → (k : ℕ) → length listing.fdes ≤ 2 ^ k → result.starts_read ≤ suc k }
-        ensures counted { (base_svma : ℕ) (listing : Listing) → IsIndexOf self.now base_svma listing
-            → (k : ℕ) → 2 ^ k ≤ suc (length listing.fdes) → k ≤ result.starts_read }
+        ensures found { (base_svma : ℕ) (section : List ℕ) → IsIndexOf self.now base_svma section
+            → result.fde_offset ≡ option_map (λ fde. fde.offset) (indexed_entry base_svma rel_lookup_address section) }
+        ensures few { (base_svma : ℕ) (section : List ℕ) → IsIndexOf self.now base_svma section
+            → (k : ℕ) → length (whole_fdes section) ≤ 2 ^ k → result.starts_read ≤ suc k }
+        ensures counted { (base_svma : ℕ) (section : List ℕ) → IsIndexOf self.now base_svma section
+            → (k : ℕ) → 2 ^ k ≤ suc (length (whole_fdes section)) → k ≤ result.starts_read }
     {
         let halved = halve(&self.fdes, rel_lookup_address);
         let fde_offset = match halved.at_or_below {

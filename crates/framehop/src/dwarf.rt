@@ -1,7 +1,6 @@
 //! The entry of a section `.eh_frame` for an address, and what its row comes to.
 
 ghost use Rattle.std.specs.Prelude.{◌≡◌, ℕ, ◌+◌, ◌^◌, ◌≤◌, Some, option_map, IfOk, IfErr};
-ghost use Rattle.dwarf_call_frames.specs.Entries.{entries_of};
 ghost use Rattle.dwarf_call_frames.specs.EntryViews.{section_bytes, fde_view};
 ghost use Rattle.framehop.specs.EntryFor.{indexed_entry};
 ghost use Rattle.framehop.specs.CfiIndexView.{IsIndexOf};
@@ -37,8 +36,8 @@ pub(crate) fn indexed_fde<'a>(
     index: &DwarfCfiIndex,
     relative_address: u32,
 ) -> Option<FrameDescriptionEntry<'a>>
-    ensures { (base_svma : ℕ) → IsIndexOf index.now base_svma (entries_of (section_bytes section.now))
-        → option_map fde_view result ≡ indexed_entry base_svma relative_address (entries_of (section_bytes section.now)) }
+    ensures { (base_svma : ℕ) → IsIndexOf index.now base_svma (section_bytes section.now)
+        → option_map fde_view result ≡ indexed_entry base_svma relative_address (section_bytes section.now) }
 {
     let offset = index.fde_offset_for_relative_address(relative_address)?;
     section.fde_from_offset(u64::from(offset)).ok()

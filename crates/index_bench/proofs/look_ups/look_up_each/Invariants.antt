@@ -1,5 +1,5 @@
-use Rattle.std.proofs.Common.{◌≡◌, ◌≤◌, ◌^◌, ℕ, suc, length}
-use Rattle.dwarf_call_frames.specs.Entries.{Listing}
+use Rattle.std.proofs.Common.{◌≡◌, ◌≤◌, ◌^◌, ℕ, List, suc, length}
+use Rattle.dwarf_call_frames.specs.Entries.{whole_fdes}
 use Rattle.framehop.specs.CfiIndexView.{IsIndexOf}
 use Rattle.index_bench.specs.LookUps.{found_among}
 use Rattle.index_bench.proofs.look_ups.look_up_each.Given as goal
@@ -7,7 +7,7 @@ use Rattle.index_bench.proofs.look_ups.look_up_each.Given as goal
 abbrev pub invariant-loop-i : goal.invariant-loop-i
 invariant-loop-i l = record {
   fits : l.tally.found ≤ l.i;
-  found : (base : ℕ) (listing : Listing) → IsIndexOf l.index base listing → l.tally.found ≡ found_among l.i l.fn.apart base listing;
-  few : (base : ℕ) (listing : Listing) → IsIndexOf l.index base listing → (k : ℕ) → length listing.fdes ≤ 2 ^ k → l.tally.most_starts_read ≤ suc k;
-  counted : (base : ℕ) (listing : Listing) → IsIndexOf l.index base listing → 1 ≤ l.i → (k : ℕ) → 2 ^ k ≤ suc (length listing.fdes) → k ≤ l.tally.most_starts_read;
+  found : (base : ℕ) (section : List ℕ) → IsIndexOf l.index base section → l.tally.found ≡ found_among l.i l.fn.apart base section;
+  few : (base : ℕ) (section : List ℕ) → IsIndexOf l.index base section → (k : ℕ) → length (whole_fdes section) ≤ 2 ^ k → l.tally.most_starts_read ≤ suc k;
+  counted : (base : ℕ) (section : List ℕ) → IsIndexOf l.index base section → 1 ≤ l.i → (k : ℕ) → 2 ^ k ≤ suc (length (whole_fdes section)) → k ≤ l.tally.most_starts_read;
 }

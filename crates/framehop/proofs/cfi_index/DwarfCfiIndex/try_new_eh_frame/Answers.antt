@@ -3,7 +3,7 @@ use Rattle.std.proofs.Common.{rules, ◌≡◌, ℕ, List, map, reverse, nat_cmp
 use Rattle.std.specs.List.Sorted.{IsNonDecreasingBy, IsPermutation, IsStableByKey}
 use Rattle.std.proofs.lemmas.List.Sorted.{IsNonDecreasingBy-from_sort_by_key, answers_always}
 use Rattle.framehop.specs.declared.cfi_index.IndexedFde.{IndexedFde}
-use Rattle.dwarf_call_frames.specs.Entries.{Listing, entries_of}
+use Rattle.dwarf_call_frames.specs.Entries.{Fde, whole_fdes}
 use Rattle.dwarf_call_frames.specs.EntryViews.{section_bytes}
 use Rattle.framehop.specs.CfiIndex.{index_entry}
 use Rattle.framehop.proofs.CfiIndexBuild.{has-index, indexes-sorted}
@@ -17,10 +17,11 @@ invariant_of-result c = record {
 pub returns-clause-index : goal.returns-clause-index
 returns-clause-index c =
     let base : ℕ = c.args.base_svma in
-    let listing : Listing = entries_of (section_bytes c.args.section.now) in
+    let section : List ℕ = section_bytes c.args.section.now in
+    let fdes : List Fde = whole_fdes section in
     let ys : List IndexedFde = c.sort_by_key.new.self.items in
-    let same : c.reverse.new.self.items ≡ reverse (map (index_entry base) listing.fdes) = c.reverse.ensures.items ∙ ap reverse c.in_ok-fdes.ensures.kept in
+    let same : c.reverse.new.self.items ≡ reverse (map (index_entry base) fdes) = c.reverse.ensures.items ∙ ap reverse c.in_ok-fdes.ensures.kept in
     let up : IsNonDecreasingBy (λ y. y.start) ys = IsNonDecreasingBy-from_sort_by_key (λ y. y.start) _ c.in_ok-sort_by_key.ensures.sorted (λ a r q k. search rules) in
-    let moved : IsPermutation (reverse (map (index_entry base) listing.fdes)) ys = rw (← same) c.sort_by_key.ensures.permutation in
-    let stable : IsStableByKey (λ y. y.start) nat_cmp (reverse (map (index_entry base) listing.fdes)) ys = rw (← same) (c.sort_by_key.ensures.stable (λ y. y.start) (answers_always _ _ _ (λ f a r g h. search rules))) in
-    indexes-sorted base listing ys (has-index base listing c.in_ok-fdes.ensures.index) up moved stable
+    let moved : IsPermutation (reverse (map (index_entry base) fdes)) ys = rw (← same) c.sort_by_key.ensures.permutation in
+    let stable : IsStableByKey (λ y. y.start) nat_cmp (reverse (map (index_entry base) fdes)) ys = rw (← same) (c.sort_by_key.ensures.stable (λ y. y.start) (answers_always _ _ _ (λ f a r g h. search rules))) in
+    indexes-sorted base section ys (has-index base section c.in_ok-fdes.ensures.index) up moved stable
