@@ -15,7 +15,7 @@ use Rattle.dwarf_readers.specs.Place.{Stretch}
 use Rattle.framehop.specs.declared.cfi_index.IndexedFde.{IndexedFde}
 use Rattle.framehop.specs.declared.cfi_index.DwarfCfiIndexError.{DwarfCfiIndexError}
 use Rattle.dwarf_call_frames.specs.Entries.{Fde, Entry, CieEntry, FdeEntry, entries_of, entries_from, fde_of, fde_in, whole_fdes}
-use Rattle.framehop.specs.EntryFor.{indexed_among, fits_index, fde_fits, item_fits, has_index}
+use Rattle.framehop.specs.EntryFor.{indexed_among, fits_index, fde_fits, item_fits, has_index, indexed_entry}
 use Rattle.lists.specs.Greatest.{is_greatest, greater}
 use Rattle.lists.specs.Last.{last_of}
 use Rattle.framehop.specs.CfiIndex.{index_refusal, fde_error, item_error, first_value, index_error, index_entry, offset_in, Indexes}
@@ -161,6 +161,7 @@ module _ (base : ℕ) (section : List ℕ) (ys : List IndexedFde) (has : has_ind
 
   -- the sorted list is an index of the section
   pub indexes-sorted : Indexes ys base section
+  unfolding indexed_entry
   indexes-sorted = (has, λ a. rw has (by a (last_of (filter (λ y. nat_le y.start a) ys)) refl), length_permutation (reverse kept) ys moved ∙ length-reverse kept ∙ length-map (whole_fdes section) (index_entry base))
     where
       kept : List IndexedFde

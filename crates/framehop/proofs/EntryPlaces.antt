@@ -17,6 +17,7 @@ use Rattle.framehop.proofs.EntryIndex.{find-has}
 
 -- the indexed entry is what stands at its offset
 pub indexed-there : (section : List ℕ) (base relative : ℕ) (g : Fde) → indexed_entry base relative section ≡ Some g → fde_from_offset section g.offset ≡ Ok g
+unfolding indexed_entry
 indexed-there section base relative g h =
     by_case (has_index base section)
     (λ is. let found : indexed_among (base + relative) (whole_fdes section) ≡ Some g = rw is at h in

@@ -15,7 +15,7 @@ use Rattle.framehop.specs.CfiIndexView.{IsIndexOf}
 use Rattle.framehop.specs.ModuleViews.{module_view}
 
 indexed-by : (section : List ℕ) (base relative : ℕ) (o : Option Fde) → has_index base section ≡ true → o ≡ indexed_entry base relative section → by_entries section base relative ≡ by_fde section (base + relative) o
-indexed-by section base relative o has is = rw has (ap (by_fde section (base + relative)) (sym (is ∙ rw has refl)))
+indexed-by section base relative o has is = rw has (ap (by_fde section (base + relative)) (sym is))
 
 module _ (module_ : Module) (index : DwarfCfiIndex) (bytes : List ℕ) (relative : ℕ) (found : Option FrameDescriptionEntry)
     (section : option_map (λ section. section.items) module_.eh_frame ≡ Some bytes) (known : module_.index ≡ Some index)

@@ -29,5 +29,5 @@ abbrev pub indexed_among : ℕ → List Fde → Option Fde
 indexed_among address fdes = first_greatest (λ fde. fde.initial_address) (filter (λ fde. nat_le fde.initial_address address) fdes)
 
 -- the FDE for an address that is relative to a base, where there is an index
-abbrev pub indexed_entry : ℕ → ℕ → List ℕ → Option Fde
+unfoldable pub indexed_entry : ℕ → ℕ → List ℕ → Option Fde
 indexed_entry base relative section = if has_index base section then indexed_among (base + relative) (whole_fdes section) else None

@@ -1,20 +1,10 @@
 -- The entry at the offset that the index has is the indexed entry.
-use Rattle.std.proofs.Common.{◌≡◌, ℕ, List, Option, Some, None, refl, ap, sym, ◌∙◌, rules}
+use Rattle.std.proofs.Common.{◌≡◌, ℕ, List, Some, ap, sym, ◌∙◌}
 use Rattle.std.specs.Prelude.{option_map}
 use Rattle.dwarf_call_frames.specs.EntryViews.{section_bytes, fde_view}
 use Rattle.framehop.specs.EntryFor.{indexed_entry}
 use Rattle.framehop.proofs.EntryPlaces.{read-there}
 use Rattle.framehop.proofs.dwarf.indexed_fde.Goals as goal
-
-nothing : {A B : Type 0} (f : A → B) (o : Option A) → ◌≡◌ {A = Option B} None (option_map f o) → ◌≡◌ {A = Option A} None o
-nothing f None h = refl
-nothing f (Some x) h = cc
-
-pub returns-in_err-offset : goal.returns-in_err-offset
-returns-in_err-offset c base is =
-    let section : List ℕ = section_bytes c.args.section.now in
-    let none : option_map fde_view c.from_residual.result ≡ None = search rules in
-    none ∙ nothing (λ fde. fde.offset) (indexed_entry base c.args.relative_address section) (sym c.in_err-offset.was ∙ c.fde_offset_for_relative_address.ensures base section is)
 
 pub returns : goal.returns
 returns c base is =

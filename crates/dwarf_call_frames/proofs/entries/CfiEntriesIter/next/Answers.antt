@@ -1,7 +1,5 @@
-use Rattle.std.proofs.Common.{◌≡◌, ℕ, Option, Some, None, Result, Ok, Err, sym, ap, ◌∙◌}
-use Rattle.dwarf_constants.specs.declared.error.Error.{Error}
+use Rattle.std.proofs.Common.{ℕ, Some, None, Ok, Err, sym, ap, ◌∙◌}
 use Rattle.dwarf_readers.specs.Place.{Stretch}
-use Rattle.dwarf_call_frames.specs.declared.entries.CieOrFde.{CieOrFde}
 use Rattle.dwarf_call_frames.specs.EndianSlice.{stretch}
 use Rattle.dwarf_call_frames.specs.Entries.{entry_at, first_entry}
 use Rattle.dwarf_call_frames.proofs.EntryLists.{next_taken, first_there, first_none}
