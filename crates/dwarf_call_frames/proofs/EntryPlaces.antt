@@ -181,5 +181,5 @@ there-within (suc n) section s h =
 
 -- each FDE of a section is what stands at its offset
 pub stands-there : (section : List ℕ) → All (StandsAtItsOffset section) (whole_fdes section)
-unfolding entries_from
+unfolding entries_from whole_fdes
 stands-there section = there-within (suc (length section)) section (whole false section) (rest-whole section)

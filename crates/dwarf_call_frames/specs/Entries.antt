@@ -176,5 +176,5 @@ abbrev pub fdes_of : List ℕ → List (Result Fde Error)
 fdes_of section = filter_map (fde_in section) (entries_of section)
 
 -- those that aren't refused
-abbrev pub whole_fdes : List ℕ → List Fde
+unfoldable pub whole_fdes : List ℕ → List Fde
 whole_fdes section = filter_map result_ok (fdes_of section)

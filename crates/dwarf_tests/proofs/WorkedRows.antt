@@ -12,7 +12,7 @@ starts [] = []
 starts (fde ∷ fdes) = fde.initial_address ∷ fde.offset ∷ starts fdes
 
 one_fde : starts (whole_fdes section) ≡ 0x1000 ∷ 0x14 ∷ []
-unfolding section starts entries_from
+unfolding section starts entries_from whole_fdes
 one_fde = refl
 
 bounds : List Row → List ℕ
@@ -25,5 +25,5 @@ all_bounds [] = []
 all_bounds (fde ∷ fdes) = bounds (rows_of fde).rows
 
 three_rows : all_bounds (whole_fdes section) ≡ 0x1000 ∷ 0x1001 ∷ 0x1001 ∷ 0x1004 ∷ 0x1004 ∷ 0x1010 ∷ []
-unfolding section all_bounds bounds entries_from instructions_of
+unfolding section all_bounds bounds entries_from whole_fdes instructions_of
 three_rows = refl

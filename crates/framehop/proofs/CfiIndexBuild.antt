@@ -11,7 +11,7 @@ use Rattle.std.proofs.lemmas.List.{length-map, length-reverse}
 use Rattle.std.proofs.lemmas.List.Elements.{All-nil, All-cons, All-head, All-tail}
 use Rattle.std.proofs.lemmas.List.Sorted.{All-permutation, IsPermutation-sym, IsPermutation-reverse, length_permutation}
 use Rattle.dwarf_constants.specs.declared.error.Error.{Error}
-use Rattle.dwarf_readers.specs.Place.{Stretch}
+use Rattle.dwarf_readers.specs.Place.{Stretch, whole}
 use Rattle.framehop.specs.declared.cfi_index.IndexedFde.{IndexedFde}
 use Rattle.framehop.specs.declared.cfi_index.DwarfCfiIndexError.{DwarfCfiIndexError}
 use Rattle.dwarf_call_frames.specs.Entries.{Fde, Entry, CieEntry, FdeEntry, entries_of, entries_from, fde_of, fde_in, whole_fdes}
@@ -139,6 +139,7 @@ module _ (base : ℕ) (section : List ℕ) (ys : List IndexedFde) (has : has_ind
       (All-permutation P ys (reverse xs) (IsPermutation-sym (reverse xs) ys moved) all)
 
   fitting : list_all (fits_index base) (whole_fdes section) ≡ true
+  unfolding has_index whole_fdes
   fitting = whole-fit base section (entries_of section) has
 
   found-some : (a : ℕ) (x : IndexedFde) → last_of (filter (λ y. nat_le y.start a) ys) ≡ Some x → Some x.offset ≡ option_map (λ f. f.offset) (indexed_among (base + a) (whole_fdes section))
@@ -205,10 +206,12 @@ all-fit-as base section (item ∷ items) =
 
 -- a section without an error has an index
 pub has-index : (base : ℕ) (section : List ℕ) → index_error base section ≡ None → has_index base section ≡ true
+unfolding has_index
 has-index base section h = all-fit-as base section (entries_of section) ∙ ap is_none h
 
 -- a section with one has none
 pub has-no-index : (base : ℕ) (section : List ℕ) (error : DwarfCfiIndexError) → index_error base section ≡ Some error → has_index base section ≡ false
+unfolding has_index
 has-no-index base section error h = all-fit-as base section (entries_of section) ∙ ap is_none h
 
 -- ---- the pass over the entries
@@ -218,3 +221,11 @@ has-no-index base section error h = all-fit-as base section (entries_of section)
 pub record Gathered (section : List ℕ) (base : ℕ) (kept : List IndexedFde) (left : Stretch) : Type 0 where
   pub error : index_error base section ≡ first_value (item_error base section) (entries_from left)
   pub fdes : map (index_entry base) (whole_fdes section) ≡ kept ++ map (index_entry base) (whole_among section (entries_from left))
+
+-- nothing is gathered at the start
+pub none-gathered : (section : List ℕ) (base : ℕ) (kept : List IndexedFde) (left : Stretch) → kept ≡ [] → left ≡ whole false section → Gathered section base kept left
+unfolding whole_fdes
+none-gathered section base kept left none is = record {
+  error = ap (λ s. first_value (item_error base section) (entries_from s)) (sym is);
+  fdes = rw (none, is) refl;
+}

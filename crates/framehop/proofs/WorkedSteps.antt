@@ -1,7 +1,7 @@
 -- The definition of a step, computed on worked examples: one section, words of a stack and registers.
 use Rattle.std.proofs.Common.{◌≡◌, ℕ, ◌/◌, ◌%◌, List, [], ◌∷◌, refl, Some, None}
 use Rattle.std.specs.Prelude.{slice_get, ◌==◌, if◌then◌else◌}
-use Rattle.dwarf_call_frames.specs.Entries.{entries_from}
+use Rattle.dwarf_call_frames.specs.Entries.{entries_from, whole_fdes}
 use Rattle.dwarf_call_frames.specs.Instructions.{instructions_of}
 use Rattle.framehop_rules.specs.Callback.{Words}
 use Rattle.framehop_rules.specs.Outcome.{Outcome, Refuses, Answers, Caller}
@@ -9,7 +9,7 @@ use Rattle.framehop_rules.specs.Registers.{ip_of, sp_of, bp_of}
 use Rattle.framehop_rules.specs.declared.error.Error.TheVariants.{FramepointerUnwindingMovedBackwards, IntegerOverflow}
 use Rattle.framehop_rules.specs.declared.code_address.FrameAddress.TheVariants.{InstructionPointer}
 use Rattle.framehop_rules.specs.declared.x86_64.unwindregs.UnwindRegsX86_64.{UnwindRegsX86_64}
-use Rattle.framehop.specs.EntryFor.{indexed_entry}
+use Rattle.framehop.specs.EntryFor.{has_index, indexed_entry}
 use Rattle.framehop.specs.ModuleFound.{Loaded}
 use Rattle.framehop.specs.Judge.{judge}
 
@@ -51,33 +51,33 @@ numbers (Answers caller) = caller.return_address ∷ ip_of caller.registers ∷ 
 numbers outcome = []
 
 at_the_start : numbers (judge (loaded pushes) (InstructionPointer 0x101000) (registers 0x101000 0x10 0x20) words) ≡ 0x100300 ∷ 0x100300 ∷ 0x18 ∷ 0x20 ∷ []
-unfolding entries_from instructions_of indexed_entry
+unfolding entries_from whole_fdes instructions_of has_index indexed_entry
 at_the_start = refl
 
 after_the_push : numbers (judge (loaded pushes) (InstructionPointer 0x101002) (registers 0x101002 0x20 0x20) words) ≡ 0x100200 ∷ 0x100200 ∷ 0x30 ∷ 0x40 ∷ []
-unfolding entries_from instructions_of indexed_entry
+unfolding entries_from whole_fdes instructions_of has_index indexed_entry
 after_the_push = refl
 
 in_the_body : numbers (judge (loaded pushes) (InstructionPointer 0x101004) (registers 0x101004 0x18 0x20) words) ≡ 0x100200 ∷ 0x100200 ∷ 0x30 ∷ 0x40 ∷ []
-unfolding entries_from instructions_of indexed_entry
+unfolding entries_from whole_fdes instructions_of has_index indexed_entry
 in_the_body = refl
 
 of_a_cut_section : numbers (judge (loaded cut) (InstructionPointer 0x101000) (registers 0x101000 0x10 0x20) words) ≡ 0x100200 ∷ 0x100200 ∷ 0x30 ∷ 0x40 ∷ []
-unfolding entries_from instructions_of indexed_entry
+unfolding entries_from whole_fdes instructions_of has_index indexed_entry
 of_a_cut_section = refl
 
 below_the_stack : judge (loaded no_offset) (InstructionPointer 0x101000) (registers 0x101000 0 0x20) words ≡ Refuses IntegerOverflow
-unfolding entries_from instructions_of indexed_entry
+unfolding entries_from whole_fdes instructions_of has_index indexed_entry
 below_the_stack = refl
 
 by_12_bytes : numbers (judge (loaded twelve) (InstructionPointer 0x101000) (registers 0x101000 0x14 0x20) words) ≡ 4 ∷ 4 ∷ 0x20 ∷ 0x20 ∷ []
-unfolding entries_from instructions_of indexed_entry
+unfolding entries_from whole_fdes instructions_of has_index indexed_entry
 by_12_bytes = refl
 
 by_an_expression : numbers (judge (loaded by_expression) (InstructionPointer 0x101010) (registers 0x101010 0x10 0x20) words) ≡ 0x100300 ∷ 0x100300 ∷ 0x18 ∷ 0x20 ∷ []
-unfolding entries_from instructions_of indexed_entry
+unfolding entries_from whole_fdes instructions_of has_index indexed_entry
 by_an_expression = refl
 
 above_the_stack : judge (loaded by_expression) (InstructionPointer 0x101010) (registers 0x101010 0x1000 0x20) words ≡ Refuses FramepointerUnwindingMovedBackwards
-unfolding entries_from instructions_of indexed_entry
+unfolding entries_from whole_fdes instructions_of has_index indexed_entry
 above_the_stack = refl

@@ -21,7 +21,7 @@ item_fits base section (Ok (FdeEntry partial)) = fde_fits base (fde_of section p
 item_fits base section (Err e) = false
 
 -- the section has an index: all its entries parse, and each FDE fits
-abbrev pub has_index : ℕ → List ℕ → Bool
+unfoldable pub has_index : ℕ → List ℕ → Bool
 has_index base section = list_all (item_fits base section) (entries_of section)
 
 -- of the FDEs with the greatest start at or below an address, the first in the section
