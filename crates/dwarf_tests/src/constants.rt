@@ -10,97 +10,142 @@ use std::fmt;
 use std::process::Abort;
 use std::test::Fail;
 
-/// Compares the names of the values from the first on.
-macro_rules! assert_names {
-    ($rt:expr; $kind:ident, $prefix:literal, $first:literal, $names:literal) => {
-        let mut value = $first;
-        for name in $names.split_whitespace() {
-            let text = $kind(value).static_string();
-            let rest = text.and_then(|text| text.strip_prefix($prefix));
-            assert_eq!($rt; rest.unwrap_or("-"), name, "at {value:#x}");
-            value = value.wrapping_add(1);
-        }
-    };
+// Whether this is the name behind its prefix, or `-` and there is none.
+fn is_name(text: Option<&str>, prefix: &str, name: &str) -> bool {
+    match text {
+        Some(text) => text.strip_prefix(prefix) == Some(name),
+        None => name == "-",
+    }
 }
 
-/// How many values up to a bound have a name.
-macro_rules! count_names {
-    ($kind:ident, $bound:literal) => {
-        (0..=$bound)
-            .filter(|value| $kind(*value).static_string().is_some())
-            .count()
+// Compares the names of the values from the first of each row on, and counts all values that have one.
+fn check_names<F: Fn(u16, &str) -> bool>(
+    rt: &impl Abort,
+    rows: &[(u16, &str)],
+    count: u32,
+    has_name: F,
+)
+    requires { F.IsAlwaysCallable has_name }
+{
+    for (first, names) in rows {
+        let mut value = *first;
+        for name in names.split_whitespace() {
+            assert!(rt; has_name(value, name), "{name} at {value:#x}");
+            value = value.wrapping_add(1);
+        }
+    }
+    let mut named = 0u32;
+    for value in 0..=u16::MAX {
+        if !has_name(value, "-") {
+            named = named.wrapping_add(1);
+        }
+    }
+    assert_eq!(rt; named, count);
+}
+
+// Whether a constant of one byte has a name behind this prefix.
+macro_rules! byte_has_name {
+    ($kind:ident, $prefix:literal) => {
+        |value, name| match u8::try_from(value) {
+            Ok(value) => is_name($kind(value).static_string(), $prefix, name),
+            Err(_) => name == "-",
+        }
     };
 }
 
 /// DWARF 5, table 7.29; 0x2d is of the ABI of AArch64 and 0x2e of GNU.
 #[test]
 fn instructions_are_numbered_as_in_the_standard(rt: HostRuntime) {
-    assert_names!(rt; DwCfa, "DW_CFA_", 0x00,
-        "nop set_loc advance_loc1 advance_loc2 advance_loc4 offset_extended restore_extended
-        undefined same_value register remember_state restore_state def_cfa def_cfa_register
-        def_cfa_offset def_cfa_expression expression offset_extended_sf def_cfa_sf
-        def_cfa_offset_sf val_offset val_offset_sf val_expression -");
-    assert_names!(rt; DwCfa, "DW_CFA_", 0x2d, "AARCH64_negate_ra_state GNU_args_size -");
-    assert_names!(rt; DwCfa, "DW_CFA_", 0x40, "advance_loc -");
-    assert_names!(rt; DwCfa, "DW_CFA_", 0x80, "offset -");
-    assert_names!(rt; DwCfa, "DW_CFA_", 0xc0, "restore -");
-    assert_eq!(rt; count_names!(DwCfa, 255), 28);
+    let rows = [
+        (
+            0x00,
+            "nop set_loc advance_loc1 advance_loc2 advance_loc4 offset_extended restore_extended
+            undefined same_value register remember_state restore_state def_cfa def_cfa_register
+            def_cfa_offset def_cfa_expression expression offset_extended_sf def_cfa_sf
+            def_cfa_offset_sf val_offset val_offset_sf val_expression -",
+        ),
+        (0x2d, "AARCH64_negate_ra_state GNU_args_size -"),
+        (0x40, "advance_loc -"),
+        (0x80, "offset -"),
+        (0xc0, "restore -"),
+    ];
+    check_names(&rt, &rows, 28, byte_has_name!(DwCfa, "DW_CFA_"));
 }
 
 /// DWARF 5, table 7.4.
 #[test]
 fn children_are_numbered_as_in_the_standard(rt: HostRuntime) {
-    assert_names!(rt; DwChildren, "DW_CHILDREN_", 0x00, "no yes -");
-    assert_eq!(rt; count_names!(DwChildren, 255), 2);
+    let rows = [(0x00, "no yes -")];
+    check_names(&rt, &rows, 2, byte_has_name!(DwChildren, "DW_CHILDREN_"));
 }
 
 /// DWARF 5, table 7.6; those from 0x1f00 on are of GNU.
 #[test]
 fn forms_are_numbered_as_in_the_standard(rt: HostRuntime) {
-    assert_names!(rt; DwForm, "DW_FORM_", 0x00,
-        "- addr - block2 block4 data2 data4 data8 string block block1 data1 flag sdata strp udata
-        ref_addr ref1 ref2 ref4 ref8 ref_udata indirect sec_offset exprloc flag_present strx addrx
-        ref_sup4 strp_sup data16 line_strp ref_sig8 implicit_const loclistx rnglistx ref_sup8
-        strx1 strx2 strx3 strx4 addrx1 addrx2 addrx3 addrx4 -");
-    assert_names!(rt; DwForm, "DW_FORM_", 0x1f00, "- GNU_addr_index GNU_str_index -");
-    assert_names!(rt; DwForm, "DW_FORM_", 0x1f1f, "- GNU_ref_alt GNU_strp_alt -");
-    assert_eq!(rt; count_names!(DwForm, 0xffff), 47);
+    let rows = [
+        (
+            0x00,
+            "- addr - block2 block4 data2 data4 data8 string block block1 data1 flag sdata strp
+            udata ref_addr ref1 ref2 ref4 ref8 ref_udata indirect sec_offset exprloc flag_present
+            strx addrx ref_sup4 strp_sup data16 line_strp ref_sig8 implicit_const loclistx
+            rnglistx ref_sup8 strx1 strx2 strx3 strx4 addrx1 addrx2 addrx3 addrx4 -",
+        ),
+        (0x1f00, "- GNU_addr_index GNU_str_index -"),
+        (0x1f1f, "- GNU_ref_alt GNU_strp_alt -"),
+    ];
+    check_names(
+        &rt,
+        &rows,
+        47,
+        |value, name| is_name(DwForm(value).static_string(), "DW_FORM_", name),
+    );
 }
 
 /// DWARF 5, table 7.9.
 #[test]
-fn operations_are_numbered_as_in_the_standard(rt: HostRuntime) -> Result<(), Fail> {
-    assert_names!(rt; DwOp, "DW_OP_", 0x00,
-        "- - - addr - - - - const1u const1s const2u const2s const4u const4s const8u const8s
-        constu consts dup drop over pick swap rot - abs and div minus mod mul neg
-        not or plus plus_uconst shl shr shra xor bra eq ge gt le lt ne skip");
+fn operations_are_numbered_as_in_the_standard(rt: HostRuntime) {
+    let rows = [
+        (
+            0x00,
+            "- - - addr - - - - const1u const1s const2u const2s const4u const4s const8u const8s
+            constu consts dup drop over pick swap rot - abs and div minus mod mul neg
+            not or plus plus_uconst shl shr shra xor bra eq ge gt le lt ne skip",
+        ),
+        (0x90, "- - bregx - - - nop -"),
+    ];
+    check_names(&rt, &rows, 106, byte_has_name!(DwOp, "DW_OP_"));
+}
+
+/// DWARF 5, table 7.9: a literal and a register for each number up to 31.
+#[test]
+fn operations_of_literals_and_registers_are_numbered(rt: HostRuntime) -> Result<(), Fail> {
     for n in 0..32u8 {
         for (first, family) in [(0x30, "lit"), (0x70, "breg")] {
             let name = format!(in rt.alloc(); "DW_OP_{family}{n}")?;
-            assert_eq!(rt;
-                DwOp(first + n).static_string().unwrap_or("-"),
-                name.as_str()
-            );
+            let found = DwOp(first + n).static_string();
+            assert_eq!(rt; found.unwrap_or("-"), name.as_str());
         }
     }
-    assert_names!(rt; DwOp, "DW_OP_", 0x90, "- - bregx - - - nop -");
-    assert_eq!(rt; count_names!(DwOp, 255), 106);
     Ok(())
 }
 
 /// LSB 5.0, 10.5.1.
 #[test]
 fn pointer_encodings_are_numbered_as_in_the_standard(rt: HostRuntime) {
-    assert_names!(rt; DwEhPe, "DW_EH_PE_", 0x00,
-        "absptr uleb128 udata2 udata4 udata8 - - - - sleb128 sdata2 sdata4 sdata8 -");
-    assert_names!(rt; DwEhPe, "DW_EH_PE_", 0x10, "pcrel -");
-    assert_names!(rt; DwEhPe, "DW_EH_PE_", 0x20, "textrel -");
-    assert_names!(rt; DwEhPe, "DW_EH_PE_", 0x30, "datarel -");
-    assert_names!(rt; DwEhPe, "DW_EH_PE_", 0x40, "funcrel -");
-    assert_names!(rt; DwEhPe, "DW_EH_PE_", 0x50, "aligned -");
-    assert_names!(rt; DwEhPe, "DW_EH_PE_", 0x80, "indirect -");
-    assert_names!(rt; DwEhPe, "DW_EH_PE_", 0xfe, "- omit");
-    assert_eq!(rt; count_names!(DwEhPe, 255), 16);
+    let rows = [
+        (
+            0x00,
+            "absptr uleb128 udata2 udata4 udata8 - - - - sleb128 sdata2 sdata4 sdata8 -",
+        ),
+        (0x10, "pcrel -"),
+        (0x20, "textrel -"),
+        (0x30, "datarel -"),
+        (0x40, "funcrel -"),
+        (0x50, "aligned -"),
+        (0x80, "indirect -"),
+        (0xfe, "- omit"),
+    ];
+    check_names(&rt, &rows, 16, byte_has_name!(DwEhPe, "DW_EH_PE_"));
 }
 
 /// The encoding that compilers write for shared libraries, 0x9b, is an indirect offset of 4 bytes.

@@ -1,57 +1,21 @@
 //! Numbers, texts and places of readers.
 
+mod equality;
 mod numbers;
 mod second_reader;
 mod spelled;
+mod steps;
 
 use crate::little;
 use dwarf_constants::{DwarfFileType, Encoding, Error, Format, ReaderOffsetId};
 use dwarf_readers::{
     BigEndian, DebugStrOffsetsBase, EndianSlice, Endianity, LittleEndian, NativeEndian, Reader,
-    ReaderOffset, RunTimeEndian, leb128, read_u8_array,
+    ReaderOffset, RunTimeEndian, read_u8_array,
 };
 use std::test::Fail;
 
 fn eof<T>(place: u64) -> Result<T, Error> {
     Err(Error::UnexpectedEof(ReaderOffsetId(place)))
-}
-
-#[test]
-fn unsigned_numbers(rt: HostRuntime) {
-    let most = [0xff, 0xff, 0xff, 0xff, 0xff, 0xff, 0xff, 0xff, 0xff, 0x01];
-    assert_eq!(rt;
-        leb128::read::unsigned(&mut little(&most)),
-        Ok(0xffff_ffff_ffff_ffff)
-    );
-    let over = [0xff, 0xff, 0xff, 0xff, 0xff, 0xff, 0xff, 0xff, 0xff, 0x02];
-    assert_eq!(rt;
-        leb128::read::unsigned(&mut little(&over)),
-        Err(Error::BadUnsignedLeb128)
-    );
-    assert_eq!(rt; leb128::read::unsigned(&mut little(&[0x80])), eof(1));
-    assert_eq!(rt;
-        leb128::read::u16(&mut little(&[0xff, 0xff, 0x03])),
-        Ok(65_535)
-    );
-    assert_eq!(rt;
-        leb128::read::u16(&mut little(&[0x80, 0x80, 0x04])),
-        Err(Error::BadUnsignedLeb128)
-    );
-}
-
-#[test]
-fn signed_numbers(rt: HostRuntime) {
-    assert_eq!(rt; leb128::read::signed(&mut little(&[0xff, 0x7e])), Ok(-129));
-    let least = [0x80, 0x80, 0x80, 0x80, 0x80, 0x80, 0x80, 0x80, 0x80, 0x7f];
-    assert_eq!(rt;
-        leb128::read::signed(&mut little(&least)),
-        Ok(-0x8000_0000_0000_0000)
-    );
-    let under = [0xff, 0xff, 0xff, 0xff, 0xff, 0xff, 0xff, 0xff, 0xff, 0x7e];
-    assert_eq!(rt;
-        leb128::read::signed(&mut little(&under)),
-        Err(Error::BadSignedLeb128)
-    );
 }
 
 #[test]
@@ -137,17 +101,6 @@ fn lengths(rt: HostRuntime) -> Result<(), Fail> {
     );
     assert_eq!(rt; little(&[3, 0]).read_sized_offset(2)?, 3);
     Ok(())
-}
-
-#[test]
-fn spellings(rt: HostRuntime) {
-    let spelling = leb128::Leb128::unsigned(624_485);
-    assert_eq!(rt; spelling.bytes(), [0xe5, 0x8e, 0x26].as_slice());
-    assert_eq!(rt; spelling.len(), 3);
-    assert_eq!(rt; leb128::uleb128_size(0), 1);
-    assert_eq!(rt; leb128::uleb128_size(127), 1);
-    assert_eq!(rt; leb128::uleb128_size(128), 2);
-    assert_eq!(rt; leb128::uleb128_size(0xffff_ffff_ffff_ffff), 10);
 }
 
 #[test]

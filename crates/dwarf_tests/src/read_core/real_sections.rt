@@ -1,8 +1,6 @@
 // Sections of a program of two files that gcc 12.2.0 and clang 14.0.6 built, and what readelf 2.40 and llvm-dwarfdump
 // 14.0.6 read in them. `scripts/real-sections` prints this file.
 
-ghost use Rattle.std.specs.Prelude.{◌<◌};
-
 use dwarf_constants::{
     DebugAbbrevOffset, DebugAddrBase, DebugAddrIndex, DebugLineStrOffset, DebugStrOffset,
     DebugStrOffsetsIndex, Format,
@@ -17,27 +15,8 @@ use std::test::Fail;
 
 type Slice<'a> = EndianSlice<'a, LittleEndian>;
 
-// The value of a hexadecimal digit.
-fn digit(character: u8) -> u8
-    ensures { result < 16 }
-{
-    match character {
-        b'0'..=b'9' => character - b'0',
-        b'a'..=b'f' => character - b'a' + 10,
-        _ => 0,
-    }
-}
-
-// The bytes of these pairs of hexadecimal digits.
-fn bytes_of(alloc: Global, pairs: &str) -> Result<Vec<u8>, Fail> {
-    let mut bytes = Vec::new(alloc);
-    for pair in pairs.as_bytes().chunks(2) {
-        if let [high, low] = pair {
-            bytes.push(digit(*high) * 16 + digit(*low))?;
-        }
-    }
-    Ok(bytes)
-}
+// The offset of a table, and a line for each of its declarations.
+type Table<'a> = (usize, &'a [&'a str]);
 
 // The code, the tag, whether entries have children, and the names and forms, with the values that are given.
 fn line_of(alloc: Global, declaration: &Abbreviation) -> Result<String, Fail> {
@@ -87,146 +66,123 @@ fn check_set(rt: &impl Abort, set: &AddrHeader<Slice<'_>>, addresses: &[u64]) ->
 }
 
 #[test]
-fn abbreviations_of_gcc_dwarf_4(rt: HostRuntime) -> Result<(), Fail> {
-    let section = bytes_of(
-        rt.alloc(),
-        "011101250e130b030e1b0e1101120710170000022e013f19030e3a0b3b0b390b2719491311011207401897421901130000030500030e3a0b3b0b390b4913021800000424000b0b3e0b0308000000011101250e130b030e1b0e1101120710170000022e013f19030e3a0b3b0b390b271949133c1901130000030500491300000424000b0b3e0b03080000052e013f19030e3a0b3b0b390b2719491311011207401897421900000689820101110131130000078a8201000218914218000000",
-    )?;
-    check_table(
-        &rt,
-        rt.alloc(),
-        &section,
-        0x0,
-        &[
-            "1 11 has 25:e 13:b 3:e 1b:e 11:1 12:7 10:17",
-            "2 2e has 3f:19 3:e 3a:b 3b:b 39:b 27:19 49:13 11:1 12:7 40:18 2117:19 1:13",
-            "3 5 no 3:e 3a:b 3b:b 39:b 49:13 2:18",
-            "4 24 no b:b 3e:b 3:8",
-        ],
-    )?;
-    check_table(
-        &rt,
-        rt.alloc(),
-        &section,
-        0x4e,
-        &[
-            "1 11 has 25:e 13:b 3:e 1b:e 11:1 12:7 10:17",
-            "2 2e has 3f:19 3:e 3a:b 3b:b 39:b 27:19 49:13 3c:19 1:13",
-            "3 5 no 49:13",
-            "4 24 no b:b 3e:b 3:8",
-            "5 2e has 3f:19 3:e 3a:b 3b:b 39:b 27:19 49:13 11:1 12:7 40:18 2117:19",
-            "6 4109 has 11:1 31:13",
-            "7 410a no 2:18 2111:18",
-        ],
-    )?;
-    Ok(())
-}
-
-#[test]
-fn abbreviations_of_gcc_dwarf_5(rt: HostRuntime) -> Result<(), Fail> {
-    let section = bytes_of(
-        rt.alloc(),
-        "010500030e3a21013b2101390b491302180000021101250e130b031f1b1f1101120710170000032e013f19030e3a0b3b0b390b271949131101120740187a19011300000424000b0b3e0b03080000000105004913000002490002187e180000031101250e130b031f1b1f1101120710170000042e013f19030e3a0b3b0b390b271949133c19011300000524000b0b3e0b03080000062e013f19030e3a0b3b0b390b271949131101120740187a1900000748017d017f13000000",
-    )?;
-    check_table(
-        &rt,
-        rt.alloc(),
-        &section,
-        0x0,
-        &[
-            "1 5 no 3:e 3a:21=1 3b:21=1 39:b 49:13 2:18",
-            "2 11 has 25:e 13:b 3:1f 1b:1f 11:1 12:7 10:17",
-            "3 2e has 3f:19 3:e 3a:b 3b:b 39:b 27:19 49:13 11:1 12:7 40:18 7a:19 1:13",
-            "4 24 no b:b 3e:b 3:8",
-        ],
-    )?;
-    check_table(
-        &rt,
-        rt.alloc(),
-        &section,
-        0x4f,
-        &[
-            "1 5 no 49:13",
-            "2 49 no 2:18 7e:18",
-            "3 11 has 25:e 13:b 3:1f 1b:1f 11:1 12:7 10:17",
-            "4 2e has 3f:19 3:e 3a:b 3b:b 39:b 27:19 49:13 3c:19 1:13",
-            "5 24 no b:b 3e:b 3:8",
-            "6 2e has 3f:19 3:e 3a:b 3b:b 39:b 27:19 49:13 11:1 12:7 40:18 7a:19",
-            "7 48 has 7d:1 7f:13",
-        ],
-    )?;
-    Ok(())
-}
-
-#[test]
-fn abbreviations_of_clang_dwarf_4(rt: HostRuntime) -> Result<(), Fail> {
-    let section = bytes_of(
-        rt.alloc(),
-        "011101250e1305030e10171b0e110112060000022e01110112064018974219030e3a0b3b0b271949133f1900000305000218030e3a0b3b0b49130000042400030e3e0b0b0b000000011101250e1305030e10171b0e110112060000022e01110112064018974219030e3a0b3b0b271949133f1900000389820101311311010000048a82010002189142180000052e01030e3a0b3b0b271949133c193f19000006050049130000072400030e3e0b0b0b000000",
-    )?;
-    check_table(
-        &rt,
-        rt.alloc(),
-        &section,
-        0x0,
-        &[
-            "1 11 has 25:e 13:5 3:e 10:17 1b:e 11:1 12:6",
-            "2 2e has 11:1 12:6 40:18 2117:19 3:e 3a:b 3b:b 27:19 49:13 3f:19",
-            "3 5 no 2:18 3:e 3a:b 3b:b 49:13",
-            "4 24 no 3:e 3e:b b:b",
-        ],
-    )?;
-    check_table(
-        &rt,
-        rt.alloc(),
-        &section,
-        0x48,
-        &[
-            "1 11 has 25:e 13:5 3:e 10:17 1b:e 11:1 12:6",
-            "2 2e has 11:1 12:6 40:18 2117:19 3:e 3a:b 3b:b 27:19 49:13 3f:19",
-            "3 4109 has 31:13 11:1",
-            "4 410a no 2:18 2111:18",
-            "5 2e has 3:e 3a:b 3b:b 27:19 49:13 3c:19 3f:19",
-            "6 5 no 49:13",
-            "7 24 no 3:e 3e:b b:b",
-        ],
-    )?;
-    Ok(())
-}
-
-#[test]
-fn abbreviations_of_clang_dwarf_5(rt: HostRuntime) -> Result<(), Fail> {
-    let section = bytes_of(
-        rt.alloc(),
-        "011101252513050325721710171b25111b120673170000022e01111b120640187a1903253a0b3b0b271949133f190000030500021803253a0b3b0b4913000004240003253e0b0b0b000000011101252513050325721710171b25111b120673170000022e01111b120640187a1903253a0b3b0b271949133f1900000348017f137d1b000004490002187e180000052e0103253a0b3b0b271949133c193f1900000605004913000007240003253e0b0b0b000000",
-    )?;
-    check_table(
-        &rt,
-        rt.alloc(),
-        &section,
-        0x0,
-        &[
-            "1 11 has 25:25 13:5 3:25 72:17 10:17 1b:25 11:1b 12:6 73:17",
-            "2 2e has 11:1b 12:6 40:18 7a:19 3:25 3a:b 3b:b 27:19 49:13 3f:19",
-            "3 5 no 2:18 3:25 3a:b 3b:b 49:13",
-            "4 24 no 3:25 3e:b b:b",
-        ],
-    )?;
-    check_table(
-        &rt,
-        rt.alloc(),
-        &section,
-        0x4b,
-        &[
-            "1 11 has 25:25 13:5 3:25 72:17 10:17 1b:25 11:1b 12:6 73:17",
-            "2 2e has 11:1b 12:6 40:18 7a:19 3:25 3a:b 3b:b 27:19 49:13 3f:19",
-            "3 48 has 7f:13 7d:1b",
-            "4 49 no 2:18 7e:18",
-            "5 2e has 3:25 3a:b 3b:b 27:19 49:13 3c:19 3f:19",
-            "6 5 no 49:13",
-            "7 24 no 3:25 3e:b b:b",
-        ],
-    )?;
+fn abbreviations_of_gcc_and_clang(rt: HostRuntime) -> Result<(), Fail> {
+    let programs: [(&[u8], &[Table<'_>]); 4] = [
+        // gcc, DWARF 4
+        (
+            b"011101250e130b030e1b0e1101120710170000022e013f19030e3a0b3b0b390b2719491311011207401897421901130000030500030e3a0b3b0b390b4913021800000424000b0b3e0b0308000000011101250e130b030e1b0e1101120710170000022e013f19030e3a0b3b0b390b271949133c1901130000030500491300000424000b0b3e0b03080000052e013f19030e3a0b3b0b390b2719491311011207401897421900000689820101110131130000078a8201000218914218000000",
+            &[
+                (
+                    0x0,
+                    &[
+                        "1 11 has 25:e 13:b 3:e 1b:e 11:1 12:7 10:17",
+                        "2 2e has 3f:19 3:e 3a:b 3b:b 39:b 27:19 49:13 11:1 12:7 40:18 2117:19 1:13",
+                        "3 5 no 3:e 3a:b 3b:b 39:b 49:13 2:18",
+                        "4 24 no b:b 3e:b 3:8",
+                    ],
+                ),
+                (
+                    0x4e,
+                    &[
+                        "1 11 has 25:e 13:b 3:e 1b:e 11:1 12:7 10:17",
+                        "2 2e has 3f:19 3:e 3a:b 3b:b 39:b 27:19 49:13 3c:19 1:13",
+                        "3 5 no 49:13",
+                        "4 24 no b:b 3e:b 3:8",
+                        "5 2e has 3f:19 3:e 3a:b 3b:b 39:b 27:19 49:13 11:1 12:7 40:18 2117:19",
+                        "6 4109 has 11:1 31:13",
+                        "7 410a no 2:18 2111:18",
+                    ],
+                ),
+            ],
+        ),
+        // gcc, DWARF 5
+        (
+            b"010500030e3a21013b2101390b491302180000021101250e130b031f1b1f1101120710170000032e013f19030e3a0b3b0b390b271949131101120740187a19011300000424000b0b3e0b03080000000105004913000002490002187e180000031101250e130b031f1b1f1101120710170000042e013f19030e3a0b3b0b390b271949133c19011300000524000b0b3e0b03080000062e013f19030e3a0b3b0b390b271949131101120740187a1900000748017d017f13000000",
+            &[
+                (
+                    0x0,
+                    &[
+                        "1 5 no 3:e 3a:21=1 3b:21=1 39:b 49:13 2:18",
+                        "2 11 has 25:e 13:b 3:1f 1b:1f 11:1 12:7 10:17",
+                        "3 2e has 3f:19 3:e 3a:b 3b:b 39:b 27:19 49:13 11:1 12:7 40:18 7a:19 1:13",
+                        "4 24 no b:b 3e:b 3:8",
+                    ],
+                ),
+                (
+                    0x4f,
+                    &[
+                        "1 5 no 49:13",
+                        "2 49 no 2:18 7e:18",
+                        "3 11 has 25:e 13:b 3:1f 1b:1f 11:1 12:7 10:17",
+                        "4 2e has 3f:19 3:e 3a:b 3b:b 39:b 27:19 49:13 3c:19 1:13",
+                        "5 24 no b:b 3e:b 3:8",
+                        "6 2e has 3f:19 3:e 3a:b 3b:b 39:b 27:19 49:13 11:1 12:7 40:18 7a:19",
+                        "7 48 has 7d:1 7f:13",
+                    ],
+                ),
+            ],
+        ),
+        // clang, DWARF 4
+        (
+            b"011101250e1305030e10171b0e110112060000022e01110112064018974219030e3a0b3b0b271949133f1900000305000218030e3a0b3b0b49130000042400030e3e0b0b0b000000011101250e1305030e10171b0e110112060000022e01110112064018974219030e3a0b3b0b271949133f1900000389820101311311010000048a82010002189142180000052e01030e3a0b3b0b271949133c193f19000006050049130000072400030e3e0b0b0b000000",
+            &[
+                (
+                    0x0,
+                    &[
+                        "1 11 has 25:e 13:5 3:e 10:17 1b:e 11:1 12:6",
+                        "2 2e has 11:1 12:6 40:18 2117:19 3:e 3a:b 3b:b 27:19 49:13 3f:19",
+                        "3 5 no 2:18 3:e 3a:b 3b:b 49:13",
+                        "4 24 no 3:e 3e:b b:b",
+                    ],
+                ),
+                (
+                    0x48,
+                    &[
+                        "1 11 has 25:e 13:5 3:e 10:17 1b:e 11:1 12:6",
+                        "2 2e has 11:1 12:6 40:18 2117:19 3:e 3a:b 3b:b 27:19 49:13 3f:19",
+                        "3 4109 has 31:13 11:1",
+                        "4 410a no 2:18 2111:18",
+                        "5 2e has 3:e 3a:b 3b:b 27:19 49:13 3c:19 3f:19",
+                        "6 5 no 49:13",
+                        "7 24 no 3:e 3e:b b:b",
+                    ],
+                ),
+            ],
+        ),
+        // clang, DWARF 5
+        (
+            b"011101252513050325721710171b25111b120673170000022e01111b120640187a1903253a0b3b0b271949133f190000030500021803253a0b3b0b4913000004240003253e0b0b0b000000011101252513050325721710171b25111b120673170000022e01111b120640187a1903253a0b3b0b271949133f1900000348017f137d1b000004490002187e180000052e0103253a0b3b0b271949133c193f1900000605004913000007240003253e0b0b0b000000",
+            &[
+                (
+                    0x0,
+                    &[
+                        "1 11 has 25:25 13:5 3:25 72:17 10:17 1b:25 11:1b 12:6 73:17",
+                        "2 2e has 11:1b 12:6 40:18 7a:19 3:25 3a:b 3b:b 27:19 49:13 3f:19",
+                        "3 5 no 2:18 3:25 3a:b 3b:b 49:13",
+                        "4 24 no 3:25 3e:b b:b",
+                    ],
+                ),
+                (
+                    0x4b,
+                    &[
+                        "1 11 has 25:25 13:5 3:25 72:17 10:17 1b:25 11:1b 12:6 73:17",
+                        "2 2e has 11:1b 12:6 40:18 7a:19 3:25 3a:b 3b:b 27:19 49:13 3f:19",
+                        "3 48 has 7f:13 7d:1b",
+                        "4 49 no 2:18 7e:18",
+                        "5 2e has 3:25 3a:b 3b:b 27:19 49:13 3c:19 3f:19",
+                        "6 5 no 49:13",
+                        "7 24 no 3:25 3e:b b:b",
+                    ],
+                ),
+            ],
+        ),
+    ];
+    for (section, tables) in programs {
+        let section = hex::decode(rt.alloc(), section)?;
+        for (offset, lines) in tables.iter() {
+            check_table(&rt, rt.alloc(), &section, *offset, lines)?;
+        }
+    }
     Ok(())
 }
 
@@ -258,9 +214,9 @@ fn line_strings_of_gcc(rt: HostRuntime) -> Result<(), Fail> {
 
 #[test]
 fn string_offsets_of_clang(rt: HostRuntime) -> Result<(), Fail> {
-    let section = bytes_of(
+    let section = hex::decode(
         rt.alloc(),
-        "2000000005000000000000001c00000023000000280000002d00000031000000370000001c00000005000000000000003e00000023000000280000002d00000045000000",
+        b"2000000005000000000000001c00000023000000280000002d00000031000000370000001c00000005000000000000003e00000023000000280000002d00000045000000",
     )?;
     let section = DebugStrOffsets::from(EndianSlice::new(&section, LittleEndian));
     for (i, expected) in [0x0, 0x1c, 0x23, 0x28, 0x2d, 0x31, 0x37].iter().enumerate() {
@@ -278,9 +234,9 @@ fn string_offsets_of_clang(rt: HostRuntime) -> Result<(), Fail> {
 
 #[test]
 fn addresses_of_clang(rt: HostRuntime) -> Result<(), Fail> {
-    let section = bytes_of(
+    let section = hex::decode(
         rt.alloc(),
-        "0c000000050008000010400000000000140000000500080010104000000000002010400000000000",
+        b"0c000000050008000010400000000000140000000500080010104000000000002010400000000000",
     )?;
     let section = DebugAddr::from(EndianSlice::new(&section, LittleEndian));
     let mut sets = section.headers();

@@ -27,7 +27,7 @@ fn stands<T: PartialEq + Debug + Drop>(
 #[test]
 fn unsigned(rt: HostRuntime) {
     let bad = Err(Error::BadUnsignedLeb128);
-    let rows: [Row<'_, u64>; 24] = [
+    let rows: [Row<'_, u64>; 25] = [
         (b"", eof(0), 0),
         (b"\x00", Ok(0), 1),
         (b"\x02", Ok(2), 1),
@@ -60,6 +60,7 @@ fn unsigned(rt: HostRuntime) {
             10,
         ),
         (b"\x80\x80\x80\x80\x80\x80\x80\x80\x80\x02", bad, 10),
+        (b"\xff\xff\xff\xff\xff\xff\xff\xff\xff\x02", bad, 10),
         (b"\xff\xff\xff\xff\xff\xff\xff\xff\xff\x7f", bad, 10),
         (b"\x80\x80\x80\x80\x80\x80\x80\x80\x80\x80", bad, 10),
         (b"\x80\x80\x80\x80\x80\x80\x80\x80\x80\x80\x00", bad, 10),

@@ -1,49 +1,52 @@
+//! Numbers of variable length as they are written: the standard's examples (DWARF 5, 7.6), and those at the edges.
+
 use crate::little;
 use dwarf_readers::leb128::{Leb128, read, sleb128_size, uleb128_size};
 
 #[test]
-fn unsigned_examples(rt: HostRuntime) {
-    assert_eq!(rt; Leb128::unsigned(2).bytes(), [0x02].as_slice());
-    assert_eq!(rt; Leb128::unsigned(127).bytes(), [0x7f].as_slice());
-    assert_eq!(rt; Leb128::unsigned(128).bytes(), [0x80, 0x01].as_slice());
-    assert_eq!(rt; Leb128::unsigned(129).bytes(), [0x81, 0x01].as_slice());
-    assert_eq!(rt; Leb128::unsigned(12_857).bytes(), [0xb9, 0x64].as_slice());
-    assert_eq!(rt; uleb128_size(12_857), 2);
+fn unsigned(rt: HostRuntime) {
+    let rows: [(u64, &[u8]); 8] = [
+        (0, b"\x00"),
+        (2, b"\x02"),
+        (127, b"\x7f"),
+        (128, b"\x80\x01"),
+        (129, b"\x81\x01"),
+        (12_857, b"\xb9\x64"),
+        (624_485, b"\xe5\x8e\x26"),
+        (u64::MAX, b"\xff\xff\xff\xff\xff\xff\xff\xff\xff\x01"),
+    ];
+    for (value, bytes) in rows {
+        let spelling = Leb128::unsigned(value);
+        assert_eq!(rt; spelling.bytes(), bytes);
+        assert_eq!(rt; spelling.len(), bytes.len());
+        assert_eq!(rt; uleb128_size(value), bytes.len());
+        assert_eq!(rt; read::unsigned(&mut little(bytes)), Ok(value));
+    }
 }
 
 #[test]
-fn signed_examples(rt: HostRuntime) {
-    assert_eq!(rt; Leb128::signed(2).bytes(), [0x02].as_slice());
-    assert_eq!(rt; Leb128::signed(-2).bytes(), [0x7e].as_slice());
-    assert_eq!(rt; Leb128::signed(127).bytes(), [0xff, 0x00].as_slice());
-    assert_eq!(rt; Leb128::signed(-127).bytes(), [0x81, 0x7f].as_slice());
-    assert_eq!(rt; Leb128::signed(128).bytes(), [0x80, 0x01].as_slice());
-    assert_eq!(rt; Leb128::signed(-128).bytes(), [0x80, 0x7f].as_slice());
-    assert_eq!(rt; Leb128::signed(129).bytes(), [0x81, 0x01].as_slice());
-    assert_eq!(rt; Leb128::signed(-129).bytes(), [0xff, 0x7e].as_slice());
-}
-
-#[test]
-fn signed_edges(rt: HostRuntime) {
-    assert_eq!(rt; Leb128::signed(63).bytes(), [0x3f].as_slice());
-    assert_eq!(rt; Leb128::signed(64).bytes(), [0xc0, 0x00].as_slice());
-    assert_eq!(rt; Leb128::signed(-64).bytes(), [0x40].as_slice());
-    assert_eq!(rt; Leb128::signed(-65).bytes(), [0xbf, 0x7f].as_slice());
-    let least = [0x80, 0x80, 0x80, 0x80, 0x80, 0x80, 0x80, 0x80, 0x80, 0x7f];
-    assert_eq!(rt; Leb128::signed(i64::MIN).bytes(), least.as_slice());
-    let most = [0xff, 0xff, 0xff, 0xff, 0xff, 0xff, 0xff, 0xff, 0xff, 0x00];
-    assert_eq!(rt; Leb128::signed(i64::MAX).bytes(), most.as_slice());
-    assert_eq!(rt; read::signed(&mut little(&most)), Ok(i64::MAX));
-}
-
-#[test]
-fn signed_sizes(rt: HostRuntime) {
-    assert_eq!(rt; sleb128_size(0), 1);
-    assert_eq!(rt; sleb128_size(-1), 1);
-    assert_eq!(rt; sleb128_size(63), 1);
-    assert_eq!(rt; sleb128_size(64), 2);
-    assert_eq!(rt; sleb128_size(-64), 1);
-    assert_eq!(rt; sleb128_size(-65), 2);
-    assert_eq!(rt; sleb128_size(i64::MIN), 10);
-    assert_eq!(rt; sleb128_size(i64::MAX), 10);
+fn signed(rt: HostRuntime) {
+    let rows: [(i64, &[u8]); 16] = [
+        (0, b"\x00"),
+        (-1, b"\x7f"),
+        (2, b"\x02"),
+        (-2, b"\x7e"),
+        (63, b"\x3f"),
+        (64, b"\xc0\x00"),
+        (-64, b"\x40"),
+        (-65, b"\xbf\x7f"),
+        (127, b"\xff\x00"),
+        (-127, b"\x81\x7f"),
+        (128, b"\x80\x01"),
+        (-128, b"\x80\x7f"),
+        (129, b"\x81\x01"),
+        (-129, b"\xff\x7e"),
+        (i64::MIN, b"\x80\x80\x80\x80\x80\x80\x80\x80\x80\x7f"),
+        (i64::MAX, b"\xff\xff\xff\xff\xff\xff\xff\xff\xff\x00"),
+    ];
+    for (value, bytes) in rows {
+        assert_eq!(rt; Leb128::signed(value).bytes(), bytes);
+        assert_eq!(rt; sleb128_size(value), bytes.len());
+        assert_eq!(rt; read::signed(&mut little(bytes)), Ok(value));
+    }
 }
