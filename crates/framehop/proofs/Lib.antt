@@ -8,4 +8,3 @@ pub mod IndexedModules
 pub mod ModulesInOrder
 pub mod RowsOfRules
 pub mod Steps
-pub mod WorkedSteps

@@ -1,17 +1,15 @@
 //! Steps over one module, on the worked stack.
-use crate::worked::{EH_FRAME, word_at};
+use crate::worked::word_at;
+use dwarf_tests::WORKED;
 use framehop::x86_64::{CacheX86_64, UnwindRegsX86_64, UnwinderX86_64};
 use framehop::{FrameAddress, Module};
 use std::test::Fail;
 
-/// The worked section, and a function at 0x1010 whose CFA is the expression RSP + 8.
-const BY_EXPRESSION: [u8; 84] = [
-    0x10, 0x00, 0x00, 0x00, 0x00, 0x00, 0x00, 0x00, 0x01, 0x00, 0x01, 0x78, 0x10, 0x0c, 0x07, 0x08,
-    0x90, 0x01, 0x00, 0x00, 0x1c, 0x00, 0x00, 0x00, 0x18, 0x00, 0x00, 0x00, 0x00, 0x10, 0x00, 0x00,
-    0x00, 0x00, 0x00, 0x00, 0x10, 0x00, 0x00, 0x00, 0x00, 0x00, 0x00, 0x00, 0x41, 0x0e, 0x10, 0x86,
-    0x02, 0x43, 0x0d, 0x06, 0x18, 0x00, 0x00, 0x00, 0x38, 0x00, 0x00, 0x00, 0x10, 0x10, 0x00, 0x00,
-    0x00, 0x00, 0x00, 0x00, 0x10, 0x00, 0x00, 0x00, 0x00, 0x00, 0x00, 0x00, 0x0f, 0x02, 0x77, 0x08,
-    0x00, 0x00, 0x00, 0x00,
+/// An FDE that follows the worked section's: a function of sixteen bytes at 0x1010, whose CFA is the
+/// expression RSP + 8.
+const BY_EXPRESSION: [u8; 32] = [
+    0x18, 0, 0, 0, 0x38, 0, 0, 0, 0x10, 0x10, 0, 0, 0, 0, 0, 0, 0x10, 0, 0, 0, 0, 0, 0, 0, 0x0f, 2,
+    0x77, 8, 0, 0, 0, 0,
 ];
 
 /// The registers ip, sp and bp.
@@ -37,28 +35,30 @@ fn step(
 
 #[test]
 fn a_row_gives_the_caller(rt: HostRuntime) -> Result<(), Fail> {
+    let mut both = WORKED[..52].to_vec(rt.alloc())?;
+    both.extend_from_slice(&BY_EXPRESSION)?;
     for (place, section, frame, caller) in [
         (
             "before the push RSP is raised",
-            EH_FRAME.as_slice(),
+            WORKED.as_slice(),
             (0x101000, 0x10, 0x20),
             (0x100300, 0x18, 0x20),
         ),
         (
             "after the push RBP is restored",
-            EH_FRAME.as_slice(),
+            WORKED.as_slice(),
             (0x101002, 0x20, 0x20),
             (0x100200, 0x30, 0x40),
         ),
         (
             "in the body the frame pointer is followed",
-            EH_FRAME.as_slice(),
+            WORKED.as_slice(),
             (0x101004, 0x18, 0x20),
             (0x100200, 0x30, 0x40),
         ),
         (
             "by an expression RSP is raised",
-            BY_EXPRESSION.as_slice(),
+            both.as_slice(),
             (0x101010, 0x10, 0x20),
             (0x100300, 0x18, 0x20),
         ),
