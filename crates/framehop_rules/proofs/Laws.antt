@@ -1,7 +1,8 @@
--- Laws of calls that may read the stack. Each is the contract of a function of the crate.
+-- Laws of pop lists, and of calls that may read the stack. Each is the contract of a function of the crate.
 use Rattle.std.proofs.Common.{◌≡◌, ℕ, ◌<◌, ◌^◌, [], ◌∷◌, refl}
 use Rattle.std.specs.Prelude.{Result}
 use Rattle.framehop_rules.specs.Callback.{Words, read_answer, OverWords}
+pub use Rattle.framehop_rules.proofs.OrderNumbers.{pop_list-fits, pop_list-order_number, order-pop_list, order_number-pop_list, same_order}
 
 module _ {S : Type 0} {step : S → ℕ → Result ℕ (Unit {0}) → S → Type 0} where
   -- a call that doesn't read

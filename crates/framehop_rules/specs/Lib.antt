@@ -1,5 +1,7 @@
 pub mod Callback
 pub mod FrameAddress
 pub mod Outcome
+pub mod PopLists
+pub mod PopListViews
 pub mod Registers
 pub mod RuleMeaning
