@@ -1,5 +1,6 @@
 pub mod Numbers
 pub mod Places
+pub mod Pieces
 pub mod Strings
 pub mod Values
 pub mod SignedValues

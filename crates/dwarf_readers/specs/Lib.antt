@@ -7,6 +7,7 @@ pub mod Leb128
 pub mod InitialLength
 pub mod Groups
 pub mod EndianSlice
+pub mod TwoPieces
 pub mod Spelling
 pub mod Unsigned
 pub mod Signed

@@ -12,6 +12,7 @@ mod reader_offset;
 pub mod remainders;
 mod steps;
 mod str_offsets_base;
+mod two_pieces;
 
 pub use endian_slice::EndianSlice;
 pub use endianity::{BigEndian, Endianity, LittleEndian, NativeEndian, RunTimeEndian};
@@ -19,3 +20,4 @@ pub use reader::{Reader, read_u8_array};
 pub use reader_offset::ReaderOffset;
 pub use steps::Steps;
 pub use str_offsets_base::DebugStrOffsetsBase;
+pub use two_pieces::TwoPieces;

@@ -1,0 +1,20 @@
+-- What two pieces of a section are as a reader.
+use Rattle.std.specs.Prelude.{ℕ, ◌+◌, ◌<◌, Bool, List, ◌++◌, length}
+use Rattle.dwarf_readers.specs.declared.two_pieces.TwoPieces.{TwoPieces}
+use Rattle.dwarf_readers.specs.Place.{Stretch, end_of}
+
+-- the bytes of the first piece, and behind them those of the second
+abbrev pub bytes_of : {E : Type 0} → TwoPieces E → List ℕ
+bytes_of s = s.first.now ++ s.second.now
+
+-- its bytes, its place and its byte order
+abbrev pub stretch_of : {E : Type 0} → (E → Bool) → TwoPieces E → Stretch
+stretch_of is_big s = record { bytes = bytes_of s; place = s.place; big = is_big s.endian }
+
+-- the joint: the place where the first piece ends and the second begins
+abbrev pub joint_of : {E : Type 0} → TwoPieces E → ℕ
+joint_of s = s.place + length s.first.now
+
+-- There are bytes on both sides of this place.
+abbrev pub Crosses : ℕ → Stretch → Type 0
+Crosses place s = (s.place < place) × (place < end_of s)
