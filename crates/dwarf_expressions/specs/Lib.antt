@@ -1,1 +1,3 @@
 pub mod Capacity
+pub mod Operations
+pub mod Values

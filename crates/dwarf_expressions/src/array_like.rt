@@ -74,7 +74,8 @@ pub trait ArrayLike: Drop {
 
     /// The item at an index, for writing, if there is one.
     fn item_mut(&mut self, index: usize) -> Option<&mut Self::Item>
-        ensures* writes_back { sem 𝓛 (LendsIf Self.row Self.Item.row self.entry result (with_item self.old index) self.old) }
+        ensures* writes_back { sem 𝓛 (LendsIf Self.row Self.Item.row self.entry result
+            (with_item self.old index) self.old) }
         ensures item { IsItemAtMut (items self.old) index result };
 
     /// A write of an item changes that item alone.
@@ -177,7 +178,8 @@ impl<T: Default + Drop, const N: usize> ArrayLike for Box<ArrayVec<T, N>> {
         ArrayVec::clear(list);
     }
 
-    ghost with_item = { λ list index item. with_value list (with_array_item list.value index item) };
+    ghost with_item = { λ list index item.
+        with_value list (with_array_item list.value index item) };
 
     ghost items_with = { λ list index item. refl };
 

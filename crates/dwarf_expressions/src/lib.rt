@@ -3,6 +3,8 @@
 
 mod array_like;
 mod op;
+mod value;
 
 pub use array_like::{ArrayLike, PushError};
-pub use op::Expression;
+pub use op::{Expression, Operation, OperationIter};
+pub use value::Value;

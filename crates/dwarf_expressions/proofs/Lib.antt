@@ -1,0 +1,2 @@
+pub mod OperationLists
+pub mod Words
