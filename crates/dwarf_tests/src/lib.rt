@@ -6,6 +6,7 @@ pub mod backward;
 mod call_frames;
 #[cfg(test)]
 mod constants;
+pub mod over_readers;
 #[cfg(test)]
 mod read_core;
 #[cfg(test)]
@@ -13,4 +14,5 @@ mod readers;
 pub mod worked;
 
 pub use backward::Backward;
+pub use over_readers::{Outcome, ReaderTest, over_each_reader};
 pub use worked::{WORKED, little};

@@ -2,50 +2,72 @@
 
 mod equality;
 mod numbers;
-mod second_reader;
+mod same_answers;
 mod spelled;
 mod steps;
+mod two_pieces;
 
-use crate::little;
+use crate::{Outcome, ReaderTest, over_each_reader};
 use dwarf_constants::{DwarfFileType, Encoding, Error, Format, ReaderOffsetId};
 use dwarf_readers::{
     BigEndian, DebugStrOffsetsBase, EndianSlice, Endianity, LittleEndian, NativeEndian, Reader,
     ReaderOffset, RunTimeEndian, read_u8_array,
 };
-use std::test::Fail;
+use std::alloc::Global;
+use std::process::Abort;
 
 fn eof<T>(place: u64) -> Result<T, Error> {
     Err(Error::UnexpectedEof(ReaderOffsetId(place)))
 }
 
-#[test]
-fn texts(rt: HostRuntime) -> Result<(), Fail> {
-    let bytes = [0x61, 0xff];
-    let reader = little(&bytes);
-    let text = Reader::to_string_lossy(&reader, rt.alloc())?;
-    assert_eq!(rt; text.as_str(), "a\u{fffd}");
-    assert_eq!(rt; EndianSlice::to_string(&reader).err(), Some(Error::BadUtf8));
-    let whole = reader.to_slice(rt.alloc())?;
-    assert_eq!(rt; whole.as_slice(), bytes.as_slice());
-    Ok(())
+// The byte 0x61, and one that no text has.
+#[derive(Drop)]
+struct TextTest;
+
+impl<H: Abort> ReaderTest<H> for TextTest {
+    fn run<R: Reader>(&self, rt: &H, alloc: Global, reader: R) -> Outcome {
+        let text = reader.to_string_lossy(alloc)?;
+        assert_eq!(rt; text.as_str(), "a\u{fffd}");
+        assert_eq!(rt; reader.to_string(alloc).err(), Some(Error::BadUtf8));
+        let whole = reader.to_slice(alloc)?;
+        assert_eq!(rt; whole.as_slice(), [0x61, 0xff].as_slice());
+        Ok(())
+    }
 }
 
 #[test]
-fn byte_orders(rt: HostRuntime) -> Result<(), Fail> {
-    let bytes = [1, 2, 3, 4, 5, 6, 7, 8, 9, 10, 11, 12, 13, 14, 15, 16];
-    let mut low = EndianSlice::new(&bytes, RunTimeEndian::Little);
-    let mut high = EndianSlice::new(&bytes, RunTimeEndian::Big);
-    assert_eq!(rt; low.read_u16()?, 0x0201);
-    assert_eq!(rt; high.read_u16()?, 0x0102);
-    assert_eq!(rt; low.read_u32()?, 0x0605_0403);
-    assert_eq!(rt; high.read_u32()?, 0x0304_0506);
-    assert_eq!(rt; low.read_u64()?, 0x0e0d_0c0b_0a09_0807);
-    assert_eq!(rt; high.read_u64()?, 0x0708_090a_0b0c_0d0e);
+fn texts(rt: HostRuntime) -> Outcome {
+    let bytes = [0x61, 0xff];
     assert_eq!(rt;
-        low.read_u32().err(),
-        Some(Error::UnexpectedEof(ReaderOffsetId(14)))
+        EndianSlice::new(&bytes, LittleEndian).to_string().err(),
+        Some(Error::BadUtf8)
     );
-    assert_eq!(rt; high.read_uint(2)?, 0x0f10);
+    over_each_reader(&rt, rt.alloc(), &TextTest, &bytes, RunTimeEndian::Little)
+}
+
+// The numbers of 2, 4, 8 and 2 bytes that 16 bytes begin with.
+#[derive(Drop)]
+struct ByteOrderTest(u16, u32, u64, u64);
+
+impl<H: Abort> ReaderTest<H> for ByteOrderTest {
+    fn run<R: Reader>(&self, rt: &H, _alloc: Global, reader: R) -> Outcome {
+        let mut reader = reader;
+        assert_eq!(rt; reader.read_u16()?, self.0);
+        assert_eq!(rt; reader.read_u32()?, self.1);
+        assert_eq!(rt; reader.read_u64()?, self.2);
+        assert_eq!(rt; reader.read_u32(), eof(14));
+        assert_eq!(rt; reader.read_uint(2)?, self.3);
+        Ok(())
+    }
+}
+
+#[test]
+fn byte_orders(rt: HostRuntime) -> Outcome {
+    let bytes = [1, 2, 3, 4, 5, 6, 7, 8, 9, 10, 11, 12, 13, 14, 15, 16];
+    let low = ByteOrderTest(0x0201, 0x0605_0403, 0x0e0d_0c0b_0a09_0807, 0x100f);
+    over_each_reader(&rt, rt.alloc(), &low, &bytes, RunTimeEndian::Little)?;
+    let high = ByteOrderTest(0x0102, 0x0304_0506, 0x0708_090a_0b0c_0d0e, 0x0f10);
+    over_each_reader(&rt, rt.alloc(), &high, &bytes, RunTimeEndian::Big)?;
     let mut out = [0; 2];
     BigEndian.write_u16(&mut out, 0x1234);
     assert_eq!(rt; out.as_slice(), [0x12, 0x34].as_slice());
@@ -54,52 +76,101 @@ fn byte_orders(rt: HostRuntime) -> Result<(), Fail> {
     Ok(())
 }
 
+// The bytes 1 to 5.
+#[derive(Drop)]
+struct PlaceTest;
+
+impl<H: Abort> ReaderTest<H> for PlaceTest {
+    fn run<R: Reader>(&self, rt: &H, alloc: Global, reader: R) -> Outcome {
+        let mut rest = reader;
+        let part = rest.split(ReaderOffset::from_u8(2))?;
+        assert_eq!(rt; part.to_slice(alloc)?.as_slice(), [1, 2].as_slice());
+        assert_eq!(rt; part.offset_id(), ReaderOffsetId(0));
+        assert_eq!(rt; rest.offset_id(), ReaderOffsetId(2));
+        assert_eq!(rt; rest.offset_from(&reader).into_u64(), 2);
+        let end = rest.lookup_offset_id(ReaderOffsetId(5));
+        assert_eq!(rt; end.map(|offset| offset.into_u64()), Some(3));
+        assert_eq!(rt; rest.lookup_offset_id(ReaderOffsetId(1)).is_none(), true);
+        assert_eq!(rt; rest.skip(ReaderOffset::from_u8(4)), eof(2));
+        let array = read_u8_array::<3, R>(&mut rest)?;
+        assert_eq!(rt; array.as_slice(), [3, 4, 5].as_slice());
+        assert_eq!(rt; rest.is_empty(), true);
+        Ok(())
+    }
+}
+
 #[test]
-fn places(rt: HostRuntime) -> Result<(), Fail> {
+fn places(rt: HostRuntime) -> Outcome {
     let bytes = [1, 2, 3, 4, 5];
+    over_each_reader(&rt, rt.alloc(), &PlaceTest, &bytes, RunTimeEndian::Little)?;
     let whole = EndianSlice::new_at(&bytes, LittleEndian, 100);
-    let mut rest = whole;
-    let part = rest.split(2)?;
-    assert_eq!(rt; part.slice(), [1, 2].as_slice());
-    assert_eq!(rt; rest.offset_id(), ReaderOffsetId(102));
-    assert_eq!(rt; Reader::offset_from(&rest, &whole), 2);
-    assert_eq!(rt; rest.lookup_offset_id(ReaderOffsetId(105)), Some(3));
-    assert_eq!(rt; rest.lookup_offset_id(ReaderOffsetId(101)), None);
-    assert_eq!(rt; rest.skip(4), eof(102));
-    assert_eq!(rt;
-        read_u8_array::<3, EndianSlice<'_, LittleEndian>>(&mut rest)?.as_slice(),
-        [3, 4, 5].as_slice()
-    );
-    assert_eq!(rt; rest.is_empty(), true);
+    let (part, rest) = whole.split_at(2);
     assert_eq!(rt; part == EndianSlice::new(&[1, 2], LittleEndian), true);
+    assert_eq!(rt; rest.offset_id(), ReaderOffsetId(102));
+    assert_eq!(rt; rest.lookup_offset_id(ReaderOffsetId(105)), Some(3));
     assert_eq!(rt; u32::from_u64(1 << 32), Err(Error::UnsupportedOffset));
     assert_eq!(rt; u32::from_i16(-1), 0xffff_ffff);
     Ok(())
 }
 
+// What a read of a length or a size answers.
+#[derive(Drop)]
+enum LengthTest {
+    Initial(Result<(u64, Format), Error>),
+    AddressSize(Result<u8, Error>),
+    SizedOffset(u8, Result<u64, Error>),
+}
+
+impl<H: Abort> ReaderTest<H> for LengthTest {
+    fn run<R: Reader>(&self, rt: &H, _alloc: Global, reader: R) -> Outcome {
+        let mut reader = reader;
+        match self {
+            LengthTest::Initial(want) => {
+                let length = reader.read_initial_length();
+                assert_eq!(rt;
+                    length.map(|(length, format)| (length.into_u64(), format)),
+                    *want
+                );
+            }
+            LengthTest::AddressSize(want) => assert_eq!(rt; reader.read_address_size(), *want),
+            LengthTest::SizedOffset(size, want) => {
+                let offset = reader.read_sized_offset(*size);
+                assert_eq!(rt; offset.map(|offset| offset.into_u64()), *want);
+            }
+        }
+        Ok(())
+    }
+}
+
 #[test]
-fn lengths(rt: HostRuntime) -> Result<(), Fail> {
-    let long = [0xff, 0xff, 0xff, 0xff, 7, 0, 0, 0, 0, 0, 0, 0];
-    assert_eq!(rt; little(&long).read_initial_length()?, (7, Format::Dwarf64));
-    assert_eq!(rt;
-        little(&[0xef, 0xff, 0xff, 0xff]).read_initial_length()?,
-        (0xffff_ffef, Format::Dwarf32)
-    );
-    assert_eq!(rt;
-        little(&[0xf0, 0xff, 0xff, 0xff])
-            .read_initial_length()
-            .err(),
-        Some(Error::UnknownReservedLength)
-    );
-    assert_eq!(rt;
-        little(&[3]).read_address_size().err(),
-        Some(Error::UnsupportedAddressSize(3))
-    );
-    assert_eq!(rt;
-        little(&[3]).read_sized_offset(3).err(),
-        Some(Error::UnsupportedOffsetSize(3))
-    );
-    assert_eq!(rt; little(&[3, 0]).read_sized_offset(2)?, 3);
+fn lengths(rt: HostRuntime) -> Outcome {
+    let rows: [(&[u8], LengthTest); 7] = [
+        (
+            &[0xff, 0xff, 0xff, 0xff, 7, 0, 0, 0, 0, 0, 0, 0],
+            LengthTest::Initial(Ok((7, Format::Dwarf64))),
+        ),
+        (
+            &[0xef, 0xff, 0xff, 0xff],
+            LengthTest::Initial(Ok((0xffff_ffef, Format::Dwarf32))),
+        ),
+        (
+            &[0xf0, 0xff, 0xff, 0xff],
+            LengthTest::Initial(Err(Error::UnknownReservedLength)),
+        ),
+        (&[0xff, 0xff, 0xff, 0xff, 7], LengthTest::Initial(eof(4))),
+        (
+            &[3],
+            LengthTest::AddressSize(Err(Error::UnsupportedAddressSize(3))),
+        ),
+        (
+            &[3],
+            LengthTest::SizedOffset(3, Err(Error::UnsupportedOffsetSize(3))),
+        ),
+        (&[3, 0], LengthTest::SizedOffset(2, Ok(3))),
+    ];
+    for (bytes, test) in rows.iter() {
+        over_each_reader(&rt, rt.alloc(), test, bytes, RunTimeEndian::Little)?;
+    }
     Ok(())
 }
 

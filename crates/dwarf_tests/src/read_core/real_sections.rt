@@ -1,22 +1,20 @@
 // Sections of a program of two files that gcc 12.2.0 and clang 14.0.6 built, and what readelf 2.40 and llvm-dwarfdump
 // 14.0.6 read in them. `scripts/real-sections` prints this file.
 
+use super::run;
+use crate::{Outcome, ReaderTest};
 use dwarf_constants::{
     DebugAbbrevOffset, DebugAddrBase, DebugAddrIndex, DebugLineStrOffset, DebugStrOffset,
     DebugStrOffsetsIndex, Format,
 };
 use dwarf_read_core::{
-    Abbreviation, AddrHeader, DebugAbbrev, DebugAddr, DebugLineStr, DebugStr, DebugStrOffsets,
+    Abbreviation, Abbreviations, AddrHeader, DebugAbbrev, DebugAddr, DebugLineStr, DebugStr,
+    DebugStrOffsets,
 };
-use dwarf_readers::{DebugStrOffsetsBase, EndianSlice, LittleEndian};
+use dwarf_readers::{DebugStrOffsetsBase, Reader, ReaderOffset};
 use std::alloc::Global;
 use std::process::Abort;
 use std::test::Fail;
-
-type Slice<'a> = EndianSlice<'a, LittleEndian>;
-
-// The offset of a table, and a line for each of its declarations.
-type Table<'a> = (usize, &'a [&'a str]);
 
 // The code, the tag, whether entries have children, and the names and forms, with the values that are given.
 fn line_of(alloc: Global, declaration: &Abbreviation) -> Result<String, Fail> {
@@ -35,16 +33,8 @@ fn line_of(alloc: Global, declaration: &Abbreviation) -> Result<String, Fail> {
     Ok(line)
 }
 
-// The table of these declarations, of codes that count up from 1, and no other.
-fn check_table(
-    rt: &impl Abort,
-    alloc: Global,
-    section: &[u8],
-    offset: usize,
-    lines: &[&str],
-) -> Result<(), Fail> {
-    let section = DebugAbbrev::new(section, LittleEndian);
-    let table = section.abbreviations(alloc, DebugAbbrevOffset(offset))?;
+// A table has these declarations, of codes that count up from 1, and no other.
+fn check_table(rt: &impl Abort, alloc: Global, table: &Abbreviations, lines: &[&str]) -> Outcome {
     for (i, expected) in lines.iter().enumerate() {
         let declaration = table.get(i as u64 + 1).ok_or("a declaration")?;
         let line = line_of(alloc, declaration)?;
@@ -55,8 +45,73 @@ fn check_table(
     Ok(())
 }
 
-// The addresses of a set, and no other.
-fn check_set(rt: &impl Abort, set: &AddrHeader<Slice<'_>>, addresses: &[u64]) -> Result<(), Fail> {
+// The offset of each table, and a line for each of its declarations.
+#[derive(Drop)]
+struct Tables<'a>(&'a [(u64, &'a [&'a str])]);
+
+impl<H: Abort> ReaderTest<H> for Tables<'_> {
+    fn run<R: Reader>(&self, rt: &H, alloc: Global, reader: R) -> Outcome {
+        let section = DebugAbbrev::from(reader);
+        for (offset, lines) in self.0.iter() {
+            let offset = DebugAbbrevOffset(ReaderOffset::from_u64(*offset)?);
+            check_table(rt, alloc, &section.abbreviations(alloc, offset)?, lines)?;
+        }
+        Ok(())
+    }
+}
+
+// The offset of each string, and the string.
+#[derive(Drop)]
+struct Strings<'a>(&'a [(u64, &'a str)]);
+
+impl<H: Abort> ReaderTest<H> for Strings<'_> {
+    fn run<R: Reader>(&self, rt: &H, alloc: Global, reader: R) -> Outcome {
+        let section = DebugStr::from(reader);
+        for (offset, expected) in self.0.iter() {
+            let string = section.get_str(DebugStrOffset(ReaderOffset::from_u64(*offset)?))?;
+            assert_eq!(rt; string.to_string(alloc)?.as_str(), *expected);
+        }
+        Ok(())
+    }
+}
+
+// The same of strings of line numbers.
+#[derive(Drop)]
+struct LineStrings<'a>(&'a [(u64, &'a str)]);
+
+impl<H: Abort> ReaderTest<H> for LineStrings<'_> {
+    fn run<R: Reader>(&self, rt: &H, alloc: Global, reader: R) -> Outcome {
+        let section = DebugLineStr::from(reader);
+        for (offset, expected) in self.0.iter() {
+            let string = section.get_str(DebugLineStrOffset(ReaderOffset::from_u64(*offset)?))?;
+            assert_eq!(rt; string.to_string(alloc)?.as_str(), *expected);
+        }
+        Ok(())
+    }
+}
+
+// The offsets of strings behind a base.
+#[derive(Drop)]
+struct StringOffsets<'a> {
+    base: u64,
+    offsets: &'a [u64],
+}
+
+impl<H: Abort> ReaderTest<H> for StringOffsets<'_> {
+    fn run<R: Reader>(&self, rt: &H, _alloc: Global, reader: R) -> Outcome {
+        let section = DebugStrOffsets::from(reader);
+        let base = DebugStrOffsetsBase(ReaderOffset::from_u64(self.base)?);
+        for (i, expected) in self.offsets.iter().enumerate() {
+            let index = DebugStrOffsetsIndex(ReaderOffset::from_u64(i as u64)?);
+            let offset = section.get_str_offset(Format::Dwarf32, base, index)?;
+            assert_eq!(rt; offset.0.into_u64(), *expected);
+        }
+        Ok(())
+    }
+}
+
+// A set has these addresses, and no other.
+fn check_set<R: Reader>(rt: &impl Abort, set: &AddrHeader<R>, addresses: &[u64]) -> Outcome {
     let mut expected = addresses.iter();
     for address in set.entries() {
         assert_eq!(rt; Some(address?), expected.next().copied());
@@ -65,9 +120,45 @@ fn check_set(rt: &impl Abort, set: &AddrHeader<Slice<'_>>, addresses: &[u64]) ->
     Ok(())
 }
 
+// The length of each set, and its addresses.
+#[derive(Drop)]
+struct AddressSets<'a>(&'a [(u64, &'a [u64])]);
+
+impl<H: Abort> ReaderTest<H> for AddressSets<'_> {
+    fn run<R: Reader>(&self, rt: &H, _alloc: Global, reader: R) -> Outcome {
+        let mut sets = DebugAddr::from(reader).headers();
+        for (length, addresses) in self.0.iter() {
+            let set = Iterator::next(&mut sets).ok_or("a set")??;
+            assert_eq!(rt; set.length().into_u64(), *length);
+            check_set(rt, &set, addresses)?;
+        }
+        assert_eq!(rt; Iterator::next(&mut sets).is_none(), true);
+        Ok(())
+    }
+}
+
+// The addresses behind a base.
+#[derive(Drop)]
+struct Addresses<'a> {
+    base: u64,
+    addresses: &'a [u64],
+}
+
+impl<H: Abort> ReaderTest<H> for Addresses<'_> {
+    fn run<R: Reader>(&self, rt: &H, _alloc: Global, reader: R) -> Outcome {
+        let section = DebugAddr::from(reader);
+        let base = DebugAddrBase(ReaderOffset::from_u64(self.base)?);
+        for (i, expected) in self.addresses.iter().enumerate() {
+            let index = DebugAddrIndex(ReaderOffset::from_u64(i as u64)?);
+            assert_eq!(rt; section.get_address(8, base, index)?, *expected);
+        }
+        Ok(())
+    }
+}
+
 #[test]
-fn abbreviations_of_gcc_and_clang(rt: HostRuntime) -> Result<(), Fail> {
-    let programs: [(&[u8], &[Table<'_>]); 4] = [
+fn abbreviations_of_gcc_and_clang(rt: HostRuntime) -> Outcome {
+    let programs: [(&[u8], &[(u64, &[&str])]); 4] = [
         // gcc, DWARF 4
         (
             b"011101250e130b030e1b0e1101120710170000022e013f19030e3a0b3b0b390b2719491311011207401897421901130000030500030e3a0b3b0b390b4913021800000424000b0b3e0b0308000000011101250e130b030e1b0e1101120710170000022e013f19030e3a0b3b0b390b271949133c1901130000030500491300000424000b0b3e0b03080000052e013f19030e3a0b3b0b390b2719491311011207401897421900000689820101110131130000078a8201000218914218000000",
@@ -179,81 +270,67 @@ fn abbreviations_of_gcc_and_clang(rt: HostRuntime) -> Result<(), Fail> {
     ];
     for (section, tables) in programs {
         let section = hex::decode(rt.alloc(), section)?;
-        for (offset, lines) in tables.iter() {
-            check_table(&rt, rt.alloc(), &section, *offset, lines)?;
-        }
+        run(&rt, rt.alloc(), &Tables(tables), &section)?;
     }
     Ok(())
 }
 
 #[test]
-fn strings_of_gcc(rt: HostRuntime) -> Result<(), Fail> {
-    let section = DebugStr::new(b"height\0area\0width\0GNU C17 12.2.0\0main\0", LittleEndian);
-    for (offset, expected) in [
+fn strings_of_gcc(rt: HostRuntime) -> Outcome {
+    let section = b"height\0area\0width\0GNU C17 12.2.0\0main\0";
+    let strings = [
         (0x0, "height"),
         (0x7, "area"),
         (0xc, "width"),
         (0x12, "GNU C17 12.2.0"),
         (0x21, "main"),
-    ] {
-        let string = section.get_str(DebugStrOffset(offset))?;
-        assert_eq!(rt; EndianSlice::to_string(&string)?, expected);
-    }
-    Ok(())
+    ];
+    run(&rt, rt.alloc(), &Strings(&strings), section)
 }
 
 #[test]
-fn line_strings_of_gcc(rt: HostRuntime) -> Result<(), Fail> {
-    let section = DebugLineStr::new(b"area.c\0/src\0main.c\0", LittleEndian);
-    for (offset, expected) in [(0x0, "area.c"), (0x7, "/src"), (0xc, "main.c")] {
-        let string = section.get_str(DebugLineStrOffset(offset))?;
-        assert_eq!(rt; EndianSlice::to_string(&string)?, expected);
-    }
-    Ok(())
+fn line_strings_of_gcc(rt: HostRuntime) -> Outcome {
+    let section = b"area.c\0/src\0main.c\0";
+    let strings = [(0x0, "area.c"), (0x7, "/src"), (0xc, "main.c")];
+    run(&rt, rt.alloc(), &LineStrings(&strings), section)
 }
 
 #[test]
-fn string_offsets_of_clang(rt: HostRuntime) -> Result<(), Fail> {
+fn string_offsets_of_clang(rt: HostRuntime) -> Outcome {
     let section = hex::decode(
         rt.alloc(),
         b"2000000005000000000000001c00000023000000280000002d00000031000000370000001c00000005000000000000003e00000023000000280000002d00000045000000",
     )?;
-    let section = DebugStrOffsets::from(EndianSlice::new(&section, LittleEndian));
-    for (i, expected) in [0x0, 0x1c, 0x23, 0x28, 0x2d, 0x31, 0x37].iter().enumerate() {
-        let (base, index) = (DebugStrOffsetsBase(0x8), DebugStrOffsetsIndex(i));
-        let offset = section.get_str_offset(Format::Dwarf32, base, index)?;
-        assert_eq!(rt; offset.0, *expected);
-    }
-    for (i, expected) in [0x0, 0x3e, 0x23, 0x28, 0x2d, 0x45].iter().enumerate() {
-        let (base, index) = (DebugStrOffsetsBase(0x2c), DebugStrOffsetsIndex(i));
-        let offset = section.get_str_offset(Format::Dwarf32, base, index)?;
-        assert_eq!(rt; offset.0, *expected);
-    }
+    let test = StringOffsets {
+        base: 0x8,
+        offsets: &[0x0, 0x1c, 0x23, 0x28, 0x2d, 0x31, 0x37],
+    };
+    run(&rt, rt.alloc(), &test, &section)?;
+    let test = StringOffsets {
+        base: 0x2c,
+        offsets: &[0x0, 0x3e, 0x23, 0x28, 0x2d, 0x45],
+    };
+    run(&rt, rt.alloc(), &test, &section)?;
     Ok(())
 }
 
 #[test]
-fn addresses_of_clang(rt: HostRuntime) -> Result<(), Fail> {
+fn addresses_of_clang(rt: HostRuntime) -> Outcome {
     let section = hex::decode(
         rt.alloc(),
         b"0c000000050008000010400000000000140000000500080010104000000000002010400000000000",
     )?;
-    let section = DebugAddr::from(EndianSlice::new(&section, LittleEndian));
-    let mut sets = section.headers();
-    let set = Iterator::next(&mut sets).ok_or("a set")??;
-    assert_eq!(rt; set.length(), 0xc);
-    check_set(&rt, &set, &[0x401000])?;
-    for (i, expected) in [0x401000].iter().enumerate() {
-        let (base, index) = (DebugAddrBase(0x8), DebugAddrIndex(i));
-        assert_eq!(rt; section.get_address(8, base, index)?, *expected);
-    }
-    let set = Iterator::next(&mut sets).ok_or("a set")??;
-    assert_eq!(rt; set.length(), 0x14);
-    check_set(&rt, &set, &[0x401010, 0x401020])?;
-    for (i, expected) in [0x401010, 0x401020].iter().enumerate() {
-        let (base, index) = (DebugAddrBase(0x18), DebugAddrIndex(i));
-        assert_eq!(rt; section.get_address(8, base, index)?, *expected);
-    }
-    assert_eq!(rt; Iterator::next(&mut sets).is_none(), true);
+    let sets: [(u64, &[u64]); 2] = [(0xc, &[0x401000]), (0x14, &[0x401010, 0x401020])];
+    run(&rt, rt.alloc(), &AddressSets(&sets), &section)?;
+    let test = Addresses {
+        base: 0x8,
+        addresses: &[0x401000],
+    };
+    run(&rt, rt.alloc(), &test, &section)?;
+    let test = Addresses {
+        base: 0x18,
+        addresses: &[0x401010, 0x401020],
+    };
+    run(&rt, rt.alloc(), &test, &section)?;
     Ok(())
 }

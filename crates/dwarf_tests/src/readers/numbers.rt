@@ -1,31 +1,54 @@
-//! Numbers of every length that matters, and reads that lack bytes.
+//! Numbers of every length that matters, and reads that lack bytes, over every kind of reader.
 
 use super::eof;
-use crate::little;
-use dwarf_constants::{Error, Format, ReaderOffsetId, Result};
-use dwarf_readers::{
-    BigEndian, EndianSlice, LittleEndian, Reader, ReaderOffset, leb128, read_u8_array,
-};
+use crate::{Outcome, ReaderTest, over_each_reader};
+use dwarf_constants::{Error, Format, Result};
+use dwarf_readers::{Reader, ReaderOffset, RunTimeEndian, leb128, read_u8_array};
+use std::alloc::Global;
 use std::fmt::Debug;
 use std::process::Abort;
 
 // The bytes of a number, what is read from them, and the place behind the read.
 type Row<'a, T> = (&'a [u8], Result<T>, u64);
 
-// Wants this answer, and the reader at this place.
-fn stands<T: PartialEq + Debug + Drop>(
-    rt: &impl Abort,
-    answers: (T, T),
-    places: (ReaderOffsetId, u64),
-) {
-    assert_eq!(rt; answers.0, answers.1);
-    assert_eq!(rt; places.0, ReaderOffsetId(places.1));
+// What a read of a number of variable length answers.
+#[derive(Clone, Copy)]
+pub enum Answer {
+    Unsigned(Result<u64>),
+    Signed(Result<i64>),
+    Of16Bits(Result<u16>),
+    Of32Bits(Result<u32>),
+    Skipped(Result<()>),
+}
+
+// What a read at the start answers, and the place behind it.
+#[derive(Drop)]
+pub struct NumberTest {
+    pub answer: Answer,
+    pub place: u64,
+}
+
+impl<H: Abort> ReaderTest<H> for NumberTest {
+    fn run<R: Reader>(&self, rt: &H, _alloc: Global, reader: R) -> Outcome {
+        let mut reader = reader;
+        match self.answer {
+            Answer::Unsigned(want) => {
+                assert_eq!(rt; leb128::read::unsigned(&mut reader), want);
+            }
+            Answer::Signed(want) => assert_eq!(rt; leb128::read::signed(&mut reader), want),
+            Answer::Of16Bits(want) => assert_eq!(rt; leb128::read::u16(&mut reader), want),
+            Answer::Of32Bits(want) => assert_eq!(rt; reader.read_uleb128_u32(), want),
+            Answer::Skipped(want) => assert_eq!(rt; leb128::read::skip(&mut reader), want),
+        }
+        assert_eq!(rt; reader.offset_id().0, self.place);
+        Ok(())
+    }
 }
 
 // The standard's examples (DWARF 5, 7.6), numbers at the edges of 1, 2, 3, 9 and 10 bytes, bytes that end too early,
 // and numbers that do not fit.
 #[test]
-fn unsigned(rt: HostRuntime) {
+fn unsigned(rt: HostRuntime) -> Outcome {
     let bad = Err(Error::BadUnsignedLeb128);
     let rows: [Row<'_, u64>; 25] = [
         (b"", eof(0), 0),
@@ -67,14 +90,17 @@ fn unsigned(rt: HostRuntime) {
         (b"\xff\xff\xff\xff\xff\xff\xff\xff\xff\x81\x00", bad, 10),
     ];
     for (bytes, answer, place) in rows {
-        let mut reader = little(bytes);
-        let found = leb128::read::unsigned(&mut reader);
-        stands(&rt, (found, answer), (reader.offset_id(), place));
+        let test = NumberTest {
+            answer: Answer::Unsigned(answer),
+            place,
+        };
+        over_each_reader(&rt, rt.alloc(), &test, bytes, RunTimeEndian::Little)?;
     }
+    Ok(())
 }
 
 #[test]
-fn signed(rt: HostRuntime) {
+fn signed(rt: HostRuntime) -> Outcome {
     let bad = Err(Error::BadSignedLeb128);
     let rows: [Row<'_, i64>; 29] = [
         (b"", eof(0), 0),
@@ -124,14 +150,17 @@ fn signed(rt: HostRuntime) {
         (b"\x80\x80\x80\x80\x80\x80\x80\x80\x80\x80\x00", bad, 10),
     ];
     for (bytes, answer, place) in rows {
-        let mut reader = little(bytes);
-        let found = leb128::read::signed(&mut reader);
-        stands(&rt, (found, answer), (reader.offset_id(), place));
+        let test = NumberTest {
+            answer: Answer::Signed(answer),
+            place,
+        };
+        over_each_reader(&rt, rt.alloc(), &test, bytes, RunTimeEndian::Little)?;
     }
+    Ok(())
 }
 
 #[test]
-fn of_16_bits(rt: HostRuntime) {
+fn of_16_bits(rt: HostRuntime) -> Outcome {
     let bad = Err(Error::BadUnsignedLeb128);
     let rows: [Row<'_, u16>; 13] = [
         (b"", eof(0), 0),
@@ -149,14 +178,17 @@ fn of_16_bits(rt: HostRuntime) {
         (b"\x80\x80\x80\x80\x80\x80\x80\x80\x80\x80\x00", bad, 3),
     ];
     for (bytes, answer, place) in rows {
-        let mut reader = little(bytes);
-        let found = leb128::read::u16(&mut reader);
-        stands(&rt, (found, answer), (reader.offset_id(), place));
+        let test = NumberTest {
+            answer: Answer::Of16Bits(answer),
+            place,
+        };
+        over_each_reader(&rt, rt.alloc(), &test, bytes, RunTimeEndian::Little)?;
     }
+    Ok(())
 }
 
 #[test]
-fn of_32_bits(rt: HostRuntime) {
+fn of_32_bits(rt: HostRuntime) -> Outcome {
     let bad = Err(Error::BadUnsignedLeb128);
     let rows: [Row<'_, u32>; 13] = [
         (b"", eof(0), 0),
@@ -174,14 +206,17 @@ fn of_32_bits(rt: HostRuntime) {
         (b"\x80\x80\x80\x80\x80\x80\x80\x80\x80\x80\x00", bad, 10),
     ];
     for (bytes, answer, place) in rows {
-        let mut reader = little(bytes);
-        let found = reader.read_uleb128_u32();
-        stands(&rt, (found, answer), (reader.offset_id(), place));
+        let test = NumberTest {
+            answer: Answer::Of32Bits(answer),
+            place,
+        };
+        over_each_reader(&rt, rt.alloc(), &test, bytes, RunTimeEndian::Little)?;
     }
+    Ok(())
 }
 
 #[test]
-fn skipped(rt: HostRuntime) {
+fn skipped(rt: HostRuntime) -> Outcome {
     let rows: [Row<'_, ()>; 11] = [
         (b"", eof(0), 0),
         (b"\x7f\x7f", Ok(()), 1),
@@ -196,10 +231,13 @@ fn skipped(rt: HostRuntime) {
         (b"\xff\xff\xff\xff\xff\xff\xff\xff\xff\xff\xff", eof(11), 11),
     ];
     for (bytes, answer, place) in rows {
-        let mut reader = little(bytes);
-        let found = leb128::read::skip(&mut reader);
-        stands(&rt, (found, answer), (reader.offset_id(), place));
+        let test = NumberTest {
+            answer: Answer::Skipped(answer),
+            place,
+        };
+        over_each_reader(&rt, rt.alloc(), &test, bytes, RunTimeEndian::Little)?;
     }
+    Ok(())
 }
 
 // Wants the refusal of a read that lacks bytes, and the reader as it was.
@@ -289,20 +327,29 @@ fn short_reads<R: Reader>(rt: &impl Abort, whole: R, left: usize) {
     short_of_others(rt, whole, left);
 }
 
-#[test]
-fn reads_that_lack_bytes(rt: HostRuntime) {
-    let bytes = [0xff; 15];
-    for left in 0..16 {
-        let place = 7 + left as u64;
-        short_reads(
-            &rt,
-            EndianSlice::new_at(&bytes[..left], LittleEndian, place),
-            left,
-        );
-        short_reads(
-            &rt,
-            EndianSlice::new_at(&bytes[..left], BigEndian, place),
-            left,
-        );
+// Reads with so many bytes left behind the first seven.
+#[derive(Drop)]
+struct ShortReadTest {
+    left: usize,
+}
+
+impl<H: Abort> ReaderTest<H> for ShortReadTest {
+    fn run<R: Reader>(&self, rt: &H, _alloc: Global, reader: R) -> Outcome {
+        let mut reader = reader;
+        reader.skip(ReaderOffset::from_u8(7))?;
+        short_reads(rt, reader, self.left);
+        Ok(())
     }
+}
+
+#[test]
+fn reads_that_lack_bytes(rt: HostRuntime) -> Outcome {
+    let bytes = [0xff; 22];
+    for left in 0..16 {
+        let test = ShortReadTest { left };
+        for endian in [RunTimeEndian::Little, RunTimeEndian::Big] {
+            over_each_reader(&rt, rt.alloc(), &test, &bytes[..7 + left], endian)?;
+        }
+    }
+    Ok(())
 }

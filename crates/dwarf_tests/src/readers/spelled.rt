@@ -1,10 +1,12 @@
 //! Numbers of variable length as they are written: the standard's examples (DWARF 5, 7.6), and those at the edges.
 
-use crate::little;
-use dwarf_readers::leb128::{Leb128, read, sleb128_size, uleb128_size};
+use super::numbers::{Answer, NumberTest};
+use crate::{Outcome, over_each_reader};
+use dwarf_readers::RunTimeEndian;
+use dwarf_readers::leb128::{Leb128, sleb128_size, uleb128_size};
 
 #[test]
-fn unsigned(rt: HostRuntime) {
+fn unsigned(rt: HostRuntime) -> Outcome {
     let rows: [(u64, &[u8]); 8] = [
         (0, b"\x00"),
         (2, b"\x02"),
@@ -20,12 +22,17 @@ fn unsigned(rt: HostRuntime) {
         assert_eq!(rt; spelling.bytes(), bytes);
         assert_eq!(rt; spelling.len(), bytes.len());
         assert_eq!(rt; uleb128_size(value), bytes.len());
-        assert_eq!(rt; read::unsigned(&mut little(bytes)), Ok(value));
+        let test = NumberTest {
+            answer: Answer::Unsigned(Ok(value)),
+            place: bytes.len() as u64,
+        };
+        over_each_reader(&rt, rt.alloc(), &test, bytes, RunTimeEndian::Little)?;
     }
+    Ok(())
 }
 
 #[test]
-fn signed(rt: HostRuntime) {
+fn signed(rt: HostRuntime) -> Outcome {
     let rows: [(i64, &[u8]); 16] = [
         (0, b"\x00"),
         (-1, b"\x7f"),
@@ -47,6 +54,11 @@ fn signed(rt: HostRuntime) {
     for (value, bytes) in rows {
         assert_eq!(rt; Leb128::signed(value).bytes(), bytes);
         assert_eq!(rt; sleb128_size(value), bytes.len());
-        assert_eq!(rt; read::signed(&mut little(bytes)), Ok(value));
+        let test = NumberTest {
+            answer: Answer::Signed(Ok(value)),
+            place: bytes.len() as u64,
+        };
+        over_each_reader(&rt, rt.alloc(), &test, bytes, RunTimeEndian::Little)?;
     }
+    Ok(())
 }

@@ -1,8 +1,6 @@
-//! Two readers over the same bytes, which lie in opposite orders.
+//! Every kind of reader over the same bytes, beside one in one piece.
 
-ghost use Rattle.std.specs.Prelude.{◌≡◌, ◌<◌, length};
-
-use crate::Backward;
+use crate::{Outcome, ReaderTest, over_each_reader};
 use dwarf_constants::{Error, Format, ReaderOffsetId, Result};
 use dwarf_readers::{
     EndianSlice, Endianity, Reader, ReaderOffset, RunTimeEndian, leb128, read_u8_array,
@@ -94,7 +92,7 @@ fn same_moves<A: Reader, B: Reader>(rt: &impl Abort, alloc: Global, one: &A, two
 }
 
 fn same_searches<A: Reader, B: Reader>(rt: &impl Abort, alloc: Global, one: &A, two: &B) {
-    for place in [99, 100, 104, 120, 121, 122] {
+    for place in [0, 1, 4, 20, 21, 22] {
         same!(
             rt,
             one,
@@ -164,50 +162,50 @@ fn same_leb128<A: Reader, B: Reader>(rt: &impl Abort, one: &A, two: &B) {
     same!(rt, one, two, |r| leb128::read::signed(r));
 }
 
-// Both readers from each place of some bytes on.
-fn same_everywhere(
-    rt: &impl Abort,
-    alloc: Global,
+// The bytes of the reader, and their order.
+#[derive(Drop)]
+struct SameAnswers<'a> {
+    bytes: &'a [u8],
     endian: RunTimeEndian,
-    bytes: &[u8],
-    stored: &[u8],
-)
-    requires same { length stored.now ≡ length bytes.now }
-    requires few { length bytes.now < 100 }
-{
-    for start in 0..bytes.len() + 1 {
-        let first = 100 + start as u64;
-        let one = EndianSlice::new_at(&bytes[start..], endian, first);
-        let two = Backward::new_at(&stored[..stored.len() - start], endian, first);
-        same_moves(rt, alloc, &one, &two);
-        same_searches(rt, alloc, &one, &two);
-        same_texts(rt, alloc, &one, &two);
-        same_numbers(rt, &one, &two);
-        same_sized(rt, &one, &two);
-        same_leb128(rt, &one, &two);
+}
+
+impl<H: Abort> ReaderTest<H> for SameAnswers<'_> {
+    // Both readers from each place of the bytes on.
+    fn run<R: Reader>(&self, rt: &H, alloc: Global, reader: R) -> Outcome {
+        for start in 0..self.bytes.len() + 1 {
+            let mut one = EndianSlice::new(self.bytes, self.endian);
+            one.skip(start)?;
+            let mut two = reader;
+            two.skip(ReaderOffset::from_u64(start as u64)?)?;
+            same_moves(rt, alloc, &one, &two);
+            same_searches(rt, alloc, &one, &two);
+            same_texts(rt, alloc, &one, &two);
+            same_numbers(rt, &one, &two);
+            same_sized(rt, &one, &two);
+            same_leb128(rt, &one, &two);
+        }
+        Ok(())
     }
 }
 
 #[test]
-fn both_readers_answer_the_same(rt: HostRuntime) {
-    let bytes = [
-        0x01, 0x02, 0xff, 0xff, 0xff, 0xff, 9, 0, 0, 0, 0, 0, 0, 0, 0x61, 0x80, 0x80, 0xc1, 0xa9,
-        0, 7,
+fn all_readers_answer_the_same(rt: HostRuntime) -> Outcome {
+    let sections: [&[u8]; 2] = [
+        &[
+            0x01, 0x02, 0xff, 0xff, 0xff, 0xff, 9, 0, 0, 0, 0, 0, 0, 0, 0x61, 0x80, 0x80, 0xc1,
+            0xa9, 0, 7,
+        ],
+        // Texts and long numbers.
+        &[
+            0xc3, 0xa9, 0x7a, 0, 0x80, 0x80, 0x80, 0x80, 0x80, 0x80, 0x80, 0x80, 0x80, 0x80, 0x01,
+            0xff, 0xf0, 0xff, 0xff, 0xff, 0x7e,
+        ],
     ];
-    let mut stored = bytes;
-    stored.reverse();
-    same_everywhere(&rt, rt.alloc(), RunTimeEndian::Little, &bytes, &stored);
-    same_everywhere(&rt, rt.alloc(), RunTimeEndian::Big, &bytes, &stored);
-}
-
-#[test]
-fn both_readers_read_texts_and_long_numbers(rt: HostRuntime) {
-    let bytes = [
-        0xc3, 0xa9, 0x7a, 0, 0x80, 0x80, 0x80, 0x80, 0x80, 0x80, 0x80, 0x80, 0x80, 0x80, 0x01,
-        0xff, 0xf0, 0xff, 0xff, 0xff, 0x7e,
-    ];
-    let mut stored = bytes;
-    stored.reverse();
-    same_everywhere(&rt, rt.alloc(), RunTimeEndian::Little, &bytes, &stored);
-    same_everywhere(&rt, rt.alloc(), RunTimeEndian::Big, &bytes, &stored);
+    for bytes in sections {
+        for endian in [RunTimeEndian::Little, RunTimeEndian::Big] {
+            let test = SameAnswers { bytes, endian };
+            over_each_reader(&rt, rt.alloc(), &test, bytes, endian)?;
+        }
+    }
+    Ok(())
 }
