@@ -10,5 +10,5 @@ mod unwinder;
 pub mod x86_64;
 
 pub use cfi_index::{DwarfCfiIndex, DwarfCfiIndexError, LookUp};
-pub use framehop_rules::{Error, FrameAddress, HexNum, UnwindRule};
+pub use framehop_rules::{Arch, Error, FrameAddress, HexNum, UnwindRule};
 pub use unwinder::Module;

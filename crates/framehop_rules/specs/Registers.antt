@@ -1,6 +1,6 @@
 -- The registers of x86_64, as a step of a stack walk carries them: the instruction pointer and
 -- sixteen general registers of 64 bits.
-use Rattle.std.specs.Prelude.{ℕ, replicate, slice_index, slice_set}
+use Rattle.std.specs.Prelude.{ℕ, ◌≡◌, length, replicate, slice_index, slice_set}
 use Rattle.framehop_rules.specs.declared.x86_64.unwindregs.Reg.{Reg}
 use Rattle.framehop_rules.specs.declared.x86_64.unwindregs.Reg.TheVariants.{RAX, RDX, RCX, RBX, RSI, RDI, RBP, RSP, R8, R9, R10, R11, R12, R13, R14, R15}
 use Rattle.framehop_rules.specs.declared.x86_64.unwindregs.UnwindRegsX86_64.{UnwindRegsX86_64}
@@ -51,3 +51,7 @@ with_register registers register value = record registers { regs = slice_set reg
 -- The registers with these values of the instruction pointer, RSP and RBP, and 0 in all others.
 abbrev pub new_registers : ℕ → ℕ → ℕ → UnwindRegsX86_64
 new_registers ip sp bp = with_register (with_register (record { ip = ip; regs = replicate 16 0 }) RSP sp) RBP bp
+
+-- All sixteen general registers are there, as they are in every value of a program.
+abbrev pub HasAllRegisters : UnwindRegsX86_64 → Type 0
+HasAllRegisters registers = length registers.regs ≡ 16

@@ -1,7 +1,7 @@
 -- The meaning of the unwind rules of x86_64, over a map of words and unbounded numbers.
 --
 -- Checks and reads go in the written order, and the first one that fails is the refusal.
-use Rattle.std.specs.Prelude.{ℕ, ◌*◌, ℤ, pos, ◌+ℤ◌, ◌-ℤ◌, ◌*ℤ◌, Bool, ◌&&◌, ◌==◌, nat_lt, nat_le, if◌then◌else◌, Some, None}
+use Rattle.std.specs.Prelude.{ℕ, ◌≡◌, ◌≢◌, ◌*◌, ℤ, pos, ◌+ℤ◌, ◌-ℤ◌, ◌*ℤ◌, Bool, ◌&&◌, ◌==◌, nat_lt, nat_le, if◌then◌else◌, Some, None}
 use Rattle.framehop_rules.specs.Callback.{Words}
 use Rattle.framehop_rules.specs.Outcome.{Outcome, Ends, Refuses, Answers, and_then, address, word, Caller}
 use Rattle.framehop_rules.specs.Registers.{ip_of, sp_of, bp_of, with_ip, with_register}
@@ -80,3 +80,16 @@ returned_caller registers words (sp, bp) =
 abbrev pub rule_meaning : UnwindRuleX86_64 → Bool → UnwindRegsX86_64 → Words → Outcome (Caller UnwindRegsX86_64)
 rule_meaning rule is_first registers words =
     and_then (moves rule is_first registers words) (returned_caller registers words)
+
+-- The word below a stack pointer, where a call leaves its return address.
+abbrev pub word_below : Words → ℕ → Outcome ℕ
+word_below words sp = and_then (address (pos sp -ℤ pos 8)) (word words)
+
+-- The registers behind a call: the instruction pointer isn't 0, and is the word below the stack pointer.
+pub record IsAtReturn (registers : UnwindRegsX86_64) (words : Words) : Type 0 where
+  pub not_null : ip_of registers ≢ 0
+  pub returned_to : word_below words (sp_of registers) ≡ Answers (ip_of registers)
+
+-- A rule that can be executed: each one can.
+abbrev pub IsValid : UnwindRuleX86_64 → Type 0
+IsValid rule = Unit {0}

@@ -1,7 +1,7 @@
 //! What the unwind rules of every architecture have.
-ghost use Rattle.std.specs.Prelude.{◌≡◌, ℕ, Bool, Option, IfErr, OnErr};
+ghost use Rattle.std.specs.Prelude.{◌≡◌, ◌↔◌, ◌*◌, pos, ◌+ℤ◌, ℕ, Bool, Option, IsTrue, IfErr, OnErr};
 ghost use Rattle.framehop_rules.specs.Callback.{Words, OverWords};
-ghost use Rattle.framehop_rules.specs.Outcome.{Outcome, Caller, IsStep, outcome_of, word, IsOfRule};
+ghost use Rattle.framehop_rules.specs.Outcome.{Outcome, Caller, IsStep, outcome_of, address, word, IsOfRule};
 
 use crate::error::Error;
 use std::fmt::Debug;
@@ -9,7 +9,9 @@ use std::fmt::Debug;
 /// A step of a stack walk in a compact form, and its execution.
 pub trait UnwindRule: Copy + Debug {
     /// The registers that a step of a walk carries.
-    type UnwindRegs;
+    type UnwindRegs: Copy + Debug;
+
+    ghost is_valid: { Self → Type 0 };
 
     ghost meaning: { Self → Bool → Self.UnwindRegs → Words → Outcome (Caller Self.UnwindRegs) };
 
@@ -18,6 +20,11 @@ pub trait UnwindRule: Copy + Debug {
     ghost start_rule: { Self };
 
     ghost fallback: { Self };
+
+    /// Whether the rule can be executed. Every rule can, but one whose numbers name no list of
+    /// registers.
+    fn is_valid(self) -> bool
+        ensures { IsTrue result ↔ is_valid self };
 
     /// Makes the step from a frame with these registers: answers the return address and leaves the
     /// caller's registers, or answers `None` at the end of the stack. `None` and an error leave the
@@ -28,7 +35,8 @@ pub trait UnwindRule: Copy + Debug {
         regs: &mut Self::UnwindRegs,
         read_stack: &mut F,
     ) -> Result<Option<u64>, Error>
-        requires { F.IsAlwaysCallable read_stack.old }
+        requires valid { is_valid self }
+        requires callable { F.IsAlwaysCallable read_stack.old }
         ensures callable { F.IsAlwaysCallable read_stack.new }
         ensures step { OverWords F.step read_stack.old read_stack.new (λ words.
             IsStep result regs.old regs.new (meaning self is_first_frame regs.old words)) }
@@ -38,15 +46,18 @@ pub trait UnwindRule: Copy + Debug {
 
     /// The rule inside a stub of a linker, where nothing is on the stack but the return address.
     fn rule_for_stub_functions() -> Self
-        ensures { result ≡ stub_rule };
+        ensures rule { result ≡ stub_rule }
+        ensures valid { is_valid result };
 
     /// The rule at a function's first instruction.
     fn rule_for_function_start() -> Self
-        ensures { result ≡ start_rule };
+        ensures rule { result ≡ start_rule }
+        ensures valid { is_valid result };
 
     /// The rule where nothing else is known.
     fn fallback_rule() -> Self
-        ensures { result ≡ fallback };
+        ensures rule { result ≡ fallback }
+        ensures valid { is_valid result };
 }
 
 /// The word at an address; where it can't be read, the error says so.
@@ -64,4 +75,28 @@ pub(crate) fn read_word<F: FnMut(u64) -> Result<u64, ()>>(
         Ok(word) => Ok(word),
         Err(()) => Err(Error::CouldNotReadStack(at)),
     }
+}
+
+/// An offset in words of 8 bytes, in bytes.
+pub(crate) fn bytes_of(words: u16) -> u64
+    ensures { result ≡ 8 * words }
+{
+    u64::from(words) * 8
+}
+
+/// The address so many bytes above another.
+pub(crate) fn address_above(base: u64, bytes: u64) -> Result<u64, Error>
+    ensures sum { outcome_of result ≡ address (pos base +ℤ pos bytes) }
+    ensures refusals { IfErr result IsOfRule }
+{
+    base.checked_add(bytes).ok_or(Error::IntegerOverflow)
+}
+
+/// The address at an offset in bytes from another.
+pub(crate) fn address_at_offset(base: u64, offset: i64) -> Result<u64, Error>
+    ensures sum { outcome_of result ≡ address (pos base +ℤ offset) }
+    ensures refusals { IfErr result IsOfRule }
+{
+    base.checked_add_signed(offset)
+        .ok_or(Error::IntegerOverflow)
 }

@@ -1,10 +1,14 @@
 //! The registers and the unwind rules of x86_64.
 
+mod arch;
+mod laws;
 mod pop_list;
 mod register_ordering;
 mod unwind_rule;
 mod unwindregs;
 
+pub use arch::ArchX86_64;
+pub use laws::{rules_raise_sp, rules_that_stay_are_refused};
 pub use pop_list::PopList;
 pub use register_ordering::{decode, encode, lists_by_order_numbers};
 pub use unwind_rule::UnwindRuleX86_64;

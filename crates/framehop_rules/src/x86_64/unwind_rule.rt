@@ -2,11 +2,11 @@
 ghost use Rattle.std.specs.Prelude.{◌≡◌, ◌*◌, ◌<◌, ◌^◌, pos, ◌*ℤ◌, ◌+ℤ◌, IfErr, OnErr};
 ghost use Rattle.framehop_rules.specs.Callback.{OverWords};
 ghost use Rattle.framehop_rules.specs.Outcome.{outcome_of, outcome_or_end_of, address, IsOfRule};
-ghost use Rattle.framehop_rules.specs.RuleMeaning.{raised_frame, by_frame_pointer, stored_bp, restored_frame, moves, return_address, rule_meaning};
+ghost use Rattle.framehop_rules.specs.RuleMeaning.{raised_frame, by_frame_pointer, stored_bp, restored_frame, moves, return_address, rule_meaning, IsValid};
 ghost use Rattle.framehop_rules.specs.declared.x86_64.unwind_rule.UnwindRuleX86_64.TheVariants.{JustReturn, UseFramePointer};
 
 use crate::error::Error;
-use crate::unwind_rule::{UnwindRule, read_word};
+use crate::unwind_rule::{UnwindRule, address_above, address_at_offset, bytes_of, read_word};
 use crate::x86_64::unwindregs::UnwindRegsX86_64;
 
 /// One step of a stack walk on x86_64: how the caller's stack pointer and frame pointer follow from
@@ -36,27 +36,11 @@ pub enum UnwindRuleX86_64 {
     UseFramePointer,
 }
 
-/// An offset in words of 8 bytes, in bytes.
-fn bytes_of(words: u16) -> u64
-    ensures { result ≡ 8 * words }
-{
-    u64::from(words) * 8
-}
-
 /// A signed offset in words of 8 bytes, in bytes.
 fn signed_bytes_of(words: i16) -> i64
     ensures { result ≡ pos 8 *ℤ words }
 {
     i64::from(words) * 8
-}
-
-/// The sum of an address and an offset in bytes.
-fn offset_address(base: u64, offset: i64) -> Result<u64, Error>
-    ensures sum { outcome_of result ≡ address (pos base +ℤ offset) }
-    ensures refusals { IfErr result IsOfRule }
-{
-    base.checked_add_signed(offset)
-        .ok_or(Error::IntegerOverflow)
 }
 
 /// The caller's stack pointer and frame pointer where the former is `bytes` higher and the latter
@@ -65,7 +49,7 @@ fn raise_sp(regs: &UnwindRegsX86_64, bytes: u64) -> Result<(u64, u64), Error>
     ensures moves { outcome_of result ≡ raised_frame regs.now bytes }
     ensures refusals { IfErr result IsOfRule }
 {
-    let new_sp = regs.sp().checked_add(bytes).ok_or(Error::IntegerOverflow)?;
+    let new_sp = address_above(regs.sp(), bytes)?;
     Ok((new_sp, regs.bp()))
 }
 
@@ -82,7 +66,7 @@ fn follow_frame_pointer<F: FnMut(u64) -> Result<u64, ()>>(
     ensures refusals { IfErr result IsOfRule }
 {
     let bp = regs.bp();
-    let new_sp = bp.checked_add(16).ok_or(Error::IntegerOverflow)?;
+    let new_sp = address_above(bp, 16)?;
     if new_sp <= regs.sp() {
         return Err(Error::FramepointerUnwindingMovedBackwards);
     }
@@ -135,7 +119,7 @@ fn raise_sp_and_restore_bp<F: FnMut(u64) -> Result<u64, ()>>(
     ensures refusals { IfErr result IsOfRule }
 {
     let (new_sp, _) = raise_sp(regs, bytes)?;
-    let bp_location = offset_address(regs.sp(), bp_offset)?;
+    let bp_location = address_at_offset(regs.sp(), bp_offset)?;
     let new_bp = read_stored_bp(is_first_frame, regs, read_stack, bp_location)?;
     Ok((new_sp, new_bp))
 }
@@ -215,6 +199,8 @@ impl UnwindRuleX86_64 {
 impl UnwindRule for UnwindRuleX86_64 {
     type UnwindRegs = UnwindRegsX86_64;
 
+    ghost is_valid = { IsValid };
+
     ghost meaning = { rule_meaning };
 
     ghost stub_rule = { JustReturn };
@@ -222,6 +208,10 @@ impl UnwindRule for UnwindRuleX86_64 {
     ghost start_rule = { JustReturn };
 
     ghost fallback = { UseFramePointer };
+
+    fn is_valid(self) -> bool {
+        true
+    }
 
     fn exec<F: FnMut(u64) -> Result<u64, ()>>(
         self,

@@ -25,4 +25,4 @@ returns-in-Err-clause-judgment g c =
     c.args.regs.now c.unwind_frame.new.regs words (Err c.in-Err.field-0)
     c.address_for_lookup.ensures c.in-Some.ensures.module_ c.in-Some.ensures.relative (first-is c.is_return_address-is_first_frame.result c.args.address c.is_return_address-is_first_frame.ensures)
     is c.in-Err.ensures.keeps
-    ∙ ap (λ rule. outcome_of_result (ExecRule rule) (is_first c.args.address) c.unwind_frame.new.regs words) (sym c.fallback_rule-in-Err.ensures))
+    ∙ ap (λ rule. outcome_of_result (ExecRule rule) (is_first c.args.address) c.unwind_frame.new.regs words) (sym c.fallback_rule-in-Err.ensures.rule))

@@ -1,0 +1,55 @@
+-- What is known of the parts of a rule where the whole answers.
+use Rattle.std.proofs.Common.{◌≡◌, ◌≢◌, ℕ, ◌+◌, refl, arith, Bool, true, false}
+use Rattle.std.specs.Prelude.{ℤ, pos, negsuc, ◌+ℤ◌, ◌==◌, if◌then◌else◌}
+use Rattle.std.proofs.lemmas.Bool.Decides.{Decides-eqb}
+use Rattle.std.proofs.lemmas.Int.{ints}
+use Rattle.framehop_rules.specs.Outcome.{Outcome, Ends, Refuses, Answers, and_then, address}
+use Rattle.framehop_rules.specs.declared.error.Error.{Error}
+
+-- the first part answers, and then the second
+pub and_then-answers : {A B : Type 0} (first : Outcome A) (next : A → Outcome B) (answer : B) → and_then first next ≡ Answers answer
+    → (value : A) × (first ≡ Answers value) × (next value ≡ Answers answer)
+and_then-answers Ends next answer is = cc
+and_then-answers (Refuses error) next answer is = cc
+and_then-answers (Answers value) next answer is = (value, refl, is)
+
+-- an address is the number that it was asked for
+address-answers : (z : ℤ) (a : ℕ) → address z ≡ Answers a → z ≡ pos a
+address-answers (pos n) a is = grind arith
+address-answers (negsuc n) a is = cc
+
+-- an address above another
+pub above-answers : (base bytes a : ℕ) → address (pos base +ℤ pos bytes) ≡ Answers a → a ≡ base + bytes
+above-answers base bytes a is = omega (arith, ints, address-answers (pos base +ℤ pos bytes) a is)
+
+-- three parts, one after the other
+pub and_then-assoc : {A B C : Type 0} (first : Outcome A) (second : A → Outcome B) (third : B → Outcome C)
+    → and_then (and_then first second) third ≡ and_then first (λ value. and_then (second value) third)
+and_then-assoc Ends second third = refl
+and_then-assoc (Refuses error) second third = refl
+and_then-assoc (Answers value) second third = refl
+
+-- a part that answers has passed the test before it
+pub past-refusal : {A : Type 0} (fails : Bool) (error : Error) (part : Outcome A) (value : A)
+    → (if fails then Refuses error else part) ≡ Answers value → (fails ≡ false) × (part ≡ Answers value)
+past-refusal true error part value is = cc
+past-refusal false error part value is = (refl, is)
+
+pub past-end : {A : Type 0} (ends : Bool) (part : Outcome A) (value : A)
+    → (if ends then Ends else part) ≡ Answers value → (ends ≡ false) × (part ≡ Answers value)
+past-end true part value is = cc
+past-end false part value is = (refl, is)
+
+-- numbers that aren't equal differ
+pub differ : (a b : ℕ) → (a == b) ≡ false → a ≢ b
+differ a b is same = absurd (let yes = (Decides-eqb a b).1 same in cc)
+
+pub equal : (a b : ℕ) → a ≡ b → (a == b) ≡ true
+equal a b same = (Decides-eqb a b).1 same
+
+pub unequal : (a b : ℕ) → a ≢ b → (a == b) ≡ false
+unequal a b differs = by (a == b) refl
+  where
+    by : (test : Bool) → (a == b) ≡ test → test ≡ false
+    by true is = absurd (differs ((Decides-eqb a b).0 is))
+    by false is = refl

@@ -1,0 +1,69 @@
+-- The slots of a rule cache: what stands in each, what a look-up finds there, and what is counted.
+use Rattle.std.specs.Prelude.{ℕ, ◌+◌, ◌^◌, ◌-◌, ◌%◌, min, Bool, ◌&&◌, ◌==◌, List, Option, Some, None, slice_set, if◌then◌else◌}
+use Rattle.std.specs.Bool.{beq}
+use Rattle.std.specs.List.{slice_index_or}
+use Rattle.framehop_rules.specs.declared.rule_cache.CacheStats.{CacheStats}
+
+-- What a rule is kept for: the address that was looked up, whether its frame is the first, and the generation of the
+-- modules.
+pub record Key : Type 0 where
+  pub address : ℕ
+  pub is_first : Bool
+  pub generation : ℕ
+
+-- A rule that was kept, and what for.
+pub record Entry (Rule : Type 0) : Type 0 where
+  pub key : Key
+  pub rule : Rule
+
+-- A cache as contracts see it: what stands in each of its slots, and its counts.
+pub record Kept (Rule : Type 0) : Type 0 where
+  pub slots : List (Option (Entry Rule))
+  pub counts : CacheStats
+
+-- The key of a look-up.
+abbrev pub key_of : ℕ → Bool → ℕ → Key
+key_of address is_first generation = record { address = address; is_first = is_first; generation = generation }
+
+-- The slot of an address: the remainder by 509.
+abbrev pub slot_of : ℕ → ℕ
+slot_of address = address % 509
+
+-- What stands in a slot, if anything does.
+abbrev pub entry_in : {Rule : Type 0} → List (Option (Entry Rule)) → ℕ → Option (Entry Rule)
+entry_in slots slot = slice_index_or slots slot None
+
+-- The slots with a rule kept under a key: only the key's slot changes.
+abbrev pub with_kept : {Rule : Type 0} → List (Option (Entry Rule)) → Key → Rule → List (Option (Entry Rule))
+with_kept slots key rule = slice_set slots (slot_of key.address) (Some (record { key = key; rule = rule }))
+
+-- What a look-up comes to.
+pub data Found (Rule : Type 0) : Type 0 where
+  Hits : Rule → Found Rule
+  EmptySlot : Found Rule
+  OtherModules : Found Rule
+  OtherAddress : Found Rule
+
+-- What a look-up for a key comes to, by what stands in the key's slot: nothing, an entry of another generation, an entry of
+-- another address or kind of frame, or the rule.
+abbrev pub found : {Rule : Type 0} → Key → Option (Entry Rule) → Found Rule
+found key None = EmptySlot
+found key (Some entry) =
+    if entry.key.generation == key.generation
+    then (if entry.key.address == key.address && beq entry.key.is_first key.is_first then Hits entry.rule else OtherAddress)
+    else OtherModules
+
+-- A count with one more, which stops at 2^64 - 1.
+abbrev pub one_more : ℕ → ℕ
+one_more count = min (count + 1) (2 ^ 64 - 1)
+
+-- The counts after a look-up: one more of what it came to.
+abbrev pub counted : {Rule : Type 0} → Found Rule → CacheStats → CacheStats
+counted (Hits rule) counts = record counts { hit_count = one_more counts.hit_count }
+counted EmptySlot counts = record counts { miss_empty_slot_count = one_more counts.miss_empty_slot_count }
+counted OtherModules counts = record counts { miss_wrong_modules_count = one_more counts.miss_wrong_modules_count }
+counted OtherAddress counts = record counts { miss_wrong_address_count = one_more counts.miss_wrong_address_count }
+
+-- No look-up so far.
+abbrev pub no_counts : CacheStats
+no_counts = record { hit_count = 0; miss_empty_slot_count = 0; miss_wrong_modules_count = 0; miss_wrong_address_count = 0 }
