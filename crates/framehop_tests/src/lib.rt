@@ -3,11 +3,17 @@
 #![tactic(auto)]
 
 #[cfg(test)]
+mod arch;
+#[cfg(test)]
 mod cfi_index;
 #[cfg(test)]
 mod documents;
 #[cfg(test)]
+mod rule_cache;
+#[cfg(test)]
 mod rules;
+#[cfg(test)]
+mod rules_aarch64;
 #[cfg(test)]
 mod steps;
 #[cfg(test)]

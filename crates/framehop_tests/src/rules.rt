@@ -88,6 +88,10 @@ fn answers_callers(rt: HostRuntime) {
         (EITHER, true, START, (0x100300, 0x18, 0x20)),
         (EITHER, false, START, (0x100200, 0x30, 0x40)),
         (restored(4, 2), true, START, (0x100200, 0x30, 0x40)),
+        (EITHER, false, (1, 0, 0), (2, 0x10, 1)),
+        (restored(2, -2), false, START, (4, 0x20, 1)),
+        (raised(0), true, (1, 0x18, 2), (0x100300, 0x18, 2)),
+        (raised(0), true, (0x100200, 0x18, 2), (0x100300, 0x18, 2)),
     ] {
         assert_step(
             &rt,
@@ -126,6 +130,76 @@ fn ends_and_refuses(rt: HostRuntime) {
             Err(Error::IntegerOverflow),
         ),
         (raised(0), true, (1, 0, 2), Err(Error::IntegerOverflow)),
+        (raised(0), true, (1, 7, 2), Err(Error::IntegerOverflow)),
+        (restored(0, 0), true, (1, 0, 2), Err(Error::IntegerOverflow)),
+        (
+            restored(0, 100),
+            true,
+            (1, 0, 2),
+            Err(Error::CouldNotReadStack(0x320)),
+        ),
+        (raised(1), true, (1, last, 2), Err(Error::IntegerOverflow)),
+        (
+            raised(1),
+            true,
+            (1, last - 1, 2),
+            Err(Error::CouldNotReadStack(last - 1)),
+        ),
+        (
+            raised(u16::MAX),
+            true,
+            (1, u64::MAX - 0x7fff7, 2),
+            Err(Error::IntegerOverflow),
+        ),
+        (
+            raised(u16::MAX),
+            true,
+            (1, u64::MAX - 0x7fff8, 2),
+            Err(Error::CouldNotReadStack(last - 1)),
+        ),
+        (
+            restored(0, i16::MIN),
+            true,
+            (1, 0x3ffff, 2),
+            Err(Error::IntegerOverflow),
+        ),
+        (
+            restored(0, i16::MAX),
+            false,
+            (1, u64::MAX - 0x3fff7, 2),
+            Err(Error::IntegerOverflow),
+        ),
+        (
+            restored(0, i16::MAX),
+            true,
+            (1, u64::MAX - 0x3fff8, 2),
+            Err(Error::CouldNotReadStack(u64::MAX)),
+        ),
+        (
+            UnwindRuleX86_64::UseFramePointer,
+            true,
+            (1, 0x10, u64::MAX - 15),
+            Err(Error::IntegerOverflow),
+        ),
+        (
+            UnwindRuleX86_64::UseFramePointer,
+            true,
+            (1, 0x10, u64::MAX - 16),
+            Err(Error::CouldNotReadStack(u64::MAX - 16)),
+        ),
+        (
+            UnwindRuleX86_64::UseFramePointer,
+            true,
+            (1, 0x10, 0),
+            Ok(None),
+        ),
+        (
+            EITHER,
+            false,
+            (1, 0x10, 0),
+            Err(Error::FramepointerUnwindingMovedBackwards),
+        ),
+        (EITHER, true, (1, last, 0x20), Err(Error::IntegerOverflow)),
         (
             raised(0),
             true,
@@ -188,6 +262,7 @@ fn names_the_common_rules(rt: HostRuntime) {
         UnwindRuleX86_64::fallback_rule(),
         UnwindRuleX86_64::UseFramePointer
     );
+    assert!(rt; EITHER.is_valid());
 }
 
 #[test]
