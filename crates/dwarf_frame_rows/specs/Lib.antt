@@ -1,0 +1,2 @@
+pub mod EncodedPointer
+pub mod SectionKind
