@@ -2,7 +2,7 @@
 use Rattle.std.specs.Prelude.{◌≡◌, Bool, Result, Ok, Err}
 use Rattle.framehop_rules.specs.Callback.{Words}
 use Rattle.framehop_rules.specs.Outcome.{Outcome, Answers, Caller}
-use Rattle.framehop_rules.specs.RuleMeaning.{rule_meaning}
+use Rattle.framehop_rules.specs.RuleMeaning.{rule_meaning, IsValid}
 use Rattle.framehop_rules.specs.declared.x86_64.unwindregs.UnwindRegsX86_64.{UnwindRegsX86_64}
 use Rattle.framehop.specs.declared.dwarf.DwarfUnwinderError.{DwarfUnwinderError}
 use Rattle.framehop.specs.declared.error.UnwinderError.{UnwinderError}
@@ -37,6 +37,11 @@ with_registers registers (Err failure) = Err failure
 abbrev pub of_dwarf : {A : Type 0} → Result A DwarfUnwinderError → Result A UnwinderError
 of_dwarf (Ok answer) = Ok answer
 of_dwarf (Err failure) = Err (Dwarf failure)
+
+-- a rule in an answer can be executed
+abbrev pub HasValidRule : UnwindResult → Type 0
+HasValidRule (ExecRule rule) = IsValid rule
+HasValidRule (Uncacheable return_address) = Unit {0}
 
 -- only a direct answer changes the registers
 abbrev pub KeepsForRule : UnwindResult → UnwindRegsX86_64 → UnwindRegsX86_64 → Type 0

@@ -6,7 +6,7 @@ ghost use Rattle.framehop.specs.EntryFor.{indexed_entry};
 ghost use Rattle.framehop.specs.CfiIndexView.{IsIndexOf};
 ghost use Rattle.framehop_rules.specs.Callback.{OverWords};
 ghost use Rattle.framehop.specs.Attempt.{by_fde};
-ghost use Rattle.framehop.specs.UnwindResults.{trial, with_registers, of_dwarf, KeepsUnlessDirect};
+ghost use Rattle.framehop.specs.UnwindResults.{trial, with_registers, of_dwarf, KeepsUnlessDirect, HasValidRule};
 
 use crate::cfi_index::DwarfCfiIndex;
 use crate::unwind_result::UnwindResult;
@@ -61,6 +61,7 @@ pub(crate) fn unwind_frame_with_fde<F: FnMut(u64) -> Result<u64, ()>>(
         with_registers regs.new (of_dwarf result) ≡ trial is_first_frame regs.old words
         (by_fde (section_bytes section.now) address (Some (fde_view fde.now)))) }
     ensures keeps { KeepsUnlessDirect result regs.old regs.new }
+    ensures valid { IfOk result HasValidRule }
 {
     match fde.unwind_info_for_address(context, address) {
         Ok(row) => unwind_frame(section, row, is_first_frame, regs, read_stack),

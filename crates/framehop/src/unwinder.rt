@@ -60,7 +60,7 @@ impl Module {
     ghost use Rattle.framehop.specs.ModuleFound.{is_inside, if_inside};
     ghost use Rattle.framehop.specs.Attempt.{attempt};
     ghost use Rattle.framehop_rules.specs.Callback.{OverWords};
-    ghost use Rattle.framehop.specs.UnwindResults.{trial, with_registers, KeepsUnlessDirect};
+    ghost use Rattle.framehop.specs.UnwindResults.{trial, with_registers, KeepsUnlessDirect, HasValidRule};
 
     /// A module at a range of AVMAs, whose base is at `base_avma` and is called `base_svma` by its
     /// sections, with the bytes of its section `.eh_frame`, if it has one. A section without an
@@ -142,6 +142,7 @@ impl Module {
             with_registers regs.new result ≡ trial is_first_frame regs.old words
             (attempt (module_view self.now) relative_address)) }
         ensures keeps { KeepsUnlessDirect result regs.old regs.new }
+        ensures valid { IfOk result HasValidRule }
     {
         let Some(section) = &self.eh_frame else {
             return Err(UnwinderError::NoModuleUnwindData);

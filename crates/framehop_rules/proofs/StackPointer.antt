@@ -1,26 +1,33 @@
 -- On x86_64 no answered rule lowers the stack pointer, and behind a call each raises it.
-use Rattle.std.proofs.Common.{◌≡◌, ◌≢◌, ◌∙◌, ℕ, ◌*◌, ◌≤◌, ◌<◌, ap, sym, refl, subst, arith, Bool, true, false}
+use Rattle.std.proofs.Common.{◌≡◌, ◌≢◌, ◌∙◌, ℕ, ◌+◌, ◌*◌, ◌⊎◌, inl, inr, List, [], ◌∷◌, ◌≤◌, ◌<◌, ap, sym, refl, subst, arith, Bool, true, false}
 use Rattle.std.specs.Prelude.{ℤ, pos, ◌+ℤ◌, ◌-ℤ◌, ◌*ℤ◌, ◌==◌, ◌&&◌, nat_le, if◌then◌else◌, slice_set}
 use Rattle.std.proofs.lemmas.Bool.{leb-false}
 use Rattle.std.proofs.lemmas.List.{get_or-set_same, get_or-set_other, length-set}
 use Rattle.framehop_rules.specs.Callback.{Words}
 use Rattle.framehop_rules.specs.Outcome.{Outcome, Ends, Refuses, Answers, Caller, and_then, address, word}
-use Rattle.framehop_rules.specs.Registers.{HasAllRegisters, ip_of, sp_of, bp_of}
-use Rattle.framehop_rules.specs.RuleMeaning.{StackFrame, raised_frame, by_frame_pointer, stored_bp, restored_frame, moves, return_address, caller_registers, returned_caller, rule_meaning, word_below, IsAtReturn}
+use Rattle.framehop_rules.specs.PopLists.{pop_list}
+use Rattle.framehop_rules.specs.Pops.{raised, popped, all_popped}
+use Rattle.framehop_rules.specs.Registers.{HasAllRegisters, dwarf_number, with_register, ip_of, sp_of, bp_of}
+use Rattle.framehop_rules.specs.RuleMeaning.{StackFrame, raised_frame, by_frame_pointer, stored_bp, restored_frame, popped_by, moves, return_address, caller_registers, returned_caller, rule_meaning, word_below, IsAtReturn}
 use Rattle.framehop_rules.specs.declared.x86_64.unwind_rule.UnwindRuleX86_64.{UnwindRuleX86_64}
-use Rattle.framehop_rules.specs.declared.x86_64.unwind_rule.UnwindRuleX86_64.TheVariants.{EndOfStack, JustReturn, JustReturnIfFirstFrameOtherwiseFp, OffsetSp, OffsetSpAndRestoreBp, UseFramePointer}
+use Rattle.framehop_rules.specs.declared.x86_64.unwind_rule.UnwindRuleX86_64.TheVariants.{EndOfStack, JustReturn, JustReturnIfFirstFrameOtherwiseFp, OffsetSp, OffsetSpAndRestoreBp, UseFramePointer, OffsetSpAndPopRegisters}
+use Rattle.framehop_rules.specs.declared.x86_64.unwindregs.Reg.{Reg}
+use Rattle.framehop_rules.specs.declared.x86_64.unwindregs.Reg.TheVariants.{RSP}
 use Rattle.framehop_rules.specs.declared.x86_64.unwindregs.UnwindRegsX86_64.{UnwindRegsX86_64}
 use Rattle.framehop_rules.specs.declared.error.Error.TheVariants.{FramepointerUnwindingMovedBackwards, DidNotAdvance}
 use Rattle.framehop_rules.proofs.Parts.{and_then-answers, and_then-assoc, above-answers, past-refusal, past-end, differ, equal, unequal}
 
 -- ---- the stack pointer that a rule moves to
 
-raised-above : (registers : UnwindRegsX86_64) (bytes : ℕ) (frame : StackFrame) → raised_frame registers bytes ≡ Answers frame → sp_of registers ≤ frame.0
-raised-above registers bytes frame is =
+raised-to : (registers : UnwindRegsX86_64) (bytes : ℕ) (frame : StackFrame) → raised_frame registers bytes ≡ Answers frame → frame.0 ≡ sp_of registers + bytes
+raised-to registers bytes frame is =
     let (sp, sp_is, there) = and_then-answers (address (pos (sp_of registers) +ℤ pos bytes)) (λ sp. Answers (sp, bp_of registers)) frame is in
     let same : (sp, bp_of registers) ≡ frame = cc in
     let high : sp ≡ frame.0 = ap (λ (f : StackFrame). f.0) same in
     omega (arith, above-answers (sp_of registers) bytes sp sp_is)
+
+raised-above : (registers : UnwindRegsX86_64) (bytes : ℕ) (frame : StackFrame) → raised_frame registers bytes ≡ Answers frame → sp_of registers ≤ frame.0
+raised-above registers bytes frame is = omega (arith, raised-to registers bytes frame is)
 
 followed-above : (registers : UnwindRegsX86_64) (words : Words) (frame : StackFrame) → by_frame_pointer registers words ≡ Answers frame → sp_of registers ≤ frame.0
 followed-above registers words frame is =
@@ -53,6 +60,69 @@ moved-above (OffsetSp x) is_first registers words frame is = raised-above regist
 moved-above (OffsetSpAndRestoreBp x y) is_first registers words frame is = restored-above is_first registers words (8 * x) (pos 8 *ℤ y) frame is
 moved-above UseFramePointer is_first registers words frame is =
     followed-above registers words frame (past-end (bp_of registers == 0) (by_frame_pointer registers words) frame is).1
+moved-above (OffsetSpAndPopRegisters x count number) is_first registers words frame is = raised-above registers 8 frame is
+
+-- ---- the registers that a rule pops
+
+-- what pops leave of the registers before them
+record IsAbove (before after : UnwindRegsX86_64) : Type 0 where
+  pub above : sp_of before ≤ sp_of after
+  pub all : HasAllRegisters after
+
+above-trans : (a b c : UnwindRegsX86_64) → IsAbove a b → IsAbove b c → IsAbove a c
+above-trans a b c first second = record { above = omega (arith, first.above, second.above); all = second.all }
+
+raised-is-above : (registers popped : UnwindRegsX86_64) (bytes : ℕ) → HasAllRegisters registers → raised registers bytes ≡ Answers popped → IsAbove registers popped
+raised-is-above registers popped bytes all is =
+    let (sp, sp_is, there) = and_then-answers (address (pos (sp_of registers) +ℤ pos bytes)) (λ sp. Answers (with_register registers RSP sp)) popped is in
+    let same : with_register registers RSP sp ≡ popped = cc in
+    let high = get_or-set_same registers.regs 7 sp 0 (omega (arith, all)) in
+    subst (IsAbove registers) same (record {
+      above = omega (arith, high, above-answers (sp_of registers) bytes sp sp_is);
+      all = length-set registers.regs 7 sp ∙ all;
+    })
+
+popped-is-above : (register : Reg) (registers popped_ : UnwindRegsX86_64) (words : Words) → HasAllRegisters registers → popped register registers words ≡ Answers popped_ → IsAbove registers popped_
+popped-is-above register registers popped_ words all is =
+    let put : ℕ → ℕ → Outcome UnwindRegsX86_64 = λ value sp. Answers (with_register (with_register registers register value) RSP sp) in
+    let (value, value_is, more) = and_then-answers (word words (sp_of registers)) (λ value. and_then (address (pos (sp_of registers) +ℤ pos 8)) (put value)) popped_ is in
+    let (sp, sp_is, there) = and_then-answers (address (pos (sp_of registers) +ℤ pos 8)) (put value) popped_ more in
+    let same : with_register (with_register registers register value) RSP sp ≡ popped_ = cc in
+    let size = length-set registers.regs (dwarf_number register) value in
+    let high = get_or-set_same (slice_set registers.regs (dwarf_number register) value) 7 sp 0 (omega (arith, size, all)) in
+    subst (IsAbove registers) same (record {
+      above = omega (arith, high, above-answers (sp_of registers) 8 sp sp_is);
+      all = length-set (slice_set registers.regs (dwarf_number register) value) 7 sp ∙ size ∙ all;
+    })
+
+all-popped-is-above : (list : List Reg) (registers popped_ : UnwindRegsX86_64) (words : Words) → HasAllRegisters registers → all_popped list registers words ≡ Answers popped_ → IsAbove registers popped_
+all-popped-is-above [] registers popped_ words all is =
+    let same : registers ≡ popped_ = cc in
+    subst (IsAbove registers) same (record { above = omega arith; all = all })
+all-popped-is-above (register ∷ more) registers popped_ words all is =
+    let (next, next_is, rest) = and_then-answers (popped register registers words) (λ next. all_popped more next words) popped_ is in
+    let one = popped-is-above register registers next words all next_is in
+    above-trans registers next popped_ one (all-popped-is-above more next popped_ words one.all rest)
+
+popped-by-is-above : (rule : UnwindRuleX86_64) (registers popped_ : UnwindRegsX86_64) (words : Words) → HasAllRegisters registers → popped_by rule registers words ≡ Answers popped_ → IsAbove registers popped_
+popped-by-is-above (OffsetSpAndPopRegisters x count number) registers popped_ words all is =
+    let (from, from_is, rest) = and_then-answers (raised registers (8 * x)) (λ from. all_popped (pop_list count number) from words) popped_ is in
+    let first = raised-is-above registers from (8 * x) all from_is in
+    above-trans registers from popped_ first (all-popped-is-above (pop_list count number) from popped_ words first.all rest)
+popped-by-is-above rule registers popped_ words all is =
+    let same : registers ≡ popped_ = cc in
+    subst (IsAbove registers) same (record { above = omega arith; all = all })
+
+-- a rule pops nothing, or moves by 8 once it has popped
+abbrev Keeps : UnwindRuleX86_64 → Type 0
+Keeps rule = (registers : UnwindRegsX86_64) (words : Words) → popped_by rule registers words ≡ Answers registers
+
+abbrev Returns : UnwindRuleX86_64 → Type 0
+Returns rule = (is_first : Bool) (registers : UnwindRegsX86_64) (words : Words) → moves rule is_first registers words ≡ raised_frame registers 8
+
+keeps-or-returns : (rule : UnwindRuleX86_64) → Keeps rule ⊎ Returns rule
+keeps-or-returns (OffsetSpAndPopRegisters x count number) = inr (λ is_first registers words. refl)
+keeps-or-returns rule = inl (λ registers words. refl)
 
 -- ---- the caller's registers
 
@@ -100,31 +170,45 @@ is-returned registers words sp to is =
       advances = subst (λ (n : ℕ). ((sp == sp_of registers) && (n == ip_of registers)) ≡ false) same goes.0;
     }
 
--- where a rule answers, what it moved to, and the return address that it read
+-- where a rule answers, the registers once it has popped, what it moved to, and the return address that it read
 record IsAnswered (rule : UnwindRuleX86_64) (is_first : Bool) (registers : UnwindRegsX86_64) (words : Words) (caller : Caller UnwindRegsX86_64) : Type 0 where
+  pub popped_ : UnwindRegsX86_64
+  pub popped_is : popped_by rule registers words ≡ Answers popped_
+  pub popped_above : IsAbove registers popped_
   pub frame : StackFrame
-  pub above : sp_of registers ≤ frame.0
-  pub returned : IsReturned registers words frame.0 caller.return_address
+  pub frame_is : moves rule is_first popped_ words ≡ Answers frame
+  pub returned : IsReturned popped_ words frame.0 caller.return_address
   pub left : IsCaller caller.registers caller.return_address frame.0
+
+is-above : {rule : UnwindRuleX86_64} {is_first : Bool} {registers : UnwindRegsX86_64} {words : Words} {caller : Caller UnwindRegsX86_64}
+    → (a : IsAnswered rule is_first registers words caller) → sp_of registers ≤ a.frame.0
+is-above {rule} {is_first} {registers} {words} a =
+    omega (arith, a.popped_above.above, moved-above rule is_first a.popped_ words a.frame a.frame_is)
 
 is-answered : (rule : UnwindRuleX86_64) (is_first : Bool) (registers : UnwindRegsX86_64) (words : Words) (caller : Caller UnwindRegsX86_64)
     → HasAllRegisters registers → rule_meaning rule is_first registers words ≡ Answers caller → IsAnswered rule is_first registers words caller
 is-answered rule is_first registers words caller all is =
-    let (frame, frame_is, there) = and_then-answers (moves rule is_first registers words) (returned_caller registers words) caller is in
-    by frame (moved-above rule is_first registers words frame frame_is) there
+    let (popped_, popped_is, rest) = and_then-answers (popped_by rule registers words) (λ next. and_then (moves rule is_first next words) (returned_caller next words)) caller is in
+    let (frame, frame_is, there) = and_then-answers (moves rule is_first popped_ words) (returned_caller popped_ words) caller rest in
+    by popped_ popped_is (popped-by-is-above rule registers popped_ words all popped_is) frame frame_is there
   where
-    by : (frame : StackFrame) → sp_of registers ≤ frame.0 → returned_caller registers words frame ≡ Answers caller → IsAnswered rule is_first registers words caller
-    by (sp, bp) above there =
-        let made : ℕ → Caller UnwindRegsX86_64 = λ to. record { return_address = to; registers = caller_registers registers to sp bp } in
-        let (to, to_is, last) = and_then-answers (return_address registers words sp) (λ to. Answers (made to)) caller there in
+    by : (popped_ : UnwindRegsX86_64) → popped_by rule registers words ≡ Answers popped_ → IsAbove registers popped_
+        → (frame : StackFrame) → moves rule is_first popped_ words ≡ Answers frame
+        → returned_caller popped_ words frame ≡ Answers caller → IsAnswered rule is_first registers words caller
+    by popped_ popped_is above (sp, bp) frame_is there =
+        let made : ℕ → Caller UnwindRegsX86_64 = λ to. record { return_address = to; registers = caller_registers popped_ to sp bp } in
+        let (to, to_is, last) = and_then-answers (return_address popped_ words sp) (λ to. Answers (made to)) caller there in
         let same : made to ≡ caller = cc in
         let to_same : to ≡ caller.return_address = ap (λ (c : Caller UnwindRegsX86_64). c.return_address) same in
         let P : Caller UnwindRegsX86_64 → Type 0 = λ c. IsCaller c.registers c.return_address sp in
         record {
+          popped_ = popped_;
+          popped_is = popped_is;
+          popped_above = above;
           frame = (sp, bp);
-          above = above;
-          returned = subst (IsReturned registers words sp) to_same (is-returned registers words sp to to_is);
-          left = subst P same (caller-is registers to sp bp all);
+          frame_is = frame_is;
+          returned = subst (IsReturned popped_ words sp) to_same (is-returned popped_ words sp to to_is);
+          left = subst P same (caller-is popped_ to sp bp above.all);
         }
 
 -- ---- the laws
@@ -133,7 +217,7 @@ module _ (rule : UnwindRuleX86_64) (is_first : Bool) (registers : UnwindRegsX86_
     (all : HasAllRegisters registers) (is : rule_meaning rule is_first registers words ≡ Answers caller) where
   -- a caller isn't lower
   pub caller-above : sp_of registers ≤ sp_of caller.registers
-  caller-above = let a = is-answered rule is_first registers words caller all is in omega (arith, a.above, a.left.sp_is)
+  caller-above = let a = is-answered rule is_first registers words caller all is in omega (arith, is-above a, a.left.sp_is)
 
   -- all its registers are there
   pub caller-all : HasAllRegisters caller.registers
@@ -153,17 +237,27 @@ module _ (rule : UnwindRuleX86_64) (is_first : Bool) (registers : UnwindRegsX86_
   caller-higher behind =
       let a = is-answered rule is_first registers words caller all is in
       let differs : a.frame.0 ≢ sp_of registers = λ same. no-loop a same in
-      omega (arith, a.above, a.left.sp_is)
+      omega (arith, is-above a, a.left.sp_is)
     where
-      no-loop : (a : IsAnswered rule is_first registers words caller) → a.frame.0 ≡ sp_of registers → ⊥
-      no-loop a same =
+      loops : (a : IsAnswered rule is_first registers words caller) → a.popped_ ≡ registers → a.frame.0 ≡ sp_of registers → ⊥
+      loops a kept same =
           let there : Answers caller.return_address ≡ Answers (ip_of registers) =
           sym a.returned.returned_to ∙ ap (word_below words) same ∙ behind.returned_to in
           let to_same : caller.return_address ≡ ip_of registers = cc in
           let sp_test : (a.frame.0 == sp_of registers) ≡ true = equal a.frame.0 (sp_of registers) same in
           let to_test : (caller.return_address == ip_of registers) ≡ true = equal caller.return_address (ip_of registers) to_same in
-          let loops : true ≡ false = rw (sp_test, to_test) at a.returned.advances in
+          let advances : ((a.frame.0 == sp_of registers) && (caller.return_address == ip_of registers)) ≡ false =
+          subst (λ (r : UnwindRegsX86_64). ((a.frame.0 == sp_of r) && (caller.return_address == ip_of r)) ≡ false) kept a.returned.advances in
+          let never : true ≡ false = rw (sp_test, to_test) at advances in
           cc
+
+      no-loop : (a : IsAnswered rule is_first registers words caller) → a.frame.0 ≡ sp_of registers → ⊥
+      no-loop a same = elim (keeps-or-returns rule) [
+        | inl keeps ↦ (let e : Answers registers ≡ Answers a.popped_ = sym (keeps registers words) ∙ a.popped_is in let kept : a.popped_ ≡ registers = cc in loops a kept same)
+        | inr returns ↦
+            let up = raised-to a.popped_ 8 a.frame (sym (returns is_first a.popped_ words) ∙ a.frame_is) in
+            omega (arith, up, same, a.popped_above.above)
+      ]
 
 -- behind a call a rule that leaves the stack pointer is refused
 pub stays-refused : (rule : UnwindRuleX86_64) (is_first : Bool) (registers : UnwindRegsX86_64) (words : Words) (bp : ℕ)
@@ -177,8 +271,13 @@ stays-refused rule is_first registers words bp behind moved =
     let loops : tested registers (sp_of registers) (ip_of registers) ≡ Refuses DidNotAdvance = rw (not_zero, same_sp, same_ip) in
     let refused : return_address registers words (sp_of registers) ≡ Refuses DidNotAdvance =
     by-word registers words (sp_of registers) ∙ ap (λ (o : Outcome ℕ). and_then o (tested registers (sp_of registers))) behind.returned_to ∙ loops in
-    ap (λ (o : Outcome StackFrame). and_then o (returned_caller registers words)) moved
-    ∙ ap (λ (o : Outcome ℕ). and_then o (λ to. answered to)) refused
+    elim (keeps-or-returns rule) [
+      | inl keeps ↦ (
+          ap (λ (o : Outcome UnwindRegsX86_64). and_then o (λ next. and_then (moves rule is_first next words) (returned_caller next words))) (keeps registers words)
+          ∙ ap (λ (o : Outcome StackFrame). and_then o (returned_caller registers words)) moved
+          ∙ ap (λ (o : Outcome ℕ). and_then o (λ to. answered to)) refused)
+      | inr returns ↦ (let up = raised-to registers 8 (sp_of registers, bp) (sym (returns is_first registers words) ∙ moved) in absurd (omega (arith, up)))
+    ]
   where
     answered : ℕ → Outcome (Caller UnwindRegsX86_64)
     answered to = Answers (record { return_address = to; registers = caller_registers registers to (sp_of registers) bp })

@@ -5,6 +5,7 @@ pub mod LastKept
 pub mod Outcome
 pub mod PopLists
 pub mod PopListViews
+pub mod Pops
 pub mod Registers
 pub mod RegistersAarch64
 pub mod RuleMeaning

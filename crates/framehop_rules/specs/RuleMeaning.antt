@@ -1,13 +1,15 @@
 -- The meaning of the unwind rules of x86_64, over a map of words and unbounded numbers.
 --
 -- Checks and reads go in the written order, and the first one that fails is the refusal.
-use Rattle.std.specs.Prelude.{ℕ, ◌≡◌, ◌≢◌, ◌*◌, ℤ, pos, ◌+ℤ◌, ◌-ℤ◌, ◌*ℤ◌, Bool, ◌&&◌, ◌==◌, nat_lt, nat_le, if◌then◌else◌, Some, None}
+use Rattle.std.specs.Prelude.{ℕ, ◌≡◌, ◌≢◌, ◌*◌, ◌<◌, ◌≤◌, ℤ, pos, ◌+ℤ◌, ◌-ℤ◌, ◌*ℤ◌, Bool, ◌&&◌, ◌==◌, nat_lt, nat_le, if◌then◌else◌, Some, None}
 use Rattle.framehop_rules.specs.Callback.{Words}
 use Rattle.framehop_rules.specs.Outcome.{Outcome, Ends, Refuses, Answers, and_then, address, word, Caller}
+use Rattle.framehop_rules.specs.PopLists.{pop_list}
+use Rattle.framehop_rules.specs.Pops.{raised, all_popped}
 use Rattle.framehop_rules.specs.Registers.{ip_of, sp_of, bp_of, with_ip, with_register}
 use Rattle.framehop_rules.specs.declared.error.Error.TheVariants.{CouldNotReadStack, FramepointerUnwindingMovedBackwards, DidNotAdvance}
 use Rattle.framehop_rules.specs.declared.x86_64.unwind_rule.UnwindRuleX86_64.{UnwindRuleX86_64}
-use Rattle.framehop_rules.specs.declared.x86_64.unwind_rule.UnwindRuleX86_64.TheVariants.{EndOfStack, JustReturn, JustReturnIfFirstFrameOtherwiseFp, OffsetSp, OffsetSpAndRestoreBp, UseFramePointer}
+use Rattle.framehop_rules.specs.declared.x86_64.unwind_rule.UnwindRuleX86_64.TheVariants.{EndOfStack, JustReturn, JustReturnIfFirstFrameOtherwiseFp, OffsetSp, OffsetSpAndRestoreBp, UseFramePointer, OffsetSpAndPopRegisters}
 use Rattle.framehop_rules.specs.declared.x86_64.unwindregs.Reg.TheVariants.{RBP, RSP}
 use Rattle.framehop_rules.specs.declared.x86_64.unwindregs.UnwindRegsX86_64.{UnwindRegsX86_64}
 
@@ -45,7 +47,13 @@ restored_frame is_first registers words bytes offset =
     and_then (stored_bp is_first registers words at) (λ bp.
     Answers (sp, bp))))
 
--- What each rule does to the stack pointer and the frame pointer.
+-- The registers once those are popped that a rule names, from an offset on. Most rules pop none.
+abbrev pub popped_by : UnwindRuleX86_64 → UnwindRegsX86_64 → Words → Outcome UnwindRegsX86_64
+popped_by (OffsetSpAndPopRegisters x count number) registers words =
+    and_then (raised registers (8 * x)) (λ from. all_popped (pop_list count number) from words)
+popped_by rule registers words = Answers registers
+
+-- What each rule does to the stack pointer and the frame pointer, once its registers are popped.
 abbrev pub moves : UnwindRuleX86_64 → Bool → UnwindRegsX86_64 → Words → Outcome StackFrame
 moves EndOfStack is_first registers words = Ends
 moves JustReturn is_first registers words = raised_frame registers 8
@@ -55,6 +63,7 @@ moves (OffsetSp x) is_first registers words = raised_frame registers (8 * x)
 moves (OffsetSpAndRestoreBp x y) is_first registers words = restored_frame is_first registers words (8 * x) (pos 8 *ℤ y)
 moves UseFramePointer is_first registers words =
     if bp_of registers == 0 then Ends else by_frame_pointer registers words
+moves (OffsetSpAndPopRegisters x count number) is_first registers words = raised_frame registers 8
 
 -- The return address is the word below the caller's stack pointer. A 0 there ends the stack, and
 -- a step that would change neither stack pointer nor code address is refused.
@@ -79,7 +88,8 @@ returned_caller registers words (sp, bp) =
 -- The meaning of a rule, for a frame with these registers, first or later, on a stack of these words.
 abbrev pub rule_meaning : UnwindRuleX86_64 → Bool → UnwindRegsX86_64 → Words → Outcome (Caller UnwindRegsX86_64)
 rule_meaning rule is_first registers words =
-    and_then (moves rule is_first registers words) (returned_caller registers words)
+    and_then (popped_by rule registers words) (λ popped.
+    and_then (moves rule is_first popped words) (returned_caller popped words))
 
 -- The word below a stack pointer, where a call leaves its return address.
 abbrev pub word_below : Words → ℕ → Outcome ℕ
@@ -90,6 +100,7 @@ pub record IsAtReturn (registers : UnwindRegsX86_64) (words : Words) : Type 0 wh
   pub not_null : ip_of registers ≢ 0
   pub returned_to : word_below words (sp_of registers) ≡ Answers (ip_of registers)
 
--- A rule that can be executed: each one can.
+-- A rule that can be executed: its two numbers are those of a pop list, if it pops registers.
 abbrev pub IsValid : UnwindRuleX86_64 → Type 0
+IsValid (OffsetSpAndPopRegisters x count number) = (count ≤ 8) × (number < 40320)
 IsValid rule = Unit {0}

@@ -3,6 +3,7 @@
 mod arch;
 mod laws;
 mod pop_list;
+mod pops;
 mod register_ordering;
 mod unwind_rule;
 mod unwindregs;

@@ -45,6 +45,7 @@ fn assert_step(
     } else {
         word_at(address)
     };
+    assert!(rt; rule.is_valid(), "{rule:?}");
     assert_eq!(rt;
         rule.exec(is_first_frame, &mut regs, &mut read_stack),
         answer,

@@ -1,14 +1,14 @@
 //! The rows of x86_64: as unwind rules, or evaluated.
 
-ghost use Rattle.std.specs.Prelude.{◌≡◌, Bool, option_and_then};
+ghost use Rattle.std.specs.Prelude.{◌≡◌, Bool, option_and_then, IfSome, IfOk};
 ghost use Rattle.framehop_rules.specs.Callback.{Words, OverWords};
 ghost use Rattle.framehop.specs.Attempt.{by_parts};
 ghost use Rattle.framehop.specs.DirectRow.{direct_return_address, direct_refusal, direct_answer};
 ghost use Rattle.framehop.specs.DirectViews.{caller_shown};
 ghost use Rattle.dwarf_call_frames.specs.EntryViews.{section_bytes};
-ghost use Rattle.framehop.specs.UnwindResults.{trial, with_registers, of_dwarf, KeepsUnlessDirect};
+ghost use Rattle.framehop.specs.UnwindResults.{trial, with_registers, of_dwarf, KeepsUnlessDirect, HasValidRule};
 ghost use Rattle.framehop_rules.specs.Outcome.{Answers, Caller};
-ghost use Rattle.framehop_rules.specs.RuleMeaning.{rule_meaning};
+ghost use Rattle.framehop_rules.specs.RuleMeaning.{rule_meaning, IsValid};
 ghost use Rattle.framehop.specs.RowAnswer.{row_answer};
 ghost use Rattle.framehop.specs.ScaledRow.{Parts, eighth_of, as_u16, as_i16, from_sp, from_bp, from_return_address, scaled_rule};
 ghost use Rattle.framehop.specs.RowViews.{parts_shown};
@@ -47,7 +47,8 @@ fn signed_words(offset: i64) -> Option<i16>
 
 /// The rule for a CFA that is RSP plus an offset.
 fn rule_from_sp(offset: i64, bp: Option<RegisterRule>) -> Option<UnwindRuleX86_64>
-    ensures { result ≡ from_sp offset bp }
+    ensures rule { result ≡ from_sp offset bp }
+    ensures valid { IfSome result IsValid }
 {
     let sp_offset_by_8 = unsigned_words(offset)?;
     let Some(RegisterRule::Offset(stored)) = bp else {
@@ -62,7 +63,8 @@ fn rule_from_sp(offset: i64, bp: Option<RegisterRule>) -> Option<UnwindRuleX86_6
 
 /// The rule for a CFA that is RBP plus an offset.
 fn rule_from_bp(offset: i64, bp: Option<RegisterRule>) -> Option<UnwindRuleX86_64>
-    ensures { result ≡ from_bp offset bp }
+    ensures rule { result ≡ from_bp offset bp }
+    ensures valid { IfSome result IsValid }
 {
     match bp {
         Some(RegisterRule::Offset(-16)) if offset == 16 => Some(UnwindRuleX86_64::UseFramePointer),
@@ -78,7 +80,8 @@ fn translate_into_unwind_rule(
     bp: Option<RegisterRule>,
     ra: Option<RegisterRule>,
 ) -> Option<UnwindRuleX86_64>
-    ensures { result ≡ from_return_address cfa bp ra }
+    ensures rule { result ≡ from_return_address cfa bp ra }
+    ensures valid { IfSome result IsValid }
 {
     match ra {
         None => return Some(UnwindRuleX86_64::EndOfStack),
@@ -100,7 +103,8 @@ fn translate_into_unwind_rule(
 
 /// The rule that says a row exactly, if one does.
 fn rule_for_row(row: &UnwindTableRow) -> Option<UnwindRuleX86_64>
-    ensures { result ≡ scaled_rule (parts_shown row.now) }
+    ensures rule { result ≡ scaled_rule (parts_shown row.now) }
+    ensures valid { IfSome result IsValid }
 {
     translate_into_unwind_rule(
         *row.cfa(),
@@ -200,6 +204,7 @@ pub(crate) fn unwind_frame<F: FnMut(u64) -> Result<u64, ()>>(
         with_registers regs.new (of_dwarf result) ≡ trial is_first_frame regs.old words
         (by_parts (section_bytes section.now) (parts_shown row.now))) }
     ensures keeps { KeepsUnlessDirect result regs.old regs.new }
+    ensures valid { IfOk result HasValidRule }
 {
     if let Some(rule) = rule_for_row(row) {
         return Ok(UnwindResult::ExecRule(rule));

@@ -6,7 +6,7 @@ ghost use Rattle.framehop_rules.specs.Outcome.{IsStep, IsOfRule};
 ghost use Rattle.framehop.specs.ModuleViews.{module_view};
 ghost use Rattle.framehop.specs.ModuleFound.{with_module};
 ghost use Rattle.framehop.specs.Judge.{judge, is_first};
-ghost use Rattle.framehop.specs.UnwindResults.{KeepsForRule, outcome_of_result};
+ghost use Rattle.framehop.specs.UnwindResults.{KeepsForRule, HasValidRule, outcome_of_result};
 
 use crate::unwind_result::UnwindResult;
 use crate::unwinder::{Module, UnwinderInternal};
@@ -55,6 +55,7 @@ impl UnwinderX86_64 {
             judge (modules_of self.now) address regs.old words
             ≡ outcome_of_result result (is_first address) regs.new words) }
         ensures keeps { KeepsForRule result regs.old regs.new }
+        ensures valid { HasValidRule result }
     {
         let Some((module, relative_address)) = self
             .0

@@ -1,12 +1,14 @@
 //! The unwind rules of x86_64, and their execution.
 ghost use Rattle.std.specs.Prelude.{◌≡◌, ◌*◌, ◌<◌, ◌^◌, pos, ◌*ℤ◌, ◌+ℤ◌, IfErr, OnErr};
 ghost use Rattle.framehop_rules.specs.Callback.{OverWords};
-ghost use Rattle.framehop_rules.specs.Outcome.{outcome_of, outcome_or_end_of, address, IsOfRule};
-ghost use Rattle.framehop_rules.specs.RuleMeaning.{raised_frame, by_frame_pointer, stored_bp, restored_frame, moves, return_address, rule_meaning, IsValid};
+ghost use Rattle.framehop_rules.specs.Outcome.{outcome_of, outcome_or_end_of, and_then, address, IsOfRule, IsStep};
+ghost use Rattle.framehop_rules.specs.RuleMeaning.{raised_frame, by_frame_pointer, stored_bp, restored_frame, moves, return_address, returned_caller, rule_meaning, IsValid};
 ghost use Rattle.framehop_rules.specs.declared.x86_64.unwind_rule.UnwindRuleX86_64.TheVariants.{JustReturn, UseFramePointer};
 
 use crate::error::Error;
 use crate::unwind_rule::{UnwindRule, address_above, address_at_offset, bytes_of, read_word};
+use crate::x86_64::pops::pop_registers;
+use crate::x86_64::register_ordering::decode;
 use crate::x86_64::unwindregs::UnwindRegsX86_64;
 
 /// One step of a stack walk on x86_64: how the caller's stack pointer and frame pointer follow from
@@ -34,6 +36,16 @@ pub enum UnwindRuleX86_64 {
     },
     /// (sp, bp) = (bp + 16, word at bp); the walk ends where bp is 0.
     UseFramePointer,
+    /// From sp + 8x on, so many registers take a word each, in the order that the number says; sp
+    /// is then 8 above the last of them, and the others keep their values.
+    OffsetSpAndPopRegisters {
+        /// x
+        sp_offset_by_8: u16,
+        /// how many registers, at most 8
+        register_count: u8,
+        /// the order number that `encode` gives for their list
+        encoded_registers_to_pop: u16,
+    },
 }
 
 /// A signed offset in words of 8 bytes, in bytes.
@@ -192,7 +204,37 @@ impl UnwindRuleX86_64 {
                     follow_frame_pointer(regs, read_stack).map(Some)
                 }
             }
+            UnwindRuleX86_64::OffsetSpAndPopRegisters { .. } => raise_sp(regs, 8).map(Some),
         }
+    }
+
+    /// The step once the rule's registers are popped.
+    #[inline(always)]
+    fn return_to_caller<F: FnMut(u64) -> Result<u64, ()>>(
+        self,
+        is_first_frame: bool,
+        regs: &mut UnwindRegsX86_64,
+        read_stack: &mut F,
+    ) -> Result<Option<u64>, Error>
+        requires { F.IsAlwaysCallable read_stack.old }
+        ensures callable { F.IsAlwaysCallable read_stack.new }
+        ensures step { OverWords F.step read_stack.old read_stack.new (λ words.
+            IsStep result regs.old regs.new
+            (and_then (moves self is_first_frame regs.old words) (returned_caller regs.old words))) }
+        ensures none_keeps { result ≡ Ok None → regs.new ≡ regs.old }
+        ensures error_keeps { OnErr result (regs.new ≡ regs.old) }
+        ensures refusals { IfErr result IsOfRule }
+    {
+        let Some((new_sp, new_bp)) = self.moved(is_first_frame, regs, read_stack)? else {
+            return Ok(None);
+        };
+        let Some(return_address) = read_return_address(regs, new_sp, read_stack)? else {
+            return Ok(None);
+        };
+        regs.set_ip(return_address);
+        regs.set_sp(new_sp);
+        regs.set_bp(new_bp);
+        Ok(Some(return_address))
     }
 }
 
@@ -210,7 +252,14 @@ impl UnwindRule for UnwindRuleX86_64 {
     ghost fallback = { UseFramePointer };
 
     fn is_valid(self) -> bool {
-        true
+        match self {
+            UnwindRuleX86_64::OffsetSpAndPopRegisters {
+                register_count,
+                encoded_registers_to_pop,
+                ..
+            } => register_count <= 8 && encoded_registers_to_pop < 40320,
+            _ => true,
+        }
     }
 
     fn exec<F: FnMut(u64) -> Result<u64, ()>>(
@@ -219,16 +268,23 @@ impl UnwindRule for UnwindRuleX86_64 {
         regs: &mut UnwindRegsX86_64,
         read_stack: &mut F,
     ) -> Result<Option<u64>, Error> {
-        let Some((new_sp, new_bp)) = self.moved(is_first_frame, regs, read_stack)? else {
-            return Ok(None);
+        let UnwindRuleX86_64::OffsetSpAndPopRegisters {
+            sp_offset_by_8,
+            register_count,
+            encoded_registers_to_pop,
+        } = self
+        else {
+            return self.return_to_caller(is_first_frame, regs, read_stack);
         };
-        let Some(return_address) = read_return_address(regs, new_sp, read_stack)? else {
-            return Ok(None);
-        };
-        regs.set_ip(return_address);
-        regs.set_sp(new_sp);
-        regs.set_bp(new_bp);
-        Ok(Some(return_address))
+        let list = decode(register_count, encoded_registers_to_pop);
+        let mut popped = *regs;
+        let bytes = bytes_of(sp_offset_by_8);
+        pop_registers(list.as_slice(), bytes, &mut popped, read_stack)?;
+        let answer = self.return_to_caller(is_first_frame, &mut popped, read_stack)?;
+        if answer.is_some() {
+            *regs = popped;
+        }
+        Ok(answer)
     }
 
     fn rule_for_stub_functions() -> Self {

@@ -1,0 +1,34 @@
+-- Pops: registers that take words from the stack, over a map of words and unbounded numbers.
+use Rattle.std.specs.Prelude.{ℕ, pos, ◌+ℤ◌, List, [], ◌∷◌, Result, Ok, Err}
+use Rattle.framehop_rules.specs.Callback.{Words}
+use Rattle.framehop_rules.specs.Outcome.{Outcome, Refuses, Answers, and_then, address, word}
+use Rattle.framehop_rules.specs.Registers.{sp_of, with_register}
+use Rattle.framehop_rules.specs.declared.error.Error.{Error}
+use Rattle.framehop_rules.specs.declared.x86_64.unwindregs.Reg.{Reg}
+use Rattle.framehop_rules.specs.declared.x86_64.unwindregs.Reg.TheVariants.{RSP}
+use Rattle.framehop_rules.specs.declared.x86_64.unwindregs.UnwindRegsX86_64.{UnwindRegsX86_64}
+
+-- The stack pointer goes up by these bytes.
+abbrev pub raised : UnwindRegsX86_64 → ℕ → Outcome UnwindRegsX86_64
+raised registers bytes =
+    and_then (address (pos (sp_of registers) +ℤ pos bytes)) (λ sp.
+    Answers (with_register registers RSP sp))
+
+-- A register takes the word at the stack pointer, which then goes up by 8.
+abbrev pub popped : Reg → UnwindRegsX86_64 → Words → Outcome UnwindRegsX86_64
+popped register registers words =
+    and_then (word words (sp_of registers)) (λ value.
+    and_then (address (pos (sp_of registers) +ℤ pos 8)) (λ sp.
+    Answers (with_register (with_register registers register value) RSP sp)))
+
+-- Registers are popped one after the other.
+abbrev pub all_popped : List Reg → UnwindRegsX86_64 → Words → Outcome UnwindRegsX86_64
+all_popped [] registers words = Answers registers
+all_popped (register ∷ more) registers words =
+    and_then (popped register registers words) (λ next.
+    all_popped more next words)
+
+-- What changing the registers comes to, from what the code answers and the registers that it leaves.
+abbrev pub outcome_leaving : UnwindRegsX86_64 → Result (Unit {0}) Error → Outcome UnwindRegsX86_64
+outcome_leaving registers (Ok done) = Answers registers
+outcome_leaving registers (Err error) = Refuses error

@@ -1,0 +1,244 @@
+//! Lists of registers that are popped, their numbers, and the rules that pop them.
+use crate::worked::word_at;
+use framehop_rules::x86_64::{Reg, UnwindRegsX86_64, UnwindRuleX86_64, decode, encode};
+use framehop_rules::{Error, UnwindRule};
+use std::alloc::{AllocError, Global};
+use std::process::Abort;
+use std::test::Fail;
+
+/// The callee-saved registers, in another order than that in which lists are numbered.
+const SAVED: [Reg; 8] = [
+    Reg::R15,
+    Reg::RSI,
+    Reg::RBX,
+    Reg::R13,
+    Reg::RBP,
+    Reg::R12,
+    Reg::R14,
+    Reg::RDI,
+];
+
+/// So many of these registers, each at most once: another list for each number.
+fn list_at(alloc: Global, count: usize, mut number: usize) -> Result<Vec<Reg>, AllocError> {
+    let mut rest = SAVED.to_vec(alloc)?;
+    let mut list = Vec::new(alloc);
+    for _ in 0..count {
+        let choices = rest.len();
+        if choices == 0 {
+            break;
+        }
+        list.push(rest.remove(number % choices))?;
+        number /= choices;
+    }
+    Ok(list)
+}
+
+/// Every list has a number of its own among those of its length, which gives the list back.
+#[test]
+fn numbers_every_list(rt: HostRuntime) -> Result<(), Fail> {
+    let mut lists = 0u32;
+    let mut of_length = 1u32;
+    for count in 0..9u8 {
+        let mut seen = vec![in rt.alloc(); false; 40320]?;
+        for index in 0..of_length {
+            let list = list_at(rt.alloc(), usize::from(count), index as usize)?;
+            let Some((length, number)) = encode(list.as_slice()) else {
+                panic!(rt; "{list:?} has a number");
+            };
+            assert_eq!(rt; length, count, "{list:?}");
+            let place = usize::from(number);
+            assert!(rt; place < seen.len() && !seen[place], "{number} comes twice");
+            seen[place] = true;
+            let decoded = decode(length, number);
+            assert!(rt;
+                decoded.as_slice() == list.as_slice(),
+                "{number} gives {list:?} back"
+            );
+            lists = lists.wrapping_add(1);
+        }
+        of_length = of_length.wrapping_mul(8u32.wrapping_sub(u32::from(count)));
+    }
+    assert_eq!(rt; lists, 109601);
+    Ok(())
+}
+
+#[test]
+fn numbers_lists(rt: HostRuntime) {
+    let eight = [
+        Reg::RBX,
+        Reg::RBP,
+        Reg::RDI,
+        Reg::RSI,
+        Reg::R12,
+        Reg::R13,
+        Reg::R14,
+        Reg::R15,
+    ];
+    let last = [
+        Reg::R15,
+        Reg::RBX,
+        Reg::RBP,
+        Reg::RDI,
+        Reg::RSI,
+        Reg::R12,
+        Reg::R13,
+        Reg::R14,
+    ];
+    for (list, pops) in [
+        ([].as_slice(), (0, 0)),
+        ([Reg::RBP].as_slice(), (1, 1)),
+        ([Reg::R15, Reg::RBX].as_slice(), (2, 55)),
+        ([Reg::RBX, Reg::RBP, Reg::R12].as_slice(), (3, 112)),
+        (eight.as_slice(), (8, 0)),
+        (last.as_slice(), (8, 40319)),
+    ] {
+        assert_eq!(rt; encode(list), Some(pops), "{list:?}");
+    }
+    let decoded = decode(2, 55);
+    assert!(rt;
+        decoded.as_slice() == [Reg::R15, Reg::RBX].as_slice(),
+        "R15, RBX"
+    );
+}
+
+#[test]
+fn refuses_lists(rt: HostRuntime) {
+    for list in [
+        [Reg::RAX].as_slice(),
+        [Reg::RSP].as_slice(),
+        [Reg::RBX, Reg::R11].as_slice(),
+        [Reg::RSI, Reg::RSI].as_slice(),
+        [Reg::R12, Reg::RBX, Reg::R12].as_slice(),
+    ] {
+        assert_eq!(rt; encode(list), None, "{list:?}");
+    }
+}
+
+/// The rule that pops a list from so many words above SP on.
+fn pops(words: u16, (count, number): (u8, u16)) -> UnwindRuleX86_64 {
+    UnwindRuleX86_64::OffsetSpAndPopRegisters {
+        sp_offset_by_8: words,
+        register_count: count,
+        encoded_registers_to_pop: number,
+    }
+}
+
+#[test]
+fn knows_valid_rules(rt: HostRuntime) {
+    for (rule, is_valid) in [
+        (pops(u16::MAX, (0, 0)), true),
+        (pops(0, (8, 40319)), true),
+        (pops(0, (8, 40320)), false),
+        (pops(0, (9, 0)), false),
+        (UnwindRuleX86_64::EndOfStack, true),
+    ] {
+        assert_eq!(rt; rule.is_valid(), is_valid, "{rule:?}");
+    }
+}
+
+/// Registers of which each has a value of its own.
+fn full_registers(sp: u64) -> UnwindRegsX86_64 {
+    let mut regs = UnwindRegsX86_64::new(0x101000, sp, 0xb0);
+    for reg in SAVED {
+        if reg != Reg::RBP {
+            regs.set(reg, 0xf0 | reg as u64);
+        }
+    }
+    regs.set(Reg::RAX, 0xa0);
+    regs
+}
+
+/// One step over the worked stack, or over one where every word is 1: its answer and the registers
+/// after it.
+fn assert_pops(
+    rt: &impl Abort,
+    rule: UnwindRuleX86_64,
+    sp: u64,
+    is_all_ones: bool,
+    answer: Result<Option<u64>, Error>,
+    after: UnwindRegsX86_64,
+) {
+    let mut regs = full_registers(sp);
+    let mut read_stack = |address: u64| if is_all_ones { Ok(1) } else { word_at(address) };
+    assert!(rt; rule.is_valid(), "{rule:?}");
+    assert_eq!(rt;
+        rule.exec(true, &mut regs, &mut read_stack),
+        answer,
+        "{rule:?} at {sp:x}"
+    );
+    assert!(rt; regs == after, "{rule:?} at {sp:x} leaves {regs:?}");
+}
+
+/// Each register takes its word, the return address stands above them, all others stay.
+#[test]
+fn pops_registers(rt: HostRuntime) {
+    for (rule, sp, values, return_address, new_sp) in [
+        (pops(1, (0, 0)), 0x8, [].as_slice(), 0x100300, 0x18),
+        (
+            pops(0, (1, 1)),
+            0x20,
+            [(Reg::RBP, 0x40)].as_slice(),
+            0x100200,
+            0x30,
+        ),
+        (
+            pops(0, (2, 55)),
+            0x0,
+            [(Reg::R15, 1), (Reg::RBX, 2)].as_slice(),
+            0x100300,
+            0x18,
+        ),
+        (
+            pops(1, (3, 112)),
+            0x28,
+            [(Reg::RBX, 5), (Reg::RBP, 6), (Reg::R12, 0x70)].as_slice(),
+            0x100100,
+            0x50,
+        ),
+    ] {
+        let mut after = full_registers(new_sp);
+        after.set_ip(return_address);
+        for &(reg, value) in values {
+            after.set(reg, value);
+        }
+        assert_pops(&rt, rule, sp, false, Ok(Some(return_address)), after);
+    }
+}
+
+/// Where no caller is answered all registers stay, those too that were read by then.
+#[test]
+fn keeps_registers_that_it_popped(rt: HostRuntime) {
+    let last = u64::MAX - 7;
+    for (rule, sp, is_all_ones, answer) in [
+        (pops(1, (2, 55)), 0x58, false, Ok(None)),
+        (
+            pops(0, (3, 112)),
+            0x68,
+            false,
+            Err(Error::CouldNotReadStack(0x80)),
+        ),
+        (
+            pops(1, (3, 112)),
+            0x68,
+            false,
+            Err(Error::CouldNotReadStack(0x80)),
+        ),
+        (pops(1, (0, 0)), last, true, Err(Error::IntegerOverflow)),
+        (
+            pops(0, (1, 1)),
+            last,
+            false,
+            Err(Error::CouldNotReadStack(last)),
+        ),
+        (pops(0, (1, 1)), last, true, Err(Error::IntegerOverflow)),
+        (pops(0, (1, 1)), last - 8, true, Err(Error::IntegerOverflow)),
+        (
+            pops(0, (2, 55)),
+            last - 16,
+            true,
+            Err(Error::IntegerOverflow),
+        ),
+    ] {
+        assert_pops(&rt, rule, sp, is_all_ones, answer, full_registers(sp));
+    }
+}
