@@ -1,5 +1,5 @@
 -- What is known of the parts of a rule where the whole answers.
-use Rattle.std.proofs.Common.{◌≡◌, ◌≢◌, ℕ, ◌+◌, refl, arith, Bool, true, false}
+use Rattle.std.proofs.Common.{◌≡◌, ◌≢◌, ◌≤◌, ◌<◌, ◌^◌, ℕ, ◌+◌, refl, arith, Bool, true, false}
 use Rattle.std.specs.Prelude.{ℤ, pos, negsuc, ◌+ℤ◌, ◌==◌, if◌then◌else◌}
 use Rattle.std.proofs.lemmas.Bool.Decides.{Decides-eqb}
 use Rattle.std.proofs.lemmas.Int.{ints}
@@ -21,6 +21,26 @@ address-answers (negsuc n) a is = cc
 -- an address above another
 pub above-answers : (base bytes a : ℕ) → address (pos base +ℤ pos bytes) ≡ Answers a → a ≡ base + bytes
 above-answers base bytes a is = omega (arith, ints, address-answers (pos base +ℤ pos bytes) a is)
+
+-- and it has 64 bits
+above-fits : (base bytes a : ℕ) → address (pos base +ℤ pos bytes) ≡ Answers a → a < 2 ^ 64
+above-fits base bytes a is = fits (pos base +ℤ pos bytes) is
+  where
+    fits : (z : ℤ) → address z ≡ Answers a → a < 2 ^ 64
+    fits (pos n) is = grind arith
+    fits (negsuc n) is = cc
+
+-- a stack pointer isn't below another, and has 64 bits
+pub record IsPlaced (low high : ℕ) : Type 0 where
+  pub not_below : low ≤ high
+  pub fits : high < 2 ^ 64
+
+-- what is so many bytes above an address
+pub above : (base bytes a high : ℕ) → a ≡ high → address (pos base +ℤ pos bytes) ≡ Answers a → IsPlaced base high
+above base bytes a high same is = record {
+  not_below = omega (arith, above-answers base bytes a is);
+  fits = omega (arith, above-fits base bytes a is);
+}
 
 -- three parts, one after the other
 pub and_then-assoc : {A B C : Type 0} (first : Outcome A) (second : A → Outcome B) (third : B → Outcome C)

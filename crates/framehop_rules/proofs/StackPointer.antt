@@ -1,5 +1,5 @@
 -- On x86_64 no answered rule lowers the stack pointer, and behind a call each raises it.
-use Rattle.std.proofs.Common.{◌≡◌, ◌≢◌, ◌∙◌, ℕ, ◌+◌, ◌*◌, ◌⊎◌, inl, inr, List, [], ◌∷◌, ◌≤◌, ◌<◌, ap, sym, refl, subst, arith, Bool, true, false}
+use Rattle.std.proofs.Common.{◌≡◌, ◌≢◌, ◌∙◌, ℕ, ◌+◌, ◌*◌, ◌⊎◌, inl, inr, List, [], ◌∷◌, ◌≤◌, ◌<◌, ◌^◌, ap, sym, refl, subst, arith, Bool, true, false}
 use Rattle.std.specs.Prelude.{ℤ, pos, ◌+ℤ◌, ◌-ℤ◌, ◌*ℤ◌, ◌==◌, ◌&&◌, nat_le, if◌then◌else◌, slice_set}
 use Rattle.std.proofs.lemmas.Bool.{leb-false}
 use Rattle.std.proofs.lemmas.List.{get_or-set_same, get_or-set_other, length-set}
@@ -15,7 +15,7 @@ use Rattle.framehop_rules.specs.declared.x86_64.unwindregs.Reg.{Reg}
 use Rattle.framehop_rules.specs.declared.x86_64.unwindregs.Reg.TheVariants.{RSP}
 use Rattle.framehop_rules.specs.declared.x86_64.unwindregs.UnwindRegsX86_64.{UnwindRegsX86_64}
 use Rattle.framehop_rules.specs.declared.error.Error.TheVariants.{FramepointerUnwindingMovedBackwards, DidNotAdvance}
-use Rattle.framehop_rules.proofs.Parts.{and_then-answers, and_then-assoc, above-answers, past-refusal, past-end, differ, equal, unequal}
+use Rattle.framehop_rules.proofs.Parts.{IsPlaced, and_then-answers, and_then-assoc, above-answers, above, past-refusal, past-end, differ, equal, unequal}
 
 -- ---- the stack pointer that a rule moves to
 
@@ -26,10 +26,13 @@ raised-to registers bytes frame is =
     let high : sp ≡ frame.0 = ap (λ (f : StackFrame). f.0) same in
     omega (arith, above-answers (sp_of registers) bytes sp sp_is)
 
-raised-above : (registers : UnwindRegsX86_64) (bytes : ℕ) (frame : StackFrame) → raised_frame registers bytes ≡ Answers frame → sp_of registers ≤ frame.0
-raised-above registers bytes frame is = omega (arith, raised-to registers bytes frame is)
+raised-above : (registers : UnwindRegsX86_64) (bytes : ℕ) (frame : StackFrame) → raised_frame registers bytes ≡ Answers frame → IsPlaced (sp_of registers) frame.0
+raised-above registers bytes frame is =
+    let (sp, sp_is, there) = and_then-answers (address (pos (sp_of registers) +ℤ pos bytes)) (λ sp. Answers (sp, bp_of registers)) frame is in
+    let same : (sp, bp_of registers) ≡ frame = cc in
+    above (sp_of registers) bytes sp frame.0 (ap (λ (f : StackFrame). f.0) same) sp_is
 
-followed-above : (registers : UnwindRegsX86_64) (words : Words) (frame : StackFrame) → by_frame_pointer registers words ≡ Answers frame → sp_of registers ≤ frame.0
+followed-above : (registers : UnwindRegsX86_64) (words : Words) (frame : StackFrame) → by_frame_pointer registers words ≡ Answers frame → IsPlaced (sp_of registers) frame.0
 followed-above registers words frame is =
     let read : ℕ → Outcome StackFrame = λ sp. and_then (word words (bp_of registers)) (λ bp. Answers (sp, bp)) in
     let (sp, sp_is, more) = and_then-answers (address (pos (bp_of registers) +ℤ pos 16)) (λ sp. if nat_le sp (sp_of registers) then Refuses FramepointerUnwindingMovedBackwards else read sp) frame is in
@@ -37,10 +40,11 @@ followed-above registers words frame is =
     let (bp, bp_is, there) = and_then-answers (word words (bp_of registers)) (λ bp. Answers (sp, bp)) frame last in
     let same : (sp, bp) ≡ frame = cc in
     let high : sp ≡ frame.0 = ap (λ (f : StackFrame). f.0) same in
-    omega (arith, leb-false sp (sp_of registers) up)
+    let placed = above (bp_of registers) 16 sp frame.0 high sp_is in
+    record { not_below = omega (arith, leb-false sp (sp_of registers) up); fits = placed.fits }
 
 restored-above : (is_first : Bool) (registers : UnwindRegsX86_64) (words : Words) (bytes : ℕ) (offset : ℤ) (frame : StackFrame)
-    → restored_frame is_first registers words bytes offset ≡ Answers frame → sp_of registers ≤ frame.0
+    → restored_frame is_first registers words bytes offset ≡ Answers frame → IsPlaced (sp_of registers) frame.0
 restored-above is_first registers words bytes offset frame is =
     let last : ℕ → ℕ → Outcome StackFrame = λ sp at. and_then (stored_bp is_first registers words at) (λ bp. Answers (sp, bp)) in
     let (sp, sp_is, more) = and_then-answers (address (pos (sp_of registers) +ℤ pos bytes)) (λ sp. and_then (address (pos (sp_of registers) +ℤ offset)) (last sp)) frame is in
@@ -48,10 +52,10 @@ restored-above is_first registers words bytes offset frame is =
     let (bp, bp_is, there) = and_then-answers (stored_bp is_first registers words at) (λ bp. Answers (sp, bp)) frame read in
     let same : (sp, bp) ≡ frame = cc in
     let high : sp ≡ frame.0 = ap (λ (f : StackFrame). f.0) same in
-    omega (arith, above-answers (sp_of registers) bytes sp sp_is)
+    above (sp_of registers) bytes sp frame.0 high sp_is
 
 moved-above : (rule : UnwindRuleX86_64) (is_first : Bool) (registers : UnwindRegsX86_64) (words : Words) (frame : StackFrame)
-    → moves rule is_first registers words ≡ Answers frame → sp_of registers ≤ frame.0
+    → moves rule is_first registers words ≡ Answers frame → IsPlaced (sp_of registers) frame.0
 moved-above EndOfStack is_first registers words frame is = cc
 moved-above JustReturn is_first registers words frame is = raised-above registers 8 frame is
 moved-above JustReturnIfFirstFrameOtherwiseFp true registers words frame is = raised-above registers 8 frame is
@@ -183,7 +187,8 @@ record IsAnswered (rule : UnwindRuleX86_64) (is_first : Bool) (registers : Unwin
 is-above : {rule : UnwindRuleX86_64} {is_first : Bool} {registers : UnwindRegsX86_64} {words : Words} {caller : Caller UnwindRegsX86_64}
     → (a : IsAnswered rule is_first registers words caller) → sp_of registers ≤ a.frame.0
 is-above {rule} {is_first} {registers} {words} a =
-    omega (arith, a.popped_above.above, moved-above rule is_first a.popped_ words a.frame a.frame_is)
+    let moved = moved-above rule is_first a.popped_ words a.frame a.frame_is in
+    omega (arith, a.popped_above.above, moved.not_below)
 
 is-answered : (rule : UnwindRuleX86_64) (is_first : Bool) (registers : UnwindRegsX86_64) (words : Words) (caller : Caller UnwindRegsX86_64)
     → HasAllRegisters registers → rule_meaning rule is_first registers words ≡ Answers caller → IsAnswered rule is_first registers words caller
@@ -218,6 +223,13 @@ module _ (rule : UnwindRuleX86_64) (is_first : Bool) (registers : UnwindRegsX86_
   -- a caller isn't lower
   pub caller-above : sp_of registers ≤ sp_of caller.registers
   caller-above = let a = is-answered rule is_first registers words caller all is in omega (arith, is-above a, a.left.sp_is)
+
+  -- its stack pointer has 64 bits
+  pub caller-fits : sp_of caller.registers < 2 ^ 64
+  caller-fits =
+      let a = is-answered rule is_first registers words caller all is in
+      let moved = moved-above rule is_first a.popped_ words a.frame a.frame_is in
+      omega (arith, moved.fits, a.left.sp_is)
 
   -- all its registers are there
   pub caller-all : HasAllRegisters caller.registers

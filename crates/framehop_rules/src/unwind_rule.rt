@@ -61,6 +61,7 @@ pub trait UnwindRule: Copy + Debug {
 }
 
 /// The word at an address; where it can't be read, the error says so.
+#[inline(always)]
 pub(crate) fn read_word<F: FnMut(u64) -> Result<u64, ()>>(
     read_stack: &mut F,
     at: u64,
@@ -85,6 +86,7 @@ pub(crate) fn bytes_of(words: u16) -> u64
 }
 
 /// The address so many bytes above another.
+#[inline(always)]
 pub(crate) fn address_above(base: u64, bytes: u64) -> Result<u64, Error>
     ensures sum { outcome_of result ≡ address (pos base +ℤ pos bytes) }
     ensures refusals { IfErr result IsOfRule }
@@ -93,6 +95,7 @@ pub(crate) fn address_above(base: u64, bytes: u64) -> Result<u64, Error>
 }
 
 /// The address at an offset in bytes from another.
+#[inline(always)]
 pub(crate) fn address_at_offset(base: u64, offset: i64) -> Result<u64, Error>
     ensures sum { outcome_of result ≡ address (pos base +ℤ offset) }
     ensures refusals { IfErr result IsOfRule }

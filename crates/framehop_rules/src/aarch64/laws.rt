@@ -1,5 +1,5 @@
 //! A law of the rules' meaning. The function does nothing when the program runs.
-ghost use Rattle.std.specs.Prelude.{◌≡◌, ◌<◌, Bool, false};
+ghost use Rattle.std.specs.Prelude.{◌≡◌, ◌<◌, ◌^◌, false};
 ghost use Rattle.framehop_rules.specs.Callback.{Words};
 ghost use Rattle.framehop_rules.specs.Outcome.{Answers, Caller};
 ghost use Rattle.framehop_rules.specs.RegistersAarch64.{sp_of};
@@ -8,10 +8,15 @@ ghost use Rattle.framehop_rules.specs.RuleMeaningAarch64.{rule_meaning};
 use crate::aarch64::unwind_rule::UnwindRuleAarch64;
 use crate::aarch64::unwindregs::UnwindRegsAarch64;
 
-/// Each step that a rule answers for a later frame raises the stack pointer: so a walk ends.
+/// Each step that a rule answers for a later frame raises the stack pointer, which keeps
+/// to 64 bits: so a walk ends.
 pub fn later_frames_raise_sp()
-    ensures { (rule : UnwindRuleAarch64) (registers : UnwindRegsAarch64) (words : Words)
+    ensures higher { (rule : UnwindRuleAarch64) (registers : UnwindRegsAarch64) (words : Words)
         (caller : Caller UnwindRegsAarch64)
         → rule_meaning rule false registers words ≡ Answers caller
         → sp_of registers < sp_of caller.registers }
+    ensures fits { (rule : UnwindRuleAarch64) (registers : UnwindRegsAarch64) (words : Words)
+        (caller : Caller UnwindRegsAarch64)
+        → rule_meaning rule false registers words ≡ Answers caller
+        → sp_of caller.registers < 2 ^ 64 }
 {}

@@ -70,6 +70,7 @@ fn bytes_of_pairs(pairs: u16) -> u64
 }
 
 /// The caller's frame where SP is `bytes` higher, and LR and FP are still in their registers.
+#[inline(always)]
 fn raise_sp(regs: &UnwindRegsAarch64, bytes: u64) -> Result<CallerFrame, Error>
     ensures moves { outcome_of result ≡ raised_frame regs.now bytes }
     ensures refusals { IfErr result IsOfRule }
@@ -79,6 +80,7 @@ fn raise_sp(regs: &UnwindRegsAarch64, bytes: u64) -> Result<CallerFrame, Error>
 }
 
 /// The word that is stored so many words from an address.
+#[inline(always)]
 fn read_stored<F: FnMut(u64) -> Result<u64, ()>>(
     read_stack: &mut F,
     base: u64,
@@ -96,6 +98,7 @@ fn read_stored<F: FnMut(u64) -> Result<u64, ()>>(
 
 /// The caller's frame where SP is `bytes` higher, LR is stored so many words from it, and FP is
 /// still in its register.
+#[inline(always)]
 fn raise_sp_and_restore_lr<F: FnMut(u64) -> Result<u64, ()>>(
     regs: &UnwindRegsAarch64,
     read_stack: &mut F,
@@ -115,6 +118,7 @@ fn raise_sp_and_restore_lr<F: FnMut(u64) -> Result<u64, ()>>(
 
 /// The caller's frame where SP is `bytes` above an address, and FP and LR are stored so many words
 /// from that address.
+#[inline(always)]
 fn restore_fp_and_lr<F: FnMut(u64) -> Result<u64, ()>>(
     read_stack: &mut F,
     base: u64,
@@ -135,6 +139,7 @@ fn restore_fp_and_lr<F: FnMut(u64) -> Result<u64, ()>>(
 }
 
 /// The caller's frame, whose SP has to be above this frame's.
+#[inline(always)]
 fn check_above(regs: &UnwindRegsAarch64, caller: CallerFrame) -> Result<CallerFrame, Error>
     ensures moves { outcome_of result ≡ if_above regs.now caller }
     ensures refusals { IfErr result IsOfRule }
@@ -148,6 +153,7 @@ fn check_above(regs: &UnwindRegsAarch64, caller: CallerFrame) -> Result<CallerFr
 
 /// The caller's frame, as a chain of frame pointers gives it: the chain ends with 0, and else FP
 /// and SP have to be above this frame's.
+#[inline(always)]
 fn check_chained(
     regs: &UnwindRegsAarch64,
     caller: CallerFrame,
@@ -166,6 +172,7 @@ fn check_chained(
 }
 
 /// The return address, where the caller's LR and SP are these; `None` where it is 0.
+#[inline(always)]
 fn find_return_address(
     is_first_frame: bool,
     regs: &UnwindRegsAarch64,
@@ -187,6 +194,7 @@ fn find_return_address(
 
 impl UnwindRuleAarch64 {
     /// What the rule makes of LR, SP and FP; `None` at the stack's end.
+    #[inline(always)]
     fn moved<F: FnMut(u64) -> Result<u64, ()>>(
         self,
         is_first_frame: bool,

@@ -1,5 +1,5 @@
 //! Laws of the rules' meaning. The functions do nothing when the program runs.
-ghost use Rattle.std.specs.Prelude.{◌≡◌, ◌≤◌, ◌<◌, ℕ, Bool};
+ghost use Rattle.std.specs.Prelude.{◌≡◌, ◌≤◌, ◌<◌, ◌^◌, ℕ, Bool};
 ghost use Rattle.framehop_rules.specs.Callback.{Words};
 ghost use Rattle.framehop_rules.specs.Outcome.{Answers, Refuses, Caller};
 ghost use Rattle.framehop_rules.specs.Registers.{HasAllRegisters, sp_of};
@@ -16,6 +16,10 @@ pub fn rules_raise_sp()
         (words : Words) (caller : Caller UnwindRegsX86_64) → HasAllRegisters registers
         → rule_meaning rule is_first registers words ≡ Answers caller
         → sp_of registers ≤ sp_of caller.registers }
+    ensures fits { (rule : UnwindRuleX86_64) (is_first : Bool) (registers : UnwindRegsX86_64)
+        (words : Words) (caller : Caller UnwindRegsX86_64) → HasAllRegisters registers
+        → rule_meaning rule is_first registers words ≡ Answers caller
+        → sp_of caller.registers < 2 ^ 64 }
     ensures all_there { (rule : UnwindRuleX86_64) (is_first : Bool) (registers : UnwindRegsX86_64)
         (words : Words) (caller : Caller UnwindRegsX86_64) → HasAllRegisters registers
         → rule_meaning rule is_first registers words ≡ Answers caller

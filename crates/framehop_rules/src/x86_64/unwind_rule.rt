@@ -57,6 +57,7 @@ fn signed_bytes_of(words: i16) -> i64
 
 /// The caller's stack pointer and frame pointer where the former is `bytes` higher and the latter
 /// is still in its register.
+#[inline(always)]
 fn raise_sp(regs: &UnwindRegsX86_64, bytes: u64) -> Result<(u64, u64), Error>
     ensures moves { outcome_of result ≡ raised_frame regs.now bytes }
     ensures refusals { IfErr result IsOfRule }
@@ -67,6 +68,7 @@ fn raise_sp(regs: &UnwindRegsX86_64, bytes: u64) -> Result<(u64, u64), Error>
 
 /// The caller's stack pointer and frame pointer in code with frame pointers, where RBP points at
 /// the caller's RBP and the return address stands above that.
+#[inline(always)]
 fn follow_frame_pointer<F: FnMut(u64) -> Result<u64, ()>>(
     regs: &UnwindRegsX86_64,
     read_stack: &mut F,
@@ -91,6 +93,7 @@ fn follow_frame_pointer<F: FnMut(u64) -> Result<u64, ()>>(
 /// In a first frame an epilogue may have popped it already, while the unwind information still
 /// names its place. That place is then below the stack pointer, where a recorded stack has no
 /// bytes, and the register holds the caller's value.
+#[inline(always)]
 fn read_stored_bp<F: FnMut(u64) -> Result<u64, ()>>(
     is_first_frame: bool,
     regs: &UnwindRegsX86_64,
@@ -117,6 +120,7 @@ fn read_stored_bp<F: FnMut(u64) -> Result<u64, ()>>(
 
 /// The caller's stack pointer, `bytes` higher, and its frame pointer, stored at `bp_offset` from
 /// this frame's stack pointer.
+#[inline(always)]
 fn raise_sp_and_restore_bp<F: FnMut(u64) -> Result<u64, ()>>(
     is_first_frame: bool,
     regs: &UnwindRegsX86_64,
@@ -137,6 +141,7 @@ fn raise_sp_and_restore_bp<F: FnMut(u64) -> Result<u64, ()>>(
 }
 
 /// The return address where the caller's stack pointer is `new_sp`; `None` where it is 0.
+#[inline(always)]
 fn read_return_address<F: FnMut(u64) -> Result<u64, ()>>(
     regs: &UnwindRegsX86_64,
     new_sp: u64,
@@ -161,6 +166,7 @@ fn read_return_address<F: FnMut(u64) -> Result<u64, ()>>(
 
 impl UnwindRuleX86_64 {
     /// What the rule makes of the stack pointer and the frame pointer; `None` at the stack's end.
+    #[inline(always)]
     fn moved<F: FnMut(u64) -> Result<u64, ()>>(
         self,
         is_first_frame: bool,

@@ -1,0 +1,97 @@
+//! Steps from frames whose rules are kept.
+ghost use Rattle.framehop_rules.specs.RuleMeaning.{IsValid};
+
+use framehop_rules::x86_64::{UnwindRegsX86_64, UnwindRuleX86_64};
+use framehop_rules::{CacheResult, RuleCache, UnwindRule};
+use std::alloc::{AllocError, Global};
+
+/// How many steps a round makes.
+pub const STEPS: u64 = 252;
+
+/// The first address; the others follow 16 bytes apart, so that no two are in one slot.
+const CODE: u64 = 0x7f12_3400_1000;
+
+const STACK: u64 = 0x7ffd_8000_0000;
+
+/// A first frame that a step begins at.
+#[derive(Clone, Copy)]
+pub struct Frame {
+    address: u64,
+    sp: u64,
+    bp: u64,
+}
+
+/// A stack of 64 words, each the address of the word eight words above it.
+#[derive(Drop)]
+pub struct Stack(Vec<u64>);
+
+impl Stack {
+    pub fn new(alloc: Global) -> Result<Self, AllocError> {
+        let mut words = Vec::new(alloc);
+        for i in 0..64 {
+            words.push(STACK + 8 * i + 64)?;
+        }
+        Ok(Stack(words))
+    }
+
+    /// The word at an address. `Err` where there is none.
+    fn word(&self, address: u64) -> Result<u64, ()> {
+        let offset = address.checked_sub(STACK).ok_or(())?;
+        if offset % 8 != 0 {
+            return Err(());
+        }
+        self.0.get((offset / 8) as usize).copied().ok_or(())
+    }
+}
+
+/// The frames of the steps.
+pub fn make_frames(alloc: Global) -> Result<Vec<Frame>, AllocError> {
+    let mut frames = Vec::new(alloc);
+    for step in 0..STEPS {
+        frames.push(Frame {
+            address: CODE + 16 * step,
+            sp: STACK + 16,
+            bp: STACK + 32,
+        })?;
+    }
+    Ok(frames)
+}
+
+/// The rule of a step: each of the common ones in turn.
+fn rule_of(step: usize) -> UnwindRuleX86_64
+    ensures { IsValid result }
+{
+    match step % 3 {
+        0 => UnwindRuleX86_64::OffsetSp { sp_offset_by_8: 2 },
+        1 => UnwindRuleX86_64::OffsetSpAndRestoreBp {
+            sp_offset_by_8: 4,
+            bp_storage_offset_from_sp_by_8: 2,
+        },
+        _ => UnwindRuleX86_64::UseFramePointer,
+    }
+}
+
+/// Keeps the rules of all frames.
+pub fn keep_rules(cache: &mut RuleCache<UnwindRuleX86_64>, frames: &[Frame]) {
+    for (step, frame) in frames.iter().enumerate() {
+        if let CacheResult::Miss(handle) = cache.lookup(frame.address, true, 1) {
+            cache.insert(handle, rule_of(step));
+        }
+    }
+}
+
+/// Makes a step from each of the frames by its rule, and counts those that answered a return
+/// address.
+pub fn make_steps(cache: &mut RuleCache<UnwindRuleX86_64>, stack: &Stack, frames: &[Frame]) -> u32 {
+    let mut answered: u32 = 0;
+    for frame in frames {
+        let mut regs = UnwindRegsX86_64::new(frame.address, frame.sp, frame.bp);
+        let mut read_stack = |at: u64| -> Result<u64, ()> { stack.word(at) };
+        if let CacheResult::Hit(rule) = cache.lookup(frame.address, true, 1) {
+            if let Ok(Some(_)) = rule.exec(true, &mut regs, &mut read_stack) {
+                answered = answered.wrapping_add(1);
+            }
+        }
+    }
+    answered
+}
