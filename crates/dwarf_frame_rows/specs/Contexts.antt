@@ -1,0 +1,29 @@
+-- A context as the state of a program.
+use Rattle.std.specs.Prelude.{◌≡◌, ◌≢◌, List, Bool, true, false, Option, Some, None, Result, Ok, Err, IfErr, OnErr, OnOk, map, reverse, take}
+use Rattle.dwarf_constants.specs.declared.error.Error.{Error}
+use Rattle.dwarf_constants.specs.declared.error.Error.TheVariants.{OutOfMemory}
+use Rattle.dwarf_frame_rows.specs.declared.context.UnwindContext.{UnwindContext}
+use Rattle.dwarf_frame_rows.specs.declared.row.UnwindTableRow.{UnwindTableRow}
+use Rattle.dwarf_frame_rows.specs.Effects.{State}
+use Rattle.dwarf_frame_rows.specs.Row.{row_of}
+use Rattle.dwarf_frame_rows.specs.RuleMap.{RuleMap}
+
+-- the rules, where they are known
+abbrev pub known_rules : {V : Type 0} → Bool → RuleMap V → Option (RuleMap V)
+known_rules true rules = Some rules
+known_rules false rules = None
+
+-- a context, by what its list of rows holds
+abbrev pub state_of : {T S L K : Type 0} → (K → List (UnwindTableRow T L)) → UnwindContext T S L K → State T
+state_of items context = record {
+  row = row_of context.row;
+  remembered = reverse (map row_of (take context.depth (items context.saved)));
+  initial = known_rules context.is_initialized context.initial_rules;
+}
+
+-- A call made of a state what the definition makes of it; or it was refused as the definition says, or for want of memory,
+-- and left the state.
+pub record Acts {T : Type 0} (action : State T → Result (State T) Error) (old new : State T) (result : Result (Unit {0}) Error) : Type 0 where
+  pub done : OnOk result (action old ≡ Ok new)
+  pub refused : IfErr result (λ e. e ≢ OutOfMemory → action old ≡ Err e)
+  pub unchanged : OnErr result (new ≡ old)

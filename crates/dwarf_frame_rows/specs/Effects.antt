@@ -1,0 +1,128 @@
+-- What the effects of call frame instructions do (DWARF 5, 6.4.2).
+use Rattle.std.specs.Prelude.{ℕ, ◌+◌, ◌-◌, ◌%◌, List, [], ◌∷◌, length, Bool, true, Option, Some, None, Result, Ok, Err, nat_le, if◌then◌else◌}
+use Rattle.std.specs.FinMap.{get, insert, len, remove}
+use Rattle.dwarf_constants.specs.declared.arch.TheConstants.AArch64.{RA_SIGN_STATE}
+use Rattle.dwarf_constants.specs.declared.error.Error.{Error}
+use Rattle.dwarf_constants.specs.declared.error.Error.TheVariants.{CfiInstructionInInvalidContext, PopWithEmptyStack, StackFull, TooManyRegisterRules}
+use Rattle.dwarf_readers.specs.Place.{◌>>=◌, requirement}
+use Rattle.dwarf_frame_rows.specs.declared.effect.Effect.{Effect}
+use Rattle.dwarf_frame_rows.specs.declared.effect.Effect.TheVariants.{Move, Cfa, CfaRegister, CfaOffset, Rule, RestoreRule, NegateRaState, ArgsSize, Remember, Restore, Nothing}
+use Rattle.dwarf_frame_rows.specs.declared.rules.CfaRule.{CfaRule}
+use Rattle.dwarf_frame_rows.specs.declared.rules.RegisterRule.{RegisterRule}
+use Rattle.dwarf_frame_rows.specs.declared.rules.RegisterRule.TheVariants.{Constant}
+use Rattle.dwarf_frame_rows.specs.CfaRules.{with_cfa_offset, with_cfa_register}
+use Rattle.dwarf_frame_rows.specs.Row.{Row, first_row, with_parts_of}
+use Rattle.dwarf_frame_rows.specs.RuleMap.{RuleMap}
+
+-- how far a program has come: its row, the rows that it remembers, the latest first, and, once the CIE's own instructions are
+-- done, the rules that they left
+pub record State (T : Type 0) : Type 0 where
+  pub row : Row T
+  pub remembered : List (Row T)
+  pub initial : Option (RuleMap (RegisterRule T))
+
+-- before any instruction
+abbrev pub first_state : {T : Type 0} → State T
+first_state = record { row = first_row; remembered = []; initial = None }
+
+-- how many rules a row has room for, and how many rows there is room for; nothing where there is no limit
+pub record Limits : Type 0 where
+  pub rules : Option ℕ
+  pub rows : Option ℕ
+
+-- the limits of two lists
+abbrev pub limits_of : Option ℕ → Option ℕ → Limits
+limits_of rules rows = record { rules = rules; rows = rows }
+
+-- so many are within a limit
+abbrev pub is_within : Option ℕ → ℕ → Bool
+is_within None n = true
+is_within (Some limit) n = nat_le n limit
+
+-- the CIE's rules count as one more row where they are two or more
+abbrev pub initial_rows : {V : Type 0} → Option (RuleMap V) → ℕ
+initial_rows None = 0
+initial_rows (Some rules) = if nat_le 2 (len rules) then 1 else 0
+
+-- the rows that count: the one that is worked on, those that are remembered, and that of the CIE's rules
+abbrev pub rows_held : {T : Type 0} → State T → ℕ
+rows_held s = 1 + length s.remembered + initial_rows s.initial
+
+-- the state with another row
+abbrev pub with_row : {T : Type 0} → Row T → State T → State T
+with_row row s = record s { row = row }
+
+-- the state with another CFA
+abbrev pub with_cfa : {T : Type 0} → State T → CfaRule T → Result (State T) Error
+with_cfa s cfa = Ok (with_row (record s.row { cfa = cfa }) s)
+
+-- the state with other rules
+abbrev pub with_rules : {T : Type 0} → RuleMap (RegisterRule T) → State T → State T
+with_rules rules s = with_row (record s.row { rules = rules }) s
+
+-- a register is found so, where there is room for its rule
+abbrev pub ruled_state : {T : Type 0} → Limits → ℕ → RegisterRule T → State T → Result (State T) Error
+ruled_state limits register rule s = do
+  _ ← requirement (is_within limits.rules (len (insert s.row.rules register rule))) TooManyRegisterRules
+  Ok (with_rules (insert s.row.rules register rule) s)
+
+-- a register is found so, or it has no rule
+abbrev pub restored_state : {T : Type 0} → Limits → ℕ → Option (RegisterRule T) → State T → Result (State T) Error
+restored_state limits register (Some rule) s = ruled_state limits register rule s
+restored_state limits register None s = Ok (with_rules (remove s.row.rules register) s)
+
+-- a register is found as these rules say, once they are known
+abbrev pub ruled_by : {T : Type 0} → Option (RuleMap (RegisterRule T)) → Limits → ℕ → State T → Result (State T) Error
+ruled_by None limits register s = Err CfiInstructionInInvalidContext
+ruled_by (Some rules) limits register s = restored_state limits register (get rules register) s
+
+-- a register is found as the CIE's rules say
+abbrev pub initially_ruled : {T : Type 0} → Limits → ℕ → State T → Result (State T) Error
+initially_ruled limits register s = ruled_by s.initial limits register s
+
+-- the constant 1 for 0 or no rule, and 0 for 1; any other rule can't be negated
+abbrev pub negated_rule : {T : Type 0} → Option (RegisterRule T) → Result (RegisterRule T) Error
+negated_rule None = Ok (Constant 1)
+negated_rule (Some (Constant n)) = Ok (Constant (1 - n % 2))
+negated_rule (Some _) = Err CfiInstructionInInvalidContext
+
+-- the latest of some rows comes back, within the bounds of the row
+abbrev pub back_to : {T : Type 0} → List (Row T) → State T → Result (State T) Error
+back_to [] s = Err PopWithEmptyStack
+back_to (latest ∷ earlier) s = Ok (record s { row = with_parts_of latest s.row; remembered = earlier })
+
+-- the latest of the rows that are remembered comes back
+abbrev pub popped_state : {T : Type 0} → State T → Result (State T) Error
+popped_state s = back_to s.remembered s
+
+-- the row is remembered, where there is room for one more
+abbrev pub pushed_state : {T : Type 0} → Limits → State T → Result (State T) Error
+pushed_state limits s = do
+  _ ← requirement (is_within limits.rows (rows_held s + 1)) StackFull
+  Ok (record s { remembered = s.row ∷ s.remembered })
+
+-- the sign state is negated
+abbrev pub negated_state : {T : Type 0} → Limits → State T → Result (State T) Error
+negated_state limits s = do
+  rule ← negated_rule (get s.row.rules RA_SIGN_STATE.0)
+  ruled_state limits RA_SIGN_STATE.0 rule s
+
+-- what an effect makes of a state, or why it is refused
+abbrev pub applied : {T : Type 0} → Limits → Effect T → State T → Result (State T) Error
+applied limits (Move location) s = Ok s
+applied limits (Cfa rule) s = with_cfa s rule
+applied limits (CfaRegister register) s = with_cfa_register register s.row.cfa >>= with_cfa s
+applied limits (CfaOffset offset) s = with_cfa_offset offset s.row.cfa >>= with_cfa s
+applied limits (Rule register rule) s = ruled_state limits register.0 rule s
+applied limits (RestoreRule register) s = initially_ruled limits register.0 s
+applied limits NegateRaState s = negated_state limits s
+applied limits (ArgsSize size) s = Ok (with_row (record s.row { saved_args_size = size }) s)
+applied limits Remember s = pushed_state limits s
+applied limits Restore s = popped_state s
+applied limits Nothing s = Ok s
+
+-- the state once the CIE's own instructions are done
+abbrev pub initialized : {T : Type 0} → Limits → State T → Result (State T) Error
+initialized limits s = do
+  _ ← requirement (is_within limits.rows (1 + length s.remembered + initial_rows (Some s.row.rules))) StackFull
+  Ok (record s { initial = Some s.row.rules })

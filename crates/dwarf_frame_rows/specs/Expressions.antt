@@ -1,0 +1,11 @@
+-- The bytes of an expression, by its place in the section (DWARF 5, 6.4.2).
+use Rattle.std.specs.Prelude.{ℕ, Result, Ok}
+use Rattle.dwarf_constants.specs.declared.error.Error.{Error}
+use Rattle.dwarf_readers.specs.Place.{Stretch, ◌>>=◌, behind_at, split_at}
+
+-- as many bytes of the section as the length says, from the offset on
+abbrev pub expression_in : Stretch → ℕ → ℕ → Result Stretch Error
+expression_in section offset length = do
+  rest ← behind_at offset section
+  parts ← split_at length rest
+  Ok parts.0

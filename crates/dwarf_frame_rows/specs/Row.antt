@@ -1,0 +1,32 @@
+-- A row of the table that call frame instructions describe (DWARF 5, 6.4.1).
+use Rattle.std.specs.Prelude.{ℕ, Bool, ◌&&◌, nat_le, nat_lt}
+use Rattle.std.specs.FinMap.{empty}
+use Rattle.dwarf_frame_rows.specs.declared.row.UnwindTableRow.{UnwindTableRow}
+use Rattle.dwarf_frame_rows.specs.declared.rules.CfaRule.{CfaRule}
+use Rattle.dwarf_frame_rows.specs.declared.rules.RegisterRule.{RegisterRule}
+use Rattle.dwarf_frame_rows.specs.CfaRules.{first_cfa}
+use Rattle.dwarf_frame_rows.specs.RuleMap.{RuleMap}
+
+-- from its start to its end the CFA and the registers of the caller are found so, and the caller pushed arguments of this size
+pub record Row (T : Type 0) : Type 0 where
+  pub start : ℕ
+  pub end : ℕ
+  pub saved_args_size : ℕ
+  pub cfa : CfaRule T
+  pub rules : RuleMap (RegisterRule T)
+
+-- a row of the code
+abbrev pub row_of : {T L : Type 0} → UnwindTableRow T L → Row T
+row_of row = record { start = row.start_address; end = row.end_address; saved_args_size = row.saved_args_size; cfa = row.cfa; rules = row.registers }
+
+-- the row before any instruction
+abbrev pub first_row : {T : Type 0} → Row T
+first_row = record { start = 0; end = 0; saved_args_size = 0; cfa = first_cfa; rules = empty }
+
+-- the row holds at the address
+abbrev pub holds_at : {T : Type 0} → ℕ → Row T → Bool
+holds_at address row = nat_le row.start address && nat_lt address row.end
+
+-- a row with the parts of another, but its own bounds
+abbrev pub with_parts_of : {T : Type 0} → Row T → Row T → Row T
+with_parts_of from row = record row { saved_args_size = from.saved_args_size; cfa = from.cfa; rules = from.rules }

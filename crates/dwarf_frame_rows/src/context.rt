@@ -1,0 +1,366 @@
+//! What rows are worked out in.
+ghost use Rattle.std.specs.Prelude.{◌≡◌, ◌≢◌, ◌≤◌, ◌<◌, ◌+◌, ◌^◌, ◌++◌, ◌∷◌, [], ◌↔◌, IfErr, IfOk, IsOk, IsSome, IsTrue, OnErr, OnOk, length, map, take, slice_index_or};
+ghost use Rattle.dwarf_expressions.specs.Capacity.{HasRoom, IsWithin};
+ghost use Rattle.dwarf_frame_rows.specs.Row.{row_of, with_parts_of};
+ghost use Rattle.dwarf_frame_rows.specs.Effects.{initial_rows, negated_rule};
+
+use crate::rule_map::RegisterRuleMap;
+use crate::{Effect, RegisterRule, RuledRegister, UnwindTableRow};
+use arrayvec::ArrayVec;
+use dwarf_constants::{AArch64, Error, Register, Result};
+use dwarf_expressions::ArrayLike;
+use dwarf_readers::ReaderOffset;
+use std::alloc::{AllocError, Global};
+
+/// Where the rows of a context lie, and the rules of a row.
+pub trait UnwindContextStorage<T: ReaderOffset> {
+    /// The rules of a row.
+    type Rules: ArrayLike<Item = RuledRegister<RegisterRule<T>>>;
+    /// The rows.
+    type Stack: ArrayLike<Item = UnwindTableRow<T, Self::Rules>>;
+
+    /// There is room for a row.
+    ghost room: { HasRoom Self.Stack.capacity 0 };
+}
+
+/// Rows of up to 192 rules each, and on the heap 4 of them.
+#[derive(Debug, Clone, Copy)]
+pub struct StoreOnHeap;
+
+/// How many rules a row of [`StoreOnHeap`] holds.
+const MAX_RULES: usize = 192;
+
+/// How many rows [`StoreOnHeap`] holds.
+const MAX_ROWS: usize = 4;
+
+/// A row of [`StoreOnHeap`].
+type HeapRow<T> = UnwindTableRow<T, ArrayVec<RuledRegister<RegisterRule<T>>, MAX_RULES>>;
+
+impl<T: ReaderOffset> UnwindContextStorage<T> for StoreOnHeap {
+    ghost use Rattle.std.proofs.Common.{lit≤};
+
+    type Rules = ArrayVec<RuledRegister<RegisterRule<T>>, MAX_RULES>;
+
+    type Stack = Box<ArrayVec<HeapRow<T>, MAX_ROWS>>;
+
+    ghost room = { lit≤ tt };
+}
+
+/// The row that a program works on, the rows that it remembers, and the rules that its CIE left. It
+/// serves one program after another.
+#[derive(Drop)]
+pub struct UnwindContext<T: ReaderOffset, S: UnwindContextStorage<T>> {
+    row: UnwindTableRow<T, S::Rules>,
+    // The rows that are remembered, the latest last, and behind them some to be written over.
+    saved: S::Stack,
+    // How many of its rows are remembered; where it has not so many, all are.
+    depth: usize,
+    initial_rules: RegisterRuleMap<RegisterRule<T>, S::Rules>,
+    // The CIE's own instructions are done.
+    is_initialized: bool,
+    alloc: Global,
+}
+
+impl<T: ReaderOffset> UnwindContext<T, StoreOnHeap> {
+    ghost use Rattle.dwarf_frame_rows.specs.Contexts.{state_of};
+    ghost use Rattle.dwarf_frame_rows.specs.Effects.{first_state};
+
+    /// A context with rows on the heap, before any instruction. No later call takes memory.
+    pub fn new(alloc: Global) -> std::result::Result<Self, AllocError>
+        ensures { IfOk result (λ context.
+            state_of ⟦<Box<ArrayVec<HeapRow<T>, MAX_ROWS>> as ArrayLike>⟧.items context
+            ≡ first_state) }
+    {
+        UnwindContext::new_in(alloc)
+    }
+}
+
+impl<T: ReaderOffset, S: UnwindContextStorage<T>> UnwindContext<T, S> {
+    ghost use Rattle.dwarf_frame_rows.specs.Contexts.{Acts, state_of};
+    ghost use Rattle.dwarf_frame_rows.specs.Effects.{applied, first_state, initialized, initially_ruled, limits_of, negated_state, popped_state, pushed_state, ruled_state};
+
+    /// A context before any instruction.
+    pub fn new_in(alloc: Global) -> std::result::Result<Self, AllocError>
+        ensures { IfOk result (λ context. state_of S.Stack.items context ≡ first_state) }
+    {
+        Ok(UnwindContext {
+            row: UnwindTableRow::new_in(alloc)?,
+            saved: S::Stack::new_in(alloc)?,
+            depth: 0,
+            initial_rules: RegisterRuleMap::new_in(alloc)?,
+            is_initialized: false,
+            alloc,
+        })
+    }
+
+    /// The row that is worked on.
+    pub fn row(&self) -> &UnwindTableRow<T, S::Rules>
+        ensures { row_of result.now ≡ (state_of S.Stack.items self.now).row }
+    {
+        &self.row
+    }
+
+    /// Sets the bounds of the row.
+    pub fn set_bounds(&mut self, start_address: u64, end_address: u64)
+        ensures { let old = state_of S.Stack.items self.old in
+            state_of S.Stack.items self.new ≡ record old {
+              row = record old.row { start = start_address; end = end_address };
+            } }
+    {
+        self.row.set_bounds(start_address, end_address);
+    }
+
+    /// Becomes a context before any instruction, whatever it held.
+    pub fn clear(&mut self)
+        ensures { state_of S.Stack.items self.new ≡ first_state }
+    {
+        self.row.clear();
+        self.depth = 0;
+        self.is_initialized = false;
+    }
+
+    /// Keeps the row's rules as those that the CIE's own instructions left, in a context that keeps
+    /// none yet. Two rules or more count as a row; fails with `StackFull` where there is no room for
+    /// one.
+    pub fn save_initial_rules(&mut self) -> Result<()>
+        requires { (state_of S.Stack.items self.old).initial ≡ None }
+        ensures acts { Acts (initialized (limits_of S.Rules.capacity S.Stack.capacity))
+            (state_of S.Stack.items self.old) (state_of S.Stack.items self.new) result }
+        ensures memory { IsSome S.Rules.capacity
+            → IfErr result (λ e. e ≢ Error.OutOfMemory) }
+    {
+        if !self.has_room(1 + counted_rows(self.row.rules())) {
+            return Err(Error::StackFull);
+        }
+        self.initial_rules.copy_from(self.row.rules())?;
+        self.is_initialized = true;
+        Ok(())
+    }
+
+    /// Does what an instruction does. An `Err` changes nothing. Fails with `TooManyRegisterRules`
+    /// where a row has no room for a rule, with `StackFull` where there is no room for a row, and with
+    /// `OutOfMemory` in a storage that grows.
+    pub fn apply(&mut self, effect: Effect<T>) -> Result<()>
+        ensures acts { Acts (applied (limits_of S.Rules.capacity S.Stack.capacity) effect)
+            (state_of S.Stack.items self.old) (state_of S.Stack.items self.new) result }
+        ensures memory { IsTrue S.Rules.is_made_in_place → IsSome S.Rules.capacity
+            → IsSome S.Stack.capacity → IfErr result (λ e. e ≢ Error.OutOfMemory) }
+    {
+        match effect {
+            Effect::Move(_) | Effect::Nothing => Ok(()),
+            Effect::Cfa(rule) => {
+                self.row.set_cfa(rule);
+                Ok(())
+            }
+            Effect::CfaRegister(register) => {
+                let rule = self.row.cfa().with_register(register)?;
+                self.row.set_cfa(rule);
+                Ok(())
+            }
+            Effect::CfaOffset(offset) => {
+                let rule = self.row.cfa().with_offset(offset)?;
+                self.row.set_cfa(rule);
+                Ok(())
+            }
+            Effect::Rule(register, rule) => self.set_rule(register, rule),
+            Effect::RestoreRule(register) => self.restore_rule(register),
+            Effect::NegateRaState => self.negate_ra_state(),
+            Effect::ArgsSize(size) => {
+                self.row.set_saved_args_size(size);
+                Ok(())
+            }
+            Effect::Remember => self.remember(),
+            Effect::Restore => self.restore(),
+        }
+    }
+
+    // Gives the register this rule.
+    fn set_rule(&mut self, register: Register, rule: RegisterRule<T>) -> Result<()>
+        ensures acts { Acts (ruled_state (limits_of S.Rules.capacity S.Stack.capacity) register.0 rule)
+            (state_of S.Stack.items self.old) (state_of S.Stack.items self.new) result }
+        ensures memory { IsSome S.Rules.capacity
+            → IfErr result (λ e. e ≢ Error.OutOfMemory) }
+    {
+        self.row.set_rule(register, rule)
+    }
+
+    // Gives the register the rule that the CIE's own instructions left, or none.
+    fn restore_rule(&mut self, register: Register) -> Result<()>
+        ensures acts { Acts (initially_ruled (limits_of S.Rules.capacity S.Stack.capacity) register.0)
+            (state_of S.Stack.items self.old) (state_of S.Stack.items self.new) result }
+        ensures memory { IsSome S.Rules.capacity
+            → IfErr result (λ e. e ≢ Error.OutOfMemory) }
+    {
+        if !self.is_initialized {
+            return Err(Error::CfiInstructionInInvalidContext);
+        }
+        match self.initial_rules.get(register) {
+            Some(rule) => self.set_rule(register, rule),
+            None => {
+                self.row.remove_rule(register);
+                Ok(())
+            }
+        }
+    }
+
+    // Changes the return address between signed and not signed.
+    fn negate_ra_state(&mut self) -> Result<()>
+        ensures acts { Acts (negated_state (limits_of S.Rules.capacity S.Stack.capacity))
+            (state_of S.Stack.items self.old) (state_of S.Stack.items self.new) result }
+        ensures memory { IsSome S.Rules.capacity
+            → IfErr result (λ e. e ≢ Error.OutOfMemory) }
+    {
+        let rule = negated(self.row.register(AArch64::RA_SIGN_STATE))?;
+        self.set_rule(AArch64::RA_SIGN_STATE, rule)
+    }
+
+    // Keeps the row's parts for later.
+    fn remember(&mut self) -> Result<()>
+        ensures acts { Acts (pushed_state (limits_of S.Rules.capacity S.Stack.capacity))
+            (state_of S.Stack.items self.old) (state_of S.Stack.items self.new) result }
+        ensures memory { IsTrue S.Rules.is_made_in_place → IsSome S.Rules.capacity
+            → IsSome S.Stack.capacity → IfErr result (λ e. e ≢ Error.OutOfMemory) }
+    {
+        if !self.has_room(2 + self.initial_rows()) {
+            return Err(Error::StackFull);
+        }
+        let place = self.remembered_rows();
+        self.depth = place;
+        make_room(&mut self.saved, place, self.alloc)?;
+        save(&mut self.saved, place, &self.row)?;
+        self.depth = place + 1;
+        Ok(())
+    }
+
+    // Takes back the parts that were kept last.
+    fn restore(&mut self) -> Result<()>
+        ensures acts { Acts popped_state
+            (state_of S.Stack.items self.old) (state_of S.Stack.items self.new) result }
+        ensures memory { IfErr result (λ e. e ≢ Error.OutOfMemory) }
+    {
+        let rows = self.remembered_rows();
+        if rows == 0 {
+            return Err(Error::PopWithEmptyStack);
+        }
+        take_back(&mut self.saved, rows - 1, &mut self.row);
+        self.depth = rows - 1;
+        Ok(())
+    }
+
+    // How many rows are remembered.
+    fn remembered_rows(&self) -> usize
+        ensures rows { result ≡ length (state_of S.Stack.items self.now).remembered }
+        ensures within { result ≤ length (S.Stack.items self.now.saved) }
+        ensures all { take result (S.Stack.items self.now.saved)
+            ≡ take self.now.depth (S.Stack.items self.now.saved) }
+    {
+        self.depth.min(self.saved.as_slice().len())
+    }
+
+    // As how many rows the CIE's rules count.
+    fn initial_rows(&self) -> usize
+        ensures { result ≡ initial_rows (state_of S.Stack.items self.now).initial }
+    {
+        if self.is_initialized {
+            counted_rows(&self.initial_rules)
+        } else {
+            0
+        }
+    }
+
+    // Whether there is room for so many rows beside those that are remembered.
+    fn has_room(&self, more: usize) -> bool
+        requires { more ≤ 3 }
+        ensures { IsTrue result ↔ IsWithin S.Stack.capacity
+            (length (state_of S.Stack.items self.now).remembered + more) }
+    {
+        let spare = self.saved.as_slice().len() - self.remembered_rows();
+        more <= spare || self.saved.has_room_for(more - spare)
+    }
+}
+
+// As how many rows rules count that are kept beside a row: two or more count as one.
+fn counted_rows<V: Copy, Rules: ArrayLike<Item = RuledRegister<V>>>(
+    rules: &RegisterRuleMap<V, Rules>,
+) -> usize
+    ensures { result ≡ initial_rows (Some rules.now) }
+{
+    if rules.len() >= 2 { 1 } else { 0 }
+}
+
+// The rule of the sign state behind one that is there or not.
+fn negated<T: Copy>(rule: Option<RegisterRule<T>>) -> Result<RegisterRule<T>>
+    ensures { result ≡ negated_rule rule }
+{
+    match rule {
+        None => Ok(RegisterRule::Constant(1)),
+        Some(RegisterRule::Constant(state)) => Ok(RegisterRule::Constant(1 - state % 2)),
+        Some(_) => Err(Error::CfiInstructionInInvalidContext),
+    }
+}
+
+// Sees that there is a row at this place to be written over.
+fn make_room<
+    T: ReaderOffset,
+    Rules: ArrayLike<Item = RuledRegister<RegisterRule<T>>>,
+    Stack: ArrayLike<Item = UnwindTableRow<T, Rules>>,
+>(saved: &mut Stack, place: usize, alloc: Global) -> Result<()>
+    requires place { place ≤ length (Stack.items saved.old) }
+    requires room { HasRoom Stack.capacity place }
+    ensures there { OnOk result (place < length (Stack.items saved.new)) }
+    ensures before { take place (Stack.items saved.new) ≡ take place (Stack.items saved.old) }
+    ensures error { IfErr result (λ e. e ≡ Error.OutOfMemory) }
+    ensures memory { IsTrue Rules.is_made_in_place → IsSome Stack.capacity → IsOk result }
+{
+    if place < saved.as_slice().len() {
+        return Ok(());
+    }
+    let Ok(row) = UnwindTableRow::new_in(alloc) else {
+        return Err(Error::OutOfMemory);
+    };
+    match saved.try_push(row) {
+        Ok(()) => Ok(()),
+        Err(_) => Err(Error::OutOfMemory),
+    }
+}
+
+// Writes a row over the one at this place.
+fn save<
+    T: ReaderOffset,
+    Rules: ArrayLike<Item = RuledRegister<RegisterRule<T>>>,
+    Stack: ArrayLike<Item = UnwindTableRow<T, Rules>>,
+>(saved: &mut Stack, place: usize, row: &UnwindTableRow<T, Rules>) -> Result<()>
+    requires { place < length (Stack.items saved.old) }
+    ensures there { OnOk result (map row_of (take (place + 1) (Stack.items saved.new))
+        ≡ map row_of (take place (Stack.items saved.old)) ++ row_of row.now ∷ []) }
+    ensures before { take place (Stack.items saved.new) ≡ take place (Stack.items saved.old) }
+    ensures fits { place + 1 < 2 ^ 64 }
+    ensures error { IfErr result (λ e. e ≡ Error.OutOfMemory) }
+    ensures memory { IsSome Rules.capacity → IsOk result }
+{
+    // That there is such a row bounds the place.
+    let _rows = saved.as_slice().len();
+    match saved.item_mut(place) {
+        Some(place) => place.copy_from(row),
+        None => Ok(()),
+    }
+}
+
+// Gives a row the parts of the one at this place. Where there is no memory to copy them, that row
+// itself is taken out, and the last is put into its place.
+fn take_back<
+    T: ReaderOffset,
+    Rules: ArrayLike<Item = RuledRegister<RegisterRule<T>>>,
+    Stack: ArrayLike<Item = UnwindTableRow<T, Rules>>,
+>(saved: &mut Stack, place: usize, row: &mut UnwindTableRow<T, Rules>)
+    requires { place < length (Stack.items saved.old) }
+    ensures parts { row_of row.new ≡ with_parts_of
+        (row_of (slice_index_or (Stack.items saved.old) place row.old)) (row_of row.old) }
+    ensures before { take place (Stack.items saved.new) ≡ take place (Stack.items saved.old) }
+{
+    let (start, end) = (row.start_address(), row.end_address());
+    if row.copy_parts_from(&saved.as_slice()[place]).is_err() {
+        *row = saved.swap_remove(place);
+        row.set_bounds(start, end);
+    }
+}

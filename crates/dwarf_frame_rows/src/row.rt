@@ -1,0 +1,200 @@
+//! A row of the table that call frame instructions describe (DWARF 5, 6.4.1).
+ghost use Rattle.std.specs.Prelude.{◌≡◌, IfErr, IfOk, IsOk, IsSome, IsTrue, OnErr, OnOk};
+ghost use Rattle.std.specs.Slice.Iter.{iter_rest};
+ghost use Rattle.std.specs.FinMap.{get, insert, len, remove};
+ghost use Rattle.dwarf_frame_rows.specs.RuleMap.{HasEachOnce, HoldsRules, map_of};
+
+use crate::rule_map::RegisterRuleMap;
+use crate::{CfaRule, RegisterRule, RuledRegister};
+use dwarf_constants::{Error, Register, Result};
+use dwarf_expressions::ArrayLike;
+use dwarf_readers::ReaderOffset;
+use std::alloc::{AllocError, Global};
+use std::slice::Iter;
+
+/// The registers of a row that have a rule, each once, with their rules.
+pub type RegisterRuleIter<'a, T> = Iter<'a, RuledRegister<RegisterRule<T>>>;
+
+/// A row: from its start up to its end, how the CFA and the caller's registers are found, and the
+/// size of the arguments that the caller pushed. `Rules` is the list that holds the registers' rules.
+#[derive(Drop)]
+#[derive_where(Debug; T, Rules)]
+pub struct UnwindTableRow<
+    T: ReaderOffset,
+    Rules: ArrayLike<Item = RuledRegister<RegisterRule<T>>>,
+> {
+    start_address: u64,
+    end_address: u64,
+    saved_args_size: u64,
+    cfa: CfaRule<T>,
+    registers: RegisterRuleMap<RegisterRule<T>, Rules>,
+}
+
+/// What fills a place of a list that holds no row.
+impl<T: ReaderOffset, Rules: ArrayLike<Item = RuledRegister<RegisterRule<T>>> + Default> Default
+    for UnwindTableRow<T, Rules> {
+    fn default() -> Self {
+        UnwindTableRow {
+            start_address: 0,
+            end_address: 0,
+            saved_args_size: 0,
+            cfa: CfaRule::default(),
+            registers: RegisterRuleMap::default(),
+        }
+    }
+}
+
+impl<T: ReaderOffset, Rules: ArrayLike<Item = RuledRegister<RegisterRule<T>>>> UnwindTableRow<
+    T,
+    Rules,
+> {
+    ghost use Rattle.dwarf_frame_rows.specs.Row.{first_row, holds_at, row_of, with_parts_of};
+
+    /// A row before any instruction.
+    pub(crate) fn new_in(alloc: Global) -> std::result::Result<Self, AllocError>
+        ensures empty { IfOk result (λ row. row_of row ≡ first_row) }
+        ensures memory { IsTrue Rules.is_made_in_place → IsOk result }
+    {
+        Ok(UnwindTableRow {
+            start_address: 0,
+            end_address: 0,
+            saved_args_size: 0,
+            cfa: CfaRule::default(),
+            registers: RegisterRuleMap::new_in(alloc)?,
+        })
+    }
+
+    /// The address at which the row starts.
+    pub fn start_address(&self) -> u64
+        ensures { result ≡ (row_of self.now).start }
+    {
+        self.start_address
+    }
+
+    /// The address behind the row.
+    pub fn end_address(&self) -> u64
+        ensures { result ≡ (row_of self.now).end }
+    {
+        self.end_address
+    }
+
+    /// Whether the address is in the row: from its start up to its end, without the end.
+    pub fn contains(&self, address: u64) -> bool
+        ensures { result ≡ holds_at address (row_of self.now) }
+    {
+        self.start_address <= address && address < self.end_address
+    }
+
+    /// The size in bytes of the arguments that the caller has pushed.
+    pub fn saved_args_size(&self) -> u64
+        ensures { result ≡ (row_of self.now).saved_args_size }
+    {
+        self.saved_args_size
+    }
+
+    /// How the CFA is found.
+    pub fn cfa(&self) -> &CfaRule<T>
+        ensures { result.now ≡ (row_of self.now).cfa }
+    {
+        &self.cfa
+    }
+
+    /// How the register is found, if it has a rule.
+    pub fn register(&self, register: Register) -> Option<RegisterRule<T>>
+        ensures { result ≡ get (row_of self.now).rules register.0 }
+    {
+        self.registers.get(register)
+    }
+
+    /// The registers that have a rule, each once, with their rules, in any order.
+    pub fn registers(&self) -> RegisterRuleIter<'_, T>
+        ensures rules { map_of (iter_rest result) ≡ (row_of self.now).rules }
+        ensures once { HasEachOnce (iter_rest result) }
+    {
+        self.registers.pairs().iter()
+    }
+
+    /// Sets the bounds.
+    pub(crate) fn set_bounds(&mut self, start_address: u64, end_address: u64)
+        ensures { row_of self.new ≡ record (row_of self.old) {
+          start = start_address;
+          end = end_address;
+        } }
+    {
+        self.start_address = start_address;
+        self.end_address = end_address;
+    }
+
+    /// Becomes the row before any instruction.
+    pub(crate) fn clear(&mut self)
+        ensures { row_of self.new ≡ first_row }
+    {
+        self.start_address = 0;
+        self.end_address = 0;
+        self.saved_args_size = 0;
+        self.cfa = CfaRule::default();
+        self.registers.clear();
+    }
+
+    /// Takes the parts of another row, within its own bounds.
+    pub(crate) fn copy_parts_from(&mut self, source: &Self) -> Result<()>
+        ensures ok { OnOk result
+            (row_of self.new ≡ with_parts_of (row_of source.now) (row_of self.old)) }
+        ensures memory { IsSome Rules.capacity → IsOk result }
+        ensures error { IfErr result (λ e. e ≡ Error.OutOfMemory) }
+    {
+        self.saved_args_size = source.saved_args_size;
+        self.cfa = source.cfa;
+        self.registers.copy_from(&source.registers)
+    }
+
+    /// Becomes the same row as another.
+    pub(crate) fn copy_from(&mut self, source: &Self) -> Result<()>
+        ensures ok { OnOk result (row_of self.new ≡ row_of source.now) }
+        ensures memory { IsSome Rules.capacity → IsOk result }
+        ensures error { IfErr result (λ e. e ≡ Error.OutOfMemory) }
+    {
+        self.set_bounds(source.start_address, source.end_address);
+        self.copy_parts_from(source)
+    }
+
+    pub(crate) fn set_cfa(&mut self, rule: CfaRule<T>)
+        ensures { row_of self.new ≡ record (row_of self.old) { cfa = rule } }
+    {
+        self.cfa = rule;
+    }
+
+    pub(crate) fn set_saved_args_size(&mut self, size: u64)
+        ensures { row_of self.new ≡ record (row_of self.old) { saved_args_size = size } }
+    {
+        self.saved_args_size = size;
+    }
+
+    /// Gives the register this rule. An `Err` changes nothing.
+    pub(crate) fn set_rule(&mut self, register: Register, rule: RegisterRule<T>) -> Result<()>
+        ensures room { HoldsRules Rules.capacity
+            (len (insert (row_of self.old).rules register.0 rule)) result }
+        ensures ok { OnOk result (row_of self.new ≡ record (row_of self.old) {
+          rules = insert (row_of self.old).rules register.0 rule;
+        }) }
+        ensures err { OnErr result (row_of self.new ≡ row_of self.old) }
+    {
+        self.registers.set(register, rule)
+    }
+
+    /// Takes the register's rule away, if it has one.
+    pub(crate) fn remove_rule(&mut self, register: Register)
+        ensures { row_of self.new ≡ record (row_of self.old) {
+          rules = remove (row_of self.old).rules register.0;
+        } }
+    {
+        self.registers.remove(register);
+    }
+
+    /// The rules.
+    pub(crate) fn rules(&self) -> &RegisterRuleMap<RegisterRule<T>, Rules>
+        ensures { result.now ≡ (row_of self.now).rules }
+    {
+        &self.registers
+    }
+}
