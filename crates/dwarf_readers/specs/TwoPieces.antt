@@ -1,7 +1,7 @@
 -- What two pieces of a section are as a reader.
-use Rattle.std.specs.Prelude.{ℕ, ◌+◌, ◌<◌, Bool, List, ◌++◌, length}
+use Rattle.std.specs.Prelude.{◌≡◌, ℕ, ◌+◌, ◌<◌, Bool, List, ◌++◌, length}
 use Rattle.dwarf_readers.specs.declared.two_pieces.TwoPieces.{TwoPieces}
-use Rattle.dwarf_readers.specs.Place.{Stretch, end_of}
+use Rattle.dwarf_readers.specs.Place.{Stretch}
 
 -- the bytes of the first piece, and behind them those of the second
 abbrev pub bytes_of : {E : Type 0} → TwoPieces E → List ℕ
@@ -15,6 +15,10 @@ stretch_of is_big s = record { bytes = bytes_of s; place = s.place; big = is_big
 abbrev pub joint_of : {E : Type 0} → TwoPieces E → ℕ
 joint_of s = s.place + length s.first.now
 
--- There are bytes on both sides of this place.
-abbrev pub Crosses : ℕ → Stretch → Type 0
-Crosses place s = (s.place < place) × (place < end_of s)
+-- There are bytes on both sides of the joint.
+abbrev pub CrossesJoint : {E : Type 0} → TwoPieces E → Type 0
+CrossesJoint s = (0 < length s.first.now) × (0 < length s.second.now)
+
+-- A part with bytes on both sides of a joint has the joint of the whole.
+abbrev pub KeepsJoint : {E : Type 0} → TwoPieces E → TwoPieces E → Type 0
+KeepsJoint whole part = CrossesJoint part → joint_of part ≡ joint_of whole

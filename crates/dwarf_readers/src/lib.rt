@@ -18,6 +18,6 @@ pub use endian_slice::EndianSlice;
 pub use endianity::{BigEndian, Endianity, LittleEndian, NativeEndian, RunTimeEndian};
 pub use reader::{Reader, read_u8_array};
 pub use reader_offset::ReaderOffset;
-pub use steps::Steps;
+pub use steps::{Counted, Steps, count_steps};
 pub use str_offsets_base::DebugStrOffsetsBase;
 pub use two_pieces::TwoPieces;

@@ -9,8 +9,8 @@ use dwarf_constants::{Error, ReaderOffsetId, Result};
 use std::alloc::{AllocError, Global};
 use std::borrow::{CowSlice, CowStr};
 
-/// Bytes of a section in two pieces, those of the first and behind them those of the second, their byte
-/// order, and the place of the first byte.
+/// Bytes of a section in two pieces, those of the first and behind them those of the second, their
+/// byte order, and the place of the first byte.
 #[derive_where(Debug; E)]
 pub struct TwoPieces<'a, E> {
     first: &'a [u8],
@@ -43,7 +43,7 @@ impl<'a, E: Endianity> TwoPieces<'a, E> {
     ghost use Rattle.dwarf_constants.specs.declared.error.Error.TheVariants.{OutOfMemory};
     ghost use Rattle.dwarf_readers.specs.EndianSlice.{stretch_of as stretch_of_slice};
     ghost use Rattle.dwarf_readers.specs.Place.{whole, prefix, behind, count_before};
-    ghost use Rattle.dwarf_readers.specs.TwoPieces.{stretch_of, bytes_of, joint_of, Crosses};
+    ghost use Rattle.dwarf_readers.specs.TwoPieces.{stretch_of, bytes_of, joint_of, CrossesJoint, KeepsJoint};
 
     /// A section as a whole: its first byte is at place 0.
     pub fn new(first: &'a [u8], second: &'a [u8], endian: E) -> Self
@@ -71,7 +71,8 @@ impl<'a, E: Endianity> TwoPieces<'a, E> {
     #[tactic(auto, using(crate::proofs::Pieces::take_pieces))]
     fn prefix(&self, len: usize) -> Self
         requires { len ≤ length (bytes_of self.now) }
-        ensures { stretch_of E.is_big result ≡ prefix len (stretch_of E.is_big self.now) }
+        ensures stretch { stretch_of E.is_big result ≡ prefix len (stretch_of E.is_big self.now) }
+        ensures joint { KeepsJoint self.now result }
     {
         let of_first = len.min(self.first.len());
         TwoPieces {
@@ -85,7 +86,8 @@ impl<'a, E: Endianity> TwoPieces<'a, E> {
     // What is left behind the first `len` bytes.
     fn behind(&self, len: usize) -> Self
         requires { len ≤ length (bytes_of self.now) }
-        ensures { stretch_of E.is_big result ≡ behind len (stretch_of E.is_big self.now) }
+        ensures stretch { stretch_of E.is_big result ≡ behind len (stretch_of E.is_big self.now) }
+        ensures joint { KeepsJoint self.now result }
     {
         let of_first = len.min(self.first.len());
         TwoPieces {
@@ -124,7 +126,7 @@ impl<'a, E: Endianity> TwoPieces<'a, E> {
     fn one_piece(&self) -> Option<EndianSlice<'a, E>>
         ensures same { IfSome result (λ piece.
             stretch_of_slice E.is_big piece ≡ stretch_of E.is_big self.now) }
-        ensures joined { IfNone result (Crosses (joint_of self.now) (stretch_of E.is_big self.now)) }
+        ensures joint { IfNone result (CrossesJoint self.now) }
     {
         if self.second.is_empty() {
             return Some(EndianSlice::new_at(self.first, self.endian, self.place));
@@ -152,7 +154,8 @@ impl<'a, E: Endianity> Reader for TwoPieces<'a, E> {
     ghost use Rattle.std.specs.Cow.{cow_slice_items, cow_str_bytes};
     ghost use Rattle.std.specs.Str.{IsUtf8};
     ghost use Rattle.dwarf_constants.specs.declared.error.Error.TheVariants.{BadUtf8, OutOfMemory};
-    ghost use Rattle.dwarf_readers.specs.TwoPieces.{stretch_of, bytes_of, joint_of, Crosses};
+    ghost use Rattle.dwarf_readers.specs.Place.{Moves, ReadsAs, behind_at, prefix_at, split_at};
+    ghost use Rattle.dwarf_readers.specs.TwoPieces.{stretch_of, bytes_of, CrossesJoint, KeepsJoint};
 
     type Endian = E;
 
@@ -172,7 +175,13 @@ impl<'a, E: Endianity> Reader for TwoPieces<'a, E> {
         *self = self.prefix(0);
     }
 
-    fn truncate(&mut self, len: usize) -> Result<()> {
+    fn truncate(&mut self, len: usize) -> Result<()>
+        ensures moved { Moves result (prefix_at len (stretch_of E.is_big self.old))
+            (stretch_of E.is_big self.new) }
+        ensures unchanged { OnErr result
+            (stretch_of E.is_big self.new ≡ stretch_of E.is_big self.old) }
+        ensures joint { KeepsJoint self.old self.new }
+    {
         if self.left() < len {
             return Err(Error::UnexpectedEof(self.offset_id()));
         }
@@ -202,7 +211,13 @@ impl<'a, E: Endianity> Reader for TwoPieces<'a, E> {
         }
     }
 
-    fn skip(&mut self, len: usize) -> Result<()> {
+    fn skip(&mut self, len: usize) -> Result<()>
+        ensures moved { Moves result (behind_at len (stretch_of E.is_big self.old))
+            (stretch_of E.is_big self.new) }
+        ensures unchanged { OnErr result
+            (stretch_of E.is_big self.new ≡ stretch_of E.is_big self.old) }
+        ensures joint { KeepsJoint self.old self.new }
+    {
         if self.left() < len {
             return Err(Error::UnexpectedEof(self.offset_id()));
         }
@@ -210,7 +225,14 @@ impl<'a, E: Endianity> Reader for TwoPieces<'a, E> {
         Ok(())
     }
 
-    fn split(&mut self, len: usize) -> Result<Self> {
+    fn split(&mut self, len: usize) -> Result<Self>
+        ensures read { ReadsAs (stretch_of E.is_big) result
+            (split_at len (stretch_of E.is_big self.old)) (stretch_of E.is_big self.new) }
+        ensures unchanged { OnErr result
+            (stretch_of E.is_big self.new ≡ stretch_of E.is_big self.old) }
+        ensures joint { KeepsJoint self.old self.new }
+        ensures joint_of_part { IfOk result (KeepsJoint self.old) }
+    {
         if self.left() < len {
             return Err(Error::UnexpectedEof(self.offset_id()));
         }
@@ -223,7 +245,7 @@ impl<'a, E: Endianity> Reader for TwoPieces<'a, E> {
     fn to_slice(&self, alloc: Global) -> Result<CowSlice<'_, u8, Global>>
         ensures bytes { IfOk result (λ bytes. cow_slice_items bytes ≡ bytes_of self.now) }
         ensures memory { IfErr result (λ e. e ≡ OutOfMemory) }
-        ensures joint { OnErr result (Crosses (joint_of self.now) (stretch_of E.is_big self.now)) }
+        ensures joint { OnErr result (CrossesJoint self.now) }
     {
         match self.one_piece() {
             Some(piece) => Ok(CowSlice::Borrowed(piece.slice())),
@@ -238,8 +260,7 @@ impl<'a, E: Endianity> Reader for TwoPieces<'a, E> {
         ensures valid { IfOk result (λ text. IsUtf8 (bytes_of self.now)) }
         ensures refused { IfErr result
             (λ e. (e ≡ BadUtf8) × ¬ (IsUtf8 (bytes_of self.now)) ⊎ (e ≡ OutOfMemory)) }
-        ensures joint { IfErr result (λ e. e ≡ OutOfMemory
-            → Crosses (joint_of self.now) (stretch_of E.is_big self.now)) }
+        ensures joint { IfErr result (λ e. e ≡ OutOfMemory → CrossesJoint self.now) }
     {
         if let Some(piece) = self.one_piece() {
             return Ok(CowStr::Borrowed(EndianSlice::to_string(&piece)?));

@@ -3,8 +3,8 @@ use Rattle.std.proofs.lemmas.List.{take_rest}
 use Rattle.dwarf_readers.proofs.Pieces.{drop_pieces}
 use Rattle.dwarf_readers.proofs.two_pieces.TwoPieces.behind.Goals as goal
 
-pub returns : goal.returns
-returns g c =
+pub returns-clause-stretch : goal.returns-clause-stretch
+returns-clause-stretch g c =
     let first = c.args.self.now.first.now in
     let second = c.args.self.now.second.now in
     let of_first = c.min-of_first.result in
