@@ -1,7 +1,8 @@
 mod LastKept
-pub mod Laws
-pub mod OrderNumbers
-pub mod Orders
 mod Parts
 mod StackPointer
 mod StackPointerAarch64
+pub mod Laws
+pub mod OrderNumbers
+pub mod Orders
+pub mod SequenceRules

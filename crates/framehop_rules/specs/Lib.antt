@@ -10,4 +10,6 @@ pub mod Registers
 pub mod RegistersAarch64
 pub mod RuleMeaning
 pub mod RuleMeaningAarch64
+pub mod SequenceViews
+pub mod Sequences
 pub mod Slots

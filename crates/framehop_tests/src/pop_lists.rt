@@ -1,6 +1,8 @@
 //! Lists of registers that are popped, their numbers, and the rules that pop them.
 use crate::worked::word_at;
-use framehop_rules::x86_64::{Reg, UnwindRegsX86_64, UnwindRuleX86_64, decode, encode};
+use framehop_rules::x86_64::{
+    OffsetOrPop, Reg, UnwindRegsX86_64, UnwindRuleX86_64, decode, encode,
+};
 use framehop_rules::{Error, UnwindRule};
 use std::alloc::{AllocError, Global};
 use std::process::Abort;
@@ -241,4 +243,62 @@ fn keeps_registers_that_it_popped(rt: HostRuntime) {
     ] {
         assert_pops(&rt, rule, sp, is_all_ones, answer, full_registers(sp));
     }
+}
+
+/// An operation of a function's start, last one first.
+#[derive(Clone, Copy, Debug)]
+enum Started {
+    Pushed(Reg),
+    Lowered(u16),
+}
+
+impl From<Started> for OffsetOrPop {
+    fn from(operation: Started) -> OffsetOrPop {
+        match operation {
+            Started::Pushed(register) => OffsetOrPop::Pop(register),
+            Started::Lowered(words) => OffsetOrPop::OffsetBy8(words),
+        }
+    }
+}
+
+#[test]
+fn has_rules_for_sequences(rt: HostRuntime) {
+    let rbp = OffsetOrPop::Pop(Reg::RBP);
+    for (operations, rule) in [
+        ([].as_slice(), Some(UnwindRuleX86_64::JustReturn)),
+        (
+            [OffsetOrPop::OffsetBy8(0)].as_slice(),
+            Some(UnwindRuleX86_64::JustReturn),
+        ),
+        (
+            [OffsetOrPop::OffsetBy8(3)].as_slice(),
+            Some(pops(3, (0, 0))),
+        ),
+        (
+            [OffsetOrPop::OffsetBy8(0), rbp].as_slice(),
+            Some(pops(0, (1, 1))),
+        ),
+        (
+            [OffsetOrPop::Pop(Reg::R15), OffsetOrPop::Pop(Reg::RBX)].as_slice(),
+            Some(pops(0, (2, 55))),
+        ),
+        ([rbp, OffsetOrPop::OffsetBy8(1)].as_slice(), None),
+        (
+            [OffsetOrPop::OffsetBy8(0), OffsetOrPop::OffsetBy8(1)].as_slice(),
+            None,
+        ),
+        ([OffsetOrPop::None].as_slice(), None),
+        ([rbp, OffsetOrPop::None].as_slice(), None),
+        ([OffsetOrPop::Pop(Reg::RAX)].as_slice(), None),
+        ([rbp, rbp].as_slice(), None),
+        ([rbp; 9].as_slice(), None),
+    ] {
+        let found = UnwindRuleX86_64::for_sequence_of_offset_or_pop(operations.iter().copied());
+        assert_eq!(rt; found, rule, "{operations:?}");
+    }
+    let started = [Started::Lowered(2), Started::Pushed(Reg::RBP)];
+    assert_eq!(rt;
+        UnwindRuleX86_64::for_sequence_of_offset_or_pop(started.iter().copied()),
+        Some(pops(2, (1, 1)))
+    );
 }

@@ -1,0 +1,14 @@
+use Rattle.framehop_rules.proofs.SequenceRules.{rule_of-valid, rule_of-meaning, rule_of-one, none_of-more}
+use Rattle.framehop_rules.proofs.x86_64.offset_or_pop.rules_of_sequences.Goals as goal
+
+pub returns-clause-valid : goal.returns-clause-valid
+returns-clause-valid c = rule_of-valid
+
+pub returns-clause-meaning : goal.returns-clause-meaning
+returns-clause-meaning c = rule_of-meaning
+
+pub returns-clause-one : goal.returns-clause-one
+returns-clause-one c = rule_of-one
+
+pub returns-clause-none : goal.returns-clause-none
+returns-clause-none c = none_of-more

@@ -1,0 +1,9 @@
+-- What contracts see of a sequence in memory.
+use Rattle.std.specs.Prelude.{List, take}
+use Rattle.framehop_rules.specs.Sequences.{offset_then_pops}
+use Rattle.framehop_rules.specs.declared.x86_64.offset_or_pop.OffsetOrPop.{OffsetOrPop}
+use Rattle.framehop_rules.specs.declared.x86_64.sequence.OffsetThenPops.{OffsetThenPops}
+
+-- The operations that were taken.
+abbrev pub operations_of : OffsetThenPops → List OffsetOrPop
+operations_of taken = offset_then_pops taken.offset (take taken.count taken.registers)

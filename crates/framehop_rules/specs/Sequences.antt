@@ -1,0 +1,60 @@
+-- Sequences of what a function's end does to the stack pointer and the registers, and the unwind rules for them.
+use Rattle.std.specs.Prelude.{◌≡◌, ℕ, zero, ◌*◌, Bool, List, [], ◌∷◌, length, map, Option, Some, None, unwrap_or}
+use Rattle.framehop_rules.specs.Callback.{Words}
+use Rattle.framehop_rules.specs.Outcome.{Outcome, Answers, and_then, Caller}
+use Rattle.framehop_rules.specs.PopLists.{IsPopList, order_number}
+use Rattle.framehop_rules.specs.Pops.{raised, popped}
+use Rattle.framehop_rules.specs.RuleMeaning.{rule_meaning}
+use Rattle.framehop_rules.specs.declared.x86_64.offset_or_pop.OffsetOrPop.{OffsetOrPop}
+use Rattle.framehop_rules.specs.declared.x86_64.offset_or_pop.OffsetOrPop.TheVariants as operation
+use Rattle.framehop_rules.specs.declared.x86_64.unwind_rule.UnwindRuleX86_64.{UnwindRuleX86_64}
+use Rattle.framehop_rules.specs.declared.x86_64.unwind_rule.UnwindRuleX86_64.TheVariants.{JustReturn, OffsetSpAndPopRegisters}
+use Rattle.framehop_rules.specs.declared.x86_64.unwindregs.Reg.{Reg}
+use Rattle.framehop_rules.specs.declared.x86_64.unwindregs.UnwindRegsX86_64.{UnwindRegsX86_64}
+
+-- What an operation does. What is neither an offset nor a pop isn't followed.
+abbrev pub done : OffsetOrPop → UnwindRegsX86_64 → Words → Outcome UnwindRegsX86_64
+done (operation.OffsetBy8 x) registers words = raised registers (8 * x)
+done (operation.Pop register) registers words = popped register registers words
+done operation.None registers words = Answers registers
+
+-- What operations do one after the other.
+abbrev pub all_done : List OffsetOrPop → UnwindRegsX86_64 → Words → Outcome UnwindRegsX86_64
+all_done [] registers words = Answers registers
+all_done (first ∷ more) registers words =
+    and_then (done first registers words) (λ next.
+    all_done more next words)
+
+-- What a sequence comes to: its operations are done, and then the function returns.
+abbrev pub sequence_meaning : List OffsetOrPop → Bool → UnwindRegsX86_64 → Words → Outcome (Caller UnwindRegsX86_64)
+sequence_meaning operations is_first registers words =
+    and_then (all_done operations registers words) (λ next.
+    rule_meaning JustReturn is_first next words)
+
+-- A sequence of an offset, if there is one, and then pops.
+abbrev pub offset_then_pops : Option ℕ → List Reg → List OffsetOrPop
+offset_then_pops None registers = map operation.Pop registers
+offset_then_pops (Some offset) registers = operation.OffsetBy8 offset ∷ map operation.Pop registers
+
+-- The rule for an offset and a pop list.
+abbrev pub pop_rule : ℕ → List Reg → UnwindRuleX86_64
+pop_rule zero [] = JustReturn
+pop_rule offset registers = OffsetSpAndPopRegisters offset (length registers) (order_number registers)
+
+-- The rule of a sequence, which is an offset, if there is one, and pops of a pop list.
+pub record IsRuleOf (operations : List OffsetOrPop) (rule : UnwindRuleX86_64) : Type 0 where
+  pub offset : Option ℕ
+  pub registers : List Reg
+  pub sequence : operations ≡ offset_then_pops offset registers
+  pub pops : IsPopList registers
+  pub is : rule ≡ pop_rule (unwrap_or offset 0) registers
+
+-- No rule is for a sequence: it is anything else.
+abbrev pub HasNoRule : List OffsetOrPop → Type 0
+HasNoRule operations = (offset : Option ℕ) (registers : List Reg)
+    → operations ≡ offset_then_pops offset registers → IsPopList registers → ⊥
+
+-- The rule of a sequence, where it has one.
+abbrev pub IsRuleFor : List OffsetOrPop → Option UnwindRuleX86_64 → Type 0
+IsRuleFor operations None = HasNoRule operations
+IsRuleFor operations (Some rule) = IsRuleOf operations rule

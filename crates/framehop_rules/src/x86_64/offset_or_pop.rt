@@ -1,0 +1,65 @@
+//! The unwind rule for a sequence of stack operations.
+ghost use Rattle.std.specs.Prelude.{◌≡◌, ◌<◌, ◌^◌, ◌++◌, ℕ, Bool, List, None, IsSome};
+ghost use Rattle.std.specs.List.{AllZip};
+ghost use Rattle.std.specs.Iterator.{IsFinite, DrainsIf};
+ghost use Rattle.framehop_rules.specs.Callback.{Words};
+ghost use Rattle.framehop_rules.specs.Registers.{sp_of};
+ghost use Rattle.framehop_rules.specs.RuleMeaning.{rule_meaning, IsValid};
+ghost use Rattle.framehop_rules.specs.Sequences.{sequence_meaning, IsRuleOf, HasNoRule, IsRuleFor};
+ghost use Rattle.framehop_rules.specs.declared.x86_64.offset_or_pop.OffsetOrPop.{OffsetOrPop};
+ghost use Rattle.framehop_rules.specs.declared.x86_64.unwind_rule.UnwindRuleX86_64.{UnwindRuleX86_64};
+ghost use Rattle.framehop_rules.specs.declared.x86_64.unwindregs.UnwindRegsX86_64.{UnwindRegsX86_64};
+
+use crate::x86_64::sequence::OffsetThenPops;
+use crate::x86_64::unwind_rule::UnwindRuleX86_64;
+use crate::x86_64::unwindregs::Reg;
+
+/// An operation of a function's end, or the reverse of one of its start.
+#[derive(Clone, Copy, Debug, PartialEq, Eq)]
+pub enum OffsetOrPop {
+    /// Any other operation, for which there is no rule.
+    None,
+    /// The stack pointer goes up by so many words of 8 bytes.
+    OffsetBy8(u16),
+    /// A register takes the word at the stack pointer, which goes up by 8.
+    Pop(Reg),
+}
+
+impl UnwindRuleX86_64 {
+    /// The rule for these operations and a return behind them, if one says them: an offset, which
+    /// may be missing, and then pops of callee-saved registers, each at most once. It reads up to
+    /// the first operation with which there is no rule.
+    pub fn for_sequence_of_offset_or_pop<I, T>(iter: I) -> Option<Self>
+    where
+        I: Iterator<Item = T> + Drop,
+        T: Into<OffsetOrPop>,
+        requires can { I.can_next iter }
+        requires ends { IsFinite (I.remaining iter) }
+        ensures { (items : List T) × (operations : List OffsetOrPop)
+            × DrainsIf I.next_gives (IsSome result) iter items
+            × AllZip T.converts items operations
+            × IsRuleFor operations result }
+    {
+        let mut taken = OffsetThenPops::new();
+        for item in iter {
+            taken.push(item.into())?;
+        }
+        taken.rule()
+    }
+}
+
+/// Laws of sequences: a rule means what its sequence does, register by register, and no sequence
+/// has a rule that begins with one that has none. It does nothing when the program runs.
+pub fn rules_of_sequences()
+    ensures valid { (operations : List OffsetOrPop) (rule : UnwindRuleX86_64)
+        → IsRuleOf operations rule → IsValid rule }
+    ensures meaning { (operations : List OffsetOrPop) (rule : UnwindRuleX86_64) (is_first : Bool)
+        (registers : UnwindRegsX86_64) (words : Words)
+        → IsRuleOf operations rule → sp_of registers < 2 ^ 64
+        → rule_meaning rule is_first registers words
+        ≡ sequence_meaning operations is_first registers words }
+    ensures one { (operations : List OffsetOrPop) (rule other : UnwindRuleX86_64)
+        → IsRuleOf operations rule → IsRuleOf operations other → rule ≡ other }
+    ensures none { (operations more : List OffsetOrPop)
+        → HasNoRule operations → HasNoRule (operations ++ more) }
+{}

@@ -1,0 +1,68 @@
+//! An offset of the stack pointer and pops, as they come one after the other.
+ghost use Rattle.std.specs.Prelude.{◌≡◌, ◌≤◌, [], ◌∷◌, ◌++◌, OnSome, IfNone};
+
+use crate::x86_64::offset_or_pop::OffsetOrPop;
+use crate::x86_64::register_ordering::encode;
+use crate::x86_64::unwind_rule::UnwindRuleX86_64;
+use crate::x86_64::unwindregs::Reg;
+
+/// An offset, if there is one, and at most eight pops behind it.
+#[derive(Clone, Copy)]
+pub(crate) struct OffsetThenPops {
+    offset: Option<u16>,
+    registers: [Reg; 8],
+    count: usize,
+    ghost within: { count ≤ 8 },
+}
+
+impl OffsetThenPops {
+    ghost use Rattle.framehop_rules.specs.Sequences.{HasNoRule, IsRuleFor};
+    ghost use Rattle.framehop_rules.specs.SequenceViews.{operations_of};
+
+    /// No operation.
+    pub(crate) fn new() -> Self
+        ensures { operations_of result ≡ [] }
+    {
+        OffsetThenPops {
+            offset: None,
+            registers: [Reg::RBX; 8],
+            count: 0,
+        }
+    }
+
+    /// Takes one operation more, unless there is no rule with it.
+    pub(crate) fn push(&mut self, operation: OffsetOrPop) -> Option<()>
+        ensures some { OnSome result
+            (operations_of self.new ≡ operations_of self.old ++ operation ∷ []) }
+        ensures none { IfNone result (HasNoRule (operations_of self.old ++ operation ∷ [])) }
+    {
+        match operation {
+            OffsetOrPop::OffsetBy8(words) if self.offset.is_none() && self.count == 0 => {
+                self.offset = Some(words);
+                Some(())
+            }
+            OffsetOrPop::Pop(register) if self.count < 8 => {
+                self.registers[self.count] = register;
+                self.count += 1;
+                Some(())
+            }
+            _ => None,
+        }
+    }
+
+    /// The rule for the operations, if their registers are callee-saved, and each comes once.
+    pub(crate) fn rule(&self) -> Option<UnwindRuleX86_64>
+        ensures { IsRuleFor (operations_of self.now) result }
+    {
+        let sp_offset_by_8 = self.offset.unwrap_or(0);
+        if sp_offset_by_8 == 0 && self.count == 0 {
+            return Some(UnwindRuleX86_64::JustReturn);
+        }
+        let (register_count, encoded_registers_to_pop) = encode(&self.registers[..self.count])?;
+        Some(UnwindRuleX86_64::OffsetSpAndPopRegisters {
+            sp_offset_by_8,
+            register_count,
+            encoded_registers_to_pop,
+        })
+    }
+}
