@@ -1,2 +1,6 @@
+pub mod Behind
+pub mod Machines
 pub mod OperationLists
+pub mod Runs
+pub mod Stacks
 pub mod Words

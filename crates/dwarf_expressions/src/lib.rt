@@ -2,9 +2,13 @@
 #![tactic(auto)]
 
 mod array_like;
+mod evaluation;
+mod machine;
 mod op;
+mod stack;
 mod value;
 
 pub use array_like::{ArrayLike, PushError};
+pub use evaluation::{Evaluation, EvaluationResult, EvaluationStorage};
 pub use op::{Expression, Operation, OperationIter};
 pub use value::Value;

@@ -52,7 +52,8 @@ pub enum Operation {
     /// Shifts to the right, and fills with the sign.
     Shra,
     Xor,
-    /// Takes the top away, and where it isn't 0 goes on at `target`, in bytes from the operation's end.
+    /// Takes the top away, and where it isn't 0 goes on at `target`, in bytes from the operation's
+    /// end.
     Bra { target: i16 },
     Eq,
     Ge,
