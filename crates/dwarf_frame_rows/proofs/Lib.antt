@@ -1,1 +1,2 @@
 mod RuleMaps
+mod SameMaps

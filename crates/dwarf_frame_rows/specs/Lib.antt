@@ -5,4 +5,5 @@ pub mod EncodedPointer
 pub mod Expressions
 pub mod Row
 pub mod RuleMap
+pub mod SameRules
 pub mod SectionKind

@@ -19,6 +19,7 @@ pub type RegisterRuleIter<'a, T> = Iter<'a, RuledRegister<RegisterRule<T>>>;
 /// size of the arguments that the caller pushed. `Rules` is the list that holds the registers' rules.
 #[derive(Drop)]
 #[derive_where(Debug; T, Rules)]
+#[derive_where(PartialEq, Eq; T)]
 pub struct UnwindTableRow<
     T: ReaderOffset,
     Rules: ArrayLike<Item = RuledRegister<RegisterRule<T>>>,

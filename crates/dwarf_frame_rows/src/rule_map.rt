@@ -3,6 +3,7 @@ ghost use Rattle.std.specs.Prelude.{◌≡◌, ◌==◌, ◌+◌, [], ◌∷◌,
 ghost use Rattle.std.specs.FinMap as map;
 ghost use Rattle.dwarf_expressions.specs.Capacity.{IsWithin};
 ghost use Rattle.dwarf_frame_rows.specs.RuleMap.{HasEachOnce, HoldsRules, map_of, rule_in};
+ghost use Rattle.dwarf_frame_rows.specs.SameRules.{rules_are_in};
 
 use crate::RuledRegister;
 use dwarf_constants::{Error, Register, Result};
@@ -44,6 +45,28 @@ impl<V, Rules: ArrayLike<Item = RuledRegister<V>> + Default> Default for Registe
             of: PhantomData,
         }
     }
+}
+
+/// Equality of the maps: each register has equal rules in both, or none in either.
+impl<V: PartialEq + Copy, Rules: ArrayLike<Item = RuledRegister<V>>> PartialEq
+    for RegisterRuleMap<V, Rules> {
+    ghost use Rattle.dwarf_frame_rows.specs.SameRules.{same_rules, same_rules-partial};
+
+    ghost eq = { same_rules V.eq };
+
+    ghost laws = { same_rules-partial V.eq V.laws };
+
+    fn eq(&self, other: &Self) -> bool {
+        let forth = are_in(self.pairs(), other);
+        let back = are_in(other.pairs(), self);
+        forth && back
+    }
+}
+
+impl<V: Eq + Copy, Rules: ArrayLike<Item = RuledRegister<V>>> Eq for RegisterRuleMap<V, Rules> {
+    ghost use Rattle.dwarf_frame_rows.specs.SameRules.{same_rules-equivalence};
+
+    ghost laws = { same_rules-equivalence V.eq V.Eq.laws };
 }
 
 impl<V: Copy, Rules: ArrayLike<Item = RuledRegister<V>>> RegisterRuleMap<V, Rules> {
@@ -128,6 +151,25 @@ impl<V: Copy, Rules: ArrayLike<Item = RuledRegister<V>>> RegisterRuleMap<V, Rule
             }
         }
     }
+}
+
+// Whether each of these registers has an equal rule in a map.
+fn are_in<V: PartialEq + Copy, Rules: ArrayLike<Item = RuledRegister<V>>>(
+    pairs: &[RuledRegister<V>],
+    map: &RegisterRuleMap<V, Rules>,
+) -> bool
+    ensures { result ≡ rules_are_in V.eq pairs.now map.now }
+{
+    for pair in pairs {
+        let is_equal = match map.get(pair.register) {
+            Some(rule) => pair.rule == rule,
+            None => false,
+        };
+        if !is_equal {
+            return false;
+        }
+    }
+    true
 }
 
 // The first rule of a register.
