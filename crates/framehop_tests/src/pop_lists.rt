@@ -302,3 +302,13 @@ fn has_rules_for_sequences(rt: HostRuntime) {
         Some(pops(2, (1, 1)))
     );
 }
+
+#[test]
+fn prints_lists(rt: HostRuntime) -> Result<(), Fail> {
+    let decoded = decode(2, 55);
+    assert_eq!(rt;
+        format!(in rt.alloc(); "{decoded:?}")?.as_str(),
+        "[R15, RBX]"
+    );
+    Ok(())
+}

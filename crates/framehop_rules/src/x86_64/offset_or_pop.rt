@@ -27,8 +27,8 @@ pub enum OffsetOrPop {
 
 impl UnwindRuleX86_64 {
     /// The rule for these operations and a return behind them, if one says them: an offset, which
-    /// may be missing, and then pops of callee-saved registers, each at most once. It reads up to
-    /// the first operation with which there is no rule.
+    /// may be missing, and then pops of callee-saved registers, each at most once. Where there is
+    /// none, the iterator may have been read in part.
     pub fn for_sequence_of_offset_or_pop<I, T>(iter: I) -> Option<Self>
     where
         I: Iterator<Item = T> + Drop,

@@ -4,6 +4,8 @@ ghost use Rattle.framehop_rules.specs.Registers.{dwarf_number};
 ghost use Rattle.framehop_rules.specs.declared.x86_64.unwindregs.Reg.TheVariants.{RBX};
 
 use crate::x86_64::unwindregs::Reg;
+use std::fmt;
+use std::fmt::Debug;
 
 /// The callee-saved registers, in the order in which lists are numbered.
 const CALLEE_SAVED: [Reg; 8] = [
@@ -73,5 +75,11 @@ impl PopList {
             ≡ position (λ other. dwarf_number other == dwarf_number register) (left_of self.now) }
     {
         self.left().iter().position(|other| *other == register)
+    }
+}
+
+impl Debug for PopList {
+    fn fmt<W: fmt::Write>(&self, f: &mut fmt::Formatter<W>) -> fmt::Result {
+        self.as_slice().fmt(f)
     }
 }
