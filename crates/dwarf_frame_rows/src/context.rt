@@ -119,16 +119,17 @@ impl<T: ReaderOffset, S: UnwindContextStorage<T>> UnwindContext<T, S> {
         self.is_initialized = false;
     }
 
-    /// Keeps the row's rules as those that the CIE's own instructions left, in a context that keeps
-    /// none yet. Two rules or more count as a row; fails with `StackFull` where there is no room for
-    /// one.
+    /// Keeps the row's rules as those that the CIE's own instructions left, in place of any that were
+    /// kept before. Two rules or more count as a row; fails with `StackFull` where there is no room for
+    /// one. After an `Err` none are kept.
     pub fn save_initial_rules(&mut self) -> Result<()>
-        requires { (state_of S.Stack.items self.old).initial ≡ None }
         ensures acts { Acts (initialized (limits_of S.Rules.capacity S.Stack.capacity))
-            (state_of S.Stack.items self.old) (state_of S.Stack.items self.new) result }
+            (record (state_of S.Stack.items self.old) { initial = None })
+            (state_of S.Stack.items self.new) result }
         ensures memory { IsSome S.Rules.capacity
             → IfErr result (λ e. e ≢ Error.OutOfMemory) }
     {
+        self.is_initialized = false;
         if !self.has_room(1 + counted_rows(self.row.rules())) {
             return Err(Error::StackFull);
         }
