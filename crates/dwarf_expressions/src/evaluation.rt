@@ -1,10 +1,12 @@
 //! The evaluation of expressions (DWARF 5, 2.5).
 
-ghost use Rattle.std.specs.Prelude.{◌≡◌, ◌⊎◌, true, false, IfOk, IfErr, IsOk, IsTrue};
+ghost use Rattle.std.specs.Prelude.{◌≡◌, true, Err, IfOk, IfErr, IsOk, IsTrue, Ok};
 ghost use Rattle.dwarf_constants.specs.declared.error.Error.TheVariants.{OutOfMemory, UnsupportedAddressSize};
 ghost use Rattle.dwarf_readers.specs.InitialLength.{is_size};
-ghost use Rattle.dwarf_expressions.specs.Evaluation.{AddsOffset, Answers, CanResume, ComesTo, IsNotMade, IsReady, Progress, Ready, evaluated, first_machine, resumed, state_kept, value_in};
+ghost use Rattle.dwarf_expressions.specs.Evaluation.{AddsOffset, Answers, CanResume, ComesTo, IsNotMade, IsReady, Progress, Ready, Refused, evaluated, first_machine, resumed, state_kept, value_in};
 ghost use Rattle.dwarf_expressions.specs.Values.{generic_of};
+ghost use Rattle.dwarf_constants.specs.declared.common.Register.{Register};
+ghost use Rattle.dwarf_expressions.specs.declared.evaluation.EvaluationResult.TheVariants.{RequiresRegister};
 
 use crate::array_like::ArrayLike;
 use crate::machine::{Machine, Stop};
@@ -91,6 +93,8 @@ impl<R: Reader, S: EvaluationStorage> Evaluation<R, S> {
         ensures state { ComesTo self.old.program.capacity
             (evaluated self.old.program self.old.state) self.new.state }
         ensures answer { Answers self.new.state result }
+        ensures asks { (register : Register) → result ≡ Ok (RequiresRegister register)
+            → CanResume self.new.state }
     {
         match self.state {
             EvaluationState::Ready => self.go_on(),
@@ -110,6 +114,8 @@ impl<R: Reader, S: EvaluationStorage> Evaluation<R, S> {
         ensures state { ComesTo self.old.program.capacity
             (resumed self.old.program (generic_of value) self.old.state) self.new.state }
         ensures answer { Answers self.new.state result }
+        ensures asks { (register : Register) → result ≡ Ok (RequiresRegister register)
+            → CanResume self.new.state }
     {
         let Value::Generic(number) = value;
         match self.state {
@@ -136,17 +142,26 @@ impl<R: Reader, S: EvaluationStorage> Evaluation<R, S> {
         ensures state { ComesTo self.old.program.capacity
             (resumed self.old.program number self.old.state) self.new.state }
         ensures answer { Answers self.new.state result }
+        ensures asks { (register : Register) → result ≡ Ok (RequiresRegister register)
+            → CanResume self.new.state }
     {
         match self.machine.push_sum(number, offset) {
             Ok(()) => {
                 self.state = EvaluationState::Ready;
                 self.go_on()
             }
-            Err(error) => {
-                self.state = EvaluationState::Refused { error };
-                Err(error)
-            }
+            Err(error) => self.refuse(error),
         }
+    }
+
+    /// Keeps a refusal, which every later call answers.
+    fn refuse(&mut self, error: Error) -> Result<EvaluationResult>
+        ensures program { self.new.program ≡ self.old.program }
+        ensures state { self.new.state ≡ Refused error }
+        ensures answer { result ≡ Err error }
+    {
+        self.state = EvaluationState::Refused { error };
+        Err(error)
     }
 
     /// Runs the machine, and keeps where it stops.
@@ -156,6 +171,8 @@ impl<R: Reader, S: EvaluationStorage> Evaluation<R, S> {
         ensures state { ComesTo self.old.program.capacity
             (evaluated self.old.program self.old.state) self.new.state }
         ensures answer { Answers self.new.state result }
+        ensures asks { (register : Register) → result ≡ Ok (RequiresRegister register)
+            → CanResume self.new.state }
     {
         match self.machine.run() {
             Ok(Stop::Finished { value }) => {
@@ -166,10 +183,7 @@ impl<R: Reader, S: EvaluationStorage> Evaluation<R, S> {
                 self.state = EvaluationState::Asking { register, offset };
                 Ok(EvaluationResult::RequiresRegister { register })
             }
-            Err(error) => {
-                self.state = EvaluationState::Refused { error };
-                Err(error)
-            }
+            Err(error) => self.refuse(error),
         }
     }
 }

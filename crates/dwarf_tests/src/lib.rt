@@ -6,6 +6,8 @@ pub mod backward;
 mod call_frames;
 #[cfg(test)]
 mod constants;
+#[cfg(test)]
+mod expressions;
 pub mod over_readers;
 #[cfg(test)]
 mod read_core;
