@@ -17,4 +17,4 @@ pub mod worked;
 
 pub use backward::Backward;
 pub use over_readers::{Outcome, ReaderTest, over_each_reader};
-pub use worked::{WORKED, little};
+pub use worked::WORKED;

@@ -1,9 +1,4 @@
-//! The section that several tests read, and a reader of bytes.
-
-ghost use Rattle.std.specs.Prelude.{◌≡◌, false};
-ghost use Rattle.dwarf_readers.specs.EndianSlice.{stretch_of};
-
-use dwarf_readers::{EndianSlice, Endianity, LittleEndian};
+//! The section that several tests read.
 
 /// An `.eh_frame` of a function that pushes and sets a frame pointer. Its CIE has the CFA at
 /// RSP + 8 and the return address at CFA - 8. Its FDE covers 0x1000 to 0x1010: one byte further the
@@ -13,10 +8,3 @@ pub static WORKED: [u8; 56] = [
     0, 0, 0, 0, 0x10, 0, 0, 0, 0, 0, 0, 0x10, 0, 0, 0, 0, 0, 0, 0, 0x41, 0x0e, 0x10, 0x86, 2, 0x43,
     0x0d, 6, 0, 0, 0, 0,
 ];
-
-/// A section of these bytes, whose numbers are little-endian.
-pub fn little(bytes: &[u8]) -> EndianSlice<'_, LittleEndian>
-    ensures { stretch_of ⟦<LittleEndian as Endianity>⟧.is_big result ≡ record { bytes = bytes.now; place = 0; big = false } }
-{
-    EndianSlice::new(bytes, LittleEndian)
-}
