@@ -8,6 +8,8 @@ mod call_frames;
 mod constants;
 #[cfg(test)]
 mod expressions;
+#[cfg(test)]
+mod frame_rows;
 pub mod over_readers;
 #[cfg(test)]
 mod read_core;

@@ -1,0 +1,4 @@
+//! Encoded pointers, contexts and their rows, and expressions by their places.
+mod contexts;
+mod encodings;
+mod pointers;
