@@ -1,4 +1,6 @@
 //! The cache of rules, its counts, and sums with signed numbers.
+ghost use Rattle.framehop_rules.specs.RuleMeaning.{IsValid};
+
 use framehop_rules::aarch64::UnwindRuleAarch64;
 use framehop_rules::x86_64::UnwindRuleX86_64;
 use framehop_rules::{
@@ -7,7 +9,9 @@ use framehop_rules::{
 use std::test::Fail;
 
 /// A rule that a number tells from others.
-fn rule(number: u16) -> UnwindRuleX86_64 {
+fn rule(number: u16) -> UnwindRuleX86_64
+    ensures { IsValid result }
+{
     UnwindRuleX86_64::OffsetSp {
         sp_offset_by_8: number,
     }
