@@ -2,10 +2,10 @@
 use Rattle.std.proofs.Common.{◌≡◌, ℕ, ◌-◌, ◌^◌, ◌<◌, ◌≤◌, Bool, cond, List, Option, Some, None, Result, Ok, Err, refl, sym, ap, ◌∙◌}
 use Rattle.std.specs.Prelude.{option_and_then}
 use Rattle.std.proofs.lemmas.Bool.{lt-ltb, le-ltb}
-use Rattle.framehop_rules.specs.Callback.{Words, read_answer}
+use Rattle.framehop_registers.specs.Callback.{Words, read_answer}
 use Rattle.framehop_rules.specs.Outcome.{Caller}
 use Rattle.framehop_rules.specs.RuleMeaning.{caller_registers}
-use Rattle.framehop_rules.specs.declared.x86_64.unwindregs.UnwindRegsX86_64.{UnwindRegsX86_64}
+use Rattle.framehop_registers.specs.declared.x86_64.unwindregs.UnwindRegsX86_64.{UnwindRegsX86_64}
 use Rattle.dwarf_call_frames.specs.declared.rows.RegisterRule.{RegisterRule}
 use Rattle.dwarf_call_frames.specs.declared.rows.UnwindTableRow.{UnwindTableRow}
 use Rattle.framehop.specs.declared.dwarf.DwarfUnwinderError.{DwarfUnwinderError}

@@ -2,14 +2,14 @@
 use Rattle.std.proofs.Common.{◌≡◌, ℕ, ◌+◌, ◌-◌, refl, sym, ◌∙◌, ap, subst, Option, Some, None, Bool, true, false, List, Result, Ok, Err}
 use Rattle.std.specs.Prelude.{if◌then◌else◌, nat_lt, ◌^◌, not, IsTrue, ◌↔◌}
 use Rattle.dwarf_constants.specs.declared.error.Error.{Error}
-use Rattle.framehop_rules.specs.Callback.{Words}
-use Rattle.framehop_rules.specs.FrameAddress.{lookup_address_of, IsReturnAddress}
+use Rattle.framehop_registers.specs.Callback.{Words}
+use Rattle.framehop_registers.specs.FrameAddress.{lookup_address_of, IsReturnAddress}
 use Rattle.framehop_rules.specs.RuleMeaning.{rule_meaning}
-use Rattle.framehop_rules.specs.declared.code_address.FrameAddress.{FrameAddress}
-use Rattle.framehop_rules.specs.declared.code_address.FrameAddress.TheVariants.{InstructionPointer, ReturnAddress}
+use Rattle.framehop_registers.specs.declared.code_address.FrameAddress.{FrameAddress}
+use Rattle.framehop_registers.specs.declared.code_address.FrameAddress.TheVariants.{InstructionPointer, ReturnAddress}
 use Rattle.framehop_rules.specs.declared.x86_64.unwind_rule.UnwindRuleX86_64.{UnwindRuleX86_64}
 use Rattle.framehop_rules.specs.declared.x86_64.unwind_rule.UnwindRuleX86_64.TheVariants.{UseFramePointer}
-use Rattle.framehop_rules.specs.declared.x86_64.unwindregs.UnwindRegsX86_64.{UnwindRegsX86_64}
+use Rattle.framehop_registers.specs.declared.x86_64.unwindregs.UnwindRegsX86_64.{UnwindRegsX86_64}
 use Rattle.framehop_rules.specs.Outcome.{Caller}
 use Rattle.framehop.specs.declared.dwarf.DwarfUnwinderError.{DwarfUnwinderError}
 use Rattle.framehop.specs.declared.unwind_result.UnwindResult.{UnwindResult}

@@ -1,13 +1,13 @@
 -- One step of a stack walk, from the modules, the code address of the frame, its registers and the words of the stack.
 use Rattle.std.specs.Prelude.{ℕ, ◌-◌, List, Bool, true, false, Option, Some, None, Result, Ok, Err}
-use Rattle.framehop_rules.specs.Callback.{Words}
-use Rattle.framehop_rules.specs.FrameAddress.{lookup_address_of}
+use Rattle.framehop_registers.specs.Callback.{Words}
+use Rattle.framehop_registers.specs.FrameAddress.{lookup_address_of}
 use Rattle.framehop_rules.specs.Outcome.{Outcome, Ends, Answers, Caller, and_then}
 use Rattle.framehop_rules.specs.RuleMeaning.{rule_meaning}
-use Rattle.framehop_rules.specs.declared.code_address.FrameAddress.{FrameAddress}
-use Rattle.framehop_rules.specs.declared.code_address.FrameAddress.TheVariants.{InstructionPointer, ReturnAddress}
+use Rattle.framehop_registers.specs.declared.code_address.FrameAddress.{FrameAddress}
+use Rattle.framehop_registers.specs.declared.code_address.FrameAddress.TheVariants.{InstructionPointer, ReturnAddress}
 use Rattle.framehop_rules.specs.declared.x86_64.unwind_rule.UnwindRuleX86_64.TheVariants.{UseFramePointer}
-use Rattle.framehop_rules.specs.declared.x86_64.unwindregs.UnwindRegsX86_64.{UnwindRegsX86_64}
+use Rattle.framehop_registers.specs.declared.x86_64.unwindregs.UnwindRegsX86_64.{UnwindRegsX86_64}
 use Rattle.framehop.specs.declared.dwarf.DwarfUnwinderError.{DwarfUnwinderError}
 use Rattle.framehop.specs.Attempt.{Attempt, Rules, Scales, Evaluates, Fails, attempt}
 use Rattle.framehop.specs.DirectRow.{direct_answer}

@@ -1,9 +1,9 @@
 -- What the parts of a step answer, and the registers that they leave.
 use Rattle.std.specs.Prelude.{◌≡◌, Bool, Result, Ok, Err}
-use Rattle.framehop_rules.specs.Callback.{Words}
+use Rattle.framehop_registers.specs.Callback.{Words}
 use Rattle.framehop_rules.specs.Outcome.{Outcome, Answers, Caller}
 use Rattle.framehop_rules.specs.RuleMeaning.{rule_meaning, IsValid}
-use Rattle.framehop_rules.specs.declared.x86_64.unwindregs.UnwindRegsX86_64.{UnwindRegsX86_64}
+use Rattle.framehop_registers.specs.declared.x86_64.unwindregs.UnwindRegsX86_64.{UnwindRegsX86_64}
 use Rattle.framehop.specs.declared.dwarf.DwarfUnwinderError.{DwarfUnwinderError}
 use Rattle.framehop.specs.declared.error.UnwinderError.{UnwinderError}
 use Rattle.framehop.specs.declared.error.UnwinderError.TheVariants.{Dwarf}

@@ -4,7 +4,7 @@ ghost use Rattle.std.specs.Prelude.{◌≡◌, ℕ, ◌+◌, ◌^◌, ◌≤◌,
 ghost use Rattle.dwarf_call_frames.specs.EntryViews.{section_bytes, fde_view};
 ghost use Rattle.framehop.specs.EntryFor.{indexed_entry};
 ghost use Rattle.framehop.specs.CfiIndexView.{IsIndexOf};
-ghost use Rattle.framehop_rules.specs.Callback.{OverWords};
+ghost use Rattle.framehop_registers.specs.Callback.{OverWords};
 ghost use Rattle.framehop.specs.Attempt.{by_fde};
 ghost use Rattle.framehop.specs.UnwindResults.{trial, with_registers, of_dwarf, KeepsUnlessDirect, HasValidRule};
 

@@ -1,7 +1,7 @@
 //! The values of a row's CFA and columns, where no unwind rule says the row (DWARF 5, 6.4.1).
 
 ghost use Rattle.std.specs.Prelude.{◌≡◌, option_and_then};
-ghost use Rattle.framehop_rules.specs.Callback.{OverWords};
+ghost use Rattle.framehop_registers.specs.Callback.{OverWords};
 ghost use Rattle.framehop.specs.DirectRow.{sum_of, expression_value, direct_cfa, stored_at, direct_column, word_below};
 ghost use Rattle.dwarf_call_frames.specs.EntryViews.{section_bytes};
 ghost use Rattle.dwarf_call_frames.specs.Expressions.{expression_at};

@@ -59,7 +59,7 @@ impl Module {
     ghost use Rattle.framehop.specs.ModuleViews.{module_view};
     ghost use Rattle.framehop.specs.ModuleFound.{is_inside, if_inside};
     ghost use Rattle.framehop.specs.Attempt.{attempt};
-    ghost use Rattle.framehop_rules.specs.Callback.{OverWords};
+    ghost use Rattle.framehop_registers.specs.Callback.{OverWords};
     ghost use Rattle.framehop.specs.UnwindResults.{trial, with_registers, KeepsUnlessDirect, HasValidRule};
 
     /// A module at a range of AVMAs, whose base is at `base_avma` and is called `base_svma` by its

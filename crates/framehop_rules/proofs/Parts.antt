@@ -4,7 +4,7 @@ use Rattle.std.specs.Prelude.{ℤ, pos, negsuc, ◌+ℤ◌, ◌==◌, if◌then�
 use Rattle.std.proofs.lemmas.Bool.Decides.{Decides-eqb}
 use Rattle.std.proofs.lemmas.Int.{ints}
 use Rattle.framehop_rules.specs.Outcome.{Outcome, Ends, Refuses, Answers, and_then, address}
-use Rattle.framehop_rules.specs.declared.error.Error.{Error}
+use Rattle.framehop_registers.specs.declared.error.Error.{Error}
 
 -- the first part answers, and then the second
 pub and_then-answers : {A B : Type 0} (first : Outcome A) (next : A → Outcome B) (answer : B) → and_then first next ≡ Answers answer

@@ -6,21 +6,21 @@ use Rattle.std.proofs.lemmas.Bool.{cond-true}
 use Rattle.std.proofs.lemmas.Int.{ints}
 use Rattle.std.proofs.lemmas.List.{map_push, set-get_or}
 use Rattle.std.proofs.lemmas.List.Elements.{All-take}
-use Rattle.framehop_rules.specs.Callback.{Words}
+use Rattle.framehop_registers.specs.Callback.{Words}
 use Rattle.framehop_rules.specs.Outcome.{Outcome, Ends, Refuses, Answers, Caller, and_then, address}
-use Rattle.framehop_rules.specs.PopLists.{callee_saved, IsPopList, order_number, pop_list}
+use Rattle.framehop_registers.specs.PopLists.{callee_saved, IsPopList, order_number, pop_list}
 use Rattle.framehop_rules.specs.Pops.{raised, popped, all_popped}
-use Rattle.framehop_rules.specs.Registers.{sp_of, with_register}
+use Rattle.framehop_registers.specs.Registers.{sp_of, with_register}
 use Rattle.framehop_rules.specs.RuleMeaning.{raised_frame, returned_caller, rule_meaning, IsValid}
 use Rattle.framehop_rules.specs.Sequences.{all_done, sequence_meaning, offset_then_pops, pop_rule, IsRuleOf, HasNoRule}
-use Rattle.framehop_rules.specs.declared.error.Error.TheVariants.{IntegerOverflow}
+use Rattle.framehop_registers.specs.declared.error.Error.TheVariants.{IntegerOverflow}
 use Rattle.framehop_rules.specs.declared.x86_64.offset_or_pop.OffsetOrPop.{OffsetOrPop}
 use Rattle.framehop_rules.specs.declared.x86_64.offset_or_pop.OffsetOrPop.TheVariants as operation
 use Rattle.framehop_rules.specs.declared.x86_64.unwind_rule.UnwindRuleX86_64.{UnwindRuleX86_64}
-use Rattle.framehop_rules.specs.declared.x86_64.unwindregs.Reg.{Reg}
-use Rattle.framehop_rules.specs.declared.x86_64.unwindregs.Reg.TheVariants.{RSP}
-use Rattle.framehop_rules.specs.declared.x86_64.unwindregs.UnwindRegsX86_64.{UnwindRegsX86_64}
-use Rattle.framehop_rules.proofs.OrderNumbers.{pop_list-fits, pop_list-order_number}
+use Rattle.framehop_registers.specs.declared.x86_64.unwindregs.Reg.{Reg}
+use Rattle.framehop_registers.specs.declared.x86_64.unwindregs.Reg.TheVariants.{RSP}
+use Rattle.framehop_registers.specs.declared.x86_64.unwindregs.UnwindRegsX86_64.{UnwindRegsX86_64}
+use Rattle.framehop_registers.proofs.OrderNumbers.{pop_list-fits, pop_list-order_number}
 
 -- two lists that agree place by place, with one pair more
 pub zip-push : {A B : Type 0} (R : A → B → Type 0) (xs : List A) (ys : List B) (x : A) (y : B) → AllZip R xs ys → R x y

@@ -3,18 +3,18 @@ use Rattle.std.proofs.Common.{◌≡◌, ◌≢◌, ◌∙◌, ℕ, ◌+◌, ◌
 use Rattle.std.specs.Prelude.{ℤ, pos, ◌+ℤ◌, ◌-ℤ◌, ◌*ℤ◌, ◌==◌, ◌&&◌, nat_le, if◌then◌else◌, slice_set}
 use Rattle.std.proofs.lemmas.Bool.{leb-false}
 use Rattle.std.proofs.lemmas.List.{get_or-set_same, get_or-set_other, length-set}
-use Rattle.framehop_rules.specs.Callback.{Words}
+use Rattle.framehop_registers.specs.Callback.{Words}
 use Rattle.framehop_rules.specs.Outcome.{Outcome, Ends, Refuses, Answers, Caller, and_then, address, word}
-use Rattle.framehop_rules.specs.PopLists.{pop_list}
+use Rattle.framehop_registers.specs.PopLists.{pop_list}
 use Rattle.framehop_rules.specs.Pops.{raised, popped, all_popped}
-use Rattle.framehop_rules.specs.Registers.{HasAllRegisters, dwarf_number, with_register, ip_of, sp_of, bp_of}
+use Rattle.framehop_registers.specs.Registers.{HasAllRegisters, dwarf_number, with_register, ip_of, sp_of, bp_of}
 use Rattle.framehop_rules.specs.RuleMeaning.{StackFrame, raised_frame, by_frame_pointer, stored_bp, restored_frame, popped_by, moves, return_address, caller_registers, returned_caller, rule_meaning, word_below, IsAtReturn}
 use Rattle.framehop_rules.specs.declared.x86_64.unwind_rule.UnwindRuleX86_64.{UnwindRuleX86_64}
 use Rattle.framehop_rules.specs.declared.x86_64.unwind_rule.UnwindRuleX86_64.TheVariants.{EndOfStack, JustReturn, JustReturnIfFirstFrameOtherwiseFp, OffsetSp, OffsetSpAndRestoreBp, UseFramePointer, OffsetSpAndPopRegisters}
-use Rattle.framehop_rules.specs.declared.x86_64.unwindregs.Reg.{Reg}
-use Rattle.framehop_rules.specs.declared.x86_64.unwindregs.Reg.TheVariants.{RSP}
-use Rattle.framehop_rules.specs.declared.x86_64.unwindregs.UnwindRegsX86_64.{UnwindRegsX86_64}
-use Rattle.framehop_rules.specs.declared.error.Error.TheVariants.{FramepointerUnwindingMovedBackwards, DidNotAdvance}
+use Rattle.framehop_registers.specs.declared.x86_64.unwindregs.Reg.{Reg}
+use Rattle.framehop_registers.specs.declared.x86_64.unwindregs.Reg.TheVariants.{RSP}
+use Rattle.framehop_registers.specs.declared.x86_64.unwindregs.UnwindRegsX86_64.{UnwindRegsX86_64}
+use Rattle.framehop_registers.specs.declared.error.Error.TheVariants.{FramepointerUnwindingMovedBackwards, DidNotAdvance}
 use Rattle.framehop_rules.proofs.Parts.{IsPlaced, and_then-answers, and_then-assoc, above-answers, above, past-refusal, past-end, differ, equal, unequal}
 
 -- ---- the stack pointer that a rule moves to

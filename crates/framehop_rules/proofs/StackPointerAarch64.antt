@@ -2,14 +2,14 @@
 use Rattle.std.proofs.Common.{◌≡◌, ◌≢◌, ℕ, ◌<◌, ◌*◌, ◌^◌, ap, arith, Bool, true, false}
 use Rattle.std.specs.Prelude.{ℤ, pos, ◌+ℤ◌, ◌==◌, ◌||◌, nat_le, if◌then◌else◌}
 use Rattle.std.proofs.lemmas.Bool.{leb-false}
-use Rattle.framehop_rules.specs.Callback.{Words}
+use Rattle.framehop_registers.specs.Callback.{Words}
 use Rattle.framehop_rules.specs.Outcome.{Refuses, Answers, Caller, and_then, address}
-use Rattle.framehop_rules.specs.RegistersAarch64.{stripped, mask_of, sp_of, fp_of}
+use Rattle.framehop_registers.specs.RegistersAarch64.{stripped, mask_of, sp_of, fp_of}
 use Rattle.framehop_rules.specs.RuleMeaningAarch64.{CallerFrame, stored, stored_frame, frame_with_stored_lr, if_above, if_chained, moves, return_address, caller_registers, returned_caller, rule_meaning}
 use Rattle.framehop_rules.specs.declared.aarch64.unwind_rule.UnwindRuleAarch64.{UnwindRuleAarch64}
 use Rattle.framehop_rules.specs.declared.aarch64.unwind_rule.UnwindRuleAarch64.TheVariants.{NoOp, NoOpIfFirstFrameOtherwiseFp, OffsetSp, OffsetSpIfFirstFrameOtherwiseStackEndsHere, OffsetSpAndRestoreLr, OffsetSpAndRestoreFpAndLr, UseFramePointer, UseFramepointerWithOffsets}
-use Rattle.framehop_rules.specs.declared.aarch64.unwindregs.UnwindRegsAarch64.{UnwindRegsAarch64}
-use Rattle.framehop_rules.specs.declared.error.Error.TheVariants.{FramepointerUnwindingMovedBackwards, DidNotAdvance}
+use Rattle.framehop_registers.specs.declared.aarch64.unwindregs.UnwindRegsAarch64.{UnwindRegsAarch64}
+use Rattle.framehop_registers.specs.declared.error.Error.TheVariants.{FramepointerUnwindingMovedBackwards, DidNotAdvance}
 use Rattle.framehop_rules.proofs.Parts.{IsPlaced, and_then-answers, above, past-refusal, past-end, differ}
 
 -- a stored frame is above its base

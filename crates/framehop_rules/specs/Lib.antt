@@ -1,13 +1,7 @@
 pub mod CacheViews
-pub mod Callback
-pub mod FrameAddress
 pub mod LastKept
 pub mod Outcome
-pub mod PopLists
-pub mod PopListViews
 pub mod Pops
-pub mod Registers
-pub mod RegistersAarch64
 pub mod RuleMeaning
 pub mod RuleMeaningAarch64
 pub mod SequenceViews

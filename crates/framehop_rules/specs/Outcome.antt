@@ -1,8 +1,8 @@
 -- What executing an unwind rule comes to, on any architecture.
 use Rattle.std.specs.Prelude.{ℕ, ◌≡◌, ◌^◌, ℤ, pos, negsuc, nat_lt, if◌then◌else◌, Option, Some, None, Result, Ok, Err}
-use Rattle.framehop_rules.specs.Callback.{Words}
-use Rattle.framehop_rules.specs.declared.error.Error.{Error}
-use Rattle.framehop_rules.specs.declared.error.Error.TheVariants.{CouldNotReadStack, FramepointerUnwindingMovedBackwards, DidNotAdvance, IntegerOverflow, ReturnAddressIsNull, OutOfMemory}
+use Rattle.framehop_registers.specs.Callback.{Words}
+use Rattle.framehop_registers.specs.declared.error.Error.{Error}
+use Rattle.framehop_registers.specs.declared.error.Error.TheVariants.{CouldNotReadStack, FramepointerUnwindingMovedBackwards, DidNotAdvance, IntegerOverflow, ReturnAddressIsNull, OutOfMemory}
 
 -- What a rule, or a part of one, comes to: the end of the stack, a refusal, or a value.
 pub data Outcome (A : Type 0) : Type 0 where

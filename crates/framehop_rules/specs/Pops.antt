@@ -1,12 +1,12 @@
 -- Pops: registers that take words from the stack, over a map of words and unbounded numbers.
 use Rattle.std.specs.Prelude.{ℕ, pos, ◌+ℤ◌, List, [], ◌∷◌, Result, Ok, Err}
-use Rattle.framehop_rules.specs.Callback.{Words}
+use Rattle.framehop_registers.specs.Callback.{Words}
 use Rattle.framehop_rules.specs.Outcome.{Outcome, Refuses, Answers, and_then, address, word}
-use Rattle.framehop_rules.specs.Registers.{sp_of, with_register}
-use Rattle.framehop_rules.specs.declared.error.Error.{Error}
-use Rattle.framehop_rules.specs.declared.x86_64.unwindregs.Reg.{Reg}
-use Rattle.framehop_rules.specs.declared.x86_64.unwindregs.Reg.TheVariants.{RSP}
-use Rattle.framehop_rules.specs.declared.x86_64.unwindregs.UnwindRegsX86_64.{UnwindRegsX86_64}
+use Rattle.framehop_registers.specs.Registers.{sp_of, with_register}
+use Rattle.framehop_registers.specs.declared.error.Error.{Error}
+use Rattle.framehop_registers.specs.declared.x86_64.unwindregs.Reg.{Reg}
+use Rattle.framehop_registers.specs.declared.x86_64.unwindregs.Reg.TheVariants.{RSP}
+use Rattle.framehop_registers.specs.declared.x86_64.unwindregs.UnwindRegsX86_64.{UnwindRegsX86_64}
 
 -- The stack pointer goes up by these bytes.
 abbrev pub raised : UnwindRegsX86_64 → ℕ → Outcome UnwindRegsX86_64

@@ -2,13 +2,13 @@
 --
 -- Checks and reads go in the written order, and the first one that fails is the refusal.
 use Rattle.std.specs.Prelude.{ℕ, ◌*◌, ℤ, pos, ◌+ℤ◌, ◌*ℤ◌, Bool, not, ◌&&◌, ◌||◌, ◌==◌, nat_le, if◌then◌else◌}
-use Rattle.framehop_rules.specs.Callback.{Words}
+use Rattle.framehop_registers.specs.Callback.{Words}
 use Rattle.framehop_rules.specs.Outcome.{Outcome, Ends, Refuses, Answers, and_then, address, word, Caller}
-use Rattle.framehop_rules.specs.RegistersAarch64.{stripped, mask_of, lr_of, sp_of, fp_of, with_lr, with_sp, with_fp}
+use Rattle.framehop_registers.specs.RegistersAarch64.{stripped, mask_of, lr_of, sp_of, fp_of, with_lr, with_sp, with_fp}
 use Rattle.framehop_rules.specs.declared.aarch64.unwind_rule.UnwindRuleAarch64.{UnwindRuleAarch64}
 use Rattle.framehop_rules.specs.declared.aarch64.unwind_rule.UnwindRuleAarch64.TheVariants.{NoOp, NoOpIfFirstFrameOtherwiseFp, OffsetSp, OffsetSpIfFirstFrameOtherwiseStackEndsHere, OffsetSpAndRestoreLr, OffsetSpAndRestoreFpAndLr, UseFramePointer, UseFramepointerWithOffsets}
-use Rattle.framehop_rules.specs.declared.aarch64.unwindregs.UnwindRegsAarch64.{UnwindRegsAarch64}
-use Rattle.framehop_rules.specs.declared.error.Error.TheVariants.{FramepointerUnwindingMovedBackwards, DidNotAdvance}
+use Rattle.framehop_registers.specs.declared.aarch64.unwindregs.UnwindRegsAarch64.{UnwindRegsAarch64}
+use Rattle.framehop_registers.specs.declared.error.Error.TheVariants.{FramepointerUnwindingMovedBackwards, DidNotAdvance}
 
 -- The caller's link register, stack pointer and frame pointer.
 abbrev pub CallerFrame : Type 0

@@ -1,16 +1,16 @@
 -- Sequences of what a function's end does to the stack pointer and the registers, and the unwind rules for them.
 use Rattle.std.specs.Prelude.{◌≡◌, ℕ, zero, ◌*◌, Bool, List, [], ◌∷◌, length, map, Option, Some, None, unwrap_or}
-use Rattle.framehop_rules.specs.Callback.{Words}
+use Rattle.framehop_registers.specs.Callback.{Words}
 use Rattle.framehop_rules.specs.Outcome.{Outcome, Answers, and_then, Caller}
-use Rattle.framehop_rules.specs.PopLists.{IsPopList, order_number}
+use Rattle.framehop_registers.specs.PopLists.{IsPopList, order_number}
 use Rattle.framehop_rules.specs.Pops.{raised, popped}
 use Rattle.framehop_rules.specs.RuleMeaning.{rule_meaning}
 use Rattle.framehop_rules.specs.declared.x86_64.offset_or_pop.OffsetOrPop.{OffsetOrPop}
 use Rattle.framehop_rules.specs.declared.x86_64.offset_or_pop.OffsetOrPop.TheVariants as operation
 use Rattle.framehop_rules.specs.declared.x86_64.unwind_rule.UnwindRuleX86_64.{UnwindRuleX86_64}
 use Rattle.framehop_rules.specs.declared.x86_64.unwind_rule.UnwindRuleX86_64.TheVariants.{JustReturn, OffsetSpAndPopRegisters}
-use Rattle.framehop_rules.specs.declared.x86_64.unwindregs.Reg.{Reg}
-use Rattle.framehop_rules.specs.declared.x86_64.unwindregs.UnwindRegsX86_64.{UnwindRegsX86_64}
+use Rattle.framehop_registers.specs.declared.x86_64.unwindregs.Reg.{Reg}
+use Rattle.framehop_registers.specs.declared.x86_64.unwindregs.UnwindRegsX86_64.{UnwindRegsX86_64}
 
 -- What an operation does. What is neither an offset nor a pop isn't followed.
 abbrev pub done : OffsetOrPop → UnwindRegsX86_64 → Words → Outcome UnwindRegsX86_64

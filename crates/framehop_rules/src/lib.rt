@@ -1,4 +1,5 @@
-//! The registers, frame addresses, errors and unwind rules of `framehop`, and the execution of a rule.
+//! The unwind rules of `framehop`, their execution, and the cache that keeps them. It hands on the types of
+//! `framehop_registers`.
 //!
 //! An unwind rule is one step of a stack walk in a compact form: how the caller's registers follow
 //! from those of a frame and from words of the stack. What each rule means is in
@@ -6,21 +7,15 @@
 #![tactic(auto)]
 
 pub mod aarch64;
-mod add_signed;
 mod arch;
-mod callback;
-mod code_address;
-mod display_utils;
-mod error;
 mod rule_cache;
 mod unwind_rule;
 pub mod x86_64;
 
-pub use add_signed::{AddSigned, checked_add_signed, wrapping_add_signed};
 pub use arch::Arch;
-pub use callback::{Statement, calls_over_words, one_read_over_words};
-pub use code_address::FrameAddress;
-pub use display_utils::HexNum;
-pub use error::Error;
+pub use framehop_registers::{
+    AddSigned, Error, FrameAddress, HexNum, Statement, calls_over_words, checked_add_signed,
+    one_read_over_words, wrapping_add_signed,
+};
 pub use rule_cache::{CacheHandle, CacheResult, CacheStats, RuleCache};
 pub use unwind_rule::UnwindRule;

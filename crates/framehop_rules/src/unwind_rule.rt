@@ -1,9 +1,9 @@
 //! What the unwind rules of every architecture have.
 ghost use Rattle.std.specs.Prelude.{◌≡◌, ◌↔◌, ◌*◌, pos, ◌+ℤ◌, ℕ, Bool, Option, IsTrue, IfErr, OnErr};
-ghost use Rattle.framehop_rules.specs.Callback.{Words, OverWords};
+ghost use Rattle.framehop_registers.specs.Callback.{Words, OverWords};
 ghost use Rattle.framehop_rules.specs.Outcome.{Outcome, Caller, IsStep, outcome_of, address, word, IsOfRule};
 
-use crate::error::Error;
+use framehop_registers::Error;
 use std::fmt::Debug;
 
 /// A step of a stack walk in a compact form, and its execution.

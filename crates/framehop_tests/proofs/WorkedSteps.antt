@@ -3,12 +3,12 @@ use Rattle.std.proofs.Common.{◌≡◌, ℕ, ◌/◌, ◌%◌, List, [], ◌∷
 use Rattle.std.specs.Prelude.{slice_get, ◌==◌, if◌then◌else◌}
 use Rattle.dwarf_call_frames.specs.Entries.{entries_from, whole_fdes}
 use Rattle.dwarf_call_frames.specs.Instructions.{instructions_of}
-use Rattle.framehop_rules.specs.Callback.{Words}
+use Rattle.framehop_registers.specs.Callback.{Words}
 use Rattle.framehop_rules.specs.Outcome.{Outcome, Refuses, Answers, Caller}
-use Rattle.framehop_rules.specs.Registers.{ip_of, sp_of, bp_of}
-use Rattle.framehop_rules.specs.declared.error.Error.TheVariants.{FramepointerUnwindingMovedBackwards, IntegerOverflow}
-use Rattle.framehop_rules.specs.declared.code_address.FrameAddress.TheVariants.{InstructionPointer}
-use Rattle.framehop_rules.specs.declared.x86_64.unwindregs.UnwindRegsX86_64.{UnwindRegsX86_64}
+use Rattle.framehop_registers.specs.Registers.{ip_of, sp_of, bp_of}
+use Rattle.framehop_registers.specs.declared.error.Error.TheVariants.{FramepointerUnwindingMovedBackwards, IntegerOverflow}
+use Rattle.framehop_registers.specs.declared.code_address.FrameAddress.TheVariants.{InstructionPointer}
+use Rattle.framehop_registers.specs.declared.x86_64.unwindregs.UnwindRegsX86_64.{UnwindRegsX86_64}
 use Rattle.framehop.specs.EntryFor.{has_index, indexed_entry}
 use Rattle.framehop.specs.ModuleFound.{Loaded}
 use Rattle.framehop.specs.Judge.{judge}

@@ -1,9 +1,9 @@
 -- The line of a step, from what the unwinder answers.
 use Rattle.std.proofs.Common.{◌≡◌, ℕ, List, Bool, Option, Result, ◌∙◌, ap}
-use Rattle.framehop_rules.specs.Callback.{Words}
+use Rattle.framehop_registers.specs.Callback.{Words}
 use Rattle.framehop_rules.specs.Outcome.{answer_of_outcome, registers_after}
-use Rattle.framehop_rules.specs.declared.error.Error.{Error}
-use Rattle.framehop_rules.specs.declared.x86_64.unwindregs.UnwindRegsX86_64.{UnwindRegsX86_64}
+use Rattle.framehop_registers.specs.declared.error.Error.{Error}
+use Rattle.framehop_registers.specs.declared.x86_64.unwindregs.UnwindRegsX86_64.{UnwindRegsX86_64}
 use Rattle.framehop.specs.Judge.{judge_at}
 use Rattle.unwind_commands.specs.Lines.{step_line, outcome_line}
 use Rattle.framehop.specs.ModuleFound.{Loaded}

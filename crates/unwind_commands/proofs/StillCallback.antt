@@ -1,6 +1,6 @@
 -- A callback whose state no read changes.
 use Rattle.std.proofs.Common.{◌≡◌, ℕ, ◌<◌, ◌^◌, List, [], ◌∷◌, Result, sym, subst}
-use Rattle.framehop_rules.specs.Callback.{Words, AnswersBy, read_answer, Leads}
+use Rattle.framehop_registers.specs.Callback.{Words, AnswersBy, read_answer, Leads}
 
 -- no reads change it
 stays : {S : Type 0} (step : S → ℕ → Result ℕ (Unit {0}) → S → Type 0) (state : S) → ((at : ℕ) (r : Result ℕ (Unit {0})) (next : S) → at < 2 ^ 64 → step state at r next → state ≡ next) → (reads : List ℕ) (last : S) → Leads step state reads last → state ≡ last

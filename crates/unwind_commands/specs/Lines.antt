@@ -2,10 +2,10 @@
 use Rattle.std.specs.Prelude.{ℕ, List, [], ◌∷◌, ◌++◌, codes, Option, Some, None, Result, Ok, Err, false}
 use Rattle.std.specs.Fmt.{digits}
 use Rattle.framehop_rules.specs.Outcome.{Outcome, Caller, answer_of_outcome, registers_after}
-use Rattle.framehop_rules.specs.Registers.{ip_of, sp_of, bp_of}
-use Rattle.framehop_rules.specs.declared.error.Error.{Error}
-use Rattle.framehop_rules.specs.declared.error.Error.TheVariants.{CouldNotReadStack, FramepointerUnwindingMovedBackwards, DidNotAdvance, IntegerOverflow, ReturnAddressIsNull, OutOfMemory}
-use Rattle.framehop_rules.specs.declared.x86_64.unwindregs.UnwindRegsX86_64.{UnwindRegsX86_64}
+use Rattle.framehop_registers.specs.Registers.{ip_of, sp_of, bp_of}
+use Rattle.framehop_registers.specs.declared.error.Error.{Error}
+use Rattle.framehop_registers.specs.declared.error.Error.TheVariants.{CouldNotReadStack, FramepointerUnwindingMovedBackwards, DidNotAdvance, IntegerOverflow, ReturnAddressIsNull, OutOfMemory}
+use Rattle.framehop_registers.specs.declared.x86_64.unwindregs.UnwindRegsX86_64.{UnwindRegsX86_64}
 
 -- 0x and the hexadecimal digits of a number, in lower case and without leading zeros
 abbrev pub hexadecimal : ℕ → List ℕ

@@ -1,8 +1,8 @@
 //! What the commands of a run have made, and what each of them does.
 ghost use Rattle.std.specs.Prelude.{◌≡◌, ◌≢◌, ◌<◌, [], None, IsSome, IfSome, IfNone, IfOk, OnOk, option_map, string_bytes, length, vec_len};
 ghost use Rattle.std.specs.List.{slice_index_or};
-ghost use Rattle.framehop_rules.specs.Callback.{read_answer};
-ghost use Rattle.framehop_rules.specs.FrameAddress.{lookup_address_of};
+ghost use Rattle.framehop_registers.specs.Callback.{read_answer};
+ghost use Rattle.framehop_registers.specs.FrameAddress.{lookup_address_of};
 ghost use Rattle.framehop.specs.Judge.{is_first};
 ghost use Rattle.unwind_commands.specs.Numbered.{IsNumbered, caches_after};
 ghost use Rattle.unwind_commands.specs.Text.{unwinders_after, line_of, data_named, eh_frame_of, words_of, is_first_kind, lookup_address_at};

@@ -1,7 +1,7 @@
 //! The rows of x86_64: as unwind rules, or evaluated.
 
 ghost use Rattle.std.specs.Prelude.{◌≡◌, Bool, option_and_then, IfSome, IfOk};
-ghost use Rattle.framehop_rules.specs.Callback.{Words, OverWords};
+ghost use Rattle.framehop_registers.specs.Callback.{Words, OverWords};
 ghost use Rattle.framehop.specs.Attempt.{by_parts};
 ghost use Rattle.framehop.specs.DirectRow.{direct_return_address, direct_refusal, direct_answer};
 ghost use Rattle.framehop.specs.DirectViews.{caller_shown};

@@ -1,7 +1,7 @@
 //! A step of a stack walk on x86_64.
 
 ghost use Rattle.std.specs.Prelude.{◌≡◌, [], OnOk, OnErr, IfErr, IfOk, IfNone};
-ghost use Rattle.framehop_rules.specs.Callback.{OverWords};
+ghost use Rattle.framehop_registers.specs.Callback.{OverWords};
 ghost use Rattle.framehop_rules.specs.Outcome.{IsStep, IsOfRule};
 ghost use Rattle.framehop.specs.ModuleViews.{module_view};
 ghost use Rattle.framehop.specs.ModuleFound.{with_module};

@@ -1,8 +1,8 @@
 //! The architecture aarch64.
 
 use crate::aarch64::unwind_rule::UnwindRuleAarch64;
-use crate::aarch64::unwindregs::UnwindRegsAarch64;
 use crate::arch::Arch;
+use framehop_registers::aarch64::UnwindRegsAarch64;
 
 /// The architecture aarch64.
 pub struct ArchAarch64;

@@ -1,12 +1,12 @@
 //! A law of the rules' meaning. The function does nothing when the program runs.
 ghost use Rattle.std.specs.Prelude.{◌≡◌, ◌<◌, ◌^◌, false};
-ghost use Rattle.framehop_rules.specs.Callback.{Words};
+ghost use Rattle.framehop_registers.specs.Callback.{Words};
 ghost use Rattle.framehop_rules.specs.Outcome.{Answers, Caller};
-ghost use Rattle.framehop_rules.specs.RegistersAarch64.{sp_of};
+ghost use Rattle.framehop_registers.specs.RegistersAarch64.{sp_of};
 ghost use Rattle.framehop_rules.specs.RuleMeaningAarch64.{rule_meaning};
 
 use crate::aarch64::unwind_rule::UnwindRuleAarch64;
-use crate::aarch64::unwindregs::UnwindRegsAarch64;
+use framehop_registers::aarch64::UnwindRegsAarch64;
 
 /// Each step that a rule answers for a later frame raises the stack pointer, which keeps
 /// to 64 bits: so a walk ends.

@@ -1,13 +1,13 @@
 //! The unwind rules of aarch64, and their execution.
 ghost use Rattle.std.specs.Prelude.{◌≡◌, ◌*◌, IfErr, OnErr};
-ghost use Rattle.framehop_rules.specs.Callback.{OverWords};
+ghost use Rattle.framehop_registers.specs.Callback.{OverWords};
 ghost use Rattle.framehop_rules.specs.Outcome.{outcome_of, outcome_or_end_of, IsOfRule};
 ghost use Rattle.framehop_rules.specs.RuleMeaningAarch64.{raised_frame, frame_with_stored_lr, stored, stored_frame, if_above, if_chained, moves, return_address, rule_meaning, IsValid};
 ghost use Rattle.framehop_rules.specs.declared.aarch64.unwind_rule.UnwindRuleAarch64.TheVariants.{NoOp, UseFramePointer};
 
-use crate::aarch64::unwindregs::UnwindRegsAarch64;
-use crate::error::Error;
 use crate::unwind_rule::{UnwindRule, address_above, address_at_offset, bytes_of, read_word};
+use framehop_registers::Error;
+use framehop_registers::aarch64::UnwindRegsAarch64;
 
 /// One step of a stack walk on aarch64: how the caller's link register, stack pointer and frame
 /// pointer follow from this frame's. The return address is always the caller's link register

@@ -1,13 +1,13 @@
 //! Laws of the rules' meaning. The functions do nothing when the program runs.
 ghost use Rattle.std.specs.Prelude.{◌≡◌, ◌≤◌, ◌<◌, ◌^◌, ℕ, Bool};
-ghost use Rattle.framehop_rules.specs.Callback.{Words};
+ghost use Rattle.framehop_registers.specs.Callback.{Words};
 ghost use Rattle.framehop_rules.specs.Outcome.{Answers, Refuses, Caller};
-ghost use Rattle.framehop_rules.specs.Registers.{HasAllRegisters, sp_of};
+ghost use Rattle.framehop_registers.specs.Registers.{HasAllRegisters, sp_of};
 ghost use Rattle.framehop_rules.specs.RuleMeaning.{moves, rule_meaning, IsAtReturn};
 
-use crate::error::Error;
 use crate::x86_64::unwind_rule::UnwindRuleX86_64;
-use crate::x86_64::unwindregs::UnwindRegsX86_64;
+use framehop_registers::Error;
+use framehop_registers::x86_64::UnwindRegsX86_64;
 
 /// No step that a rule answers lowers the stack pointer. Its registers are those behind a call, and
 /// from such registers each step raises the stack pointer: so a walk of such steps ends.

@@ -2,17 +2,17 @@
 ghost use Rattle.std.specs.Prelude.{◌≡◌, ◌<◌, ◌^◌, ◌++◌, ℕ, Bool, List, None, IsSome};
 ghost use Rattle.std.specs.List.{AllZip};
 ghost use Rattle.std.specs.Iterator.{IsFinite, DrainsIf};
-ghost use Rattle.framehop_rules.specs.Callback.{Words};
-ghost use Rattle.framehop_rules.specs.Registers.{sp_of};
+ghost use Rattle.framehop_registers.specs.Callback.{Words};
+ghost use Rattle.framehop_registers.specs.Registers.{sp_of};
 ghost use Rattle.framehop_rules.specs.RuleMeaning.{rule_meaning, IsValid};
 ghost use Rattle.framehop_rules.specs.Sequences.{sequence_meaning, IsRuleOf, HasNoRule, IsRuleFor};
 ghost use Rattle.framehop_rules.specs.declared.x86_64.offset_or_pop.OffsetOrPop.{OffsetOrPop};
 ghost use Rattle.framehop_rules.specs.declared.x86_64.unwind_rule.UnwindRuleX86_64.{UnwindRuleX86_64};
-ghost use Rattle.framehop_rules.specs.declared.x86_64.unwindregs.UnwindRegsX86_64.{UnwindRegsX86_64};
+ghost use Rattle.framehop_registers.specs.declared.x86_64.unwindregs.UnwindRegsX86_64.{UnwindRegsX86_64};
 
 use crate::x86_64::sequence::OffsetThenPops;
 use crate::x86_64::unwind_rule::UnwindRuleX86_64;
-use crate::x86_64::unwindregs::Reg;
+use framehop_registers::x86_64::Reg;
 
 /// An operation of a function's end, or the reverse of one of its start.
 #[derive(Clone, Copy, Debug, PartialEq, Eq)]

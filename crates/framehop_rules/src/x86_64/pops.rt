@@ -1,12 +1,12 @@
 //! Registers that take words from the stack.
 ghost use Rattle.std.specs.Prelude.{◌≡◌, IfErr};
-ghost use Rattle.framehop_rules.specs.Callback.{OverWords};
+ghost use Rattle.framehop_registers.specs.Callback.{OverWords};
 ghost use Rattle.framehop_rules.specs.Outcome.{and_then, IsOfRule};
 ghost use Rattle.framehop_rules.specs.Pops.{raised, popped, all_popped, outcome_leaving};
 
-use crate::error::Error;
 use crate::unwind_rule::{address_above, read_word};
-use crate::x86_64::unwindregs::{Reg, UnwindRegsX86_64};
+use framehop_registers::Error;
+use framehop_registers::x86_64::{Reg, UnwindRegsX86_64};
 
 /// Raises the stack pointer by so many bytes.
 #[inline(always)]

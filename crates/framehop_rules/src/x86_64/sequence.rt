@@ -2,9 +2,8 @@
 ghost use Rattle.std.specs.Prelude.{◌≡◌, ◌≤◌, [], ◌∷◌, ◌++◌, OnSome, IfNone};
 
 use crate::x86_64::offset_or_pop::OffsetOrPop;
-use crate::x86_64::register_ordering::encode;
 use crate::x86_64::unwind_rule::UnwindRuleX86_64;
-use crate::x86_64::unwindregs::Reg;
+use framehop_registers::x86_64::{Reg, encode};
 
 /// An offset, if there is one, and at most eight pops behind it.
 #[derive(Clone, Copy)]

@@ -1,15 +1,14 @@
 //! The unwind rules of x86_64, and their execution.
 ghost use Rattle.std.specs.Prelude.{◌≡◌, ◌*◌, ◌<◌, ◌^◌, pos, ◌*ℤ◌, ◌+ℤ◌, IfErr, OnErr};
-ghost use Rattle.framehop_rules.specs.Callback.{OverWords};
+ghost use Rattle.framehop_registers.specs.Callback.{OverWords};
 ghost use Rattle.framehop_rules.specs.Outcome.{outcome_of, outcome_or_end_of, and_then, address, IsOfRule, IsStep};
 ghost use Rattle.framehop_rules.specs.RuleMeaning.{raised_frame, by_frame_pointer, stored_bp, restored_frame, moves, return_address, returned_caller, rule_meaning, IsValid};
 ghost use Rattle.framehop_rules.specs.declared.x86_64.unwind_rule.UnwindRuleX86_64.TheVariants.{JustReturn, UseFramePointer};
 
-use crate::error::Error;
 use crate::unwind_rule::{UnwindRule, address_above, address_at_offset, bytes_of, read_word};
 use crate::x86_64::pops::pop_registers;
-use crate::x86_64::register_ordering::decode;
-use crate::x86_64::unwindregs::UnwindRegsX86_64;
+use framehop_registers::Error;
+use framehop_registers::x86_64::{UnwindRegsX86_64, decode};
 
 /// One step of a stack walk on x86_64: how the caller's stack pointer and frame pointer follow from
 /// this frame's. The return address is always the word below the caller's stack pointer. Offsets

@@ -1,7 +1,7 @@
 use Rattle.std.proofs.Common.{ap, ◌∙◌}
 use Rattle.dwarf_call_frames.specs.EntryViews.{section_bytes, fde_view}
 use Rattle.framehop.specs.UnwindResults.{trial}
-use Rattle.framehop_rules.proofs.Laws.{over_weaker}
+use Rattle.framehop_registers.proofs.Laws.{over_weaker}
 use Rattle.framehop.proofs.DirectRows.{found_says}
 use Rattle.framehop.proofs.dwarf.unwind_frame_with_fde.Goals as goal
 

@@ -1,4 +1,4 @@
-use Rattle.framehop_rules.proofs.Laws.{over_none, over_weaker}
+use Rattle.framehop_registers.proofs.Laws.{over_none, over_weaker}
 use Rattle.framehop.proofs.DirectRows.{column_is, column_none}
 use Rattle.framehop.proofs.evaluation.eval_register_rule.Goals as goal
 

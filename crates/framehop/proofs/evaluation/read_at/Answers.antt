@@ -1,5 +1,5 @@
 use Rattle.std.proofs.Common.{of_calls, Ok, Err}
-use Rattle.framehop_rules.proofs.Laws.{over_read}
+use Rattle.framehop_registers.proofs.Laws.{over_read}
 use Rattle.framehop.proofs.DirectRows.{word_read, word_missed}
 use Rattle.framehop.proofs.evaluation.read_at.Goals as goal
 

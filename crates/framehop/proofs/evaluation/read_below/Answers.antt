@@ -1,5 +1,5 @@
 use Rattle.std.proofs.Common.{arith, ◌≡◌, ◌-◌, ◌≤◌}
-use Rattle.framehop_rules.proofs.Laws.{over_weaker}
+use Rattle.framehop_registers.proofs.Laws.{over_weaker}
 use Rattle.framehop.proofs.DirectRows.{below_is}
 use Rattle.framehop.proofs.evaluation.read_below.Goals as goal
 

@@ -1,9 +1,9 @@
 use Rattle.std.proofs.Common.{◌≡◌, ℕ, arith, of_calls}
 use Rattle.std.specs.Prelude.{Option, Some, None, Ok, Err}
-use Rattle.framehop_rules.specs.Callback.{read_answer}
+use Rattle.framehop_registers.specs.Callback.{read_answer}
 use Rattle.framehop_rules.specs.Outcome.{Answers, Refuses, word}
-use Rattle.framehop_rules.specs.declared.error.Error.TheVariants.{CouldNotReadStack}
-use Rattle.framehop_rules.proofs.Laws.{over_read}
+use Rattle.framehop_registers.specs.declared.error.Error.TheVariants.{CouldNotReadStack}
+use Rattle.framehop_registers.proofs.Laws.{over_read}
 use Rattle.framehop_rules.proofs.unwind_rule.read_word.Goals as goal
 
 -- a word that was read is the word there

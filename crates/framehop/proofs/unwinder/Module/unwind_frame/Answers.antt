@@ -7,7 +7,7 @@ use Rattle.framehop.specs.declared.dwarf.DwarfUnwinderError.{DwarfUnwinderError}
 use Rattle.framehop.specs.declared.error.UnwinderError.{UnwinderError}
 use Rattle.framehop.specs.declared.error.UnwinderError.TheVariants.{Dwarf}
 use Rattle.framehop.specs.UnwindResults.{trial, with_registers, of_dwarf}
-use Rattle.framehop_rules.proofs.Laws.{over_none, over_weaker}
+use Rattle.framehop_registers.proofs.Laws.{over_none, over_weaker}
 use Rattle.framehop.proofs.IndexedModules.{address-indexed, address-missed, address-past}
 use Rattle.framehop.proofs.unwinder.Module.unwind_frame.Goals as goal
 

@@ -1,6 +1,6 @@
 use Rattle.std.proofs.Common.{ap, ◌∙◌}
 use Rattle.std.specs.Option.{option_or}
-use Rattle.framehop_rules.proofs.Laws.{over_weaker, over_both}
+use Rattle.framehop_registers.proofs.Laws.{over_weaker, over_both}
 use Rattle.framehop.specs.DirectRow.{word_below}
 use Rattle.framehop.proofs.x86_64.dwarf.eval_return_address.Goals as goal
 

@@ -1,7 +1,7 @@
 use Rattle.std.proofs.Common.{◌≡◌, Some, None, refl, ap, ◌∙◌}
 use Rattle.std.specs.Prelude.{unwrap_or}
-use Rattle.framehop_rules.specs.Registers.{bp_of}
-use Rattle.framehop_rules.proofs.Laws.{over_both}
+use Rattle.framehop_registers.specs.Registers.{bp_of}
+use Rattle.framehop_registers.proofs.Laws.{over_both}
 use Rattle.framehop.specs.DirectRow.{direct_cfa, direct_return_address, direct_bp}
 use Rattle.dwarf_call_frames.specs.EntryViews.{section_bytes}
 use Rattle.framehop.specs.RowViews.{parts_shown}

@@ -1,10 +1,10 @@
 use Rattle.std.proofs.Common.{rules, ◌≡◌, ap, ◌∙◌, ℕ, ℤ, pos, ◌+ℤ◌, SFits, w16, to_z, of_z}
 use Rattle.std.proofs.lemmas.Int.{to_z-of_z}
 use Rattle.std.proofs.lemmas.Result.{err_from_is_err_and}
-use Rattle.framehop_rules.specs.Callback.{Words}
+use Rattle.framehop_registers.specs.Callback.{Words}
 use Rattle.framehop_rules.specs.Outcome.{Outcome, Answers, Refuses, and_then, address}
 use Rattle.framehop_rules.specs.RuleMeaningAarch64.{stored, stored_frame}
-use Rattle.framehop_rules.proofs.Laws.{over_both}
+use Rattle.framehop_registers.proofs.Laws.{over_both}
 use Rattle.framehop_rules.proofs.aarch64.unwind_rule.restore_fp_and_lr.Goals as goal
 
 -- the frame, from its stack pointer and its two reads

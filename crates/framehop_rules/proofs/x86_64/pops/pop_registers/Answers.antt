@@ -1,13 +1,13 @@
 use Rattle.std.proofs.Common.{◌≡◌, ℕ, ◌+◌, ◌<◌, List, ◌∷◌, length, drop, slice_index_or, ap, sym, ◌∙◌, arith, rules}
 use Rattle.std.proofs.lemmas.List.{drop_all, drop_more}
 use Rattle.std.proofs.lemmas.Result.{err_from_is_err_and}
-use Rattle.framehop_rules.specs.Callback.{Words}
+use Rattle.framehop_registers.specs.Callback.{Words}
 use Rattle.framehop_rules.specs.Outcome.{Outcome, Refuses, Answers, and_then}
 use Rattle.framehop_rules.specs.Pops.{popped, all_popped}
-use Rattle.framehop_rules.specs.declared.error.Error.{Error}
-use Rattle.framehop_rules.specs.declared.x86_64.unwindregs.Reg.{Reg}
-use Rattle.framehop_rules.specs.declared.x86_64.unwindregs.UnwindRegsX86_64.{UnwindRegsX86_64}
-use Rattle.framehop_rules.proofs.Laws.{over_weaker, over_both}
+use Rattle.framehop_registers.specs.declared.error.Error.{Error}
+use Rattle.framehop_registers.specs.declared.x86_64.unwindregs.Reg.{Reg}
+use Rattle.framehop_registers.specs.declared.x86_64.unwindregs.UnwindRegsX86_64.{UnwindRegsX86_64}
+use Rattle.framehop_registers.proofs.Laws.{over_weaker, over_both}
 use Rattle.framehop_rules.proofs.x86_64.pops.pop_registers.Goals as goal
 
 -- what is popped from an index on begins with the register there

@@ -1,5 +1,5 @@
 use Rattle.std.proofs.Common.{◌≡◌, drop}
-use Rattle.framehop_rules.specs.Callback.{OverWords}
+use Rattle.framehop_registers.specs.Callback.{OverWords}
 use Rattle.framehop_rules.specs.Outcome.{and_then}
 use Rattle.framehop_rules.specs.Pops.{raised, all_popped}
 use Rattle.framehop_rules.proofs.x86_64.pops.pop_registers.Given as goal

@@ -1,11 +1,11 @@
 use Rattle.std.proofs.Common.{◌≡◌, ℕ, ◌<◌, ◌≤◌, Bool, true, false, arith}
 use Rattle.std.specs.Prelude.{Option, Some, None}
 use Rattle.framehop_rules.specs.Outcome.{Answers, Refuses, word}
-use Rattle.framehop_rules.specs.Registers.{sp_of, bp_of}
+use Rattle.framehop_registers.specs.Registers.{sp_of, bp_of}
 use Rattle.framehop_rules.specs.RuleMeaning.{stored_bp}
-use Rattle.framehop_rules.specs.declared.error.Error.{Error}
-use Rattle.framehop_rules.specs.declared.x86_64.unwindregs.UnwindRegsX86_64.{UnwindRegsX86_64}
-use Rattle.framehop_rules.proofs.Laws.{over_weaker}
+use Rattle.framehop_registers.specs.declared.error.Error.{Error}
+use Rattle.framehop_registers.specs.declared.x86_64.unwindregs.UnwindRegsX86_64.{UnwindRegsX86_64}
+use Rattle.framehop_registers.proofs.Laws.{over_weaker}
 use Rattle.framehop_rules.proofs.x86_64.unwind_rule.read_stored_bp.Goals as goal
 use Rattle.framehop_rules.proofs.x86_64.unwind_rule.read_stored_bp.Goals.{else-is_first_frame-via-then-is_first_frame+else-at-sp, else-is_first_frame-via-else-is_first_frame}
 

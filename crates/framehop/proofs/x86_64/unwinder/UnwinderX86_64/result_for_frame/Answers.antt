@@ -4,7 +4,7 @@ use Rattle.framehop.specs.declared.unwind_result.UnwindResult.TheVariants.{ExecR
 use Rattle.framehop.specs.Judge.{is_first}
 use Rattle.framehop.specs.ModuleViews.{module_view, modules_of}
 use Rattle.framehop.specs.UnwindResults.{outcome_of_result}
-use Rattle.framehop_rules.proofs.Laws.{over_weaker}
+use Rattle.framehop_registers.proofs.Laws.{over_weaker}
 use Rattle.framehop.proofs.Steps.{step-found, first-is}
 use Rattle.framehop.proofs.x86_64.unwinder.UnwinderX86_64.result_for_frame.Goals as goal
 

@@ -1,7 +1,7 @@
 use Rattle.std.proofs.Common.{ap, ◌∙◌, sym}
 use Rattle.framehop_rules.specs.Outcome.{answer_of_outcome, registers_after}
 use Rattle.framehop_rules.specs.RuleMeaning.{rule_meaning}
-use Rattle.framehop_rules.proofs.Laws.{over_both}
+use Rattle.framehop_registers.proofs.Laws.{over_both}
 use Rattle.framehop.specs.Judge.{judge}
 use Rattle.framehop.specs.ModuleViews.{modules_of}
 use Rattle.framehop.proofs.Steps.{first-is}

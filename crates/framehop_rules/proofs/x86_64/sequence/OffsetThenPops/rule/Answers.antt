@@ -1,6 +1,6 @@
 use Rattle.std.proofs.Common.{List, take, sym, subst}
-use Rattle.framehop_rules.specs.PopLists.{IsPopList}
-use Rattle.framehop_rules.specs.declared.x86_64.unwindregs.Reg.{Reg}
+use Rattle.framehop_registers.specs.PopLists.{IsPopList}
+use Rattle.framehop_registers.specs.declared.x86_64.unwindregs.Reg.{Reg}
 use Rattle.framehop_rules.proofs.SequenceRules.{same_parts}
 use Rattle.framehop_rules.proofs.x86_64.sequence.OffsetThenPops.rule.Goals as goal
 

@@ -1,13 +1,13 @@
 use Rattle.std.proofs.Common.{◌≡◌, ℕ, Bool, ap, ◌∙◌, sym, refl}
 use Rattle.std.proofs.lemmas.Result.{err_from_is_err_and}
 use Rattle.std.specs.Prelude.{Option, Some, Result, Ok, Err}
-use Rattle.framehop_rules.specs.Callback.{Words}
+use Rattle.framehop_registers.specs.Callback.{Words}
 use Rattle.framehop_rules.specs.Outcome.{Answers, and_then, answer_of_outcome, registers_after, outcome_or_end_of}
 use Rattle.framehop_rules.specs.RuleMeaning.{StackFrame, moves, return_address, caller_registers, returned_caller}
-use Rattle.framehop_rules.specs.declared.error.Error.{Error}
+use Rattle.framehop_registers.specs.declared.error.Error.{Error}
 use Rattle.framehop_rules.specs.declared.x86_64.unwind_rule.UnwindRuleX86_64.{UnwindRuleX86_64}
-use Rattle.framehop_rules.specs.declared.x86_64.unwindregs.UnwindRegsX86_64.{UnwindRegsX86_64}
-use Rattle.framehop_rules.proofs.Laws.{over_both}
+use Rattle.framehop_registers.specs.declared.x86_64.unwindregs.UnwindRegsX86_64.{UnwindRegsX86_64}
+use Rattle.framehop_registers.proofs.Laws.{over_both}
 use Rattle.framehop_rules.proofs.x86_64.unwind_rule.UnwindRuleX86_64.return_to_caller.Goals as goal
 
 -- the rule's meaning, from what the moves and the read of the return address gave

@@ -2,17 +2,17 @@ use Rattle.std.proofs.Common.{◌≡◌, ℕ, ◌*◌, Bool, true, false, List, 
 use Rattle.std.proofs.lemmas.Bool.{false≢true}
 use Rattle.std.proofs.lemmas.Result.{err_from_is_err_and}
 use Rattle.std.specs.Prelude.{Option, Some, None, Result, Ok, Err}
-use Rattle.framehop_rules.specs.Callback.{Words}
+use Rattle.framehop_registers.specs.Callback.{Words}
 use Rattle.framehop_rules.specs.Outcome.{Outcome, Ends, Refuses, Answers, Caller, IsStep, and_then, answer_of_outcome, registers_after}
-use Rattle.framehop_rules.specs.PopLists.{pop_list}
+use Rattle.framehop_registers.specs.PopLists.{pop_list}
 use Rattle.framehop_rules.specs.Pops.{raised, all_popped}
 use Rattle.framehop_rules.specs.RuleMeaning.{raised_frame, popped_by, moves, returned_caller, rule_meaning}
-use Rattle.framehop_rules.specs.declared.error.Error.{Error}
+use Rattle.framehop_registers.specs.declared.error.Error.{Error}
 use Rattle.framehop_rules.specs.declared.x86_64.unwind_rule.UnwindRuleX86_64.{UnwindRuleX86_64}
 use Rattle.framehop_rules.specs.declared.x86_64.unwind_rule.UnwindRuleX86_64.TheVariants.{OffsetSpAndPopRegisters}
-use Rattle.framehop_rules.specs.declared.x86_64.unwindregs.Reg.{Reg}
-use Rattle.framehop_rules.specs.declared.x86_64.unwindregs.UnwindRegsX86_64.{UnwindRegsX86_64}
-use Rattle.framehop_rules.proofs.Laws.{over_weaker, over_both}
+use Rattle.framehop_registers.specs.declared.x86_64.unwindregs.Reg.{Reg}
+use Rattle.framehop_registers.specs.declared.x86_64.unwindregs.UnwindRegsX86_64.{UnwindRegsX86_64}
+use Rattle.framehop_registers.proofs.Laws.{over_weaker, over_both}
 use Rattle.framehop_rules.proofs.x86_64.unwind_rule.UnwindRuleX86_64UnwindRule.exec.Goals as goal
 
 -- what a rule pops, by its list and its offset in bytes

@@ -1,0 +1,6 @@
+pub mod Callback
+pub mod FrameAddress
+pub mod PopLists
+pub mod PopListViews
+pub mod Registers
+pub mod RegistersAarch64

@@ -1,0 +1,5 @@
+//! The registers of aarch64.
+
+mod unwindregs;
+
+pub use unwindregs::{PtrAuthMask, UnwindRegsAarch64};

@@ -1,0 +1,9 @@
+//! The registers of x86_64, and lists of those that are popped.
+
+mod pop_list;
+mod register_ordering;
+mod unwindregs;
+
+pub use pop_list::PopList;
+pub use register_ordering::{decode, encode, lists_by_order_numbers};
+pub use unwindregs::{Reg, UnwindRegsX86_64};

@@ -1,0 +1,59 @@
+//! Pop lists as a count and a number, so that an unwind rule has room for them.
+ghost use Rattle.std.specs.Prelude.{◌≡◌, ◌<◌, ◌≤◌, ℕ, List, length, SomeIff, IfSome};
+ghost use Rattle.framehop_registers.specs.PopLists.{IsPopList, IsOrder, order_number, pop_list, BeginsOrder};
+ghost use Rattle.framehop_registers.specs.PopListViews.{popped_of};
+ghost use Rattle.framehop_registers.specs.declared.x86_64.unwindregs.Reg.{Reg};
+
+use crate::x86_64::pop_list::PopList;
+use crate::x86_64::unwindregs::Reg;
+
+/// The registers of a list, by their count and the number that `encode` gave.
+pub fn decode(register_count: u8, encoded_ordering: u16) -> PopList
+    requires count { register_count ≤ 8 }
+    requires number { encoded_ordering < 40320 }
+    ensures list { popped_of result ≡ pop_list register_count encoded_ordering }
+    ensures order { BeginsOrder (popped_of result) register_count encoded_ordering }
+{
+    let mut list = PopList::new();
+    let mut number = usize::from(encoded_ordering);
+    for _ in 0..register_count {
+        let choices = list.left().len();
+        list.push_from(number % choices);
+        number /= choices;
+    }
+    list
+}
+
+/// The count and the order number of registers that are popped one after the other, the first at
+/// the front. There is none where a register isn't callee-saved, or comes twice.
+pub fn encode(registers: &[Reg]) -> Option<(u8, u16)>
+    ensures number { SomeIff result (IsPopList registers.now)
+        (length registers.now, order_number registers.now) }
+    ensures fits { IfSome result (λ pops. (pops.0 ≤ 8) × (pops.1 < 40320)) }
+    ensures again { IfSome result (λ pops. pop_list pops.0 pops.1 ≡ registers.now) }
+{
+    let mut list = PopList::new();
+    let mut number = 0;
+    let mut weight = 1;
+    for &register in registers {
+        let choices = list.left().len() as u16;
+        let place = list.place_of(register)?;
+        number += weight * place as u16;
+        weight *= choices;
+        list.push_from(place);
+    }
+    Some((registers.len() as u8, number))
+}
+
+/// Lists and numbers give each other back: the numbers of the orders of all eight registers are
+/// those below 40,320, each once. It does nothing when the program runs.
+pub fn lists_by_order_numbers()
+    ensures fits { (registers : List Reg) → IsPopList registers
+        → (length registers ≤ 8) × (order_number registers < 40320) }
+    ensures again { (registers : List Reg) → IsPopList registers
+        → pop_list (length registers) (order_number registers) ≡ registers }
+    ensures each { (number : ℕ) → number < 40320
+        → IsOrder (pop_list 8 number) × (order_number (pop_list 8 number) ≡ number) }
+    ensures once { (one other : List Reg) → IsOrder one → IsOrder other
+        → order_number one ≡ order_number other → one ≡ other }
+{}
