@@ -35,6 +35,10 @@ number_among left (register ∷ more) =
 abbrev pub order_number : List Reg → ℕ
 order_number registers = number_among callee_saved registers
 
+-- How many orders all eight have: 8!.
+abbrev pub order_count : ℕ
+order_count = 40320
+
 -- So many of the registers left, by the number that they have among them.
 unfoldable pub registers_with : ℕ → List Reg → ℕ → List Reg
 registers_with zero left number = []

@@ -18,8 +18,8 @@ abbrev pub no_strip : PtrAuthMask
 no_strip = record { 0 = low_bits 64 }
 
 -- A code address without its authentication code: the bits of the mask.
-abbrev pub stripped : PtrAuthMask → ℕ → ℕ
-stripped mask pointer = bit_and pointer mask.0
+abbrev pub stripped_address : PtrAuthMask → ℕ → ℕ
+stripped_address mask pointer = bit_and pointer mask.0
 
 -- The mask of code addresses.
 abbrev pub mask_of : UnwindRegsAarch64 → PtrAuthMask
@@ -39,7 +39,7 @@ fp_of registers = registers.fp
 
 -- The registers with another link register, which keeps the bits of the mask alone.
 abbrev pub with_lr : UnwindRegsAarch64 → ℕ → UnwindRegsAarch64
-with_lr registers lr = record registers { lr = stripped registers.lr_mask lr }
+with_lr registers lr = record registers { lr = stripped_address registers.lr_mask lr }
 
 -- The registers with another stack pointer.
 abbrev pub with_sp : UnwindRegsAarch64 → ℕ → UnwindRegsAarch64

@@ -8,7 +8,7 @@ use Rattle.std.proofs.lemmas.List.{get_or-set_same, get_or-set_other, length-set
 use Rattle.std.proofs.lemmas.List.Elements.{filter-append}
 use Rattle.lists.specs.Last.{last_of}
 use Rattle.lists.proofs.Laws.{last_of-push}
-use Rattle.framehop_rules.specs.Slots.{Key, Entry, Hits, OtherModules, OtherAddress, slot_of, entry_in, with_kept, found, counted}
+use Rattle.framehop_rules.specs.Slots.{Key, Entry, Hits, OtherModules, OtherAddress, slot_of, entry_in, with_kept, finding_for, counts_after}
 use Rattle.framehop_rules.specs.LastKept.{last_entry, last_key, HasLast}
 use Rattle.framehop_rules.specs.declared.rule_cache.CacheStats.{CacheStats}
 use Rattle.framehop_rules.proofs.Parts.{differ, equal}
@@ -80,21 +80,21 @@ module _ {Rule : Type 0} where
 
   -- what a look-up counts doesn't ask which rule it finds
   counted-any : (same_generation same_key : Bool) (one other : Rule) (counts : CacheStats)
-      → counted (if same_generation then (if same_key then Hits one else OtherAddress) else OtherModules) counts
-      ≡ counted (if same_generation then (if same_key then Hits other else OtherAddress) else OtherModules) counts
+      → counts_after (if same_generation then (if same_key then Hits one else OtherAddress) else OtherModules) counts
+      ≡ counts_after (if same_generation then (if same_key then Hits other else OtherAddress) else OtherModules) counts
   counted-any true true one other counts = refl
   counted-any true false one other counts = refl
   counted-any false same_key one other counts = refl
 
   -- what a look-up counts is decided by the key that it finds
   pub counted_by_key : (key : Key) (one other : Option (Entry Rule)) (counts : CacheStats)
-      → option_map (λ e. e.key) one ≡ option_map (λ e. e.key) other → counted (found key one) counts ≡ counted (found key other) counts
+      → option_map (λ e. e.key) one ≡ option_map (λ e. e.key) other → counts_after (finding_for key one) counts ≡ counts_after (finding_for key other) counts
   counted_by_key key None None counts same = refl
   counted_by_key key None (Some other) counts same = cc
   counted_by_key key (Some one) None counts same = cc
   counted_by_key key (Some one) (Some other) counts same =
       let keys : one.key ≡ other.key = cc in
-      let P : Key → Type 0 = λ k. counted (found key (Some one)) counts ≡ counted (found key (Some (record { key = k; rule = other.rule }))) counts in
+      let P : Key → Type 0 = λ k. counts_after (finding_for key (Some one)) counts ≡ counts_after (finding_for key (Some (record { key = k; rule = other.rule }))) counts in
       subst P keys
       (counted-any (one.key.generation == key.generation) (one.key.address == key.address && beq one.key.is_first key.is_first) one.rule other.rule counts)
 
@@ -135,14 +135,14 @@ module _ {Rule : Type 0} (key : Key) (rule : Rule) where
   hit-is e false a k generation address kind is = cc
 
   -- a rule that is found stands there under this very key
-  hit-there : (there : Option (Entry Rule)) → found key there ≡ Hits rule → there ≡ Some (record { key = key; rule = rule })
+  hit-there : (there : Option (Entry Rule)) → finding_for key there ≡ Hits rule → there ≡ Some (record { key = key; rule = rule })
   hit-there None is = cc
   hit-there (Some e) is =
       ap Some (hit-is e (e.key.generation == key.generation) (e.key.address == key.address) (beq e.key.is_first key.is_first) refl refl refl is)
 
   -- and one that stands there is found
-  there-hit : found key (Some (record { key = key; rule = rule })) ≡ Hits rule
+  there-hit : finding_for key (Some (record { key = key; rule = rule })) ≡ Hits rule
   there-hit = rw (equal key.generation key.generation refl, equal key.address key.address refl, is_same_kind key.is_first)
 
-  pub hits_exactly : (there : Option (Entry Rule)) → (found key there ≡ Hits rule) ↔ (there ≡ Some (record { key = key; rule = rule }))
-  hits_exactly there = (hit-there there, λ is. ap (found key) is ∙ there-hit)
+  pub hits_exactly : (there : Option (Entry Rule)) → (finding_for key there ≡ Hits rule) ↔ (there ≡ Some (record { key = key; rule = rule }))
+  hits_exactly there = (hit-there there, λ is. ap (finding_for key) is ∙ there-hit)

@@ -9,7 +9,7 @@ use Rattle.std.proofs.lemmas.List.Elements.{All-take}
 use Rattle.framehop_registers.specs.Callback.{Words}
 use Rattle.framehop_rules.specs.Outcome.{Outcome, Ends, Refuses, Answers, Caller, and_then, address}
 use Rattle.framehop_registers.specs.PopLists.{callee_saved, IsPopList, order_number, pop_list}
-use Rattle.framehop_rules.specs.Pops.{raised, popped, all_popped}
+use Rattle.framehop_rules.specs.Pops.{raised_registers, registers_after_pop, all_popped}
 use Rattle.framehop_registers.specs.Registers.{sp_of, with_register}
 use Rattle.framehop_rules.specs.RuleMeaning.{raised_frame, returned_caller, rule_meaning, IsValid}
 use Rattle.framehop_rules.specs.Sequences.{all_done, sequence_meaning, offset_then_pops, pop_rule, IsRuleOf, HasNoRule}
@@ -20,7 +20,7 @@ use Rattle.framehop_rules.specs.declared.x86_64.unwind_rule.UnwindRuleX86_64.{Un
 use Rattle.framehop_registers.specs.declared.x86_64.unwindregs.Reg.{Reg}
 use Rattle.framehop_registers.specs.declared.x86_64.unwindregs.Reg.TheVariants.{RSP}
 use Rattle.framehop_registers.specs.declared.x86_64.unwindregs.UnwindRegsX86_64.{UnwindRegsX86_64}
-use Rattle.framehop_registers.proofs.OrderNumbers.{pop_list-fits, pop_list-order_number}
+use Rattle.framehop_registers.proofs.Laws.{pop_list-fits, pop_list-order_number}
 
 -- two lists that agree place by place, with one pair more
 pub zip-push : {A B : Type 0} (R : A → B → Type 0) (xs : List A) (ys : List B) (x : A) (y : B) → AllZip R xs ys → R x y
@@ -118,11 +118,11 @@ and_then-same (Answers value) f g same = same value
 all_done-pops : (list : List Reg) (registers : UnwindRegsX86_64) (words : Words) → all_done (map operation.Pop list) registers words ≡ all_popped list registers words
 all_done-pops [] registers words = refl
 all_done-pops (register ∷ more) registers words =
-    and_then-same (popped register registers words) (λ next. all_done (map operation.Pop more) next words) (λ next. all_popped more next words)
+    and_then-same (registers_after_pop register registers words) (λ next. all_done (map operation.Pop more) next words) (λ next. all_popped more next words)
     (λ next. all_done-pops more next words)
 
 -- an offset of 0
-raised-none : (registers : UnwindRegsX86_64) → sp_of registers < 2 ^ 64 → raised registers 0 ≡ Answers registers
+raised-none : (registers : UnwindRegsX86_64) → sp_of registers < 2 ^ 64 → raised_registers registers 0 ≡ Answers registers
 raised-none registers fits =
     let sum : pos (sp_of registers) +ℤ pos 0 ≡ pos (sp_of registers) = omega (arith, ints) in
     let there : address (pos (sp_of registers)) ≡ Answers (sp_of registers) =
@@ -137,16 +137,16 @@ module _ (is_first : Bool) (registers : UnwindRegsX86_64) (words : Words) where
 
   -- the pops behind an offset
   pops_mean : (x : ℕ) (list : List Reg) → IsPopList list
-      → and_then (and_then (raised registers (8 * x)) (λ from. all_popped (pop_list (length list) (order_number list)) from words)) returned
-      ≡ and_then (and_then (raised registers (8 * x)) (λ next. all_done (map operation.Pop list) next words)) returned
+      → and_then (and_then (raised_registers registers (8 * x)) (λ from. all_popped (pop_list (length list) (order_number list)) from words)) returned
+      ≡ and_then (and_then (raised_registers registers (8 * x)) (λ next. all_done (map operation.Pop list) next words)) returned
   pops_mean x list pops =
       ap (λ o. and_then o returned)
-      (ap (λ l. and_then (raised registers (8 * x)) (λ from. all_popped l from words)) (pop_list-order_number list pops)
-      ∙ and_then-same (raised registers (8 * x)) (λ next. all_popped list next words) (λ next. all_done (map operation.Pop list) next words) (λ next. sym (all_done-pops list next words)))
+      (ap (λ l. and_then (raised_registers registers (8 * x)) (λ from. all_popped l from words)) (pop_list-order_number list pops)
+      ∙ and_then-same (raised_registers registers (8 * x)) (λ next. all_popped list next words) (λ next. all_done (map operation.Pop list) next words) (λ next. sym (all_done-pops list next words)))
 
   -- the same without an offset
   pops_mean_alone : (list : List Reg) → IsPopList list → sp_of registers < 2 ^ 64
-      → and_then (and_then (raised registers 0) (λ from. all_popped (pop_list (length list) (order_number list)) from words)) returned
+      → and_then (and_then (raised_registers registers 0) (λ from. all_popped (pop_list (length list) (order_number list)) from words)) returned
       ≡ and_then (all_done (map operation.Pop list) registers words) returned
   pops_mean_alone list pops fits =
       pops_mean 0 list pops

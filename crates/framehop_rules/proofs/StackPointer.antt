@@ -6,7 +6,7 @@ use Rattle.std.proofs.lemmas.List.{get_or-set_same, get_or-set_other, length-set
 use Rattle.framehop_registers.specs.Callback.{Words}
 use Rattle.framehop_rules.specs.Outcome.{Outcome, Ends, Refuses, Answers, Caller, and_then, address, word}
 use Rattle.framehop_registers.specs.PopLists.{pop_list}
-use Rattle.framehop_rules.specs.Pops.{raised, popped, all_popped}
+use Rattle.framehop_rules.specs.Pops.{raised_registers, registers_after_pop, all_popped}
 use Rattle.framehop_registers.specs.Registers.{HasAllRegisters, dwarf_number, with_register, ip_of, sp_of, bp_of}
 use Rattle.framehop_rules.specs.RuleMeaning.{StackFrame, raised_frame, by_frame_pointer, stored_bp, restored_frame, popped_by, moves, return_address, caller_registers, returned_caller, rule_meaning, word_below, IsAtReturn}
 use Rattle.framehop_rules.specs.declared.x86_64.unwind_rule.UnwindRuleX86_64.{UnwindRuleX86_64}
@@ -76,7 +76,7 @@ record IsAbove (before after : UnwindRegsX86_64) : Type 0 where
 above-trans : (a b c : UnwindRegsX86_64) → IsAbove a b → IsAbove b c → IsAbove a c
 above-trans a b c first second = record { above = omega (arith, first.above, second.above); all = second.all }
 
-raised-is-above : (registers popped : UnwindRegsX86_64) (bytes : ℕ) → HasAllRegisters registers → raised registers bytes ≡ Answers popped → IsAbove registers popped
+raised-is-above : (registers popped : UnwindRegsX86_64) (bytes : ℕ) → HasAllRegisters registers → raised_registers registers bytes ≡ Answers popped → IsAbove registers popped
 raised-is-above registers popped bytes all is =
     let (sp, sp_is, there) = and_then-answers (address (pos (sp_of registers) +ℤ pos bytes)) (λ sp. Answers (with_register registers RSP sp)) popped is in
     let same : with_register registers RSP sp ≡ popped = cc in
@@ -86,7 +86,7 @@ raised-is-above registers popped bytes all is =
       all = length-set registers.regs 7 sp ∙ all;
     })
 
-popped-is-above : (register : Reg) (registers popped_ : UnwindRegsX86_64) (words : Words) → HasAllRegisters registers → popped register registers words ≡ Answers popped_ → IsAbove registers popped_
+popped-is-above : (register : Reg) (registers popped_ : UnwindRegsX86_64) (words : Words) → HasAllRegisters registers → registers_after_pop register registers words ≡ Answers popped_ → IsAbove registers popped_
 popped-is-above register registers popped_ words all is =
     let put : ℕ → ℕ → Outcome UnwindRegsX86_64 = λ value sp. Answers (with_register (with_register registers register value) RSP sp) in
     let (value, value_is, more) = and_then-answers (word words (sp_of registers)) (λ value. and_then (address (pos (sp_of registers) +ℤ pos 8)) (put value)) popped_ is in
@@ -104,13 +104,13 @@ all-popped-is-above [] registers popped_ words all is =
     let same : registers ≡ popped_ = cc in
     subst (IsAbove registers) same (record { above = omega arith; all = all })
 all-popped-is-above (register ∷ more) registers popped_ words all is =
-    let (next, next_is, rest) = and_then-answers (popped register registers words) (λ next. all_popped more next words) popped_ is in
+    let (next, next_is, rest) = and_then-answers (registers_after_pop register registers words) (λ next. all_popped more next words) popped_ is in
     let one = popped-is-above register registers next words all next_is in
     above-trans registers next popped_ one (all-popped-is-above more next popped_ words one.all rest)
 
 popped-by-is-above : (rule : UnwindRuleX86_64) (registers popped_ : UnwindRegsX86_64) (words : Words) → HasAllRegisters registers → popped_by rule registers words ≡ Answers popped_ → IsAbove registers popped_
 popped-by-is-above (OffsetSpAndPopRegisters x count number) registers popped_ words all is =
-    let (from, from_is, rest) = and_then-answers (raised registers (8 * x)) (λ from. all_popped (pop_list count number) from words) popped_ is in
+    let (from, from_is, rest) = and_then-answers (raised_registers registers (8 * x)) (λ from. all_popped (pop_list count number) from words) popped_ is in
     let first = raised-is-above registers from (8 * x) all from_is in
     above-trans registers from popped_ first (all-popped-is-above (pop_list count number) from popped_ words first.all rest)
 popped-by-is-above rule registers popped_ words all is =

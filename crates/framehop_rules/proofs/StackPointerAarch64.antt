@@ -4,8 +4,8 @@ use Rattle.std.specs.Prelude.{ℤ, pos, ◌+ℤ◌, ◌==◌, ◌||◌, nat_le, 
 use Rattle.std.proofs.lemmas.Bool.{leb-false}
 use Rattle.framehop_registers.specs.Callback.{Words}
 use Rattle.framehop_rules.specs.Outcome.{Refuses, Answers, Caller, and_then, address}
-use Rattle.framehop_registers.specs.RegistersAarch64.{stripped, mask_of, sp_of, fp_of}
-use Rattle.framehop_rules.specs.RuleMeaningAarch64.{CallerFrame, stored, stored_frame, frame_with_stored_lr, if_above, if_chained, moves, return_address, caller_registers, returned_caller, rule_meaning}
+use Rattle.framehop_registers.specs.RegistersAarch64.{stripped_address, mask_of, sp_of, fp_of}
+use Rattle.framehop_rules.specs.RuleMeaningAarch64.{CallerFrame, stored_word, stored_frame, frame_with_stored_lr, if_above, if_chained, moves, return_address, caller_registers, returned_caller, rule_meaning}
 use Rattle.framehop_rules.specs.declared.aarch64.unwind_rule.UnwindRuleAarch64.{UnwindRuleAarch64}
 use Rattle.framehop_rules.specs.declared.aarch64.unwind_rule.UnwindRuleAarch64.TheVariants.{NoOp, NoOpIfFirstFrameOtherwiseFp, OffsetSp, OffsetSpIfFirstFrameOtherwiseStackEndsHere, OffsetSpAndRestoreLr, OffsetSpAndRestoreFpAndLr, UseFramePointer, UseFramepointerWithOffsets}
 use Rattle.framehop_registers.specs.declared.aarch64.unwindregs.UnwindRegsAarch64.{UnwindRegsAarch64}
@@ -16,9 +16,9 @@ use Rattle.framehop_rules.proofs.Parts.{IsPlaced, and_then-answers, above, past-
 stored-above : (words : Words) (base bytes : ℕ) (fp_offset lr_offset : ℤ) (frame : CallerFrame)
     → stored_frame words base bytes fp_offset lr_offset ≡ Answers frame → IsPlaced base frame.1
 stored-above words base bytes fp_offset lr_offset frame is =
-    let (sp, sp_is, more) = and_then-answers (address (pos base +ℤ pos bytes)) (λ sp. and_then (stored words base lr_offset) (λ lr. and_then (stored words base fp_offset) (λ fp. Answers (lr, sp, fp)))) frame is in
-    let (lr, lr_is, last) = and_then-answers (stored words base lr_offset) (λ lr. and_then (stored words base fp_offset) (λ fp. Answers (lr, sp, fp))) frame more in
-    let (fp, fp_is, there) = and_then-answers (stored words base fp_offset) (λ fp. Answers (lr, sp, fp)) frame last in
+    let (sp, sp_is, more) = and_then-answers (address (pos base +ℤ pos bytes)) (λ sp. and_then (stored_word words base lr_offset) (λ lr. and_then (stored_word words base fp_offset) (λ fp. Answers (lr, sp, fp)))) frame is in
+    let (lr, lr_is, last) = and_then-answers (stored_word words base lr_offset) (λ lr. and_then (stored_word words base fp_offset) (λ fp. Answers (lr, sp, fp))) frame more in
+    let (fp, fp_is, there) = and_then-answers (stored_word words base fp_offset) (λ fp. Answers (lr, sp, fp)) frame last in
     let same : (lr, sp, fp) ≡ frame = cc in
     let high : sp ≡ frame.1 = ap (λ (f : CallerFrame). f.1) same in
     above base bytes sp frame.1 high sp_is
@@ -27,8 +27,8 @@ stored-above words base bytes fp_offset lr_offset frame is =
 stored_lr-above : (registers : UnwindRegsAarch64) (words : Words) (bytes : ℕ) (lr_offset : ℤ) (frame : CallerFrame)
     → frame_with_stored_lr registers words bytes lr_offset ≡ Answers frame → IsPlaced (sp_of registers) frame.1
 stored_lr-above registers words bytes lr_offset frame is =
-    let (sp, sp_is, more) = and_then-answers (address (pos (sp_of registers) +ℤ pos bytes)) (λ sp. and_then (stored words (sp_of registers) lr_offset) (λ lr. Answers (lr, sp, fp_of registers))) frame is in
-    let (lr, lr_is, there) = and_then-answers (stored words (sp_of registers) lr_offset) (λ lr. Answers (lr, sp, fp_of registers)) frame more in
+    let (sp, sp_is, more) = and_then-answers (address (pos (sp_of registers) +ℤ pos bytes)) (λ sp. and_then (stored_word words (sp_of registers) lr_offset) (λ lr. Answers (lr, sp, fp_of registers))) frame is in
+    let (lr, lr_is, there) = and_then-answers (stored_word words (sp_of registers) lr_offset) (λ lr. Answers (lr, sp, fp_of registers)) frame more in
     let same : (lr, sp, fp_of registers) ≡ frame = cc in
     let high : sp ≡ frame.1 = ap (λ (f : CallerFrame). f.1) same in
     above (sp_of registers) bytes sp frame.1 high sp_is
@@ -78,8 +78,8 @@ returned-differs : (registers : UnwindRegsAarch64) (frame : CallerFrame) (caller
     → returned_caller registers false frame ≡ Answers caller → (frame.1 ≢ sp_of registers) × (frame.1 ≡ sp_of caller.registers)
 returned-differs registers (lr, sp, fp) caller is =
     let (to, to_is, there) = and_then-answers (return_address registers false (lr, sp, fp)) (λ to. Answers (record { return_address = to; registers = caller_registers registers (lr, sp, fp) })) caller is in
-    let more = past-end (stripped (mask_of registers) lr == 0) (if sp == sp_of registers then Refuses DidNotAdvance else Answers (stripped (mask_of registers) lr)) to to_is in
-    let last = past-refusal (sp == sp_of registers) DidNotAdvance (Answers (stripped (mask_of registers) lr)) to more.1 in
+    let more = past-end (stripped_address (mask_of registers) lr == 0) (if sp == sp_of registers then Refuses DidNotAdvance else Answers (stripped_address (mask_of registers) lr)) to to_is in
+    let last = past-refusal (sp == sp_of registers) DidNotAdvance (Answers (stripped_address (mask_of registers) lr)) to more.1 in
     let made : Caller UnwindRegsAarch64 = record { return_address = to; registers = caller_registers registers (lr, sp, fp) } in
     let same : made ≡ caller = cc in
     (differ sp (sp_of registers) last.0, ap (λ (c : Caller UnwindRegsAarch64). sp_of c.registers) same)

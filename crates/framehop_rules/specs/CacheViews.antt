@@ -1,7 +1,7 @@
 -- The entries of a rule cache, and what a look-up answers, as contracts see them.
 use Rattle.std.specs.Prelude.{List, map, Option, option_map, IfSome}
 use Rattle.std.specs.List.{All}
-use Rattle.framehop_rules.specs.Slots.{Key, Entry, Found, Hits, EmptySlot, OtherModules, OtherAddress}
+use Rattle.framehop_rules.specs.Slots.{Key, Entry, Finding, Hits, EmptySlot, OtherModules, OtherAddress}
 use Rattle.framehop_rules.specs.declared.rule_cache.CacheEntry.{CacheEntry}
 use Rattle.framehop_rules.specs.declared.rule_cache.CacheResult.{CacheResult}
 use Rattle.framehop_rules.specs.declared.rule_cache.CacheResult.TheVariants.{Miss, Hit}
@@ -22,7 +22,7 @@ abbrev pub AllValid : {Rule : Type 0} → (Rule → Type 0) → List (Option (Ca
 AllValid is_valid entries = All (λ slot. IfSome slot (λ entry. is_valid entry.unwind_rule)) entries
 
 -- What a look-up answers: the rule, or else the key to keep one under.
-abbrev pub result_of : {Rule : Type 0} → Key → Found Rule → CacheResult Rule
+abbrev pub result_of : {Rule : Type 0} → Key → Finding Rule → CacheResult Rule
 result_of key (Hits rule) = Hit rule
 result_of key EmptySlot = Miss key
 result_of key OtherModules = Miss key

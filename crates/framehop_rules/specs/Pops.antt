@@ -9,14 +9,14 @@ use Rattle.framehop_registers.specs.declared.x86_64.unwindregs.Reg.TheVariants.{
 use Rattle.framehop_registers.specs.declared.x86_64.unwindregs.UnwindRegsX86_64.{UnwindRegsX86_64}
 
 -- The stack pointer goes up by these bytes.
-abbrev pub raised : UnwindRegsX86_64 → ℕ → Outcome UnwindRegsX86_64
-raised registers bytes =
+abbrev pub raised_registers : UnwindRegsX86_64 → ℕ → Outcome UnwindRegsX86_64
+raised_registers registers bytes =
     and_then (address (pos (sp_of registers) +ℤ pos bytes)) (λ sp.
     Answers (with_register registers RSP sp))
 
 -- A register takes the word at the stack pointer, which then goes up by 8.
-abbrev pub popped : Reg → UnwindRegsX86_64 → Words → Outcome UnwindRegsX86_64
-popped register registers words =
+abbrev pub registers_after_pop : Reg → UnwindRegsX86_64 → Words → Outcome UnwindRegsX86_64
+registers_after_pop register registers words =
     and_then (word words (sp_of registers)) (λ value.
     and_then (address (pos (sp_of registers) +ℤ pos 8)) (λ sp.
     Answers (with_register (with_register registers register value) RSP sp)))
@@ -25,7 +25,7 @@ popped register registers words =
 abbrev pub all_popped : List Reg → UnwindRegsX86_64 → Words → Outcome UnwindRegsX86_64
 all_popped [] registers words = Answers registers
 all_popped (register ∷ more) registers words =
-    and_then (popped register registers words) (λ next.
+    and_then (registers_after_pop register registers words) (λ next.
     all_popped more next words)
 
 -- What changing the registers comes to, from what the code answers and the registers that it leaves.

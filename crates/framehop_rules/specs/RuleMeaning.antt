@@ -4,8 +4,8 @@
 use Rattle.std.specs.Prelude.{ℕ, ◌≡◌, ◌≢◌, ◌*◌, ◌<◌, ◌≤◌, ℤ, pos, ◌+ℤ◌, ◌-ℤ◌, ◌*ℤ◌, Bool, ◌&&◌, ◌==◌, nat_lt, nat_le, if◌then◌else◌, Some, None}
 use Rattle.framehop_registers.specs.Callback.{Words}
 use Rattle.framehop_rules.specs.Outcome.{Outcome, Ends, Refuses, Answers, and_then, address, word, Caller}
-use Rattle.framehop_registers.specs.PopLists.{pop_list}
-use Rattle.framehop_rules.specs.Pops.{raised, all_popped}
+use Rattle.framehop_registers.specs.PopLists.{order_count, pop_list}
+use Rattle.framehop_rules.specs.Pops.{raised_registers, all_popped}
 use Rattle.framehop_registers.specs.Registers.{ip_of, sp_of, bp_of, with_ip, with_register}
 use Rattle.framehop_registers.specs.declared.error.Error.TheVariants.{CouldNotReadStack, FramepointerUnwindingMovedBackwards, DidNotAdvance}
 use Rattle.framehop_rules.specs.declared.x86_64.unwind_rule.UnwindRuleX86_64.{UnwindRuleX86_64}
@@ -50,7 +50,7 @@ restored_frame is_first registers words bytes offset =
 -- The registers once those are popped that a rule names, from an offset on. Most rules pop none.
 abbrev pub popped_by : UnwindRuleX86_64 → UnwindRegsX86_64 → Words → Outcome UnwindRegsX86_64
 popped_by (OffsetSpAndPopRegisters x count number) registers words =
-    and_then (raised registers (8 * x)) (λ from. all_popped (pop_list count number) from words)
+    and_then (raised_registers registers (8 * x)) (λ from. all_popped (pop_list count number) from words)
 popped_by rule registers words = Answers registers
 
 -- What each rule does to the stack pointer and the frame pointer, once its registers are popped.
@@ -102,5 +102,5 @@ pub record IsAtReturn (registers : UnwindRegsX86_64) (words : Words) : Type 0 wh
 
 -- A rule that can be executed: its two numbers are those of a pop list, if it pops registers.
 abbrev pub IsValid : UnwindRuleX86_64 → Type 0
-IsValid (OffsetSpAndPopRegisters x count number) = (count ≤ 8) × (number < 40320)
+IsValid (OffsetSpAndPopRegisters x count number) = (count ≤ 8) × (number < order_count)
 IsValid rule = Unit {0}

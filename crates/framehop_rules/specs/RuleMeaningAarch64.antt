@@ -4,7 +4,7 @@
 use Rattle.std.specs.Prelude.{ℕ, ◌*◌, ℤ, pos, ◌+ℤ◌, ◌*ℤ◌, Bool, not, ◌&&◌, ◌||◌, ◌==◌, nat_le, if◌then◌else◌}
 use Rattle.framehop_registers.specs.Callback.{Words}
 use Rattle.framehop_rules.specs.Outcome.{Outcome, Ends, Refuses, Answers, and_then, address, word, Caller}
-use Rattle.framehop_registers.specs.RegistersAarch64.{stripped, mask_of, lr_of, sp_of, fp_of, with_lr, with_sp, with_fp}
+use Rattle.framehop_registers.specs.RegistersAarch64.{stripped_address, mask_of, lr_of, sp_of, fp_of, with_lr, with_sp, with_fp}
 use Rattle.framehop_rules.specs.declared.aarch64.unwind_rule.UnwindRuleAarch64.{UnwindRuleAarch64}
 use Rattle.framehop_rules.specs.declared.aarch64.unwind_rule.UnwindRuleAarch64.TheVariants.{NoOp, NoOpIfFirstFrameOtherwiseFp, OffsetSp, OffsetSpIfFirstFrameOtherwiseStackEndsHere, OffsetSpAndRestoreLr, OffsetSpAndRestoreFpAndLr, UseFramePointer, UseFramepointerWithOffsets}
 use Rattle.framehop_registers.specs.declared.aarch64.unwindregs.UnwindRegsAarch64.{UnwindRegsAarch64}
@@ -25,14 +25,14 @@ raised_frame registers bytes =
     Answers (lr_of registers, sp, fp_of registers))
 
 -- The word that is stored so many words of 8 bytes from an address.
-abbrev pub stored : Words → ℕ → ℤ → Outcome ℕ
-stored words base offset = and_then (address (pos base +ℤ pos 8 *ℤ offset)) (word words)
+abbrev pub stored_word : Words → ℕ → ℤ → Outcome ℕ
+stored_word words base offset = and_then (address (pos base +ℤ pos 8 *ℤ offset)) (word words)
 
 -- The stack pointer goes up by these bytes, the link register is stored at an offset from it, the frame pointer stays.
 abbrev pub frame_with_stored_lr : UnwindRegsAarch64 → Words → ℕ → ℤ → Outcome CallerFrame
 frame_with_stored_lr registers words bytes lr_offset =
     and_then (address (pos (sp_of registers) +ℤ pos bytes)) (λ sp.
-    and_then (stored words (sp_of registers) lr_offset) (λ lr.
+    and_then (stored_word words (sp_of registers) lr_offset) (λ lr.
     Answers (lr, sp, fp_of registers)))
 
 -- The stack pointer is so many bytes above an address; the frame pointer and the link register are stored at offsets from
@@ -40,8 +40,8 @@ frame_with_stored_lr registers words bytes lr_offset =
 abbrev pub stored_frame : Words → ℕ → ℕ → ℤ → ℤ → Outcome CallerFrame
 stored_frame words base bytes fp_offset lr_offset =
     and_then (address (pos base +ℤ pos bytes)) (λ sp.
-    and_then (stored words base lr_offset) (λ lr.
-    and_then (stored words base fp_offset) (λ fp.
+    and_then (stored_word words base lr_offset) (λ lr.
+    and_then (stored_word words base fp_offset) (λ fp.
     Answers (lr, sp, fp))))
 
 -- The stack pointer has to go up.
@@ -78,7 +78,7 @@ moves (UseFramepointerWithOffsets x y z) is_first registers words =
 -- stack pointer is refused.
 abbrev pub return_address : UnwindRegsAarch64 → Bool → CallerFrame → Outcome ℕ
 return_address registers is_first (lr, sp, fp) =
-    let to = stripped (mask_of registers) lr in
+    let to = stripped_address (mask_of registers) lr in
     if to == 0 then Ends else
     if not is_first && (sp == sp_of registers) then Refuses DidNotAdvance else
     Answers to

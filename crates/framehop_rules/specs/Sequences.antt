@@ -3,7 +3,7 @@ use Rattle.std.specs.Prelude.{◌≡◌, ℕ, zero, ◌*◌, Bool, List, [], ◌
 use Rattle.framehop_registers.specs.Callback.{Words}
 use Rattle.framehop_rules.specs.Outcome.{Outcome, Answers, and_then, Caller}
 use Rattle.framehop_registers.specs.PopLists.{IsPopList, order_number}
-use Rattle.framehop_rules.specs.Pops.{raised, popped}
+use Rattle.framehop_rules.specs.Pops.{raised_registers, registers_after_pop}
 use Rattle.framehop_rules.specs.RuleMeaning.{rule_meaning}
 use Rattle.framehop_rules.specs.declared.x86_64.offset_or_pop.OffsetOrPop.{OffsetOrPop}
 use Rattle.framehop_rules.specs.declared.x86_64.offset_or_pop.OffsetOrPop.TheVariants as operation
@@ -13,16 +13,16 @@ use Rattle.framehop_registers.specs.declared.x86_64.unwindregs.Reg.{Reg}
 use Rattle.framehop_registers.specs.declared.x86_64.unwindregs.UnwindRegsX86_64.{UnwindRegsX86_64}
 
 -- What an operation does. What is neither an offset nor a pop isn't followed.
-abbrev pub done : OffsetOrPop → UnwindRegsX86_64 → Words → Outcome UnwindRegsX86_64
-done (operation.OffsetBy8 x) registers words = raised registers (8 * x)
-done (operation.Pop register) registers words = popped register registers words
-done operation.None registers words = Answers registers
+abbrev pub registers_after_operation : OffsetOrPop → UnwindRegsX86_64 → Words → Outcome UnwindRegsX86_64
+registers_after_operation (operation.OffsetBy8 x) registers words = raised_registers registers (8 * x)
+registers_after_operation (operation.Pop register) registers words = registers_after_pop register registers words
+registers_after_operation operation.None registers words = Answers registers
 
 -- What operations do one after the other.
 abbrev pub all_done : List OffsetOrPop → UnwindRegsX86_64 → Words → Outcome UnwindRegsX86_64
 all_done [] registers words = Answers registers
 all_done (first ∷ more) registers words =
-    and_then (done first registers words) (λ next.
+    and_then (registers_after_operation first registers words) (λ next.
     all_done more next words)
 
 -- What a sequence comes to: its operations are done, and then the function returns.

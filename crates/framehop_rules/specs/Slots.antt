@@ -38,17 +38,17 @@ abbrev pub with_kept : {Rule : Type 0} → List (Option (Entry Rule)) → Key �
 with_kept slots key rule = slice_set slots (slot_of key.address) (Some (record { key = key; rule = rule }))
 
 -- What a look-up comes to.
-pub data Found (Rule : Type 0) : Type 0 where
-  Hits : Rule → Found Rule
-  EmptySlot : Found Rule
-  OtherModules : Found Rule
-  OtherAddress : Found Rule
+pub data Finding (Rule : Type 0) : Type 0 where
+  Hits : Rule → Finding Rule
+  EmptySlot : Finding Rule
+  OtherModules : Finding Rule
+  OtherAddress : Finding Rule
 
 -- What a look-up for a key comes to, by what stands in the key's slot: nothing, an entry of another generation, an entry of
 -- another address or kind of frame, or the rule.
-abbrev pub found : {Rule : Type 0} → Key → Option (Entry Rule) → Found Rule
-found key None = EmptySlot
-found key (Some entry) =
+abbrev pub finding_for : {Rule : Type 0} → Key → Option (Entry Rule) → Finding Rule
+finding_for key None = EmptySlot
+finding_for key (Some entry) =
     if entry.key.generation == key.generation
     then (if entry.key.address == key.address && beq entry.key.is_first key.is_first then Hits entry.rule else OtherAddress)
     else OtherModules
@@ -58,11 +58,11 @@ abbrev pub one_more : ℕ → ℕ
 one_more count = min (count + 1) (2 ^ 64 - 1)
 
 -- The counts after a look-up: one more of what it came to.
-abbrev pub counted : {Rule : Type 0} → Found Rule → CacheStats → CacheStats
-counted (Hits rule) counts = record counts { hit_count = one_more counts.hit_count }
-counted EmptySlot counts = record counts { miss_empty_slot_count = one_more counts.miss_empty_slot_count }
-counted OtherModules counts = record counts { miss_wrong_modules_count = one_more counts.miss_wrong_modules_count }
-counted OtherAddress counts = record counts { miss_wrong_address_count = one_more counts.miss_wrong_address_count }
+abbrev pub counts_after : {Rule : Type 0} → Finding Rule → CacheStats → CacheStats
+counts_after (Hits rule) counts = record counts { hit_count = one_more counts.hit_count }
+counts_after EmptySlot counts = record counts { miss_empty_slot_count = one_more counts.miss_empty_slot_count }
+counts_after OtherModules counts = record counts { miss_wrong_modules_count = one_more counts.miss_wrong_modules_count }
+counts_after OtherAddress counts = record counts { miss_wrong_address_count = one_more counts.miss_wrong_address_count }
 
 -- No look-up so far.
 abbrev pub no_counts : CacheStats

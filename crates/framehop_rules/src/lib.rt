@@ -1,5 +1,5 @@
-//! The unwind rules of `framehop`, their execution, and the cache that keeps them. It hands on the types of
-//! `framehop_registers`.
+//! The unwind rules of `framehop`, their execution, and the cache that keeps them. It hands on the
+//! types of `framehop_registers`.
 //!
 //! An unwind rule is one step of a stack walk in a compact form: how the caller's registers follow
 //! from those of a frame and from words of the stack. What each rule means is in

@@ -80,7 +80,8 @@ impl Model for CacheHandle {
 
     ghost Value = { Key };
 
-    ghost view = { λ handle. key_of handle.address handle.is_first_frame handle.modules_generation };
+    ghost view = { λ handle.
+        key_of handle.address handle.is_first_frame handle.modules_generation };
 
     ghost invariant = { λ handle. handle.slot ≡ slot_of handle.address };
 }
@@ -108,7 +109,8 @@ impl<R: UnwindRule> Model for RuleCache<R> {
 
     ghost Value = { Kept R };
 
-    ghost view = { λ cache. record { slots = slots_shown cache.entries.items; counts = cache.stats } };
+    ghost view = { λ cache.
+        record { slots = slots_shown cache.entries.items; counts = cache.stats } };
 
     ghost invariant = { λ cache. (length cache.entries.items ≡ 509)
         × AllValid R.is_valid cache.entries.items };
@@ -122,7 +124,7 @@ fn count(number: &mut u64)
 }
 
 impl<R: UnwindRule> RuleCache<R> {
-    ghost use Rattle.framehop_rules.specs.Slots.{key_of, slot_of, entry_in, with_kept, found, counted, no_counts};
+    ghost use Rattle.framehop_rules.specs.Slots.{key_of, slot_of, entry_in, with_kept, finding_for, counts_after, no_counts};
     ghost use Rattle.framehop_rules.specs.CacheViews.{result_of, IfHit};
 
     /// A cache without a rule. Its slots are one allocation, and nothing else of the cache takes
@@ -148,12 +150,12 @@ impl<R: UnwindRule> RuleCache<R> {
         modules_generation: u64,
     ) -> CacheResult<R>
         ensures found { let key = key_of address is_first_frame modules_generation in
-            result ≡ result_of key (found key (entry_in self.old.slots (slot_of address))) }
+            result ≡ result_of key (finding_for key (entry_in self.old.slots (slot_of address))) }
         ensures valid { IfHit result R.is_valid }
         ensures slots { self.new.slots ≡ self.old.slots }
         ensures counts { let key = key_of address is_first_frame modules_generation in
-            self.new.counts
-            ≡ counted (found key (entry_in self.old.slots (slot_of address))) self.old.counts }
+            let finding = finding_for key (entry_in self.old.slots (slot_of address)) in
+            self.new.counts ≡ counts_after finding self.old.counts }
     {
         let slot = (address % (CACHE_ENTRY_COUNT as u64)) as u16;
         match &self.entries[usize::from(slot)] {
@@ -208,7 +210,7 @@ impl<R: UnwindRule> RuleCache<R> {
 
 impl<R: UnwindRule> RuleCache<R> {
     ghost use Rattle.std.specs.Prelude.{◌↔◌, ◌++◌, [], ◌∷◌, ℕ, List, Option, Some, map, option_map};
-    ghost use Rattle.framehop_rules.specs.Slots.{Key, Entry, Hits, slot_of, entry_in, with_kept, found, counted};
+    ghost use Rattle.framehop_rules.specs.Slots.{Key, Entry, Hits, slot_of, entry_in, with_kept, finding_for, counts_after};
     ghost use Rattle.framehop_rules.specs.LastKept.{last_entry, last_key, HasLast};
 
     /// Laws of the slots; the function does nothing when the program runs. In each slot stands the
@@ -218,15 +220,17 @@ impl<R: UnwindRule> RuleCache<R> {
         ensures new { HasLast {Rule = R} [] (replicate 509 None) }
         ensures kept { (kept : List (Entry R)) (slots : List (Option (Entry R)))
             (key : Key) (rule : R) → HasLast kept slots
-            → HasLast (kept ++ (record { key = key; rule = rule }) ∷ []) (with_kept slots key rule) }
+            → HasLast (kept ++ (record { key = key; rule = rule }) ∷ [])
+            (with_kept slots key rule) }
         ensures keys { (kept : List (Entry R)) (slot : ℕ)
             → last_key (map (λ entry. entry.key) kept) slot
             ≡ option_map (λ entry. entry.key) (last_entry kept slot) }
         ensures hits { (key : Key) (there : Option (Entry R)) (rule : R)
-            → (found key there ≡ Hits rule)
+            → (finding_for key there ≡ Hits rule)
             ↔ (there ≡ Some (record { key = key; rule = rule })) }
         ensures counts { (key : Key) (one other : Option (Entry R)) (counts : CacheStats)
             → option_map (λ entry. entry.key) one ≡ option_map (λ entry. entry.key) other
-            → counted (found key one) counts ≡ counted (found key other) counts }
+            → counts_after (finding_for key one) counts
+            ≡ counts_after (finding_for key other) counts }
     {}
 }

@@ -1,6 +1,6 @@
 //! The registers that a step of a walk carries, and the mask of code addresses.
 ghost use Rattle.std.specs.Prelude.{◌≡◌, ◌+◌, ℕ};
-ghost use Rattle.framehop_registers.specs.RegistersAarch64.{low_bits, IsHighestBit, no_strip, stripped, mask_of, lr_of, sp_of, fp_of, with_lr, with_sp, with_fp, new_registers};
+ghost use Rattle.framehop_registers.specs.RegistersAarch64.{low_bits, IsHighestBit, no_strip, stripped_address, mask_of, lr_of, sp_of, fp_of, with_lr, with_sp, with_fp, new_registers};
 
 use crate::display_utils::HexNum;
 use std::fmt;
@@ -43,7 +43,7 @@ impl PtrAuthMask {
 
     /// A code address without its authentication code.
     pub fn strip_ptr_auth(&self, ptr: u64) -> u64
-        ensures { result ≡ stripped self.now ptr }
+        ensures { result ≡ stripped_address self.now ptr }
     {
         ptr & self.0
     }
@@ -79,7 +79,8 @@ impl UnwindRegsAarch64 {
         sp: u64,
         fp: u64,
     ) -> Self
-        ensures { result ≡ new_registers code_ptr_auth_mask (stripped code_ptr_auth_mask lr) sp fp }
+        ensures { let lr = stripped_address code_ptr_auth_mask lr in
+            result ≡ new_registers code_ptr_auth_mask lr sp fp }
     {
         UnwindRegsAarch64 {
             lr_mask: code_ptr_auth_mask,

@@ -1,16 +1,19 @@
 //! Pop lists as a count and a number, so that an unwind rule has room for them.
 ghost use Rattle.std.specs.Prelude.{◌≡◌, ◌<◌, ◌≤◌, ℕ, List, length, SomeIff, IfSome};
-ghost use Rattle.framehop_registers.specs.PopLists.{IsPopList, IsOrder, order_number, pop_list, BeginsOrder};
+ghost use Rattle.framehop_registers.specs.PopLists.{IsPopList, IsOrder, order_count, order_number, pop_list, BeginsOrder};
 ghost use Rattle.framehop_registers.specs.PopListViews.{popped_of};
 ghost use Rattle.framehop_registers.specs.declared.x86_64.unwindregs.Reg.{Reg};
 
 use crate::x86_64::pop_list::PopList;
 use crate::x86_64::unwindregs::Reg;
 
+/// How many orders all eight callee-saved registers have: their numbers are those below it.
+pub const ORDER_COUNT: u16 = 40320;
+
 /// The registers of a list, by their count and the number that `encode` gave.
 pub fn decode(register_count: u8, encoded_ordering: u16) -> PopList
     requires count { register_count ≤ 8 }
-    requires number { encoded_ordering < 40320 }
+    requires number { encoded_ordering < order_count }
     ensures list { popped_of result ≡ pop_list register_count encoded_ordering }
     ensures order { BeginsOrder (popped_of result) register_count encoded_ordering }
 {
@@ -29,7 +32,7 @@ pub fn decode(register_count: u8, encoded_ordering: u16) -> PopList
 pub fn encode(registers: &[Reg]) -> Option<(u8, u16)>
     ensures number { SomeIff result (IsPopList registers.now)
         (length registers.now, order_number registers.now) }
-    ensures fits { IfSome result (λ pops. (pops.0 ≤ 8) × (pops.1 < 40320)) }
+    ensures fits { IfSome result (λ pops. (pops.0 ≤ 8) × (pops.1 < order_count)) }
     ensures again { IfSome result (λ pops. pop_list pops.0 pops.1 ≡ registers.now) }
 {
     let mut list = PopList::new();
@@ -49,10 +52,10 @@ pub fn encode(registers: &[Reg]) -> Option<(u8, u16)>
 /// those below 40,320, each once. It does nothing when the program runs.
 pub fn lists_by_order_numbers()
     ensures fits { (registers : List Reg) → IsPopList registers
-        → (length registers ≤ 8) × (order_number registers < 40320) }
+        → (length registers ≤ 8) × (order_number registers < order_count) }
     ensures again { (registers : List Reg) → IsPopList registers
         → pop_list (length registers) (order_number registers) ≡ registers }
-    ensures each { (number : ℕ) → number < 40320
+    ensures each { (number : ℕ) → number < order_count
         → IsOrder (pop_list 8 number) × (order_number (pop_list 8 number) ≡ number) }
     ensures once { (one other : List Reg) → IsOrder one → IsOrder other
         → order_number one ≡ order_number other → one ≡ other }

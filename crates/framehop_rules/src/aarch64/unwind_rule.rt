@@ -2,7 +2,7 @@
 ghost use Rattle.std.specs.Prelude.{◌≡◌, ◌*◌, IfErr, OnErr};
 ghost use Rattle.framehop_registers.specs.Callback.{OverWords};
 ghost use Rattle.framehop_rules.specs.Outcome.{outcome_of, outcome_or_end_of, IsOfRule};
-ghost use Rattle.framehop_rules.specs.RuleMeaningAarch64.{raised_frame, frame_with_stored_lr, stored, stored_frame, if_above, if_chained, moves, return_address, rule_meaning, IsValid};
+ghost use Rattle.framehop_rules.specs.RuleMeaningAarch64.{raised_frame, frame_with_stored_lr, stored_word, stored_frame, if_above, if_chained, moves, return_address, rule_meaning, IsValid};
 ghost use Rattle.framehop_rules.specs.declared.aarch64.unwind_rule.UnwindRuleAarch64.TheVariants.{NoOp, UseFramePointer};
 
 use crate::unwind_rule::{UnwindRule, address_above, address_at_offset, bytes_of, read_word};
@@ -89,7 +89,7 @@ fn read_stored<F: FnMut(u64) -> Result<u64, ()>>(
     requires { F.IsAlwaysCallable read_stack.old }
     ensures callable { F.IsAlwaysCallable read_stack.new }
     ensures word { OverWords F.step read_stack.old read_stack.new (λ words.
-        outcome_of result ≡ stored words base offset) }
+        outcome_of result ≡ stored_word words base offset) }
     ensures refusals { IfErr result IsOfRule }
 {
     let at = address_at_offset(base, i64::from(offset) * 8)?;

@@ -2,7 +2,7 @@
 ghost use Rattle.std.specs.Prelude.{◌≡◌, IfErr};
 ghost use Rattle.framehop_registers.specs.Callback.{OverWords};
 ghost use Rattle.framehop_rules.specs.Outcome.{and_then, IsOfRule};
-ghost use Rattle.framehop_rules.specs.Pops.{raised, popped, all_popped, outcome_leaving};
+ghost use Rattle.framehop_rules.specs.Pops.{raised_registers, registers_after_pop, all_popped, outcome_leaving};
 
 use crate::unwind_rule::{address_above, read_word};
 use framehop_registers::Error;
@@ -11,7 +11,7 @@ use framehop_registers::x86_64::{Reg, UnwindRegsX86_64};
 /// Raises the stack pointer by so many bytes.
 #[inline(always)]
 fn raise(regs: &mut UnwindRegsX86_64, bytes: u64) -> Result<(), Error>
-    ensures raised { outcome_leaving regs.new result ≡ raised regs.old bytes }
+    ensures raised { outcome_leaving regs.new result ≡ raised_registers regs.old bytes }
     ensures refusals { IfErr result IsOfRule }
 {
     let sp = address_above(regs.sp(), bytes)?;
@@ -29,7 +29,7 @@ fn pop_register<F: FnMut(u64) -> Result<u64, ()>>(
     requires { F.IsAlwaysCallable read_stack.old }
     ensures callable { F.IsAlwaysCallable read_stack.new }
     ensures popped { OverWords F.step read_stack.old read_stack.new (λ words.
-        outcome_leaving regs.new result ≡ popped register regs.old words) }
+        outcome_leaving regs.new result ≡ registers_after_pop register regs.old words) }
     ensures refusals { IfErr result IsOfRule }
 {
     let sp = regs.sp();
@@ -52,7 +52,8 @@ pub(crate) fn pop_registers<F: FnMut(u64) -> Result<u64, ()>>(
     ensures callable { F.IsAlwaysCallable read_stack.new }
     ensures popped { OverWords F.step read_stack.old read_stack.new (λ words.
         outcome_leaving regs.new result
-        ≡ and_then (raised regs.old bytes) (λ from. all_popped registers.now from words)) }
+        ≡ and_then (raised_registers regs.old bytes) (λ from.
+        all_popped registers.now from words)) }
     ensures refusals { IfErr result IsOfRule }
 {
     raise(regs, bytes)?;

@@ -8,7 +8,7 @@ ghost use Rattle.framehop_rules.specs.declared.x86_64.unwind_rule.UnwindRuleX86_
 use crate::unwind_rule::{UnwindRule, address_above, address_at_offset, bytes_of, read_word};
 use crate::x86_64::pops::pop_registers;
 use framehop_registers::Error;
-use framehop_registers::x86_64::{UnwindRegsX86_64, decode};
+use framehop_registers::x86_64::{ORDER_COUNT, UnwindRegsX86_64, decode};
 
 /// One step of a stack walk on x86_64: how the caller's stack pointer and frame pointer follow from
 /// this frame's. The return address is always the word below the caller's stack pointer. Offsets
@@ -225,7 +225,8 @@ impl UnwindRuleX86_64 {
         ensures callable { F.IsAlwaysCallable read_stack.new }
         ensures step { OverWords F.step read_stack.old read_stack.new (λ words.
             IsStep result regs.old regs.new
-            (and_then (moves self is_first_frame regs.old words) (returned_caller regs.old words))) }
+            (and_then (moves self is_first_frame regs.old words)
+            (returned_caller regs.old words))) }
         ensures none_keeps { result ≡ Ok None → regs.new ≡ regs.old }
         ensures error_keeps { OnErr result (regs.new ≡ regs.old) }
         ensures refusals { IfErr result IsOfRule }
@@ -262,7 +263,7 @@ impl UnwindRule for UnwindRuleX86_64 {
                 register_count,
                 encoded_registers_to_pop,
                 ..
-            } => register_count <= 8 && encoded_registers_to_pop < 40320,
+            } => register_count <= 8 && encoded_registers_to_pop < ORDER_COUNT,
             _ => true,
         }
     }

@@ -3,18 +3,18 @@ use Rattle.std.proofs.lemmas.Int.{to_z-of_z}
 use Rattle.std.proofs.lemmas.Result.{err_from_is_err_and}
 use Rattle.framehop_registers.specs.Callback.{Words}
 use Rattle.framehop_rules.specs.Outcome.{Outcome, Answers, Refuses, and_then, address}
-use Rattle.framehop_rules.specs.RuleMeaningAarch64.{stored, stored_frame}
+use Rattle.framehop_rules.specs.RuleMeaningAarch64.{stored_word, stored_frame}
 use Rattle.framehop_registers.proofs.Laws.{over_both}
 use Rattle.framehop_rules.proofs.aarch64.unwind_rule.restore_fp_and_lr.Goals as goal
 
 -- the frame, from its stack pointer and its two reads
 from_parts : (words : Words) (base bytes sp lr : ℕ) (fp_offset lr_offset : ℤ) (fp : Outcome ℕ) → SFits w16 fp_offset → SFits w16 lr_offset
-    → Answers sp ≡ address (pos base +ℤ pos bytes) → Answers lr ≡ stored words base (to_z w16 (of_z w16 lr_offset))
-    → fp ≡ stored words base (to_z w16 (of_z w16 fp_offset))
+    → Answers sp ≡ address (pos base +ℤ pos bytes) → Answers lr ≡ stored_word words base (to_z w16 (of_z w16 lr_offset))
+    → fp ≡ stored_word words base (to_z w16 (of_z w16 fp_offset))
     → and_then fp (λ fp. Answers (lr, sp, fp)) ≡ stored_frame words base bytes fp_offset lr_offset
 from_parts words base bytes sp lr fp_offset lr_offset fp fp_fits lr_fits sp_is lr_is fp_is =
-    let lr_there : Answers lr ≡ stored words base lr_offset = lr_is ∙ ap (stored words base) (to_z-of_z w16 lr_offset lr_fits) in
-    let fp_there : fp ≡ stored words base fp_offset = fp_is ∙ ap (stored words base) (to_z-of_z w16 fp_offset fp_fits) in
+    let lr_there : Answers lr ≡ stored_word words base lr_offset = lr_is ∙ ap (stored_word words base) (to_z-of_z w16 lr_offset lr_fits) in
+    let fp_there : fp ≡ stored_word words base fp_offset = fp_is ∙ ap (stored_word words base) (to_z-of_z w16 fp_offset fp_fits) in
     rw (← sp_is, ← lr_there, ← fp_there)
 
 pub returns-in_err-fp-clause-moves : goal.returns-in_err-fp-clause-moves

@@ -3,7 +3,7 @@ use Rattle.std.proofs.lemmas.List.{drop_all, drop_more}
 use Rattle.std.proofs.lemmas.Result.{err_from_is_err_and}
 use Rattle.framehop_registers.specs.Callback.{Words}
 use Rattle.framehop_rules.specs.Outcome.{Outcome, Refuses, Answers, and_then}
-use Rattle.framehop_rules.specs.Pops.{popped, all_popped}
+use Rattle.framehop_rules.specs.Pops.{registers_after_pop, all_popped}
 use Rattle.framehop_registers.specs.declared.error.Error.{Error}
 use Rattle.framehop_registers.specs.declared.x86_64.unwindregs.Reg.{Reg}
 use Rattle.framehop_registers.specs.declared.x86_64.unwindregs.UnwindRegsX86_64.{UnwindRegsX86_64}
@@ -13,14 +13,14 @@ use Rattle.framehop_rules.proofs.x86_64.pops.pop_registers.Goals as goal
 -- what is popped from an index on begins with the register there
 begins : (registers : List Reg) (k : ℕ) (register : Reg) (regs : UnwindRegsX86_64) (words : Words) (whole : Outcome UnwindRegsX86_64)
     → k < length registers → register ≡ slice_index_or registers k register → all_popped (drop k registers) regs words ≡ whole
-    → and_then (popped register regs words) (λ next. all_popped (drop (k + 1) registers) next words) ≡ whole
+    → and_then (registers_after_pop register regs words) (λ next. all_popped (drop (k + 1) registers) next words) ≡ whole
 begins registers k register regs words whole inside is so_far =
     let here : register ∷ drop (k + 1) registers ≡ drop k registers = ap (λ r. r ∷ drop (k + 1) registers) is ∙ sym (drop_more registers k register inside) in
     ap (λ xs. all_popped xs regs words) here ∙ so_far
 
 -- one register more
 more : (registers : List Reg) (k : ℕ) {register : Reg} (regs new : UnwindRegsX86_64) (words : Words) (whole : Outcome UnwindRegsX86_64)
-    → Answers new ≡ popped register regs words → k < length registers → register ≡ slice_index_or registers k register
+    → Answers new ≡ registers_after_pop register regs words → k < length registers → register ≡ slice_index_or registers k register
     → all_popped (drop k registers) regs words ≡ whole → all_popped (drop (k + 1) registers) new words ≡ whole
 more registers k {register} regs new words whole pops inside is so_far =
     ap (λ o. and_then o (λ next. all_popped (drop (k + 1) registers) next words)) pops
@@ -28,7 +28,7 @@ more registers k {register} regs new words whole pops inside is so_far =
 
 -- a register that isn't popped
 refused : (registers : List Reg) (k : ℕ) {register : Reg} (regs : UnwindRegsX86_64) (words : Words) (whole : Outcome UnwindRegsX86_64) (error : Error)
-    → Refuses error ≡ popped register regs words → k < length registers → register ≡ slice_index_or registers k register
+    → Refuses error ≡ registers_after_pop register regs words → k < length registers → register ≡ slice_index_or registers k register
     → all_popped (drop k registers) regs words ≡ whole → Refuses error ≡ whole
 refused registers k {register} regs words whole error fails inside is so_far =
     ap (λ o. and_then o (λ next. all_popped (drop (k + 1) registers) next words)) fails

@@ -5,7 +5,7 @@ use Rattle.std.specs.Prelude.{Option, Some, None, Result, Ok, Err}
 use Rattle.framehop_registers.specs.Callback.{Words}
 use Rattle.framehop_rules.specs.Outcome.{Outcome, Ends, Refuses, Answers, Caller, IsStep, and_then, answer_of_outcome, registers_after}
 use Rattle.framehop_registers.specs.PopLists.{pop_list}
-use Rattle.framehop_rules.specs.Pops.{raised, all_popped}
+use Rattle.framehop_rules.specs.Pops.{raised_registers, all_popped}
 use Rattle.framehop_rules.specs.RuleMeaning.{raised_frame, popped_by, moves, returned_caller, rule_meaning}
 use Rattle.framehop_registers.specs.declared.error.Error.{Error}
 use Rattle.framehop_rules.specs.declared.x86_64.unwind_rule.UnwindRuleX86_64.{UnwindRuleX86_64}
@@ -18,10 +18,10 @@ use Rattle.framehop_rules.proofs.x86_64.unwind_rule.UnwindRuleX86_64UnwindRule.e
 -- what a rule pops, by its list and its offset in bytes
 by-list : (rule : UnwindRuleX86_64) (x count number bytes : ℕ) (list : List Reg) (registers : UnwindRegsX86_64) (words : Words)
     → rule ≡ OffsetSpAndPopRegisters x count number → bytes ≡ 8 * x → list ≡ pop_list count number
-    → and_then (raised registers bytes) (λ from. all_popped list from words) ≡ popped_by rule registers words
+    → and_then (raised_registers registers bytes) (λ from. all_popped list from words) ≡ popped_by rule registers words
 by-list rule x count number bytes list registers words rule_is bytes_is list_is =
-    ap (λ b. and_then (raised registers b) (λ from. all_popped list from words)) bytes_is
-    ∙ ap (λ l. and_then (raised registers (8 * x)) (λ from. all_popped l from words)) list_is
+    ap (λ b. and_then (raised_registers registers b) (λ from. all_popped list from words)) bytes_is
+    ∙ ap (λ l. and_then (raised_registers registers (8 * x)) (λ from. all_popped l from words)) list_is
     ∙ sym (ap (λ r. popped_by r registers words) rule_is)
 
 -- ---- steps of which the registers are taken or left
