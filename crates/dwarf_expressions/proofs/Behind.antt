@@ -14,8 +14,8 @@ use Rattle.dwarf_readers.specs.Leb128.{leb128_within, signed_at, signed_in_range
 use Rattle.dwarf_readers.specs.Place.{Stretch, ◌>>=◌, behind, byte_at, ends_at, number_at, signed_byte_at, signed_number_at}
 use Rattle.dwarf_expressions.specs.declared.op.Operation.{Operation}
 use Rattle.dwarf_expressions.specs.declared.op.Operation.TheVariants.{Address, UnsignedConstant, SignedConstant, Pick, PlusConstant, Bra, Skip, RegisterOffset}
-use Rattle.dwarf_expressions.specs.Evaluation.{StandsAt}
-use Rattle.dwarf_expressions.specs.Operations.{Operands, one, offset_of, register_and_offset, with_operands, without_operands, look_up, listed_at, is_between, said_at, operation_at}
+use Rattle.dwarf_expressions.specs.EvaluationViews.{StandsAt}
+use Rattle.dwarf_expressions.specs.Operations.{Operands, one, offset_of, register_and_offset, with_operands, without_operands, look_up, listed_operation, is_between, operation_by, operation_at}
 
 -- rest stands behind a place in s
 pub record IsBehind (s rest : Stretch) : Type 0 where
@@ -161,18 +161,18 @@ table_within size =
     no_rows)))))))))))))))
 
 module _ (opcode : ℕ) (plain : Option Operation) where
-  plain_stays : (o : Option Operation) (s : Stretch) → StaysIn s (listed_at None o s)
+  plain_stays : (o : Option Operation) (s : Stretch) → StaysIn s (listed_operation None o s)
   plain_stays (Some operation) s = ok_stays s s operation (here s)
   plain_stays None s = err_stays Operation s UnsupportedEvaluation
 
-  listed_stays : (rows : List (DwOp × Operands)) → AllWithin rows → (s : Stretch) → StaysIn s (listed_at (look_up opcode rows) plain s)
+  listed_stays : (rows : List (DwOp × Operands)) → AllWithin rows → (s : Stretch) → StaysIn s (listed_operation (look_up opcode rows) plain s)
   listed_stays [] no_rows s = plain_stays plain s
   listed_stays ((code, operands) ∷ rows) (one_more _ _ _ first others) s =
       by_case (opcode == code.0)
       (λ is. rw is (first.stays s))
       (λ is. rw is (listed_stays rows others s))
 
-said_stays : (size opcode : ℕ) (s : Stretch) → StaysIn s (said_at size opcode s)
+said_stays : (size opcode : ℕ) (s : Stretch) → StaysIn s (operation_by size opcode s)
 said_stays size opcode s =
     by_case (is_between DW_OP_lit0 DW_OP_lit31 opcode)
     (λ is. rw is (ok_stays s s (UnsignedConstant (opcode - DW_OP_lit0.0)) (here s)))
@@ -181,7 +181,7 @@ said_stays size opcode s =
     (λ is. rw (no, is) (listed_stays opcode (look_up opcode without_operands) (with_operands size) (table_within size) s)))
 
 operation_stays : (size : ℕ) (s : Stretch) → StaysIn s (operation_at size s)
-operation_stays size s = then_stays s (byte_at s) (λ opcode. said_at size opcode.0 opcode.1) (byte_stays s) (λ x rest. said_stays size x rest)
+operation_stays size s = then_stays s (byte_at s) (λ opcode. operation_by size opcode.0 opcode.1) (byte_stays s) (λ x rest. said_stays size x rest)
 
 -- ---- places
 

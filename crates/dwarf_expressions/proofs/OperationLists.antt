@@ -14,7 +14,7 @@ use Rattle.dwarf_readers.specs.Remainder.{Takes, item_at, size_of}
 use Rattle.dwarf_readers.proofs.Laws.{address_takes, byte_takes, item_takes, items_shrink, leaves_err, leaves_from, leaves_if, leaves_ok, leaves_then, number_takes, signed_byte_takes, signed_number_takes, signed_takes, unsigned_takes, unsigned_16_takes}
 use Rattle.dwarf_expressions.specs.declared.op.Operation.{Operation}
 use Rattle.dwarf_expressions.specs.declared.op.Operation.TheVariants.{Address, UnsignedConstant, SignedConstant, Pick, PlusConstant, Bra, Skip}
-use Rattle.dwarf_expressions.specs.Operations.{Operands, one, offset_of, register_and_offset, with_operands, without_operands, look_up, listed_at, is_between, said_at, operation_at, operations_of}
+use Rattle.dwarf_expressions.specs.Operations.{Operands, one, offset_of, register_and_offset, with_operands, without_operands, look_up, listed_operation, is_between, operation_by, operation_at, operations_of}
 
 -- operands leave no more than there was
 pub record GoOn (operands : Operands) : Type 0 where
@@ -58,18 +58,18 @@ table_goes_on size =
     no_rows)))))))))))))))
 
 module _ (opcode : ℕ) (plain : Option Operation) where
-  plain_goes_on : (o : Option Operation) (s : Stretch) → Takes 0 s (listed_at None o s)
+  plain_goes_on : (o : Option Operation) (s : Stretch) → Takes 0 s (listed_operation None o s)
   plain_goes_on (Some operation) s = leaves_ok (omega arith)
   plain_goes_on None s = leaves_err
 
-  pub listed_goes_on : (rows : List (DwOp × Operands)) → AllGoOn rows → (s : Stretch) → Takes 0 s (listed_at (look_up opcode rows) plain s)
+  pub listed_goes_on : (rows : List (DwOp × Operands)) → AllGoOn rows → (s : Stretch) → Takes 0 s (listed_operation (look_up opcode rows) plain s)
   listed_goes_on [] no_rows s = plain_goes_on plain s
   listed_goes_on ((code, operands) ∷ rows) (one_more _ _ _ first others) s =
       by_case (opcode == code.0)
       (λ is. rw is (first.takes s))
       (λ is. rw is (listed_goes_on rows others s))
 
-said_takes : (size opcode : ℕ) (s : Stretch) → Takes 0 s (said_at size opcode s)
+said_takes : (size opcode : ℕ) (s : Stretch) → Takes 0 s (operation_by size opcode s)
 said_takes size opcode s =
     leaves_if (is_between DW_OP_lit0 DW_OP_lit31 opcode) (leaves_ok (omega arith))
     (leaves_if (is_between DW_OP_breg0 DW_OP_breg31 opcode) ((offset_goes_on (opcode - DW_OP_breg0.0)).takes s)

@@ -9,7 +9,8 @@ use Rattle.dwarf_constants.specs.declared.error.Error.TheVariants.{NotEnoughStac
 use Rattle.dwarf_readers.specs.Place.{◌>>=◌}
 use Rattle.dwarf_expressions.specs.Capacity.{IsWithin}
 use Rattle.dwarf_expressions.specs.Values.{modulus}
-use Rattle.dwarf_expressions.specs.Effects.{Becomes, Leaves, Stack, has_room, of_top, of_two, picked, pushed, stack_after, with_top, with_two, within}
+use Rattle.dwarf_expressions.specs.Effects.{Stack, has_room, of_top, of_two, stack_after, stack_with, stack_with_copy, stack_within, with_top, with_two}
+use Rattle.dwarf_expressions.specs.StackViews.{Becomes, Leaves}
 use Rattle.dwarf_expressions.specs.declared.op.Operation.{Operation}
 use Rattle.dwarf_expressions.specs.declared.op.Operation.TheVariants.{Abs, And, Div, Minus, Mod, Mul, Neg, Not, Or, Plus, PlusConstant, Shl, Shr, Shra, Xor, Eq, Ge, Gt, Le, Lt, Ne}
 
@@ -24,12 +25,12 @@ pub leaves_becomes : (capacity : Option ℕ) (items values : List ℕ) (expected
 leaves_becomes capacity items values expected (Ok _) new h same le is =
     let len : length values ≡ length items = ap length (sym same) ∙ length-reverse items in
     let room = room_for capacity (length items) new h (omega arith) in
-    ap (within capacity) is ∙ rw room refl
-leaves_becomes capacity items values expected (Err e) new h same le is = inl (ap (within capacity) is)
+    ap (stack_within capacity) is ∙ rw room refl
+leaves_becomes capacity items values expected (Err e) new h same le is = inl (ap (stack_within capacity) is)
 
 -- a copy of a value is the value
 pub picked_is : (n index found : ℕ) (stack : List ℕ) (value : ℕ) → Ok value ≡ ok_or (slice_get stack found) NotEnoughStackItems → found ≡ index → value < modulus n
-    → picked index stack ≡ pushed n (pos value) stack
+    → stack_with_copy index stack ≡ stack_with n (pos value) stack
 picked_is n index place stack value is place_is below =
     let same : value % modulus n ≡ value = mod-eq_of_lt below in
     ap (λ (found : Result ℕ Error). found >>= λ v. Ok (v ∷ stack)) (sym (is ∙ ap (λ (k : ℕ). ok_or (slice_get stack k) NotEnoughStackItems) place_is)) ∙ ap (λ (v : ℕ). Ok (v ∷ stack)) (sym same)

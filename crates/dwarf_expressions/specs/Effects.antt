@@ -1,10 +1,10 @@
 -- What operations make of the stack (DWARF 5, 2.5.1), in whole numbers. A stack is the list of its values, the top first; an
 -- address has n bytes.
-use Rattle.std.specs.Prelude.{ℕ, ◌+◌, ◌-◌, ◌*◌, ◌/◌, ◌%◌, ◌^◌, ◌==◌, ℤ, pos, neg_ℤ, ◌-ℤ◌, unsigned_abs, int_div, int_le, int_lt, ◌≡◌, ◌⊎◌, List, [], ◌∷◌, length, nat_le, Bool, true, false, not, Option, Some, None, Result, Ok, Err, slice_get, bit_and, bit_or, bit_xor, if◌then◌else◌}
+use Rattle.std.specs.Prelude.{ℕ, ◌+◌, ◌-◌, ◌*◌, ◌/◌, ◌%◌, ◌^◌, ◌==◌, ℤ, pos, neg_ℤ, ◌-ℤ◌, unsigned_abs, int_div, int_le, int_lt, List, [], ◌∷◌, length, nat_le, Bool, true, false, not, Option, Some, None, Result, Ok, Err, slice_get, bit_and, bit_or, bit_xor, if◌then◌else◌}
 use Rattle.std.specs.Int.Signed.{shr_z}
 use Rattle.std.specs.Option.{ok_or}
 use Rattle.dwarf_constants.specs.declared.error.Error.{Error}
-use Rattle.dwarf_constants.specs.declared.error.Error.TheVariants.{DivisionByZero, NotEnoughStackItems, OutOfMemory, StackFull, UnsupportedEvaluation}
+use Rattle.dwarf_constants.specs.declared.error.Error.TheVariants.{DivisionByZero, NotEnoughStackItems, StackFull, UnsupportedEvaluation}
 use Rattle.dwarf_readers.specs.Place.{◌>>=◌, requirement}
 use Rattle.dwarf_expressions.specs.Values.{modulus, signed, value_of}
 use Rattle.dwarf_expressions.specs.declared.op.Operation.{Operation}
@@ -15,42 +15,42 @@ abbrev pub Stack : Type 0
 Stack = Result (List ℕ) Error
 
 -- the value of a whole number is put on the stack
-abbrev pub pushed : ℕ → ℤ → List ℕ → Stack
-pushed n z stack = Ok (value_of n z ∷ stack)
+abbrev pub stack_with : ℕ → ℤ → List ℕ → Stack
+stack_with n z stack = Ok (value_of n z ∷ stack)
 
 -- a copy of a value is put on the stack; 0 counts the top
-abbrev pub picked : ℕ → List ℕ → Stack
-picked index stack = do
+abbrev pub stack_with_copy : ℕ → List ℕ → Stack
+stack_with_copy index stack = do
   value ← ok_or (slice_get stack index) NotEnoughStackItems
   Ok (value ∷ stack)
 
 -- the top is taken away
-abbrev pub dropped : List ℕ → Stack
-dropped (top ∷ rest) = Ok rest
-dropped [] = Err NotEnoughStackItems
+abbrev pub stack_without_top : List ℕ → Stack
+stack_without_top (top ∷ rest) = Ok rest
+stack_without_top [] = Err NotEnoughStackItems
 
 -- the top and the one below it change places
-abbrev pub swapped : List ℕ → Stack
-swapped (top ∷ second ∷ rest) = Ok (second ∷ top ∷ rest)
-swapped stack = Err NotEnoughStackItems
+abbrev pub swapped_stack : List ℕ → Stack
+swapped_stack (top ∷ second ∷ rest) = Ok (second ∷ top ∷ rest)
+swapped_stack stack = Err NotEnoughStackItems
 
 -- the top goes below the two under it
-abbrev pub rotated : List ℕ → Stack
-rotated (top ∷ second ∷ third ∷ rest) = Ok (second ∷ third ∷ top ∷ rest)
-rotated stack = Err NotEnoughStackItems
+abbrev pub rotated_stack : List ℕ → Stack
+rotated_stack (top ∷ second ∷ third ∷ rest) = Ok (second ∷ third ∷ top ∷ rest)
+rotated_stack stack = Err NotEnoughStackItems
 
 -- what is made of the top takes its place
 abbrev pub with_top : ℕ → (ℕ → Result ℤ Error) → List ℕ → Stack
 with_top n f (top ∷ rest) = do
   result ← f top
-  pushed n result rest
+  stack_with n result rest
 with_top n f [] = Err NotEnoughStackItems
 
 -- what is made of the two values on top takes their place: the second is the left operand
 abbrev pub with_two : ℕ → (ℕ → ℕ → Result ℤ Error) → List ℕ → Stack
 with_two n f (right ∷ left ∷ rest) = do
   result ← f left right
-  pushed n result rest
+  stack_with n result rest
 with_two n f stack = Err NotEnoughStackItems
 
 -- the result, unless the divisor is 0
@@ -94,17 +94,17 @@ of_two n operation left right = Err UnsupportedEvaluation
 -- the stack that an operation leaves; all that stand in no line of their own take two values
 abbrev pub stack_after : ℕ → Operation → List ℕ → Stack
 stack_after n (Address address) stack = Err UnsupportedEvaluation
-stack_after n (UnsignedConstant value) stack = pushed n (pos value) stack
-stack_after n (SignedConstant value) stack = pushed n value stack
-stack_after n (Pick index) stack = picked index stack
-stack_after n Drop stack = dropped stack
-stack_after n Swap stack = swapped stack
-stack_after n Rot stack = rotated stack
+stack_after n (UnsignedConstant value) stack = stack_with n (pos value) stack
+stack_after n (SignedConstant value) stack = stack_with n value stack
+stack_after n (Pick index) stack = stack_with_copy index stack
+stack_after n Drop stack = stack_without_top stack
+stack_after n Swap stack = swapped_stack stack
+stack_after n Rot stack = rotated_stack stack
 stack_after n Abs stack = with_top n (of_top n Abs) stack
 stack_after n Neg stack = with_top n (of_top n Neg) stack
 stack_after n Not stack = with_top n (of_top n Not) stack
 stack_after n (PlusConstant value) stack = with_top n (of_top n (PlusConstant value)) stack
-stack_after n (Bra target) stack = dropped stack
+stack_after n (Bra target) stack = stack_without_top stack
 stack_after n (Skip target) stack = Ok stack
 stack_after n (RegisterOffset register offset) stack = Ok stack
 stack_after n Nop stack = Ok stack
@@ -116,23 +116,8 @@ has_room (Some capacity) stack = nat_le (length stack) capacity
 has_room None stack = true
 
 -- a stack, where there is room for it
-abbrev pub within : Option ℕ → Stack → Stack
-within capacity expected = do
+abbrev pub stack_within : Option ℕ → Stack → Stack
+stack_within capacity expected = do
   stack ← expected
   _ ← requirement (has_room capacity stack) StackFull
   Ok stack
-
--- A stack became what is said here, or it was refused so; or memory was wanted, which a stack that grows takes.
-abbrev pub Becomes : Option ℕ → Stack → Result (Unit {0}) Error → List ℕ → Type 0
-Becomes capacity expected (Ok _) new = within capacity expected ≡ Ok new
-Becomes capacity expected (Err e) new = (within capacity expected ≡ Err e) ⊎ ((capacity ≡ None) × (e ≡ OutOfMemory))
-
--- A stack became what is said here, and no longer, or it was refused so.
-abbrev pub Leaves : Stack → Result (Unit {0}) Error → List ℕ → Type 0
-Leaves expected (Ok _) new = expected ≡ Ok new
-Leaves expected (Err e) new = expected ≡ Err e
-
--- what a stack of values is: the size of an address in bytes, and the values, the top first
-pub record Values : Type 0 where
-  pub address_size : ℕ
-  pub values : List ℕ

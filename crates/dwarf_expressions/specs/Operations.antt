@@ -92,14 +92,14 @@ look_up opcode [] = None
 look_up opcode ((code, x) ∷ rows) = if opcode == code.0 then Some x else look_up opcode rows
 
 -- the operation that the tables have, if they have one
-abbrev pub listed_at : Option Operands → Option Operation → Operands
-listed_at (Some operands) plain s = operands s
-listed_at None (Some operation) s = Ok (operation, s)
-listed_at None None s = Err UnsupportedEvaluation
+abbrev pub listed_operation : Option Operands → Option Operation → Operands
+listed_operation (Some operands) plain s = operands s
+listed_operation None (Some operation) s = Ok (operation, s)
+listed_operation None None s = Err UnsupportedEvaluation
 
 -- the operation that the tables have for an opcode
-abbrev pub tabled_at : ℕ → ℕ → Operands
-tabled_at size opcode = listed_at (look_up opcode (with_operands size)) (look_up opcode without_operands)
+abbrev pub tabled_operation : ℕ → ℕ → Operands
+tabled_operation size opcode = listed_operation (look_up opcode (with_operands size)) (look_up opcode without_operands)
 
 -- the opcode is one of those from first to last
 abbrev pub is_between : DwOp → DwOp → ℕ → Bool
@@ -107,17 +107,17 @@ is_between first last opcode = nat_le first.0 opcode && nat_le opcode last.0
 
 -- the operation that an opcode says, with the operands behind it: DW_OP_lit0 to DW_OP_lit31 are numbers, DW_OP_breg0 to
 -- DW_OP_breg31 registers, and all others stand in the tables
-abbrev pub said_at : ℕ → ℕ → Operands
-said_at size opcode s =
+abbrev pub operation_by : ℕ → ℕ → Operands
+operation_by size opcode s =
     if is_between DW_OP_lit0 DW_OP_lit31 opcode then Ok (UnsignedConstant (opcode - DW_OP_lit0.0), s)
     else if is_between DW_OP_breg0 DW_OP_breg31 opcode then offset_of (opcode - DW_OP_breg0.0) s
-    else tabled_at size opcode s
+    else tabled_operation size opcode s
 
 -- the first operation, and what is left behind it
 abbrev pub operation_at : ℕ → Operands
 operation_at size s = do
   opcode ← byte_at s
-  said_at size opcode.0 opcode.1
+  operation_by size opcode.0 opcode.1
 
 -- the operations of a stretch, in their order; a fault is the last
 unfoldable pub operations_of : ℕ → Stretch → List (Result Operation Error)

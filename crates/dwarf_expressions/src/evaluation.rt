@@ -3,7 +3,8 @@
 ghost use Rattle.std.specs.Prelude.{◌≡◌, true, Err, IfOk, IfErr, IsOk, IsTrue, Ok};
 ghost use Rattle.dwarf_constants.specs.declared.error.Error.TheVariants.{OutOfMemory, UnsupportedAddressSize};
 ghost use Rattle.dwarf_readers.specs.InitialLength.{is_size};
-ghost use Rattle.dwarf_expressions.specs.Evaluation.{AddsOffset, Answers, CanResume, ComesTo, IsNotMade, IsReady, Progress, Ready, Refused, evaluated, first_machine, resumed, state_kept, value_in};
+ghost use Rattle.dwarf_expressions.specs.Evaluation.{Answers, CanResume, ComesTo, IsNotMade, Progress, Ready, Refused, first_machine, state_reached, state_reached_with, value_in};
+ghost use Rattle.dwarf_expressions.specs.EvaluationViews.{AddsOffset, IsReady, state_of};
 ghost use Rattle.dwarf_expressions.specs.Values.{generic_of};
 ghost use Rattle.dwarf_constants.specs.declared.common.Register.{Register};
 ghost use Rattle.dwarf_expressions.specs.declared.evaluation.EvaluationResult.TheVariants.{RequiresRegister};
@@ -54,7 +55,7 @@ impl<R: Reader, S: EvaluationStorage> Model for Evaluation<R, S> {
 
     ghost view = { λ e. record {
       program = e.machine.program;
-      state = state_kept e.state e.machine.machine;
+      state = state_of e.state e.machine.machine;
     } };
 }
 
@@ -91,7 +92,7 @@ impl<R: Reader, S: EvaluationStorage> Evaluation<R, S> {
     pub fn evaluate(&mut self) -> Result<EvaluationResult>
         ensures program { self.new.program ≡ self.old.program }
         ensures state { ComesTo self.old.program.capacity
-            (evaluated self.old.program self.old.state) self.new.state }
+            (state_reached self.old.program self.old.state) self.new.state }
         ensures answer { Answers self.new.state result }
         ensures asks { (register : Register) → result ≡ Ok (RequiresRegister register)
             → CanResume self.new.state }
@@ -112,7 +113,7 @@ impl<R: Reader, S: EvaluationStorage> Evaluation<R, S> {
         requires { CanResume self.old.state }
         ensures program { self.new.program ≡ self.old.program }
         ensures state { ComesTo self.old.program.capacity
-            (resumed self.old.program (generic_of value) self.old.state) self.new.state }
+            (state_reached_with self.old.program (generic_of value) self.old.state) self.new.state }
         ensures answer { Answers self.new.state result }
         ensures asks { (register : Register) → result ≡ Ok (RequiresRegister register)
             → CanResume self.new.state }
@@ -140,7 +141,7 @@ impl<R: Reader, S: EvaluationStorage> Evaluation<R, S> {
         requires { AddsOffset self.old.state offset }
         ensures program { self.new.program ≡ self.old.program }
         ensures state { ComesTo self.old.program.capacity
-            (resumed self.old.program number self.old.state) self.new.state }
+            (state_reached_with self.old.program number self.old.state) self.new.state }
         ensures answer { Answers self.new.state result }
         ensures asks { (register : Register) → result ≡ Ok (RequiresRegister register)
             → CanResume self.new.state }
@@ -169,7 +170,7 @@ impl<R: Reader, S: EvaluationStorage> Evaluation<R, S> {
         requires { IsReady self.old.state }
         ensures program { self.new.program ≡ self.old.program }
         ensures state { ComesTo self.old.program.capacity
-            (evaluated self.old.program self.old.state) self.new.state }
+            (state_reached self.old.program self.old.state) self.new.state }
         ensures answer { Answers self.new.state result }
         ensures asks { (register : Register) → result ≡ Ok (RequiresRegister register)
             → CanResume self.new.state }

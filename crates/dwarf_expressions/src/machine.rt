@@ -5,7 +5,8 @@ ghost use Rattle.std.specs.Prelude.{◌⊎◌, ◌==◌, false};
 ghost use Rattle.dwarf_constants.specs.declared.error.Error.TheVariants.{OutOfMemory, UnsupportedAddressSize};
 ghost use Rattle.dwarf_readers.specs.InitialLength.{is_size};
 ghost use Rattle.dwarf_readers.specs.Place.{Gives, ◌>>=◌ as ◌and_then◌, behind, end_of};
-ghost use Rattle.dwarf_expressions.specs.Evaluation.{Changes, Comes, Course, IsNotMade, StandsAt, Stops, answered, changed, first_machine, run, top_of, operation_done, performed, place_in};
+ghost use Rattle.dwarf_expressions.specs.Evaluation.{IsNotMade, first_machine, machine_after, machine_with, operation_step, place_in, run, state_after, top_of};
+ghost use Rattle.dwarf_expressions.specs.EvaluationViews.{Changes, Comes, Course, StandsAt, Stops};
 
 use crate::array_like::ArrayLike;
 use crate::op::{Expression, Operation};
@@ -96,7 +97,7 @@ impl<R: Reader, L: ArrayLike<Item = u64>> Machine<R, L> {
     pub(crate) fn push_sum(&mut self, number: u64, offset: i64) -> Result<()>
         ensures program { self.new.program ≡ self.old.program }
         ensures changes { Changes self.old.program.capacity
-            (answered self.old.program number offset self.old.machine) result self.new.machine }
+            (machine_with self.old.program number offset self.old.machine) result self.new.machine }
     {
         self.stack.push_sum(number, offset)
     }
@@ -136,7 +137,7 @@ impl<R: Reader, L: ArrayLike<Item = u64>> Machine<R, L> {
     fn step(&mut self) -> Result<Option<Stop>>
         ensures program { self.new.program ≡ self.old.program }
         ensures comes { Comes self.old.program.capacity
-            (operation_done self.old.program self.old.machine) result self.new.machine }
+            (operation_step self.old.program self.old.machine) result self.new.machine }
     {
         if self.left == 0 {
             return Err(Error::TooManyIterations);
@@ -153,7 +154,7 @@ impl<R: Reader, L: ArrayLike<Item = u64>> Machine<R, L> {
     fn perform(&mut self, operation: Operation) -> Result<Option<Stop>>
         ensures program { self.new.program ≡ self.old.program }
         ensures comes { Comes self.old.program.capacity
-            (performed self.old.program self.old.machine operation) result self.new.machine }
+            (state_after self.old.program self.old.machine operation) result self.new.machine }
     {
         match operation {
             Operation::RegisterOffset { register, offset } => {
@@ -171,7 +172,7 @@ impl<R: Reader, L: ArrayLike<Item = u64>> Machine<R, L> {
     fn change(&mut self, operation: Operation) -> Result<()>
         ensures program { self.new.program ≡ self.old.program }
         ensures changes { Changes self.old.program.capacity
-            (changed self.old.program self.old.machine operation) result self.new.machine }
+            (machine_after self.old.program self.old.machine operation) result self.new.machine }
     {
         let branch = self.stack.branch(operation);
         self.stack.apply(operation)?;

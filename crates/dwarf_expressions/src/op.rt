@@ -4,7 +4,7 @@ ghost use Rattle.std.specs.Prelude.{◌≡◌, List, Result};
 ghost use Rattle.lists.specs.Items.{GivesNext};
 ghost use Rattle.dwarf_constants.specs.declared.error.Error.{Error};
 ghost use Rattle.dwarf_readers.specs.Place.{Reads};
-ghost use Rattle.dwarf_expressions.specs.Operations.{look_up, operation_at, operations_of, said_at, tabled_at, without_operands};
+ghost use Rattle.dwarf_expressions.specs.Operations.{look_up, operation_at, operations_of, operation_by, tabled_operation, without_operands};
 ghost use Rattle.dwarf_expressions.specs.declared.op.Operation.{Operation};
 
 use dwarf_constants::constants::*;
@@ -82,7 +82,7 @@ impl Operation {
     /// Reads the operands that stand behind an opcode.
     #[inline(always)]
     fn parse_operands<R: Reader>(opcode: u8, bytes: &mut R, encoding: Encoding) -> Result<Operation>
-        ensures { Reads result (said_at encoding.address_size opcode (R.stretch bytes.old))
+        ensures { Reads result (operation_by encoding.address_size opcode (R.stretch bytes.old))
             (R.stretch bytes.new) }
     {
         if opcode >= DW_OP_lit0.0 && opcode <= DW_OP_lit31.0 {
@@ -100,7 +100,7 @@ impl Operation {
     /// Reads the operands behind an opcode that stands by itself, if it has any.
     #[inline(always)]
     fn parse_listed<R: Reader>(opcode: u8, bytes: &mut R, encoding: Encoding) -> Result<Operation>
-        ensures { Reads result (tabled_at encoding.address_size opcode (R.stretch bytes.old))
+        ensures { Reads result (tabled_operation encoding.address_size opcode (R.stretch bytes.old))
             (R.stretch bytes.new) }
     {
         let operation = match DwOp(opcode) {

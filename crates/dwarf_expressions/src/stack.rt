@@ -3,7 +3,8 @@
 ghost use Rattle.std.specs.Prelude.{◌≡◌, ◌<◌, ◌≤◌, [], ◌∷◌, All, IfOk, IfErr, IfSome, IsTrue, IsOk, MatchResult, Ok, length, reverse, slice_get, slice_set};
 ghost use Rattle.dwarf_constants.specs.declared.error.Error.TheVariants.{NotEnoughStackItems, OutOfMemory};
 ghost use Rattle.dwarf_expressions.specs.Capacity.{IsWithin};
-ghost use Rattle.dwarf_expressions.specs.Effects.{Becomes, Leaves, Values, dropped, of_top, of_two, picked, pushed, rotated, stack_after, swapped, with_top, with_two};
+ghost use Rattle.dwarf_expressions.specs.Effects.{of_top, of_two, rotated_stack, stack_after, stack_with, stack_with_copy, stack_without_top, swapped_stack, with_top, with_two};
+ghost use Rattle.dwarf_expressions.specs.StackViews.{Becomes, Leaves, SizedValues};
 ghost use Rattle.dwarf_expressions.specs.Evaluation.{branch_of};
 ghost use Rattle.dwarf_expressions.specs.Values.{modulus};
 ghost use Rattle.std.specs.Prelude.{pos, ◌+ℤ◌};
@@ -24,7 +25,7 @@ pub(crate) struct ValueStack<L: ArrayLike<Item = u64>> {
 }
 
 impl<L: ArrayLike<Item = u64>> Model for ValueStack<L> {
-    ghost Value = { Values };
+    ghost Value = { SizedValues };
 
     ghost view = { λ s. record {
       address_size = s.size.bytes;
@@ -75,7 +76,7 @@ impl<L: ArrayLike<Item = u64>> ValueStack<L> {
     fn push(&mut self, number: u64) -> Result<()>
         ensures size { self.new.address_size ≡ self.old.address_size }
         ensures becomes { Becomes L.capacity
-            (pushed self.old.address_size (pos number) self.old.values) result self.new.values }
+            (stack_with self.old.address_size (pos number) self.old.values) result self.new.values }
     {
         let value = self.size.wrap(number);
         self.push_value(value)
@@ -85,7 +86,7 @@ impl<L: ArrayLike<Item = u64>> ValueStack<L> {
     pub(crate) fn push_sum(&mut self, number: u64, offset: i64) -> Result<()>
         ensures size { self.new.address_size ≡ self.old.address_size }
         ensures becomes { Becomes L.capacity
-            (pushed self.old.address_size (pos number +ℤ offset) self.old.values)
+            (stack_with self.old.address_size (pos number +ℤ offset) self.old.values)
             result self.new.values }
     {
         let value = self.size.plus_signed(number, offset);
@@ -131,7 +132,7 @@ impl<L: ArrayLike<Item = u64>> ValueStack<L> {
     /// Puts a copy of the value at a depth on top.
     fn pick(&mut self, index: u8) -> Result<()>
         ensures size { self.new.address_size ≡ self.old.address_size }
-        ensures becomes { Becomes L.capacity (picked index self.old.values) result self.new.values }
+        ensures becomes { Becomes L.capacity (stack_with_copy index self.old.values) result self.new.values }
     {
         let value = self.get(usize::from(index))?;
         self.push(value)
@@ -141,7 +142,7 @@ impl<L: ArrayLike<Item = u64>> ValueStack<L> {
     fn drop_top(&mut self) -> Result<()>
         ensures size { self.new.address_size ≡ self.old.address_size }
         ensures shorter { length self.new.values ≤ length self.old.values }
-        ensures leaves { Leaves (dropped self.old.values) result self.new.values }
+        ensures leaves { Leaves (stack_without_top self.old.values) result self.new.values }
     {
         let _top = self.pop()?;
         Ok(())
@@ -151,7 +152,7 @@ impl<L: ArrayLike<Item = u64>> ValueStack<L> {
     fn swap(&mut self) -> Result<()>
         ensures size { self.new.address_size ≡ self.old.address_size }
         ensures shorter { length self.new.values ≤ length self.old.values }
-        ensures leaves { Leaves (swapped self.old.values) result self.new.values }
+        ensures leaves { Leaves (swapped_stack self.old.values) result self.new.values }
     {
         let second = self.get(1)?;
         let top = self.get(0)?;
@@ -164,7 +165,7 @@ impl<L: ArrayLike<Item = u64>> ValueStack<L> {
     fn rotate(&mut self) -> Result<()>
         ensures size { self.new.address_size ≡ self.old.address_size }
         ensures shorter { length self.new.values ≤ length self.old.values }
-        ensures leaves { Leaves (rotated self.old.values) result self.new.values }
+        ensures leaves { Leaves (rotated_stack self.old.values) result self.new.values }
     {
         let third = self.get(2)?;
         let second = self.get(1)?;

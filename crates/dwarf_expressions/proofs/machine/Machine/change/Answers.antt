@@ -1,6 +1,7 @@
 use Rattle.std.proofs.Common.{◌-◌, subst}
 use Rattle.std.proofs.lemmas.Result.{err_from_is_err_and}
-use Rattle.dwarf_expressions.specs.Evaluation.{Changes, Course, Machine, changed}
+use Rattle.dwarf_expressions.specs.Evaluation.{Machine, machine_after}
+use Rattle.dwarf_expressions.specs.EvaluationViews.{Changes, Course}
 use Rattle.dwarf_expressions.proofs.Machines.{stack_refused}
 use Rattle.dwarf_expressions.proofs.machine.Machine.change.Goals as goal
 
@@ -15,6 +16,6 @@ returns-in_err-apply-clause-changes g c =
       program = record { expression = expression; address_size = inside.encoding.address_size; capacity = g.L.ArrayLike.capacity };
       machine = record { stack = inside.stack.values; place = place; left = inside.left };
     } in
-    let P : Course → Type 0 = λ course. Changes course.program.capacity (changed course.program course.machine c.args.operation) c.from_residual.result next in
+    let P : Course → Type 0 = λ course. Changes course.program.capacity (machine_after course.program course.machine c.args.operation) c.from_residual.result next in
     subst P c.self.view_is
     (stack_refused now.program now.machine next c.args.operation inside.stack.address_size p.0 c.in_err-apply.field-0.0 c.from_residual.result c.self.invariant.1 p.1 p.2 c.in_err-apply.ensures.becomes)

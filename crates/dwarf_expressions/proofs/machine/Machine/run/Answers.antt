@@ -1,6 +1,7 @@
 use Rattle.std.proofs.Common.{ap, inl, refl, sym, Ok, Err, arith, ◌∙◌}
 use Rattle.std.proofs.lemmas.Result.{err_from_is_err_and}
-use Rattle.dwarf_expressions.specs.Evaluation.{Program, Ready, operation_done, run, stopped}
+use Rattle.dwarf_expressions.specs.Evaluation.{Program, Ready, operation_step, run}
+use Rattle.dwarf_expressions.specs.EvaluationViews.{stopped_state}
 use Rattle.dwarf_expressions.proofs.Runs.{came_to, done_left, run_done, run_over, run_refused, stopped_stays, went_on}
 use Rattle.dwarf_expressions.proofs.machine.Machine.run.Goals as goal
 
@@ -31,8 +32,8 @@ returns-in_err-stop-clause-stops g c =
     let p = c.loop-self.self.program in
     let m = c.loop-self.self.machine in
     let from = err_from_is_err_and c.from_residual.result c.from_residual.ensures.1 in
-    run_refused p c.args.self.now.program m c.args.self.now.machine c.step.new.self.machine (operation_done p m) from.0 c.in_err-stop.field-0.0 c.from_residual.result
-    c.loop-self.invariant.program c.loop-self.invariant.same (run_done p m (operation_done p m) (sym c.is_at_end.ensures ∙ c.loop-self-test.true) refl) from.1 from.2 c.in_err-stop.ensures.comes
+    run_refused p c.args.self.now.program m c.args.self.now.machine c.step.new.self.machine (operation_step p m) from.0 c.in_err-stop.field-0.0 c.from_residual.result
+    c.loop-self.invariant.program c.loop-self.invariant.same (run_done p m (operation_step p m) (sym c.is_at_end.ensures ∙ c.loop-self-test.true) refl) from.1 from.2 c.in_err-stop.ensures.comes
 
 pub returns-in-Some-clause-stops : goal.returns-in-Some-clause-stops
 returns-in-Some-clause-stops g c =
@@ -41,7 +42,7 @@ returns-in-Some-clause-stops g c =
     let next = c.step.new.self.machine in
     let done = came_to p m next c.in_ok-stop.field-0 c.in-Some.stop c.in_ok-stop.ensures.comes c.in-Some.is in
     sym c.loop-self.invariant.same
-    ∙ run_done p m (Ok (stopped c.in-Some.stop next)) (sym c.is_at_end.ensures ∙ c.loop-self-test.true) done
+    ∙ run_done p m (Ok (stopped_state c.in-Some.stop next)) (sym c.is_at_end.ensures ∙ c.loop-self-test.true) done
     ∙ stopped_stays (run p) c.in-Some.stop next
 
 pub returns-in_err-value-clause-stops : goal.returns-in_err-value-clause-stops

@@ -1,5 +1,6 @@
 use Rattle.std.proofs.Common.{sym, subst}
-use Rattle.dwarf_expressions.specs.Effects.{Becomes, Stack}
+use Rattle.dwarf_expressions.specs.Effects.{Stack}
+use Rattle.dwarf_expressions.specs.StackViews.{Becomes}
 use Rattle.dwarf_expressions.proofs.Stacks.{picked_is}
 use Rattle.dwarf_expressions.proofs.stack.ValueStack.pick.Goals as goal
 
