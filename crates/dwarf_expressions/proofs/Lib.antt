@@ -1,6 +1,7 @@
 pub mod Behind
 pub mod Machines
 pub mod OperationLists
+pub mod Requests
 pub mod Runs
 pub mod Stacks
 pub mod Words

@@ -34,6 +34,13 @@ pub data State : Type 0 where
   Finished : ℕ → State
   Refused : Error → State
 
+-- how many operations may still run
+abbrev pub operations_left : State → ℕ
+operations_left (Ready m) = m.left
+operations_left (Asking register offset m) = m.left
+operations_left (Finished value) = 0
+operations_left (Refused e) = 0
+
 -- an evaluation: its program, and how far it has come
 pub record Progress : Type 0 where
   pub program : Program
@@ -147,6 +154,10 @@ CanResume (Refused e) = Unit {0}
 -- The state is the one that is said here; or memory was wanted, which a stack that grows takes.
 abbrev pub ComesTo : Option ℕ → State → State → Type 0
 ComesTo capacity expected state = (state ≡ expected) ⊎ ((capacity ≡ None) × (state ≡ Refused OutOfMemory))
+
+-- Memory is wanted by a stack that grows; or it was wanted, and the same is answered again.
+abbrev pub WantsMemory : Progress → Type 0
+WantsMemory e = (e.program.capacity ≡ None) ⊎ (e.state ≡ Refused OutOfMemory)
 
 -- What an evaluation answers in a state. It never stops where it could go on.
 abbrev pub Answers : State → Result EvaluationResult Error → Type 0

@@ -1,9 +1,9 @@
 //! The evaluation of expressions (DWARF 5, 2.5).
 
-ghost use Rattle.std.specs.Prelude.{◌≡◌, true, Err, IfOk, IfErr, IsOk, IsTrue, Ok};
+ghost use Rattle.std.specs.Prelude.{◌≡◌, ◌<◌, true, Err, IfOk, IfErr, IsOk, IsTrue, Ok};
 ghost use Rattle.dwarf_constants.specs.declared.error.Error.TheVariants.{OutOfMemory, UnsupportedAddressSize};
 ghost use Rattle.dwarf_readers.specs.InitialLength.{is_size};
-ghost use Rattle.dwarf_expressions.specs.Evaluation.{Answers, CanResume, ComesTo, IsNotMade, Progress, Ready, Refused, first_machine, state_reached, state_reached_with, value_in};
+ghost use Rattle.dwarf_expressions.specs.Evaluation.{Answers, CanResume, ComesTo, IsNotMade, Progress, Ready, Refused, WantsMemory, first_machine, operations_left, state_reached, state_reached_with, value_in};
 ghost use Rattle.dwarf_expressions.specs.EvaluationViews.{AddsOffset, IsReady, state_of};
 ghost use Rattle.dwarf_expressions.specs.Values.{generic_of};
 ghost use Rattle.dwarf_constants.specs.declared.common.Register.{Register};
@@ -22,6 +22,14 @@ use std::marker::Model;
 pub trait EvaluationStorage {
     /// The stack of values.
     type Stack: ArrayLike<Item = u64>;
+}
+
+/// Values that lie on the heap, as many as there is memory for.
+#[derive(Debug, Clone, Copy)]
+pub struct StoreOnHeap;
+
+impl EvaluationStorage for StoreOnHeap {
+    type Stack = Vec<u64>;
 }
 
 /// What an evaluation answers, where it isn't refused.
@@ -96,6 +104,7 @@ impl<R: Reader, S: EvaluationStorage> Evaluation<R, S> {
         ensures answer { Answers self.new.state result }
         ensures asks { (register : Register) → result ≡ Ok (RequiresRegister register)
             → CanResume self.new.state }
+        ensures memory { result ≡ Err OutOfMemory → WantsMemory self.old }
     {
         match self.state {
             EvaluationState::Ready => self.go_on(),
@@ -108,7 +117,7 @@ impl<R: Reader, S: EvaluationStorage> Evaluation<R, S> {
     }
 
     /// Goes on with the value of the register that was asked for. After a refusal it answers the
-    /// refusal.
+    /// refusal. Where it asks for a register again, fewer operations may still run.
     pub fn resume_with_register(&mut self, value: Value) -> Result<EvaluationResult>
         requires { CanResume self.old.state }
         ensures program { self.new.program ≡ self.old.program }
@@ -117,6 +126,9 @@ impl<R: Reader, S: EvaluationStorage> Evaluation<R, S> {
         ensures answer { Answers self.new.state result }
         ensures asks { (register : Register) → result ≡ Ok (RequiresRegister register)
             → CanResume self.new.state }
+        ensures fewer { (register : Register) → result ≡ Ok (RequiresRegister register)
+            → operations_left self.new.state < operations_left self.old.state }
+        ensures memory { result ≡ Err OutOfMemory → WantsMemory self.old }
     {
         let Value::Generic(number) = value;
         match self.state {
@@ -145,6 +157,9 @@ impl<R: Reader, S: EvaluationStorage> Evaluation<R, S> {
         ensures answer { Answers self.new.state result }
         ensures asks { (register : Register) → result ≡ Ok (RequiresRegister register)
             → CanResume self.new.state }
+        ensures fewer { (register : Register) → result ≡ Ok (RequiresRegister register)
+            → operations_left self.new.state < operations_left self.old.state }
+        ensures memory { result ≡ Err OutOfMemory → WantsMemory self.old }
     {
         match self.machine.push_sum(number, offset) {
             Ok(()) => {
@@ -174,6 +189,9 @@ impl<R: Reader, S: EvaluationStorage> Evaluation<R, S> {
         ensures answer { Answers self.new.state result }
         ensures asks { (register : Register) → result ≡ Ok (RequiresRegister register)
             → CanResume self.new.state }
+        ensures fewer { (register : Register) → result ≡ Ok (RequiresRegister register)
+            → operations_left self.new.state < operations_left self.old.state }
+        ensures memory { result ≡ Err OutOfMemory → WantsMemory self.old }
     {
         match self.machine.run() {
             Ok(Stop::Finished { value }) => {

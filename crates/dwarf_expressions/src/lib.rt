@@ -9,6 +9,6 @@ mod stack;
 mod value;
 
 pub use array_like::{ArrayLike, PushError};
-pub use evaluation::{Evaluation, EvaluationResult, EvaluationStorage};
+pub use evaluation::{Evaluation, EvaluationResult, EvaluationStorage, StoreOnHeap};
 pub use op::{Expression, Operation, OperationIter};
 pub use value::Value;
