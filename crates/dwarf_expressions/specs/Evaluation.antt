@@ -159,6 +159,11 @@ ComesTo capacity expected state = (state ≡ expected) ⊎ ((capacity ≡ None) 
 abbrev pub WantsMemory : Progress → Type 0
 WantsMemory e = (e.program.capacity ≡ None) ⊎ (e.state ≡ Refused OutOfMemory)
 
+-- Where an evaluation can't go on by itself, it stays as it is.
+abbrev pub StaysStopped : State → State → Type 0
+StaysStopped (Ready m) new = Unit {0}
+StaysStopped state new = new ≡ state
+
 -- What an evaluation answers in a state. It never stops where it could go on.
 abbrev pub Answers : State → Result EvaluationResult Error → Type 0
 Answers (Ready m) answer = ⊥

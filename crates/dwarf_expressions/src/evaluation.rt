@@ -3,10 +3,11 @@
 ghost use Rattle.std.specs.Prelude.{◌≡◌, ◌<◌, true, Err, IfOk, IfErr, IsOk, IsTrue, Ok};
 ghost use Rattle.dwarf_constants.specs.declared.error.Error.TheVariants.{OutOfMemory, UnsupportedAddressSize};
 ghost use Rattle.dwarf_readers.specs.InitialLength.{is_size};
-ghost use Rattle.dwarf_expressions.specs.Evaluation.{Answers, CanResume, ComesTo, IsNotMade, Progress, Ready, Refused, WantsMemory, first_machine, operations_left, state_reached, state_reached_with, value_in};
+ghost use Rattle.dwarf_expressions.specs.Evaluation.{Answers, CanResume, ComesTo, IsNotMade, Progress, Ready, Refused, StaysStopped, WantsMemory, first_machine, operations_left, state_reached, state_reached_with, value_in};
 ghost use Rattle.dwarf_expressions.specs.EvaluationViews.{AddsOffset, IsReady, state_of};
 ghost use Rattle.dwarf_expressions.specs.Values.{generic_of};
 ghost use Rattle.dwarf_constants.specs.declared.common.Register.{Register};
+ghost use Rattle.dwarf_constants.specs.declared.error.Error.{Error};
 ghost use Rattle.dwarf_expressions.specs.declared.evaluation.EvaluationResult.TheVariants.{RequiresRegister};
 
 use crate::array_like::ArrayLike;
@@ -102,6 +103,8 @@ impl<R: Reader, S: EvaluationStorage> Evaluation<R, S> {
         ensures state { ComesTo self.old.program.capacity
             (state_reached self.old.program self.old.state) self.new.state }
         ensures answer { Answers self.new.state result }
+        ensures refused { IfErr result (λ e. self.new.state ≡ Refused e) }
+        ensures stays { StaysStopped self.old.state self.new.state }
         ensures asks { (register : Register) → result ≡ Ok (RequiresRegister register)
             → CanResume self.new.state }
         ensures memory { result ≡ Err OutOfMemory → WantsMemory self.old }
@@ -124,6 +127,8 @@ impl<R: Reader, S: EvaluationStorage> Evaluation<R, S> {
         ensures state { ComesTo self.old.program.capacity
             (state_reached_with self.old.program (generic_of value) self.old.state) self.new.state }
         ensures answer { Answers self.new.state result }
+        ensures refused { IfErr result (λ e. self.new.state ≡ Refused e) }
+        ensures again { (e : Error) → self.old.state ≡ Refused e → self.new.state ≡ Refused e }
         ensures asks { (register : Register) → result ≡ Ok (RequiresRegister register)
             → CanResume self.new.state }
         ensures fewer { (register : Register) → result ≡ Ok (RequiresRegister register)
@@ -155,6 +160,7 @@ impl<R: Reader, S: EvaluationStorage> Evaluation<R, S> {
         ensures state { ComesTo self.old.program.capacity
             (state_reached_with self.old.program number self.old.state) self.new.state }
         ensures answer { Answers self.new.state result }
+        ensures refused { IfErr result (λ e. self.new.state ≡ Refused e) }
         ensures asks { (register : Register) → result ≡ Ok (RequiresRegister register)
             → CanResume self.new.state }
         ensures fewer { (register : Register) → result ≡ Ok (RequiresRegister register)
@@ -187,6 +193,7 @@ impl<R: Reader, S: EvaluationStorage> Evaluation<R, S> {
         ensures state { ComesTo self.old.program.capacity
             (state_reached self.old.program self.old.state) self.new.state }
         ensures answer { Answers self.new.state result }
+        ensures refused { IfErr result (λ e. self.new.state ≡ Refused e) }
         ensures asks { (register : Register) → result ≡ Ok (RequiresRegister register)
             → CanResume self.new.state }
         ensures fewer { (register : Register) → result ≡ Ok (RequiresRegister register)
