@@ -16,8 +16,8 @@ use Rattle.dwarf_frame_rows.specs.declared.rules.RuledRegister.{RuledRegister}
 use Rattle.dwarf_frame_rows.specs.RuleMap.{HasEachOnce, HoldsRules, RuleMap, map_of, rule_in}
 
 -- a register with this rule
-abbrev pub ruled : {V : Type 0} → Register → V → RuledRegister V
-ruled register v = record { register = register; rule = v }
+abbrev pub ruled_register : {V : Type 0} → Register → V → RuledRegister V
+ruled_register register v = record { register = register; rule = v }
 
 -- ---- tests of numbers
 
@@ -93,14 +93,14 @@ absent_first true x o h = cc
 absent_first false x o h = (refl, h)
 
 -- a register that isn't there has its rule behind a push, and any other the rule that it had
-rule_in-push : {V : Type 0} (register : Register) (v : V) (pairs : List (RuledRegister V)) → rule_in register.0 pairs ≡ None → (q : ℕ) → rule_in q (pairs ++ ruled register v ∷ []) ≡ cond (register.0 == q) (Some v) (rule_in q pairs)
+rule_in-push : {V : Type 0} (register : Register) (v : V) (pairs : List (RuledRegister V)) → rule_in register.0 pairs ≡ None → (q : ℕ) → rule_in q (pairs ++ ruled_register register v ∷ []) ≡ cond (register.0 == q) (Some v) (rule_in q pairs)
 rule_in-push register v [] none q = refl
 rule_in-push register v (pair ∷ pairs) none q =
     let there = absent_first (pair.register.0 == register.0) pair.rule (rule_in register.0 pairs) none in
     ap (λ o. cond (pair.register.0 == q) (Some pair.rule) o) (rule_in-push register v pairs there.1 q)
     ∙ choose (pair.register.0 == q) (register.0 == q) pair.rule v (rule_in q pairs) (λ is. eqb_apart pair.register.0 register.0 q there.0 is)
 
-HasEachOnce-push : {V : Type 0} (register : Register) (v : V) (pairs : List (RuledRegister V)) → HasEachOnce pairs → rule_in register.0 pairs ≡ None → HasEachOnce (pairs ++ ruled register v ∷ [])
+HasEachOnce-push : {V : Type 0} (register : Register) (v : V) (pairs : List (RuledRegister V)) → HasEachOnce pairs → rule_in register.0 pairs ≡ None → HasEachOnce (pairs ++ ruled_register register v ∷ [])
 HasEachOnce-push register v [] once none = (refl, tt)
 HasEachOnce-push register v (pair ∷ pairs) once none =
     let there = absent_first (pair.register.0 == register.0) pair.rule (rule_in register.0 pairs) none in
@@ -134,21 +134,21 @@ over false false true x v o w p q h = refl
 over false d false x v o w p q h = h refl
 
 -- a register whose pair is overwritten has the new rule, and any other the rule that it had
-rule_in-set : {V : Type 0} (register : Register) (v : V) (pairs : List (RuledRegister V)) → place_of register.0 pairs < length pairs → (q : ℕ) → rule_in q (slice_set pairs (place_of register.0 pairs) (ruled register v)) ≡ cond (register.0 == q) (Some v) (rule_in q pairs)
+rule_in-set : {V : Type 0} (register : Register) (v : V) (pairs : List (RuledRegister V)) → place_of register.0 pairs < length pairs → (q : ℕ) → rule_in q (slice_set pairs (place_of register.0 pairs) (ruled_register register v)) ≡ cond (register.0 == q) (Some v) (rule_in q pairs)
 rule_in-set register v [] h q = absurd (omega arith)
 rule_in-set register v (x ∷ xs) h q =
-    ap (rule_in q) (at_place (x.register.0 == register.0) x (ruled register v) (place_of register.0 xs) xs)
-    ∙ rule_in-cond q (x.register.0 == register.0) (ruled register v ∷ xs) (x ∷ slice_set xs (place_of register.0 xs) (ruled register v))
-    ∙ over (x.register.0 == register.0) (register.0 == q) (x.register.0 == q) x.rule v (rule_in q xs) (rule_in q (slice_set xs (place_of register.0 xs) (ruled register v)))
+    ap (rule_in q) (at_place (x.register.0 == register.0) x (ruled_register register v) (place_of register.0 xs) xs)
+    ∙ rule_in-cond q (x.register.0 == register.0) (ruled_register register v ∷ xs) (x ∷ slice_set xs (place_of register.0 xs) (ruled_register register v))
+    ∙ over (x.register.0 == register.0) (register.0 == q) (x.register.0 == q) x.rule v (rule_in q xs) (rule_in q (slice_set xs (place_of register.0 xs) (ruled_register register v)))
     (λ is. eqb_along x.register.0 register.0 q is) (λ other is. eqb_apart x.register.0 register.0 q other is)
     (λ other. rule_in-set register v xs (within (x.register.0 == register.0) (place_of register.0 xs) (length xs) h other) q)
 
-HasEachOnce-set : {V : Type 0} (register : Register) (v : V) (pairs : List (RuledRegister V)) → HasEachOnce pairs → place_of register.0 pairs < length pairs → HasEachOnce (slice_set pairs (place_of register.0 pairs) (ruled register v))
+HasEachOnce-set : {V : Type 0} (register : Register) (v : V) (pairs : List (RuledRegister V)) → HasEachOnce pairs → place_of register.0 pairs < length pairs → HasEachOnce (slice_set pairs (place_of register.0 pairs) (ruled_register register v))
 HasEachOnce-set register v [] once h = absurd (omega arith)
 HasEachOnce-set {V} register v (x ∷ xs) once h =
-    subst (λ (zs : List (RuledRegister V)). HasEachOnce zs) (sym (at_place (x.register.0 == register.0) x (ruled register v) (place_of register.0 xs) xs)) (go (x.register.0 == register.0) refl (HasEachOnce-set register v xs once.1))
+    subst (λ (zs : List (RuledRegister V)). HasEachOnce zs) (sym (at_place (x.register.0 == register.0) x (ruled_register register v) (place_of register.0 xs) xs)) (go (x.register.0 == register.0) refl (HasEachOnce-set register v xs once.1))
   where
-    go : (b : Bool) → (x.register.0 == register.0) ≡ b → (place_of register.0 xs < length xs → HasEachOnce (slice_set xs (place_of register.0 xs) (ruled register v))) → HasEachOnce (cond b (ruled register v ∷ xs) (x ∷ slice_set xs (place_of register.0 xs) (ruled register v)))
+    go : (b : Bool) → (x.register.0 == register.0) ≡ b → (place_of register.0 xs < length xs → HasEachOnce (slice_set xs (place_of register.0 xs) (ruled_register register v))) → HasEachOnce (cond b (ruled_register register v ∷ xs) (x ∷ slice_set xs (place_of register.0 xs) (ruled_register register v)))
     go true is rest = (ap (λ k. rule_in k xs) (sym (eqb-true x.register.0 register.0 is)) ∙ once.0, once.1)
     go false not_it rest =
         let later = within (x.register.0 == register.0) (place_of register.0 xs) (length xs) h not_it in
@@ -268,18 +268,18 @@ pub record IsMapOf {V : Type 0} (rules : RuleMap V) (pairs : List (RuledRegister
   pub once : HasEachOnce pairs
 
 -- a rule in the place of the one that a register had
-pub set_found : {V : Type 0} (register : Register) (v : V) (place : ℕ) (pairs : List (RuledRegister V)) → HasEachOnce pairs → position (λ pair. pair.register.0 == register.0) pairs ≡ Some place → IsMapOf (insert (map_of pairs) register.0 v) (slice_set pairs place (ruled register v))
+pub set_found : {V : Type 0} (register : Register) (v : V) (place : ℕ) (pairs : List (RuledRegister V)) → HasEachOnce pairs → position (λ pair. pair.register.0 == register.0) pairs ≡ Some place → IsMapOf (insert (map_of pairs) register.0 v) (slice_set pairs place (ruled_register register v))
 set_found register v place pairs once h =
     let there = found register.0 place pairs h in
-    subst (λ (i : ℕ). IsMapOf (insert (map_of pairs) register.0 v) (slice_set pairs i (ruled register v))) there.1 (record {
-      same = map_of-set pairs (slice_set pairs (place_of register.0 pairs) (ruled register v)) register.0 v (rule_in-set register v pairs there.0);
+    subst (λ (i : ℕ). IsMapOf (insert (map_of pairs) register.0 v) (slice_set pairs i (ruled_register register v))) there.1 (record {
+      same = map_of-set pairs (slice_set pairs (place_of register.0 pairs) (ruled_register register v)) register.0 v (rule_in-set register v pairs there.0);
       once = HasEachOnce-set register v pairs once there.0;
     })
 
 -- a rule at the end, where the register had none
-pub set_absent : {V : Type 0} (register : Register) (v : V) (pairs : List (RuledRegister V)) → HasEachOnce pairs → rule_in register.0 pairs ≡ None → IsMapOf (insert (map_of pairs) register.0 v) (pairs ++ ruled register v ∷ [])
+pub set_absent : {V : Type 0} (register : Register) (v : V) (pairs : List (RuledRegister V)) → HasEachOnce pairs → rule_in register.0 pairs ≡ None → IsMapOf (insert (map_of pairs) register.0 v) (pairs ++ ruled_register register v ∷ [])
 set_absent register v pairs once none = record {
-  same = map_of-set pairs (pairs ++ ruled register v ∷ []) register.0 v (rule_in-push register v pairs none);
+  same = map_of-set pairs (pairs ++ ruled_register register v ∷ []) register.0 v (rule_in-push register v pairs none);
   once = HasEachOnce-push register v pairs once none;
 }
 
@@ -320,12 +320,12 @@ holds_along capacity n m answer h e = subst (λ (k : ℕ). HoldsRules capacity k
 pub len-found : {V : Type 0} (register : Register) (v : V) (place : ℕ) (pairs : List (RuledRegister V)) → HasEachOnce pairs → position (λ pair. pair.register.0 == register.0) pairs ≡ Some place → len (insert (map_of pairs) register.0 v) ≡ length pairs
 len-found register v place pairs once h =
     let set = set_found register v place pairs once h in
-    ap len (sym set.same) ∙ length-map_of (slice_set pairs place (ruled register v)) set.once ∙ length-set pairs place (ruled register v)
+    ap len (sym set.same) ∙ length-map_of (slice_set pairs place (ruled_register register v)) set.once ∙ length-set pairs place (ruled_register register v)
 
 pub len-absent : {V : Type 0} (register : Register) (v : V) (pairs : List (RuledRegister V)) → HasEachOnce pairs → rule_in register.0 pairs ≡ None → len (insert (map_of pairs) register.0 v) ≡ length pairs + 1
 len-absent register v pairs once none =
     let set = set_absent register v pairs once none in
-    ap len (sym set.same) ∙ length-map_of (pairs ++ ruled register v ∷ []) set.once ∙ length-append pairs (ruled register v ∷ [])
+    ap len (sym set.same) ∙ length-map_of (pairs ++ ruled_register register v ∷ []) set.once ∙ length-append pairs (ruled_register register v ∷ [])
 
 -- ---- either answer
 

@@ -17,8 +17,8 @@ known_rules false rules = None
 abbrev pub state_of : {T S L K : Type 0} → (K → List (UnwindTableRow T L)) → UnwindContext T S L K → State T
 state_of items context = record {
   row = row_of context.row;
-  remembered = reverse (map row_of (take context.depth (items context.saved)));
-  initial = known_rules context.is_initialized context.initial_rules;
+  remembered_rows = reverse (map row_of (take context.depth (items context.saved)));
+  initial_rules = known_rules context.is_initialized context.initial_rules;
 }
 
 -- A call made of a state what the definition makes of it; or it was refused as the definition says, or for want of memory,

@@ -18,12 +18,12 @@ use Rattle.dwarf_frame_rows.specs.RuleMap.{RuleMap}
 -- done, the rules that they left
 pub record State (T : Type 0) : Type 0 where
   pub row : Row T
-  pub remembered : List (Row T)
-  pub initial : Option (RuleMap (RegisterRule T))
+  pub remembered_rows : List (Row T)
+  pub initial_rules : Option (RuleMap (RegisterRule T))
 
 -- before any instruction
 abbrev pub first_state : {T : Type 0} → State T
-first_state = record { row = first_row; remembered = []; initial = None }
+first_state = record { row = first_row; remembered_rows = []; initial_rules = None }
 
 -- how many rules a row has room for, and how many rows there is room for; nothing where there is no limit
 pub record Limits : Type 0 where
@@ -46,7 +46,7 @@ initial_rows (Some rules) = if nat_le 2 (len rules) then 1 else 0
 
 -- the rows that count: the one that is worked on, those that are remembered, and that of the CIE's rules
 abbrev pub rows_held : {T : Type 0} → State T → ℕ
-rows_held s = 1 + length s.remembered + initial_rows s.initial
+rows_held s = 1 + length s.remembered_rows + initial_rows s.initial_rules
 
 -- the state with another row
 abbrev pub with_row : {T : Type 0} → Row T → State T → State T
@@ -72,13 +72,13 @@ restored_state limits register (Some rule) s = ruled_state limits register rule 
 restored_state limits register None s = Ok (with_rules (remove s.row.rules register) s)
 
 -- a register is found as these rules say, once they are known
-abbrev pub ruled_by : {T : Type 0} → Option (RuleMap (RegisterRule T)) → Limits → ℕ → State T → Result (State T) Error
-ruled_by None limits register s = Err CfiInstructionInInvalidContext
-ruled_by (Some rules) limits register s = restored_state limits register (get rules register) s
+abbrev pub state_by_rules : {T : Type 0} → Option (RuleMap (RegisterRule T)) → Limits → ℕ → State T → Result (State T) Error
+state_by_rules None limits register s = Err CfiInstructionInInvalidContext
+state_by_rules (Some rules) limits register s = restored_state limits register (get rules register) s
 
 -- a register is found as the CIE's rules say
-abbrev pub initially_ruled : {T : Type 0} → Limits → ℕ → State T → Result (State T) Error
-initially_ruled limits register s = ruled_by s.initial limits register s
+abbrev pub state_by_initial_rules : {T : Type 0} → Limits → ℕ → State T → Result (State T) Error
+state_by_initial_rules limits register s = state_by_rules s.initial_rules limits register s
 
 -- the constant 1 for 0 or no rule, and 0 for 1; any other rule can't be negated
 abbrev pub negated_rule : {T : Type 0} → Option (RegisterRule T) → Result (RegisterRule T) Error
@@ -87,19 +87,19 @@ negated_rule (Some (Constant n)) = Ok (Constant (1 - n % 2))
 negated_rule (Some _) = Err CfiInstructionInInvalidContext
 
 -- the latest of some rows comes back, within the bounds of the row
-abbrev pub back_to : {T : Type 0} → List (Row T) → State T → Result (State T) Error
-back_to [] s = Err PopWithEmptyStack
-back_to (latest ∷ earlier) s = Ok (record s { row = with_parts_of latest s.row; remembered = earlier })
+abbrev pub state_with_latest_of : {T : Type 0} → List (Row T) → State T → Result (State T) Error
+state_with_latest_of [] s = Err PopWithEmptyStack
+state_with_latest_of (latest ∷ earlier) s = Ok (record s { row = with_parts_of latest s.row; remembered_rows = earlier })
 
 -- the latest of the rows that are remembered comes back
 abbrev pub popped_state : {T : Type 0} → State T → Result (State T) Error
-popped_state s = back_to s.remembered s
+popped_state s = state_with_latest_of s.remembered_rows s
 
 -- the row is remembered, where there is room for one more
 abbrev pub pushed_state : {T : Type 0} → Limits → State T → Result (State T) Error
 pushed_state limits s = do
   _ ← requirement (is_within limits.rows (rows_held s + 1)) StackFull
-  Ok (record s { remembered = s.row ∷ s.remembered })
+  Ok (record s { remembered_rows = s.row ∷ s.remembered_rows })
 
 -- the sign state is negated
 abbrev pub negated_state : {T : Type 0} → Limits → State T → Result (State T) Error
@@ -108,21 +108,21 @@ negated_state limits s = do
   ruled_state limits RA_SIGN_STATE.0 rule s
 
 -- what an effect makes of a state, or why it is refused
-abbrev pub applied : {T : Type 0} → Limits → Effect T → State T → Result (State T) Error
-applied limits (Move location) s = Ok s
-applied limits (Cfa rule) s = with_cfa s rule
-applied limits (CfaRegister register) s = with_cfa_register register s.row.cfa >>= with_cfa s
-applied limits (CfaOffset offset) s = with_cfa_offset offset s.row.cfa >>= with_cfa s
-applied limits (Rule register rule) s = ruled_state limits register.0 rule s
-applied limits (RestoreRule register) s = initially_ruled limits register.0 s
-applied limits NegateRaState s = negated_state limits s
-applied limits (ArgsSize size) s = Ok (with_row (record s.row { saved_args_size = size }) s)
-applied limits Remember s = pushed_state limits s
-applied limits Restore s = popped_state s
-applied limits Nothing s = Ok s
+abbrev pub state_after : {T : Type 0} → Limits → Effect T → State T → Result (State T) Error
+state_after limits (Move location) s = Ok s
+state_after limits (Cfa rule) s = with_cfa s rule
+state_after limits (CfaRegister register) s = with_cfa_register register s.row.cfa >>= with_cfa s
+state_after limits (CfaOffset offset) s = with_cfa_offset offset s.row.cfa >>= with_cfa s
+state_after limits (Rule register rule) s = ruled_state limits register.0 rule s
+state_after limits (RestoreRule register) s = state_by_initial_rules limits register.0 s
+state_after limits NegateRaState s = negated_state limits s
+state_after limits (ArgsSize size) s = Ok (with_row (record s.row { saved_args_size = size }) s)
+state_after limits Remember s = pushed_state limits s
+state_after limits Restore s = popped_state s
+state_after limits Nothing s = Ok s
 
 -- the state once the CIE's own instructions are done
-abbrev pub initialized : {T : Type 0} → Limits → State T → Result (State T) Error
-initialized limits s = do
-  _ ← requirement (is_within limits.rows (1 + length s.remembered + initial_rows (Some s.row.rules))) StackFull
-  Ok (record s { initial = Some s.row.rules })
+abbrev pub state_with_initial_rules : {T : Type 0} → Limits → State T → Result (State T) Error
+state_with_initial_rules limits s = do
+  _ ← requirement (is_within limits.rows (1 + length s.remembered_rows + initial_rows (Some s.row.rules))) StackFull
+  Ok (record s { initial_rules = Some s.row.rules })

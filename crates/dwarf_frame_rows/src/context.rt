@@ -77,7 +77,7 @@ impl<T: ReaderOffset> UnwindContext<T, StoreOnHeap> {
 
 impl<T: ReaderOffset, S: UnwindContextStorage<T>> UnwindContext<T, S> {
     ghost use Rattle.dwarf_frame_rows.specs.Contexts.{Acts, state_of};
-    ghost use Rattle.dwarf_frame_rows.specs.Effects.{applied, first_state, initialized, initially_ruled, limits_of, negated_state, popped_state, pushed_state, ruled_state};
+    ghost use Rattle.dwarf_frame_rows.specs.Effects.{first_state, limits_of, negated_state, popped_state, pushed_state, ruled_state, state_after, state_by_initial_rules, state_with_initial_rules};
 
     /// A context before any instruction.
     pub fn new_in(alloc: Global) -> std::result::Result<Self, AllocError>
@@ -123,8 +123,8 @@ impl<T: ReaderOffset, S: UnwindContextStorage<T>> UnwindContext<T, S> {
     /// kept before. Two rules or more count as a row; fails with `StackFull` where there is no room for
     /// one. After an `Err` none are kept.
     pub fn save_initial_rules(&mut self) -> Result<()>
-        ensures acts { Acts (initialized (limits_of S.Rules.capacity S.Stack.capacity))
-            (record (state_of S.Stack.items self.old) { initial = None })
+        ensures acts { Acts (state_with_initial_rules (limits_of S.Rules.capacity S.Stack.capacity))
+            (record (state_of S.Stack.items self.old) { initial_rules = None })
             (state_of S.Stack.items self.new) result }
         ensures memory { IsSome S.Rules.capacity
             → IfErr result (λ e. e ≢ Error.OutOfMemory) }
@@ -142,7 +142,7 @@ impl<T: ReaderOffset, S: UnwindContextStorage<T>> UnwindContext<T, S> {
     /// where a row has no room for a rule, with `StackFull` where there is no room for a row, and with
     /// `OutOfMemory` in a storage that grows.
     pub fn apply(&mut self, effect: Effect<T>) -> Result<()>
-        ensures acts { Acts (applied (limits_of S.Rules.capacity S.Stack.capacity) effect)
+        ensures acts { Acts (state_after (limits_of S.Rules.capacity S.Stack.capacity) effect)
             (state_of S.Stack.items self.old) (state_of S.Stack.items self.new) result }
         ensures memory { IsTrue S.Rules.is_made_in_place → IsSome S.Rules.capacity
             → IsSome S.Stack.capacity → IfErr result (λ e. e ≢ Error.OutOfMemory) }
@@ -177,7 +177,8 @@ impl<T: ReaderOffset, S: UnwindContextStorage<T>> UnwindContext<T, S> {
 
     // Gives the register this rule.
     fn set_rule(&mut self, register: Register, rule: RegisterRule<T>) -> Result<()>
-        ensures acts { Acts (ruled_state (limits_of S.Rules.capacity S.Stack.capacity) register.0 rule)
+        ensures acts { Acts
+            (ruled_state (limits_of S.Rules.capacity S.Stack.capacity) register.0 rule)
             (state_of S.Stack.items self.old) (state_of S.Stack.items self.new) result }
         ensures memory { IsSome S.Rules.capacity
             → IfErr result (λ e. e ≢ Error.OutOfMemory) }
@@ -187,7 +188,8 @@ impl<T: ReaderOffset, S: UnwindContextStorage<T>> UnwindContext<T, S> {
 
     // Gives the register the rule that the CIE's own instructions left, or none.
     fn restore_rule(&mut self, register: Register) -> Result<()>
-        ensures acts { Acts (initially_ruled (limits_of S.Rules.capacity S.Stack.capacity) register.0)
+        ensures acts { Acts
+            (state_by_initial_rules (limits_of S.Rules.capacity S.Stack.capacity) register.0)
             (state_of S.Stack.items self.old) (state_of S.Stack.items self.new) result }
         ensures memory { IsSome S.Rules.capacity
             → IfErr result (λ e. e ≢ Error.OutOfMemory) }
@@ -250,7 +252,7 @@ impl<T: ReaderOffset, S: UnwindContextStorage<T>> UnwindContext<T, S> {
 
     // How many rows are remembered.
     fn remembered_rows(&self) -> usize
-        ensures rows { result ≡ length (state_of S.Stack.items self.now).remembered }
+        ensures rows { result ≡ length (state_of S.Stack.items self.now).remembered_rows }
         ensures within { result ≤ length (S.Stack.items self.now.saved) }
         ensures all { take result (S.Stack.items self.now.saved)
             ≡ take self.now.depth (S.Stack.items self.now.saved) }
@@ -260,7 +262,7 @@ impl<T: ReaderOffset, S: UnwindContextStorage<T>> UnwindContext<T, S> {
 
     // As how many rows the CIE's rules count.
     fn initial_rows(&self) -> usize
-        ensures { result ≡ initial_rows (state_of S.Stack.items self.now).initial }
+        ensures { result ≡ initial_rows (state_of S.Stack.items self.now).initial_rules }
     {
         if self.is_initialized {
             counted_rows(&self.initial_rules)
@@ -273,7 +275,7 @@ impl<T: ReaderOffset, S: UnwindContextStorage<T>> UnwindContext<T, S> {
     fn has_room(&self, more: usize) -> bool
         requires { more ≤ 3 }
         ensures { IsTrue result ↔ IsWithin S.Stack.capacity
-            (length (state_of S.Stack.items self.now).remembered + more) }
+            (length (state_of S.Stack.items self.now).remembered_rows + more) }
     {
         let spare = self.saved.as_slice().len() - self.remembered_rows();
         more <= spare || self.saved.has_room_for(more - spare)
