@@ -1,0 +1,2 @@
+mod CompactSections
+mod ExplicitTable

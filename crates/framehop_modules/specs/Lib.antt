@@ -1,0 +1,5 @@
+pub mod Sections
+pub mod ExplicitTable
+pub mod Chosen
+pub mod ChosenViews
+pub mod LoadErrors
