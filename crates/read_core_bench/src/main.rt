@@ -1,9 +1,10 @@
 //! Works over the bytes on standard input, for timing. The first byte says what is done.
 //!
-//! - `n`: the rest is unsigned numbers of variable length. It prints their count, and their sum modulo 2^64.
-//! - `t`: the largest code to look up, a count of tables and the offset of each follow, every number in four bytes, the
-//!   low byte first, and then the section that has these tables of abbreviations. It prints how many of the codes from
-//!   1 to the largest are declared, over all tables.
+//! - `n`: the rest is unsigned numbers of variable length. It prints their count, and their sum
+//!   modulo 2^64.
+//! - `t`: the largest code to look up, a count of tables and the offset of each follow, every number
+//!   in four bytes, the low byte first, and then the section that has these tables of abbreviations.
+//!   It prints how many of the codes from 1 to the largest are declared, over all tables.
 //! - Any other: it prints how many bytes the rest has.
 #![tactic(auto)]
 

@@ -1,8 +1,7 @@
 //! Numbers one after the other.
 
-ghost use Rattle.std.specs.Prelude.{false};
-ghost use Rattle.dwarf_readers.specs.EndianSlice.{stretch_of};
 ghost use Rattle.dwarf_readers.specs.Place.{Gives};
+ghost use Rattle.read_core_bench.specs.Little.{little};
 ghost use Rattle.read_core_bench.specs.Numbers.{tally_in};
 
 use dwarf_read_core::{EndianSlice, LittleEndian, Reader, Result};
@@ -16,7 +15,7 @@ pub struct Tally {
 
 /// Reads unsigned numbers to the end of the bytes. Fails with the first fault.
 pub fn tally_numbers(mut reader: EndianSlice<'_, LittleEndian>) -> Result<Tally>
-    ensures { Gives (λ t. (t.count, t.sum)) result (tally_in (stretch_of (λ _. false) reader.entry)) }
+    ensures { Gives (λ t. (t.count, t.sum)) result (tally_in (little reader.entry)) }
 {
     let mut tally = Tally { count: 0, sum: 0 };
     'numbers: while !reader.is_empty() {

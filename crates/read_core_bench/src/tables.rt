@@ -1,11 +1,11 @@
 //! Tables of abbreviations, and where they stand.
 
-ghost use Rattle.std.specs.Prelude.{◌≡◌, ◌⊎◌, Ok, Err, IfOk, IfErr, false};
+ghost use Rattle.std.specs.Prelude.{◌≡◌, ◌⊎◌, Ok, Err, IfOk, IfErr};
 ghost use Rattle.dwarf_constants.specs.declared.error.Error.TheVariants as error;
 ghost use Rattle.dwarf_read_core.specs.AbbreviationTable.{GivesOrMemory};
 ghost use Rattle.dwarf_read_core.specs.DebugAbbrev.{declarations};
-ghost use Rattle.dwarf_readers.specs.EndianSlice.{stretch_of};
 ghost use Rattle.read_core_bench.specs.Codes.{declared_in, declared_up_to, words_at};
+ghost use Rattle.read_core_bench.specs.Little.{little};
 
 use dwarf_read_core::{
     Abbreviations, DebugAbbrev, DebugAbbrevOffset, EndianSlice, Error, LittleEndian, Reader, Result,
@@ -18,8 +18,10 @@ pub fn read_offsets(
     input: &mut EndianSlice<'_, LittleEndian>,
     count: u32,
 ) -> Result<Vec<u32>>
-    ensures read { IfOk result (λ v. words_at count (stretch_of (λ _. false) input.old) ≡ Ok (v.items, stretch_of (λ _. false) input.new)) }
-    ensures refused { IfErr result (λ e. (words_at count (stretch_of (λ _. false) input.old) ≡ Err e) ⊎ (e ≡ error.OutOfMemory)) }
+    ensures read { IfOk result (λ v. words_at count (little input.old)
+        ≡ Ok (v.items, little input.new)) }
+    ensures refused { IfErr result (λ e. (words_at count (little input.old) ≡ Err e)
+        ⊎ (e ≡ error.OutOfMemory)) }
 {
     let mut offsets = Vec::new(alloc);
     for i in 0..count {
@@ -44,15 +46,16 @@ fn declared_codes(table: &Abbreviations, codes: u32) -> u64
     declared
 }
 
-/// How many of the codes up to `codes` the tables at these offsets declare, over all of them, modulo 2^64. Fails with
-/// the first fault of a table, in the order of the offsets.
+/// How many of the codes up to `codes` the tables at these offsets declare, over all of them, modulo
+/// 2^64. Fails with the first fault of a table, in the order of the offsets.
 pub fn declared(
     alloc: Global,
     section: EndianSlice<'_, LittleEndian>,
     offsets: &[u32],
     codes: u32,
 ) -> Result<u64>
-    ensures { GivesOrMemory (λ n. n) result (declared_in offsets.now codes (stretch_of (λ _. false) section.entry)) }
+    ensures { GivesOrMemory (λ n. n) result
+        (declared_in offsets.now codes (little section.entry)) }
 {
     let tables = DebugAbbrev::from(section);
     let mut declared = 0u64;

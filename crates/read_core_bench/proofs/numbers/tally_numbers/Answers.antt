@@ -1,12 +1,12 @@
 use Rattle.std.proofs.Common.{◌≡◌, ◌==◌, arith, false, length}
 use Rattle.std.proofs.lemmas.Grind.{common_steps}
 use Rattle.std.proofs.lemmas.Result.{err_from_is_err_and}
-use Rattle.dwarf_readers.specs.EndianSlice.{stretch_of}
+use Rattle.read_core_bench.specs.Little.{little}
 use Rattle.read_core_bench.proofs.Sums.{tallied_more, tallied_refused, tallied_start}
 use Rattle.read_core_bench.proofs.numbers.tally_numbers.Goals as goal
 
 pub numbers-init : goal.numbers-init
-numbers-init c = tallied_start (stretch_of (λ _. false) c.args.reader)
+numbers-init c = tallied_start (little c.args.reader)
 
 pub returns-in_err-number : goal.returns-in_err-number
 returns-in_err-number c =

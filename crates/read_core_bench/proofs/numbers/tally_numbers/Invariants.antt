@@ -1,10 +1,10 @@
 use Rattle.std.proofs.Common.{false, length}
-use Rattle.dwarf_readers.specs.EndianSlice.{stretch_of}
+use Rattle.read_core_bench.specs.Little.{little}
 use Rattle.read_core_bench.proofs.Sums.{Tallied}
 use Rattle.read_core_bench.proofs.numbers.tally_numbers.Given as goal
 
 abbrev pub invariant-numbers : goal.invariant-numbers
-invariant-numbers l = Tallied (stretch_of (λ _. false) l.fn.reader) (stretch_of (λ _. false) l.reader) l.tally.count l.tally.sum
+invariant-numbers l = Tallied (little l.fn.reader) (little l.reader) l.tally.count l.tally.sum
 
 abbrev pub decreases-numbers : goal.decreases-numbers
 decreases-numbers l = length l.reader.slice.now
