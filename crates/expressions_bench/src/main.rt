@@ -1,0 +1,48 @@
+//! Evaluates the expression that stands on standard input, for timing.
+//!
+//! It prints the expression's value, where RSP is 0x7000, RIP 0x102c, and every other register 0. With the arguments `time`
+//! and a number it evaluates it so many times a round, each time at another of the 16 places of an entry of a PLT, and
+//! prints the least nanoseconds of all rounds with the sum of the values.
+#![tactic(auto)]
+
+mod evaluations;
+
+use anyhow::Result;
+use dwarf_readers::{EndianSlice, LittleEndian};
+use evaluations::{Registers, sum_of_values, value_of};
+use std::env;
+use std::io::Read;
+use std::time::{Duration, Instant};
+
+const ROUNDS: u32 = 2_000;
+
+fn main(rt: HostRuntime) -> Result<()> {
+    let mut input = Vec::new(rt.alloc());
+    rt.reader().read_to_end(&mut input)?;
+    let expression = EndianSlice::new(input.as_slice(), LittleEndian);
+    match env::args(&rt)?.nth(2) {
+        Some(count) => print_time(&rt, expression, count.parse()?),
+        None => {
+            let value = value_of(rt.alloc(), expression, Registers::at(0x102c))?;
+            println!(rt; "value {value:#x}")?;
+            Ok(())
+        }
+    }
+}
+
+/// Evaluates the expression so many times a round, and prints the least time.
+fn print_time(
+    rt: &HostRuntime,
+    expression: EndianSlice<'_, LittleEndian>,
+    count: u64,
+) -> Result<()> {
+    let mut least = Duration::MAX;
+    let mut sum = 0;
+    for _ in 0..ROUNDS {
+        let start = Instant::now(rt)?;
+        sum = sum_of_values(rt.alloc(), expression, count);
+        least = least.min(start.elapsed(rt)?);
+    }
+    println!(rt; "{count} evaluations {} ns, sum {sum:#x}", least.as_nanos())?;
+    Ok(())
+}
