@@ -79,9 +79,11 @@ impl<T: ReaderOffset, S: UnwindContextStorage<T>> UnwindContext<T, S> {
     ghost use Rattle.dwarf_frame_rows.specs.Contexts.{Acts, state_of};
     ghost use Rattle.dwarf_frame_rows.specs.Effects.{first_state, limits_of, negated_state, popped_state, pushed_state, ruled_state, state_after, state_by_initial_rules, state_with_initial_rules};
 
-    /// A context before any instruction.
+    /// A context before any instruction. It takes memory only for lists that aren't made in place.
     pub fn new_in(alloc: Global) -> std::result::Result<Self, AllocError>
-        ensures { IfOk result (λ context. state_of S.Stack.items context ≡ first_state) }
+        ensures empty { IfOk result (λ context. state_of S.Stack.items context ≡ first_state) }
+        ensures memory { IsTrue S.Rules.is_made_in_place → IsTrue S.Stack.is_made_in_place
+            → IsOk result }
     {
         Ok(UnwindContext {
             row: UnwindTableRow::new_in(alloc)?,
