@@ -74,6 +74,27 @@ fn finds_what_was_kept_last(rt: HostRuntime) -> Result<(), Fail> {
     Ok(())
 }
 
+/// A cache takes one allocation, and no call takes more. Where it is refused, as
+/// `scripts/refuse-allocations` has it, there is no cache, and the next try makes one.
+#[test]
+fn takes_one_allocation(rt: HostRuntime) -> Result<(), Fail> {
+    let mut cache = match RuleCache::<UnwindRuleX86_64>::new(rt.alloc()) {
+        Ok(cache) => cache,
+        Err(_) => RuleCache::new(rt.alloc())?,
+    };
+    for (is_hit, after) in [(false, (0, 1, 0, 0)), (true, (1, 1, 0, 0))] {
+        match cache.lookup(0x1000, false, 3) {
+            CacheResult::Hit(hit) => assert!(rt; is_hit && hit == rule(5)),
+            CacheResult::Miss(handle) => {
+                assert!(rt; !is_hit);
+                cache.insert(handle, rule(5));
+            }
+        }
+        assert_eq!(rt; counts(cache.stats()), after);
+    }
+    Ok(())
+}
+
 /// Each slot keeps its own rule.
 #[test]
 fn keeps_509_rules(rt: HostRuntime) -> Result<(), Fail> {
