@@ -16,10 +16,3 @@ pub struct Boxed;
 impl EvaluationStorage for Boxed {
     type Stack = Box<ArrayVec<u64, 64>>;
 }
-
-/// A stack that grows.
-pub struct Growing;
-
-impl EvaluationStorage for Growing {
-    type Stack = Vec<u64>;
-}
