@@ -1,8 +1,8 @@
 //! Makes steps by cached rules, for timing a look-up that hits with the execution of its rule.
 //!
-//! It keeps rules for 252 addresses, of three kinds in turn, makes a step from a frame at each of them, and prints how many
-//! answered a return address and how many look-ups hit. With the argument `time` it makes these steps again and again, and
-//! prints the least nanoseconds of all rounds.
+//! It keeps rules for 252 addresses, makes a step from a frame at each of them, and prints how many answered a return address
+//! and how many look-ups hit: first by the common rules, then by rules that pop registers. With the argument `time` or
+//! `time-pops` it makes the former or the latter again and again, and prints the least nanoseconds of all rounds.
 #![tactic(auto)]
 
 mod steps;
@@ -12,38 +12,51 @@ use framehop_rules::RuleCache;
 use framehop_rules::x86_64::UnwindRuleX86_64;
 use std::env;
 use std::time::{Duration, Instant};
-use steps::{Frame, STEPS, Stack, keep_rules, make_frames, make_steps};
+use steps::{Frame, Rules, STEPS, Stack, keep_rules, make_frames, make_steps};
 
 const ROUNDS: u32 = 20_000;
 
 fn main(rt: HostRuntime) -> Result<()> {
     let stack = Stack::new(rt.alloc())?;
     let frames = make_frames(rt.alloc())?;
-    let mut cache = RuleCache::new(rt.alloc())?;
-    keep_rules(&mut cache, &frames);
     match env::args(&rt)?.nth(1) {
-        Some(mode) if mode.as_str() == "time" => print_time(&rt, &mut cache, &stack, &frames),
+        Some(mode) if mode.as_str() == "time" => print_time(&rt, &stack, &frames, Rules::Common),
+        Some(mode) if mode.as_str() == "time-pops" => print_time(&rt, &stack, &frames, Rules::Pops),
         _ => {
-            let answered = make_steps(&mut cache, &stack, &frames);
-            let hits = cache.stats().hits();
-            println!(rt; "{STEPS} steps, {answered} answered, {hits} hits")?;
-            Ok(())
+            print_counts(&rt, &stack, &frames, Rules::Common)?;
+            print_counts(&rt, &stack, &frames, Rules::Pops)
         }
     }
 }
 
-/// Makes all steps as often as there are rounds, and prints the least time.
-fn print_time(
+/// A cache that has a rule for each frame.
+fn full_cache(
     rt: &HostRuntime,
-    cache: &mut RuleCache<UnwindRuleX86_64>,
-    stack: &Stack,
     frames: &[Frame],
-) -> Result<()> {
+    rules: Rules,
+) -> Result<RuleCache<UnwindRuleX86_64>> {
+    let mut cache = RuleCache::new(rt.alloc())?;
+    keep_rules(&mut cache, frames, rules);
+    Ok(cache)
+}
+
+/// Makes all steps once, and prints how many answered.
+fn print_counts(rt: &HostRuntime, stack: &Stack, frames: &[Frame], rules: Rules) -> Result<()> {
+    let mut cache = full_cache(rt, frames, rules)?;
+    let answered = make_steps(&mut cache, stack, frames);
+    let hits = cache.stats().hits();
+    println!(rt; "{STEPS} steps, {answered} answered, {hits} hits")?;
+    Ok(())
+}
+
+/// Makes all steps as often as there are rounds, and prints the least time.
+fn print_time(rt: &HostRuntime, stack: &Stack, frames: &[Frame], rules: Rules) -> Result<()> {
+    let mut cache = full_cache(rt, frames, rules)?;
     let mut least = Duration::MAX;
     let mut answered = 0;
     for _ in 0..ROUNDS {
         let start = Instant::now(rt)?;
-        answered = make_steps(cache, stack, frames);
+        answered = make_steps(&mut cache, stack, frames);
         least = least.min(start.elapsed(rt)?);
     }
     println!(rt;

@@ -57,8 +57,17 @@ pub fn make_frames(alloc: Global) -> Result<Vec<Frame>, AllocError> {
     Ok(frames)
 }
 
-/// The rule of a step: each of the common ones in turn.
-fn rule_of(step: usize) -> UnwindRuleX86_64
+/// Which rules the steps are made by.
+#[derive(Clone, Copy)]
+pub enum Rules {
+    /// An offset, an offset with a stored frame pointer, and the frame pointer, in turn.
+    Common,
+    /// An offset of one word and pops of one, three and six registers, in turn.
+    Pops,
+}
+
+/// One of the common rules.
+fn common_rule(step: usize) -> UnwindRuleX86_64
     ensures { IsValid result }
 {
     match step % 3 {
@@ -71,11 +80,31 @@ fn rule_of(step: usize) -> UnwindRuleX86_64
     }
 }
 
+/// One of the rules that pop registers: RBP; RBX, RBP, R12; RBX, RBP, R12 to R15.
+fn pop_rule(step: usize) -> UnwindRuleX86_64
+    ensures { IsValid result }
+{
+    let (register_count, encoded_registers_to_pop) = match step % 3 {
+        0 => (1, 1),
+        1 => (3, 112),
+        _ => (6, 17584),
+    };
+    UnwindRuleX86_64::OffsetSpAndPopRegisters {
+        sp_offset_by_8: 1,
+        register_count,
+        encoded_registers_to_pop,
+    }
+}
+
 /// Keeps the rules of all frames.
-pub fn keep_rules(cache: &mut RuleCache<UnwindRuleX86_64>, frames: &[Frame]) {
+pub fn keep_rules(cache: &mut RuleCache<UnwindRuleX86_64>, frames: &[Frame], rules: Rules) {
     for (step, frame) in frames.iter().enumerate() {
         if let CacheResult::Miss(handle) = cache.lookup(frame.address, true, 1) {
-            cache.insert(handle, rule_of(step));
+            let rule = match rules {
+                Rules::Common => common_rule(step),
+                Rules::Pops => pop_rule(step),
+            };
+            cache.insert(handle, rule);
         }
     }
 }
