@@ -1,0 +1,3 @@
+pub mod Behind
+pub mod EntryLists
+pub mod Onward

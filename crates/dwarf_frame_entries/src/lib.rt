@@ -1,0 +1,22 @@
+//! The entries of call frame information: the sections `.eh_frame` and `.debug_frame`, their CIEs and
+//! their FDEs (DWARF 5, 6.4.1; LSB 5.0, 10.6.1), over any reader.
+#![tactic(auto)]
+
+mod augmentation;
+mod cie;
+mod entries;
+mod fde;
+mod parse;
+mod section;
+mod sections;
+
+pub use augmentation::Augmentation;
+pub use cie::CommonInformationEntry;
+pub use dwarf_frame_rows::{
+    _UnwindSectionPrivate, BaseAddresses, CieOffsetEncoding, Pointer, SectionBaseAddresses,
+    UnwindOffset,
+};
+pub use entries::{CfiEntriesIter, CieOrFde, Entry};
+pub use fde::{FrameDescriptionEntry, PartialFrameDescriptionEntry};
+pub use section::UnwindSection;
+pub use sections::{DebugFrame, EhFrame};

@@ -1,0 +1,113 @@
+//! What both sections of call frames are asked for.
+ghost use Rattle.std.specs.Prelude.{◌≡◌};
+ghost use Rattle.dwarf_readers.specs.Place.{Gives};
+ghost use Rattle.dwarf_frame_entries.specs.Entries.{cie_from_offset, fde_from_offset, partial_fde_from_offset};
+ghost use Rattle.dwarf_frame_entries.specs.EntryLists.{listing_of};
+ghost use Rattle.dwarf_frame_entries.specs.EntryViews.{cie_view};
+ghost use Rattle.dwarf_frame_entries.specs.Memory.{MayGive};
+ghost use Rattle.dwarf_frame_entries.specs.Sections.{frame_section};
+
+use crate::cie::CommonInformationEntry;
+use crate::entries::{CfiEntriesIter, CieOrFde};
+use crate::fde::{FrameDescriptionEntry, PartialFrameDescriptionEntry};
+use crate::parse::parse_entry;
+use dwarf_constants::{Error, Result};
+use dwarf_frame_rows::{_UnwindSectionPrivate, BaseAddresses, UnwindOffset};
+use dwarf_readers::{Reader, ReaderOffset};
+use std::fmt::Debug;
+
+/// A section of call frames, `.eh_frame` or `.debug_frame`. The bases are the addresses that its
+/// pointers count from.
+///
+/// `get_cie` is how calls come by a CIE: [`UnwindSection::cie_from_offset`] itself, or a function that
+/// keeps what that answered.
+pub trait UnwindSection<R: Reader>: Copy + Debug + _UnwindSectionPrivate<R> {
+    /// The type of offsets in the section.
+    type Offset: UnwindOffset<R::Offset>;
+
+    /// The entries in their order.
+    final fn entries<'bases>(&self, bases: &'bases BaseAddresses) -> CfiEntriesIter<'bases, Self, R>
+    where
+        Self: Sized,
+        ensures { result ≡ listing_of (frame_section R.Offset.limit Self.kind (Self.size self.now)
+            (R.stretch (Self.reader self.now)) bases.now) }
+    {
+        CfiEntriesIter::new(self, bases)
+    }
+
+    /// The CIE at `offset`. Fails also with `NotCieId` where an FDE stands there, and with
+    /// `NoEntryAtGivenOffset` at a length of 0.
+    #[inline(always)]
+    final fn cie_from_offset(
+        &self,
+        bases: &BaseAddresses,
+        offset: Self::Offset,
+    ) -> Result<CommonInformationEntry<R>>
+    where
+        Self: Sized,
+        ensures { Gives (cie_view R.stretch R.Offset.value) result (cie_from_offset
+            (frame_section R.Offset.limit Self.kind
+            (Self.size self.now) (R.stretch (Self.reader self.now)) bases.now)
+            (Self.Offset.number offset)) }
+    {
+        let offset = UnwindOffset::into(offset);
+        let mut input = *self.section();
+        input.skip(offset)?;
+        match parse_entry(self, bases, &mut input)? {
+            Some(CieOrFde::Cie(cie)) => Ok(cie),
+            Some(CieOrFde::Fde(_)) => Err(Error::NotCieId(offset.into_u64())),
+            None => Err(Error::NoEntryAtGivenOffset),
+        }
+    }
+
+    /// The FDE at `offset`, without its CIE. Fails also with `NotCiePointer` where a CIE stands there,
+    /// and with `NoEntryAtGivenOffset` at a length of 0.
+    #[inline(always)]
+    final fn partial_fde_from_offset<'bases>(
+        &self,
+        bases: &'bases BaseAddresses,
+        offset: Self::Offset,
+    ) -> Result<PartialFrameDescriptionEntry<'bases, Self, R>>
+    where
+        Self: Sized,
+        ensures { Gives (λ partial. partial) result (partial_fde_from_offset
+            (frame_section R.Offset.limit Self.kind (Self.size self.now)
+            (R.stretch (Self.reader self.now)) bases.now) (Self.Offset.number offset)) }
+    {
+        let offset = UnwindOffset::into(offset);
+        let mut input = *self.section();
+        input.skip(offset)?;
+        match parse_entry(self, bases, &mut input)? {
+            Some(CieOrFde::Cie(_)) => Err(Error::NotCiePointer(offset.into_u64())),
+            Some(CieOrFde::Fde(partial)) => Ok(partial),
+            None => Err(Error::NoEntryAtGivenOffset),
+        }
+    }
+
+    /// The FDE at `offset`, with its CIE. Where `get_cie` answers as `cie_from_offset` does, this is
+    /// what stands there, or the refusal; its want of memory is passed on.
+    #[inline(always)]
+    final fn fde_from_offset<
+        F: FnMut(&Self, &BaseAddresses, Self::Offset) -> Result<CommonInformationEntry<R>>,
+    >(
+        &self,
+        bases: &BaseAddresses,
+        offset: Self::Offset,
+        get_cie: F,
+    ) -> Result<FrameDescriptionEntry<R>>
+    where
+        Self: Sized,
+        requires { F.IsAlwaysCallable get_cie }
+        ensures { (may_want : _) → ((f : F) (s : _) (b : _) (o : Self.Offset) (r : _) (after : F)
+            → F.step f s b o r after
+            → MayGive may_want (cie_view R.stretch R.Offset.value) r (cie_from_offset
+            (frame_section R.Offset.limit Self.kind (Self.size s.now)
+            (R.stretch (Self.reader s.now)) b.now) (Self.Offset.number o)))
+            → MayGive may_want (λ fde. fde) result (fde_from_offset
+            (frame_section R.Offset.limit Self.kind (Self.size self.now)
+            (R.stretch (Self.reader self.now)) bases.now) (Self.Offset.number offset)) }
+    {
+        let partial = self.partial_fde_from_offset(bases, offset)?;
+        partial.parse(get_cie)
+    }
+}
