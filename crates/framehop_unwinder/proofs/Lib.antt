@@ -1,0 +1,5 @@
+mod KeyLists
+mod ModulesInOrder
+mod Slots
+mod Sound
+mod Steps

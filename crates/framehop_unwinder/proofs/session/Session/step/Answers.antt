@@ -1,0 +1,84 @@
+use Rattle.std.proofs.Common.{ap, ◌≡◌, ◌<◌, length, map, arith, sym, subst, ◌∙◌, [], refl}
+use Rattle.std.specs.Prelude.{slice_set}
+use Rattle.std.proofs.lemmas.List.{map-set, length-map, get_or-map, get_or_default}
+use Rattle.framehop_rules.specs.Outcome.{IsStep}
+use Rattle.framehop_rules.specs.Slots.{Key, Kept, no_counts}
+use Rattle.framehop_unwinder.specs.Attempt.{meanings}
+use Rattle.framehop_unwinder.specs.CacheViews.{rules_of}
+use Rattle.framehop_unwinder.specs.Frames.{frame_of}
+use Rattle.framehop_unwinder.specs.Judge.{judge}
+use Rattle.framehop_unwinder.specs.Modules.{Loaded, Loads}
+use Rattle.framehop_unwinder.specs.RulesKept.{key_for}
+use Rattle.framehop_unwinder.specs.State.{State, unwinder_at, cache_at, cache_after, slots_of_all}
+use Rattle.framehop_unwinder.specs.Trials.{wants_memory}
+use Rattle.framehop_unwinder.proofs.Sound.{sound_step_of, fits_at, kept-is}
+use Rattle.framehop_unwinder.proofs.session.Session.step.Goals as goal
+
+pub invariant_of-self : goal.invariant_of-self
+invariant_of-self g c =
+    let m = meanings g.A.UnwindRule.UnwindRule.meaning g.A.UnwindRule.UnwindRule.fallback g.A.Unwinding.attempt in
+    let loads = c.self.inside.unwinders.items in
+    let items = c.self.inside.caches.items in
+    let caches = map rules_of items in
+    let there : c.args.unwinder < length loads = omega (arith, ap (λ (s : State g.row.A-UnwindData.Denot g.row.A-UnwindRule.Denot). length s.unwinders) c.self.view_is) in
+    let kept : c.args.cache < length items = omega (arith, length-map items rules_of, ap (λ (s : State g.row.A-UnwindData.Denot g.row.A-UnwindRule.Denot). length s.caches) c.self.view_is) in
+    let kept_slots : c.args.cache < length (slots_of_all caches) = omega (arith, length-map items rules_of, length-map caches (λ k. k.slots)) in
+    let read = c.index_mut-cache.result.now in
+    let kept_rules : c.args.cache < length caches = omega (arith, length-map items rules_of) in
+    let cached = ap (λ k. (rules_of k).slots) c.index_mut-cache.ensures.value
+    ∙ ap (λ k. k.slots) (sym (get_or-map rules_of items c.args.cache read (rules_of read) kept))
+    ∙ sym (get_or-map (λ k. k.slots) caches c.args.cache (rules_of read) (rules_of read).slots kept_rules) in
+    let key : Key = key_for (frame_of c.args.address) c.index.result.now.generation in
+    rw (map-set rules_of items c.args.cache c.unwind_frame.new.cache, map-set (λ k. k.slots) caches c.args.cache (rules_of c.unwind_frame.new.cache), c.unwind_frame.ensures.slots)
+    (sound_step_of m c.self.inside.generations loads (slots_of_all caches) (wants_memory c.unwind_frame.result) c.args.unwinder c.args.cache c.index.result.now (rules_of read).slots key there kept_slots c.index.ensures cached refl c.self.invariant)
+
+pub returns-clause-step : goal.returns-clause-step
+returns-clause-step g c =
+    let m = meanings g.A.UnwindRule.UnwindRule.meaning g.A.UnwindRule.UnwindRule.fallback g.A.Unwinding.attempt in
+    let loads = c.self.inside.unwinders.items in
+    let items = c.self.inside.caches.items in
+    let caches = map rules_of items in
+    let there : c.args.unwinder < length loads = omega (arith, ap (λ (s : State g.row.A-UnwindData.Denot g.row.A-UnwindRule.Denot). length s.unwinders) c.self.view_is) in
+    let kept : c.args.cache < length items = omega (arith, length-map items rules_of, ap (λ (s : State g.row.A-UnwindData.Denot g.row.A-UnwindRule.Denot). length s.caches) c.self.view_is) in
+    let kept_slots : c.args.cache < length (slots_of_all caches) = omega (arith, length-map items rules_of, length-map caches (λ k. k.slots)) in
+    let read = c.index_mut-cache.result.now in
+    let kept_rules : c.args.cache < length caches = omega (arith, length-map items rules_of) in
+    let cached = ap (λ k. (rules_of k).slots) c.index_mut-cache.ensures.value
+    ∙ ap (λ k. k.slots) (sym (get_or-map rules_of items c.args.cache read (rules_of read) kept))
+    ∙ sym (get_or-map (λ k. k.slots) caches c.args.cache (rules_of read) (rules_of read).slots kept_rules) in
+    let fits = fits_at m c.self.inside.generations loads (slots_of_all caches) c.args.unwinder c.args.cache c.index.result.now (rules_of read).slots there kept_slots c.index.ensures cached c.self.invariant in
+    let none : Loads (Loaded g.row.A-UnwindData.Denot) = record { modules = []; generation = 0 } in
+    let is : c.index.result.now ≡ unwinder_at c.args.self.now.unwinders c.args.unwinder =
+    c.index.ensures ∙ get_or_default loads c.args.unwinder c.index.result.now none there ∙ ap (λ (s : State g.row.A-UnwindData.Denot g.row.A-UnwindRule.Denot). unwinder_at s.unwinders c.args.unwinder) c.self.view_is in
+    record {
+      said = λ words answers wanted.
+          subst (λ (u : Loads (Loaded g.row.A-UnwindData.Denot)). IsStep c.unwind_frame.result c.args.regs.now c.unwind_frame.new.regs (judge m u.modules (frame_of c.args.address) c.args.regs.now words)) is
+          (c.unwind_frame.ensures.step.said words answers fits wanted);
+      still = c.unwind_frame.ensures.step.still;
+    }
+
+pub returns-clause-cache : goal.returns-clause-cache
+returns-clause-cache g c =
+    let D = g.row.A-UnwindData.Denot in
+    let R = g.row.A-UnwindRule.Denot in
+    let m = meanings g.A.UnwindRule.UnwindRule.meaning g.A.UnwindRule.UnwindRule.fallback g.A.Unwinding.attempt in
+    let loads = c.self.inside.unwinders.items in
+    let items = c.self.inside.caches.items in
+    let caches = map rules_of items in
+    let there : c.args.unwinder < length loads = omega (arith, ap (λ (s : State D R). length s.unwinders) c.self.view_is) in
+    let kept : c.args.cache < length items = omega (arith, length-map items rules_of, ap (λ (s : State D R). length s.caches) c.self.view_is) in
+    let read = c.index_mut-cache.result.now in
+    let empty : Kept R = record { slots = []; counts = no_counts } in
+    let none : Loads (Loaded D) = record { modules = []; generation = 0 } in
+    let u = c.index.result.now in
+    let w = wants_memory c.unwind_frame.result in
+    let frame = frame_of c.args.address in
+    let mine : u ≡ unwinder_at c.args.self.now.unwinders c.args.unwinder =
+    c.index.ensures ∙ get_or_default loads c.args.unwinder u none there ∙ ap (λ (s : State D R). unwinder_at s.unwinders c.args.unwinder) c.self.view_is in
+    let theirs : rules_of read ≡ cache_at c.args.self.now.caches c.args.cache =
+    ap rules_of c.index_mut-cache.ensures.value ∙ sym (get_or-map rules_of items c.args.cache read empty kept) ∙ ap (λ (s : State D R). cache_at s.caches c.args.cache) c.self.view_is in
+    map-set rules_of items c.args.cache c.unwind_frame.new.cache
+    ∙ ap (slice_set caches c.args.cache) (kept-is (rules_of c.unwind_frame.new.cache) _ _ c.unwind_frame.ensures.slots c.unwind_frame.ensures.counts
+    ∙ ap (λ (x : Loads (Loaded D)). cache_after m w frame x (rules_of read)) mine
+    ∙ ap (cache_after m w frame (unwinder_at c.args.self.now.unwinders c.args.unwinder)) theirs)
+    ∙ ap (λ (s : State D R). slice_set s.caches c.args.cache (cache_after m w frame (unwinder_at c.args.self.now.unwinders c.args.unwinder) (cache_at c.args.self.now.caches c.args.cache))) c.self.view_is

@@ -1,0 +1,34 @@
+-- A cache by the list of all keys that were kept in it.
+use Rattle.std.specs.Prelude.{ℕ, ◌≡◌, List, [], ◌∷◌, ◌++◌, length, Bool, Option, Some, None, option_map, if◌then◌else◌}
+use Rattle.framehop_rules.specs.LastKept.{last_key}
+use Rattle.framehop_rules.specs.Slots.{Key, Entry, Finding, Hits, EmptySlot, OtherModules, OtherAddress, finding_for, slot_of, entry_in}
+
+-- a key as it stands in a slot, whatever its rule
+abbrev pub bare_entry : Key → Entry (Unit {0})
+bare_entry key = record { key = key; rule = tt }
+
+-- what a look-up comes to after these keys were kept: the last of the slot decides
+abbrev pub finding_after : List Key → Key → Finding (Unit {0})
+finding_after keys key = finding_for key (option_map bare_entry (last_key keys (slot_of key.address)))
+
+-- the keys with one more, if there is a rule to keep
+abbrev pub with_key : {Rule : Type 0} → List Key → Key → Option Rule → List Key
+with_key keys key None = keys
+with_key keys key (Some rule) = keys ++ key ∷ []
+
+-- a look-up that found its rule keeps nothing
+abbrev pub with_missed_key : {Rule : Type 0} → List Key → Key → Option Rule → Finding (Unit {0}) → List Key
+with_missed_key keys key kept (Hits rule) = keys
+with_missed_key keys key kept EmptySlot = with_key keys key kept
+with_missed_key keys key kept OtherModules = with_key keys key kept
+with_missed_key keys key kept OtherAddress = with_key keys key kept
+
+-- the keys kept after a step under a key: one more exactly where the look-up missed and there is a rule to keep. Where memory was
+-- wanted nothing is kept
+abbrev pub keys_after : {Rule : Type 0} → Bool → (Key → Option Rule) → Key → List Key → List Key
+keys_after wanted kept key keys = if wanted then keys else with_missed_key keys key (kept key) (finding_after keys key)
+
+-- Of 509 slots, each has the last of the keys that were kept in it.
+pub record HasLastKeys {Rule : Type 0} (keys : List Key) (slots : List (Option (Entry Rule))) : Type 0 where
+  pub count : length slots ≡ 509
+  pub each : (slot : ℕ) → option_map (λ entry. entry.key) (entry_in slots slot) ≡ last_key keys slot

@@ -1,0 +1,12 @@
+pub mod Attempt
+pub mod CacheViews
+pub mod Frames
+pub mod History
+pub mod Judge
+pub mod Modules
+pub mod ModuleViews
+pub mod RulesKept
+pub mod State
+pub mod Trials
+pub mod Walk
+pub mod WalkViews

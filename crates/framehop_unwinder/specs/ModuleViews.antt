@@ -1,0 +1,13 @@
+-- A module as contracts see it.
+use Rattle.std.specs.String.{string_bytes}
+use Rattle.framehop_unwinder.specs.Modules.{Loaded}
+use Rattle.framehop_unwinder.specs.declared.module.ModuleInner.{ModuleInner}
+
+abbrev pub loaded : {Data : Type 0} → ModuleInner Data → Loaded Data
+loaded inner = record {
+  name = string_bytes inner.name;
+  start = inner.avma_range.start;
+  end = inner.avma_range.end;
+  base = inner.base_avma;
+  unwind_data = inner.unwind_data;
+}

@@ -1,0 +1,57 @@
+-- Unwinders and caches under one counter.
+use Rattle.std.specs.Prelude.{ℕ, ◌≡◌, ◌<◌, List, [], map, Bool, Option, None, replicate, slice_index_or}
+use Rattle.std.specs.List.{All}
+use Rattle.framehop_rules.specs.Slots.{Entry, Kept, no_counts, counts_after}
+use Rattle.framehop_unwinder.specs.Attempt.{Meanings}
+use Rattle.framehop_unwinder.specs.Frames.{Frame}
+use Rattle.framehop_unwinder.specs.Modules.{Loaded, Loads}
+use Rattle.framehop_unwinder.specs.RulesKept.{Fits, KeysBelow, rule_kept, key_for, finding_in, slots_after}
+
+-- The unwinders with their modules and generations, the next generation, and what stands in each cache.
+pub record State (Data Rule : Type 0) : Type 0 where
+  pub unwinders : List (Loads (Loaded Data))
+  pub next : ℕ
+  pub caches : List (Kept Rule)
+
+-- nothing, and the first generation
+abbrev pub empty_state : {Data Rule : Type 0} → ℕ → State Data Rule
+empty_state next = record { unwinders = []; next = next; caches = [] }
+
+-- an unwinder of a list
+abbrev pub unwinder_at : {Data : Type 0} → List (Loads (Loaded Data)) → ℕ → Loads (Loaded Data)
+unwinder_at unwinders i = slice_index_or unwinders i (record { modules = []; generation = 0 })
+
+-- a cache of a list
+abbrev pub cache_at : {Rule : Type 0} → List (Kept Rule) → ℕ → Kept Rule
+cache_at caches i = slice_index_or caches i (record { slots = []; counts = no_counts })
+
+-- a new cache, and an unwinder with modules and a generation
+abbrev pub new_cache : {Rule : Type 0} → Kept Rule
+new_cache = record { slots = replicate 509 None; counts = no_counts }
+
+abbrev pub loads_with : {Data : Type 0} → List (Loaded Data) → ℕ → Loads (Loaded Data)
+loads_with modules generation = record { modules = modules; generation = generation }
+
+-- a cache after a step of an unwinder from a frame
+abbrev pub cache_after : {Data Rule Registers : Type 0} → Meanings Data Rule Registers → Bool → Frame → Loads (Loaded Data)
+    → Kept Rule → Kept Rule
+cache_after m wanted frame loads cache = record {
+  slots = slots_after wanted (rule_kept m loads.modules) (key_for frame loads.generation) cache.slots;
+  counts = counts_after (finding_in cache.slots (key_for frame loads.generation)) cache.counts;
+}
+
+abbrev pub slots_of_all : {Rule : Type 0} → List (Kept Rule) → List (List (Option (Entry Rule)))
+slots_of_all caches = map (λ cache. cache.slots) caches
+
+-- two unwinders of one generation have the same modules
+abbrev pub AreOneBook : {Data : Type 0} → Loads (Loaded Data) → Loads (Loaded Data) → Type 0
+AreOneBook one other = one.generation ≡ other.generation → one.modules ≡ other.modules
+
+-- Why caches can be shared: generations and the keys that were kept are below the next number, unwinders of one generation
+-- have the same modules, and each cache fits each unwinder.
+pub record IsSound {Data Rule Registers : Type 0} (m : Meanings Data Rule Registers) (next : ℕ) (unwinders : List (Loads (Loaded Data)))
+    (caches : List (List (Option (Entry Rule)))) : Type 0 where
+  pub older : All (λ unwinder. unwinder.generation < next) unwinders
+  pub same : All (λ one. All (AreOneBook one) unwinders) unwinders
+  pub below : All (KeysBelow next) caches
+  pub fits : All (λ unwinder. All (Fits (rule_kept m unwinder.modules) unwinder.generation) caches) unwinders

@@ -1,0 +1,73 @@
+-- What a module's attempt answers and leaves, before any rule is executed.
+use Rattle.std.specs.Prelude.{◌≡◌, Bool, true, false, Option, Some, None, Result, Ok, Err}
+use Rattle.framehop_registers.specs.Callback.{Words}
+use Rattle.framehop_registers.specs.declared.error.Error.{Error}
+use Rattle.framehop_registers.specs.declared.error.Error.TheVariants.{CouldNotReadStack, FramepointerUnwindingMovedBackwards, DidNotAdvance, IntegerOverflow, ReturnAddressIsNull, OutOfMemory}
+use Rattle.framehop_rules.specs.Outcome.{Caller}
+use Rattle.framehop_unwinder.specs.Attempt.{Attempt, Says, Evaluates, SaysNothing}
+use Rattle.framehop_unwinder.specs.declared.unwinding.UnwindFailure.{UnwindFailure}
+use Rattle.framehop_unwinder.specs.declared.unwinding.UnwindFailure.TheVariants as failure
+use Rattle.framehop_unwinder.specs.declared.unwinding.UnwindResult.{UnwindResult}
+use Rattle.framehop_unwinder.specs.declared.unwinding.UnwindResult.TheVariants.{ExecRule, Uncacheable}
+
+-- an answer and the registers with it
+abbrev pub Trial : Type 0 → Type 0 → Type 0
+Trial Rule Registers = Result (UnwindResult Rule) UnwindFailure × Registers
+
+-- the caller of this frame, or none
+abbrev pub trial_of_caller : {Rule Registers : Type 0} → Registers → Option (Caller Registers) → Trial Rule Registers
+trial_of_caller registers (Some caller) = (Ok (Uncacheable caller.return_address), caller.registers)
+trial_of_caller registers None = (Err failure.OfFrame, registers)
+
+-- what an attempt answers, with the registers that it leaves
+abbrev pub trial : {Rule Registers : Type 0} → Registers → Words → Attempt Rule Registers → Trial Rule Registers
+trial registers words (Says rule) = (Ok (ExecRule rule), registers)
+trial registers words (Evaluates caller) = trial_of_caller registers (caller registers words)
+trial registers words SaysNothing = (Err failure.OfModule, registers)
+
+-- memory was wanted and refused
+abbrev pub has_wanted : {Rule : Type 0} → Result (UnwindResult Rule) UnwindFailure → Bool
+has_wanted (Ok answer) = false
+has_wanted (Err failure.OfModule) = false
+has_wanted (Err failure.OfFrame) = false
+has_wanted (Err failure.OutOfMemory) = true
+
+-- the rule that an answer has kept
+abbrev pub rule_of_result : {Rule : Type 0} → Rule → Result (UnwindResult Rule) UnwindFailure → Option Rule
+rule_of_result fallback (Ok (ExecRule rule)) = Some rule
+rule_of_result fallback (Ok (Uncacheable return_address)) = None
+rule_of_result fallback (Err failure.OfModule) = Some fallback
+rule_of_result fallback (Err failure.OfFrame) = None
+rule_of_result fallback (Err failure.OutOfMemory) = None
+
+-- a rule in an answer can be executed
+abbrev pub HasValidRule : {Rule : Type 0} → (Rule → Type 0) → Result (UnwindResult Rule) UnwindFailure → Type 0
+HasValidRule is_valid (Ok (ExecRule rule)) = is_valid rule
+HasValidRule is_valid (Ok (Uncacheable return_address)) = Unit {0}
+HasValidRule is_valid (Err failure) = Unit {0}
+
+-- only the answer of a caller changes the registers
+abbrev pub KeepsUnlessDirect : {Rule Registers : Type 0} → Result (UnwindResult Rule) UnwindFailure → Registers → Registers
+    → Type 0
+KeepsUnlessDirect (Ok (ExecRule rule)) before after = after ≡ before
+KeepsUnlessDirect (Ok (Uncacheable return_address)) before after = Unit {0}
+KeepsUnlessDirect (Err failure) before after = after ≡ before
+
+-- memory for a step was wanted and refused
+abbrev pub wants_memory : {A : Type 0} → Result A Error → Bool
+wants_memory (Ok answer) = false
+wants_memory (Err (CouldNotReadStack address)) = false
+wants_memory (Err FramepointerUnwindingMovedBackwards) = false
+wants_memory (Err DidNotAdvance) = false
+wants_memory (Err IntegerOverflow) = false
+wants_memory (Err ReturnAddressIsNull) = false
+wants_memory (Err OutOfMemory) = true
+
+-- an error that a step can answer: one of a rule's, or that memory was refused
+abbrev pub IsOfStep : Error → Type 0
+IsOfStep (CouldNotReadStack address) = Unit {0}
+IsOfStep FramepointerUnwindingMovedBackwards = Unit {0}
+IsOfStep DidNotAdvance = Unit {0}
+IsOfStep IntegerOverflow = Unit {0}
+IsOfStep ReturnAddressIsNull = ⊥
+IsOfStep OutOfMemory = Unit {0}

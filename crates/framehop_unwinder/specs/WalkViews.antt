@@ -1,0 +1,29 @@
+-- The place of an iterator over frames, and its answers, as contracts see them.
+use Rattle.std.specs.Prelude.{ℕ, Option, Result, Ok, Err, option_map}
+use Rattle.framehop_registers.specs.declared.code_address.FrameAddress.{FrameAddress}
+use Rattle.framehop_registers.specs.declared.error.Error.{Error}
+use Rattle.framehop_unwinder.specs.Frames.{Frame, frame_of}
+use Rattle.framehop_unwinder.specs.Walk.{Place, Starts, At, Over, Walk, Move}
+use Rattle.framehop_unwinder.specs.declared.iterator.StackWalk.{StackWalk}
+use Rattle.framehop_unwinder.specs.declared.iterator.UnwindIteratorState.{UnwindIteratorState}
+use Rattle.framehop_unwinder.specs.declared.iterator.UnwindIteratorState.TheVariants.{Initial, Unwinding, Done}
+
+abbrev pub place_of : UnwindIteratorState → Place
+place_of (Initial pc) = Starts pc
+place_of (Unwinding address) = At (frame_of address)
+place_of Done = Over
+
+abbrev pub frame_answer : Result (Option FrameAddress) Error → Result (Option Frame) Error
+frame_answer (Ok answer) = Ok (option_map frame_of answer)
+frame_answer (Err error) = Err error
+
+-- a walk that is made move by move
+abbrev pub walk_of : {Registers : Type 0} → StackWalk Registers → Walk Registers
+walk_of walk = record { place = place_of walk.state; registers = walk.regs }
+
+abbrev pub walk_from : {Registers : Type 0} → ℕ → Registers → Walk Registers
+walk_from pc registers = record { place = Starts pc; registers = registers }
+
+-- an answer, and where the walk is then
+abbrev pub move_made : {Registers : Type 0} → Result (Option Frame) Error → StackWalk Registers → Move Registers
+move_made answer walk = record { answer = answer; walk = walk_of walk }

@@ -1,0 +1,125 @@
+//! A walk over the frames of a stack.
+ghost use Rattle.std.specs.Prelude.{◌≡◌, false, true, IfErr};
+ghost use Rattle.framehop_registers.specs.Callback.{OverWords};
+ghost use Rattle.framehop_unwinder.specs.Trials.{wants_memory};
+ghost use Rattle.framehop_unwinder.specs.Walk.{Walk, move, Starts};
+ghost use Rattle.framehop_unwinder.specs.WalkViews.{place_of, frame_answer};
+
+use crate::unwinders::Unwinder;
+use framehop_rules::{Error, FrameAddress};
+
+/// Where a walk is.
+#[derive(Debug, Clone, Copy, PartialEq, Eq)]
+pub(crate) enum UnwindIteratorState {
+    Initial(u64),
+    Unwinding(FrameAddress),
+    Done,
+}
+
+/// The frames of a stack, one after the other.
+#[derive(Drop)]
+pub struct UnwindIterator<'u, 'c, 'r, U: Unwinder, F> {
+    unwinder: &'u U,
+    state: UnwindIteratorState,
+    regs: U::UnwindRegs,
+    cache: &'c mut U::Cache,
+    read_stack: &'r mut F,
+}
+
+impl<'u, 'c, 'r, U: Unwinder, F: FnMut(u64) -> Result<u64, ()>> UnwindIterator<'u, 'c, 'r, U, F> {
+    /// A walk from a frame at the instruction pointer `pc` with these registers.
+    pub fn new(
+        unwinder: &'u U,
+        pc: u64,
+        regs: U::UnwindRegs,
+        cache: &'c mut U::Cache,
+        read_stack: &'r mut F,
+    ) -> Self
+        ensures unwinder { result.unwinder.now ≡ unwinder.now }
+        ensures place { place_of result.state ≡ Starts pc }
+        ensures regs { result.regs ≡ regs }
+        ensures cache { result.cache ≡ cache.entry }
+        ensures read_stack { result.read_stack ≡ read_stack.entry }
+    {
+        UnwindIterator {
+            unwinder,
+            state: UnwindIteratorState::Initial(pc),
+            regs,
+            cache,
+            read_stack,
+        }
+    }
+
+    /// The next frame, `None` at the end of the stack and from then on. The first is the instruction
+    /// pointer. After an error the walk is where it was, and the next call makes the step again.
+    pub fn next(&mut self) -> Result<Option<FrameAddress>, Error>
+        requires { F.IsAlwaysCallable self.old.read_stack.now }
+        ensures callable { F.IsAlwaysCallable self.new.read_stack.now }
+        ensures moved { OverWords F.step self.old.read_stack.now self.new.read_stack.now (λ words.
+            U.fits self.old.unwinder.now self.old.cache.now → wants_memory result ≡ false
+            → record {
+              answer = frame_answer result;
+              walk = record { place = place_of self.new.state; registers = self.new.regs };
+            }
+            ≡ move (U.judgment self.old.unwinder.now) words
+            (record { place = place_of self.old.state; registers = self.old.regs })) }
+        ensures fits { U.fits self.old.unwinder.now self.old.cache.now
+            → U.fits self.new.unwinder.now self.new.cache.now }
+        ensures wanting { wants_memory result ≡ true
+            → (self.new.state ≡ self.old.state) × (self.new.regs ≡ self.old.regs) }
+        ensures memory { U.takes_memory ≡ false → wants_memory result ≡ false }
+        ensures unwinder { self.new.unwinder ≡ self.old.unwinder }
+        ensures same_cache { self.new.cache.ghost_name ≡ self.old.cache.ghost_name }
+        ensures same_stack { self.new.read_stack.ghost_name ≡ self.old.read_stack.ghost_name }
+    {
+        let address = match self.state {
+            UnwindIteratorState::Initial(pc) => {
+                let first = FrameAddress::from_instruction_pointer(pc);
+                self.state = UnwindIteratorState::Unwinding(first);
+                return Ok(Some(first));
+            }
+            UnwindIteratorState::Unwinding(address) => address,
+            UnwindIteratorState::Done => return Ok(None),
+        };
+        let answer = self
+            .unwinder
+            .unwind_frame(address, &mut self.regs, self.cache, self.read_stack)?;
+        let Some(return_address) = answer else {
+            self.state = UnwindIteratorState::Done;
+            return Ok(None);
+        };
+        let Some(next) = FrameAddress::from_return_address(return_address) else {
+            return Err(Error::ReturnAddressIsNull);
+        };
+        self.state = UnwindIteratorState::Unwinding(next);
+        Ok(Some(next))
+    }
+}
+
+/// Where a walk is, and the registers there, for a walk that is made move by move.
+#[derive(Debug, Clone, Copy)]
+pub struct StackWalk<R> {
+    pub(crate) state: UnwindIteratorState,
+    pub(crate) regs: R,
+}
+
+impl<R: Copy> StackWalk<R> {
+    ghost use Rattle.framehop_unwinder.specs.WalkViews.{walk_of, walk_from};
+
+    /// A walk from a frame at the instruction pointer `pc` with these registers.
+    pub fn new(pc: u64, regs: R) -> Self
+        ensures { walk_of result ≡ walk_from pc regs }
+    {
+        StackWalk {
+            state: UnwindIteratorState::Initial(pc),
+            regs,
+        }
+    }
+
+    /// The registers of the frame that the walk is at.
+    pub fn regs(&self) -> R
+        ensures { result ≡ (walk_of self.now).registers }
+    {
+        self.regs
+    }
+}

@@ -1,0 +1,58 @@
+//! Laws of caches that are shared. The functions do nothing when the program runs.
+ghost use Rattle.std.specs.Prelude.{◌≡◌, ◌<◌, ◌+◌, ℕ, Bool, List, [], Option, None, Result, replicate};
+ghost use Rattle.framehop_registers.specs.declared.error.Error.{Error};
+ghost use Rattle.framehop_rules.specs.Outcome.{Outcome, Caller, IsStep};
+ghost use Rattle.framehop_rules.specs.Slots.{Key, Entry, counts_after};
+ghost use Rattle.framehop_rules.specs.declared.rule_cache.CacheStats.{CacheStats};
+ghost use Rattle.framehop_unwinder.specs.History.{HasLastKeys, finding_after, keys_after};
+ghost use Rattle.framehop_unwinder.specs.RulesKept.{Fits, KeysBelow, finding_in, slots_after};
+
+use framehop_rules::{Arch, UnwindRule};
+
+/// A step through a cache leaves it fitting the unwinder that made it, and every other whose
+/// generation differs or which keeps the same rule for the key of the step.
+pub fn fits_after_step<R: UnwindRule>()
+    ensures fits { (wanted : Bool) (mine theirs : Key → Option R) (generation : ℕ)
+        (key : Key) (slots : List (Option (Entry R)))
+        → (key.generation ≡ generation → theirs key ≡ mine key)
+        → Fits theirs generation slots
+        → Fits theirs generation (slots_after wanted mine key slots) }
+    ensures below { (wanted : Bool) (mine : Key → Option R) (next : ℕ)
+        (key : Key) (slots : List (Option (Entry R)))
+        → key.generation < next → KeysBelow next slots
+        → KeysBelow next (slots_after wanted mine key slots) }
+{}
+
+/// A cache fits an unwinder with a generation that none of its keys has, and a new cache fits all.
+pub fn fits_if_new<R: UnwindRule>()
+    ensures fits { (theirs : Key → Option R) (generation : ℕ) (slots : List (Option (Entry R)))
+        → KeysBelow generation slots → Fits theirs generation slots }
+    ensures more { (next : ℕ) (slots : List (Option (Entry R)))
+        → KeysBelow next slots → KeysBelow (next + 1) slots }
+    ensures empty { (theirs : Key → Option R) (generation : ℕ)
+        → Fits theirs generation (replicate 509 None) }
+    ensures empty_below { (next : ℕ) → KeysBelow {Rule = R} next (replicate 509 None) }
+{}
+
+/// What a cache keeps and counts, by the list of all keys that were kept in it: each slot has the
+/// last key of its remainder, which decides what a look-up is counted as, and whether its step
+/// keeps its key.
+pub fn keys_after_step<R: UnwindRule>()
+    ensures empty { HasLastKeys {Rule = R} [] (replicate 509 None) }
+    ensures kept { (wanted : Bool) (kept : Key → Option R) (key : Key) (keys : List Key)
+        (slots : List (Option (Entry R))) → HasLastKeys keys slots
+        → HasLastKeys (keys_after wanted kept key keys) (slots_after wanted kept key slots) }
+    ensures counts { (key : Key) (keys : List Key) (slots : List (Option (Entry R)))
+        (counts : CacheStats) → HasLastKeys keys slots
+        → counts_after (finding_in slots key) counts
+        ≡ counts_after (finding_after keys key) counts }
+{}
+
+/// Two steps that come to the same, as those through a shared cache and a new one, give the same
+/// answer and leave the same registers.
+pub fn equal_steps<A: Arch>()
+    ensures { (one other : Result (Option ℕ) Error) (old new also : A.UnwindRegs)
+        (outcome : Outcome (Caller A.UnwindRegs))
+        → IsStep one old new outcome → IsStep other old also outcome
+        → (one ≡ other) × (new ≡ also) }
+{}

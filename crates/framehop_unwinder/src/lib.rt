@@ -1,0 +1,23 @@
+//! The step of a stack walk through a cache of rules, walks, and unwinders that share caches, on any
+//! architecture and whatever modules are unwound by.
+#![tactic(auto)]
+
+mod cache;
+mod impls;
+mod iterator;
+pub mod laws;
+mod module;
+mod session;
+mod unwinder;
+mod unwinders;
+mod unwinding;
+
+pub use cache::Cache;
+pub use framehop_modules::{Generations, GenerationsExhausted, LoadError};
+pub use framehop_rules::{Arch, CacheStats, Error, FrameAddress, UnwindRule};
+pub use iterator::{StackWalk, UnwindIterator};
+pub use module::Module;
+pub use session::{AddUnwinderError, Session};
+pub use unwinder::UnwinderInternal;
+pub use unwinders::Unwinder;
+pub use unwinding::{UnwindFailure, UnwindResult, Unwinding};

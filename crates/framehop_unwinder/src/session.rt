@@ -1,0 +1,260 @@
+//! Many unwinders, which share caches under one counter of generations.
+ghost use Rattle.std.specs.Prelude.{◌≡◌, ◌<◌, ◌+◌, ◌^◌, ◌-◌, ◌∷◌, ◌++◌, [], true, false, Ok, Err, None, length, replicate, slice_set, IfOk, IfErr, OnOk, OnErr};
+ghost use Rattle.framehop_registers.specs.Callback.{OverWords};
+ghost use Rattle.framehop_rules.specs.Outcome.{IsStep};
+ghost use Rattle.framehop_modules.specs.LoadErrors.{module_returned};
+ghost use Rattle.framehop_unwinder.specs.Attempt.{meanings};
+ghost use Rattle.framehop_unwinder.specs.Frames.{frame_of};
+ghost use Rattle.framehop_unwinder.specs.Judge.{judge};
+ghost use Rattle.framehop_unwinder.specs.Modules.{with_module, without_module, has_start};
+ghost use Rattle.framehop_unwinder.specs.State.{empty_state, unwinder_at, cache_at, cache_after, new_cache, loads_with};
+ghost use Rattle.framehop_unwinder.specs.Trials.{wants_memory, IsOfStep};
+ghost use Rattle.framehop_unwinder.specs.Walk.{move};
+ghost use Rattle.framehop_unwinder.specs.WalkViews.{frame_answer, move_made, walk_of};
+
+use crate::cache::Cache;
+use crate::iterator::{StackWalk, UnwindIteratorState};
+use crate::module::Module;
+use crate::unwinder::UnwinderInternal;
+use crate::unwinding::Unwinding;
+use framehop_modules::{Generations, GenerationsExhausted, LoadError};
+use framehop_rules::{CacheStats, Error, FrameAddress};
+use std::alloc::{AllocError, Global};
+use std::marker::Model;
+
+/// Unwinders and caches under one counter of generations. Any cache serves any of the unwinders,
+/// whatever was loaded, unloaded and cloned before: each step is the one that the modules loaded now
+/// give without a cache.
+#[derive(Drop)]
+pub struct Session<A: Unwinding> {
+    unwinders: Vec<UnwinderInternal<A>>,
+    caches: Vec<Cache<A::UnwindRule, A::UnwindContext>>,
+    generations: Generations,
+}
+
+impl<A: Unwinding> Model for Session<A> {
+    ghost use Rattle.std.specs.Prelude.{map};
+    ghost use Rattle.framehop_unwinder.specs.Attempt.{meanings};
+    ghost use Rattle.framehop_unwinder.specs.CacheViews.{rules_of};
+    ghost use Rattle.framehop_unwinder.specs.State.{State, IsSound, slots_of_all};
+
+    ghost Value = { State A.UnwindData A.UnwindRule };
+
+    ghost view = { λ session. record {
+      unwinders = session.unwinders.items;
+      next = session.generations;
+      caches = map rules_of session.caches.items;
+    } };
+
+    ghost invariant = { λ session.
+        IsSound (meanings A.UnwindRule.meaning A.UnwindRule.fallback A.attempt) session.generations
+        session.unwinders.items (slots_of_all (map rules_of session.caches.items)) };
+}
+
+/// Why an unwinder was not made.
+#[derive(Debug, Clone, Copy, PartialEq, Eq)]
+pub enum AddUnwinderError {
+    /// The counter gave all its numbers.
+    GenerationsExhausted,
+    /// Memory for the list of unwinders was refused. A number is gone.
+    OutOfMemory,
+}
+
+impl<A: Unwinding> Session<A> {
+    /// No unwinder and no cache, and a counter of which no number was taken yet.
+    pub fn new(alloc: Global, generations: Generations) -> Self
+        ensures { result ≡ empty_state generations }
+    {
+        Session {
+            unwinders: Vec::new(alloc),
+            caches: Vec::new(alloc),
+            generations,
+        }
+    }
+
+    /// How many unwinders there are.
+    pub fn unwinders(&self) -> usize
+        ensures { result ≡ length self.now.unwinders }
+    {
+        self.unwinders.len()
+    }
+
+    /// How many caches there are.
+    pub fn caches(&self) -> usize
+        ensures { result ≡ length self.now.caches }
+    {
+        self.caches.len()
+    }
+
+    /// Makes a new cache, the last, with this room.
+    pub fn add_cache(
+        &mut self,
+        alloc: Global,
+        unwind_context: A::UnwindContext,
+    ) -> Result<(), AllocError>
+        ensures ok { OnOk result (self.new
+            ≡ record self.old { caches = self.old.caches ++ new_cache ∷ [] }) }
+        ensures refused { OnErr result (self.new ≡ self.old) }
+    {
+        let cache = Cache::new(alloc, unwind_context)?;
+        self.caches.push(cache)?;
+        Ok(())
+    }
+
+    /// Makes a new unwinder without a module, the last.
+    pub fn add_unwinder(&mut self, alloc: Global) -> Result<(), AddUnwinderError>
+        ensures ok { let unwinder = loads_with [] self.old.next in
+            OnOk result (self.new ≡ record self.old {
+              unwinders = self.old.unwinders ++ unwinder ∷ [];
+              next = self.old.next + 1;
+            }) }
+        ensures unwinders { OnErr result (self.new.unwinders ≡ self.old.unwinders) }
+        ensures caches { OnErr result (self.new.caches ≡ self.old.caches) }
+    {
+        let Ok(unwinder) = UnwinderInternal::new(alloc, &mut self.generations) else {
+            return Err(AddUnwinderError::GenerationsExhausted);
+        };
+        match self.unwinders.push(unwinder) {
+            Ok(()) => Ok(()),
+            Err(_) => Err(AddUnwinderError::OutOfMemory),
+        }
+    }
+
+    /// Makes an unwinder, the last, with the modules and the generation of another.
+    pub fn clone_unwinder(&mut self, alloc: Global, unwinder: usize) -> Result<(), AllocError>
+        requires { unwinder < length self.old.unwinders }
+        ensures ok { let clone = unwinder_at self.old.unwinders unwinder in
+            OnOk result (self.new ≡ record self.old { unwinders = self.old.unwinders ++ clone ∷ [] }) }
+        ensures refused { OnErr result (self.new ≡ self.old) }
+    {
+        let clone = self.unwinders[unwinder].try_clone(alloc)?;
+        self.unwinders.push(clone)?;
+        Ok(())
+    }
+
+    /// Loads a module in an unwinder.
+    pub fn load(
+        &mut self,
+        unwinder: usize,
+        module: Module<A::UnwindData>,
+    ) -> Result<(), LoadError<Module<A::UnwindData>>>
+        requires { unwinder < length self.old.unwinders }
+        ensures ok { let modules = (unwinder_at self.old.unwinders unwinder).modules in
+            let loads = loads_with (with_module (λ m. m.start) «module» modules) self.old.next in
+            OnOk result (self.new ≡ record self.old {
+              unwinders = slice_set self.old.unwinders unwinder loads;
+              next = self.old.next + 1;
+            }) }
+        ensures exhausted { self.old.next ≡ 2 ^ 64 - 1
+            → result ≡ Err (LoadError.GenerationsExhausted «module») }
+        ensures returned { IfErr result (λ error. module_returned error ≡ «module») }
+        ensures refused { OnErr result (self.new ≡ self.old) }
+    {
+        self.unwinders[unwinder].add_module(&mut self.generations, module)
+    }
+
+    /// Unloads the last of the modules of an unwinder that start at an address, if one does.
+    pub fn unload(&mut self, unwinder: usize, start: u64) -> Result<(), GenerationsExhausted>
+        requires { unwinder < length self.old.unwinders }
+        ensures unknown { let modules = (unwinder_at self.old.unwinders unwinder).modules in
+            has_start (λ m. m.start) start modules ≡ false
+            → (result ≡ Ok tt) × (self.new ≡ self.old) }
+        ensures ok { let modules = (unwinder_at self.old.unwinders unwinder).modules in
+            let loads = loads_with (without_module (λ m. m.start) start modules) self.old.next in
+            has_start (λ m. m.start) start modules ≡ true
+            → OnOk result (self.new ≡ record self.old {
+              unwinders = slice_set self.old.unwinders unwinder loads;
+              next = self.old.next + 1;
+            }) }
+        ensures exhausted { OnErr result (self.old.next ≡ 2 ^ 64 - 1) }
+        ensures refused { OnErr result (self.new ≡ self.old) }
+    {
+        self.unwinders[unwinder].remove_module(&mut self.generations, start)
+    }
+
+    /// How many look-ups in a cache found a rule so far, and why the others didn't.
+    pub fn stats(&self, cache: usize) -> CacheStats
+        requires { cache < length self.now.caches }
+        ensures { result ≡ (cache_at self.now.caches cache).counts }
+    {
+        self.caches[cache].stats()
+    }
+
+    /// Makes the step of an unwinder from a frame with these registers, with any of the caches.
+    pub fn step<F: FnMut(u64) -> Result<u64, ()>>(
+        &mut self,
+        unwinder: usize,
+        cache: usize,
+        address: FrameAddress,
+        regs: &mut A::UnwindRegs,
+        read_stack: &mut F,
+    ) -> Result<Option<u64>, Error>
+        requires callable { F.IsAlwaysCallable read_stack.old }
+        requires unwinder { unwinder < length self.old.unwinders }
+        requires cache { cache < length self.old.caches }
+        ensures callable { F.IsAlwaysCallable read_stack.new }
+        ensures step { let m = meanings A.UnwindRule.meaning A.UnwindRule.fallback A.attempt in
+            let modules = (unwinder_at self.old.unwinders unwinder).modules in
+            OverWords F.step read_stack.old read_stack.new (λ words. wants_memory result ≡ false
+            → IsStep result regs.old regs.new (judge m modules (frame_of address) regs.old words)) }
+        ensures unwinders { self.new.unwinders ≡ self.old.unwinders }
+        ensures next { self.new.next ≡ self.old.next }
+        ensures cache { let m = meanings A.UnwindRule.meaning A.UnwindRule.fallback A.attempt in
+            let loads = unwinder_at self.old.unwinders unwinder in
+            let old = cache_at self.old.caches cache in
+            self.new.caches ≡ slice_set self.old.caches cache
+            (cache_after m (wants_memory result) (frame_of address) loads old) }
+        ensures none_keeps { result ≡ Ok None → regs.new ≡ regs.old }
+        ensures error_keeps { OnErr result (regs.new ≡ regs.old) }
+        ensures refusals { IfErr result IsOfStep }
+        ensures memory { A.takes_memory ≡ false → wants_memory result ≡ false }
+    {
+        let cache = &mut self.caches[cache];
+        self.unwinders[unwinder].unwind_frame(address, regs, cache, read_stack)
+    }
+
+    /// Makes the next move of a walk over an unwinder's frames, with any of the caches: answers the
+    /// next frame, or `None` at the end of the stack and from then on. The first frame is the
+    /// instruction pointer. After an error the walk is where it was.
+    pub fn next_frame<F: FnMut(u64) -> Result<u64, ()>>(
+        &mut self,
+        unwinder: usize,
+        cache: usize,
+        walk: &mut StackWalk<A::UnwindRegs>,
+        read_stack: &mut F,
+    ) -> Result<Option<FrameAddress>, Error>
+        requires callable { F.IsAlwaysCallable read_stack.old }
+        requires unwinder { unwinder < length self.old.unwinders }
+        requires cache { cache < length self.old.caches }
+        ensures callable { F.IsAlwaysCallable read_stack.new }
+        ensures moved { let m = meanings A.UnwindRule.meaning A.UnwindRule.fallback A.attempt in
+            let modules = (unwinder_at self.old.unwinders unwinder).modules in
+            OverWords F.step read_stack.old read_stack.new (λ words. wants_memory result ≡ false
+            → move_made (frame_answer result) walk.new ≡ move (judge m modules) words (walk_of walk.old)) }
+        ensures wanting { wants_memory result ≡ true → walk.new ≡ walk.old }
+        ensures unwinders { self.new.unwinders ≡ self.old.unwinders }
+        ensures next { self.new.next ≡ self.old.next }
+        ensures caches { length self.new.caches ≡ length self.old.caches }
+        ensures memory { A.takes_memory ≡ false → wants_memory result ≡ false }
+    {
+        let address = match walk.state {
+            UnwindIteratorState::Initial(pc) => {
+                let first = FrameAddress::from_instruction_pointer(pc);
+                walk.state = UnwindIteratorState::Unwinding(first);
+                return Ok(Some(first));
+            }
+            UnwindIteratorState::Unwinding(address) => address,
+            UnwindIteratorState::Done => return Ok(None),
+        };
+        let answer = self.step(unwinder, cache, address, &mut walk.regs, read_stack)?;
+        let Some(return_address) = answer else {
+            walk.state = UnwindIteratorState::Done;
+            return Ok(None);
+        };
+        let Some(next) = FrameAddress::from_return_address(return_address) else {
+            return Err(Error::ReturnAddressIsNull);
+        };
+        walk.state = UnwindIteratorState::Unwinding(next);
+        Ok(Some(next))
+    }
+}

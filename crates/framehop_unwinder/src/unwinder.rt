@@ -1,0 +1,342 @@
+//! The modules of a process, and the step of a stack walk.
+ghost use Rattle.std.specs.Prelude.{◌≡◌, ◌+◌, ◌-◌, ◌^◌, ◌<◌, ◌≤◌, [], true, false, Some, None, Ok, Err, List, length, insert, remove, IfOk, IfErr, OnOk, OnErr, IfNone, IfSome};
+ghost use Rattle.std.specs.List.Sorted.{IsNonDecreasingBy};
+ghost use Rattle.framehop_registers.specs.Callback.{OverWords};
+ghost use Rattle.framehop_rules.specs.Outcome.{IsStep};
+ghost use Rattle.framehop_rules.specs.Slots.{key_of, counts_after};
+ghost use Rattle.framehop_modules.specs.LoadErrors.{module_returned};
+ghost use Rattle.framehop_unwinder.specs.Attempt.{meanings, attempt_at};
+ghost use Rattle.framehop_unwinder.specs.CacheViews.{rules_of};
+ghost use Rattle.framehop_unwinder.specs.Frames.{frame_of};
+ghost use Rattle.framehop_unwinder.specs.Judge.{judge, judge_at};
+ghost use Rattle.framehop_unwinder.specs.Modules.{Loaded, nearest_module, module_found, with_module, without_module, has_start, last_end};
+ghost use Rattle.framehop_unwinder.specs.RulesKept.{Fits, rule_kept, key_for, finding_in, slots_after};
+ghost use Rattle.framehop_unwinder.specs.Trials.{trial, has_wanted, rule_of_result, HasValidRule, KeepsUnlessDirect, wants_memory, IsOfStep};
+
+use crate::cache::Cache;
+use crate::module::Module;
+use crate::unwinding::{UnwindFailure, UnwindResult, Unwinding};
+use framehop_modules::{Generations, GenerationsExhausted, LoadError};
+use framehop_rules::{CacheResult, Error, FrameAddress, UnwindRule};
+use std::alloc::{AllocError, Global};
+use std::marker::Model;
+
+/// The modules of a process, in the order of their starts. Modules of equal starts stand with the
+/// last loaded first.
+#[derive(Drop)]
+pub struct UnwinderInternal<A: Unwinding> {
+    modules: Vec<Module<A::UnwindData>>,
+    generation: u64,
+}
+
+impl<A: Unwinding> Model for UnwinderInternal<A> {
+    ghost use Rattle.std.specs.List.Sorted.{IsNonDecreasingBy};
+    ghost use Rattle.framehop_unwinder.specs.Modules.{Loaded, Loads};
+
+    ghost Value = { Loads (Loaded A.UnwindData) };
+
+    ghost view = { λ unwinder. record { modules = unwinder.modules.items; generation = unwinder.generation } };
+
+    ghost invariant = { λ unwinder. IsNonDecreasingBy (λ module_. module_.start) unwinder.modules.items };
+}
+
+/// The last of the modules that start at or below an address.
+fn nearest_module<D>(modules: &[Module<D>], address: u64) -> Option<&Module<D>>
+    requires { IsNonDecreasingBy (λ module_. module_.start) modules.now }
+    ensures none { IfNone result (nearest_module modules.now address ≡ None) }
+    ensures some { IfSome result (λ module_. nearest_module modules.now address ≡ Some module_.now) }
+{
+    let index = modules
+        .partition_point(|module| module.start() <= address)
+        .checked_sub(1)?;
+    Some(&modules[index])
+}
+
+/// The module that an address is in, and the address relative to its base.
+fn module_for_address<D>(modules: &[Module<D>], address: u64) -> Option<(&Module<D>, u32)>
+    requires { IsNonDecreasingBy (λ module_. module_.start) modules.now }
+    ensures none { IfNone result (module_found modules.now address ≡ None) }
+    ensures module_ { IfSome result (λ found. module_found modules.now address ≡ Some found.0.now) }
+    ensures relative { IfSome result (λ found. found.1 ≡ address - found.0.now.base) }
+{
+    let module = nearest_module(modules, address)?;
+    let relative_address = module.relative_address(address)?;
+    Some((module, relative_address))
+}
+
+/// Where a module with this start goes: before those of an equal or a greater one.
+fn place_for<D>(modules: &[Module<D>], start: u64) -> usize
+    requires { IsNonDecreasingBy (λ module_. module_.start) modules.now }
+    ensures inside { result ≤ length modules.now }
+    ensures place { (module_ : Loaded D) → module_.start ≡ start
+        → insert modules.now result module_ ≡ with_module (λ m. m.start) module_ modules.now }
+    ensures order { (module_ : Loaded D) → module_.start ≡ start
+        → IsNonDecreasingBy (λ m. m.start) (insert modules.now result module_) }
+{
+    modules.partition_point(|other| other.start() < start)
+}
+
+/// Where the last of the modules with this start is.
+fn last_with_start<D>(modules: &[Module<D>], start: u64) -> Option<usize>
+    requires { IsNonDecreasingBy (λ module_. module_.start) modules.now }
+    ensures none { IfNone result (has_start (λ m. m.start) start modules.now ≡ false) }
+    ensures some { IfSome result (λ _. has_start (λ m. m.start) start modules.now ≡ true) }
+    ensures inside { IfSome result (λ index. index < length modules.now) }
+    ensures without { IfSome result (λ index. remove modules.now index
+        ≡ without_module (λ m. m.start) start modules.now) }
+    ensures order { IfSome result (λ index. IsNonDecreasingBy (λ m. m.start) (remove modules.now index)) }
+{
+    let index = modules
+        .partition_point(|module| module.start() <= start)
+        .checked_sub(1)?;
+    if modules[index].start() == start {
+        Some(index)
+    } else {
+        None
+    }
+}
+
+/// The same modules, shared.
+fn clones_of<D: Drop>(alloc: Global, modules: &[Module<D>]) -> Result<Vec<Module<D>>, AllocError>
+    ensures { IfOk result (λ clones. clones.items ≡ modules.now) }
+{
+    let mut clones = Vec::with_capacity(alloc, modules.len())?;
+    for module in modules {
+        clones.push(module.try_clone()?)?;
+    }
+    Ok(clones)
+}
+
+impl<A: Unwinding> UnwinderInternal<A> {
+    /// An unwinder without a module. Takes a generation, or is refused where none is left.
+    pub fn new(alloc: Global, generations: &mut Generations) -> Result<Self, GenerationsExhausted>
+        ensures ok { IfOk result (λ unwinder.
+            unwinder ≡ record { modules = []; generation = generations.old }) }
+        ensures taken { OnOk result (generations.new ≡ generations.old + 1) }
+        ensures refused { OnErr result (generations.old ≡ 2 ^ 64 - 1) }
+        ensures same { OnErr result (generations.new ≡ generations.old) }
+    {
+        let generation = generations.try_take()?;
+        Ok(UnwinderInternal {
+            modules: Vec::new(alloc),
+            generation,
+        })
+    }
+
+    /// An unwinder with the same modules and the same generation.
+    pub fn try_clone(&self, alloc: Global) -> Result<Self, AllocError>
+        ensures { IfOk result (λ unwinder. unwinder ≡ self.now) }
+    {
+        Ok(UnwinderInternal {
+            modules: clones_of(alloc, &self.modules)?,
+            generation: self.generation,
+        })
+    }
+
+    /// Puts a module before those of an equal or a greater start, and takes a generation. Where no
+    /// generation is left, or else memory for the list is refused, the module comes back and nothing
+    /// changes.
+    pub fn add_module(
+        &mut self,
+        generations: &mut Generations,
+        module: Module<A::UnwindData>,
+    ) -> Result<(), LoadError<Module<A::UnwindData>>>
+        ensures modules { OnOk result
+            (self.new.modules ≡ with_module (λ m. m.start) «module» self.old.modules) }
+        ensures generation { OnOk result (self.new.generation ≡ generations.old) }
+        ensures taken { OnOk result (generations.new ≡ generations.old + 1) }
+        ensures exhausted { generations.old ≡ 2 ^ 64 - 1
+            → result ≡ Err (LoadError.GenerationsExhausted «module») }
+        ensures returned { IfErr result (λ error. module_returned error ≡ «module») }
+        ensures same { OnErr result (self.new ≡ self.old) }
+        ensures untaken { OnErr result (generations.new ≡ generations.old) }
+    {
+        if generations.left() == 0 {
+            return Err(LoadError::GenerationsExhausted(module));
+        }
+        let index = place_for(&self.modules, module.start());
+        match self.modules.insert(index, module) {
+            Ok(()) => {
+                self.generation = generations.take();
+                Ok(())
+            }
+            Err(failed) => Err(LoadError::OutOfMemory(failed.value)),
+        }
+    }
+
+    /// Takes out the last of the modules that start at an address, and takes a generation. Where
+    /// none starts there, nothing changes and no generation is taken; where none is left, nothing
+    /// changes.
+    pub fn remove_module(
+        &mut self,
+        generations: &mut Generations,
+        module_avma_range_start: u64,
+    ) -> Result<(), GenerationsExhausted>
+        ensures unknown { has_start (λ m. m.start) module_avma_range_start self.old.modules ≡ false
+            → (result ≡ Ok tt) × (self.new ≡ self.old) × (generations.new ≡ generations.old) }
+        ensures modules { OnOk result (self.new.modules
+            ≡ without_module (λ m. m.start) module_avma_range_start self.old.modules) }
+        ensures generation { has_start (λ m. m.start) module_avma_range_start self.old.modules ≡ true
+            → OnOk result (self.new.generation ≡ generations.old) }
+        ensures taken { has_start (λ m. m.start) module_avma_range_start self.old.modules ≡ true
+            → OnOk result (generations.new ≡ generations.old + 1) }
+        ensures refused { OnErr result (generations.old ≡ 2 ^ 64 - 1) }
+        ensures same { OnErr result (self.new ≡ self.old) }
+        ensures untaken { OnErr result (generations.new ≡ generations.old) }
+    {
+        let Some(index) = last_with_start(&self.modules, module_avma_range_start) else {
+            return Ok(());
+        };
+        self.generation = generations.try_take()?;
+        self.modules.remove(index);
+        Ok(())
+    }
+
+    /// The end of the last module, else 0.
+    pub fn max_known_code_address(&self) -> u64
+        ensures { result ≡ last_end (λ m. m.end) self.now.modules }
+    {
+        match self.modules.last() {
+            Some(module) => module.end(),
+            None => 0,
+        }
+    }
+
+    /// The number that the list of modules is told by.
+    fn generation(&self) -> u64
+        ensures { result ≡ self.now.generation }
+    {
+        self.generation
+    }
+
+    /// What the module that an address is in says of a frame that is looked up by it. Without a
+    /// module nothing is said.
+    fn attempt<F: FnMut(u64) -> Result<u64, ()>>(
+        &self,
+        address: u64,
+        is_first_frame: bool,
+        regs: &mut A::UnwindRegs,
+        unwind_context: &mut A::UnwindContext,
+        read_stack: &mut F,
+    ) -> Result<UnwindResult<A::UnwindRule>, UnwindFailure>
+        requires { F.IsAlwaysCallable read_stack.old }
+        ensures callable { F.IsAlwaysCallable read_stack.new }
+        ensures trial { let m = meanings A.UnwindRule.meaning A.UnwindRule.fallback A.attempt in
+            OverWords F.step read_stack.old read_stack.new (λ words.
+            has_wanted result ≡ false → (result, regs.new)
+            ≡ trial regs.old words (attempt_at m self.now.modules is_first_frame address)) }
+        ensures kept { let m = meanings A.UnwindRule.meaning A.UnwindRule.fallback A.attempt in
+            has_wanted result ≡ false → rule_of_result A.UnwindRule.fallback result
+            ≡ rule_kept m self.now.modules (key_of address is_first_frame self.now.generation) }
+        ensures keeps { KeepsUnlessDirect result regs.old regs.new }
+        ensures valid { HasValidRule A.UnwindRule.is_valid result }
+        ensures memory { A.takes_memory ≡ false → has_wanted result ≡ false }
+    {
+        match module_for_address(&self.modules, address) {
+            Some((module, relative_address)) => A::unwind_frame(
+                module.unwind_data(),
+                relative_address,
+                is_first_frame,
+                regs,
+                unwind_context,
+                read_stack,
+            ),
+            None => Err(UnwindFailure::OfModule),
+        }
+    }
+
+    /// Makes the step from a frame that is looked up by an address.
+    #[tactic(auto, using(crate::proofs::Steps::rules_want_none))]
+    fn step<F: FnMut(u64) -> Result<u64, ()>>(
+        &self,
+        address: u64,
+        is_first_frame: bool,
+        regs: &mut A::UnwindRegs,
+        cache: &mut Cache<A::UnwindRule, A::UnwindContext>,
+        read_stack: &mut F,
+    ) -> Result<Option<u64>, Error>
+        requires { F.IsAlwaysCallable read_stack.old }
+        ensures callable { F.IsAlwaysCallable read_stack.new }
+        ensures step { let m = meanings A.UnwindRule.meaning A.UnwindRule.fallback A.attempt in
+            OverWords F.step read_stack.old read_stack.new (λ words.
+            Fits (rule_kept m self.now.modules) self.now.generation (rules_of cache.old).slots
+            → wants_memory result ≡ false → IsStep result regs.old regs.new
+            (judge_at m self.now.modules is_first_frame address regs.old words)) }
+        ensures slots { let m = meanings A.UnwindRule.meaning A.UnwindRule.fallback A.attempt in
+            let key = key_of address is_first_frame self.now.generation in
+            let kept = rule_kept m self.now.modules in
+            (rules_of cache.new).slots
+            ≡ slots_after (wants_memory result) kept key (rules_of cache.old).slots }
+        ensures counts { let key = key_of address is_first_frame self.now.generation in
+            (rules_of cache.new).counts
+            ≡ counts_after (finding_in (rules_of cache.old).slots key) (rules_of cache.old).counts }
+        ensures none_keeps { result ≡ Ok None → regs.new ≡ regs.old }
+        ensures error_keeps { OnErr result (regs.new ≡ regs.old) }
+        ensures refusals { IfErr result IsOfStep }
+        ensures memory { A.takes_memory ≡ false → wants_memory result ≡ false }
+    {
+        let handle = match cache
+            .rule_cache
+            .lookup(address, is_first_frame, self.generation())
+        {
+            CacheResult::Hit(rule) => return rule.exec(is_first_frame, regs, read_stack),
+            CacheResult::Miss(handle) => handle,
+        };
+        let unwind_context = &mut cache.unwind_context;
+        match self.attempt(address, is_first_frame, regs, unwind_context, read_stack) {
+            Ok(UnwindResult::ExecRule(rule)) => {
+                cache.rule_cache.insert(handle, rule);
+                rule.exec(is_first_frame, regs, read_stack)
+            }
+            Ok(UnwindResult::Uncacheable(return_address)) => Ok(Some(return_address)),
+            Err(UnwindFailure::OfModule) => {
+                let rule = A::UnwindRule::fallback_rule();
+                cache.rule_cache.insert(handle, rule);
+                rule.exec(is_first_frame, regs, read_stack)
+            }
+            Err(UnwindFailure::OfFrame) => {
+                A::UnwindRule::fallback_rule().exec(is_first_frame, regs, read_stack)
+            }
+            Err(UnwindFailure::OutOfMemory) => Err(Error::OutOfMemory),
+        }
+    }
+
+    /// Makes the step from a frame with these registers: answers the return address and leaves the
+    /// caller's registers, or answers `None` at the end of the stack. `None` and an error leave the
+    /// registers as they were. `read_stack` reads a word of the stack at an address.
+    ///
+    /// The rule that the cache has for the frame is executed, and where it has none, what the
+    /// module says of the frame is done and kept. Where no module says anything, the fallback rule
+    /// is executed. Through a cache that fits the unwinder the step is the one without a cache.
+    pub fn unwind_frame<F: FnMut(u64) -> Result<u64, ()>>(
+        &self,
+        address: FrameAddress,
+        regs: &mut A::UnwindRegs,
+        cache: &mut Cache<A::UnwindRule, A::UnwindContext>,
+        read_stack: &mut F,
+    ) -> Result<Option<u64>, Error>
+        requires { F.IsAlwaysCallable read_stack.old }
+        ensures callable { F.IsAlwaysCallable read_stack.new }
+        ensures step { let m = meanings A.UnwindRule.meaning A.UnwindRule.fallback A.attempt in
+            OverWords F.step read_stack.old read_stack.new (λ words.
+            Fits (rule_kept m self.now.modules) self.now.generation (rules_of cache.old).slots
+            → wants_memory result ≡ false → IsStep result regs.old regs.new
+            (judge m self.now.modules (frame_of address) regs.old words)) }
+        ensures slots { let m = meanings A.UnwindRule.meaning A.UnwindRule.fallback A.attempt in
+            let key = key_for (frame_of address) self.now.generation in
+            let kept = rule_kept m self.now.modules in
+            (rules_of cache.new).slots
+            ≡ slots_after (wants_memory result) kept key (rules_of cache.old).slots }
+        ensures counts { let key = key_for (frame_of address) self.now.generation in
+            (rules_of cache.new).counts
+            ≡ counts_after (finding_in (rules_of cache.old).slots key) (rules_of cache.old).counts }
+        ensures none_keeps { result ≡ Ok None → regs.new ≡ regs.old }
+        ensures error_keeps { OnErr result (regs.new ≡ regs.old) }
+        ensures refusals { IfErr result IsOfStep }
+        ensures memory { A.takes_memory ≡ false → wants_memory result ≡ false }
+    {
+        let lookup_address = address.address_for_lookup();
+        let is_first_frame = !address.is_return_address();
+        self.step(lookup_address, is_first_frame, regs, cache, read_stack)
+    }
+}

@@ -1,0 +1,128 @@
+//! What the unwinders of all architectures have.
+ghost use Rattle.std.specs.Prelude.{◌≡◌, ◌+◌, ◌-◌, ◌^◌, ℕ, Bool, true, false, Ok, Err, None, IfOk, IfErr, OnOk, OnErr};
+ghost use Rattle.framehop_registers.specs.Callback.{Words, OverWords};
+ghost use Rattle.framehop_rules.specs.Outcome.{Outcome, Caller, IsStep};
+ghost use Rattle.framehop_modules.specs.LoadErrors.{module_returned};
+ghost use Rattle.framehop_unwinder.specs.Frames.{Frame, frame_of};
+ghost use Rattle.framehop_unwinder.specs.Modules.{Loads, with_module, without_module, has_start, last_end};
+ghost use Rattle.framehop_unwinder.specs.Trials.{wants_memory, IsOfStep};
+ghost use Rattle.framehop_unwinder.specs.Walk.{Starts};
+ghost use Rattle.framehop_unwinder.specs.WalkViews.{place_of};
+
+use crate::iterator::UnwindIterator;
+use framehop_modules::{Generations, GenerationsExhausted, LoadError};
+use framehop_rules::{Error, FrameAddress};
+use std::alloc::{AllocError, Global};
+use std::fmt::Debug;
+
+/// An unwinder: the modules of a process, and the steps and walks over its stacks.
+pub trait Unwinder {
+    /// The registers that a step carries.
+    type UnwindRegs: Copy + Debug;
+
+    /// What steps keep and reuse.
+    type Cache;
+
+    /// A module.
+    type Module;
+
+    ghost loads: { Self → Loads Self.Module };
+
+    ghost start: { Self.Module → ℕ };
+
+    ghost end: { Self.Module → ℕ };
+
+    /// What is judged of a step, from the frame, its registers and the words of the stack.
+    ghost judgment: { Self → Frame → Self.UnwindRegs → Words → Outcome (Caller Self.UnwindRegs) };
+
+    /// The cache holds what the unwinder would keep.
+    ghost fits: { Self → Self.Cache → Type 0 };
+
+    /// Whether a step may take memory.
+    ghost takes_memory: { Bool };
+
+    /// Loads a module, and takes a generation. A refusal hands the module back and changes nothing.
+    fn add_module(
+        &mut self,
+        generations: &mut Generations,
+        module: Self::Module,
+    ) -> Result<(), LoadError<Self::Module>>
+        ensures modules { OnOk result ((loads self.new).modules
+            ≡ with_module start «module» (loads self.old).modules) }
+        ensures generation { OnOk result ((loads self.new).generation ≡ generations.old) }
+        ensures taken { OnOk result (generations.new ≡ generations.old + 1) }
+        ensures exhausted { generations.old ≡ 2 ^ 64 - 1
+            → result ≡ Err (LoadError.GenerationsExhausted «module») }
+        ensures returned { IfErr result (λ error. module_returned error ≡ «module») }
+        ensures same { OnErr result (self.new ≡ self.old) }
+        ensures untaken { OnErr result (generations.new ≡ generations.old) };
+
+    /// Unloads the last of the modules that start at an address, and takes a generation. Where none
+    /// starts there, nothing changes; a refusal changes nothing either.
+    fn remove_module(
+        &mut self,
+        generations: &mut Generations,
+        module_avma_range_start: u64,
+    ) -> Result<(), GenerationsExhausted>
+        ensures unknown { has_start start module_avma_range_start (loads self.old).modules ≡ false
+            → (result ≡ Ok tt) × (self.new ≡ self.old) × (generations.new ≡ generations.old) }
+        ensures modules { OnOk result ((loads self.new).modules
+            ≡ without_module start module_avma_range_start (loads self.old).modules) }
+        ensures generation { has_start start module_avma_range_start (loads self.old).modules ≡ true
+            → OnOk result ((loads self.new).generation ≡ generations.old) }
+        ensures taken { has_start start module_avma_range_start (loads self.old).modules ≡ true
+            → OnOk result (generations.new ≡ generations.old + 1) }
+        ensures refused { OnErr result (generations.old ≡ 2 ^ 64 - 1) }
+        ensures same { OnErr result (self.new ≡ self.old) }
+        ensures untaken { OnErr result (generations.new ≡ generations.old) };
+
+    /// The end of the last module, else 0.
+    fn max_known_code_address(&self) -> u64
+        ensures { result ≡ last_end end (loads self.now).modules };
+
+    /// An unwinder with the same modules and the same generation.
+    fn try_clone(&self, alloc: Global) -> Result<Self, AllocError>
+    where
+        Self: Sized,
+        ensures { IfOk result (λ unwinder. unwinder ≡ self.now) };
+
+    /// Makes the step from a frame with these registers: answers the return address and leaves the
+    /// caller's registers, or answers `None` at the end of the stack. `None` and an error leave the
+    /// registers as they were. `read_stack` reads a word of the stack at an address.
+    fn unwind_frame<F: FnMut(u64) -> Result<u64, ()>>(
+        &self,
+        address: FrameAddress,
+        regs: &mut Self::UnwindRegs,
+        cache: &mut Self::Cache,
+        read_stack: &mut F,
+    ) -> Result<Option<u64>, Error>
+        requires { F.IsAlwaysCallable read_stack.old }
+        ensures callable { F.IsAlwaysCallable read_stack.new }
+        ensures step { OverWords F.step read_stack.old read_stack.new (λ words.
+            fits self.now cache.old → wants_memory result ≡ false → IsStep result regs.old regs.new
+            (judgment self.now (frame_of address) regs.old words)) }
+        ensures fits { fits self.now cache.old → fits self.now cache.new }
+        ensures none_keeps { result ≡ Ok None → regs.new ≡ regs.old }
+        ensures error_keeps { OnErr result (regs.new ≡ regs.old) }
+        ensures refusals { IfErr result IsOfStep }
+        ensures memory { takes_memory ≡ false → wants_memory result ≡ false };
+
+    /// A walk from a frame at the instruction pointer `pc` with these registers.
+    final fn iter_frames<'u, 'c, 'r, F: FnMut(u64) -> Result<u64, ()>>(
+        &'u self,
+        pc: u64,
+        regs: Self::UnwindRegs,
+        cache: &'c mut Self::Cache,
+        read_stack: &'r mut F,
+    ) -> UnwindIterator<'u, 'c, 'r, Self, F>
+    where
+        Self: Sized,
+        ensures unwinder { result.unwinder.now ≡ self.now }
+        ensures place { place_of result.state ≡ Starts pc }
+        ensures regs { result.regs ≡ regs }
+        ensures cache { result.cache ≡ cache.entry }
+        ensures read_stack { result.read_stack ≡ read_stack.entry }
+    {
+        UnwindIterator::new(self, pc, regs, cache, read_stack)
+    }
+}
