@@ -1,0 +1,6 @@
+pub mod Execution
+pub mod InstructionLists
+pub mod OneRow
+pub mod Rules
+pub mod Standing
+pub mod Views

@@ -1,0 +1,12 @@
+pub mod Effects
+pub mod Execution
+pub mod InstructionViews
+pub mod Instructions
+pub mod Parts
+pub mod ProgramRows
+pub mod ProgramRowsLend
+pub mod Programs
+pub mod Refusals
+pub mod Standing
+pub mod StateViews
+pub mod Survivors

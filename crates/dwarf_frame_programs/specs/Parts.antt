@@ -1,0 +1,149 @@
+-- The parts of a row (DWARF 5, 6.4.1): each is what its last surviving writer wrote.
+use Rattle.std.specs.Prelude.{ℕ, zero, suc, ◌+◌, ◌%◌, ◌==◌, ℤ, pos, List, [], ◌∷◌, Bool, true, false, Option, Some, None, is_some, unwrap_or, if◌then◌else◌}
+use Rattle.std.specs.FinMap.{empty, get, insert}
+use Rattle.std.specs.List.{filter_map}
+use Rattle.std.specs.Option.{option_or}
+use Rattle.dwarf_constants.specs.declared.arch.TheConstants.AArch64.{RA_SIGN_STATE}
+use Rattle.dwarf_constants.specs.declared.common.Register.{Register}
+use Rattle.dwarf_frame_rows.specs.declared.effect.Effect.{Effect}
+use Rattle.dwarf_frame_rows.specs.declared.effect.Effect.TheVariants.{Cfa, CfaRegister, CfaOffset, Rule, RestoreRule, NegateRaState, ArgsSize}
+use Rattle.dwarf_frame_rows.specs.declared.expression.UnwindExpression.{UnwindExpression}
+use Rattle.dwarf_frame_rows.specs.declared.rules.CfaRule.{CfaRule}
+use Rattle.dwarf_frame_rows.specs.declared.rules.CfaRule.TheVariants.{RegisterAndOffset, Expression}
+use Rattle.dwarf_frame_rows.specs.declared.rules.RegisterRule.{RegisterRule}
+use Rattle.dwarf_frame_rows.specs.declared.rules.RegisterRule.TheVariants.{Constant}
+use Rattle.dwarf_frame_rows.specs.RuleMap.{RuleMap}
+
+-- the latest of a past that a writer of a part picks
+abbrev pub latest : {A B : Type 0} → (A → Option B) → List A → Option B
+latest pick [] = None
+latest pick (x ∷ earlier) = option_or (pick x) (latest pick earlier)
+
+-- ---- the CFA
+
+-- the parts of a rule
+abbrev pub expression_of : {T : Type 0} → CfaRule T → Option (UnwindExpression T)
+expression_of (Expression expression) = Some expression
+expression_of (RegisterAndOffset register offset) = None
+
+abbrev pub register_of : {T : Type 0} → CfaRule T → Option Register
+register_of (Expression expression) = None
+register_of (RegisterAndOffset register offset) = Some register
+
+abbrev pub offset_of : {T : Type 0} → CfaRule T → Option ℤ
+offset_of (Expression expression) = None
+offset_of (RegisterAndOffset register offset) = Some offset
+
+-- the expression that an effect makes the CFA, or none where it makes it a register and an offset
+abbrev pub cfa_expression_by : {T : Type 0} → Effect T → Option (Option (UnwindExpression T))
+cfa_expression_by (Cfa rule) = Some (expression_of rule)
+cfa_expression_by _ = None
+
+-- the register that an effect makes the CFA count from
+abbrev pub cfa_register_by : {T : Type 0} → Effect T → Option Register
+cfa_register_by (Cfa rule) = register_of rule
+cfa_register_by (CfaRegister register) = Some register
+cfa_register_by _ = None
+
+-- the offset that an effect puts the CFA at
+abbrev pub cfa_offset_by : {T : Type 0} → Effect T → Option ℤ
+cfa_offset_by (Cfa rule) = offset_of rule
+cfa_offset_by (CfaOffset offset) = Some offset
+cfa_offset_by _ = None
+
+-- an expression, or else a register and an offset
+abbrev pub cfa_from : {T : Type 0} → Option (UnwindExpression T) → Register → ℤ → CfaRule T
+cfa_from (Some expression) register offset = Expression expression
+cfa_from None register offset = RegisterAndOffset register offset
+
+-- the expression that the CFA is, if it is one
+abbrev pub cfa_expression : {T : Type 0} → List (Effect T) → Option (UnwindExpression T)
+cfa_expression past = unwrap_or (latest cfa_expression_by past) None
+
+-- the CFA: the expression, or the register and the offset last written, each 0 before it is
+abbrev pub cfa_of : {T : Type 0} → List (Effect T) → CfaRule T
+cfa_of past = cfa_from (cfa_expression past) (unwrap_or (latest cfa_register_by past) (record { 0 = 0 })) (unwrap_or (latest cfa_offset_by past) (pos 0))
+
+-- ---- the size of arguments
+
+abbrev pub size_by : {T : Type 0} → Effect T → Option ℕ
+size_by (ArgsSize size) = Some size
+size_by _ = None
+
+-- 0 before it is written
+abbrev pub size_of : {T : Type 0} → List (Effect T) → ℕ
+size_of past = unwrap_or (latest size_by past) 0
+
+-- ---- the rules of registers
+
+-- what an effect makes of a register: a rule, or none; a restored register gets the rule that the CIE's own instructions left
+abbrev pub rule_by : {T : Type 0} → RuleMap (RegisterRule T) → ℕ → Effect T → Option (Option (RegisterRule T))
+rule_by initial register (Rule written rule) = if written.0 == register then Some (Some rule) else None
+rule_by initial register (RestoreRule restored) = if restored.0 == register then Some (get initial restored.0) else None
+rule_by initial register _ = None
+
+-- the rule last written for a register, if any is
+abbrev pub written_rule : {T : Type 0} → RuleMap (RegisterRule T) → ℕ → List (Effect T) → Option (RegisterRule T)
+written_rule initial register past = unwrap_or (latest (rule_by initial register) past) None
+
+-- the register of the sign state, on AArch64
+abbrev pub sign_state : ℕ
+sign_state = RA_SIGN_STATE.0
+
+-- the effect turns the sign state
+abbrev pub is_turn : {T : Type 0} → Effect T → Bool
+is_turn NegateRaState = true
+is_turn _ = false
+
+-- how often the sign state is turned behind the last rule that was written for it
+abbrev pub turns : {T : Type 0} → RuleMap (RegisterRule T) → List (Effect T) → ℕ
+turns initial [] = zero
+turns initial (e ∷ earlier) =
+    if is_some (rule_by initial sign_state e) then zero else if is_turn e then suc (turns initial earlier) else turns initial earlier
+
+-- the number of a constant, 0 where there is none
+abbrev pub constant_of : {T : Type 0} → Option (RegisterRule T) → ℕ
+constant_of (Some (Constant n)) = n
+constant_of _ = 0
+
+-- a rule turned so often: unchanged by no turn, and else the constant plus the number of turns, modulo 2
+abbrev pub turned : {T : Type 0} → ℕ → Option (RegisterRule T) → Option (RegisterRule T)
+turned zero rule = rule
+turned (suc n) rule = Some (Constant ((constant_of rule + suc n) % 2))
+
+-- the rule of a register, if it has one
+abbrev pub rule_of : {T : Type 0} → RuleMap (RegisterRule T) → List (Effect T) → ℕ → Option (RegisterRule T)
+rule_of initial past register =
+    if register == sign_state then turned (turns initial past) (written_rule initial sign_state past) else written_rule initial register past
+
+-- the register whose rule an effect writes
+abbrev pub ruled_register : {T : Type 0} → Effect T → Option ℕ
+ruled_register (Rule register rule) = Some register.0
+ruled_register (RestoreRule register) = Some register.0
+ruled_register NegateRaState = Some sign_state
+ruled_register _ = None
+
+-- a map with one more register, where it has a rule
+abbrev pub with_rule : {V : Type 0} → Option V → ℕ → RuleMap V → RuleMap V
+with_rule (Some rule) register rules = insert rules register rule
+with_rule None register rules = rules
+
+-- the rules of some registers, as a map
+abbrev pub rules_at : {V : Type 0} → (ℕ → Option V) → List ℕ → RuleMap V
+rules_at rule [] = empty
+rules_at rule (register ∷ registers) = with_rule (rule register) register (rules_at rule registers)
+
+-- the rules of all registers, as a map
+abbrev pub rules_of : {T : Type 0} → RuleMap (RegisterRule T) → List (Effect T) → RuleMap (RegisterRule T)
+rules_of initial past = rules_at (rule_of initial past) (filter_map ruled_register past)
+
+-- ---- all parts
+
+pub record Parts (T : Type 0) : Type 0 where
+  pub saved_args_size : ℕ
+  pub cfa : CfaRule T
+  pub rules : RuleMap (RegisterRule T)
+
+-- what has survived makes these parts
+abbrev pub parts_of : {T : Type 0} → RuleMap (RegisterRule T) → List (Effect T) → Parts T
+parts_of initial past = record { saved_args_size = size_of past; cfa = cfa_of past; rules = rules_of initial past }

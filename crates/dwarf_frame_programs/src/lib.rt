@@ -1,0 +1,13 @@
+//! Programs of call frame instructions (DWARF 5, 6.4.2 and 6.4.3): the instructions in their bytes, and
+//! what each does to a row.
+#![tactic(auto)]
+
+mod effects;
+mod instructions;
+mod laws;
+mod rows;
+
+pub use effects::Factors;
+pub use instructions::{CallFrameInstruction, CallFrameInstructionIter};
+pub use laws::each_address_has_one_row;
+pub use rows::{FrameProgram, ProgramRows, row_for_address};
