@@ -1,5 +1,5 @@
 //! Pop lists as a count and a number, so that an unwind rule has room for them.
-ghost use Rattle.std.specs.Prelude.{◌≡◌, ◌<◌, ◌≤◌, ℕ, List, length, SomeIff, IfSome};
+ghost use Rattle.std.specs.Prelude.{◌≡◌, ◌<◌, ◌≤◌, ◌/◌, ◌%◌, ℕ, List, length, SomeIff, IfSome};
 ghost use Rattle.framehop_registers.specs.PopLists.{IsPopList, IsOrder, order_count, order_number, pop_list, BeginsOrder};
 ghost use Rattle.framehop_registers.specs.PopListViews.{popped_of};
 ghost use Rattle.framehop_registers.specs.declared.x86_64.unwindregs.Reg.{Reg};
@@ -18,13 +18,34 @@ pub fn decode(register_count: u8, encoded_ordering: u16) -> PopList
     ensures order { BeginsOrder (popped_of result) register_count encoded_ordering }
 {
     let mut list = PopList::new();
-    let mut number = usize::from(encoded_ordering);
+    let mut number = encoded_ordering;
     for _ in 0..register_count {
-        let choices = list.left().len();
-        list.push_from(number % choices);
-        number /= choices;
+        let (place, rest) = place_and_rest(number, list.left().len());
+        list.push_from(place);
+        number = rest;
     }
     list
+}
+
+/// The place that a number has among so many, and the number of what comes behind. Each divisor is
+/// written out, since a division by one that isn't known takes several times as long.
+#[inline(always)]
+fn place_and_rest(number: u16, choices: usize) -> (usize, u16)
+    requires some { 0 < choices }
+    requires within { choices ≤ 8 }
+    ensures place { result.0 ≡ number % choices }
+    ensures rest { result.1 ≡ number / choices }
+{
+    match choices {
+        8 => (usize::from(number % 8), number / 8),
+        7 => (usize::from(number % 7), number / 7),
+        6 => (usize::from(number % 6), number / 6),
+        5 => (usize::from(number % 5), number / 5),
+        4 => (usize::from(number % 4), number / 4),
+        3 => (usize::from(number % 3), number / 3),
+        2 => (usize::from(number % 2), number / 2),
+        _ => (usize::from(number % 1), number / 1),
+    }
 }
 
 /// The count and the order number of registers that are popped one after the other, the first at

@@ -20,13 +20,13 @@ step popped left count counter number choices whole more is so_far =
 pub loop-preserved : goal.loop-preserved
 loop-preserved c =
     let left = left_of c.loop.list in
-    let choices : length c.left-choices.result.now ≡ length left = ap length c.left-choices.ensures in
+    let choices : length c.left.result.now ≡ length left = ap length c.left.ensures in
     let some : 0 < length left = omega arith in
-    let inside = mod_below c.loop.number (length c.left-choices.result.now) (omega arith) in
-    let shorter = length-left_behind left (c.loop.number % length c.left-choices.result.now) (omega arith) in
+    let inside = mod_below c.loop.number (length c.left.result.now) (omega arith) in
+    let shorter = length-left_behind left (c.loop.number % length c.left.result.now) (omega arith) in
     record {
-      left = rw c.push_from.ensures.left (omega arith);
-      popped = rw (c.push_from.ensures.popped, c.push_from.ensures.left)
+      left = rw (c.push_from.ensures.left, c.place_and_rest-place.ensures.place) (omega arith);
+      popped = rw (c.push_from.ensures.popped, c.push_from.ensures.left, c.place_and_rest-place.ensures.place, c.place_and_rest-place.ensures.rest)
           (step (popped_of c.loop.list) left c.args.register_count c.loop.counter c.loop.number _ _ c.loop-test.true choices c.loop.invariant.popped);
     }
 
