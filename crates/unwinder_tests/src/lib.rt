@@ -1,0 +1,15 @@
+//! Tests of modules' sections, of unwinders that share caches, and of walks, over modules that are
+//! tables, by public calls alone.
+#![tactic(auto)]
+
+#[cfg(test)]
+mod sections;
+#[cfg(test)]
+mod sessions;
+mod tables;
+#[cfg(test)]
+mod walks;
+#[cfg(test)]
+mod worked;
+
+pub use tables::{Row, Said, Tables};

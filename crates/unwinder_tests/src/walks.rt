@@ -1,0 +1,108 @@
+//! Walks, on both architectures.
+use crate::tables::{Said, Tables};
+use crate::worked::{added, first, loaded, module, word_at};
+use framehop_registers::aarch64::UnwindRegsAarch64;
+use framehop_registers::x86_64::UnwindRegsX86_64;
+use framehop_rules::aarch64::ArchAarch64;
+use framehop_rules::x86_64::ArchX86_64;
+use framehop_unwinder::{
+    Cache, Error, FrameAddress, Generations, Session, StackWalk, Unwinder, UnwinderInternal,
+};
+use std::test::Fail;
+
+/// A later frame at an address.
+fn later(address: u64) -> Option<FrameAddress> {
+    FrameAddress::from_return_address(address)
+}
+
+/// The worked stack, frame by frame: the instruction pointer, three return addresses, then the end,
+/// which stays.
+#[test]
+fn walks_to_the_end(rt: HostRuntime) -> Result<(), Fail> {
+    let alloc = rt.alloc();
+    let mut generations = Generations::new();
+    let Ok(mut unwinder) = UnwinderInternal::<Tables<ArchX86_64>>::new(alloc, &mut generations)
+    else {
+        return Err(Fail::new("no unwinder"));
+    };
+    let there = module(alloc, 0x100000, 0x102000, 0x1000, Said::StubRule)?;
+    loaded(unwinder.add_module(&mut generations, there))?;
+    assert_eq!(rt; unwinder.max_known_code_address(), 0x102000);
+    let mut cache = Cache::new(alloc, ())?;
+    for _ in 0..2 {
+        let mut read_stack = |at: u64| word_at(at);
+        let regs = UnwindRegsX86_64::new(0x101000, 0x10, 0x20);
+        let mut frames = unwinder.iter_frames(0x101000, regs, &mut cache, &mut read_stack);
+        assert_eq!(rt; frames.next(), Ok(Some(first(0x101000))));
+        assert_eq!(rt; frames.next(), Ok(later(0x100300)));
+        assert_eq!(rt; frames.next(), Ok(later(0x100200)));
+        assert_eq!(rt; frames.next(), Ok(later(0x100100)));
+        assert_eq!(rt; frames.next(), Ok(None));
+        assert_eq!(rt; frames.next(), Ok(None));
+    }
+    assert_eq!(rt; cache.stats().hits(), 4);
+    assert_eq!(rt; cache.stats().misses(), 4);
+    Ok(())
+}
+
+/// The same walk move by move in a session, with the registers of each frame; after an error the
+/// walk is where it was.
+#[test]
+fn walks_by_moves_of_a_session(rt: HostRuntime) -> Result<(), Fail> {
+    let alloc = rt.alloc();
+    let mut session: Session<Tables<ArchX86_64>> = Session::new(alloc, Generations::new());
+    added(session.add_unwinder(alloc))?;
+    session.add_cache(alloc, ())?;
+    let mut walk = StackWalk::new(0x101000, UnwindRegsX86_64::new(0x101000, 0x10, 0x20));
+    let mut read_stack = |at: u64| word_at(at);
+    for (frame, sp) in [
+        (Some(first(0x101000)), 0x10),
+        (later(0x100200), 0x30),
+        (later(0x100100), 0x50),
+        (None, 0x50),
+        (None, 0x50),
+    ] {
+        if session.unwinders() == 1 && session.caches() == 1 {
+            let answer = session.next_frame(0, 0, &mut walk, &mut read_stack);
+            assert_eq!(rt; answer, Ok(frame));
+            assert_eq!(rt; walk.regs().sp(), sp);
+        }
+    }
+    let mut walk = StackWalk::new(0x101000, UnwindRegsX86_64::new(0x101000, 0x10, 0x1000));
+    for answer in [
+        Ok(Some(first(0x101000))),
+        Err(Error::CouldNotReadStack(0x1000)),
+        Err(Error::CouldNotReadStack(0x1000)),
+    ] {
+        if session.unwinders() == 1 && session.caches() == 1 {
+            assert_eq!(rt;
+                session.next_frame(0, 0, &mut walk, &mut read_stack),
+                answer
+            );
+        }
+    }
+    Ok(())
+}
+
+/// On aarch64, by the same code: the link register's frame first, then frame pointers.
+#[test]
+fn walks_on_aarch64(rt: HostRuntime) -> Result<(), Fail> {
+    let alloc = rt.alloc();
+    let mut generations = Generations::new();
+    let Ok(mut unwinder) = UnwinderInternal::<Tables<ArchAarch64>>::new(alloc, &mut generations)
+    else {
+        return Err(Fail::new("no unwinder"));
+    };
+    let there = module(alloc, 0x100000, 0x102000, 0x1000, Said::StubRule)?;
+    loaded(unwinder.add_module(&mut generations, there))?;
+    let mut cache = Cache::new(alloc, ())?;
+    let mut read_stack = |at: u64| word_at(at);
+    let regs = UnwindRegsAarch64::new(0x100300, 0x10, 0x20);
+    let mut frames = unwinder.iter_frames(0x101000, regs, &mut cache, &mut read_stack);
+    assert_eq!(rt; frames.next(), Ok(Some(first(0x101000))));
+    assert_eq!(rt; frames.next(), Ok(later(0x100300)));
+    assert_eq!(rt; frames.next(), Ok(later(0x100200)));
+    assert_eq!(rt; frames.next(), Ok(later(0x100100)));
+    assert_eq!(rt; frames.next(), Ok(None));
+    Ok(())
+}
