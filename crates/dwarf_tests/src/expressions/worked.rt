@@ -4,7 +4,7 @@ use super::stored::Fixed;
 use super::{ValueTest, sized, value_of};
 use crate::{Outcome, over_each_reader};
 use dwarf_constants::{Error, ReaderOffsetId, Result};
-use dwarf_expressions::{Evaluation, Expression, StoreOnHeap};
+use dwarf_expressions::{Evaluation, EvaluationResult, Expression, StoreOnHeap};
 use dwarf_readers::{EndianSlice, LittleEndian, RunTimeEndian};
 
 #[test]
@@ -84,7 +84,7 @@ fn a_value_stays(rt: HostRuntime) -> Outcome {
     )?;
     assert_eq!(rt; evaluation.value_result(), None);
     for _ in 0..3 {
-        assert!(rt; evaluation.evaluate().is_ok());
+        assert_eq!(rt; evaluation.evaluate(), Ok(EvaluationResult::Complete));
         assert_eq!(rt; evaluation.value_result(), Some(5));
     }
     Ok(())
