@@ -1,3 +1,4 @@
+mod Elsewhere
 mod KeyLists
 mod ModulesInOrder
 mod Slots

@@ -5,6 +5,7 @@ pub mod History
 pub mod Judge
 pub mod Modules
 pub mod ModuleViews
+pub mod ModulesApart
 pub mod RulesKept
 pub mod State
 pub mod Trials

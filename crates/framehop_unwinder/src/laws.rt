@@ -1,12 +1,21 @@
 //! Laws of caches that are shared. The functions do nothing when the program runs.
-ghost use Rattle.std.specs.Prelude.{◌≡◌, ◌<◌, ◌+◌, ℕ, Bool, List, [], Option, None, Result, replicate};
+ghost use Rattle.std.specs.Prelude.{◌≡◌, ◌≢◌, ◌<◌, ◌+◌, ℕ, Bool, List, [], Option, None, Some, Result, replicate};
+ghost use Rattle.std.specs.List.{All};
+ghost use Rattle.std.specs.List.Sorted.{IsNonDecreasingBy};
+ghost use Rattle.framehop_registers.specs.Callback.{Words};
 ghost use Rattle.framehop_registers.specs.declared.error.Error.{Error};
 ghost use Rattle.framehop_rules.specs.Outcome.{Outcome, Caller, IsStep};
 ghost use Rattle.framehop_rules.specs.Slots.{Key, Entry, counts_after};
 ghost use Rattle.framehop_rules.specs.declared.rule_cache.CacheStats.{CacheStats};
+ghost use Rattle.framehop_unwinder.specs.Attempt.{Meanings};
+ghost use Rattle.framehop_unwinder.specs.Frames.{Frame, lookup_address};
 ghost use Rattle.framehop_unwinder.specs.History.{HasLastKeys, finding_after, keys_after};
+ghost use Rattle.framehop_unwinder.specs.Judge.{judge};
+ghost use Rattle.framehop_unwinder.specs.Modules.{Loaded, module_found, with_module};
+ghost use Rattle.framehop_unwinder.specs.ModulesApart.{StartsOutside};
 ghost use Rattle.framehop_unwinder.specs.RulesKept.{Fits, KeysBelow, finding_in, slots_after};
 
+use crate::unwinding::Unwinding;
 use framehop_rules::{Arch, UnwindRule};
 
 /// A step through a cache leaves it fitting the unwinder that made it, and every other whose
@@ -55,4 +64,18 @@ pub fn equal_steps<A: Arch>()
         (outcome : Outcome (Caller A.UnwindRegs))
         → IsStep one old new outcome → IsStep other old also outcome
         → (one ≡ other) × (new ≡ also) }
+{}
+
+/// A module that starts outside all others, and isn't the one that is found for a frame, changes no
+/// step from there by being loaded; nor, read the other way, by being unloaded. The modules are in
+/// the order of their starts, as those of an unwinder are.
+pub fn modules_elsewhere_change_no_step<A: Unwinding>()
+    ensures { (m : Meanings A.UnwindData A.UnwindRule A.UnwindRegs) (module_ : Loaded A.UnwindData)
+        (modules : List (Loaded A.UnwindData)) (frame : Frame) (registers : A.UnwindRegs) (words : Words)
+        → IsNonDecreasingBy (λ m. m.start) modules
+        → IsNonDecreasingBy (λ m. m.start) (with_module (λ m. m.start) module_ modules)
+        → All (StartsOutside module_) modules
+        → module_found (with_module (λ m. m.start) module_ modules) (lookup_address frame) ≢ Some module_
+        → judge m (with_module (λ m. m.start) module_ modules) frame registers words
+        ≡ judge m modules frame registers words }
 {}
