@@ -1,7 +1,15 @@
-//! Tests of call frame information: its instructions in their bytes.
+//! Tests of call frame information: its entries, and its instructions in their bytes.
 #![tactic(auto)]
 
 #[cfg(test)]
+mod augmentations;
+#[cfg(test)]
+mod entries;
+#[cfg(test)]
 mod instructions;
 #[cfg(test)]
+mod listed;
+#[cfg(test)]
 mod opcodes;
+#[cfg(test)]
+mod real_sections;

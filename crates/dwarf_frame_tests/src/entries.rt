@@ -1,0 +1,265 @@
+//! Entries of worked sections.
+use super::augmentations::CASES;
+use super::listed::{Listed, Seen, Which};
+use super::real_sections::SECTIONS;
+use dwarf_constants::{DebugFrameOffset, DwEhPe, EhFrameOffset, Error, ReaderOffsetId};
+use dwarf_frame_entries::{Augmentation, BaseAddresses, DebugFrame, EhFrame, UnwindSection};
+use dwarf_readers::{Reader, ReaderOffset, RunTimeEndian};
+use dwarf_tests::{Outcome, ReaderTest, over_each_reader};
+use std::alloc::Global;
+use std::process::Abort;
+
+// Sections and their entries, as the standards say them.
+const WORKED: &[Listed] = &[
+    // An entry of each kind, and a length of 0.
+    Listed {
+        which: Which::EhFrame,
+        address_size: 8,
+        start: 0,
+        bytes: &[
+            0x10, 0x00, 0x00, 0x00, 0x00, 0x00, 0x00, 0x00, 0x01, 0x00, 0x01, 0x78, 0x10, 0x0c,
+            0x07, 0x08, 0x90, 0x01, 0x00, 0x00, 0x1c, 0x00, 0x00, 0x00, 0x18, 0x00, 0x00, 0x00,
+            0x00, 0x10, 0x00, 0x00, 0x00, 0x00, 0x00, 0x00, 0x10, 0x00, 0x00, 0x00, 0x00, 0x00,
+            0x00, 0x00, 0x41, 0x0e, 0x10, 0x86, 0x02, 0x43, 0x0d, 0x06, 0x00, 0x00, 0x00, 0x00,
+        ],
+        entries: &[
+            Seen::Cie(0, 0x10, 1, 8, 1, -8, 16, None),
+            Seen::Fde(0x14, 0x1c, 0, 0x1000, 0x10, None),
+        ],
+        end: None,
+    },
+    // A length of 0 ends `.eh_frame` before its second entry.
+    Listed {
+        which: Which::EhFrame,
+        address_size: 8,
+        start: 0,
+        bytes: &[
+            0x10, 0x00, 0x00, 0x00, 0x00, 0x00, 0x00, 0x00, 0x01, 0x00, 0x01, 0x78, 0x10, 0x0c,
+            0x07, 0x08, 0x90, 0x01, 0x00, 0x00, 0x00, 0x00, 0x00, 0x00, 0x1c, 0x00, 0x00, 0x00,
+            0x18, 0x00, 0x00, 0x00, 0x00, 0x10, 0x00, 0x00, 0x00, 0x00, 0x00, 0x00, 0x10, 0x00,
+            0x00, 0x00, 0x00, 0x00, 0x00, 0x00, 0x41, 0x0e, 0x10, 0x86, 0x02, 0x43, 0x0d, 0x06,
+            0x00, 0x00, 0x00, 0x00,
+        ],
+        entries: &[Seen::Cie(0, 0x10, 1, 8, 1, -8, 16, None)],
+        end: None,
+    },
+    // So does one of 64 bits.
+    Listed {
+        which: Which::EhFrame,
+        address_size: 8,
+        start: 0,
+        bytes: &[
+            0x10, 0x00, 0x00, 0x00, 0x00, 0x00, 0x00, 0x00, 0x01, 0x00, 0x01, 0x78, 0x10, 0x0c,
+            0x07, 0x08, 0x90, 0x01, 0x00, 0x00, 0xff, 0xff, 0xff, 0xff, 0x00, 0x00, 0x00, 0x00,
+            0x00, 0x00, 0x00, 0x00, 0x1c, 0x00, 0x00, 0x00, 0x18, 0x00, 0x00, 0x00, 0x00, 0x10,
+            0x00, 0x00, 0x00, 0x00, 0x00, 0x00, 0x10, 0x00, 0x00, 0x00, 0x00, 0x00, 0x00, 0x00,
+            0x41, 0x0e, 0x10, 0x86, 0x02, 0x43, 0x0d, 0x06, 0x00, 0x00, 0x00, 0x00,
+        ],
+        entries: &[Seen::Cie(0, 0x10, 1, 8, 1, -8, 16, None)],
+        end: None,
+    },
+    // Addresses that count from their own places.
+    Listed {
+        which: Which::EhFrame,
+        address_size: 8,
+        start: 0,
+        bytes: &[
+            0x14, 0x00, 0x00, 0x00, 0x00, 0x00, 0x00, 0x00, 0x01, 0x7a, 0x52, 0x00, 0x01, 0x78,
+            0x10, 0x01, 0x1b, 0x0c, 0x07, 0x08, 0x90, 0x01, 0x00, 0x00, 0x18, 0x00, 0x00, 0x00,
+            0x1c, 0x00, 0x00, 0x00, 0xe0, 0x0f, 0x00, 0x00, 0x10, 0x00, 0x00, 0x00, 0x00, 0x41,
+            0x0e, 0x10, 0x86, 0x02, 0x43, 0x0d, 0x06, 0x00, 0x00, 0x00, 0x00, 0x00, 0x00, 0x00,
+        ],
+        entries: &[
+            Seen::Cie(
+                0,
+                0x14,
+                1,
+                8,
+                1,
+                -8,
+                16,
+                Some(Augmentation {
+                    has_data: true,
+                    lsda: None,
+                    personality: None,
+                    fde_address_encoding: Some(DwEhPe(0x1b)),
+                    is_signal_trampoline: false,
+                }),
+            ),
+            Seen::Fde(0x18, 0x18, 0, 0x1000, 0x10, None),
+        ],
+        end: None,
+    },
+    // `.debug_frame`, version 4.
+    Listed {
+        which: Which::DebugFrame,
+        address_size: 8,
+        start: 0,
+        bytes: &[
+            0x10, 0x00, 0x00, 0x00, 0xff, 0xff, 0xff, 0xff, 0x04, 0x00, 0x08, 0x00, 0x01, 0x78,
+            0x10, 0x0c, 0x07, 0x08, 0x90, 0x01, 0x1c, 0x00, 0x00, 0x00, 0x00, 0x00, 0x00, 0x00,
+            0x00, 0x10, 0x00, 0x00, 0x00, 0x00, 0x00, 0x00, 0x10, 0x00, 0x00, 0x00, 0x00, 0x00,
+            0x00, 0x00, 0x41, 0x0e, 0x10, 0x86, 0x02, 0x43, 0x0d, 0x06,
+        ],
+        entries: &[
+            Seen::Cie(0, 0x10, 4, 8, 1, -8, 16, None),
+            Seen::Fde(0x14, 0x1c, 0, 0x1000, 0x10, None),
+        ],
+        end: None,
+    },
+    // A length of 0 says nothing in `.debug_frame`.
+    Listed {
+        which: Which::DebugFrame,
+        address_size: 8,
+        start: 0,
+        bytes: &[
+            0x10, 0x00, 0x00, 0x00, 0xff, 0xff, 0xff, 0xff, 0x04, 0x00, 0x08, 0x00, 0x01, 0x78,
+            0x10, 0x0c, 0x07, 0x08, 0x90, 0x01, 0x00, 0x00, 0x00, 0x00, 0x1c, 0x00, 0x00, 0x00,
+            0x00, 0x00, 0x00, 0x00, 0x00, 0x10, 0x00, 0x00, 0x00, 0x00, 0x00, 0x00, 0x10, 0x00,
+            0x00, 0x00, 0x00, 0x00, 0x00, 0x00, 0x41, 0x0e, 0x10, 0x86, 0x02, 0x43, 0x0d, 0x06,
+        ],
+        entries: &[
+            Seen::Cie(0, 0x10, 4, 8, 1, -8, 16, None),
+            Seen::Fde(0x18, 0x1c, 0, 0x1000, 0x10, None),
+        ],
+        end: None,
+    },
+    // Nor does one of 64 bits.
+    Listed {
+        which: Which::DebugFrame,
+        address_size: 8,
+        start: 0,
+        bytes: &[
+            0x10, 0x00, 0x00, 0x00, 0xff, 0xff, 0xff, 0xff, 0x04, 0x00, 0x08, 0x00, 0x01, 0x78,
+            0x10, 0x0c, 0x07, 0x08, 0x90, 0x01, 0xff, 0xff, 0xff, 0xff, 0x00, 0x00, 0x00, 0x00,
+            0x00, 0x00, 0x00, 0x00, 0x1c, 0x00, 0x00, 0x00, 0x00, 0x00, 0x00, 0x00, 0x00, 0x10,
+            0x00, 0x00, 0x00, 0x00, 0x00, 0x00, 0x10, 0x00, 0x00, 0x00, 0x00, 0x00, 0x00, 0x00,
+            0x41, 0x0e, 0x10, 0x86, 0x02, 0x43, 0x0d, 0x06,
+        ],
+        entries: &[
+            Seen::Cie(0, 0x10, 4, 8, 1, -8, 16, None),
+            Seen::Fde(0x20, 0x1c, 0, 0x1000, 0x10, None),
+        ],
+        end: None,
+    },
+    // A length that is reserved.
+    Listed {
+        which: Which::EhFrame,
+        address_size: 8,
+        start: 0,
+        bytes: &[0xf0, 0xff, 0xff, 0xff, 0x00, 0x00, 0x00, 0x00],
+        entries: &[],
+        end: Some(Error::UnknownReservedLength),
+    },
+    // A CIE that would stand before the section.
+    Listed {
+        which: Which::EhFrame,
+        address_size: 8,
+        start: 0,
+        bytes: &[
+            0x08, 0x00, 0x00, 0x00, 0x10, 0x00, 0x00, 0x00, 0x00, 0x00, 0x00, 0x00,
+        ],
+        entries: &[],
+        end: Some(Error::OffsetOutOfBounds),
+    },
+    // An entry that is cut off.
+    Listed {
+        which: Which::EhFrame,
+        address_size: 8,
+        start: 0,
+        bytes: &[0x10, 0x00, 0x00, 0x00, 0x00, 0x00, 0x00, 0x00, 0x01],
+        entries: &[],
+        end: Some(Error::UnexpectedEof(ReaderOffsetId(4))),
+    },
+];
+
+// An FDE, cut off behind its id, where a CIE is wanted.
+#[derive(Drop)]
+struct CutFde;
+
+impl<H: Abort> ReaderTest<H> for CutFde {
+    fn run<R: Reader>(&self, rt: &H, _alloc: Global, reader: R) -> Outcome {
+        let section = DebugFrame::from(reader);
+        let bases = BaseAddresses::default();
+        let first = DebugFrameOffset(R::Offset::from_u8(0));
+        let cie = section.cie_from_offset(&bases, first);
+        assert_eq!(rt; cie.err(), Some(Error::NotCieId(0)));
+        Ok(())
+    }
+}
+
+#[test]
+fn an_fde_is_no_cie(rt: HostRuntime) -> Outcome {
+    let bytes = [0, 0, 0, 4, 0xba, 0xd1, 0xba, 0xd2];
+    over_each_reader(&rt, rt.alloc(), &CutFde, &bytes, RunTimeEndian::Big)
+}
+
+#[test]
+fn worked_sections(rt: HostRuntime) -> Outcome {
+    for listed in WORKED {
+        over_each_reader(&rt, rt.alloc(), listed, listed.bytes, RunTimeEndian::Little)?;
+    }
+    Ok(())
+}
+
+// A section with a CIE at 0, an FDE at 0x14 and a length of 0 at 0x34.
+#[derive(Drop)]
+struct Offsets;
+
+impl<H: Abort> ReaderTest<H> for Offsets {
+    fn run<R: Reader>(&self, rt: &H, _alloc: Global, reader: R) -> Outcome {
+        let section = EhFrame::from(reader);
+        let bases = BaseAddresses::default();
+        let at = |offset: u8| EhFrameOffset(R::Offset::from_u8(offset));
+        let cie = section.cie_from_offset(&bases, at(0))?;
+        assert_eq!(rt; cie.offset().into_u64(), 0);
+        let fde = section.partial_fde_from_offset(&bases, at(0x14))?;
+        assert_eq!(rt; fde.offset().into_u64(), 0x14);
+        assert_eq!(rt; fde.entry_len().into_u64(), 0x1c);
+        let endian = reader.endian();
+        let whole = fde.parse(move |s, b, o| {
+            let _endian = endian;
+            s.cie_from_offset(b, o)
+        })?;
+        assert_eq!(rt; whole.initial_address(), 0x1000);
+        assert_eq!(rt; whole.end_address(), 0x1010);
+        assert_eq!(rt; whole.contains(0x0fff), false);
+        assert_eq!(rt; whole.contains(0x1000), true);
+        assert_eq!(rt; whole.contains(0x100f), true);
+        assert_eq!(rt; whole.contains(0x1010), false);
+        assert_eq!(rt; whole.cie().version(), 1);
+        let cie = section.cie_from_offset(&bases, at(0x14));
+        assert_eq!(rt; cie.err(), Some(Error::NotCieId(0x14)));
+        let fde = section.partial_fde_from_offset(&bases, at(0));
+        assert_eq!(rt; fde.err(), Some(Error::NotCiePointer(0)));
+        let cie = section.cie_from_offset(&bases, at(0x34));
+        assert_eq!(rt; cie.err(), Some(Error::NoEntryAtGivenOffset));
+        let fde = section.partial_fde_from_offset(&bases, at(0x34));
+        assert_eq!(rt; fde.err(), Some(Error::NoEntryAtGivenOffset));
+        let cie = section.cie_from_offset(&bases, at(0x39));
+        assert_eq!(rt; cie.err(), Some(Error::UnexpectedEof(ReaderOffsetId(0))));
+        Ok(())
+    }
+}
+
+#[test]
+fn entries_at_offsets(rt: HostRuntime) -> Outcome {
+    let bytes = WORKED[0].bytes;
+    over_each_reader(&rt, rt.alloc(), &Offsets, bytes, RunTimeEndian::Little)
+}
+
+#[test]
+fn augmentations_and_versions(rt: HostRuntime) -> Outcome {
+    for listed in CASES {
+        over_each_reader(&rt, rt.alloc(), listed, listed.bytes, RunTimeEndian::Little)?;
+    }
+    Ok(())
+}
+
+#[test]
+fn sections_of_programs(rt: HostRuntime) -> Outcome {
+    for listed in SECTIONS {
+        over_each_reader(&rt, rt.alloc(), listed, listed.bytes, RunTimeEndian::Little)?;
+    }
+    Ok(())
+}
