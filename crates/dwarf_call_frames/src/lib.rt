@@ -13,7 +13,7 @@ pub use entries::{
     CfiEntriesIter, CieOrFde, CommonInformationEntry, EhFrame, FrameDescriptionEntry,
     PartialFrameDescriptionEntry, listed_fdes_stand_at_their_offsets,
 };
-pub use expressions::{Expression, UnwindExpression, passed_bytes_are_named};
+pub use expressions::{UnwindExpression, passed_bytes_are_named};
 pub use instructions::{CallFrameInstruction, CallFrameInstructionIter};
 pub use rows::{CfaRule, RegisterRule, UnwindTableRow};
 pub use table::{UnwindContext, UnwindTable};

@@ -14,6 +14,7 @@ use Rattle.framehop.specs.declared.error.UnwinderError.TheVariants.{Dwarf}
 use Rattle.framehop.specs.Attempt.{Fails, by_parts, by_row, by_fde}
 use Rattle.framehop.specs.DirectRow.{stored_at, direct_cfa, direct_column, word_below, direct_return_address, direct_bp, direct_refusal, caller_unless, direct_by_return_address, direct_by_cfa, direct_answer}
 use Rattle.dwarf_call_frames.specs.Entries.{Cie, Fde}
+use Rattle.framehop.specs.RowAnswer.{value_of}
 use Rattle.framehop.specs.RowViews.{parts_shown}
 use Rattle.dwarf_call_frames.specs.Rows.{Row, row_for}
 use Rattle.framehop.specs.ScaledRow.{Parts, RBP, RA, parts_of}
@@ -44,10 +45,10 @@ pub below_is : (words : Words) (cfa at : ℕ) (r : Option ℕ) → 8 ≤ cfa →
 below_is words cfa at r le is read = read ∙ ap words is ∙ ap (λ b. cond b None (words (cfa - 8))) (sym (le-ltb cfa 8 le))
 
 -- the answer of a row, from its CFA and its return address
-pub answer_is : (first : Bool) (registers : UnwindRegsX86_64) (words : Words) (section : List ℕ) (parts : Parts) (cfa : ℕ) (to : Option ℕ) (target : Result (Caller UnwindRegsX86_64) DwarfUnwinderError)
-    → Some cfa ≡ direct_cfa section registers parts.cfa → to ≡ direct_return_address words cfa parts.ra
-    → target ≡ direct_by_return_address first registers words parts cfa to → target ≡ direct_answer first registers words section parts
-answer_is first registers words section parts cfa to target cfa_is to_is h =
+pub answer_is : (limit : Option ℕ) (first : Bool) (registers : UnwindRegsX86_64) (words : Words) (section : List ℕ) (parts : Parts) (cfa : ℕ) (to : Option ℕ) (target : Result (Caller UnwindRegsX86_64) DwarfUnwinderError)
+    → Some cfa ≡ direct_cfa limit section (value_of registers) parts.cfa → to ≡ direct_return_address words cfa parts.ra
+    → target ≡ direct_by_return_address first registers words parts cfa to → target ≡ direct_answer limit first registers words section parts
+answer_is limit first registers words section parts cfa to target cfa_is to_is h =
     h ∙ ap (direct_by_return_address first registers words parts cfa) to_is ∙ ap (direct_by_cfa first registers words parts) cfa_is
 
 -- a refusal stands before the caller

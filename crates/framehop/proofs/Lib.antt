@@ -3,6 +3,7 @@ pub mod CfiIndexOrder
 pub mod DirectRows
 pub mod EntryIndex
 pub mod EntryPlaces
+pub mod Evaluations
 pub mod Halves
 pub mod IndexedModules
 pub mod ModulesInOrder

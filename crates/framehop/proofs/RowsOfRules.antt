@@ -289,8 +289,8 @@ pub law : (parts : Parts) (how : UnwindRuleX86_64) (first : Bool) (registers : U
 law parts how first registers words caller says h = law-by_parts parts.cfa parts.bp parts.ra how first registers words caller says h
 
 -- so what is judged of a scaled row is what its rule comes to
-pub scaled-judged : (parts : Parts) (how : UnwindRuleX86_64) (first : Bool) (registers : UnwindRegsX86_64) (words : Words)
-    → scaled_rule parts ≡ Some how → by_attempt first registers words (Scales how parts) ≡ rule_meaning how first registers words
-scaled-judged parts how first registers words says =
+pub scaled-judged : (limit : Option ℕ) (parts : Parts) (how : UnwindRuleX86_64) (first : Bool) (registers : UnwindRegsX86_64) (words : Words)
+    → scaled_rule parts ≡ Some how → by_attempt limit first registers words (Scales how parts) ≡ rule_meaning how first registers words
+scaled-judged limit parts how first registers words says =
     row_outcome-same (row_answer registers words parts) (rule_meaning how first registers words)
     (λ caller h. law parts how first registers words caller says h)

@@ -1,7 +1,8 @@
 -- The rule that is executed for a frame makes the step that is judged.
 use Rattle.std.proofs.Common.{◌≡◌, ℕ, ◌+◌, ◌-◌, refl, sym, ◌∙◌, ap, subst, Option, Some, None, Bool, true, false, List, Result, Ok, Err}
-use Rattle.std.specs.Prelude.{if◌then◌else◌, nat_lt, ◌^◌, not, IsTrue, ◌↔◌}
-use Rattle.dwarf_constants.specs.declared.error.Error.{Error}
+use Rattle.std.specs.Prelude.{IfOk, ◌≢◌, if◌then◌else◌, nat_lt, ◌^◌, not, IsTrue, ◌↔◌}
+use Rattle.dwarf_constants.specs.declared.error.Error as dwarf
+use Rattle.framehop_registers.specs.declared.error.Error.{Error}
 use Rattle.framehop_registers.specs.Callback.{Words}
 use Rattle.framehop_registers.specs.FrameAddress.{lookup_address_of, IsReturnAddress}
 use Rattle.framehop_rules.specs.RuleMeaning.{rule_meaning}
@@ -14,7 +15,9 @@ use Rattle.framehop_rules.specs.Outcome.{Caller}
 use Rattle.framehop.specs.declared.dwarf.DwarfUnwinderError.{DwarfUnwinderError}
 use Rattle.framehop.specs.declared.unwind_result.UnwindResult.{UnwindResult}
 use Rattle.framehop.specs.declared.unwind_result.UnwindResult.TheVariants.{ExecRule, Uncacheable}
+use Rattle.framehop.specs.declared.dwarf.DwarfUnwinderError.TheVariants.{OutOfMemory}
 use Rattle.framehop.specs.declared.error.UnwinderError.{UnwinderError}
+use Rattle.framehop.specs.declared.error.UnwinderError.TheVariants.{Dwarf}
 use Rattle.dwarf_call_frames.specs.Entries.{Fde}
 use Rattle.dwarf_call_frames.specs.Rows.{Row, row_for}
 use Rattle.framehop.specs.ScaledRow.{Parts, scaled_rule, parts_of}
@@ -23,6 +26,7 @@ use Rattle.framehop.specs.ModuleFound.{Loaded, module_found}
 use Rattle.framehop.specs.Attempt.{Attempt, Rules, Scales, Evaluates, Fails, by_rule, by_row, by_fde, by_section, attempt}
 use Rattle.framehop.specs.Judge.{is_first, or_else, by_attempt, by_module, judge}
 use Rattle.framehop.specs.DirectRow.{direct_answer}
+use Rattle.framehop.specs.Memory.{HasExpression, MeetsExpression}
 use Rattle.framehop.specs.UnwindResults.{Trial, trial, direct_trial, with_registers, KeepsUnlessDirect, outcome_of_result}
 use Rattle.framehop.proofs.RowsOfRules.{scaled-judged}
 
@@ -37,7 +41,7 @@ exact-rule : (section : List ℕ) (parts : Parts) (rule : Option UnwindRuleX86_6
 exact-rule section parts (Some rule) is = is
 exact-rule section parts None is = tt
 
-exact-row : (section : List ℕ) (fde : Fde) (row : Result Row Error) → IsExact (by_row section fde row)
+exact-row : (section : List ℕ) (fde : Fde) (row : Result Row dwarf.Error) → IsExact (by_row section fde row)
 exact-row section fde (Ok row) = exact-rule section (parts_of fde.cie.data_alignment_factor row) (scaled_rule (parts_of fde.cie.data_alignment_factor row)) refl
 exact-row section fde (Err e) = tt
 
@@ -97,35 +101,51 @@ by_its_rule first registers left words how (Ok (Uncacheable to)) is =
 by_its_rule first registers left words how (Err failure) is = cc
 
 -- an attempt comes to what was tried, or, without an answer, to the frame pointer's rule
-executed : (first : Bool) (registers left : UnwindRegsX86_64) (words : Words) (attempted : Attempt) (answer : Result UnwindResult UnwinderError) → IsExact attempted
-    → with_registers left answer ≡ trial first registers words attempted → KeepsUnlessDirect answer registers left
-    → by_attempt first registers words attempted ≡ outcome_of_result (or_fallback answer) first left words
-executed first registers left words (Rules rule) answer exact is keeps = by_its_rule first registers left words rule answer is
-executed first registers left words (Scales rule parts) answer exact is keeps = scaled-judged parts rule first registers words exact ∙ by_its_rule first registers left words rule answer is
-executed first registers left words (Evaluates section parts) answer exact is keeps = directly first registers left words (direct_answer first registers words section parts) answer is keeps
-executed first registers left words (Fails failure) (Ok answer) exact is keeps = cc
-executed first registers left words (Fails failure) (Err other) exact is keeps = ap (λ r. rule_meaning UseFramePointer first r words) (sym keeps)
+executed : (limit : Option ℕ) (first : Bool) (registers left : UnwindRegsX86_64) (words : Words) (attempted : Attempt) (answer : Result UnwindResult UnwinderError) → IsExact attempted
+    → with_registers left answer ≡ trial limit first registers words attempted → KeepsUnlessDirect answer registers left
+    → by_attempt limit first registers words attempted ≡ outcome_of_result (or_fallback answer) first left words
+executed limit first registers left words (Rules rule) answer exact is keeps = by_its_rule first registers left words rule answer is
+executed limit first registers left words (Scales rule parts) answer exact is keeps = scaled-judged limit parts rule first registers words exact ∙ by_its_rule first registers left words rule answer is
+executed limit first registers left words (Evaluates section parts) answer exact is keeps = directly first registers left words (direct_answer limit first registers words section parts) answer is keeps
+executed limit first registers left words (Fails failure) (Ok answer) exact is keeps = cc
+executed limit first registers left words (Fails failure) (Err other) exact is keeps = ap (λ r. rule_meaning UseFramePointer first r words) (sym keeps)
 
 -- the step in a module
-pub step-found : (modules : List Loaded) (address : FrameAddress) (lookup relative : ℕ) (first : Bool) (m : Loaded) (registers left : UnwindRegsX86_64) (words : Words) (answer : Result UnwindResult UnwinderError)
+pub step-found : (limit : Option ℕ) (modules : List Loaded) (address : FrameAddress) (lookup relative : ℕ) (first : Bool) (m : Loaded) (registers left : UnwindRegsX86_64) (words : Words) (answer : Result UnwindResult UnwinderError)
     → lookup ≡ lookup_address_of address → module_found modules lookup ≡ Some m → relative ≡ lookup - m.base → first ≡ is_first address
-    → with_registers left answer ≡ trial first registers words (attempt m relative) → KeepsUnlessDirect answer registers left
-    → judge modules address registers words ≡ outcome_of_result (or_fallback answer) (is_first address) left words
-step-found modules address lookup relative first m registers left words answer looked found counted kind answered keeps =
+    → with_registers left answer ≡ trial limit first registers words (attempt m relative) → KeepsUnlessDirect answer registers left
+    → judge limit modules address registers words ≡ outcome_of_result (or_fallback answer) (is_first address) left words
+step-found limit modules address lookup relative first m registers left words answer looked found counted kind answered keeps =
     let here : module_found modules (lookup_address_of address) ≡ Some m = (let P : ℕ → Type 0 = λ n. module_found modules n ≡ Some m in subst P looked found) in
     let at : relative ≡ lookup_address_of address - m.base = counted ∙ ap (λ n. n - m.base) looked in
-    let is : with_registers left answer ≡ trial (is_first address) registers words (attempt m (lookup_address_of address - m.base))
-    = answered ∙ ap (λ n. trial first registers words (attempt m n)) at ∙ ap (λ b. trial b registers words (attempt m (lookup_address_of address - m.base))) kind in
-    ap (by_module (is_first address) registers words (lookup_address_of address)) here
-    ∙ executed (is_first address) registers left words (attempt m (lookup_address_of address - m.base)) answer (exact-section m.base_svma (lookup_address_of address - m.base) m.eh_frame) is keeps
+    let is : with_registers left answer ≡ trial limit (is_first address) registers words (attempt m (lookup_address_of address - m.base))
+    = answered ∙ ap (λ n. trial limit first registers words (attempt m n)) at ∙ ap (λ b. trial limit b registers words (attempt m (lookup_address_of address - m.base))) kind in
+    ap (by_module limit (is_first address) registers words (lookup_address_of address)) here
+    ∙ executed limit (is_first address) registers left words (attempt m (lookup_address_of address - m.base)) answer (exact-section m.base_svma (lookup_address_of address - m.base) m.eh_frame) is keeps
+
+-- an expression that the module has for an address
+pub step-expression : (modules : List Loaded) (address : FrameAddress) (lookup relative : ℕ) (m : Loaded)
+    → lookup ≡ lookup_address_of address → module_found modules lookup ≡ Some m → relative ≡ lookup - m.base
+    → HasExpression (attempt m relative) → MeetsExpression modules (lookup_address_of address)
+step-expression modules address lookup relative m looked found counted has =
+    let P : ℕ → Type 0 = λ n. HasExpression (attempt m n) in
+    let Q : ℕ → Type 0 = λ n. MeetsExpression modules n in
+    subst Q looked (m, found, subst P counted has)
+
+-- after a failure that isn't want of memory, what holds of the frame pointer's rule holds of the answer
+pub followed : (answer : Result UnwindResult Error) (failure : UnwinderError) (P : UnwindResult → Type 0)
+    → IfOk answer (λ a. a ≡ ExecRule UseFramePointer) → IfOk answer (λ a. failure ≢ Dwarf OutOfMemory)
+    → (failure ≢ Dwarf OutOfMemory → P (ExecRule UseFramePointer)) → IfOk answer P
+followed (Ok a) failure P is other holds = subst P (sym is) (holds other)
+followed (Err e) failure P is other holds = tt
 
 -- the step without a module
-pub step-none : (modules : List Loaded) (address : FrameAddress) (lookup : ℕ) (rule : UnwindRuleX86_64)
+pub step-none : (limit : Option ℕ) (modules : List Loaded) (address : FrameAddress) (lookup : ℕ) (rule : UnwindRuleX86_64)
     → lookup ≡ lookup_address_of address → module_found modules lookup ≡ None → rule ≡ UseFramePointer
-    → (registers : UnwindRegsX86_64) (words : Words) → judge modules address registers words ≡ rule_meaning rule (is_first address) registers words
-step-none modules address lookup rule looked found chosen registers words =
+    → (registers : UnwindRegsX86_64) (words : Words) → judge limit modules address registers words ≡ rule_meaning rule (is_first address) registers words
+step-none limit modules address lookup rule looked found chosen registers words =
     let here : module_found modules (lookup_address_of address) ≡ None = (let P : ℕ → Type 0 = λ n. module_found modules n ≡ None in subst P looked found) in
-    ap (by_module (is_first address) registers words (lookup_address_of address)) here
+    ap (by_module limit (is_first address) registers words (lookup_address_of address)) here
     ∙ ap (λ x. rule_meaning x (is_first address) registers words) (sym chosen)
 
 -- a frame is the first where it has no return address

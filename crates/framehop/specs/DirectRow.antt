@@ -1,10 +1,6 @@
 -- What a row that no rule says exactly comes to, in whole numbers (DWARF 5, 6.4.1), on x86_64.
-use Rattle.std.specs.Prelude.{ℕ, ◌+◌, ◌-◌, ◌%◌, ◌^◌, ℤ, pos, negsuc, ◌+ℤ◌, List, Bool, not, ◌&&◌, Option, Some, None, option_and_then, option_map, unwrap_or, Result, Ok, Err, ◌==◌, nat_lt, if◌then◌else◌}
-use Rattle.std.specs.Int.{w64, cast_unsigned}
+use Rattle.std.specs.Prelude.{ℕ, ◌-◌, ◌^◌, ℤ, pos, negsuc, ◌+ℤ◌, List, Bool, not, ◌&&◌, Option, Some, None, option_and_then, unwrap_or, Result, Ok, Err, ◌==◌, nat_lt, if◌then◌else◌}
 use Rattle.std.specs.Option.{option_or}
-use Rattle.dwarf_constants.specs.declared.common.Register.{Register}
-use Rattle.dwarf_constants.specs.declared.error.Error.{Error}
-use Rattle.dwarf_readers.specs.Place.{Stretch}
 use Rattle.framehop_registers.specs.Callback.{Words}
 use Rattle.framehop_rules.specs.Outcome.{Caller}
 use Rattle.framehop_registers.specs.Registers.{ip_of, sp_of, bp_of}
@@ -16,7 +12,8 @@ use Rattle.dwarf_call_frames.specs.declared.rows.RegisterRule.{RegisterRule}
 use Rattle.dwarf_call_frames.specs.declared.rows.RegisterRule.TheVariants as rule
 use Rattle.framehop.specs.declared.dwarf.DwarfUnwinderError.{DwarfUnwinderError}
 use Rattle.framehop.specs.declared.dwarf.DwarfUnwinderError.TheVariants.{CouldNotRecoverCfa, CouldNotRecoverReturnAddress, DidNotAdvance, StackPointerMovedBackwards}
-use Rattle.dwarf_call_frames.specs.Expressions.{expression_at, register_plus}
+use Rattle.dwarf_call_frames.specs.Expressions.{expression_at}
+use Rattle.framehop.specs.ExpressionValue.{RegisterValues, expression_value}
 use Rattle.framehop.specs.RowAnswer.{value_of}
 use Rattle.framehop.specs.ScaledRow.{Parts}
 
@@ -29,21 +26,12 @@ in_half (negsuc n) = None
 abbrev pub sum_of : ℕ → ℤ → Option ℕ
 sum_of base offset = if nat_lt base (2 ^ 63) then in_half (pos base +ℤ offset) else None
 
--- a register's value plus an offset, modulo 2^64
-abbrev pub plus_wrapped : UnwindRegsX86_64 → (Register × ℤ) → Option ℕ
-plus_wrapped registers (register, offset) =
-    option_map (λ base. (base + cast_unsigned w64 offset) % 2 ^ 64) (value_of registers register)
-
--- the value of an expression: it has one where it adds an offset to a register that has a value
-abbrev pub expression_value : UnwindRegsX86_64 → Result Stretch Error → Option ℕ
-expression_value registers (Ok bytes) = option_and_then (plus_wrapped registers) (register_plus bytes)
-expression_value registers (Err e) = None
-
--- the canonical frame address
-abbrev pub direct_cfa : List ℕ → UnwindRegsX86_64 → CfaRule → Option ℕ
-direct_cfa section registers (RegisterAndOffset register offset) =
-    option_and_then (λ base. sum_of base offset) (value_of registers register)
-direct_cfa section registers (Expression expression) = expression_value registers (expression_at section expression)
+-- the canonical frame address, by the registers that have values and the limit of an expression's values
+abbrev pub direct_cfa : Option ℕ → List ℕ → RegisterValues → CfaRule → Option ℕ
+direct_cfa limit section registers (RegisterAndOffset register offset) =
+    option_and_then (λ base. sum_of base offset) (registers register)
+direct_cfa limit section registers (Expression expression) =
+    expression_value limit registers (expression_at section expression)
 
 -- where a column is stored, at a CFA
 abbrev pub stored_at : ℕ → RegisterRule → Option ℕ
@@ -97,7 +85,7 @@ direct_by_cfa first registers words parts (Some cfa) =
     direct_by_return_address first registers words parts cfa (direct_return_address words cfa parts.ra)
 
 -- the caller that a row of a section gives in a first or a later frame, or the first refusal
-abbrev pub direct_answer : Bool → UnwindRegsX86_64 → Words → List ℕ → Parts
+abbrev pub direct_answer : Option ℕ → Bool → UnwindRegsX86_64 → Words → List ℕ → Parts
     → Result (Caller UnwindRegsX86_64) DwarfUnwinderError
-direct_answer first registers words section parts =
-    direct_by_cfa first registers words parts (direct_cfa section registers parts.cfa)
+direct_answer limit first registers words section parts =
+    direct_by_cfa first registers words parts (direct_cfa limit section (value_of registers) parts.cfa)

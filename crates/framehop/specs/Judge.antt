@@ -1,4 +1,5 @@
--- One step of a stack walk, from the modules, the code address of the frame, its registers and the words of the stack.
+-- One step of a stack walk, from the limit of an expression's values, if there is one, the modules, the code address of the
+-- frame, its registers and the words of the stack.
 use Rattle.std.specs.Prelude.{ℕ, ◌-◌, List, Bool, true, false, Option, Some, None, Result, Ok, Err}
 use Rattle.framehop_registers.specs.Callback.{Words}
 use Rattle.framehop_registers.specs.FrameAddress.{lookup_address_of}
@@ -32,24 +33,26 @@ or_else (Err failure) otherwise = otherwise
 
 -- what a module's attempt comes to. Whether a scaled row answers, ends or refuses is its rule's, the caller of an
 -- answer is the row's. After a failure, that of a direct row among them, the frame pointer is followed
-abbrev pub by_attempt : Bool → UnwindRegsX86_64 → Words → Attempt → Outcome (Caller UnwindRegsX86_64)
-by_attempt first registers words (Rules rule) = rule_meaning rule first registers words
-by_attempt first registers words (Scales rule parts) =
+abbrev pub by_attempt : Option ℕ → Bool → UnwindRegsX86_64 → Words → Attempt → Outcome (Caller UnwindRegsX86_64)
+by_attempt limit first registers words (Rules rule) = rule_meaning rule first registers words
+by_attempt limit first registers words (Scales rule parts) =
     and_then (rule_meaning rule first registers words) (λ _. row_outcome (row_answer registers words parts))
-by_attempt first registers words (Evaluates section parts) =
-    or_else (direct_answer first registers words section parts) (rule_meaning UseFramePointer first registers words)
-by_attempt first registers words (Fails failure) = rule_meaning UseFramePointer first registers words
+by_attempt limit first registers words (Evaluates section parts) =
+    or_else (direct_answer limit first registers words section parts) (rule_meaning UseFramePointer first registers words)
+by_attempt limit first registers words (Fails failure) = rule_meaning UseFramePointer first registers words
 
 -- without a module the frame pointer is followed
-abbrev pub by_module : Bool → UnwindRegsX86_64 → Words → ℕ → Option Loaded → Outcome (Caller UnwindRegsX86_64)
-by_module first registers words address None = rule_meaning UseFramePointer first registers words
-by_module first registers words address (Some module_) =
-    by_attempt first registers words (attempt module_ (address - module_.base))
+abbrev pub by_module : Option ℕ → Bool → UnwindRegsX86_64 → Words → ℕ → Option Loaded → Outcome (Caller UnwindRegsX86_64)
+by_module limit first registers words address None = rule_meaning UseFramePointer first registers words
+by_module limit first registers words address (Some module_) =
+    by_attempt limit first registers words (attempt module_ (address - module_.base))
 
 -- the judgment of a step in a first or a later frame, by the address that the frame is looked up by
-abbrev pub judge_at : List Loaded → Bool → ℕ → UnwindRegsX86_64 → Words → Outcome (Caller UnwindRegsX86_64)
-judge_at modules first address registers words = by_module first registers words address (module_found modules address)
+abbrev pub judge_at : Option ℕ → List Loaded → Bool → ℕ → UnwindRegsX86_64 → Words → Outcome (Caller UnwindRegsX86_64)
+judge_at limit modules first address registers words =
+    by_module limit first registers words address (module_found modules address)
 
 -- the judgment of a step
-abbrev pub judge : List Loaded → FrameAddress → UnwindRegsX86_64 → Words → Outcome (Caller UnwindRegsX86_64)
-judge modules address registers words = judge_at modules (is_first address) (lookup_address_of address) registers words
+abbrev pub judge : Option ℕ → List Loaded → FrameAddress → UnwindRegsX86_64 → Words → Outcome (Caller UnwindRegsX86_64)
+judge limit modules address registers words =
+    judge_at limit modules (is_first address) (lookup_address_of address) registers words

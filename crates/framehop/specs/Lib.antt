@@ -4,7 +4,9 @@ pub mod CfiIndexView
 pub mod DirectRow
 pub mod DirectViews
 pub mod EntryFor
+pub mod ExpressionValue
 pub mod Judge
+pub mod Memory
 pub mod ModuleFound
 pub mod ModuleViews
 pub mod RowAnswer

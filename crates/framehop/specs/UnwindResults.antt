@@ -1,5 +1,5 @@
 -- What the parts of a step answer, and the registers that they leave.
-use Rattle.std.specs.Prelude.{◌≡◌, Bool, Result, Ok, Err}
+use Rattle.std.specs.Prelude.{◌≡◌, ℕ, Bool, Option, Result, Ok, Err}
 use Rattle.framehop_registers.specs.Callback.{Words}
 use Rattle.framehop_rules.specs.Outcome.{Outcome, Answers, Caller}
 use Rattle.framehop_rules.specs.RuleMeaning.{rule_meaning, IsValid}
@@ -21,12 +21,14 @@ abbrev pub direct_trial : Result (Caller UnwindRegsX86_64) DwarfUnwinderError �
 direct_trial (Ok caller) = Ok (Uncacheable caller.return_address, caller.registers)
 direct_trial (Err failure) = Err (Dwarf failure)
 
--- what an attempt comes to before any rule is executed: the rule, or a direct answer, and the registers then
-abbrev pub trial : Bool → UnwindRegsX86_64 → Words → Attempt → Trial
-trial first registers words (Rules rule) = Ok (ExecRule rule, registers)
-trial first registers words (Scales rule parts) = Ok (ExecRule rule, registers)
-trial first registers words (Evaluates section parts) = direct_trial (direct_answer first registers words section parts)
-trial first registers words (Fails failure) = Err failure
+-- what an attempt comes to before any rule is executed: the rule, or a direct answer by the limit of an expression's
+-- values, and the registers then
+abbrev pub trial : Option ℕ → Bool → UnwindRegsX86_64 → Words → Attempt → Trial
+trial limit first registers words (Rules rule) = Ok (ExecRule rule, registers)
+trial limit first registers words (Scales rule parts) = Ok (ExecRule rule, registers)
+trial limit first registers words (Evaluates section parts) =
+    direct_trial (direct_answer limit first registers words section parts)
+trial limit first registers words (Fails failure) = Err failure
 
 -- an answer with the registers that are left
 abbrev pub with_registers : UnwindRegsX86_64 → Result UnwindResult UnwinderError → Trial

@@ -1,18 +1,22 @@
 //! The entry of a section `.eh_frame` for an address, and what its row comes to.
 
-ghost use Rattle.std.specs.Prelude.{◌≡◌, ℕ, ◌+◌, ◌^◌, ◌≤◌, Some, option_map, IfOk, IfErr};
+ghost use Rattle.std.specs.Prelude.{◌≡◌, ◌≢◌, ℕ, ◌+◌, ◌^◌, ◌≤◌, Some, option_map, Err, IfOk, IfErr};
 ghost use Rattle.dwarf_call_frames.specs.EntryViews.{section_bytes, fde_view};
 ghost use Rattle.framehop.specs.EntryFor.{indexed_entry};
 ghost use Rattle.framehop.specs.CfiIndexView.{IsIndexOf};
 ghost use Rattle.framehop_registers.specs.Callback.{OverWords};
 ghost use Rattle.framehop.specs.Attempt.{by_fde};
+ghost use Rattle.framehop.specs.Memory.{HasExpression, TakesMemory};
+ghost use Rattle.framehop.specs.declared.dwarf.DwarfUnwinderError.TheVariants.{OutOfMemory};
 ghost use Rattle.framehop.specs.UnwindResults.{trial, with_registers, of_dwarf, KeepsUnlessDirect, HasValidRule};
 
 use crate::cfi_index::DwarfCfiIndex;
 use crate::unwind_result::UnwindResult;
 use crate::x86_64::unwind_frame;
 use dwarf_call_frames::{EhFrame, FrameDescriptionEntry, UnwindContext};
+use dwarf_expressions::EvaluationStorage;
 use framehop_rules::x86_64::{UnwindRegsX86_64, UnwindRuleX86_64};
+use std::alloc::Global;
 
 /// Why an entry can't be used.
 #[derive(Debug, Clone, Copy, PartialEq, Eq)]
@@ -27,6 +31,8 @@ pub(crate) enum DwarfUnwinderError {
     DidNotAdvance,
     /// The caller's stack pointer would be below that of a frame that isn't the first.
     StackPointerMovedBackwards,
+    /// Memory for the values of the CFA's expression was refused.
+    OutOfMemory,
 }
 
 /// The entry that the section's index has for an address relative to the base: of those with the
@@ -46,7 +52,8 @@ pub(crate) fn indexed_fde<'a>(
 /// What an entry of a section says of an address of its code: the rule that says its row exactly,
 /// or else what the row gives by itself; and where no row is for the address, the rule for code that
 /// no entry covers.
-pub(crate) fn unwind_frame_with_fde<F: FnMut(u64) -> Result<u64, ()>>(
+pub(crate) fn unwind_frame_with_fde<S: EvaluationStorage, F: FnMut(u64) -> Result<u64, ()>>(
+    alloc: Global,
     section: &EhFrame,
     fde: &FrameDescriptionEntry,
     address: u64,
@@ -58,13 +65,18 @@ pub(crate) fn unwind_frame_with_fde<F: FnMut(u64) -> Result<u64, ()>>(
     requires { F.IsAlwaysCallable read_stack.old }
     ensures callable { F.IsAlwaysCallable read_stack.new }
     ensures trial { OverWords F.step read_stack.old read_stack.new (λ words.
-        with_registers regs.new (of_dwarf result) ≡ trial is_first_frame regs.old words
+        result ≢ Err OutOfMemory → with_registers regs.new (of_dwarf result)
+        ≡ trial S.Stack.capacity is_first_frame regs.old words
         (by_fde (section_bytes section.now) address (Some (fde_view fde.now)))) }
+    ensures expression { result ≡ Err OutOfMemory
+        → HasExpression (by_fde (section_bytes section.now) address (Some (fde_view fde.now))) }
+    ensures memory { result ≡ Err OutOfMemory
+        → TakesMemory S.Stack.is_made_in_place S.Stack.capacity }
     ensures keeps { KeepsUnlessDirect result regs.old regs.new }
     ensures valid { IfOk result HasValidRule }
 {
     match fde.unwind_info_for_address(context, address) {
-        Ok(row) => unwind_frame(section, row, is_first_frame, regs, read_stack),
+        Ok(row) => unwind_frame::<S, F>(alloc, section, row, is_first_frame, regs, read_stack),
         Err(_) => Ok(UnwindResult::ExecRule(UnwindRuleX86_64::JustReturnIfFirstFrameOtherwiseFp)),
     }
 }

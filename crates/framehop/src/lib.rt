@@ -1,6 +1,7 @@
 //! A stack unwinder: modules with their unwind sections, and the step from a frame to its caller.
 #![tactic(auto)]
 
+mod cache;
 mod cfi_index;
 mod dwarf;
 mod error;
@@ -9,6 +10,11 @@ mod unwind_result;
 mod unwinder;
 pub mod x86_64;
 
+pub use cache::{
+    AllocationPolicy, MayAllocateDuringUnwind, MustNotAllocateDuringUnwind, StoreOnStack,
+    must_not_allocate_takes_no_memory,
+};
 pub use cfi_index::{DwarfCfiIndex, DwarfCfiIndexError, LookUp};
+pub use evaluation::DwarfUnwindRegs;
 pub use framehop_rules::{Arch, Error, FrameAddress, HexNum, UnwindRule};
 pub use unwinder::Module;

@@ -1,6 +1,6 @@
 //! The modules of a process, and the one that an address is in.
 
-ghost use Rattle.std.specs.Prelude.{◌≡◌, ◌-◌, [], option_map, IfSome, IfNone, IfOk, IfErr, OnOk, OnErr, MatchOption};
+ghost use Rattle.std.specs.Prelude.{◌≡◌, ◌≢◌, ◌-◌, Err, [], option_map, IfSome, IfNone, IfOk, IfErr, OnOk, OnErr, MatchOption};
 ghost use Rattle.std.specs.List.Sorted.{IsNonDecreasingBy};
 ghost use Rattle.framehop.specs.CfiIndexView.{IsIndexed, IsUnindexed};
 
@@ -9,6 +9,7 @@ use crate::dwarf::{indexed_fde, lookup_address, unwind_frame_with_fde};
 use crate::error::UnwinderError;
 use crate::unwind_result::UnwindResult;
 use dwarf_call_frames::{EhFrame, UnwindContext};
+use dwarf_expressions::EvaluationStorage;
 use framehop_rules::x86_64::UnwindRegsX86_64;
 use std::alloc::{AllocError, AllocFailed, Global};
 use std::ops::Range;
@@ -59,6 +60,9 @@ impl Module {
     ghost use Rattle.framehop.specs.ModuleViews.{module_view};
     ghost use Rattle.framehop.specs.ModuleFound.{is_inside, if_inside};
     ghost use Rattle.framehop.specs.Attempt.{attempt};
+    ghost use Rattle.framehop.specs.Memory.{HasExpression, TakesMemory};
+    ghost use Rattle.framehop.specs.declared.dwarf.DwarfUnwinderError.TheVariants.{OutOfMemory};
+    ghost use Rattle.framehop.specs.declared.error.UnwinderError.TheVariants.{Dwarf};
     ghost use Rattle.framehop_registers.specs.Callback.{OverWords};
     ghost use Rattle.framehop.specs.UnwindResults.{trial, with_registers, KeepsUnlessDirect, HasValidRule};
 
@@ -128,8 +132,9 @@ impl Module {
 
     /// What the module says of a frame at a relative address: a rule, or the return address where the
     /// registers are the caller's already; or why it says nothing, with the registers as they were.
-    pub(crate) fn unwind_frame<F: FnMut(u64) -> Result<u64, ()>>(
+    pub(crate) fn unwind_frame<S: EvaluationStorage, F: FnMut(u64) -> Result<u64, ()>>(
         &self,
+        alloc: Global,
         relative_address: u32,
         is_first_frame: bool,
         regs: &mut UnwindRegsX86_64,
@@ -139,8 +144,13 @@ impl Module {
         requires { F.IsAlwaysCallable read_stack.old }
         ensures callable { F.IsAlwaysCallable read_stack.new }
         ensures trial { OverWords F.step read_stack.old read_stack.new (λ words.
-            with_registers regs.new result ≡ trial is_first_frame regs.old words
+            result ≢ Err (Dwarf OutOfMemory) → with_registers regs.new result
+            ≡ trial S.Stack.capacity is_first_frame regs.old words
             (attempt (module_view self.now) relative_address)) }
+        ensures expression { result ≡ Err (Dwarf OutOfMemory)
+            → HasExpression (attempt (module_view self.now) relative_address) }
+        ensures memory { result ≡ Err (Dwarf OutOfMemory)
+            → TakesMemory S.Stack.is_made_in_place S.Stack.capacity }
         ensures keeps { KeepsUnlessDirect result regs.old regs.new }
         ensures valid { IfOk result HasValidRule }
     {
@@ -155,7 +165,8 @@ impl Module {
             return Err(UnwinderError::DwarfCfiIndexCouldNotFindAddress);
         };
         let address = lookup_address(self.base_svma, relative_address)?;
-        unwind_frame_with_fde(
+        unwind_frame_with_fde::<S, F>(
+            alloc,
             &section,
             &fde,
             address,

@@ -3,6 +3,7 @@ use Rattle.std.proofs.Common.{◌≡◌, ℕ, ◌/◌, ◌%◌, List, [], ◌∷
 use Rattle.std.specs.Prelude.{slice_get, ◌==◌, if◌then◌else◌}
 use Rattle.dwarf_call_frames.specs.Entries.{entries_from, whole_fdes}
 use Rattle.dwarf_call_frames.specs.Instructions.{instructions_of}
+use Rattle.dwarf_expressions.specs.Evaluation.{run}
 use Rattle.framehop_registers.specs.Callback.{Words}
 use Rattle.framehop_rules.specs.Outcome.{Outcome, Refuses, Answers, Caller}
 use Rattle.framehop_registers.specs.Registers.{ip_of, sp_of, bp_of}
@@ -50,34 +51,34 @@ abbrev numbers : Outcome (Caller UnwindRegsX86_64) → List ℕ
 numbers (Answers caller) = caller.return_address ∷ ip_of caller.registers ∷ sp_of caller.registers ∷ bp_of caller.registers ∷ []
 numbers outcome = []
 
-at_the_start : numbers (judge (loaded pushes) (InstructionPointer 0x101000) (registers 0x101000 0x10 0x20) words) ≡ 0x100300 ∷ 0x100300 ∷ 0x18 ∷ 0x20 ∷ []
+at_the_start : numbers (judge (Some 64) (loaded pushes) (InstructionPointer 0x101000) (registers 0x101000 0x10 0x20) words) ≡ 0x100300 ∷ 0x100300 ∷ 0x18 ∷ 0x20 ∷ []
 unfolding entries_from whole_fdes instructions_of has_index indexed_entry
 at_the_start = refl
 
-after_the_push : numbers (judge (loaded pushes) (InstructionPointer 0x101002) (registers 0x101002 0x20 0x20) words) ≡ 0x100200 ∷ 0x100200 ∷ 0x30 ∷ 0x40 ∷ []
+after_the_push : numbers (judge (Some 64) (loaded pushes) (InstructionPointer 0x101002) (registers 0x101002 0x20 0x20) words) ≡ 0x100200 ∷ 0x100200 ∷ 0x30 ∷ 0x40 ∷ []
 unfolding entries_from whole_fdes instructions_of has_index indexed_entry
 after_the_push = refl
 
-in_the_body : numbers (judge (loaded pushes) (InstructionPointer 0x101004) (registers 0x101004 0x18 0x20) words) ≡ 0x100200 ∷ 0x100200 ∷ 0x30 ∷ 0x40 ∷ []
+in_the_body : numbers (judge (Some 64) (loaded pushes) (InstructionPointer 0x101004) (registers 0x101004 0x18 0x20) words) ≡ 0x100200 ∷ 0x100200 ∷ 0x30 ∷ 0x40 ∷ []
 unfolding entries_from whole_fdes instructions_of has_index indexed_entry
 in_the_body = refl
 
-of_a_cut_section : numbers (judge (loaded cut) (InstructionPointer 0x101000) (registers 0x101000 0x10 0x20) words) ≡ 0x100200 ∷ 0x100200 ∷ 0x30 ∷ 0x40 ∷ []
+of_a_cut_section : numbers (judge (Some 64) (loaded cut) (InstructionPointer 0x101000) (registers 0x101000 0x10 0x20) words) ≡ 0x100200 ∷ 0x100200 ∷ 0x30 ∷ 0x40 ∷ []
 unfolding entries_from whole_fdes instructions_of has_index indexed_entry
 of_a_cut_section = refl
 
-below_the_stack : judge (loaded no_offset) (InstructionPointer 0x101000) (registers 0x101000 0 0x20) words ≡ Refuses IntegerOverflow
+below_the_stack : judge (Some 64) (loaded no_offset) (InstructionPointer 0x101000) (registers 0x101000 0 0x20) words ≡ Refuses IntegerOverflow
 unfolding entries_from whole_fdes instructions_of has_index indexed_entry
 below_the_stack = refl
 
-by_12_bytes : numbers (judge (loaded twelve) (InstructionPointer 0x101000) (registers 0x101000 0x14 0x20) words) ≡ 4 ∷ 4 ∷ 0x20 ∷ 0x20 ∷ []
+by_12_bytes : numbers (judge (Some 64) (loaded twelve) (InstructionPointer 0x101000) (registers 0x101000 0x14 0x20) words) ≡ 4 ∷ 4 ∷ 0x20 ∷ 0x20 ∷ []
 unfolding entries_from whole_fdes instructions_of has_index indexed_entry
 by_12_bytes = refl
 
-by_an_expression : numbers (judge (loaded by_expression) (InstructionPointer 0x101010) (registers 0x101010 0x10 0x20) words) ≡ 0x100300 ∷ 0x100300 ∷ 0x18 ∷ 0x20 ∷ []
-unfolding entries_from whole_fdes instructions_of has_index indexed_entry
+by_an_expression : numbers (judge (Some 64) (loaded by_expression) (InstructionPointer 0x101010) (registers 0x101010 0x10 0x20) words) ≡ 0x100300 ∷ 0x100300 ∷ 0x18 ∷ 0x20 ∷ []
+unfolding entries_from whole_fdes instructions_of has_index indexed_entry run
 by_an_expression = refl
 
-above_the_stack : judge (loaded by_expression) (InstructionPointer 0x101010) (registers 0x101010 0x1000 0x20) words ≡ Refuses FramepointerUnwindingMovedBackwards
-unfolding entries_from whole_fdes instructions_of has_index indexed_entry
+above_the_stack : judge (Some 64) (loaded by_expression) (InstructionPointer 0x101010) (registers 0x101010 0x1000 0x20) words ≡ Refuses FramepointerUnwindingMovedBackwards
+unfolding entries_from whole_fdes instructions_of has_index indexed_entry run
 above_the_stack = refl

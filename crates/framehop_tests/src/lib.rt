@@ -9,6 +9,8 @@ mod cfi_index;
 #[cfg(test)]
 mod documents;
 #[cfg(test)]
+mod expressions;
+#[cfg(test)]
 mod pop_lists;
 #[cfg(test)]
 mod rule_cache;

@@ -2,7 +2,7 @@
 use crate::worked::word_at;
 use dwarf_tests::WORKED;
 use framehop::x86_64::{CacheX86_64, UnwindRegsX86_64, UnwinderX86_64};
-use framehop::{FrameAddress, Module};
+use framehop::{AllocationPolicy, FrameAddress, MayAllocateDuringUnwind, Module};
 use std::test::Fail;
 
 /// An FDE that follows the worked section's: a function of sixteen bytes at 0x1010, whose CFA is the
@@ -13,10 +13,10 @@ const BY_EXPRESSION: [u8; 32] = [
 ];
 
 /// The registers ip, sp and bp.
-type Registers = (u64, u64, u64);
+pub type Registers = (u64, u64, u64);
 
 /// What a step answers in a module with this section, and the registers that it leaves.
-fn step(
+pub fn step<P: AllocationPolicy>(
     rt: &HostRuntime,
     section: &[u8],
     (ip, sp, bp): Registers,
@@ -25,7 +25,7 @@ fn step(
     let module = Module::new(rt.alloc(), 0x100000..0x102000, 0x100000, 0, Some(section))?;
     let mut unwinder = UnwinderX86_64::new(rt.alloc());
     unwinder.add_module(module)?;
-    let mut cache = CacheX86_64::new(rt.alloc())?;
+    let mut cache = CacheX86_64::<P>::new_in(rt.alloc())?;
     let mut regs = UnwindRegsX86_64::new(ip, sp, bp);
     let address = FrameAddress::from_instruction_pointer(ip);
     let mut read = word_at;
@@ -63,7 +63,7 @@ fn a_row_gives_the_caller(rt: HostRuntime) -> Result<(), Fail> {
             (0x100300, 0x18, 0x20),
         ),
     ] {
-        let (return_address, registers) = step(&rt, section, frame)?;
+        let (return_address, registers) = step::<MayAllocateDuringUnwind>(&rt, section, frame)?;
         assert_eq!(rt; return_address, Some(caller.0), "{place}");
         assert_eq!(rt; registers, caller, "{place}");
     }

@@ -4,7 +4,7 @@ use anyhow::Result;
 use dwarf_call_frames::EhFrame;
 use dwarf_readers::{EndianSlice, LittleEndian, Reader};
 use framehop::x86_64::{CacheX86_64, UnwindRegsX86_64, UnwinderX86_64};
-use framehop::{DwarfCfiIndex, FrameAddress, Module};
+use framehop::{DwarfCfiIndex, FrameAddress, MayAllocateDuringUnwind, Module};
 use std::alloc::Global;
 use std::time::{Clock, Duration, Instant};
 
@@ -125,7 +125,7 @@ pub fn time(clock: &impl Clock, alloc: Global, work: &Work) -> Result<Times> {
 /// Makes a step from each of the frames, and counts those that answered a return address.
 fn steps(
     unwinder: &UnwinderX86_64,
-    cache: &mut CacheX86_64,
+    cache: &mut CacheX86_64<MayAllocateDuringUnwind>,
     stack: &Stack,
     frames: &[Frame],
 ) -> u32 {

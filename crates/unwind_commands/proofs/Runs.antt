@@ -79,14 +79,14 @@ numbered_after old new caches caches_now task tasks made counted h =
     subst (λ (n : ℕ). AreNumbered n caches_now tasks) (sym (ap length made ∙ length-unwinders_after old task)) (subst (λ (k : ℕ). AreNumbered (unwinder_count_after (length old) task) k tasks) (sym counted) h.1)
 
 -- the lines that are left begin with that of the next command
-pub written_next : (old mid new : Option (List ℕ)) (before after : List (List Loaded)) (task : Task) (tasks : List Task) (line all : List ℕ) → after ≡ unwinders_after before task → line ≡ line_of before task → IsWritten old mid (lines_of before (task ∷ tasks)) all → Appends mid new line → IsWritten old new (lines_of after tasks) all
-written_next old mid new before after task tasks line all made lined h added =
-    written_more old mid new line (lines_of after tasks) all (subst (λ (left : List ℕ). IsWritten old mid left all) (ap (λ (xs : List ℕ). xs ++ lines_of (unwinders_after before task) tasks) (sym lined) ∙ ap (λ (us : List (List Loaded)). line ++ lines_of us tasks) (sym made)) h) added
+pub written_next : (limit : Option ℕ) (old mid new : Option (List ℕ)) (before after : List (List Loaded)) (task : Task) (tasks : List Task) (line all : List ℕ) → after ≡ unwinders_after before task → line ≡ line_of limit before task → IsWritten old mid (lines_of limit before (task ∷ tasks)) all → Appends mid new line → IsWritten old new (lines_of limit after tasks) all
+written_next limit old mid new before after task tasks line all made lined h added =
+    written_more old mid new line (lines_of limit after tasks) all (subst (λ (left : List ℕ). IsWritten old mid left all) (ap (λ (xs : List ℕ). xs ++ lines_of limit (unwinders_after before task) tasks) (sym lined) ∙ ap (λ (us : List (List Loaded)). line ++ lines_of limit us tasks) (sym made)) h) added
 
 -- a front of the line of the next command is written
-pub begun_next : (old mid new : Option (List ℕ)) (before : List (List Loaded)) (task : Task) (tasks : List Task) (line all : List ℕ) → line ≡ line_of before task → IsWritten old mid (lines_of before (task ∷ tasks)) all → AppendsFront mid new line → AppendsFront old new all
-begun_next old mid new before task tasks line all lined h added =
-    let left = lines_of (unwinders_after before task) tasks in
+pub begun_next : (limit : Option ℕ) (old mid new : Option (List ℕ)) (before : List (List Loaded)) (task : Task) (tasks : List Task) (line all : List ℕ) → line ≡ line_of limit before task → IsWritten old mid (lines_of limit before (task ∷ tasks)) all → AppendsFront mid new line → AppendsFront old new all
+begun_next limit old mid new before task tasks line all lined h added =
+    let left = lines_of limit (unwinders_after before task) tasks in
     begun_line old mid new line left all (subst (λ (xs : List ℕ). IsWritten old mid xs all) (ap (λ (xs : List ℕ). xs ++ left) (sym lined)) h) added
 
 -- what holds in any case holds after an error

@@ -6,9 +6,11 @@ use Rattle.unwind_commands.specs.declared.document.command.Load.{Load}
 use Rattle.unwind_commands.specs.declared.document.command.Section.{Section}
 use Rattle.unwind_commands.specs.declared.document.command.Stack.{Stack}
 use Rattle.unwind_commands.specs.declared.document.command.Step.{Step}
+use Rattle.unwind_commands.specs.declared.document.Document.{Document}
 use Rattle.unwind_commands.specs.declared.document.made.Made as memory
 use Rattle.unwind_commands.specs.declared.document.fault.Refusal.{Refusal}
 use Rattle.unwind_commands.specs.declared.document.fault.Refusal.TheVariants as refusal
+use Rattle.unwind_commands.specs.Document.{Content}
 use Rattle.unwind_commands.specs.Commands.{SectionData, Loading, StackWords, Stepping, Task, Made, make_unwinder, make_cache, load_module, take_step}
 
 -- the value as f sees it, or the same error
@@ -63,6 +65,10 @@ task_of (commands.Step s) = take_step (step_view s)
 -- commands
 abbrev pub tasks_of : List Command → List Task
 tasks_of cs = map task_of cs
+
+-- a document
+abbrev pub content_view : Document → Content
+content_view d = record { policy = d.policy; tasks = tasks_of d.commands.items }
 
 -- what earlier commands made
 abbrev pub made_view : memory.Made → Made

@@ -1,4 +1,4 @@
--- What the bytes of a document say: its commands, or its first fault.
+-- What the bytes of a document say: its policy and its commands, or its first fault.
 use Rattle.std.specs.Prelude.{ℕ, ◌+◌, ◌&&◌, ◌||◌, Bool, false, nat_lt, nat_le, is_some, if◌then◌else◌, List, [], ◌∷◌, length, codes, bytes_eq, Option, None, option_and_then, ok_or, Result, Ok, Err}
 use Rattle.std.specs.Option.{option_map_or}
 use Rattle.std.specs.Str.{is_utf8}
@@ -10,6 +10,8 @@ use Rattle.serde_json.specs.Written.{has_float}
 use Rattle.unwind_commands.specs.declared.document.fault.FaultName.TheVariants.{TooLong, NotJson, FloatNumber, BadDocument}
 use Rattle.unwind_commands.specs.declared.document.fault.Fault.{Fault}
 use Rattle.unwind_commands.specs.declared.document.TheConstants.{DOCUMENT_LIMIT, COMMAND_LIMIT}
+use Rattle.unwind_commands.specs.declared.document.Policy.{Policy}
+use Rattle.unwind_commands.specs.declared.document.Policy.TheVariants.{May, Must}
 use Rattle.unwind_commands.specs.Faults.{Checked, ◌>>=◌}
 use Rattle.unwind_commands.specs.Json.{has_only}
 use Rattle.unwind_commands.specs.Commands.{Task, Made, command_in, made_after}
@@ -50,6 +52,10 @@ is_supported d =
     has_only document_names d && is_text (codes "x86_64") (codes "arch") d
     && (is_text (codes "may") (codes "policy") d || is_text (codes "must") (codes "policy") d)
 
+-- the policy that a document names, where its fields are as they have to be
+abbrev pub policy_of : Data → Policy
+policy_of d = if is_text (codes "must") (codes "policy") d then Must else May
+
 -- the commands, if they are not more
 unfoldable pub few_commands : Items → Checked Items
 few_commands ds = if nat_le (items_len ds) COMMAND_LIMIT then Ok ds else Err BadDocument
@@ -86,8 +92,24 @@ commands_from n made (item d ds) = do
 abbrev pub nothing_made : Made
 nothing_made = record { loaded = []; caches = 0 }
 
--- the commands of a document's bytes, or their first fault: unit 0 is the document itself, the commands count from 1
-abbrev pub content_of : List ℕ → Result (List Task) Fault
+-- what a document asks for: commands, and the policy under which they run
+pub record Content : Type 0 where
+  pub policy : Policy
+  pub tasks : List Task
+
+-- commands under a policy
+abbrev pub under : Policy → Result (List Task) Fault → Result Content Fault
+under policy (Ok tasks) = Ok (record { policy = policy; tasks = tasks })
+under policy (Err fault) = Err fault
+
+-- what a document asks for, or its first fault: unit 0 is the document itself, the commands count from 1
+abbrev pub content_in : Data → Result Content Fault
+content_in d = do
+  items ← in_unit 0 (document_in d)
+  under (policy_of d) (commands_from 1 nothing_made items)
+
+-- the same of a document's bytes
+abbrev pub content_of : List ℕ → Result Content Fault
 content_of bytes =
     if nat_lt DOCUMENT_LIMIT (length bytes) then Err (record { name = TooLong; number = 0 })
-    else in_unit 0 (ok_or (json_of bytes) NotJson >>= document_in) >>= commands_from 1 nothing_made
+    else in_unit 0 (ok_or (json_of bytes) NotJson) >>= content_in

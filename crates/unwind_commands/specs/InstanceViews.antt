@@ -5,9 +5,9 @@ use Rattle.framehop.specs.ModuleFound.{Loaded}
 use Rattle.framehop.specs.ModuleViews.{modules_of}
 
 -- the modules of each unwinder
-abbrev pub modules_in : Instances → List (List Loaded)
+abbrev pub modules_in : {P : Type 0} → Instances P → List (List Loaded)
 modules_in instances = map modules_of instances.unwinders.items
 
 -- how many caches there are
-abbrev pub caches_in : Instances → ℕ
+abbrev pub caches_in : {P : Type 0} → Instances P → ℕ
 caches_in instances = vec_len instances.caches

@@ -1,5 +1,5 @@
 -- What a run writes for a document: a line for each step, or one for the first fault.
-use Rattle.std.specs.Prelude.{ℕ, ◌-◌, ◌/◌, ◌%◌, List, [], ◌∷◌, ◌++◌, Bool, true, false, ◌&&◌, codes, bytes_eq, slice_get, slice_set, Option, None, Result, Ok, Err, ◌==◌, nat_le, if◌then◌else◌}
+use Rattle.std.specs.Prelude.{ℕ, ◌-◌, ◌/◌, ◌%◌, List, [], ◌∷◌, ◌++◌, Bool, true, false, ◌&&◌, codes, bytes_eq, slice_get, slice_set, Option, Some, None, Result, Ok, Err, ◌==◌, nat_le, if◌then◌else◌}
 use Rattle.std.specs.List.{slice_index_or}
 use Rattle.std.specs.Option.{option_or}
 use Rattle.framehop_registers.specs.Callback.{Words}
@@ -8,10 +8,12 @@ use Rattle.framehop_registers.specs.declared.x86_64.unwindregs.UnwindRegsX86_64.
 use Rattle.unwind_commands.specs.declared.document.command.FrameKind.{FrameKind}
 use Rattle.unwind_commands.specs.declared.document.command.FrameKind.TheVariants.{Ip, Ra}
 use Rattle.unwind_commands.specs.declared.document.fault.Fault.{Fault}
+use Rattle.unwind_commands.specs.declared.document.Policy.{Policy}
+use Rattle.unwind_commands.specs.declared.document.Policy.TheVariants.{May, Must}
 use Rattle.unwind_commands.specs.declared.status.Ending.{Ending}
 use Rattle.unwind_commands.specs.declared.status.Ending.TheVariants.{Completed, Faulted}
 use Rattle.unwind_commands.specs.Commands.{StackWords, SectionData, Loading, Stepping, Task, make_unwinder, load_module, take_step}
-use Rattle.unwind_commands.specs.Document.{content_of}
+use Rattle.unwind_commands.specs.Document.{Content, content_of}
 use Rattle.unwind_commands.specs.Faults.{fault_line}
 use Rattle.framehop.specs.Judge.{judge_at}
 use Rattle.unwind_commands.specs.Lines.{line, outcome_line}
@@ -69,25 +71,31 @@ lookup_address_at Ra address = address - 1
 abbrev pub registers_of : Stepping → UnwindRegsX86_64
 registers_of s = new_registers s.ip s.sp s.bp
 
--- the line of a step over modules
-abbrev pub line_at : List Loaded → Stepping → List ℕ
-line_at modules s =
+-- how many values of an expression a policy has room for; `may` has no limit
+abbrev pub value_limit : Policy → Option ℕ
+value_limit May = None
+value_limit Must = Some 64
+
+-- the line of a step over modules, by the limit of an expression's values
+abbrev pub line_at : Option ℕ → List Loaded → Stepping → List ℕ
+line_at limit modules s =
     outcome_line (registers_of s)
-    (judge_at modules (is_first_kind s.kind) (lookup_address_at s.kind s.address) (registers_of s) (words_of s.stack))
+    (judge_at limit modules (is_first_kind s.kind) (lookup_address_at s.kind s.address) (registers_of s) (words_of s.stack))
 
 -- what a command writes
-abbrev pub line_of : List (List Loaded) → Task → List ℕ
-line_of unwinders (take_step s) = line_at (modules_at unwinders s.unwinder) s
-line_of unwinders _ = []
+abbrev pub line_of : Option ℕ → List (List Loaded) → Task → List ℕ
+line_of limit unwinders (take_step s) = line_at limit (modules_at unwinders s.unwinder) s
+line_of limit unwinders _ = []
 
 -- what commands write, one after another
-abbrev pub lines_of : List (List Loaded) → List Task → List ℕ
-lines_of unwinders [] = []
-lines_of unwinders (task ∷ tasks) = line_of unwinders task ++ lines_of (unwinders_after unwinders task) tasks
+abbrev pub lines_of : Option ℕ → List (List Loaded) → List Task → List ℕ
+lines_of limit unwinders [] = []
+lines_of limit unwinders (task ∷ tasks) =
+    line_of limit unwinders task ++ lines_of limit (unwinders_after unwinders task) tasks
 
 -- what is written for the commands of a document, or for its fault
-abbrev pub answer_to : Result (List Task) Fault → List ℕ
-answer_to (Ok tasks) = lines_of [] tasks
+abbrev pub answer_to : Result Content Fault → List ℕ
+answer_to (Ok content) = lines_of (value_limit content.policy) [] content.tasks
 answer_to (Err fault) = line (fault_line fault)
 
 -- what is written for the bytes of a document
@@ -95,8 +103,8 @@ abbrev pub text_of : List ℕ → List ℕ
 text_of bytes = answer_to (content_of bytes)
 
 -- how the run ends
-abbrev pub ending_for : Result (List Task) Fault → Ending
-ending_for (Ok tasks) = Completed
+abbrev pub ending_for : Result Content Fault → Ending
+ending_for (Ok content) = Completed
 ending_for (Err fault) = Faulted
 
 -- how the run of a document ends

@@ -1,9 +1,9 @@
 //! The document: JSON text in, typed commands or the first fault out.
 ghost use Rattle.std.specs.Prelude.{◌≡◌, IfOk, ok_or};
 ghost use Rattle.serde_json.specs.View.{items_view, members_view, view};
-ghost use Rattle.unwind_commands.specs.Document.{have_own_float, commands_from, content_of, document_in, has_float_outside, few_commands, is_supported, json_of, nothing_made, has_own_float, is_text};
+ghost use Rattle.unwind_commands.specs.Document.{have_own_float, commands_from, content_of, document_in, has_float_outside, few_commands, is_supported, json_of, nothing_made, has_own_float, is_text, policy_of};
 ghost use Rattle.unwind_commands.specs.Commands.{AreSound};
-ghost use Rattle.unwind_commands.specs.CommandViews.{Decodes, result_map, tasks_of};
+ghost use Rattle.unwind_commands.specs.CommandViews.{Decodes, content_view, result_map, tasks_of};
 ghost use Rattle.unwind_commands.specs.declared.document.fault.FaultName.TheVariants.{NotJson};
 
 mod address;
@@ -29,6 +29,22 @@ use std::alloc::Global;
 pub const DOCUMENT_LIMIT: usize = 16_777_216;
 /// The most commands that a document may have.
 pub const COMMAND_LIMIT: usize = 65_536;
+
+/// Whether the steps of a document may take memory.
+#[derive(Clone, Copy, Debug, PartialEq, Eq)]
+pub enum Policy {
+    /// They may, and an expression has room for any number of values.
+    May,
+    /// They take none, and an expression has room for 64 values.
+    Must,
+}
+
+/// What a document asks for.
+#[derive(Debug, Drop)]
+pub struct Document {
+    pub policy: Policy,
+    pub commands: Vec<Command>,
+}
 
 /// Whether a member has a float that is the document's: the elements of a list
 /// of commands are units of their own.
@@ -85,6 +101,17 @@ fn is_supported(document: &Value) -> bool
     has_only(document, &["arch", "policy", "commands"])
         && is_text(document, "arch", "x86_64")
         && (is_text(document, "policy", "may") || is_text(document, "policy", "must"))
+}
+
+/// The policy, in a document whose own fields are as they have to be.
+fn policy_of(document: &Value) -> Policy
+    ensures { result ≡ policy_of (view document.now) }
+{
+    if is_text(document, "policy", "must") {
+        Policy::Must
+    } else {
+        Policy::May
+    }
 }
 
 /// The commands, of which there may not be too many.
@@ -146,20 +173,25 @@ fn read(alloc: Global, text: &[u8]) -> Result<Value, Refusal<FaultName>>
     }
 }
 
-/// The commands of a document's bytes, or their first fault: a text of JSON (RFC 8259)
-/// with the fields `arch`, `policy` and `commands`. Unit 0 is the document itself, and the
-/// commands count from 1. The units are checked one after the other, and of the faults of a
-/// unit the one of the first class counts. Memory may run out on any document.
-pub fn decode(alloc: Global, text: &[u8]) -> Result<Vec<Command>, Refusal<Fault>>
-    ensures decoded { Decodes (λ commands. tasks_of commands.items) result (content_of text.now) }
+/// What a document's bytes ask for, or their first fault: a text of JSON (RFC 8259) with the
+/// fields `arch`, `policy` and `commands`. Unit 0 is the document itself, and the commands count
+/// from 1. The units are checked one after the other, and of the faults of a unit the one of
+/// the first class counts. Memory may run out on any document.
+pub fn decode(alloc: Global, text: &[u8]) -> Result<Document, Refusal<Fault>>
+    ensures decoded { Decodes content_view result (content_of text.now) }
 
     // What a command names was made by those before it.
-    ensures sound { IfOk result (λ commands. AreSound nothing_made (tasks_of commands.items)) }
+    ensures sound { IfOk result (λ document.
+        AreSound nothing_made (tasks_of document.commands.items)) }
 {
     if text.len() > DOCUMENT_LIMIT {
         return Err(Refusal::Fault(Fault::of_document(FaultName::TooLong)));
     }
     let document = in_unit(0, read(alloc, text))?;
     let items = document_in(&document).map_err(Fault::of_document)?;
-    commands(alloc, items)
+    let commands = commands(alloc, items)?;
+    Ok(Document {
+        policy: policy_of(&document),
+        commands,
+    })
 }

@@ -13,21 +13,21 @@ ghost use Rattle.unwind_commands.specs.declared.document.command.FrameKind.TheVa
 use crate::document::{Command, FrameKind, Load, Section, Stack, Step};
 use crate::lines::step_line;
 use framehop::x86_64::{CacheX86_64, UnwindRegsX86_64, UnwinderX86_64};
-use framehop::{FrameAddress, Module};
+use framehop::{AllocationPolicy, FrameAddress, Module};
 use std::alloc::{AllocError, Global};
 
 /// The unwinders and the caches that commands have made, numbered from 0.
 #[derive(Drop)]
-pub(crate) struct Instances {
+pub(crate) struct Instances<P> {
     unwinders: Vec<UnwinderX86_64>,
-    caches: Vec<CacheX86_64>,
+    caches: Vec<CacheX86_64<P>>,
 }
 
-impl Instances {
+impl<P: AllocationPolicy> Instances<P> {
     ghost use Rattle.unwind_commands.specs.InstanceViews.{modules_in, caches_in};
 
     /// Nothing is made yet.
-    pub fn new(alloc: Global) -> Instances
+    pub fn new(alloc: Global) -> Instances<P>
         ensures unwinders { modules_in result ≡ [] }
         ensures caches { caches_in result ≡ 0 }
     {
@@ -42,7 +42,8 @@ impl Instances {
         requires { IsNumbered (length (modules_in self.old)) (caches_in self.old)
             (task_of command) }
         ensures line { IfOk result (λ line.
-            string_bytes line ≡ line_of (modules_in self.old) (task_of command)) }
+            string_bytes line ≡ line_of P.GimliEvaluationStorage.Stack.capacity
+            (modules_in self.old) (task_of command)) }
         ensures unwinders { OnOk result
             (modules_in self.new ≡ unwinders_after (modules_in self.old) (task_of command)) }
         ensures caches { OnOk result
@@ -50,7 +51,7 @@ impl Instances {
     {
         match command {
             Command::Unwinder => self.unwinders.push(UnwinderX86_64::new(alloc))?,
-            Command::Cache => self.caches.push(CacheX86_64::new(alloc)?)?,
+            Command::Cache => self.caches.push(CacheX86_64::new_in(alloc)?)?,
             Command::Load(load) => self.load(alloc, load)?,
             Command::Step(step) => return self.step(alloc, &step),
         }
@@ -76,7 +77,8 @@ impl Instances {
         requires { IsNumbered (length (modules_in self.old)) (caches_in self.old)
             (task_of (Command.Step step.now)) }
         ensures line { IfOk result (λ line. string_bytes line
-            ≡ line_of (modules_in self.old) (task_of (Command.Step step.now))) }
+            ≡ line_of P.GimliEvaluationStorage.Stack.capacity
+            (modules_in self.old) (task_of (Command.Step step.now))) }
         ensures unwinders { modules_in self.new ≡ modules_in self.old }
         ensures caches { caches_in self.new ≡ caches_in self.old }
     {

@@ -1,5 +1,6 @@
 //! The lines that a run writes. Each ends with a line feed.
-ghost use Rattle.std.specs.Prelude.{◌≡◌, Some, IfOk, string_bytes};
+ghost use Rattle.std.specs.Prelude.{◌≡◌, ◌≢◌, ◌↔◌, Err, Some, IfOk, IsTrue, string_bytes};
+ghost use Rattle.framehop_registers.specs.declared.error.Error.TheVariants.{OutOfMemory};
 ghost use Rattle.unwind_commands.specs.Lines.{error_name, answer_text, registers_text, step_text, step_line};
 
 use framehop::Error;
@@ -79,13 +80,31 @@ impl fmt::Display for StepText {
     }
 }
 
-/// The line of a step: what it answers, and the registers that it leaves.
+/// Whether a step wanted memory.
+fn wants_memory(answer: Result<Option<u64>, Error>) -> bool
+    ensures { IsTrue result ↔ (answer ≡ Err OutOfMemory) }
+{
+    match answer {
+        Ok(_) => false,
+        Err(error) => match error {
+            Error::OutOfMemory => true,
+            _ => false,
+        },
+    }
+}
+
+/// The line of a step: what it answers, and the registers that it leaves. A step that wanted memory
+/// has no line: memory is wanted here too.
 pub(crate) fn step_line(
     alloc: Global,
     answer: Result<Option<u64>, Error>,
     registers: UnwindRegsX86_64,
 ) -> Result<String, AllocError>
-    ensures { IfOk result (λ text. string_bytes text ≡ step_line answer registers) }
+    ensures line { IfOk result (λ text. string_bytes text ≡ step_line answer registers) }
+    ensures memory { IfOk result (λ text. answer ≢ Err OutOfMemory) }
 {
+    if wants_memory(answer) {
+        return Err(AllocError);
+    }
     format!(in alloc; "{}\n", StepText { answer, registers })
 }

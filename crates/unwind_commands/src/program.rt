@@ -1,16 +1,17 @@
 //! One run of the program: a document in, its answers out.
 ghost use Rattle.std.specs.Prelude.{◌≡◌, ◌↔◌, ◌≢◌, [], false, IsTrue, IfOk, IfErr, IfSome, IsErrOf, OnErr, OnOk};
 ghost use Rattle.std.specs.Io.KnownBytes.{Appends};
-ghost use Rattle.unwind_commands.specs.Text.{text_of, ending_of, lines_of};
+ghost use Rattle.unwind_commands.specs.Text.{text_of, ending_of, lines_of, value_limit};
 ghost use Rattle.unwind_commands.specs.Numbered.{AreNumbered};
 ghost use Rattle.unwind_commands.specs.Stream.{AppendsFront};
 ghost use Rattle.unwind_commands.specs.CommandViews.{tasks_of};
 
-use crate::document::{Command, Refusal, decode};
+use crate::document::{Command, Document, Policy, Refusal, decode};
 use crate::instances::Instances;
 use crate::status::{Ending, RunError};
 use crate::stream::{Sink, Source};
 use crate::transfer::{read_document, write_all};
+use framehop::{AllocationPolicy, MayAllocateDuringUnwind, MustNotAllocateDuringUnwind};
 use std::alloc::Global;
 
 /// Reads a document, and writes a line for each of its steps, or one for its first fault.
@@ -53,8 +54,8 @@ fn answer<W: Sink>(alloc: Global, document: &[u8], writer: &mut W) -> Result<End
         (text_of document.now)) }
 {
     match decode(alloc, document) {
-        Ok(commands) => {
-            run_commands(alloc, commands, writer)?;
+        Ok(document) => {
+            run_document(alloc, document, writer)?;
             Ok(Ending::Completed)
         }
         Err(Refusal::Fault(fault)) => {
@@ -66,8 +67,26 @@ fn answer<W: Sink>(alloc: Global, document: &[u8], writer: &mut W) -> Result<End
     }
 }
 
+/// Carries out a document's commands under its policy.
+fn run_document<W: Sink>(alloc: Global, document: Document, writer: &mut W) -> Result<(), RunError>
+    requires writer { W.has_failed writer.old ≡ false }
+    requires numbered { AreNumbered 0 0 (tasks_of document.commands.items) }
+    ensures text { OnOk result (Appends (W.contents writer.old) (W.contents writer.new)
+        (lines_of (value_limit document.policy) [] (tasks_of document.commands.items))) }
+    ensures write { IsErrOf result RunError.Write ↔ IsTrue (W.has_failed writer.new) }
+    ensures no_read { IfErr result (λ error. error ≢ RunError.Read) }
+    ensures begun { OnErr result (AppendsFront (W.contents writer.old) (W.contents writer.new)
+        (lines_of (value_limit document.policy) [] (tasks_of document.commands.items))) }
+{
+    let commands = document.commands;
+    match document.policy {
+        Policy::May => run_commands::<MayAllocateDuringUnwind, W>(alloc, commands, writer),
+        Policy::Must => run_commands::<MustNotAllocateDuringUnwind, W>(alloc, commands, writer),
+    }
+}
+
 /// Carries out commands in their order, and writes what each of them writes.
-fn run_commands<W: Sink>(
+fn run_commands<P: AllocationPolicy, W: Sink>(
     alloc: Global,
     mut commands: Vec<Command>,
     writer: &mut W,
@@ -75,14 +94,14 @@ fn run_commands<W: Sink>(
     requires writer { W.has_failed writer.old ≡ false }
     requires numbered { AreNumbered 0 0 (tasks_of commands.items) }
     ensures text { OnOk result (Appends (W.contents writer.old) (W.contents writer.new)
-        (lines_of [] (tasks_of commands.items))) }
+        (lines_of P.GimliEvaluationStorage.Stack.capacity [] (tasks_of commands.items))) }
     ensures write { IsErrOf result RunError.Write ↔ IsTrue (W.has_failed writer.new) }
     ensures no_read { IfErr result (λ error. error ≢ RunError.Read) }
     ensures begun { OnErr result (AppendsFront (W.contents writer.old) (W.contents writer.new)
-        (lines_of [] (tasks_of commands.items))) }
+        (lines_of P.GimliEvaluationStorage.Stack.capacity [] (tasks_of commands.items))) }
 {
     commands.reverse();
-    let mut instances = Instances::new(alloc);
+    let mut instances = Instances::<P>::new(alloc);
     while let Some(command) = commands.pop() {
         let line = instances.perform(alloc, command)?;
         write_all(writer, line.as_bytes())?;

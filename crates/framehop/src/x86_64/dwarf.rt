@@ -1,24 +1,42 @@
 //! The rows of x86_64: as unwind rules, or evaluated.
 
-ghost use Rattle.std.specs.Prelude.{◌≡◌, Bool, option_and_then, IfSome, IfOk};
+ghost use Rattle.std.specs.Prelude.{◌≡◌, ◌≢◌, Bool, option_and_then, Err, IfSome, IfOk};
 ghost use Rattle.framehop_registers.specs.Callback.{Words, OverWords};
 ghost use Rattle.framehop.specs.Attempt.{by_parts};
 ghost use Rattle.framehop.specs.DirectRow.{direct_return_address, direct_refusal, direct_answer};
 ghost use Rattle.framehop.specs.DirectViews.{caller_shown};
+ghost use Rattle.framehop.specs.Memory.{HasExpression, IsExpression, TakesMemory};
 ghost use Rattle.dwarf_call_frames.specs.EntryViews.{section_bytes};
 ghost use Rattle.framehop.specs.UnwindResults.{trial, with_registers, of_dwarf, KeepsUnlessDirect, HasValidRule};
 ghost use Rattle.framehop_rules.specs.Outcome.{Answers, Caller};
 ghost use Rattle.framehop_rules.specs.RuleMeaning.{rule_meaning, IsValid};
-ghost use Rattle.framehop.specs.RowAnswer.{row_answer};
+ghost use Rattle.framehop.specs.RowAnswer.{row_answer, value_of};
+ghost use Rattle.framehop.specs.declared.dwarf.DwarfUnwinderError.TheVariants.{OutOfMemory};
 ghost use Rattle.framehop.specs.ScaledRow.{Parts, eighth_of, as_u16, as_i16, from_sp, from_bp, from_return_address, scaled_rule};
 ghost use Rattle.framehop.specs.RowViews.{parts_shown};
 
 use crate::dwarf::DwarfUnwinderError;
-use crate::evaluation::{eval_cfa_rule, eval_register_rule, read_below};
+use crate::evaluation::{DwarfUnwindRegs, eval_cfa_rule, eval_register_rule, read_below};
 use crate::unwind_result::UnwindResult;
 use dwarf_call_frames::{CfaRule, EhFrame, RegisterRule, UnwindTableRow};
-use dwarf_read_core::X86_64;
+use dwarf_expressions::EvaluationStorage;
+use dwarf_read_core::{Register, X86_64};
 use framehop_rules::x86_64::{UnwindRegsX86_64, UnwindRuleX86_64};
+use std::alloc::Global;
+
+/// RSP, RBP, and RIP by the return address's column (System V ABI for AMD64, figure 3.36).
+impl DwarfUnwindRegs for UnwindRegsX86_64 {
+    ghost value_of = { value_of };
+
+    fn get(&self, register: Register) -> Option<u64> {
+        match register {
+            X86_64::RA => Some(self.ip()),
+            X86_64::RSP => Some(self.sp()),
+            X86_64::RBP => Some(self.bp()),
+            _ => None,
+        }
+    }
+}
 
 /// The eighth of a multiple of 8.
 fn exact_eighth(offset: i64) -> Option<i64>
@@ -157,7 +175,8 @@ fn refusal(
 }
 
 /// The caller that a row gives. A column of RBP without a value keeps RBP.
-fn eval_row<F: FnMut(u64) -> Result<u64, ()>>(
+fn eval_row<S: EvaluationStorage, F: FnMut(u64) -> Result<u64, ()>>(
+    alloc: Global,
     section: &EhFrame,
     row: &UnwindTableRow,
     is_first_frame: bool,
@@ -167,12 +186,18 @@ fn eval_row<F: FnMut(u64) -> Result<u64, ()>>(
     requires { F.IsAlwaysCallable read_stack.old }
     ensures callable { F.IsAlwaysCallable read_stack.new }
     ensures caller { OverWords F.step read_stack.old read_stack.new (λ words.
-        caller_shown regs.now result ≡ direct_answer is_first_frame regs.now words
+        result ≢ Err OutOfMemory → caller_shown regs.now result
+        ≡ direct_answer S.Stack.capacity is_first_frame regs.now words
         (section_bytes section.now) (parts_shown row.now)) }
+    ensures expression { result ≡ Err OutOfMemory → IsExpression (parts_shown row.now).cfa }
+    ensures memory { result ≡ Err OutOfMemory
+        → TakesMemory S.Stack.is_made_in_place S.Stack.capacity }
 {
-    let cfa = match eval_cfa_rule(section, *row.cfa(), regs) {
-        Some(cfa) => cfa,
-        None => return Err(DwarfUnwinderError::CouldNotRecoverCfa),
+    let Ok(found) = eval_cfa_rule::<S, _>(alloc, section, *row.cfa(), regs) else {
+        return Err(DwarfUnwinderError::OutOfMemory);
+    };
+    let Some(cfa) = found else {
+        return Err(DwarfUnwinderError::CouldNotRecoverCfa);
     };
     let stored_bp = eval_register_rule(row.register(X86_64::RBP), cfa, read_stack);
     let return_address = match eval_return_address(row.register(X86_64::RA), cfa, read_stack) {
@@ -191,7 +216,8 @@ fn eval_row<F: FnMut(u64) -> Result<u64, ()>>(
 
 /// What a row of a section says of a frame: the rule that says the row exactly, or else the caller
 /// that the row gives by itself, whose registers it leaves then. An `Err` leaves them as they were.
-pub(crate) fn unwind_frame<F: FnMut(u64) -> Result<u64, ()>>(
+pub(crate) fn unwind_frame<S: EvaluationStorage, F: FnMut(u64) -> Result<u64, ()>>(
+    alloc: Global,
     section: &EhFrame,
     row: &UnwindTableRow,
     is_first_frame: bool,
@@ -201,15 +227,20 @@ pub(crate) fn unwind_frame<F: FnMut(u64) -> Result<u64, ()>>(
     requires { F.IsAlwaysCallable read_stack.old }
     ensures callable { F.IsAlwaysCallable read_stack.new }
     ensures trial { OverWords F.step read_stack.old read_stack.new (λ words.
-        with_registers regs.new (of_dwarf result) ≡ trial is_first_frame regs.old words
+        result ≢ Err OutOfMemory → with_registers regs.new (of_dwarf result)
+        ≡ trial S.Stack.capacity is_first_frame regs.old words
         (by_parts (section_bytes section.now) (parts_shown row.now))) }
+    ensures expression { result ≡ Err OutOfMemory
+        → HasExpression (by_parts (section_bytes section.now) (parts_shown row.now)) }
+    ensures memory { result ≡ Err OutOfMemory
+        → TakesMemory S.Stack.is_made_in_place S.Stack.capacity }
     ensures keeps { KeepsUnlessDirect result regs.old regs.new }
     ensures valid { IfOk result HasValidRule }
 {
     if let Some(rule) = rule_for_row(row) {
         return Ok(UnwindResult::ExecRule(rule));
     }
-    let caller = eval_row(section, row, is_first_frame, regs, read_stack)?;
+    let caller = eval_row::<S, F>(alloc, section, row, is_first_frame, regs, read_stack)?;
     regs.set_ip(caller.return_address);
     regs.set_sp(caller.sp);
     regs.set_bp(caller.bp);

@@ -190,10 +190,3 @@ commands_sound n made (item d ds) ts is =
     let w = with_ok s.0 (commands_from (n + 1) (made_after made s.0) ds) ts s.2 in
     subst (AreSound made) w.2
     (command_sound made d s.0 (unit_ok n (command_in made d) s.0 s.1), commands_sound (n + 1) (made_after made s.0) ds w.0 w.1)
-
--- the commands that a call returned are sound
-pub returned_sound : (r : Result (Vec Command Global) (Refusal Fault)) (ds : Items)
-    → Decodes (λ commands. tasks_of commands.items) r (commands_from 1 nothing_made ds)
-    → IfOk r (λ commands. AreSound nothing_made (tasks_of commands.items))
-returned_sound (Ok commands) ds is = commands_sound 1 nothing_made ds (tasks_of commands.items) is
-returned_sound (Err refusal) ds is = tt

@@ -10,7 +10,7 @@ use Rattle.unwind_commands.specs.declared.document.fault.Refusal.TheVariants as 
 use Rattle.unwind_commands.specs.CommandViews.{Decodes}
 use Rattle.unwind_commands.specs.Faults.{Checked, ◌>>=◌}
 use Rattle.unwind_commands.specs.Commands.{Task, Made, command_in, made_after}
-use Rattle.unwind_commands.specs.Document.{commands_from, in_unit, with_task, content_of, document_in, json_of, nothing_made}
+use Rattle.unwind_commands.specs.Document.{Content, commands_from, content_in, content_of, document_in, in_unit, json_of, nothing_made, policy_of, under, with_task}
 use Rattle.unwind_commands.specs.declared.document.TheConstants.{DOCUMENT_LIMIT}
 
 -- commands that are decoded, and what the rest gives
@@ -56,8 +56,8 @@ behind-refused seen view all tasks n made d ds refusal.OutOfMemory is bad = tt
 -- ---- the whole document
 
 -- what a document of a good length gives
-abbrev of_json : Option Data → Result (List Task) Fault
-of_json d = in_unit 0 (ok_or d NotJson >>= document_in) >>= commands_from 1 nothing_made
+abbrev of_json : Option Data → Result Content Fault
+of_json d = in_unit 0 (ok_or d NotJson) >>= content_in
 
 pub content_of-long : (bytes : List ℕ) → nat_lt DOCUMENT_LIMIT (length bytes) ≡ true → content_of bytes ≡ Err (record { name = TooLong; number = 0 })
 content_of-long bytes long = ap (λ b. cond b (Err (record { name = TooLong; number = 0 })) (of_json (json_of bytes))) long
@@ -73,9 +73,9 @@ content_of-no-json bytes short none = content_of-short bytes None short none
 pub content_of-bad : (bytes : List ℕ) (d : Data) (name : FaultName) → nat_lt DOCUMENT_LIMIT (length bytes) ≡ false → json_of bytes ≡ Some d → document_in d ≡ Err name
     → content_of bytes ≡ Err (record { name = name; number = 0 })
 content_of-bad bytes d name short is bad =
-    content_of-short bytes (Some d) short is ∙ ap (λ r. in_unit 0 r >>= commands_from 1 nothing_made) bad
+    content_of-short bytes (Some d) short is ∙ ap (λ r. in_unit 0 r >>= λ items. under (policy_of d) (commands_from 1 nothing_made items)) bad
 
 pub content_of-good : (bytes : List ℕ) (d : Data) (ds : Items) → nat_lt DOCUMENT_LIMIT (length bytes) ≡ false → json_of bytes ≡ Some d → document_in d ≡ Ok ds
-    → content_of bytes ≡ commands_from 1 nothing_made ds
+    → content_of bytes ≡ under (policy_of d) (commands_from 1 nothing_made ds)
 content_of-good bytes d ds short is good =
-    content_of-short bytes (Some d) short is ∙ ap (λ r. in_unit 0 r >>= commands_from 1 nothing_made) good
+    content_of-short bytes (Some d) short is ∙ ap (λ r. in_unit 0 r >>= λ items. under (policy_of d) (commands_from 1 nothing_made items)) good

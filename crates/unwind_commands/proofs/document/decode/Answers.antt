@@ -1,6 +1,8 @@
 use Rattle.serde_json.specs.View.{items_view}
-use Rattle.unwind_commands.proofs.DocumentLemmas.Known.{returned_sound}
+use Rattle.unwind_commands.specs.Document.{nothing_made}
+use Rattle.unwind_commands.specs.CommandViews.{tasks_of}
+use Rattle.unwind_commands.proofs.DocumentLemmas.Known.{commands_sound}
 use Rattle.unwind_commands.proofs.document.decode.Goals as goal
 
 pub returns-clause-sound : goal.returns-clause-sound
-returns-clause-sound c = returned_sound c.commands.result (items_view c.in_ok-items.items.now.items) c.commands.ensures
+returns-clause-sound c = commands_sound 1 nothing_made (items_view c.in_ok-items.items.now.items) (tasks_of c.in_ok-commands.commands.items) c.in_ok-commands.ensures

@@ -5,8 +5,8 @@ use Rattle.unwind_commands.specs.Text.{text_of}
 use Rattle.unwind_commands.proofs.Runs.{begun_none, on_err}
 use Rattle.unwind_commands.proofs.program.answer.Goals as goal
 
-pub run_commands-requires-clause-numbered : goal.run_commands-requires-clause-numbered
-run_commands-requires-clause-numbered g c = numbered_sound nothing_made (tasks_of c.in-Ok.commands.items) c.in-Ok.ensures.sound
+pub run_document-requires-clause-numbered : goal.run_document-requires-clause-numbered
+run_document-requires-clause-numbered g c = numbered_sound nothing_made (tasks_of c.in-Ok.document.commands.items) c.in-Ok.ensures.sound
 
 pub returns-in_err-line-in-Err-Fault-clause-begun : goal.returns-in_err-line-in-Err-Fault-clause-begun
 returns-in_err-line-in-Err-Fault-clause-begun g c =

@@ -9,21 +9,24 @@ use Rattle.unwind_commands.proofs.program.run_commands.Goals as goal
 
 pub returns-in_err-line-clause-begun : goal.returns-in_err-line-clause-begun
 returns-in_err-line-clause-begun g c =
-    on_err _ (written_front (g.W.Sink.contents c.args.writer.now) (g.W.Sink.contents c.loop-command.writer) (lines_of (modules_in c.loop-command.instances) (tasks_of (reverse c.loop-command.commands.items))) (lines_of [] (tasks_of c.args.commands.items)) c.loop-command.invariant.written)
+    let limit = g.P.GimliEvaluationStorage.Stack.ArrayLike.capacity in
+    on_err _ (written_front (g.W.Sink.contents c.args.writer.now) (g.W.Sink.contents c.loop-command.writer) (lines_of limit (modules_in c.loop-command.instances) (tasks_of (reverse c.loop-command.commands.items))) (lines_of limit [] (tasks_of c.args.commands.items)) c.loop-command.invariant.written)
 
 pub returns-in_err-write_all-clause-begun : goal.returns-in_err-write_all-clause-begun
 returns-in_err-write_all-clause-begun g c =
+    let limit = g.P.GimliEvaluationStorage.Stack.ArrayLike.capacity in
     let next = next_task c.loop-command.commands.items c.pop.new.self.items c.in-Some.command c.in-Some.ensures.items in
-    let written = subst (λ (ts : List Task). IsWritten (g.W.Sink.contents c.args.writer.now) (g.W.Sink.contents c.loop-command.writer) (lines_of (modules_in c.loop-command.instances) ts) (lines_of [] (tasks_of c.args.commands.items))) next c.loop-command.invariant.written in
-    on_err _ (begun_next (g.W.Sink.contents c.args.writer.now) (g.W.Sink.contents c.loop-command.writer) (g.W.Sink.contents c.write_all.new.sink) (modules_in c.loop-command.instances) (task_of c.in-Some.command) (tasks_of (reverse c.pop.new.self.items)) c.as_bytes.result.now (lines_of [] (tasks_of c.args.commands.items)) (c.as_bytes.ensures.value ∙ c.in_ok-line.ensures.line) written c.in_err-write_all.ensures.begun)
+    let written = subst (λ (ts : List Task). IsWritten (g.W.Sink.contents c.args.writer.now) (g.W.Sink.contents c.loop-command.writer) (lines_of limit (modules_in c.loop-command.instances) ts) (lines_of limit [] (tasks_of c.args.commands.items))) next c.loop-command.invariant.written in
+    on_err _ (begun_next limit (g.W.Sink.contents c.args.writer.now) (g.W.Sink.contents c.loop-command.writer) (g.W.Sink.contents c.write_all.new.sink) (modules_in c.loop-command.instances) (task_of c.in-Some.command) (tasks_of (reverse c.pop.new.self.items)) c.as_bytes.result.now (lines_of limit [] (tasks_of c.args.commands.items)) (c.as_bytes.ensures.value ∙ c.in_ok-line.ensures.line) written c.in_err-write_all.ensures.begun)
 
 pub loop-command-preserved : goal.loop-command-preserved
 loop-command-preserved g c =
+    let limit = g.P.GimliEvaluationStorage.Stack.ArrayLike.capacity in
     let next = next_task c.loop-command.commands.items c.pop.new.self.items c.in-Some.command c.in-Some.ensures.items in
     let numbered = subst (λ (ts : List Task). AreNumbered (length (modules_in c.loop-command.instances)) (caches_in c.loop-command.instances) ts) next c.loop-command.invariant.numbered in
-    let written = subst (λ (ts : List Task). IsWritten (g.W.Sink.contents c.args.writer.now) (g.W.Sink.contents c.loop-command.writer) (lines_of (modules_in c.loop-command.instances) ts) (lines_of [] (tasks_of c.args.commands.items))) next c.loop-command.invariant.written in
+    let written = subst (λ (ts : List Task). IsWritten (g.W.Sink.contents c.args.writer.now) (g.W.Sink.contents c.loop-command.writer) (lines_of limit (modules_in c.loop-command.instances) ts) (lines_of limit [] (tasks_of c.args.commands.items))) next c.loop-command.invariant.written in
     record {
       failed = not_failed (g.W.Sink.has_failed c.write_all.new.sink) c.in_ok-write_all.ensures.write;
       numbered = numbered_after (modules_in c.loop-command.instances) (modules_in c.perform.new.self) (caches_in c.loop-command.instances) (caches_in c.perform.new.self) (task_of c.in-Some.command) (tasks_of (reverse c.pop.new.self.items)) c.in_ok-line.ensures.unwinders c.in_ok-line.ensures.caches numbered;
-      written = written_next (g.W.Sink.contents c.args.writer.now) (g.W.Sink.contents c.loop-command.writer) (g.W.Sink.contents c.write_all.new.sink) (modules_in c.loop-command.instances) (modules_in c.perform.new.self) (task_of c.in-Some.command) (tasks_of (reverse c.pop.new.self.items)) c.as_bytes.result.now (lines_of [] (tasks_of c.args.commands.items)) c.in_ok-line.ensures.unwinders (c.as_bytes.ensures.value ∙ c.in_ok-line.ensures.line) written c.in_ok-write_all.ensures.written;
+      written = written_next limit (g.W.Sink.contents c.args.writer.now) (g.W.Sink.contents c.loop-command.writer) (g.W.Sink.contents c.write_all.new.sink) (modules_in c.loop-command.instances) (modules_in c.perform.new.self) (task_of c.in-Some.command) (tasks_of (reverse c.pop.new.self.items)) c.as_bytes.result.now (lines_of limit [] (tasks_of c.args.commands.items)) c.in_ok-line.ensures.unwinders (c.as_bytes.ensures.value ∙ c.in_ok-line.ensures.line) written c.in_ok-write_all.ensures.written;
     }

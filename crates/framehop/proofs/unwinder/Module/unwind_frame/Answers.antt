@@ -26,8 +26,8 @@ returns-clause-trial g c =
     = ap (option_map (λ section. section.items)) c.in-Some.is ∙ ap (λ section. Some section) (sym (c.new-section.ensures ∙ c.as_slice.ensures.value)) in
     let same = address-indexed c.args.self.now c.in-Some-index.index (section_bytes c.new-section.result) c.args.relative_address c.indexed_fde.result bytes c.in-Some-index.is c.indexed_fde.ensures c.in_ok-address.address c.in-Some-indexed_fde.fde c.in-Some-indexed_fde.is c.in_ok-address.ensures.some in
     let mapped = mapped-is c.unwind_frame_with_fde.result c.map_err.result _ (λ e d is. search rules) c.map_err.ensures.cases in
-    over_weaker c.unwind_frame_with_fde.ensures.trial (λ words is.
-    ap (with_registers c.unwind_frame_with_fde.new.regs) mapped ∙ is ∙ ap (trial c.args.is_first_frame c.args.regs.now words) same)
+    over_weaker c.unwind_frame_with_fde.ensures.trial (λ words is said.
+    ap (with_registers c.unwind_frame_with_fde.new.regs) mapped ∙ is (λ memory. said (mapped ∙ ap of_dwarf memory)) ∙ ap (trial g.S.Stack.ArrayLike.capacity c.args.is_first_frame c.args.regs.now words) same)
 
 -- the index has no entry
 pub returns-in_default-indexed_fde-clause-trial : goal.returns-in_default-indexed_fde-clause-trial
@@ -35,7 +35,7 @@ returns-in_default-indexed_fde-clause-trial g c =
     let bytes : option_map (λ section. section.items) c.args.self.now.eh_frame ≡ Some (section_bytes c.new-section.result)
     = ap (option_map (λ section. section.items)) c.in-Some.is ∙ ap (λ section. Some section) (sym (c.new-section.ensures ∙ c.as_slice.ensures.value)) in
     let same = address-missed c.args.self.now c.in-Some-index.index (section_bytes c.new-section.result) c.args.relative_address c.indexed_fde.result bytes c.in-Some-index.is c.indexed_fde.ensures c.in_default-indexed_fde.is in
-    over_none (λ words. sym (ap (trial c.args.is_first_frame c.args.regs.now words) same))
+    over_none (λ words _. sym (ap (trial g.S.Stack.ArrayLike.capacity c.args.is_first_frame c.args.regs.now words) same))
 
 -- the address doesn't fit 64 bits
 pub returns-in_err-address-clause-trial : goal.returns-in_err-address-clause-trial
@@ -44,4 +44,4 @@ returns-in_err-address-clause-trial g c =
     = ap (option_map (λ section. section.items)) c.in-Some.is ∙ ap (λ section. Some section) (sym (c.new-section.ensures ∙ c.as_slice.ensures.value)) in
     let same = address-past c.args.self.now c.in-Some-index.index (section_bytes c.new-section.result) c.args.relative_address c.indexed_fde.result bytes c.in-Some-index.is c.indexed_fde.ensures c.in-Some-indexed_fde.fde c.in-Some-indexed_fde.is c.in_err-address.ensures.none.1 in
     let error = err_from_is_err_and c.from_residual.result c.from_residual.ensures.1 in
-    over_none (λ words. ap (with_registers c.args.regs.now) (error.1 ∙ ap (λ e. Err e) (error.2 ∙ ap (λ e. Dwarf e) c.in_err-address.ensures.none.0)) ∙ sym (ap (trial c.args.is_first_frame c.args.regs.now words) same))
+    over_none (λ words _. ap (with_registers c.args.regs.now) (error.1 ∙ ap (λ e. Err e) (error.2 ∙ ap (λ e. Dwarf e) c.in_err-address.ensures.none.0)) ∙ sym (ap (trial g.S.Stack.ArrayLike.capacity c.args.is_first_frame c.args.regs.now words) same))

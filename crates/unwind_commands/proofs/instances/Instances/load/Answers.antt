@@ -10,7 +10,7 @@ use Rattle.unwind_commands.proofs.LoadedModules.{same_module}
 use Rattle.unwind_commands.proofs.instances.Instances.load.Goals as goal
 
 pub returns-clause-unwinders : goal.returns-clause-unwinders
-returns-clause-unwinders c =
+returns-clause-unwinders g c =
     let before = c.args.self.now.unwinders.items in
     let n = c.args.load.unwinder in
     let fits : n < length before = rw length-map at c.requires in

@@ -1,0 +1,34 @@
+-- The value of an expression in a frame (DWARF 5, 2.5), where some registers have values.
+use Rattle.std.specs.Prelude.{ℕ, zero, suc, Option, Some, None, option_and_then, Result, Ok, Err}
+use Rattle.dwarf_constants.specs.declared.common.Register.{Register}
+use Rattle.dwarf_constants.specs.declared.error.Error.{Error}
+use Rattle.dwarf_readers.specs.Place.{Stretch}
+use Rattle.dwarf_expressions.specs.Evaluation.{Program, State, Ready, Asking, Finished, Refused, state_reached, first_machine, operations_left, state_reached_with}
+
+-- the registers that have values, by their DWARF numbers
+abbrev pub RegisterValues : Type 0
+RegisterValues = Register → Option ℕ
+
+-- the value that an evaluation comes to from a state on, with at most so many requests: a register that is asked for is
+-- answered by its value, and where it has none, there is no value
+abbrev pub value_within : ℕ → Program → RegisterValues → State → Option ℕ
+value_within n p registers (Ready m) = None
+value_within n p registers (Finished value) = Some value
+value_within n p registers (Refused e) = None
+value_within zero p registers (Asking register offset m) = None
+value_within (suc n) p registers (Asking register offset m) =
+    option_and_then (λ value. value_within n p registers (state_reached_with p value (Asking register offset m))) (registers register)
+
+-- the same with as many requests as there can be: each is an operation, and this one was
+abbrev pub value_from : Program → RegisterValues → State → Option ℕ
+value_from p registers state = value_within (suc (operations_left state)) p registers state
+
+-- an expression of these bytes, whose addresses have 8 bytes, with room for so many values, or for any number
+abbrev pub program_of : Option ℕ → Stretch → Program
+program_of limit bytes = record { expression = bytes; address_size = 8; capacity = limit }
+
+-- the value of an expression; bytes that aren't there have none
+abbrev pub expression_value : Option ℕ → RegisterValues → Result Stretch Error → Option ℕ
+expression_value limit registers (Ok bytes) =
+    value_from (program_of limit bytes) registers (state_reached (program_of limit bytes) (Ready first_machine))
+expression_value limit registers (Err e) = None
