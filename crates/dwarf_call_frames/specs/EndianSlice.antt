@@ -1,7 +1,7 @@
 -- A little-endian reader as contracts see it.
 use Rattle.std.specs.Prelude.{false}
 use Rattle.dwarf_readers.specs.declared.endian_slice.EndianSlice.{EndianSlice}
-use Rattle.dwarf_readers.specs.declared.endianity.LittleEndian.{LittleEndian}
+use Rattle.dwarf_numbers.specs.declared.endianity.LittleEndian.{LittleEndian}
 use Rattle.dwarf_readers.specs.EndianSlice.{stretch_of}
 use Rattle.dwarf_readers.specs.Place.{Stretch}
 

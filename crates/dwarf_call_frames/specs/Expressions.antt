@@ -2,7 +2,7 @@
 use Rattle.std.specs.Prelude.{◌≡◌, ℕ, ◌+◌, ◌≤◌, List, length, take, drop, false, Result, Ok}
 use Rattle.dwarf_constants.specs.declared.error.Error.{Error}
 use Rattle.dwarf_readers.specs.declared.endian_slice.EndianSlice.{EndianSlice}
-use Rattle.dwarf_readers.specs.declared.endianity.LittleEndian.{LittleEndian}
+use Rattle.dwarf_numbers.specs.declared.endianity.LittleEndian.{LittleEndian}
 use Rattle.dwarf_readers.specs.Place.{Stretch, ◌>>=◌, behind_at, prefix, split_at, whole}
 use Rattle.dwarf_expressions.specs.declared.op.Expression.{Expression}
 use Rattle.dwarf_call_frames.specs.declared.expressions.UnwindExpression.{UnwindExpression}

@@ -1,7 +1,8 @@
 ghost use Rattle.std.specs.List.{All};
 ghost use Rattle.lists.specs.Items.{GivesNext, step_taken};
 ghost use Rattle.std.specs.Prelude.{◌≡◌, ◌<◌, ◌≤◌, ◌↔◌, ℕ, List, length, false, IfOk, IfSome, IsTrue};
-ghost use Rattle.dwarf_readers.specs.Place.{Gives, whole};
+ghost use Rattle.dwarf_numbers.specs.Answers.{Gives};
+ghost use Rattle.dwarf_readers.specs.Place.{whole};
 ghost use Rattle.dwarf_call_frames.specs.EndianSlice.{stretch};
 ghost use Rattle.dwarf_call_frames.specs.Entries.{cie_at, entry_within, entry_at, entries_from, whole_fdes, fde_of, StandsAtItsOffset, cie_from_offset, fde_from_offset, end_address};
 ghost use Rattle.dwarf_call_frames.specs.EntryViews.{section_bytes, entries_left, instructions_left, cie_view, partial_view, fde_view, entry_view, TellsEnd};

@@ -1,5 +1,5 @@
 //! Expressions of call frame information (DWARF 5, 2.5 and 6.4.2.2).
-ghost use Rattle.dwarf_readers.specs.Place.{Gives};
+ghost use Rattle.dwarf_numbers.specs.Answers.{Gives};
 ghost use Rattle.dwarf_call_frames.specs.EntryViews.{section_bytes};
 ghost use Rattle.dwarf_call_frames.specs.Expressions.{expression_at, expression_stretch, PassedBytesAreNamed};
 

@@ -8,7 +8,7 @@ use Rattle.dwarf_constants.specs.declared.constants.DwOp.{DwOp}
 use Rattle.dwarf_constants.specs.declared.constants.TheConstants.{DW_OP_lit0, DW_OP_lit31, DW_OP_breg0, DW_OP_breg31}
 use Rattle.dwarf_constants.specs.declared.error.Error.{Error}
 use Rattle.dwarf_constants.specs.declared.error.Error.TheVariants.{BadSignedLeb128, BadUnsignedLeb128, UnsupportedAddressSize, UnsupportedEvaluation}
-use Rattle.dwarf_readers.specs.ByteOrder.{number_of}
+use Rattle.dwarf_numbers.specs.ByteOrder.{number_of}
 use Rattle.dwarf_readers.specs.InitialLength.{address_at, is_size}
 use Rattle.dwarf_readers.specs.Leb128.{leb128_within, signed_at, signed_in_range, string_of, unsigned_16_at, unsigned_at, unsigned_below, value_behind}
 use Rattle.dwarf_readers.specs.Place.{Stretch, ◌>>=◌, behind, byte_at, ends_at, number_at, signed_byte_at, signed_number_at}

@@ -4,7 +4,8 @@ ghost use Rattle.std.specs.Prelude.{◌≡◌, ◌≤◌, ◌-◌, ◌+ℤ◌, p
 ghost use Rattle.std.specs.Prelude.{◌⊎◌, ◌==◌, false};
 ghost use Rattle.dwarf_constants.specs.declared.error.Error.TheVariants.{OutOfMemory, UnsupportedAddressSize};
 ghost use Rattle.dwarf_readers.specs.InitialLength.{is_size};
-ghost use Rattle.dwarf_readers.specs.Place.{Gives, ◌>>=◌ as ◌and_then◌, behind, end_of};
+ghost use Rattle.dwarf_numbers.specs.Answers.{Gives};
+ghost use Rattle.dwarf_readers.specs.Place.{◌>>=◌ as ◌and_then◌, behind, end_of};
 ghost use Rattle.dwarf_expressions.specs.Evaluation.{IsNotMade, first_machine, machine_after, machine_with, operation_step, place_in, run, state_after, top_of};
 ghost use Rattle.dwarf_expressions.specs.EvaluationViews.{Changes, Comes, Course, StandsAt, Stops};
 

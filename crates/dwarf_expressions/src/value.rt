@@ -4,7 +4,8 @@ ghost use Rattle.std.specs.Prelude.{◌≡◌, ◌+◌, ◌-◌, ◌*◌, ◌/�
 ghost use Rattle.std.specs.Int.Signed.{shr_z};
 ghost use Rattle.dwarf_constants.specs.declared.error.Error.TheVariants.{UnsupportedAddressSize};
 ghost use Rattle.dwarf_readers.specs.InitialLength.{is_size};
-ghost use Rattle.dwarf_readers.specs.Place.{◌>>=◌ as ◌and_then◌, Gives};
+ghost use Rattle.dwarf_numbers.specs.Answers.{Gives};
+ghost use Rattle.dwarf_readers.specs.Place.{◌>>=◌ as ◌and_then◌};
 ghost use Rattle.dwarf_expressions.specs.Effects.{of_top, of_two, truth};
 ghost use Rattle.dwarf_expressions.specs.Values.{modulus, signed, value_from, value_of};
 

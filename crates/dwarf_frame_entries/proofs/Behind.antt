@@ -7,7 +7,7 @@ use Rattle.dwarf_constants.specs.Format.{word_size}
 use Rattle.dwarf_constants.specs.declared.common.Format.TheVariants.{Dwarf64}
 use Rattle.dwarf_constants.specs.declared.error.Error.{Error}
 use Rattle.dwarf_readers.specs.InitialLength.{as_offset, initial_length_at, length_behind, word_at}
-use Rattle.dwarf_readers.specs.Offset.{offset_below}
+use Rattle.dwarf_numbers.specs.Offset.{offset_below}
 use Rattle.dwarf_readers.specs.Place.{Stretch, ◌>>=◌, behind, number_at, split_at}
 use Rattle.dwarf_frame_entries.specs.Entries.{entry_at, entry_within, offset_in}
 use Rattle.dwarf_frame_entries.specs.Parts.{IsPart}

@@ -6,7 +6,7 @@ use Rattle.dwarf_constants.specs.declared.constants.TheConstants.{DW_EH_PE_omit}
 use Rattle.dwarf_constants.specs.declared.error.Error.{Error}
 use Rattle.dwarf_constants.specs.declared.error.Error.TheVariants.{UnknownAugmentation}
 use Rattle.dwarf_readers.specs.Leb128.{unsigned_at}
-use Rattle.dwarf_readers.specs.Offset.{offset_below}
+use Rattle.dwarf_numbers.specs.Offset.{offset_below}
 use Rattle.dwarf_readers.specs.Place.{Stretch, ◌>>=◌, split_at}
 use Rattle.dwarf_frame_rows.specs.EncodedPointer.{Origins, encoding_at, pointer_at}
 use Rattle.dwarf_frame_rows.specs.declared.pointer.Pointer.{Pointer}

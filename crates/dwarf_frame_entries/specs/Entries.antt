@@ -9,7 +9,7 @@ use Rattle.dwarf_constants.specs.declared.error.Error.{Error}
 use Rattle.dwarf_constants.specs.declared.error.Error.TheVariants.{NoEntryAtGivenOffset, NotCieId, NotCiePointer, OffsetOutOfBounds, UnknownVersion, UnsupportedSegmentSize}
 use Rattle.dwarf_readers.specs.InitialLength.{address_at, address_size_at, initial_length_at}
 use Rattle.dwarf_readers.specs.Leb128.{signed_at, unsigned_16_at, unsigned_at}
-use Rattle.dwarf_readers.specs.Offset.{offset_below}
+use Rattle.dwarf_numbers.specs.Offset.{offset_below}
 use Rattle.dwarf_readers.specs.Place.{Stretch, ◌>>=◌, behind_at, byte_at, number_at, requirement, split_at, string_at}
 use Rattle.dwarf_frame_rows.specs.EncodedPointer.{Origins, address_of, in_address_size, plain_value_at, pointer_at}
 use Rattle.dwarf_frame_rows.specs.SectionKind.{SectionKind}

@@ -1,6 +1,7 @@
 //! What the augmentation of a CIE says (LSB 5.0, 10.6.1.1.1).
 ghost use Rattle.std.specs.Prelude.{◌≡◌, ◌≤◌, ◌<◌, length, Option, Some, None, option_map, OnOk, OnErr, Ok};
-ghost use Rattle.dwarf_readers.specs.Place.{Gives, Reads, ReadsAs};
+ghost use Rattle.dwarf_numbers.specs.Answers.{Gives};
+ghost use Rattle.dwarf_readers.specs.Place.{Reads, ReadsAs};
 ghost use Rattle.dwarf_frame_rows.specs.EncodedPointer.{origins_of};
 ghost use Rattle.dwarf_frame_entries.specs.Augmentations.{augmentation_at, data_at, encoding_unless_omitted, letter_with_data, pointer_unless_omitted, with_letter, with_letters, no_letters, said_by_letters};
 ghost use Rattle.dwarf_frame_entries.specs.LetterViews.{IsBehindStart};

@@ -1,6 +1,7 @@
 //! Frame description entries.
 ghost use Rattle.std.specs.Prelude.{◌≡◌, ◌≤◌};
-ghost use Rattle.dwarf_readers.specs.Place.{Gives, Reads};
+ghost use Rattle.dwarf_numbers.specs.Answers.{Gives};
+ghost use Rattle.dwarf_readers.specs.Place.{Reads};
 ghost use Rattle.dwarf_frame_rows.specs.EncodedPointer.{origins_of};
 ghost use Rattle.dwarf_frame_entries.specs.Entries.{addresses_at, cie_from_offset, contains, end_address, fde_of, fde_with, lsda_at};
 ghost use Rattle.dwarf_frame_entries.specs.EntryViews.{cie_view};

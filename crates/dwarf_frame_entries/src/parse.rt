@@ -1,6 +1,7 @@
 //! Reading of entries.
 ghost use Rattle.std.specs.Prelude.{◌≡◌, ◌≤◌, ◌-◌, option_map};
-ghost use Rattle.dwarf_readers.specs.Place.{Gives, Reads, ReadsAs};
+ghost use Rattle.dwarf_numbers.specs.Answers.{Gives};
+ghost use Rattle.dwarf_readers.specs.Place.{Reads, ReadsAs};
 ghost use Rattle.dwarf_frame_entries.specs.Entries.{cie_at, entry_at, entry_within, id_at, is_version, register_at, sizes_at};
 ghost use Rattle.dwarf_frame_entries.specs.EntryViews.{cie_view, entry_view};
 ghost use Rattle.dwarf_frame_entries.specs.HeadViews.{head_view};

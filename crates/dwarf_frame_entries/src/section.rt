@@ -1,6 +1,6 @@
 //! What both sections of call frames are asked for.
 ghost use Rattle.std.specs.Prelude.{◌≡◌};
-ghost use Rattle.dwarf_readers.specs.Place.{Gives};
+ghost use Rattle.dwarf_numbers.specs.Answers.{Gives};
 ghost use Rattle.dwarf_frame_entries.specs.Entries.{cie_from_offset, fde_from_offset, partial_fde_from_offset};
 ghost use Rattle.dwarf_frame_entries.specs.EntryLists.{listing_of};
 ghost use Rattle.dwarf_frame_entries.specs.EntryViews.{cie_view};

@@ -13,7 +13,7 @@ use Rattle.dwarf_constants.specs.declared.error.Error.{Error}
 use Rattle.dwarf_constants.specs.declared.error.Error.TheVariants.{OffsetOutOfBounds}
 use Rattle.dwarf_readers.specs.InitialLength.{as_offset}
 use Rattle.dwarf_readers.specs.Leb128.{signed_at, unsigned_at}
-use Rattle.dwarf_readers.specs.Offset.{offset_below}
+use Rattle.dwarf_numbers.specs.Offset.{offset_below}
 use Rattle.dwarf_readers.specs.Place.{Stretch, ◌>>=◌, byte_at, number_at, requirement}
 use Rattle.dwarf_readers.specs.Remainder.{Takes, item_at, size_of}
 use Rattle.dwarf_readers.proofs.Laws.{address_takes, behind_passes, byte_takes, item_takes, items_shrink, leaves_err, leaves_from, leaves_if, leaves_none, leaves_ok, leaves_then, number_takes, signed_number_takes, signed_takes, unsigned_takes, unsigned_16_takes}

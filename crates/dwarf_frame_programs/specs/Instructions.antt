@@ -10,7 +10,7 @@ use Rattle.dwarf_constants.specs.declared.error.Error.{Error}
 use Rattle.dwarf_constants.specs.declared.error.Error.TheVariants.{OffsetOutOfBounds, UnknownCallFrameInstruction}
 use Rattle.dwarf_readers.specs.InitialLength.{address_at, as_offset}
 use Rattle.dwarf_readers.specs.Leb128.{signed_at, unsigned_at, unsigned_16_at}
-use Rattle.dwarf_readers.specs.Offset.{offset_below}
+use Rattle.dwarf_numbers.specs.Offset.{offset_below}
 use Rattle.dwarf_readers.specs.Place.{Stretch, ◌>>=◌, behind_at, byte_at, number_at, requirement}
 use Rattle.dwarf_readers.specs.Remainder.{item_at, size_of}
 use Rattle.dwarf_frame_rows.specs.declared.expression.UnwindExpression.{UnwindExpression}

@@ -1,5 +1,5 @@
 //! Where the expressions of call frames stand (DWARF 5, 6.4.2).
-ghost use Rattle.dwarf_readers.specs.Place.{Gives};
+ghost use Rattle.dwarf_numbers.specs.Answers.{Gives};
 ghost use Rattle.dwarf_frame_rows.specs.Expressions.{expression_in};
 
 use crate::_UnwindSectionPrivate;

@@ -1,7 +1,4 @@
-pub mod ByteOrder
-pub mod RunTimeEndian
 pub mod Place
-pub mod Offset
 pub mod Remainder
 pub mod Leb128
 pub mod InitialLength

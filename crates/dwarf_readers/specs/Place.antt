@@ -3,7 +3,7 @@ use Rattle.std.specs.Prelude.{ℕ, ◌+◌, ◌-◌, ℤ, List, [], ◌∷◌, l
 use Rattle.std.specs.Int.{Width, w8, byte_len, cast_signed}
 use Rattle.dwarf_constants.specs.declared.error.Error.{Error}
 use Rattle.dwarf_constants.specs.declared.error.Error.TheVariants.{UnexpectedEof}
-use Rattle.dwarf_readers.specs.ByteOrder.{number_of}
+use Rattle.dwarf_numbers.specs.ByteOrder.{number_of}
 
 -- a stretch of a section: its bytes, the place of the first of them, and whether numbers are big-endian there
 pub record Stretch : Type 0 where
@@ -106,11 +106,6 @@ place_within s place = if nat_le s.place place && nat_le place (end_of s) then S
 -- the first byte, and what is left
 abbrev pub byte_at : Stretch → Result (ℕ × Stretch) Error
 byte_at s = if nat_lt (length s.bytes) 1 then Err (ends_at s.place) else Ok (slice_index s.bytes 0, behind 1 s)
-
--- What a call returned, seen by view, is this answer or this refusal.
-abbrev pub Gives : {X Y : Type 0} → (X → Y) → Result X Error → Result Y Error → Type 0
-Gives view (Ok x) answer = answer ≡ Ok (view x)
-Gives view (Err e) answer = answer ≡ Err e
 
 -- A move succeeded and left the reader on this stretch, or was refused so.
 abbrev pub Moves : Result (Unit {0}) Error → Result Stretch Error → Stretch → Type 0

@@ -1,6 +1,6 @@
 //! Where string offsets begin.
 
-use crate::reader_offset::ReaderOffset;
+use dwarf_numbers::ReaderOffset;
 use dwarf_constants::{DwarfFileType, Encoding, Format};
 
 /// The offset of a unit's entries in `.debug_str_offsets`, in bytes.

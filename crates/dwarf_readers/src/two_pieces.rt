@@ -3,7 +3,7 @@
 ghost use Rattle.std.specs.Prelude.{◌≡◌, ◌≤◌, ◌<◌, ◌+◌, ◌++◌, ◌^◌, length};
 
 use crate::endian_slice::EndianSlice;
-use crate::endianity::Endianity;
+use dwarf_numbers::Endianity;
 use crate::reader::Reader;
 use dwarf_constants::{Error, ReaderOffsetId, Result};
 use std::alloc::{AllocError, Global};

@@ -5,7 +5,7 @@ use Rattle.std.specs.List.{filter}
 use Rattle.std.specs.Result.{result_ok}
 use Rattle.std.proofs.lemmas.List.Elements.{All-filter}
 use Rattle.dwarf_constants.specs.declared.error.Error.{Error}
-use Rattle.dwarf_readers.specs.Place.{Gives}
+use Rattle.dwarf_numbers.specs.Answers.{Gives}
 use Rattle.dwarf_call_frames.specs.declared.entries.FrameDescriptionEntry.{FrameDescriptionEntry}
 use Rattle.dwarf_call_frames.specs.Entries.{Fde, StandsAtItsOffset, fde_from_offset, whole_fdes}
 use Rattle.dwarf_call_frames.specs.EntryViews.{fde_view}

@@ -39,13 +39,16 @@ pub fn greatest_in_order<A>()
 
 /// Items begin with what one step gives, and go on with those of what is left behind it.
 pub fn items_by_steps<S, A, E>()
-    ensures items { (size : S → ℕ) (step : S → Answer S A E) → Shrinks size step → (s : S) → items_of size step s ≡ items_from (items_of size step) (step s) }
-    ensures rest { (size : S → ℕ) (step : S → Answer S A E) → Shrinks size step → (s : S) → rest_of size step s ≡ rest_from (rest_of size step) s (step s) }
+    ensures items { (size : S → ℕ) (step : S → Answer S A E) → Shrinks size step → (s : S)
+        → items_of size step s ≡ items_from (items_of size step) (step s) }
+    ensures rest { (size : S → ℕ) (step : S → Answer S A E) → Shrinks size step → (s : S)
+        → rest_of size step s ≡ rest_from (rest_of size step) s (step s) }
 {}
 
 /// A call that takes a step gives the first of the items that were to come, and leaves the others.
 pub fn calls_by_steps<S, A, E, X>()
     ensures { (size : S → ℕ) (step : S → Answer S A E) → Shrinks size step
-        → (view : X → A) (result : Result (Option X) E) (s rest : S) → step s ≡ step_taken view result rest
-        → LeavesNone result (step rest) → GivesNext view result (items_of size step s) (items_of size step rest) }
+        → (view : X → A) (result : Result (Option X) E) (s rest : S)
+        → step s ≡ step_taken view result rest → LeavesNone result (step rest)
+        → GivesNext view result (items_of size step s) (items_of size step rest) }
 {}

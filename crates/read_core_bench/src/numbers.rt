@@ -1,6 +1,6 @@
 //! Numbers one after the other.
 
-ghost use Rattle.dwarf_readers.specs.Place.{Gives};
+ghost use Rattle.dwarf_numbers.specs.Answers.{Gives};
 ghost use Rattle.read_core_bench.specs.Little.{little};
 ghost use Rattle.read_core_bench.specs.Numbers.{tally_in};
 

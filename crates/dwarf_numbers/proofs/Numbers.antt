@@ -2,7 +2,7 @@
 use Rattle.std.proofs.Common.{◌≡◌, ℕ, ◌-◌, ◌≤◌, List, [], ◌∷◌, length, replicate, arith}
 use Rattle.std.specs.Int.{w64, from_le_bytes, from_be_bytes}
 use borrow.Rule.Slice.PartMut.{put_mid}
-use Rattle.dwarf_readers.specs.ByteOrder.{little_endian, big_endian}
+use Rattle.dwarf_numbers.specs.ByteOrder.{little_endian, big_endian}
 
 -- zeros behind the bytes, the least significant first, change nothing
 pub filled_above : (bytes : List ℕ) → length bytes ≤ 8 → from_le_bytes w64 (put_mid 0 (length bytes) (replicate 8 0) bytes) ≡ little_endian bytes

@@ -2,8 +2,8 @@
 
 ghost use Rattle.std.specs.Prelude.{◌≡◌, ◌≤◌, ◌<◌, ◌+◌, ◌-◌, ◌%◌, ◌^◌, ◌==◌, ℕ, refl, Some, None, option_map, nat_le, if◌then◌else◌};
 ghost use Rattle.std.specs.Ordering.{nat_cmp};
-ghost use Rattle.dwarf_readers.specs.Offset.{offset_below, wrapped_offset};
-ghost use Rattle.dwarf_readers.specs.Place.{Gives};
+ghost use Rattle.dwarf_numbers.specs.Offset.{offset_below, wrapped_offset};
+ghost use Rattle.dwarf_numbers.specs.Answers.{Gives};
 
 use dwarf_constants::{Error, Result};
 use std::fmt::Debug;

@@ -1,8 +1,8 @@
 use Rattle.std.proofs.Common.{◌≡◌, ◌∙◌, ◌-◌, ℕ, List, length, replicate, true, false, sym, ap}
 use Rattle.std.specs.Int.{w64, from_le_bytes, from_be_bytes}
 use borrow.Rule.Slice.PartMut.{put_mid}
-use Rattle.dwarf_readers.proofs.Numbers.{filled_above, filled_below}
-use Rattle.dwarf_readers.proofs.endianity.Endianity.read_uint.Goals as goal
+use Rattle.dwarf_numbers.proofs.Numbers.{filled_above, filled_below}
+use Rattle.dwarf_numbers.proofs.endianity.Endianity.read_uint.Goals as goal
 
 pub returns-then-is_big_endian : goal.returns-then-is_big_endian
 returns-then-is_big_endian g c =

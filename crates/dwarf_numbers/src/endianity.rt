@@ -2,8 +2,8 @@
 
 ghost use Rattle.std.specs.Prelude.{◌≡◌, ◌≤◌, ◌<◌, ◌++◌, Bool, true, false, not, refl, length, take, drop};
 ghost use Rattle.std.specs.Int.{w16, w32, w64, cast_signed};
-ghost use Rattle.dwarf_readers.specs.declared.endianity.RunTimeEndian.TheVariants.{Little, Big};
-ghost use Rattle.dwarf_readers.specs.ByteOrder.{number_of, bytes_of, same_order};
+ghost use Rattle.dwarf_numbers.specs.declared.endianity.RunTimeEndian.TheVariants.{Little, Big};
+ghost use Rattle.dwarf_numbers.specs.ByteOrder.{number_of, bytes_of, same_order};
 
 use std::fmt::Debug;
 
@@ -224,7 +224,7 @@ impl Default for RunTimeEndian {
 }
 
 impl Endianity for RunTimeEndian {
-    ghost use Rattle.dwarf_readers.specs.RunTimeEndian.{runs_big};
+    ghost use Rattle.dwarf_numbers.specs.RunTimeEndian.{runs_big};
 
     ghost is_big = { runs_big };
 

@@ -1,0 +1,4 @@
+pub mod ByteOrder
+pub mod RunTimeEndian
+pub mod Offset
+pub mod Answers
