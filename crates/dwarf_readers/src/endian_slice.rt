@@ -2,9 +2,9 @@
 
 ghost use Rattle.std.specs.Prelude.{◌≡◌, ◌≤◌, ◌<◌, ◌+◌, ◌^◌, length};
 
-use dwarf_numbers::Endianity;
 use crate::reader::Reader;
 use dwarf_constants::{Error, ReaderOffsetId, Result};
+use dwarf_numbers::Endianity;
 use std::alloc::{AllocError, Global};
 use std::borrow::{CowSlice, CowStr};
 use std::ops::{DerefSlice, Range, RangeFrom, RangeTo};

@@ -12,10 +12,9 @@ ghost use Rattle.dwarf_numbers.specs.Answers.{Gives};
 ghost use Rattle.dwarf_readers.specs.Place.{Moves, Reads, ReadsAs, Stretch, behind, behind_at, byte_at, bytes_at, count_before, empty_stretch, end_of, found_at, prefix_at, number_at, place_within, signed_byte_at, signed_number_at, split_at, string_at};
 ghost use Rattle.dwarf_readers.specs.Remainder.{size_of};
 
-use dwarf_numbers::Endianity;
 use crate::leb128;
-use dwarf_numbers::ReaderOffset;
 use dwarf_constants::{Error, Format, ReaderOffsetId, Result};
+use dwarf_numbers::{Endianity, ReaderOffset};
 use std::alloc::Global;
 use std::borrow::{CowSlice, CowStr};
 use std::fmt::Debug;
