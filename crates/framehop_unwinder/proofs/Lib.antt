@@ -1,4 +1,5 @@
 mod Elsewhere
+mod Histories
 mod KeyLists
 mod ModulesInOrder
 mod Slots

@@ -1,7 +1,8 @@
 -- A cache by the list of all keys that were kept in it.
-use Rattle.std.specs.Prelude.{ℕ, ◌≡◌, List, [], ◌∷◌, ◌++◌, length, Bool, Option, Some, None, option_map, if◌then◌else◌}
+use Rattle.std.specs.Prelude.{ℕ, ◌≡◌, List, [], ◌∷◌, ◌++◌, length, Bool, Option, Some, None, option_map, slice_set, slice_index_or, if◌then◌else◌}
 use Rattle.framehop_rules.specs.LastKept.{last_key}
-use Rattle.framehop_rules.specs.Slots.{Key, Entry, Finding, Hits, EmptySlot, OtherModules, OtherAddress, finding_for, slot_of, entry_in}
+use Rattle.framehop_rules.specs.Slots.{Key, Entry, Kept, Finding, Hits, EmptySlot, OtherModules, OtherAddress, finding_for, slot_of, entry_in, no_counts, counts_after}
+use Rattle.framehop_rules.specs.declared.rule_cache.CacheStats.{CacheStats}
 
 -- a key as it stands in a slot, whatever its rule
 abbrev pub bare_entry : Key → Entry (Unit {0})
@@ -32,3 +33,40 @@ keys_after wanted kept key keys = if wanted then keys else with_missed_key keys 
 pub record HasLastKeys {Rule : Type 0} (keys : List Key) (slots : List (Option (Entry Rule))) : Type 0 where
   pub count : length slots ≡ 509
   pub each : (slot : ℕ) → option_map (λ entry. entry.key) (entry_in slots slot) ≡ last_key keys slot
+
+-- The history of a cache: the keys that were kept in it so far, in their order, and its counts.
+pub record KeyHistory : Type 0 where
+  pub keys : List Key
+  pub counts : CacheStats
+
+-- nothing was kept and counted yet
+abbrev pub no_history : KeyHistory
+no_history = record { keys = []; counts = no_counts }
+
+-- a history of a list
+abbrev pub history_at : List KeyHistory → ℕ → KeyHistory
+history_at histories i = slice_index_or histories i no_history
+
+-- the history of a cache after a step under a key
+abbrev pub history_after : {Rule : Type 0} → Bool → (Key → Option Rule) → Key → KeyHistory → KeyHistory
+history_after wanted kept key history = record {
+  keys = keys_after wanted kept key history.keys;
+  counts = counts_after (finding_after history.keys key) history.counts;
+}
+
+-- the histories of caches after a step under a key through one of them
+abbrev pub histories_after : {Rule : Type 0} → Bool → (Key → Option Rule) → Key → ℕ → List KeyHistory → List KeyHistory
+histories_after wanted kept key cache histories =
+    slice_set histories cache (history_after wanted kept key (history_at histories cache))
+
+-- A cache that this history has made.
+pub record HasHistory {Rule : Type 0} (history : KeyHistory) (cache : Kept Rule) : Type 0 where
+  pub keys : HasLastKeys history.keys cache.slots
+  pub counts : cache.counts ≡ history.counts
+
+-- caches that these histories have made, one each
+abbrev pub HaveHistories : {Rule : Type 0} → List KeyHistory → List (Kept Rule) → Type 0
+HaveHistories [] [] = Unit {0}
+HaveHistories [] (cache ∷ caches) = ⊥
+HaveHistories (history ∷ histories) [] = ⊥
+HaveHistories (history ∷ histories) (cache ∷ caches) = HasHistory history cache × HaveHistories histories caches

@@ -1,11 +1,13 @@
 -- Unwinders and caches under one counter.
 use Rattle.std.specs.Prelude.{ℕ, ◌≡◌, ◌<◌, List, [], map, Bool, Option, None, replicate, slice_index_or}
 use Rattle.std.specs.List.{All}
-use Rattle.framehop_rules.specs.Slots.{Entry, Kept, no_counts, counts_after}
+use Rattle.framehop_rules.specs.Slots.{Entry, Kept, no_counts}
 use Rattle.framehop_unwinder.specs.Attempt.{Meanings}
 use Rattle.framehop_unwinder.specs.Frames.{Frame}
+use Rattle.framehop_unwinder.specs.History.{KeyHistory, histories_after}
 use Rattle.framehop_unwinder.specs.Modules.{Loaded, Loads}
-use Rattle.framehop_unwinder.specs.RulesKept.{Fits, KeysBelow, rule_kept, key_for, finding_in, slots_after}
+use Rattle.framehop_unwinder.specs.RulesKept.{Fits, KeysBelow, rule_kept, key_for}
+use Rattle.framehop_unwinder.specs.Walk.{Place, Starts, At, Over}
 
 -- The unwinders with their modules and generations, the next generation, and what stands in each cache.
 pub record State (Data Rule : Type 0) : Type 0 where
@@ -32,13 +34,18 @@ new_cache = record { slots = replicate 509 None; counts = no_counts }
 abbrev pub loads_with : {Data : Type 0} → List (Loaded Data) → ℕ → Loads (Loaded Data)
 loads_with modules generation = record { modules = modules; generation = generation }
 
--- a cache after a step of an unwinder from a frame
-abbrev pub cache_after : {Data Rule Registers : Type 0} → Meanings Data Rule Registers → Bool → Frame → Loads (Loaded Data)
-    → Kept Rule → Kept Rule
-cache_after m wanted frame loads cache = record {
-  slots = slots_after wanted (rule_kept m loads.modules) (key_for frame loads.generation) cache.slots;
-  counts = counts_after (finding_in cache.slots (key_for frame loads.generation)) cache.counts;
-}
+-- the histories of caches after a step of an unwinder from a frame through one of them
+abbrev pub histories_after_step : {Data Rule Registers : Type 0} → Meanings Data Rule Registers → Bool → Frame
+    → Loads (Loaded Data) → ℕ → List KeyHistory → List KeyHistory
+histories_after_step m wanted frame loads cache histories =
+    histories_after wanted (rule_kept m loads.modules) (key_for frame loads.generation) cache histories
+
+-- the same for a move of a walk: only from a frame a step is made
+abbrev pub histories_after_move : {Data Rule Registers : Type 0} → Meanings Data Rule Registers → Bool → Place
+    → Loads (Loaded Data) → ℕ → List KeyHistory → List KeyHistory
+histories_after_move m wanted (Starts pc) loads cache histories = histories
+histories_after_move m wanted (At frame) loads cache histories = histories_after_step m wanted frame loads cache histories
+histories_after_move m wanted Over loads cache histories = histories
 
 abbrev pub slots_of_all : {Rule : Type 0} → List (Kept Rule) → List (List (Option (Entry Rule)))
 slots_of_all caches = map (λ cache. cache.slots) caches

@@ -1,5 +1,5 @@
 //! Many unwinders, which share caches under one counter of generations.
-ghost use Rattle.std.specs.Prelude.{◌≡◌, ◌<◌, ◌+◌, ◌^◌, ◌-◌, ◌∷◌, ◌++◌, [], true, false, Ok, Err, None, length, replicate, slice_set, IfOk, IfErr, OnOk, OnErr};
+ghost use Rattle.std.specs.Prelude.{◌≡◌, ◌<◌, ◌+◌, ◌^◌, ◌-◌, ◌∷◌, ◌++◌, [], true, false, Ok, Err, None, length, List, replicate, slice_set, IfOk, IfErr, OnOk, OnErr};
 ghost use Rattle.framehop_registers.specs.Callback.{OverWords};
 ghost use Rattle.framehop_rules.specs.Outcome.{IsStep};
 ghost use Rattle.framehop_modules.specs.LoadErrors.{module_returned};
@@ -7,10 +7,11 @@ ghost use Rattle.framehop_unwinder.specs.Attempt.{meanings};
 ghost use Rattle.framehop_unwinder.specs.Frames.{frame_of};
 ghost use Rattle.framehop_unwinder.specs.Judge.{judge};
 ghost use Rattle.framehop_unwinder.specs.Modules.{with_module, without_module, has_start};
-ghost use Rattle.framehop_unwinder.specs.State.{empty_state, unwinder_at, cache_at, cache_after, new_cache, loads_with};
+ghost use Rattle.framehop_unwinder.specs.History.{KeyHistory, HaveHistories, history_at, no_history};
+ghost use Rattle.framehop_unwinder.specs.State.{empty_state, unwinder_at, cache_at, histories_after_step, histories_after_move, new_cache, loads_with};
 ghost use Rattle.framehop_unwinder.specs.Trials.{wants_memory, IsOfStep};
 ghost use Rattle.framehop_unwinder.specs.Walk.{move};
-ghost use Rattle.framehop_unwinder.specs.WalkViews.{frame_answer, move_made, walk_of};
+ghost use Rattle.framehop_unwinder.specs.WalkViews.{frame_answer, move_made, place_of, walk_of};
 
 use crate::cache::Cache;
 use crate::iterator::{StackWalk, UnwindIteratorState};
@@ -94,6 +95,8 @@ impl<A: Unwinding> Session<A> {
     ) -> Result<(), AllocError>
         ensures ok { OnOk result (self.new
             ≡ record self.old { caches = self.old.caches ++ new_cache ∷ [] }) }
+        ensures histories { (histories : List KeyHistory) → HaveHistories histories self.old.caches
+            → OnOk result (HaveHistories (histories ++ no_history ∷ []) self.new.caches) }
         ensures refused { OnErr result (self.new ≡ self.old) }
     {
         let cache = Cache::new(alloc, unwind_context)?;
@@ -175,7 +178,9 @@ impl<A: Unwinding> Session<A> {
     /// How many look-ups in a cache found a rule so far, and why the others didn't.
     pub fn stats(&self, cache: usize) -> CacheStats
         requires { cache < length self.now.caches }
-        ensures { result ≡ (cache_at self.now.caches cache).counts }
+        ensures counts { result ≡ (cache_at self.now.caches cache).counts }
+        ensures histories { (histories : List KeyHistory) → HaveHistories histories self.now.caches
+            → result ≡ (history_at histories cache).counts }
     {
         self.caches[cache].stats()
     }
@@ -199,11 +204,13 @@ impl<A: Unwinding> Session<A> {
             → IsStep result regs.old regs.new (judge m modules (frame_of address) regs.old words)) }
         ensures unwinders { self.new.unwinders ≡ self.old.unwinders }
         ensures next { self.new.next ≡ self.old.next }
-        ensures cache { let m = meanings A.UnwindRule.meaning A.UnwindRule.fallback A.attempt in
+        ensures caches { length self.new.caches ≡ length self.old.caches }
+        ensures histories { let m = meanings A.UnwindRule.meaning A.UnwindRule.fallback A.attempt in
             let loads = unwinder_at self.old.unwinders unwinder in
-            let old = cache_at self.old.caches cache in
-            self.new.caches ≡ slice_set self.old.caches cache
-            (cache_after m (wants_memory result) (frame_of address) loads old) }
+            (histories : List KeyHistory) → HaveHistories histories self.old.caches
+            → HaveHistories
+            (histories_after_step m (wants_memory result) (frame_of address) loads cache histories)
+            self.new.caches }
         ensures none_keeps { result ≡ Ok None → regs.new ≡ regs.old }
         ensures error_keeps { OnErr result (regs.new ≡ regs.old) }
         ensures refusals { IfErr result IsOfStep }
@@ -235,6 +242,13 @@ impl<A: Unwinding> Session<A> {
         ensures unwinders { self.new.unwinders ≡ self.old.unwinders }
         ensures next { self.new.next ≡ self.old.next }
         ensures caches { length self.new.caches ≡ length self.old.caches }
+        ensures histories { let m = meanings A.UnwindRule.meaning A.UnwindRule.fallback A.attempt in
+            let loads = unwinder_at self.old.unwinders unwinder in
+            let place = place_of walk.old.state in
+            (histories : List KeyHistory) → HaveHistories histories self.old.caches
+            → HaveHistories
+            (histories_after_move m (wants_memory result) place loads cache histories)
+            self.new.caches }
         ensures memory { A.takes_memory ≡ false → wants_memory result ≡ false }
     {
         let address = match walk.state {

@@ -1,16 +1,18 @@
 use Rattle.std.proofs.Common.{ap, ◌≡◌, ◌<◌, length, map, arith, sym, subst, ◌∙◌, [], refl}
 use Rattle.std.specs.Prelude.{slice_set}
-use Rattle.std.proofs.lemmas.List.{map-set, length-map, get_or-map, get_or_default}
+use Rattle.std.proofs.lemmas.List.{map-set, length-map, length-set, get_or-map, get_or_default}
 use Rattle.framehop_rules.specs.Outcome.{IsStep}
 use Rattle.framehop_rules.specs.Slots.{Key, Kept, no_counts}
 use Rattle.framehop_unwinder.specs.Attempt.{meanings}
 use Rattle.framehop_unwinder.specs.CacheViews.{rules_of}
 use Rattle.framehop_unwinder.specs.Frames.{frame_of}
+use Rattle.framehop_unwinder.specs.History.{HaveHistories}
 use Rattle.framehop_unwinder.specs.Judge.{judge}
 use Rattle.framehop_unwinder.specs.Modules.{Loaded, Loads}
-use Rattle.framehop_unwinder.specs.RulesKept.{key_for}
-use Rattle.framehop_unwinder.specs.State.{State, unwinder_at, cache_at, cache_after, slots_of_all}
+use Rattle.framehop_unwinder.specs.RulesKept.{key_for, rule_kept}
+use Rattle.framehop_unwinder.specs.State.{State, unwinder_at, cache_at, histories_after_step, slots_of_all}
 use Rattle.framehop_unwinder.specs.Trials.{wants_memory}
+use Rattle.framehop_unwinder.proofs.Histories.{stands_after, step-have}
 use Rattle.framehop_unwinder.proofs.Sound.{sound_step_of, fits_at, kept-is}
 use Rattle.framehop_unwinder.proofs.session.Session.step.Goals as goal
 
@@ -57,8 +59,16 @@ returns-clause-step g c =
       still = c.unwind_frame.ensures.step.still;
     }
 
-pub returns-clause-cache : goal.returns-clause-cache
-returns-clause-cache g c =
+pub returns-clause-caches : goal.returns-clause-caches
+returns-clause-caches g c =
+    let items = c.self.inside.caches.items in
+    length-map (slice_set items c.args.cache c.unwind_frame.new.cache) rules_of
+    ∙ length-set items c.args.cache c.unwind_frame.new.cache
+    ∙ sym (length-map items rules_of)
+    ∙ ap (λ (s : State g.row.A-UnwindData.Denot g.row.A-UnwindRule.Denot). length s.caches) c.self.view_is
+
+pub returns-clause-histories : goal.returns-clause-histories
+returns-clause-histories g c =
     let D = g.row.A-UnwindData.Denot in
     let R = g.row.A-UnwindRule.Denot in
     let m = meanings g.A.UnwindRule.UnwindRule.meaning g.A.UnwindRule.UnwindRule.fallback g.A.Unwinding.attempt in
@@ -67,18 +77,22 @@ returns-clause-cache g c =
     let caches = map rules_of items in
     let there : c.args.unwinder < length loads = omega (arith, ap (λ (s : State D R). length s.unwinders) c.self.view_is) in
     let kept : c.args.cache < length items = omega (arith, length-map items rules_of, ap (λ (s : State D R). length s.caches) c.self.view_is) in
+    let within : c.args.cache < length c.args.self.now.caches = omega arith in
     let read = c.index_mut-cache.result.now in
     let empty : Kept R = record { slots = []; counts = no_counts } in
     let none : Loads (Loaded D) = record { modules = []; generation = 0 } in
     let u = c.index.result.now in
     let w = wants_memory c.unwind_frame.result in
-    let frame = frame_of c.args.address in
+    let stands : Loads (Loaded D) → Kept R → Kept R = λ x k. stands_after w (rule_kept m x.modules) (key_for (frame_of c.args.address) x.generation) k in
     let mine : u ≡ unwinder_at c.args.self.now.unwinders c.args.unwinder =
     c.index.ensures ∙ get_or_default loads c.args.unwinder u none there ∙ ap (λ (s : State D R). unwinder_at s.unwinders c.args.unwinder) c.self.view_is in
     let theirs : rules_of read ≡ cache_at c.args.self.now.caches c.args.cache =
     ap rules_of c.index_mut-cache.ensures.value ∙ sym (get_or-map rules_of items c.args.cache read empty kept) ∙ ap (λ (s : State D R). cache_at s.caches c.args.cache) c.self.view_is in
-    map-set rules_of items c.args.cache c.unwind_frame.new.cache
+    let mine_now = unwinder_at c.args.self.now.unwinders c.args.unwinder in
+    let made = map-set rules_of items c.args.cache c.unwind_frame.new.cache
     ∙ ap (slice_set caches c.args.cache) (kept-is (rules_of c.unwind_frame.new.cache) _ _ c.unwind_frame.ensures.slots c.unwind_frame.ensures.counts
-    ∙ ap (λ (x : Loads (Loaded D)). cache_after m w frame x (rules_of read)) mine
-    ∙ ap (cache_after m w frame (unwinder_at c.args.self.now.unwinders c.args.unwinder)) theirs)
-    ∙ ap (λ (s : State D R). slice_set s.caches c.args.cache (cache_after m w frame (unwinder_at c.args.self.now.unwinders c.args.unwinder) (cache_at c.args.self.now.caches c.args.cache))) c.self.view_is
+    ∙ ap (λ (x : Loads (Loaded D)). stands x (rules_of read)) mine
+    ∙ ap (stands mine_now) theirs)
+    ∙ ap (λ (s : State D R). slice_set s.caches c.args.cache (stands mine_now (cache_at c.args.self.now.caches c.args.cache))) c.self.view_is in
+    λ histories have. subst (HaveHistories (histories_after_step m w (frame_of c.args.address) mine_now c.args.cache histories)) (sym made)
+    (step-have w (rule_kept m mine_now.modules) (key_for (frame_of c.args.address) mine_now.generation) histories c.args.self.now.caches c.args.cache empty within have)
