@@ -11,7 +11,7 @@ use Rattle.dwarf_numbers.specs.Offset.{offset_below}
 use Rattle.dwarf_readers.specs.Place.{Stretch, ◌>>=◌, behind, number_at, split_at}
 use Rattle.dwarf_frame_entries.specs.Entries.{entry_at, entry_within, offset_in}
 use Rattle.dwarf_frame_entries.specs.Parts.{IsPart}
-use Rattle.dwarf_frame_entries.specs.Sections.{FrameSection}
+use Rattle.dwarf_frame_sections.specs.Sections.{FrameSection}
 
 -- a stretch is what stands behind so many bytes of another
 pub record IsBehind (s t : Stretch) : Type 0 where

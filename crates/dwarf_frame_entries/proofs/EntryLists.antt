@@ -11,7 +11,7 @@ use Rattle.dwarf_readers.proofs.Laws.{initial_length_takes, items_shrink, leaves
 use Rattle.dwarf_frame_entries.specs.Entries.{AnyEntry, entry_at, entry_within, offset_in}
 use Rattle.dwarf_frame_entries.specs.EntryLists.{ListEnd, SectionEnd, Terminator, Fault, end_by, entries_from, entry_there, list_end_from, next_length, unless_ended}
 use Rattle.dwarf_frame_entries.specs.Parts.{IsPart}
-use Rattle.dwarf_frame_entries.specs.Sections.{FrameSection}
+use Rattle.dwarf_frame_sections.specs.Sections.{FrameSection}
 use Rattle.dwarf_frame_entries.proofs.Behind.{entry-left, left-known, part-behind}
 
 -- a length takes four bytes at least

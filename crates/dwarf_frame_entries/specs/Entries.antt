@@ -17,7 +17,7 @@ use Rattle.dwarf_frame_rows.specs.declared.pointer.Pointer.{Pointer}
 use Rattle.dwarf_frame_rows.specs.declared.section.CieOffsetEncoding.{CieOffsetEncoding}
 use Rattle.dwarf_frame_rows.specs.declared.section.CieOffsetEncoding.TheVariants.{U32, U64}
 use Rattle.dwarf_frame_entries.specs.Augmentations.{augmentation_at, data_at}
-use Rattle.dwarf_frame_entries.specs.Sections.{FrameSection, SectionData, origins_in}
+use Rattle.dwarf_frame_sections.specs.Sections.{FrameSection, SectionData, origins_in}
 use Rattle.dwarf_frame_entries.specs.declared.augmentation.Augmentation.{Augmentation}
 use Rattle.dwarf_frame_entries.specs.declared.entries.Entry.{Entry}
 use Rattle.dwarf_frame_entries.specs.declared.entries.Entry.TheVariants as which

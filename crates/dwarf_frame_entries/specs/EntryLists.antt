@@ -7,7 +7,7 @@ use Rattle.dwarf_readers.specs.Place.{Stretch, ◌>>=◌}
 use Rattle.dwarf_readers.specs.Remainder.{size_of}
 use Rattle.dwarf_frame_entries.specs.Entries.{AnyEntry, entry_at}
 use Rattle.dwarf_frame_entries.specs.Parts.{IsPart}
-use Rattle.dwarf_frame_entries.specs.Sections.{FrameSection}
+use Rattle.dwarf_frame_sections.specs.Sections.{FrameSection}
 
 -- what stands at a length, an entry or nothing, if the section goes on there: a length of 0 ends some sections
 abbrev pub unless_ended : Bool → Option AnyEntry × Stretch → Answer Stretch (Option AnyEntry) Error

@@ -1,10 +1,10 @@
 pub mod Augmentations
 pub mod Entries
 pub mod EntryLists
+pub mod EntryPrograms
 pub mod EntryViews
 pub mod Getters
 pub mod HeadViews
 pub mod LetterViews
 pub mod Memory
 pub mod Parts
-pub mod Sections

@@ -3,7 +3,7 @@ ghost use Rattle.std.specs.Prelude.{◌≡◌};
 ghost use Rattle.dwarf_frame_entries.specs.EntryLists.{GivesEntry, TellsEnd, listing_of};
 ghost use Rattle.dwarf_frame_entries.specs.EntryViews.{entry_view};
 ghost use Rattle.dwarf_frame_entries.specs.Parts.{IsPart};
-ghost use Rattle.dwarf_frame_entries.specs.Sections.{frame_section};
+ghost use Rattle.dwarf_frame_sections.specs.Sections.{frame_section};
 
 use crate::cie::CommonInformationEntry;
 use crate::fde::PartialFrameDescriptionEntry;
@@ -39,7 +39,7 @@ pub struct CfiEntriesIter<'bases, Section: UnwindSection<R>, R: Reader> {
 impl<'bases, Section: UnwindSection<R>, R: Reader> Model for CfiEntriesIter<'bases, Section, R> {
     ghost use Rattle.dwarf_frame_entries.specs.EntryLists.{Listing, listing_from};
     ghost use Rattle.dwarf_frame_entries.specs.Parts.{IsPart};
-    ghost use Rattle.dwarf_frame_entries.specs.Sections.{frame_section};
+    ghost use Rattle.dwarf_frame_sections.specs.Sections.{frame_section};
 
     ghost Value = { Listing };
 

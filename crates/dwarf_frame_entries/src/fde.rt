@@ -7,7 +7,7 @@ ghost use Rattle.dwarf_frame_entries.specs.Entries.{addresses_at, cie_from_offse
 ghost use Rattle.dwarf_frame_entries.specs.EntryViews.{cie_view};
 ghost use Rattle.dwarf_frame_entries.specs.Getters.{is_signal_trampoline, personality};
 ghost use Rattle.dwarf_frame_entries.specs.Memory.{MayGive};
-ghost use Rattle.dwarf_frame_entries.specs.Sections.{frame_section};
+ghost use Rattle.dwarf_frame_sections.specs.Sections.{frame_section};
 
 use crate::augmentation::{Augmentation, read_data};
 use crate::cie::{CommonInformationEntry, Head};
@@ -35,7 +35,7 @@ impl<'bases, Section: UnwindSection<R>, R: Reader> Model
     ghost use Rattle.std.specs.Prelude.{◌≤◌};
     ghost use Rattle.dwarf_frame_entries.specs.Entries.{PartialFde};
     ghost use Rattle.dwarf_frame_entries.specs.HeadViews.{head_view};
-    ghost use Rattle.dwarf_frame_entries.specs.Sections.{section_data};
+    ghost use Rattle.dwarf_frame_sections.specs.Sections.{section_data};
 
     ghost Value = { PartialFde };
 
@@ -187,11 +187,11 @@ fn read_lsda<R: Reader>(
 #[derive(Debug, Clone, Drop)]
 pub struct FrameDescriptionEntry<R: Reader> {
     head: Head<R::Offset>,
-    cie: CommonInformationEntry<R>,
-    initial_address: u64,
+    pub(crate) cie: CommonInformationEntry<R>,
+    pub(crate) initial_address: u64,
     address_range: u64,
     lsda: Option<Pointer>,
-    instructions: R,
+    pub(crate) instructions: R,
 }
 
 impl<R: Reader> Model for FrameDescriptionEntry<R> {

@@ -7,16 +7,17 @@ mod cie;
 mod entries;
 mod fde;
 mod parse;
+mod programs;
 mod section;
-mod sections;
 
 pub use augmentation::Augmentation;
 pub use cie::CommonInformationEntry;
+pub use dwarf_frame_programs::{CallFrameInstruction, CallFrameInstructionIter};
 pub use dwarf_frame_rows::{
     _UnwindSectionPrivate, BaseAddresses, CieOffsetEncoding, Pointer, SectionBaseAddresses,
-    UnwindOffset,
+    UnwindContext, UnwindContextStorage, UnwindOffset, UnwindTableRow,
 };
+pub use dwarf_frame_sections::{DebugFrame, EhFrame};
 pub use entries::{CfiEntriesIter, CieOrFde, Entry};
 pub use fde::{FrameDescriptionEntry, PartialFrameDescriptionEntry};
 pub use section::UnwindSection;
-pub use sections::{DebugFrame, EhFrame};

@@ -6,7 +6,7 @@ ghost use Rattle.dwarf_frame_entries.specs.Entries.{cie_at, entry_at, entry_with
 ghost use Rattle.dwarf_frame_entries.specs.EntryViews.{cie_view, entry_view};
 ghost use Rattle.dwarf_frame_entries.specs.HeadViews.{head_view};
 ghost use Rattle.dwarf_frame_entries.specs.Parts.{IsPart};
-ghost use Rattle.dwarf_frame_entries.specs.Sections.{frame_section};
+ghost use Rattle.dwarf_frame_sections.specs.Sections.{frame_section};
 
 use crate::augmentation::parse_augmentation;
 use crate::cie::{CommonInformationEntry, Head};

@@ -5,14 +5,15 @@ ghost use Rattle.dwarf_frame_entries.specs.Entries.{cie_from_offset, fde_from_of
 ghost use Rattle.dwarf_frame_entries.specs.EntryLists.{listing_of};
 ghost use Rattle.dwarf_frame_entries.specs.EntryViews.{cie_view};
 ghost use Rattle.dwarf_frame_entries.specs.Memory.{MayGive};
-ghost use Rattle.dwarf_frame_entries.specs.Sections.{frame_section};
+ghost use Rattle.dwarf_frame_sections.specs.Sections.{frame_section};
 
 use crate::cie::CommonInformationEntry;
 use crate::entries::{CfiEntriesIter, CieOrFde};
 use crate::fde::{FrameDescriptionEntry, PartialFrameDescriptionEntry};
 use crate::parse::parse_entry;
-use dwarf_constants::{Error, Result};
+use dwarf_constants::{DebugFrameOffset, EhFrameOffset, Error, Result};
 use dwarf_frame_rows::{_UnwindSectionPrivate, BaseAddresses, UnwindOffset};
+use dwarf_frame_sections::{DebugFrame, EhFrame};
 use dwarf_readers::{Reader, ReaderOffset};
 use std::fmt::Debug;
 
@@ -110,4 +111,12 @@ pub trait UnwindSection<R: Reader>: Copy + Debug + _UnwindSectionPrivate<R> {
         let partial = self.partial_fde_from_offset(bases, offset)?;
         partial.parse(get_cie)
     }
+}
+
+impl<R: Reader> UnwindSection<R> for EhFrame<R> {
+    type Offset = EhFrameOffset<R::Offset>;
+}
+
+impl<R: Reader> UnwindSection<R> for DebugFrame<R> {
+    type Offset = DebugFrameOffset<R::Offset>;
 }

@@ -5,10 +5,9 @@ ghost use Rattle.dwarf_constants.specs.declared.common.Vendor.TheVariants as ven
 ghost use Rattle.dwarf_readers.specs.EndianSlice.{stretch_of};
 ghost use Rattle.dwarf_readers.specs.InitialLength.{is_size};
 ghost use Rattle.dwarf_readers.specs.Place.{whole};
-ghost use Rattle.dwarf_frame_entries.specs.Sections.{FrameData, debug_frame, eh_frame, plain_data};
+ghost use Rattle.dwarf_frame_sections.specs.Sections.{FrameData, debug_frame, eh_frame, plain_data};
 
-use crate::section::UnwindSection;
-use dwarf_constants::{DebugFrameOffset, EhFrameOffset, Format, SectionId, Vendor};
+use dwarf_constants::{Format, SectionId, Vendor};
 use dwarf_frame_rows::{_UnwindSectionPrivate, CieOffsetEncoding};
 use dwarf_read_core::Section;
 use dwarf_readers::{EndianSlice, Endianity, Reader, ReaderOffset};
@@ -142,10 +141,6 @@ impl<R: Reader> _UnwindSectionPrivate<R> for EhFrame<R> {
     }
 }
 
-impl<R: Reader> UnwindSection<R> for EhFrame<R> {
-    type Offset = EhFrameOffset<R::Offset>;
-}
-
 /// The section `.debug_frame` (DWARF 5, 6.4.1).
 #[derive(Debug, Clone, Copy)]
 pub struct DebugFrame<R> {
@@ -275,8 +270,4 @@ impl<R: Reader> _UnwindSectionPrivate<R> for DebugFrame<R> {
     fn vendor(&self) -> Vendor {
         self.vendor
     }
-}
-
-impl<R: Reader> UnwindSection<R> for DebugFrame<R> {
-    type Offset = DebugFrameOffset<R::Offset>;
 }
