@@ -1,3 +1,6 @@
 pub mod Behind
+pub mod Each
 pub mod EntryLists
+pub mod EntryPlaces
+pub mod Laws
 pub mod Onward

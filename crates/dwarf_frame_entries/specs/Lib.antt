@@ -8,3 +8,4 @@ pub mod HeadViews
 pub mod LetterViews
 pub mod Memory
 pub mod Parts
+pub mod SectionFdes

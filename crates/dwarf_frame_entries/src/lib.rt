@@ -5,6 +5,7 @@
 mod augmentation;
 mod cie;
 mod entries;
+mod entry_places;
 mod fde;
 mod parse;
 mod programs;
@@ -19,5 +20,6 @@ pub use dwarf_frame_rows::{
 };
 pub use dwarf_frame_sections::{DebugFrame, EhFrame};
 pub use entries::{CfiEntriesIter, CieOrFde, Entry};
+pub use entry_places::{listed_entries_stand_at_their_offsets, listed_fdes_stand_at_their_offsets};
 pub use fde::{FrameDescriptionEntry, PartialFrameDescriptionEntry};
 pub use section::UnwindSection;
