@@ -1,12 +1,12 @@
 -- Each entry of a section is what stands at its offset.
-use Rattle.std.proofs.Common.{◌≡◌, ℕ, zero, suc, ◌-◌, ◌+◌, ◌≤◌, Bool, true, false, cond, List, [], ◌∷◌, length, Option, Some, None, Result, Ok, Err, refl, sym, ap, subst, ◌∙◌, arith}
+use Rattle.std.proofs.Common.{◌≡◌, ℕ, zero, suc, ◌-◌, ◌+◌, Bool, true, false, cond, List, [], ◌∷◌, length, Option, Some, None, Result, Ok, Err, refl, sym, ap, ◌∙◌, arith}
 use Rattle.std.specs.Prelude.{◌==◌, nat_lt}
 use Rattle.std.specs.List.{All, filter_map}
 use Rattle.std.specs.Result.{result_ok}
 use Rattle.std.proofs.lemmas.List.Elements.{All-nil, All-cons, All-head, All-tail}
 use Rattle.lists.specs.Items.{Answer, items_from, items_within}
 use Rattle.dwarf_constants.specs.declared.error.Error.{Error}
-use Rattle.dwarf_readers.specs.Place.{Stretch, ◌>>=◌, behind, behind_at, byte_at, split_at, string_at}
+use Rattle.dwarf_readers.specs.Place.{Stretch, ◌>>=◌, behind_at, byte_at, split_at, string_at}
 use Rattle.dwarf_readers.specs.Remainder.{size_of}
 use Rattle.dwarf_readers.specs.InitialLength.{initial_length_at}
 use Rattle.dwarf_readers.specs.Leb128.{signed_at, unsigned_at}
@@ -15,7 +15,7 @@ use Rattle.dwarf_frame_rows.specs.SectionKind.{SectionKind}
 use Rattle.dwarf_frame_sections.specs.Sections.{FrameSection, origins_in}
 use Rattle.dwarf_frame_entries.specs.declared.entries.Entry.TheVariants as which
 use Rattle.dwarf_frame_entries.specs.Augmentations.{augmentation_at}
-use Rattle.dwarf_frame_entries.specs.Entries.{AnyEntry, Cie, Fde, Head, PartialFde, address_encoding, addresses_at, cie_among, cie_at, cie_from_offset, entry_at, entry_within, fde_from_offset, fde_of, fde_with, id_at, lsda_at, offset_in, partial_among, partial_at, partial_fde_from_offset, register_at, sizes_at}
+use Rattle.dwarf_frame_entries.specs.Entries.{AnyEntry, Cie, Fde, Head, PartialFde, address_encoding, addresses_at, cie_among, cie_at, cie_from_offset, entry_at, entry_within, fde_from_offset, fde_of, id_at, lsda_at, offset_in, partial_among, partial_at, partial_fde_from_offset, register_at, sizes_at}
 use Rattle.dwarf_frame_entries.specs.EntryLists.{entries_from, entries_of, entry_there, next_length, unless_ended}
 use Rattle.dwarf_frame_entries.specs.SectionFdes.{StandsAtItsOffset, StandsThere, fde_in, whole_fdes}
 use Rattle.dwarf_frame_entries.proofs.Behind.{IsBehind, behind-both, behind-none, entry-left, left-known}

@@ -4,3 +4,4 @@ pub mod EntryLists
 pub mod EntryPlaces
 pub mod Laws
 pub mod Onward
+pub mod UnwindTables

@@ -9,3 +9,5 @@ pub mod LetterViews
 pub mod Memory
 pub mod Parts
 pub mod SectionFdes
+pub mod UnwindTableLends
+pub mod UnwindTables

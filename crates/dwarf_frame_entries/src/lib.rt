@@ -10,6 +10,7 @@ mod fde;
 mod parse;
 mod programs;
 mod section;
+mod table;
 
 pub use augmentation::Augmentation;
 pub use cie::CommonInformationEntry;
@@ -23,3 +24,4 @@ pub use entries::{CfiEntriesIter, CieOrFde, Entry};
 pub use entry_places::{listed_entries_stand_at_their_offsets, listed_fdes_stand_at_their_offsets};
 pub use fde::{FrameDescriptionEntry, PartialFrameDescriptionEntry};
 pub use section::UnwindSection;
+pub use table::UnwindTable;

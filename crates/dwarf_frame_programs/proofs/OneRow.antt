@@ -1,6 +1,6 @@
 -- In a program without a refusal each address of the code lies in exactly one row.
-use Rattle.std.proofs.Common.{◌≡◌, ℕ, zero, suc, ◌+◌, ◌<◌, ◌≤◌, Bool, true, false, cond, List, [], ◌∷◌, length, Option, Some, None, Result, Ok, Err, refl, sym, ap, subst, ◌∙◌, arith}
-use Rattle.std.specs.Prelude.{◌*◌, ◌%◌, ◌^◌, ◌&&◌, nat_le, nat_lt, unwrap_or}
+use Rattle.std.proofs.Common.{◌≡◌, ℕ, suc, ◌+◌, ◌<◌, ◌≤◌, Bool, true, false, cond, List, [], ◌∷◌, length, Some, None, Result, Ok, Err, refl, ap, ◌∙◌, arith}
+use Rattle.std.specs.Prelude.{◌*◌, ◌%◌, ◌^◌, nat_lt, unwrap_or}
 use Rattle.std.specs.FinMap.{empty}
 use Rattle.std.specs.List.{filter}
 use Rattle.std.proofs.lemmas.Bool.Decides.{nat_tests}
@@ -14,7 +14,7 @@ use Rattle.dwarf_frame_programs.specs.declared.effects.Factors.{Factors}
 use Rattle.dwarf_frame_programs.specs.declared.instructions.CallFrameInstruction.{CallFrameInstruction}
 use Rattle.dwarf_frame_programs.specs.declared.instructions.CallFrameInstruction.TheVariants as instruction
 use Rattle.dwarf_frame_programs.specs.Effects.{address_limit, effect_of}
-use Rattle.dwarf_frame_programs.specs.Programs.{Frame, Instructions, Program, Rows, Step, Moves, Writes, Refused, no_rows, past_left, refused_rows, row_behind, rows_behind, rows_from, rows_of_program, rules_left, step_by, step_from, step_of, with_row, written}
+use Rattle.dwarf_frame_programs.specs.Programs.{Frame, Instructions, Program, Rows, Step, Moves, Writes, Refused, past_left, refused_rows, row_behind, rows_behind, rows_from, rows_of_program, rules_left, step_by, step_from, step_of, with_row, written}
 use Rattle.dwarf_frame_programs.specs.Refusals.{needs}
 
 -- ---- moves go on

@@ -179,8 +179,9 @@ impl<'a, 'ctx, R: Reader, S: UnwindContextStorage<R::Offset>> ProgramRows<'a, 'c
         })
     }
 
-    // Goes on to the next row, if one is left. After an error none is.
-    fn advance(&mut self) -> Result<bool>
+    /// Goes on to the next row, if one is left, which is then the current one. After an error none is
+    /// left.
+    pub fn advance(&mut self) -> Result<bool>
         ensures row { let limits = limits_of S.Rules.capacity S.Stack.capacity in
             (left : Rows ℕ) → HasLeft R.stretch R.Offset.limit R.Offset.value S.Stack.items limits self.old left
             → Advances R.stretch R.Offset.limit R.Offset.value S.Stack.items limits
@@ -251,6 +252,19 @@ impl<'a, 'ctx, R: Reader, S: UnwindContextStorage<R::Offset>> ProgramRows<'a, 'c
             return Ok(Some(self.context.row()));
         }
         Ok(None)
+    }
+
+    /// The row that was given last, if the last call gave one.
+    pub fn current_row(&self) -> Option<&UnwindTableRow<R::Offset, S::Rules>>
+        ensures { let limits = limits_of S.Rules.capacity S.Stack.capacity in
+            option_map (λ row. row_in R.Offset.value row.now) result
+            ≡ current_row R.Offset.value S.Stack.items limits self.now }
+    {
+        if self.has_row {
+            Some(self.context.row())
+        } else {
+            None
+        }
     }
 
     /// The row that was given last, if the last call gave one.
