@@ -1,3 +1,4 @@
+pub mod AddressLookups
 pub mod Augmentations
 pub mod Entries
 pub mod EntryLists

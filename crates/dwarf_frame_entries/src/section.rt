@@ -1,6 +1,10 @@
 //! What both sections of call frames are asked for.
-ghost use Rattle.std.specs.Prelude.{◌≡◌};
+ghost use Rattle.std.specs.Prelude.{◌≡◌, false};
+ghost use Rattle.dwarf_frame_rows.specs.Effects.{limits_of};
+ghost use Rattle.dwarf_frame_programs.specs.Execution.{TakesNoMemory};
+ghost use Rattle.dwarf_frame_programs.specs.ProgramRows.{IsRowFor};
 ghost use Rattle.dwarf_numbers.specs.Answers.{Gives};
+ghost use Rattle.dwarf_frame_entries.specs.AddressLookups.{fde_for_address, section_row};
 ghost use Rattle.dwarf_frame_entries.specs.Entries.{cie_from_offset, fde_from_offset, partial_fde_from_offset};
 ghost use Rattle.dwarf_frame_entries.specs.EntryLists.{listing_of};
 ghost use Rattle.dwarf_frame_entries.specs.EntryViews.{cie_view};
@@ -12,7 +16,10 @@ use crate::entries::{CfiEntriesIter, CieOrFde};
 use crate::fde::{FrameDescriptionEntry, PartialFrameDescriptionEntry};
 use crate::parse::parse_entry;
 use dwarf_constants::{DebugFrameOffset, EhFrameOffset, Error, Result};
-use dwarf_frame_rows::{_UnwindSectionPrivate, BaseAddresses, UnwindOffset};
+use dwarf_frame_rows::{
+    _UnwindSectionPrivate, BaseAddresses, UnwindContext, UnwindContextStorage, UnwindOffset,
+    UnwindTableRow,
+};
 use dwarf_frame_sections::{DebugFrame, EhFrame};
 use dwarf_readers::{Reader, ReaderOffset};
 use std::fmt::Debug;
@@ -110,6 +117,73 @@ pub trait UnwindSection<R: Reader>: Copy + Debug + _UnwindSectionPrivate<R> {
     {
         let partial = self.partial_fde_from_offset(bases, offset)?;
         partial.parse(get_cie)
+    }
+
+    /// The FDE for an address: the first in the section that contains it. Fails with the first refusal
+    /// of an entry before it, and with `NoUnwindInfoForAddress` where no FDE contains the address.
+    /// Where `get_cie` answers as `cie_from_offset` does, so does this; its want of memory is passed on.
+    final fn fde_for_address<
+        F: FnMut(&Self, &BaseAddresses, Self::Offset) -> Result<CommonInformationEntry<R>>,
+    >(
+        &self,
+        bases: &BaseAddresses,
+        address: u64,
+        mut get_cie: F,
+    ) -> Result<FrameDescriptionEntry<R>>
+    where
+        Self: Sized,
+        requires { F.IsAlwaysCallable get_cie }
+        ensures { (may_want : _) → ((f : F) (s : _) (b : _) (o : Self.Offset) (r : _) (after : F)
+            → F.step f s b o r after
+            → MayGive may_want (cie_view R.stretch R.Offset.value) r (cie_from_offset
+            (frame_section R.Offset.limit Self.kind (Self.size s.now)
+            (R.stretch (Self.reader s.now)) b.now) (Self.Offset.number o)))
+            → MayGive may_want (λ fde. fde) result (fde_for_address
+            (frame_section R.Offset.limit Self.kind (Self.size self.now)
+            (R.stretch (Self.reader self.now)) bases.now) address) }
+    {
+        let mut entries = self.entries(bases);
+        while let Some(entry) = entries.next()? {
+            if let CieOrFde::Fde(partial) = entry {
+                let cie = get_cie(&partial.section, partial.bases, partial.cie_offset)?;
+                let fde = partial.with_cie(cie)?;
+                if fde.contains(address) {
+                    return Ok(fde);
+                }
+            }
+        }
+        Err(Error::NoUnwindInfoForAddress)
+    }
+
+    /// The row for an address: that of the FDE that `fde_for_address` gives, or the first refusal. What
+    /// the context held before counts for nothing.
+    final fn unwind_info_for_address<
+        'ctx,
+        F: FnMut(&Self, &BaseAddresses, Self::Offset) -> Result<CommonInformationEntry<R>>,
+        S: UnwindContextStorage<R::Offset>,
+    >(
+        &self,
+        bases: &BaseAddresses,
+        ctx: &'ctx mut UnwindContext<R::Offset, S>,
+        address: u64,
+        get_cie: F,
+    ) -> Result<&'ctx UnwindTableRow<R::Offset, S::Rules>>
+    where
+        Self: Sized,
+        requires { F.IsAlwaysCallable get_cie }
+        ensures { let limits = limits_of S.Rules.capacity S.Stack.capacity in
+            (may_want : _) → ((f : F) (s : _) (b : _) (o : Self.Offset) (r : _) (after : F)
+            → F.step f s b o r after
+            → MayGive may_want (cie_view R.stretch R.Offset.value) r (cie_from_offset
+            (frame_section R.Offset.limit Self.kind (Self.size s.now)
+            (R.stretch (Self.reader s.now)) b.now) (Self.Offset.number o)))
+            → IsRowFor R.Offset.value
+            (TakesNoMemory S.Rules.is_made_in_place limits × (may_want ≡ false))
+            (section_row limits (frame_section R.Offset.limit Self.kind (Self.size self.now)
+            (R.stretch (Self.reader self.now)) bases.now) (Self.extensions self.now) address) result }
+    {
+        let fde = self.fde_for_address(bases, address, get_cie)?;
+        fde.unwind_info_for_address(self, bases, ctx, address)
     }
 }
 
