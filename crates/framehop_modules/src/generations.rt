@@ -1,5 +1,5 @@
 //! The numbers that lists of modules are told apart by.
-ghost use Rattle.std.specs.Prelude.{◌≡◌, ◌≢◌, ◌-◌, ◌+◌, ◌^◌, IfOk, OnOk, OnErr};
+ghost use Rattle.std.specs.Prelude.{◌≡◌, ◌≢◌, ◌≤◌, ◌-◌, ◌+◌, ◌^◌, IfOk, IsErr, OnOk, OnErr};
 
 use std::marker::Model;
 use thiserror::Error;
@@ -53,7 +53,7 @@ impl Generations {
 
     /// How many numbers the counter has left: from its next one up to 2^64 - 2.
     pub fn left(&self) -> u64
-        ensures { result ≡ 2 ^ 64 - 1 - self.now }
+        ensures { self.now + result ≡ 2 ^ 64 - 1 }
     {
         u64::MAX - self.next
     }
@@ -73,6 +73,7 @@ impl Generations {
     pub fn try_take(&mut self) -> Result<u64, GenerationsExhausted>
         ensures taken { IfOk result (λ number. number ≡ self.old) }
         ensures more { OnOk result (self.new ≡ self.old + 1) }
+        ensures refused { 2 ^ 64 - 1 ≤ self.old → IsErr result }
         ensures last { OnErr result (self.old ≡ 2 ^ 64 - 1) }
         ensures same { OnErr result (self.new ≡ self.old) }
     {

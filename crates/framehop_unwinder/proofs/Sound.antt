@@ -1,7 +1,7 @@
 -- What is sound stays so: where a number is taken, an unwinder is put beside the others or in the place of one, a cache is
 -- made, and a step is made.
 use Rattle.std.proofs.Common.{◌≡◌, ◌∙◌, ℕ, ◌+◌, ◌<◌, Bool, true, false, List, [], ◌∷◌, ◌++◌, Option, None, replicate, sym, ap, subst, refl, arith, length, get_or}
-use Rattle.std.specs.Prelude.{slice_set, if◌then◌else◌, Result, Ok, Err, OnOk, OnErr}
+use Rattle.std.specs.Prelude.{slice_set, Result, Ok, Err, OnOk, OnErr}
 use Rattle.std.specs.List.{All}
 use Rattle.std.proofs.lemmas.List.Elements.{All-set, All-get_or, All-from_get_or, All-weaker, All-push}
 use Rattle.framehop_rules.specs.Slots.{Entry, Key, Kept}
@@ -70,11 +70,6 @@ sound_set {D} {R} m next loads caches i v j s = record {
   below = s.below;
   fits = All-set (λ u. All (Fits (rule_kept m u.modules) u.generation) caches) loads i v j.fits s.fits;
 }
-
--- a new unwinder, if there is memory for it
-pub sound_new : {D R Regs : Type 0} (m : Meanings D R Regs) (next : ℕ) (loads : List (Loads (Loaded D))) (caches : List (List (Option (Entry R)))) (v : Loads (Loaded D)) (pushed : Bool) → v.generation ≡ next → IsSound m next loads caches → IsSound m (next + 1) (if pushed then loads ++ v ∷ [] else loads) caches
-sound_new {D} {R} m next loads caches v true is s = sound_push m (next + 1) loads caches v (joins_new m next loads caches v is s) (sound_next m next loads caches s)
-sound_new {D} {R} m next loads caches v false is s = sound_next m next loads caches s
 
 -- a new cache
 pub sound_cache : {D R Regs : Type 0} (m : Meanings D R Regs) (next : ℕ) (loads : List (Loads (Loaded D))) (caches : List (List (Option (Entry R)))) → IsSound m next loads caches → IsSound m next loads (caches ++ replicate 509 None ∷ [])

@@ -1,8 +1,8 @@
 //! Many unwinders, which share caches under one counter of generations.
-ghost use Rattle.std.specs.Prelude.{◌≡◌, ◌<◌, ◌+◌, ◌^◌, ◌-◌, ◌∷◌, ◌++◌, [], true, false, Ok, Err, None, length, List, replicate, slice_set, IfOk, IfErr, OnOk, OnErr};
+ghost use Rattle.std.specs.Prelude.{◌≡◌, ◌<◌, ◌≤◌, ◌+◌, ◌^◌, ◌-◌, ◌∷◌, ◌++◌, [], true, false, Ok, Err, None, length, List, replicate, slice_set, IfOk, IfErr, IsErr, OnOk, OnErr};
 ghost use Rattle.framehop_registers.specs.Callback.{OverWords};
 ghost use Rattle.framehop_rules.specs.Outcome.{IsStep};
-ghost use Rattle.framehop_modules.specs.LoadErrors.{module_returned};
+ghost use Rattle.framehop_modules.specs.LoadErrors.{module_returned, is_exhausted};
 ghost use Rattle.framehop_unwinder.specs.Attempt.{meanings};
 ghost use Rattle.framehop_unwinder.specs.Frames.{frame_of};
 ghost use Rattle.framehop_unwinder.specs.Judge.{judge};
@@ -57,7 +57,7 @@ impl<A: Unwinding> Model for Session<A> {
 pub enum AddUnwinderError {
     /// The counter gave all its numbers.
     GenerationsExhausted,
-    /// Memory for the list of unwinders was refused. A number is gone.
+    /// Memory for the list of unwinders was refused.
     OutOfMemory,
 }
 
@@ -111,16 +111,20 @@ impl<A: Unwinding> Session<A> {
               unwinders = self.old.unwinders ++ unwinder ∷ [];
               next = self.old.next + 1;
             }) }
-        ensures unwinders { OnErr result (self.new.unwinders ≡ self.old.unwinders) }
-        ensures caches { OnErr result (self.new.caches ≡ self.old.caches) }
+        ensures exhausted { 2 ^ 64 - 1 ≤ self.old.next
+            → result ≡ Err AddUnwinderError.GenerationsExhausted }
+        ensures only { result ≡ Err AddUnwinderError.GenerationsExhausted → self.old.next ≡ 2 ^ 64 - 1 }
+        ensures refused { OnErr result (self.new ≡ self.old) }
     {
-        let Ok(unwinder) = UnwinderInternal::new(alloc, &mut self.generations) else {
+        if self.generations.left() == 0 {
             return Err(AddUnwinderError::GenerationsExhausted);
-        };
-        match self.unwinders.push(unwinder) {
-            Ok(()) => Ok(()),
-            Err(_) => Err(AddUnwinderError::OutOfMemory),
         }
+        if self.unwinders.reserve(1).is_err() {
+            return Err(AddUnwinderError::OutOfMemory);
+        }
+        let unwinder = UnwinderInternal::with_generation(alloc, self.generations.take());
+        self.unwinders.push_reserved(unwinder);
+        Ok(())
     }
 
     /// Makes an unwinder, the last, with the modules and the generation of another.
@@ -148,8 +152,9 @@ impl<A: Unwinding> Session<A> {
               unwinders = slice_set self.old.unwinders unwinder loads;
               next = self.old.next + 1;
             }) }
-        ensures exhausted { self.old.next ≡ 2 ^ 64 - 1
+        ensures exhausted { 2 ^ 64 - 1 ≤ self.old.next
             → result ≡ Err (LoadError.GenerationsExhausted «module») }
+        ensures only { IfErr result (λ error. is_exhausted error ≡ true → self.old.next ≡ 2 ^ 64 - 1) }
         ensures returned { IfErr result (λ error. module_returned error ≡ «module») }
         ensures refused { OnErr result (self.new ≡ self.old) }
     {
@@ -169,7 +174,9 @@ impl<A: Unwinding> Session<A> {
               unwinders = slice_set self.old.unwinders unwinder loads;
               next = self.old.next + 1;
             }) }
-        ensures exhausted { OnErr result (self.old.next ≡ 2 ^ 64 - 1) }
+        ensures exhausted { let modules = (unwinder_at self.old.unwinders unwinder).modules in
+            has_start (λ m. m.start) start modules ≡ true → 2 ^ 64 - 1 ≤ self.old.next → IsErr result }
+        ensures only { OnErr result (self.old.next ≡ 2 ^ 64 - 1) }
         ensures refused { OnErr result (self.new ≡ self.old) }
     {
         self.unwinders[unwinder].remove_module(&mut self.generations, start)

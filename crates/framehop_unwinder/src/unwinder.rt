@@ -1,10 +1,10 @@
 //! The modules of a process, and the step of a stack walk.
-ghost use Rattle.std.specs.Prelude.{◌≡◌, ◌+◌, ◌-◌, ◌^◌, ◌<◌, ◌≤◌, [], true, false, Some, None, Ok, Err, List, length, insert, remove, IfOk, IfErr, OnOk, OnErr, IfNone, IfSome};
+ghost use Rattle.std.specs.Prelude.{◌≡◌, ◌+◌, ◌-◌, ◌^◌, ◌<◌, ◌≤◌, [], true, false, Some, None, Ok, Err, List, length, insert, remove, IfOk, IfErr, IsErr, OnOk, OnErr, IfNone, IfSome};
 ghost use Rattle.std.specs.List.Sorted.{IsNonDecreasingBy};
 ghost use Rattle.framehop_registers.specs.Callback.{OverWords};
 ghost use Rattle.framehop_rules.specs.Outcome.{IsStep};
 ghost use Rattle.framehop_rules.specs.Slots.{key_of, counts_after};
-ghost use Rattle.framehop_modules.specs.LoadErrors.{module_returned};
+ghost use Rattle.framehop_modules.specs.LoadErrors.{module_returned, is_exhausted};
 ghost use Rattle.framehop_unwinder.specs.Attempt.{meanings, attempt_at};
 ghost use Rattle.framehop_unwinder.specs.CacheViews.{rules_of};
 ghost use Rattle.framehop_unwinder.specs.Frames.{frame_of};
@@ -117,10 +117,17 @@ impl<A: Unwinding> UnwinderInternal<A> {
         ensures same { OnErr result (generations.new ≡ generations.old) }
     {
         let generation = generations.try_take()?;
-        Ok(UnwinderInternal {
+        Ok(UnwinderInternal::with_generation(alloc, generation))
+    }
+
+    /// An unwinder without a module, with this generation.
+    pub(crate) fn with_generation(alloc: Global, generation: u64) -> Self
+        ensures { result ≡ record { modules = []; generation = generation } }
+    {
+        UnwinderInternal {
             modules: Vec::new(alloc),
             generation,
-        })
+        }
     }
 
     /// An unwinder with the same modules and the same generation.
@@ -145,8 +152,9 @@ impl<A: Unwinding> UnwinderInternal<A> {
             (self.new.modules ≡ with_module (λ m. m.start) «module» self.old.modules) }
         ensures generation { OnOk result (self.new.generation ≡ generations.old) }
         ensures taken { OnOk result (generations.new ≡ generations.old + 1) }
-        ensures exhausted { generations.old ≡ 2 ^ 64 - 1
+        ensures exhausted { 2 ^ 64 - 1 ≤ generations.old
             → result ≡ Err (LoadError.GenerationsExhausted «module») }
+        ensures only { IfErr result (λ error. is_exhausted error ≡ true → generations.old ≡ 2 ^ 64 - 1) }
         ensures returned { IfErr result (λ error. module_returned error ≡ «module») }
         ensures same { OnErr result (self.new ≡ self.old) }
         ensures untaken { OnErr result (generations.new ≡ generations.old) }
@@ -180,6 +188,8 @@ impl<A: Unwinding> UnwinderInternal<A> {
             → OnOk result (self.new.generation ≡ generations.old) }
         ensures taken { has_start (λ m. m.start) module_avma_range_start self.old.modules ≡ true
             → OnOk result (generations.new ≡ generations.old + 1) }
+        ensures exhausted { has_start (λ m. m.start) module_avma_range_start self.old.modules ≡ true
+            → 2 ^ 64 - 1 ≤ generations.old → IsErr result }
         ensures refused { OnErr result (generations.old ≡ 2 ^ 64 - 1) }
         ensures same { OnErr result (self.new ≡ self.old) }
         ensures untaken { OnErr result (generations.new ≡ generations.old) }

@@ -1,8 +1,8 @@
 //! What the unwinders of all architectures have.
-ghost use Rattle.std.specs.Prelude.{◌≡◌, ◌+◌, ◌-◌, ◌^◌, ℕ, Bool, true, false, Ok, Err, None, IfOk, IfErr, OnOk, OnErr};
+ghost use Rattle.std.specs.Prelude.{◌≡◌, ◌≤◌, ◌+◌, ◌-◌, ◌^◌, ℕ, Bool, true, false, Ok, Err, None, IfOk, IfErr, IsErr, OnOk, OnErr};
 ghost use Rattle.framehop_registers.specs.Callback.{Words, OverWords};
 ghost use Rattle.framehop_rules.specs.Outcome.{Outcome, Caller, IsStep};
-ghost use Rattle.framehop_modules.specs.LoadErrors.{module_returned};
+ghost use Rattle.framehop_modules.specs.LoadErrors.{module_returned, is_exhausted};
 ghost use Rattle.framehop_unwinder.specs.Frames.{Frame, frame_of};
 ghost use Rattle.framehop_unwinder.specs.Modules.{Loads, with_module, without_module, has_start, last_end};
 ghost use Rattle.framehop_unwinder.specs.Trials.{wants_memory, IsOfStep};
@@ -51,8 +51,9 @@ pub trait Unwinder {
             ≡ with_module start «module» (loads self.old).modules) }
         ensures generation { OnOk result ((loads self.new).generation ≡ generations.old) }
         ensures taken { OnOk result (generations.new ≡ generations.old + 1) }
-        ensures exhausted { generations.old ≡ 2 ^ 64 - 1
+        ensures exhausted { 2 ^ 64 - 1 ≤ generations.old
             → result ≡ Err (LoadError.GenerationsExhausted «module») }
+        ensures only { IfErr result (λ error. is_exhausted error ≡ true → generations.old ≡ 2 ^ 64 - 1) }
         ensures returned { IfErr result (λ error. module_returned error ≡ «module») }
         ensures same { OnErr result (self.new ≡ self.old) }
         ensures untaken { OnErr result (generations.new ≡ generations.old) };
@@ -72,6 +73,8 @@ pub trait Unwinder {
             → OnOk result ((loads self.new).generation ≡ generations.old) }
         ensures taken { has_start start module_avma_range_start (loads self.old).modules ≡ true
             → OnOk result (generations.new ≡ generations.old + 1) }
+        ensures exhausted { has_start start module_avma_range_start (loads self.old).modules ≡ true
+            → 2 ^ 64 - 1 ≤ generations.old → IsErr result }
         ensures refused { OnErr result (generations.old ≡ 2 ^ 64 - 1) }
         ensures same { OnErr result (self.new ≡ self.old) }
         ensures untaken { OnErr result (generations.new ≡ generations.old) };
