@@ -1,0 +1,81 @@
+-- Halving of the rows from one index on, by how the start of the pivot was read.
+use Rattle.std.proofs.Common.{◌≡◌, ℕ, zero, suc, ◌+◌, ◌-◌, ◌/◌, ◌<◌, ◌≤◌, true, false, cond, length, take, drop, Result, Ok, Err, refl, sym, ap, ◌∙◌, arith}
+use Rattle.std.specs.Prelude.{◌==◌, nat_lt}
+use Rattle.std.proofs.lemmas.Bool.Decides.{nat_tests}
+use Rattle.dwarf_constants.specs.declared.error.Error.{Error}
+use Rattle.dwarf_frame_headers.specs.Halving.{Halving, TableRow, behind_start, ended_at, first_start, first_target, halving}
+use Rattle.dwarf_frame_headers.specs.HeaderTable.{rows_between}
+use Rattle.dwarf_frame_headers.proofs.Halves.{Onwards, halving-more, halving-one}
+use Rattle.dwarf_frame_headers.proofs.RowsBetween.{drop-between, length-between, take-between}
+
+-- one start more was read
+abbrev pub one-more : Halving → Halving
+one-more h = record { reached = h.reached; reads = suc h.reads }
+
+module _ (row : ℕ → TableRow) (address first count : ℕ) where
+  -- the pivot's start decides
+  by-start : (start : Result ℕ Error) → Halving
+  by-start start = behind_start start (λ pivot. cond (pivot == address) (ended_at (rows_between row (first + count / 2) (count - count / 2)))
+      (cond (nat_lt pivot address) (halving address (rows_between row (first + count / 2) (count - count / 2))) (halving address (rows_between row first (count / 2)))))
+
+  start-of-first : (from n : ℕ) → 0 < n → first_start (rows_between row from n) ≡ (row from).start
+  start-of-first from zero some = absurd (omega arith)
+  start-of-first from (suc n) some = refl
+
+  target-of-first : (from n : ℕ) → 0 < n → first_target (rows_between row from n) ≡ (row from).target
+  target-of-first from zero some = absurd (omega arith)
+  target-of-first from (suc n) some = refl
+
+  parts : 1 < count → halving address (rows_between row first count) ≡ Onwards halving address (rows_between row first (count / 2)) (rows_between row (first + count / 2) (count - count / 2))
+  parts more =
+      let half : ℕ = count / 2 in
+      let sum : half + (count - half) ≡ count = omega arith in
+      let len = length-between row first count in
+      let at : length (rows_between row first count) / 2 ≡ half = ap (λ n. n / 2) len in
+      let front : take half (rows_between row first count) ≡ rows_between row first half = ap (λ n. take half (rows_between row first n)) (sym sum) ∙ take-between row first half (count - half) in
+      let back : drop half (rows_between row first count) ≡ rows_between row (first + half) (count - half) = ap (λ n. drop half (rows_between row first n)) (sym sum) ∙ drop-between row first half (count - half) in
+      halving-more address (rows_between row first count) (rows_between row first half) (rows_between row (first + half) (count - half)) (omega arith)
+      (ap (λ n. take n (rows_between row first count)) at ∙ front) (ap (λ n. drop n (rows_between row first count)) at ∙ back)
+
+  read : 1 < count → halving address (rows_between row first count) ≡ by-start (row (first + count / 2)).start
+  unfolding by-start
+  read more = parts more ∙ ap by-start (start-of-first (first + count / 2) (count - count / 2) (omega arith))
+
+  -- it is refused
+  pub halved-refused : (e : Error) → 1 < count → (row (first + count / 2)).start ≡ Err e → halving address (rows_between row first count) ≡ record { reached = Err e; reads = 1 }
+  unfolding by-start
+  halved-refused e more is = read more ∙ ap by-start is
+
+  -- it is the address
+  pub halved-at : (start : ℕ) → 1 < count → (row (first + count / 2)).start ≡ Ok start → start ≡ address
+      → halving address (rows_between row first count) ≡ record { reached = (row (first + count / 2)).target; reads = 1 }
+  unfolding by-start
+  halved-at start more is at =
+      let same : (start == address) ≡ true = grind (arith, nat_tests) in
+      let ended = target-of-first (first + count / 2) (count - count / 2) (omega arith) in
+      read more ∙ ap by-start is ∙ rw (same, ended) refl
+
+  -- it is below the address
+  pub halved-below : (start : ℕ) → 1 < count → (row (first + count / 2)).start ≡ Ok start → start < address
+      → halving address (rows_between row first count) ≡ one-more (halving address (rows_between row (first + count / 2) (count - count / 2)))
+  unfolding by-start
+  halved-below start more is below =
+      let other : (start == address) ≡ false = grind (arith, nat_tests) in
+      let less : nat_lt start address ≡ true = grind (arith, nat_tests) in
+      read more ∙ ap by-start is ∙ rw (other, less) refl
+
+  -- it is above the address
+  pub halved-above : (start : ℕ) → 1 < count → (row (first + count / 2)).start ≡ Ok start → address < start
+      → halving address (rows_between row first count) ≡ one-more (halving address (rows_between row first (count / 2)))
+  unfolding by-start
+  halved-above start more is above =
+      let other : (start == address) ≡ false = grind (arith, nat_tests) in
+      let less : nat_lt start address ≡ false = grind (arith, nat_tests) in
+      read more ∙ ap by-start is ∙ rw (other, less) refl
+
+  -- one row is left
+  pub halved-one : count ≡ 1 → halving address (rows_between row first count) ≡ record { reached = (row first).target; reads = 0 }
+  halved-one one =
+      let few : length (rows_between row first count) ≤ 1 = omega (arith, length-between row first count) in
+      let ended = target-of-first first count (omega arith) in
+      halving-one address (rows_between row first count) few ∙ rw ended refl

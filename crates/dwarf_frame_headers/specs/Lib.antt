@@ -1,0 +1,4 @@
+pub mod Header
+pub mod HeaderTable
+pub mod Halving
+pub mod HeaderEntries
