@@ -2,7 +2,7 @@
 use Rattle.std.proofs.Common.{◌≡◌, ℕ, ◌<◌, ◌^◌, [], ◌∷◌, refl}
 use Rattle.std.specs.Prelude.{Result}
 use Rattle.framehop_registers.specs.Callback.{Words, read_answer, OverWords}
-pub use Rattle.framehop_registers.proofs.OrderNumbers.{pop_list-fits, pop_list-order_number, order-pop_list, order_number-pop_list, same_order}
+pub use Rattle.framehop_registers.proofs.OrderNumbers.{pop_list-begins, pop_list-fits, pop_list-order_number, order-pop_list, order_number-pop_list, same_order}
 
 module _ {S : Type 0} {step : S → ℕ → Result ℕ (Unit {0}) → S → Type 0} where
   -- a call that doesn't read

@@ -1,6 +1,6 @@
 -- The registers of x86_64, as a step of a stack walk carries them: the instruction pointer and
 -- sixteen general registers of 64 bits.
-use Rattle.std.specs.Prelude.{ℕ, ◌≡◌, length, replicate, slice_index, slice_set}
+use Rattle.std.specs.Prelude.{ℕ, ◌≡◌, List, [], ◌∷◌, length, replicate, slice_index, slice_set}
 use Rattle.framehop_registers.specs.declared.x86_64.unwindregs.Reg.{Reg}
 use Rattle.framehop_registers.specs.declared.x86_64.unwindregs.Reg.TheVariants.{RAX, RDX, RCX, RBX, RSI, RDI, RBP, RSP, R8, R9, R10, R11, R12, R13, R14, R15}
 use Rattle.framehop_registers.specs.declared.x86_64.unwindregs.UnwindRegsX86_64.{UnwindRegsX86_64}
@@ -47,6 +47,12 @@ with_ip registers ip = record registers { ip = ip }
 -- The registers with another value of one general register.
 abbrev pub with_register : UnwindRegsX86_64 → Reg → ℕ → UnwindRegsX86_64
 with_register registers register value = record registers { regs = slice_set registers.regs (dwarf_number register) value }
+
+-- The registers once those of a list have these values, one after the other.
+abbrev pub with_values : UnwindRegsX86_64 → List Reg → List ℕ → UnwindRegsX86_64
+with_values registers [] values = registers
+with_values registers (register ∷ more) [] = registers
+with_values registers (register ∷ more) (value ∷ values) = with_values (with_register registers register value) more values
 
 -- The registers with these values of the instruction pointer, RSP and RBP, and 0 in all others.
 abbrev pub new_registers : ℕ → ℕ → ℕ → UnwindRegsX86_64

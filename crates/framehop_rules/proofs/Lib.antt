@@ -1,5 +1,6 @@
 mod LastKept
 mod Parts
+mod PopSteps
 mod StackPointer
 mod StackPointerAarch64
 pub mod SequenceRules

@@ -1,4 +1,4 @@
--- What is known of the parts of a rule where the whole answers.
+-- What is known of the parts of a rule, and of each where the whole answers.
 use Rattle.std.proofs.Common.{◌≡◌, ◌≢◌, ◌≤◌, ◌<◌, ◌^◌, ℕ, ◌+◌, refl, arith, Bool, true, false}
 use Rattle.std.specs.Prelude.{ℤ, pos, negsuc, ◌+ℤ◌, ◌==◌, if◌then◌else◌}
 use Rattle.std.proofs.lemmas.Bool.Decides.{Decides-eqb}
@@ -48,6 +48,12 @@ pub and_then-assoc : {A B C : Type 0} (first : Outcome A) (second : A → Outcom
 and_then-assoc Ends second third = refl
 and_then-assoc (Refuses error) second third = refl
 and_then-assoc (Answers value) second third = refl
+
+-- one part, and then two that come to the same
+pub and_then-same : {A B : Type 0} (outcome : Outcome A) (f g : A → Outcome B) → ((value : A) → f value ≡ g value) → and_then outcome f ≡ and_then outcome g
+and_then-same Ends f g same = refl
+and_then-same (Refuses error) f g same = refl
+and_then-same (Answers value) f g same = same value
 
 -- a part that answers has passed the test before it
 pub past-refusal : {A : Type 0} (fails : Bool) (error : Error) (part : Outcome A) (value : A)

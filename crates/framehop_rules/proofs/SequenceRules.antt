@@ -7,12 +7,12 @@ use Rattle.std.proofs.lemmas.Int.{ints}
 use Rattle.std.proofs.lemmas.List.{map_push, set-get_or}
 use Rattle.std.proofs.lemmas.List.Elements.{All-take}
 use Rattle.framehop_registers.specs.Callback.{Words}
-use Rattle.framehop_rules.specs.Outcome.{Outcome, Ends, Refuses, Answers, Caller, and_then, address}
+use Rattle.framehop_rules.specs.Outcome.{Outcome, Refuses, Answers, Caller, and_then, address}
 use Rattle.framehop_registers.specs.PopLists.{callee_saved, IsPopList, order_number, pop_list}
-use Rattle.framehop_rules.specs.Pops.{raised_registers, registers_after_pop, all_popped}
+use Rattle.framehop_rules.specs.Pops.{raised_registers, registers_after_pop, registers_after_pops}
 use Rattle.framehop_registers.specs.Registers.{sp_of, with_register}
 use Rattle.framehop_rules.specs.RuleMeaning.{raised_frame, returned_caller, rule_meaning, IsValid}
-use Rattle.framehop_rules.specs.Sequences.{all_done, sequence_meaning, offset_then_pops, pop_rule, IsRuleOf, HasNoRule}
+use Rattle.framehop_rules.specs.Sequences.{registers_after_operations, sequence_meaning, offset_then_pops, pop_rule, IsRuleOf, HasNoRule}
 use Rattle.framehop_registers.specs.declared.error.Error.TheVariants.{IntegerOverflow}
 use Rattle.framehop_rules.specs.declared.x86_64.offset_or_pop.OffsetOrPop.{OffsetOrPop}
 use Rattle.framehop_rules.specs.declared.x86_64.offset_or_pop.OffsetOrPop.TheVariants as operation
@@ -21,6 +21,7 @@ use Rattle.framehop_registers.specs.declared.x86_64.unwindregs.Reg.{Reg}
 use Rattle.framehop_registers.specs.declared.x86_64.unwindregs.Reg.TheVariants.{RSP}
 use Rattle.framehop_registers.specs.declared.x86_64.unwindregs.UnwindRegsX86_64.{UnwindRegsX86_64}
 use Rattle.framehop_registers.proofs.Laws.{pop_list-fits, pop_list-order_number}
+use Rattle.framehop_rules.proofs.Parts.{and_then-same}
 
 -- two lists that agree place by place, with one pair more
 pub zip-push : {A B : Type 0} (R : A → B → Type 0) (xs : List A) (ys : List B) (x : A) (y : B) → AllZip R xs ys → R x y
@@ -110,16 +111,11 @@ ninth_pop_has_no_rule offset registers register full = λ other others e pops.
 
 -- ---- what a rule means
 
-and_then-same : {A B : Type 0} (outcome : Outcome A) (f g : A → Outcome B) → ((value : A) → f value ≡ g value) → and_then outcome f ≡ and_then outcome g
-and_then-same Ends f g same = refl
-and_then-same (Refuses error) f g same = refl
-and_then-same (Answers value) f g same = same value
-
-all_done-pops : (list : List Reg) (registers : UnwindRegsX86_64) (words : Words) → all_done (map operation.Pop list) registers words ≡ all_popped list registers words
-all_done-pops [] registers words = refl
-all_done-pops (register ∷ more) registers words =
-    and_then-same (registers_after_pop register registers words) (λ next. all_done (map operation.Pop more) next words) (λ next. all_popped more next words)
-    (λ next. all_done-pops more next words)
+registers_after_operations-pops : (list : List Reg) (registers : UnwindRegsX86_64) (words : Words) → registers_after_operations (map operation.Pop list) registers words ≡ registers_after_pops list registers words
+registers_after_operations-pops [] registers words = refl
+registers_after_operations-pops (register ∷ more) registers words =
+    and_then-same (registers_after_pop register registers words) (λ next. registers_after_operations (map operation.Pop more) next words) (λ next. registers_after_pops more next words)
+    (λ next. registers_after_operations-pops more next words)
 
 -- an offset of 0
 raised-none : (registers : UnwindRegsX86_64) → sp_of registers < 2 ^ 64 → raised_registers registers 0 ≡ Answers registers
@@ -137,20 +133,20 @@ module _ (is_first : Bool) (registers : UnwindRegsX86_64) (words : Words) where
 
   -- the pops behind an offset
   pops_mean : (x : ℕ) (list : List Reg) → IsPopList list
-      → and_then (and_then (raised_registers registers (8 * x)) (λ from. all_popped (pop_list (length list) (order_number list)) from words)) returned
-      ≡ and_then (and_then (raised_registers registers (8 * x)) (λ next. all_done (map operation.Pop list) next words)) returned
+      → and_then (and_then (raised_registers registers (8 * x)) (λ from. registers_after_pops (pop_list (length list) (order_number list)) from words)) returned
+      ≡ and_then (and_then (raised_registers registers (8 * x)) (λ next. registers_after_operations (map operation.Pop list) next words)) returned
   pops_mean x list pops =
       ap (λ o. and_then o returned)
-      (ap (λ l. and_then (raised_registers registers (8 * x)) (λ from. all_popped l from words)) (pop_list-order_number list pops)
-      ∙ and_then-same (raised_registers registers (8 * x)) (λ next. all_popped list next words) (λ next. all_done (map operation.Pop list) next words) (λ next. sym (all_done-pops list next words)))
+      (ap (λ l. and_then (raised_registers registers (8 * x)) (λ from. registers_after_pops l from words)) (pop_list-order_number list pops)
+      ∙ and_then-same (raised_registers registers (8 * x)) (λ next. registers_after_pops list next words) (λ next. registers_after_operations (map operation.Pop list) next words) (λ next. sym (registers_after_operations-pops list next words)))
 
   -- the same without an offset
   pops_mean_alone : (list : List Reg) → IsPopList list → sp_of registers < 2 ^ 64
-      → and_then (and_then (raised_registers registers 0) (λ from. all_popped (pop_list (length list) (order_number list)) from words)) returned
-      ≡ and_then (all_done (map operation.Pop list) registers words) returned
+      → and_then (and_then (raised_registers registers 0) (λ from. registers_after_pops (pop_list (length list) (order_number list)) from words)) returned
+      ≡ and_then (registers_after_operations (map operation.Pop list) registers words) returned
   pops_mean_alone list pops fits =
       pops_mean 0 list pops
-      ∙ ap (λ o. and_then (and_then o (λ next. all_done (map operation.Pop list) next words)) returned) (raised-none registers fits)
+      ∙ ap (λ o. and_then (and_then o (λ next. registers_after_operations (map operation.Pop list) next words)) returned) (raised-none registers fits)
 
   pub rule_means : (offset : Option ℕ) (list : List Reg) → IsPopList list → sp_of registers < 2 ^ 64
       → rule_meaning (pop_rule (unwrap_or offset 0) list) is_first registers words ≡ sequence_meaning (offset_then_pops offset list) is_first registers words

@@ -6,9 +6,9 @@ use Rattle.std.proofs.lemmas.List.{get_or-set_same, get_or-set_other, length-set
 use Rattle.framehop_registers.specs.Callback.{Words}
 use Rattle.framehop_rules.specs.Outcome.{Outcome, Ends, Refuses, Answers, Caller, and_then, address, word}
 use Rattle.framehop_registers.specs.PopLists.{pop_list}
-use Rattle.framehop_rules.specs.Pops.{raised_registers, registers_after_pop, all_popped}
+use Rattle.framehop_rules.specs.Pops.{raised_registers, registers_after_pop, registers_after_pops}
 use Rattle.framehop_registers.specs.Registers.{HasAllRegisters, dwarf_number, with_register, ip_of, sp_of, bp_of}
-use Rattle.framehop_rules.specs.RuleMeaning.{StackFrame, raised_frame, by_frame_pointer, stored_bp, restored_frame, popped_by, moves, return_address, caller_registers, returned_caller, rule_meaning, word_below, IsAtReturn}
+use Rattle.framehop_rules.specs.RuleMeaning.{StackFrame, raised_frame, by_frame_pointer, stored_bp, restored_frame, registers_after_pops_of, moves, return_address, caller_registers, returned_caller, rule_meaning, word_below, IsAtReturn}
 use Rattle.framehop_rules.specs.declared.x86_64.unwind_rule.UnwindRuleX86_64.{UnwindRuleX86_64}
 use Rattle.framehop_rules.specs.declared.x86_64.unwind_rule.UnwindRuleX86_64.TheVariants.{EndOfStack, JustReturn, JustReturnIfFirstFrameOtherwiseFp, OffsetSp, OffsetSpAndRestoreBp, UseFramePointer, OffsetSpAndPopRegisters}
 use Rattle.framehop_registers.specs.declared.x86_64.unwindregs.Reg.{Reg}
@@ -99,18 +99,18 @@ popped-is-above register registers popped_ words all is =
       all = length-set (slice_set registers.regs (dwarf_number register) value) 7 sp ∙ size ∙ all;
     })
 
-all-popped-is-above : (list : List Reg) (registers popped_ : UnwindRegsX86_64) (words : Words) → HasAllRegisters registers → all_popped list registers words ≡ Answers popped_ → IsAbove registers popped_
+all-popped-is-above : (list : List Reg) (registers popped_ : UnwindRegsX86_64) (words : Words) → HasAllRegisters registers → registers_after_pops list registers words ≡ Answers popped_ → IsAbove registers popped_
 all-popped-is-above [] registers popped_ words all is =
     let same : registers ≡ popped_ = cc in
     subst (IsAbove registers) same (record { above = omega arith; all = all })
 all-popped-is-above (register ∷ more) registers popped_ words all is =
-    let (next, next_is, rest) = and_then-answers (registers_after_pop register registers words) (λ next. all_popped more next words) popped_ is in
+    let (next, next_is, rest) = and_then-answers (registers_after_pop register registers words) (λ next. registers_after_pops more next words) popped_ is in
     let one = popped-is-above register registers next words all next_is in
     above-trans registers next popped_ one (all-popped-is-above more next popped_ words one.all rest)
 
-popped-by-is-above : (rule : UnwindRuleX86_64) (registers popped_ : UnwindRegsX86_64) (words : Words) → HasAllRegisters registers → popped_by rule registers words ≡ Answers popped_ → IsAbove registers popped_
+popped-by-is-above : (rule : UnwindRuleX86_64) (registers popped_ : UnwindRegsX86_64) (words : Words) → HasAllRegisters registers → registers_after_pops_of rule registers words ≡ Answers popped_ → IsAbove registers popped_
 popped-by-is-above (OffsetSpAndPopRegisters x count number) registers popped_ words all is =
-    let (from, from_is, rest) = and_then-answers (raised_registers registers (8 * x)) (λ from. all_popped (pop_list count number) from words) popped_ is in
+    let (from, from_is, rest) = and_then-answers (raised_registers registers (8 * x)) (λ from. registers_after_pops (pop_list count number) from words) popped_ is in
     let first = raised-is-above registers from (8 * x) all from_is in
     above-trans registers from popped_ first (all-popped-is-above (pop_list count number) from popped_ words first.all rest)
 popped-by-is-above rule registers popped_ words all is =
@@ -119,7 +119,7 @@ popped-by-is-above rule registers popped_ words all is =
 
 -- a rule pops nothing, or moves by 8 once it has popped
 abbrev Keeps : UnwindRuleX86_64 → Type 0
-Keeps rule = (registers : UnwindRegsX86_64) (words : Words) → popped_by rule registers words ≡ Answers registers
+Keeps rule = (registers : UnwindRegsX86_64) (words : Words) → registers_after_pops_of rule registers words ≡ Answers registers
 
 abbrev Returns : UnwindRuleX86_64 → Type 0
 Returns rule = (is_first : Bool) (registers : UnwindRegsX86_64) (words : Words) → moves rule is_first registers words ≡ raised_frame registers 8
@@ -177,7 +177,7 @@ is-returned registers words sp to is =
 -- where a rule answers, the registers once it has popped, what it moved to, and the return address that it read
 record IsAnswered (rule : UnwindRuleX86_64) (is_first : Bool) (registers : UnwindRegsX86_64) (words : Words) (caller : Caller UnwindRegsX86_64) : Type 0 where
   pub popped_ : UnwindRegsX86_64
-  pub popped_is : popped_by rule registers words ≡ Answers popped_
+  pub popped_is : registers_after_pops_of rule registers words ≡ Answers popped_
   pub popped_above : IsAbove registers popped_
   pub frame : StackFrame
   pub frame_is : moves rule is_first popped_ words ≡ Answers frame
@@ -193,11 +193,11 @@ is-above {rule} {is_first} {registers} {words} a =
 is-answered : (rule : UnwindRuleX86_64) (is_first : Bool) (registers : UnwindRegsX86_64) (words : Words) (caller : Caller UnwindRegsX86_64)
     → HasAllRegisters registers → rule_meaning rule is_first registers words ≡ Answers caller → IsAnswered rule is_first registers words caller
 is-answered rule is_first registers words caller all is =
-    let (popped_, popped_is, rest) = and_then-answers (popped_by rule registers words) (λ next. and_then (moves rule is_first next words) (returned_caller next words)) caller is in
+    let (popped_, popped_is, rest) = and_then-answers (registers_after_pops_of rule registers words) (λ next. and_then (moves rule is_first next words) (returned_caller next words)) caller is in
     let (frame, frame_is, there) = and_then-answers (moves rule is_first popped_ words) (returned_caller popped_ words) caller rest in
     by popped_ popped_is (popped-by-is-above rule registers popped_ words all popped_is) frame frame_is there
   where
-    by : (popped_ : UnwindRegsX86_64) → popped_by rule registers words ≡ Answers popped_ → IsAbove registers popped_
+    by : (popped_ : UnwindRegsX86_64) → registers_after_pops_of rule registers words ≡ Answers popped_ → IsAbove registers popped_
         → (frame : StackFrame) → moves rule is_first popped_ words ≡ Answers frame
         → returned_caller popped_ words frame ≡ Answers caller → IsAnswered rule is_first registers words caller
     by popped_ popped_is above (sp, bp) frame_is there =

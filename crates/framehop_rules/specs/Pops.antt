@@ -1,9 +1,8 @@
 -- Pops: registers that take words from the stack, over a map of words and unbounded numbers.
-use Rattle.std.specs.Prelude.{ℕ, pos, ◌+ℤ◌, List, [], ◌∷◌, Result, Ok, Err}
+use Rattle.std.specs.Prelude.{ℕ, zero, suc, pos, ◌+ℤ◌, List, [], ◌∷◌}
 use Rattle.framehop_registers.specs.Callback.{Words}
-use Rattle.framehop_rules.specs.Outcome.{Outcome, Refuses, Answers, and_then, address, word}
+use Rattle.framehop_rules.specs.Outcome.{Outcome, Answers, and_then, address, word}
 use Rattle.framehop_registers.specs.Registers.{sp_of, with_register}
-use Rattle.framehop_registers.specs.declared.error.Error.{Error}
 use Rattle.framehop_registers.specs.declared.x86_64.unwindregs.Reg.{Reg}
 use Rattle.framehop_registers.specs.declared.x86_64.unwindregs.Reg.TheVariants.{RSP}
 use Rattle.framehop_registers.specs.declared.x86_64.unwindregs.UnwindRegsX86_64.{UnwindRegsX86_64}
@@ -22,13 +21,17 @@ registers_after_pop register registers words =
     Answers (with_register (with_register registers register value) RSP sp)))
 
 -- Registers are popped one after the other.
-abbrev pub all_popped : List Reg → UnwindRegsX86_64 → Words → Outcome UnwindRegsX86_64
-all_popped [] registers words = Answers registers
-all_popped (register ∷ more) registers words =
+abbrev pub registers_after_pops : List Reg → UnwindRegsX86_64 → Words → Outcome UnwindRegsX86_64
+registers_after_pops [] registers words = Answers registers
+registers_after_pops (register ∷ more) registers words =
     and_then (registers_after_pop register registers words) (λ next.
-    all_popped more next words)
+    registers_after_pops more next words)
 
--- What changing the registers comes to, from what the code answers and the registers that it leaves.
-abbrev pub outcome_leaving : UnwindRegsX86_64 → Result (Unit {0}) Error → Outcome UnwindRegsX86_64
-outcome_leaving registers (Ok done) = Answers registers
-outcome_leaving registers (Err error) = Refuses error
+-- So many words, one after the other from an address on, and the address behind them.
+unfoldable pub words_from : Words → ℕ → ℕ → Outcome (List ℕ × ℕ)
+words_from words zero at = Answers ([], at)
+words_from words (suc count) at =
+    and_then (word words at) (λ value.
+    and_then (address (pos at +ℤ pos 8)) (λ next.
+    and_then (words_from words count next) (λ read.
+    Answers (value ∷ read.0, read.1))))

@@ -5,7 +5,7 @@ use Rattle.std.specs.Prelude.{ℕ, ◌≡◌, ◌≢◌, ◌*◌, ◌<◌, ◌�
 use Rattle.framehop_registers.specs.Callback.{Words}
 use Rattle.framehop_rules.specs.Outcome.{Outcome, Ends, Refuses, Answers, and_then, address, word, Caller}
 use Rattle.framehop_registers.specs.PopLists.{order_count, pop_list}
-use Rattle.framehop_rules.specs.Pops.{raised_registers, all_popped}
+use Rattle.framehop_rules.specs.Pops.{raised_registers, registers_after_pops}
 use Rattle.framehop_registers.specs.Registers.{ip_of, sp_of, bp_of, with_ip, with_register}
 use Rattle.framehop_registers.specs.declared.error.Error.TheVariants.{CouldNotReadStack, FramepointerUnwindingMovedBackwards, DidNotAdvance}
 use Rattle.framehop_rules.specs.declared.x86_64.unwind_rule.UnwindRuleX86_64.{UnwindRuleX86_64}
@@ -48,10 +48,10 @@ restored_frame is_first registers words bytes offset =
     Answers (sp, bp))))
 
 -- The registers once those are popped that a rule names, from an offset on. Most rules pop none.
-abbrev pub popped_by : UnwindRuleX86_64 → UnwindRegsX86_64 → Words → Outcome UnwindRegsX86_64
-popped_by (OffsetSpAndPopRegisters x count number) registers words =
-    and_then (raised_registers registers (8 * x)) (λ from. all_popped (pop_list count number) from words)
-popped_by rule registers words = Answers registers
+abbrev pub registers_after_pops_of : UnwindRuleX86_64 → UnwindRegsX86_64 → Words → Outcome UnwindRegsX86_64
+registers_after_pops_of (OffsetSpAndPopRegisters x count number) registers words =
+    and_then (raised_registers registers (8 * x)) (λ from. registers_after_pops (pop_list count number) from words)
+registers_after_pops_of rule registers words = Answers registers
 
 -- What each rule does to the stack pointer and the frame pointer, once its registers are popped.
 abbrev pub moves : UnwindRuleX86_64 → Bool → UnwindRegsX86_64 → Words → Outcome StackFrame
@@ -88,7 +88,7 @@ returned_caller registers words (sp, bp) =
 -- The meaning of a rule, for a frame with these registers, first or later, on a stack of these words.
 abbrev pub rule_meaning : UnwindRuleX86_64 → Bool → UnwindRegsX86_64 → Words → Outcome (Caller UnwindRegsX86_64)
 rule_meaning rule is_first registers words =
-    and_then (popped_by rule registers words) (λ popped.
+    and_then (registers_after_pops_of rule registers words) (λ popped.
     and_then (moves rule is_first popped words) (returned_caller popped words))
 
 -- The word below a stack pointer, where a call leaves its return address.

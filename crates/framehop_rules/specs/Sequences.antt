@@ -19,16 +19,16 @@ registers_after_operation (operation.Pop register) registers words = registers_a
 registers_after_operation operation.None registers words = Answers registers
 
 -- What operations do one after the other.
-abbrev pub all_done : List OffsetOrPop → UnwindRegsX86_64 → Words → Outcome UnwindRegsX86_64
-all_done [] registers words = Answers registers
-all_done (first ∷ more) registers words =
+abbrev pub registers_after_operations : List OffsetOrPop → UnwindRegsX86_64 → Words → Outcome UnwindRegsX86_64
+registers_after_operations [] registers words = Answers registers
+registers_after_operations (first ∷ more) registers words =
     and_then (registers_after_operation first registers words) (λ next.
-    all_done more next words)
+    registers_after_operations more next words)
 
 -- What a sequence comes to: its operations are done, and then the function returns.
 abbrev pub sequence_meaning : List OffsetOrPop → Bool → UnwindRegsX86_64 → Words → Outcome (Caller UnwindRegsX86_64)
 sequence_meaning operations is_first registers words =
-    and_then (all_done operations registers words) (λ next.
+    and_then (registers_after_operations operations registers words) (λ next.
     rule_meaning JustReturn is_first next words)
 
 -- A sequence of an offset, if there is one, and then pops.

@@ -1,8 +1,9 @@
 //! Makes steps by cached rules, for timing a look-up that hits with the execution of its rule.
 //!
-//! It keeps rules for 252 addresses, makes a step from a frame at each of them, and prints how many answered a return address
-//! and how many look-ups hit: first by the common rules, then by rules that pop registers. With the argument `time` or
-//! `time-pops` it makes the former or the latter again and again, and prints the least nanoseconds of all rounds.
+//! It keeps rules for 252 addresses, makes a step from a frame at each of them, and prints how many answered a return address,
+//! how many look-ups hit, and the sum of some registers of the callers: first by the common rules, then by rules that pop
+//! registers. With the argument `time` or `time-pops` it makes the former or the latter again and again, and prints the least
+//! nanoseconds of all rounds.
 #![tactic(auto)]
 
 mod steps;
@@ -43,9 +44,12 @@ fn full_cache(
 /// Makes all steps once, and prints how many answered.
 fn print_counts(rt: &HostRuntime, stack: &Stack, frames: &[Frame], rules: Rules) -> Result<()> {
     let mut cache = full_cache(rt, frames, rules)?;
-    let answered = make_steps(&mut cache, stack, frames);
+    let tally = make_steps(&mut cache, stack, frames);
     let hits = cache.stats().hits();
-    println!(rt; "{STEPS} steps, {answered} answered, {hits} hits")?;
+    println!(rt;
+        "{STEPS} steps, {} answered, {hits} hits, sum 0x{:x}",
+        tally.answered, tally.sum
+    )?;
     Ok(())
 }
 
@@ -53,15 +57,17 @@ fn print_counts(rt: &HostRuntime, stack: &Stack, frames: &[Frame], rules: Rules)
 fn print_time(rt: &HostRuntime, stack: &Stack, frames: &[Frame], rules: Rules) -> Result<()> {
     let mut cache = full_cache(rt, frames, rules)?;
     let mut least = Duration::MAX;
-    let mut answered = 0;
+    let mut tally = make_steps(&mut cache, stack, frames);
     for _ in 0..ROUNDS {
         let start = Instant::now(rt)?;
-        answered = make_steps(&mut cache, stack, frames);
+        tally = make_steps(&mut cache, stack, frames);
         least = least.min(start.elapsed(rt)?);
     }
     println!(rt;
-        "{STEPS} steps {} ns, {answered} answered",
-        least.as_nanos()
+        "{STEPS} steps {} ns, {} answered, sum 0x{:x}",
+        least.as_nanos(),
+        tally.answered,
+        tally.sum
     )?;
     Ok(())
 }

@@ -1,7 +1,7 @@
 //! Steps from frames whose rules are kept.
 ghost use Rattle.framehop_rules.specs.RuleMeaning.{IsValid};
 
-use framehop_rules::x86_64::{UnwindRegsX86_64, UnwindRuleX86_64};
+use framehop_rules::x86_64::{Reg, UnwindRegsX86_64, UnwindRuleX86_64};
 use framehop_rules::{CacheResult, RuleCache, UnwindRule};
 use std::alloc::{AllocError, Global};
 
@@ -13,12 +13,25 @@ const CODE: u64 = 0x7f12_3400_1000;
 
 const STACK: u64 = 0x7ffd_8000_0000;
 
-/// A first frame that a step begins at.
+/// The registers whose values the steps ask for, in turn.
+const ASKED: [Reg; 5] = [Reg::RBX, Reg::RBP, Reg::R12, Reg::RBX, Reg::R13];
+
+/// A first frame that a step begins at, and the register of its caller that is asked for.
 #[derive(Clone, Copy)]
 pub struct Frame {
     address: u64,
     sp: u64,
     bp: u64,
+    asked: Reg,
+}
+
+/// What came of the steps of a round.
+#[derive(Clone, Copy)]
+pub struct Tally {
+    /// How many answered a return address.
+    pub answered: u32,
+    /// The sum of the registers that were asked for, modulo 2^64.
+    pub sum: u64,
 }
 
 /// A stack of 64 words, each the address of the word eight words above it.
@@ -52,6 +65,7 @@ pub fn make_frames(alloc: Global) -> Result<Vec<Frame>, AllocError> {
             address: CODE + 16 * step,
             sp: STACK + 16,
             bp: STACK + 32,
+            asked: ASKED[(step % 5) as usize],
         })?;
     }
     Ok(frames)
@@ -109,18 +123,26 @@ pub fn keep_rules(cache: &mut RuleCache<UnwindRuleX86_64>, frames: &[Frame], rul
     }
 }
 
-/// Makes a step from each of the frames by its rule, and counts those that answered a return
-/// address.
-pub fn make_steps(cache: &mut RuleCache<UnwindRuleX86_64>, stack: &Stack, frames: &[Frame]) -> u32 {
-    let mut answered: u32 = 0;
+/// Makes a step from each of the frames by its rule. Adding up registers of the callers keeps the
+/// compiler from leaving out their restoring.
+pub fn make_steps(
+    cache: &mut RuleCache<UnwindRuleX86_64>,
+    stack: &Stack,
+    frames: &[Frame],
+) -> Tally {
+    let mut tally = Tally {
+        answered: 0,
+        sum: 0,
+    };
     for frame in frames {
         let mut regs = UnwindRegsX86_64::new(frame.address, frame.sp, frame.bp);
         let mut read_stack = |at: u64| -> Result<u64, ()> { stack.word(at) };
         if let CacheResult::Hit(rule) = cache.lookup(frame.address, true, 1) {
             if let Ok(Some(_)) = rule.exec(true, &mut regs, &mut read_stack) {
-                answered = answered.wrapping_add(1);
+                tally.answered = tally.answered.wrapping_add(1);
+                tally.sum = tally.sum.wrapping_add(regs.get(frame.asked));
             }
         }
     }
-    answered
+    tally
 }

@@ -1,5 +1,6 @@
 //! Lists of registers that are popped one after the other.
-ghost use Rattle.std.specs.Prelude.{◌≡◌, ◌<◌, ◌≤◌, ◌==◌, [], ◌∷◌, ◌++◌, length, slice_index_or, position, IfSome, IfNone};
+ghost use Rattle.std.specs.Prelude.{◌≡◌, ◌+◌, ◌<◌, ◌≤◌, ◌==◌, [], ◌∷◌, ◌++◌, length, take, drop, slice_index_or, position, IfSome, IfNone};
+ghost use Rattle.framehop_registers.specs.PopLists.{left_behind};
 ghost use Rattle.framehop_registers.specs.Registers.{dwarf_number};
 ghost use Rattle.framehop_registers.specs.declared.x86_64.unwindregs.Reg.TheVariants.{RBX};
 
@@ -8,7 +9,7 @@ use std::fmt;
 use std::fmt::Debug;
 
 /// The callee-saved registers, in the order in which lists are numbered.
-const CALLEE_SAVED: [Reg; 8] = [
+pub(crate) const CALLEE_SAVED: [Reg; 8] = [
     Reg::RBX,
     Reg::RBP,
     Reg::RDI,
@@ -18,6 +19,21 @@ const CALLEE_SAVED: [Reg; 8] = [
     Reg::R14,
     Reg::R15,
 ];
+
+/// Takes the register at a place among those behind the first `taken`. The first of them comes in
+/// its place, so that the others stand behind one register more.
+#[inline(always)]
+pub(crate) fn take_from(registers: &mut [Reg; 8], taken: usize, place: usize) -> Reg
+    requires { taken + place < 8 }
+    ensures register { result ≡ slice_index_or (drop taken registers.old) place RBX }
+    ensures all { length registers.new ≡ 8 }
+    ensures front { take taken registers.new ≡ take taken registers.old }
+    ensures left { drop (taken + 1) registers.new ≡ left_behind (drop taken registers.old) place }
+{
+    let register = registers[taken + place];
+    registers[taken + place] = registers[taken];
+    register
+}
 
 /// Callee-saved registers in the order in which they are popped, each at most once.
 ///
@@ -30,7 +46,7 @@ pub struct PopList {
 }
 
 impl PopList {
-    ghost use Rattle.framehop_registers.specs.PopLists.{callee_saved, left_behind};
+    ghost use Rattle.framehop_registers.specs.PopLists.{callee_saved};
     ghost use Rattle.framehop_registers.specs.PopListViews.{popped_of, left_of};
 
     /// The list of no register.
@@ -59,13 +75,15 @@ impl PopList {
     }
 
     /// Adds the register at a place among those left, which changes places with the first of them.
+    #[inline(always)]
     pub(crate) fn push_from(&mut self, place: usize)
         requires { place < length (left_of self.old) }
         ensures popped { popped_of self.new
             ≡ popped_of self.old ++ slice_index_or (left_of self.old) place RBX ∷ [] }
         ensures left { left_of self.new ≡ left_behind (left_of self.old) place }
     {
-        self.registers.swap(self.count, self.count + place);
+        let register = take_from(&mut self.registers, self.count, place);
+        self.registers[self.count] = register;
         self.count += 1;
     }
 

@@ -2,10 +2,11 @@
 ghost use Rattle.std.specs.Prelude.{◌≡◌, ◌<◌, ◌≤◌, ◌/◌, ◌%◌, ℕ, List, length, SomeIff, IfSome};
 ghost use Rattle.framehop_registers.specs.PopLists.{IsPopList, IsOrder, order_count, order_number, pop_list, BeginsOrder};
 ghost use Rattle.framehop_registers.specs.PopListViews.{popped_of};
+ghost use Rattle.framehop_registers.specs.Registers.{with_values};
 ghost use Rattle.framehop_registers.specs.declared.x86_64.unwindregs.Reg.{Reg};
 
-use crate::x86_64::pop_list::PopList;
-use crate::x86_64::unwindregs::Reg;
+use crate::x86_64::pop_list::{CALLEE_SAVED, PopList, take_from};
+use crate::x86_64::unwindregs::{Reg, UnwindRegsX86_64};
 
 /// How many orders all eight callee-saved registers have: their numbers are those below it.
 pub const ORDER_COUNT: u16 = 40320;
@@ -25,6 +26,30 @@ pub fn decode(register_count: u8, encoded_ordering: u16) -> PopList
         number = rest;
     }
     list
+}
+
+/// Gives the registers of a list these values, one after the other; the list has as many as there
+/// are values, and the number that `encode` gave.
+///
+/// The loop goes to eight, so that a compiler can write it out: then each division is by a number
+/// that is known.
+#[inline(always)]
+pub fn set_by_number(regs: &mut UnwindRegsX86_64, encoded_ordering: u16, values: &[u64])
+    requires { length values.now ≤ 8 }
+    ensures { regs.new
+        ≡ with_values regs.old (pop_list (length values.now) encoded_ordering) values.now }
+{
+    let mut registers = CALLEE_SAVED;
+    let mut number = encoded_ordering;
+    for taken in 0..8 {
+        if taken == values.len() {
+            return;
+        }
+        let (place, rest) = place_and_rest(number, 8 - taken);
+        let register = take_from(&mut registers, taken, place);
+        regs.set(register, values[taken]);
+        number = rest;
+    }
 }
 
 /// The place that a number has among so many, and the number of what comes behind. Each divisor is
@@ -70,12 +95,15 @@ pub fn encode(registers: &[Reg]) -> Option<(u8, u16)>
 }
 
 /// Lists and numbers give each other back: the numbers of the orders of all eight registers are
-/// those below 40,320, each once. It does nothing when the program runs.
+/// those below 40,320, each once, and fewer registers are the first of such an order. It does nothing
+/// when the program runs.
 pub fn lists_by_order_numbers()
     ensures fits { (registers : List Reg) → IsPopList registers
         → (length registers ≤ 8) × (order_number registers < order_count) }
     ensures again { (registers : List Reg) → IsPopList registers
         → pop_list (length registers) (order_number registers) ≡ registers }
+    ensures begins { (count number : ℕ) → count ≤ 8 → number < order_count
+        → BeginsOrder (pop_list count number) count number }
     ensures each { (number : ℕ) → number < order_count
         → IsOrder (pop_list 8 number) × (order_number (pop_list 8 number) ≡ number) }
     ensures once { (one other : List Reg) → IsOrder one → IsOrder other

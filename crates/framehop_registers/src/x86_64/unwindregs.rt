@@ -1,6 +1,6 @@
 //! The registers that a step of a walk carries.
 ghost use Rattle.std.specs.Prelude.{◌≡◌, ◌≢◌};
-ghost use Rattle.framehop_registers.specs.Registers.{ip_of, register_of, sp_of, bp_of, with_ip, with_register, new_registers};
+ghost use Rattle.framehop_registers.specs.Registers.{HasAllRegisters, ip_of, register_of, sp_of, bp_of, with_ip, with_register, new_registers};
 ghost use Rattle.framehop_registers.specs.declared.x86_64.unwindregs.Reg.{Reg};
 ghost use Rattle.framehop_registers.specs.declared.x86_64.unwindregs.Reg.TheVariants.{RSP, RBP};
 
@@ -46,6 +46,13 @@ impl UnwindRegsX86_64 {
         registers.set_bp(bp);
         registers
     }
+
+    /// All sixteen general registers are there, as proofs need it. It does nothing when the program
+    /// runs.
+    #[inline(always)]
+    pub fn has_all_registers(&self)
+        ensures { HasAllRegisters self.now }
+    {}
 
     /// The value of a general register.
     pub fn get(&self, reg: Reg) -> u64

@@ -1,64 +1,71 @@
 //! Registers that take words from the stack.
-ghost use Rattle.std.specs.Prelude.{◌≡◌, IfErr};
+ghost use Rattle.std.specs.Prelude.{◌≡◌, ◌<◌, ◌≤◌, Bool, IfErr, OnErr, length};
 ghost use Rattle.framehop_registers.specs.Callback.{OverWords};
-ghost use Rattle.framehop_rules.specs.Outcome.{and_then, IsOfRule};
-ghost use Rattle.framehop_rules.specs.Pops.{raised_registers, registers_after_pop, all_popped, outcome_leaving};
+ghost use Rattle.framehop_rules.specs.Outcome.{outcome_of, Answers, and_then, IsOfRule, IsStep};
+ghost use Rattle.framehop_registers.specs.PopLists.{order_count};
+ghost use Rattle.framehop_rules.specs.Pops.{words_from};
+ghost use Rattle.framehop_rules.specs.RuleMeaning.{rule_meaning};
+ghost use Rattle.framehop_rules.specs.declared.x86_64.unwind_rule.UnwindRuleX86_64.TheVariants.{OffsetSpAndPopRegisters};
 
-use crate::unwind_rule::{address_above, read_word};
+use crate::unwind_rule::{address_above, bytes_of, read_word};
 use framehop_registers::Error;
-use framehop_registers::x86_64::{Reg, UnwindRegsX86_64};
+use framehop_registers::x86_64::{UnwindRegsX86_64, set_by_number};
 
-/// Raises the stack pointer by so many bytes.
+/// Reads words one after the other, the first at `from`, and answers the address behind them.
 #[inline(always)]
-fn raise(regs: &mut UnwindRegsX86_64, bytes: u64) -> Result<(), Error>
-    ensures raised { outcome_leaving regs.new result ≡ raised_registers regs.old bytes }
-    ensures refusals { IfErr result IsOfRule }
-{
-    let sp = address_above(regs.sp(), bytes)?;
-    regs.set_sp(sp);
-    Ok(())
-}
-
-/// Gives a register the word at the stack pointer, and raises the stack pointer by 8.
-#[inline(always)]
-fn pop_register<F: FnMut(u64) -> Result<u64, ()>>(
-    register: Reg,
-    regs: &mut UnwindRegsX86_64,
+fn read_words<F: FnMut(u64) -> Result<u64, ()>>(
+    words: &mut [u64],
+    from: u64,
     read_stack: &mut F,
-) -> Result<(), Error>
+) -> Result<u64, Error>
     requires { F.IsAlwaysCallable read_stack.old }
     ensures callable { F.IsAlwaysCallable read_stack.new }
-    ensures popped { OverWords F.step read_stack.old read_stack.new (λ words.
-        outcome_leaving regs.new result ≡ registers_after_pop register regs.old words) }
+    ensures read { OverWords F.step read_stack.old read_stack.new (λ stack.
+        and_then (outcome_of result) (λ behind. Answers (words.new, behind))
+        ≡ words_from stack (length words.old) from) }
     ensures refusals { IfErr result IsOfRule }
 {
-    let sp = regs.sp();
-    let value = read_word(read_stack, sp)?;
-    let new_sp = address_above(sp, 8)?;
-    regs.set(register, value);
-    regs.set_sp(new_sp);
-    Ok(())
-}
-
-/// Pops registers one after the other, the first one from `bytes` above the stack pointer. The
-/// registers are of no use after an error.
-pub(crate) fn pop_registers<F: FnMut(u64) -> Result<u64, ()>>(
-    registers: &[Reg],
-    bytes: u64,
-    regs: &mut UnwindRegsX86_64,
-    read_stack: &mut F,
-) -> Result<(), Error>
-    requires { F.IsAlwaysCallable read_stack.old }
-    ensures callable { F.IsAlwaysCallable read_stack.new }
-    ensures popped { OverWords F.step read_stack.old read_stack.new (λ words.
-        outcome_leaving regs.new result
-        ≡ and_then (raised_registers regs.old bytes) (λ from.
-        all_popped registers.now from words)) }
-    ensures refusals { IfErr result IsOfRule }
-{
-    raise(regs, bytes)?;
-    for &register in registers {
-        pop_register(register, regs, read_stack)?;
+    let mut at = from;
+    for word in words.iter_mut() {
+        *word = read_word(read_stack, at)?;
+        at = address_above(at, 8)?;
     }
-    Ok(())
+    Ok(at)
+}
+
+/// The step of a rule that pops registers. No register is written before all words are read, so
+/// that the registers needn't be kept for a failed read.
+#[inline(always)]
+pub(crate) fn pop_and_return<F: FnMut(u64) -> Result<u64, ()>>(
+    sp_offset_by_8: u16,
+    register_count: u8,
+    encoded_ordering: u16,
+    regs: &mut UnwindRegsX86_64,
+    read_stack: &mut F,
+) -> Result<Option<u64>, Error>
+    requires count { register_count ≤ 8 }
+    requires number { encoded_ordering < order_count }
+    requires callable { F.IsAlwaysCallable read_stack.old }
+    ensures callable { F.IsAlwaysCallable read_stack.new }
+    ensures step { (is_first : Bool) → OverWords F.step read_stack.old read_stack.new (λ stack.
+        let rule = OffsetSpAndPopRegisters sp_offset_by_8 register_count encoded_ordering in
+        IsStep result regs.old regs.new (rule_meaning rule is_first regs.old stack)) }
+    ensures none_keeps { result ≡ Ok None → regs.new ≡ regs.old }
+    ensures error_keeps { OnErr result (regs.new ≡ regs.old) }
+    ensures refusals { IfErr result IsOfRule }
+{
+    regs.has_all_registers();
+    let mut words = [0; 8];
+    let words = &mut words[..usize::from(register_count)];
+    let from = address_above(regs.sp(), bytes_of(sp_offset_by_8))?;
+    let behind = read_words(words, from, read_stack)?;
+    let new_sp = address_above(behind, 8)?;
+    let return_address = read_word(read_stack, behind)?;
+    if return_address == 0 {
+        return Ok(None);
+    }
+    set_by_number(regs, encoded_ordering, words);
+    regs.set_ip(return_address);
+    regs.set_sp(new_sp);
+    Ok(Some(return_address))
 }

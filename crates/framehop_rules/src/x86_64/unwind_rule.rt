@@ -6,9 +6,9 @@ ghost use Rattle.framehop_rules.specs.RuleMeaning.{raised_frame, by_frame_pointe
 ghost use Rattle.framehop_rules.specs.declared.x86_64.unwind_rule.UnwindRuleX86_64.TheVariants.{JustReturn, UseFramePointer};
 
 use crate::unwind_rule::{UnwindRule, address_above, address_at_offset, bytes_of, read_word};
-use crate::x86_64::pops::pop_registers;
+use crate::x86_64::pops::pop_and_return;
 use framehop_registers::Error;
-use framehop_registers::x86_64::{ORDER_COUNT, UnwindRegsX86_64, decode};
+use framehop_registers::x86_64::{ORDER_COUNT, UnwindRegsX86_64};
 
 /// One step of a stack walk on x86_64: how the caller's stack pointer and frame pointer follow from
 /// this frame's. The return address is always the word below the caller's stack pointer. Offsets
@@ -274,23 +274,20 @@ impl UnwindRule for UnwindRuleX86_64 {
         regs: &mut UnwindRegsX86_64,
         read_stack: &mut F,
     ) -> Result<Option<u64>, Error> {
-        let UnwindRuleX86_64::OffsetSpAndPopRegisters {
-            sp_offset_by_8,
-            register_count,
-            encoded_registers_to_pop,
-        } = self
-        else {
-            return self.return_to_caller(is_first_frame, regs, read_stack);
-        };
-        let list = decode(register_count, encoded_registers_to_pop);
-        let mut popped = *regs;
-        let bytes = bytes_of(sp_offset_by_8);
-        pop_registers(list.as_slice(), bytes, &mut popped, read_stack)?;
-        let answer = self.return_to_caller(is_first_frame, &mut popped, read_stack)?;
-        if answer.is_some() {
-            *regs = popped;
+        match self {
+            UnwindRuleX86_64::OffsetSpAndPopRegisters {
+                sp_offset_by_8,
+                register_count,
+                encoded_registers_to_pop,
+            } => pop_and_return(
+                sp_offset_by_8,
+                register_count,
+                encoded_registers_to_pop,
+                regs,
+                read_stack,
+            ),
+            _ => self.return_to_caller(is_first_frame, regs, read_stack),
         }
-        Ok(answer)
     }
 
     fn rule_for_stub_functions() -> Self {
