@@ -28,18 +28,13 @@ impl Registers {
     }
 }
 
-// The value of an expression that asks for at most eight registers.
+// The value of an expression by these registers.
 fn value_with_registers<R: Reader>(alloc: Global, reader: R, registers: Registers) -> Result<u64> {
     let mut evaluation = Evaluation::<R, Fixed>::new_in(alloc, Expression(reader), sized(8))?;
     let mut answer = evaluation.evaluate()?;
-    for _ in 0..8 {
-        match answer {
-            EvaluationResult::Complete => break,
-            EvaluationResult::RequiresRegister { register } => {
-                let value = Value::Generic(registers.get(register));
-                answer = evaluation.resume_with_register(value)?;
-            }
-        }
+    'requests: while let EvaluationResult::RequiresRegister { register } = answer {
+        let value = Value::Generic(registers.get(register));
+        answer = evaluation.resume_with_register(value)?;
     }
     evaluation
         .value_result()
