@@ -3,7 +3,7 @@ use Rattle.std.specs.Prelude.{ℕ, ◌==◌, Bool, List, [], ◌∷◌, Option, 
 use Rattle.framehop_unwinder.specs.Attempt.{Attempt, Says, Evaluates, SaysNothing}
 use Rattle.unwinder_tests.specs.declared.tables.Row.{Row}
 use Rattle.unwinder_tests.specs.declared.tables.Said.{Said}
-use Rattle.unwinder_tests.specs.declared.tables.Said.TheVariants.{StubRule, StartRule, NoCaller, WantsMemory}
+use Rattle.unwinder_tests.specs.declared.tables.Said.TheVariants.{StubRule, StartRule, NoCaller, NullCaller, WantsMemory}
 
 -- the first row of an address
 abbrev pub said_at : List Row → ℕ → Option Said
@@ -16,4 +16,5 @@ attempt_said stub start None = SaysNothing
 attempt_said stub start (Some StubRule) = Says stub
 attempt_said stub start (Some StartRule) = Says start
 attempt_said stub start (Some NoCaller) = Evaluates (λ registers words. None)
+attempt_said stub start (Some NullCaller) = Evaluates (λ registers words. Some (record { return_address = 0; registers = registers }))
 attempt_said stub start (Some WantsMemory) = SaysNothing

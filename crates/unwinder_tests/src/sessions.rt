@@ -1,6 +1,6 @@
 //! Unwinders that share caches: worked sequences, and many steps drawn at random.
 use crate::tables::{Said, Tables};
-use crate::worked::{added, counts, first, loaded, module, word_at};
+use crate::worked::{added, counts, first, loaded, module, next_random, word_at};
 use framehop_registers::x86_64::UnwindRegsX86_64;
 use framehop_rules::x86_64::ArchX86_64;
 use framehop_unwinder::{
@@ -246,15 +246,6 @@ fn equal_starts_and_ends(rt: HostRuntime) -> Result<(), Fail> {
     );
     assert_eq!(rt; stats(&session, 0), Some((0, 2, 1, 0)));
     Ok(())
-}
-
-/// The next number of a sequence that looks random (the generator of glibc's `rand_r`, but in 64
-/// bits with Knuth's factor).
-fn next_random(state: &mut u64) -> u64 {
-    *state = state
-        .wrapping_mul(6364136223846793005)
-        .wrapping_add(1442695040888963407);
-    *state >> 33
 }
 
 /// Thousands of loads, unloads and steps over three unwinders and two caches: each step is one

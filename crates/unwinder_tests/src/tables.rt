@@ -15,6 +15,8 @@ pub enum Said {
     StartRule,
     /// A row that gives no caller, as one whose words can't be read.
     NoCaller,
+    /// A row whose caller has the return address 0 and these registers.
+    NullCaller,
     /// A row that wants memory, which is refused.
     WantsMemory,
 }
@@ -78,6 +80,7 @@ impl<A: Arch> Unwinding for Tables<A> {
                 Ok(UnwindResult::ExecRule(A::UnwindRule::rule_for_function_start()))
             }
             Some(Said::NoCaller) => Err(UnwindFailure::OfFrame),
+            Some(Said::NullCaller) => Ok(UnwindResult::Uncacheable(0)),
             Some(Said::WantsMemory) => Err(UnwindFailure::OutOfMemory),
             None => Err(UnwindFailure::OfModule),
         }

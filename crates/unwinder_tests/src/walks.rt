@@ -84,6 +84,27 @@ fn walks_by_moves_of_a_session(rt: HostRuntime) -> Result<(), Fail> {
     Ok(())
 }
 
+/// A return address of 0 is refused, again at each further move: the walk stays at its frame.
+#[test]
+fn return_addresses_of_0_are_refused(rt: HostRuntime) -> Result<(), Fail> {
+    let alloc = rt.alloc();
+    let mut generations = Generations::new();
+    let Ok(mut unwinder) = UnwinderInternal::<Tables<ArchX86_64>>::new(alloc, &mut generations)
+    else {
+        return Err(Fail::new("no unwinder"));
+    };
+    let there = module(alloc, 0x100000, 0x102000, 0x1000, Said::NullCaller)?;
+    loaded(unwinder.add_module(&mut generations, there))?;
+    let mut cache = Cache::new(alloc, ())?;
+    let mut read_stack = |at: u64| word_at(at);
+    let regs = UnwindRegsX86_64::new(0x101000, 0x10, 0x20);
+    let mut frames = unwinder.iter_frames(0x101000, regs, &mut cache, &mut read_stack);
+    assert_eq!(rt; frames.next(), Ok(Some(first(0x101000))));
+    assert_eq!(rt; frames.next(), Err(Error::ReturnAddressIsNull));
+    assert_eq!(rt; frames.next(), Err(Error::ReturnAddressIsNull));
+    Ok(())
+}
+
 /// On aarch64, by the same code: the link register's frame first, then frame pointers.
 #[test]
 fn walks_on_aarch64(rt: HostRuntime) -> Result<(), Fail> {

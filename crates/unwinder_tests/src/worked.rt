@@ -67,3 +67,12 @@ pub fn added(answer: Result<(), AddUnwinderError>) -> Result<(), Fail> {
         Err(AddUnwinderError::GenerationsExhausted) => Err(Fail::new("GenerationsExhausted")),
     }
 }
+
+/// The next number of a sequence that looks random (the generator of glibc's `rand_r`, but in 64
+/// bits with Knuth's factor).
+pub fn next_random(state: &mut u64) -> u64 {
+    *state = state
+        .wrapping_mul(6364136223846793005)
+        .wrapping_add(1442695040888963407);
+    *state >> 33
+}
