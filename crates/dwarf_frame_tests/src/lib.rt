@@ -6,6 +6,8 @@ mod augmentations;
 #[cfg(test)]
 mod entries;
 #[cfg(test)]
+mod entry_rows;
+#[cfg(test)]
 mod instructions;
 #[cfg(test)]
 mod listed;

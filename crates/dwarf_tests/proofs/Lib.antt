@@ -1,2 +1,1 @@
 pub mod Reversed
-pub mod WorkedRows

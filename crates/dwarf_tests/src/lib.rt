@@ -3,8 +3,6 @@
 
 pub mod backward;
 #[cfg(test)]
-mod call_frames;
-#[cfg(test)]
 mod constants;
 #[cfg(test)]
 mod expressions;

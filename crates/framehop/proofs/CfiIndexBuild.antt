@@ -11,10 +11,13 @@ use Rattle.std.proofs.lemmas.List.{length-map, length-reverse}
 use Rattle.std.proofs.lemmas.List.Elements.{All-nil, All-cons, All-head, All-tail}
 use Rattle.std.proofs.lemmas.List.Sorted.{All-permutation, IsPermutation-sym, IsPermutation-reverse, length_permutation}
 use Rattle.dwarf_constants.specs.declared.error.Error.{Error}
-use Rattle.dwarf_readers.specs.Place.{Stretch, whole}
+use Rattle.dwarf_frame_sections.specs.Sections.{FrameSection}
 use Rattle.framehop.specs.declared.cfi_index.IndexedFde.{IndexedFde}
 use Rattle.framehop.specs.declared.cfi_index.DwarfCfiIndexError.{DwarfCfiIndexError}
-use Rattle.dwarf_call_frames.specs.Entries.{Fde, Entry, CieEntry, FdeEntry, entries_of, entries_from, fde_of, fde_in, whole_fdes}
+use Rattle.dwarf_frame_entries.specs.Entries.{AnyEntry, Fde, PartialFde, fde_of}
+use Rattle.dwarf_frame_entries.specs.EntryLists.{entries_of}
+use Rattle.dwarf_frame_entries.specs.SectionFdes.{fde_in, whole_fdes}
+use Rattle.dwarf_frame_entries.specs.declared.entries.Entry.TheVariants as which
 use Rattle.framehop.specs.EntryFor.{indexed_among, fits_index, fde_fits, item_fits, has_index, indexed_entry}
 use Rattle.lists.specs.Greatest.{is_greatest, greater}
 use Rattle.lists.specs.Last.{last_of}
@@ -57,7 +60,7 @@ pub first-greatest : (base a : ℕ) (fs : List Fde) (x : IndexedFde) (p : Indexe
     → ((y : IndexedFde) → p y ≡ true → y.start ≡ x.start) → ((y : IndexedFde) → y.start ≡ x.start → p y ≡ true)
     → x.start ≤ a → list_all (fits_index base) fs ≡ true → find p (map (index_entry base) fs) ≡ Some x
     → All (λ y. nat_le y.start a ≡ true → y.start ≤ x.start) (map (index_entry base) fs)
-    → (g : Fde) × (indexed_among (base + a) fs ≡ Some g) × (g.initial_address ≡ base + x.start) × (g.offset ≡ x.offset)
+    → (g : Fde) × (indexed_among (base + a) fs ≡ Some g) × (g.initial_address ≡ base + x.start) × (g.head.offset ≡ x.offset)
 first-greatest base a [] x p only all low fit found greatest = cc
 first-greatest base a (f ∷ fs) x p only all low fit found greatest =
     let (here, others) = and_parts (fits_index base f) (list_all (fits_index base) fs) fit in
@@ -70,7 +73,7 @@ first-greatest base a (f ∷ fs) x p only all low fit found greatest =
     let same : Some (index_entry base f) ≡ Some x = rw is at found in
     let it : index_entry base f ≡ x = cc in
     let start : f.initial_address - base ≡ x.start = ap (λ y. y.start) it in
-    let place : f.offset ≡ x.offset = ap (λ y. y.offset) it in
+    let place : f.head.offset ≡ x.offset = ap (λ y. y.offset) it in
     let near : nat_le f.initial_address (base + a) ≡ true = grind arith in
     let equal : f.initial_address ≡ base + x.start = omega arith in
     let stays : later_of (Some f) (indexed_among (base + a) fs) ≡ Some f = none-later (indexed_among (base + a) fs) (λ g e. let le = under base a x.start fs g others rest e in omega arith) in
@@ -112,24 +115,24 @@ same_start : (m n : ℕ) → (ties (λ x y. is_lt (nat_cmp x y)) m n ≡ true �
 same_start m n = (λ h. grind (arith, nat_tests), λ h. grind (arith, nat_tests))
 
 -- the FDEs among items of a section's list that aren't refused
-abbrev pub whole_among : List ℕ → List (Result Entry Error) → List Fde
+abbrev pub whole_among : FrameSection → List (Result AnyEntry Error) → List Fde
 whole_among section items = filter_map result_ok (filter_map (fde_in section) items)
 
 -- where each item fits, each FDE does
-whole-fit : (base : ℕ) (section : List ℕ) (items : List (Result Entry Error)) → list_all (item_fits base section) items ≡ true → list_all (fits_index base) (whole_among section items) ≡ true
+whole-fit : (base : ℕ) (section : FrameSection) (items : List (Result AnyEntry Error)) → list_all (item_fits base section) items ≡ true → list_all (fits_index base) (whole_among section items) ≡ true
 whole-fit base section [] h = refl
-whole-fit base section (Ok (CieEntry cie) ∷ items) h = whole-fit base section items h
+whole-fit base section (Ok (which.Cie cie) ∷ items) h = whole-fit base section items h
 whole-fit base section (Err e ∷ items) h = cc
-whole-fit base section (Ok (FdeEntry partial) ∷ items) h =
-    let (here, others) = and_parts (fde_fits base (fde_of section partial)) (list_all (item_fits base section) items) h in
-    by_fde (fde_of section partial) here (whole-fit base section items others)
+whole-fit base section (Ok (which.Fde partial) ∷ items) h =
+    let (here, others) = and_parts (fde_fits base (fde_of section.limit section.kind partial)) (list_all (item_fits base section) items) h in
+    by_fde (fde_of section.limit section.kind partial) here (whole-fit base section items others)
   where
     by_fde : (fde : Result Fde Error) → fde_fits base fde ≡ true → list_all (fits_index base) (whole_among section items) ≡ true
         → list_all (fits_index base) (cons_option (result_ok fde) (whole_among section items)) ≡ true
     by_fde (Ok fde) fits others = rw fits others
     by_fde (Err e) fits others = cc
 
-module _ (base : ℕ) (section : List ℕ) (ys : List IndexedFde) (has : has_index base section ≡ true) (up : IsNonDecreasingBy (λ y. y.start) ys)
+module _ (base : ℕ) (section : FrameSection) (ys : List IndexedFde) (has : has_index base section ≡ true) (up : IsNonDecreasingBy (λ y. y.start) ys)
     (moved : IsPermutation (reverse (map (index_entry base) (whole_fdes section))) ys) (stable : IsStableByKey (λ y. y.start) nat_cmp (reverse (map (index_entry base) (whole_fdes section))) ys) where
   -- what all have in the list that is sorted, all have in the section
   unsorted : (P : IndexedFde → Type 0) → All P ys → All P (map (index_entry base) (whole_fdes section))
@@ -142,7 +145,7 @@ module _ (base : ℕ) (section : List ℕ) (ys : List IndexedFde) (has : has_ind
   unfolding has_index whole_fdes
   fitting = whole-fit base section (entries_of section) has
 
-  found-some : (a : ℕ) (x : IndexedFde) → last_of (filter (λ y. nat_le y.start a) ys) ≡ Some x → Some x.offset ≡ option_map (λ f. f.offset) (indexed_among (base + a) (whole_fdes section))
+  found-some : (a : ℕ) (x : IndexedFde) → last_of (filter (λ y. nat_le y.start a) ys) ≡ Some x → Some x.offset ≡ option_map (λ f. f.head.offset) (indexed_among (base + a) (whole_fdes section))
   found-some a x last =
       let p : IndexedFde → Bool = ties (λ u v. is_lt (nat_cmp u.start v.start)) x in
       let xs : List IndexedFde = map (index_entry base) (whole_fdes section) in
@@ -153,7 +156,7 @@ module _ (base : ℕ) (section : List ℕ) (ys : List IndexedFde) (has : has_ind
       let passes : nat_le x.start a ≡ true = last-passes (λ y. nat_le y.start a) ys x last in
       let low : x.start ≤ a = grind arith in
       let (g, same, start, place) = first-greatest base a (whole_fdes section) x p only all low fitting found (unsorted (λ y. nat_le y.start a ≡ true → y.start ≤ x.start) (none-higher (λ y. y.start) a ys x up last)) in
-      ap (λ n. Some n) (sym place) ∙ sym (ap (option_map (λ f. f.offset)) same)
+      ap (λ n. Some n) (sym place) ∙ sym (ap (option_map (λ f. f.head.offset)) same)
 
   found-none : (a : ℕ) → last_of (filter (λ y. nat_le y.start a) ys) ≡ None → indexed_among (base + a) (whole_fdes section) ≡ None
   found-none a last =
@@ -168,9 +171,9 @@ module _ (base : ℕ) (section : List ℕ) (ys : List IndexedFde) (has : has_ind
       kept : List IndexedFde
       kept = map (index_entry base) (whole_fdes section)
 
-      by : (a : ℕ) (o : Option IndexedFde) → last_of (filter (λ y. nat_le y.start a) ys) ≡ o → offset_in ys a ≡ option_map (λ f. f.offset) (indexed_among (base + a) (whole_fdes section))
+      by : (a : ℕ) (o : Option IndexedFde) → last_of (filter (λ y. nat_le y.start a) ys) ≡ o → offset_in ys a ≡ option_map (λ f. f.head.offset) (indexed_among (base + a) (whole_fdes section))
       by a (Some x) e = ap (option_map (λ y. y.offset)) e ∙ found-some a x e
-      by a None e = ap (option_map (λ y. y.offset)) e ∙ sym (ap (option_map (λ f. f.offset)) (found-none a e))
+      by a None e = ap (option_map (λ y. y.offset)) e ∙ sym (ap (option_map (λ f. f.head.offset)) (found-none a e))
 
 -- ---- the error of the first entry against an index
 
@@ -188,16 +191,16 @@ fde-fits-as : (base : ℕ) (fde : Result Fde Error) → fde_fits base fde ≡ is
 fde-fits-as base (Ok fde) = fits-as base fde
 fde-fits-as base (Err e) = refl
 
-item-fits-as : (base : ℕ) (section : List ℕ) (item : Result Entry Error) → item_fits base section item ≡ is_none (item_error base section item)
-item-fits-as base section (Ok (CieEntry cie)) = refl
-item-fits-as base section (Ok (FdeEntry partial)) = fde-fits-as base (fde_of section partial)
+item-fits-as : (base : ℕ) (section : FrameSection) (item : Result AnyEntry Error) → item_fits base section item ≡ is_none (item_error base section item)
+item-fits-as base section (Ok (which.Cie cie)) = refl
+item-fits-as base section (Ok (which.Fde partial)) = fde-fits-as base (fde_of section.limit section.kind partial)
 item-fits-as base section (Err e) = refl
 
 both-none : {A : Type 0} (a b : Option A) → (is_none a && is_none b) ≡ is_none (option_or a b)
 both-none None b = refl
 both-none (Some x) b = refl
 
-all-fit-as : (base : ℕ) (section : List ℕ) (items : List (Result Entry Error)) → list_all (item_fits base section) items ≡ is_none (first_value (item_error base section) items)
+all-fit-as : (base : ℕ) (section : FrameSection) (items : List (Result AnyEntry Error)) → list_all (item_fits base section) items ≡ is_none (first_value (item_error base section) items)
 all-fit-as base section [] = refl
 all-fit-as base section (item ∷ items) =
     ap (λ b. b && list_all (item_fits base section) items) (item-fits-as base section item)
@@ -205,27 +208,27 @@ all-fit-as base section (item ∷ items) =
     ∙ both-none (item_error base section item) (first_value (item_error base section) items)
 
 -- a section without an error has an index
-pub has-index : (base : ℕ) (section : List ℕ) → index_error base section ≡ None → has_index base section ≡ true
+pub has-index : (base : ℕ) (section : FrameSection) → index_error base section ≡ None → has_index base section ≡ true
 unfolding has_index
 has-index base section h = all-fit-as base section (entries_of section) ∙ ap is_none h
 
 -- a section with one has none
-pub has-no-index : (base : ℕ) (section : List ℕ) (error : DwarfCfiIndexError) → index_error base section ≡ Some error → has_index base section ≡ false
+pub has-no-index : (base : ℕ) (section : FrameSection) (error : DwarfCfiIndexError) → index_error base section ≡ Some error → has_index base section ≡ false
 unfolding has_index
 has-no-index base section error h = all-fit-as base section (entries_of section) ∙ ap is_none h
 
 -- ---- the pass over the entries
 
--- what a pass has gathered, where this much of the section is left: an error is that of the rest, and what is kept of
+-- what a pass has gathered, where these of the section's entries are left: an error is that of the rest, and what is kept of
 -- the FDEs is what was gathered and what is kept of the rest
-pub record Gathered (section : List ℕ) (base : ℕ) (kept : List IndexedFde) (left : Stretch) : Type 0 where
-  pub error : index_error base section ≡ first_value (item_error base section) (entries_from left)
-  pub fdes : map (index_entry base) (whole_fdes section) ≡ kept ++ map (index_entry base) (whole_among section (entries_from left))
+pub record Gathered (section : FrameSection) (base : ℕ) (kept : List IndexedFde) (left : List (Result AnyEntry Error)) : Type 0 where
+  pub error : index_error base section ≡ first_value (item_error base section) left
+  pub fdes : map (index_entry base) (whole_fdes section) ≡ kept ++ map (index_entry base) (whole_among section left)
 
 -- nothing is gathered at the start
-pub none-gathered : (section : List ℕ) (base : ℕ) (kept : List IndexedFde) (left : Stretch) → kept ≡ [] → left ≡ whole false section → Gathered section base kept left
+pub none-gathered : (section : FrameSection) (base : ℕ) (kept : List IndexedFde) (left : List (Result AnyEntry Error)) → kept ≡ [] → left ≡ entries_of section → Gathered section base kept left
 unfolding whole_fdes
 none-gathered section base kept left none is = record {
-  error = ap (λ s. first_value (item_error base section) (entries_from s)) (sym is);
+  error = ap (first_value (item_error base section)) (sym is);
   fdes = rw (none, is) refl;
 }

@@ -15,12 +15,13 @@ use Rattle.framehop_registers.specs.declared.error.Error.TheVariants.{DidNotAdva
 use Rattle.framehop_rules.specs.declared.x86_64.unwind_rule.UnwindRuleX86_64.{UnwindRuleX86_64}
 use Rattle.framehop_rules.specs.declared.x86_64.unwind_rule.UnwindRuleX86_64.TheVariants.{EndOfStack, OffsetSp, OffsetSpAndRestoreBp, UseFramePointer}
 use Rattle.framehop_registers.specs.declared.x86_64.unwindregs.UnwindRegsX86_64.{UnwindRegsX86_64}
-use Rattle.dwarf_call_frames.specs.declared.rows.CfaRule.{CfaRule}
-use Rattle.dwarf_call_frames.specs.declared.rows.CfaRule.TheVariants.{RegisterAndOffset, Expression}
-use Rattle.dwarf_call_frames.specs.declared.rows.RegisterRule.{RegisterRule}
-use Rattle.dwarf_call_frames.specs.declared.rows.RegisterRule.TheVariants as rule
-use Rattle.framehop.specs.ScaledRow.{Parts, eighth_of, as_u16, as_i16, scaled_rule, from_return_address, from_register, from_sp, from_bp}
-use Rattle.framehop.specs.RowAnswer.{value_of, in_range, plus, column_value, caller_at, row_answer}
+use Rattle.dwarf_frame_rows.specs.declared.rules.CfaRule.{CfaRule}
+use Rattle.dwarf_frame_rows.specs.declared.rules.CfaRule.TheVariants.{RegisterAndOffset, Expression}
+use Rattle.dwarf_frame_rows.specs.declared.rules.RegisterRule.{RegisterRule}
+use Rattle.dwarf_frame_rows.specs.declared.rules.RegisterRule.TheVariants as rule
+use Rattle.framehop.specs.Columns.{column_by}
+use Rattle.framehop.specs.ScaledRow.{Parts, eighth_of, as_u16, as_i16, scaled_rule, from_return_address, from_register, from_sp, from_bp, raised_sp, restored_bp}
+use Rattle.framehop.specs.RowAnswer.{value_of, in_range, plus, whole_sources, caller_at, row_answer}
 use Rattle.framehop.specs.Attempt.{Scales}
 use Rattle.framehop.specs.Judge.{row_outcome, by_attempt}
 
@@ -66,7 +67,7 @@ answered (Some found) at loops to h = grind arith
 answered None at loops to h = cc
 
 -- the return address that is given is what the column at the CFA less 8 gives
-return-gives : (registers : UnwindRegsX86_64) (words : Words) (sp to : ℕ) → return_address registers words sp ≡ Answers to → column_value words sp (rule.Offset (negsuc 7)) ≡ Some to
+return-gives : (registers : UnwindRegsX86_64) (words : Words) (sp to : ℕ) → return_address registers words sp ≡ Answers to → column_by (whole_sources registers) words sp (ip_of registers) (rule.Offset (negsuc 7)) ≡ Some to
 return-gives registers words sp to h =
     let f : ℕ → Outcome ℕ = λ at. and_then (word words at) (λ found. if found == 0 then Ends else if (sp == sp_of registers) && (found == ip_of registers) then Refuses DidNotAdvance else Answers found) in
     let (at, placed, read) = and_then-gives (address (pos sp -ℤ pos 8)) f to h in
@@ -74,8 +75,8 @@ return-gives registers words sp to h =
     rw (address-gives (pos sp -ℤ pos 8) at placed) there
 
 -- the caller that is given is the row's at its CFA, where the row has the frame pointer that the rule moved to
-returned-gives : (registers : UnwindRegsX86_64) (words : Words) (cfa : CfaRule) (bp : Option RegisterRule) (sp new_bp : ℕ) (caller : Caller UnwindRegsX86_64)
-    → unwrap_or (option_and_then (column_value words sp) bp) (bp_of registers) ≡ new_bp
+returned-gives : (registers : UnwindRegsX86_64) (words : Words) (cfa : CfaRule ℕ) (bp : Option (RegisterRule ℕ)) (sp new_bp : ℕ) (caller : Caller UnwindRegsX86_64)
+    → unwrap_or (option_and_then (column_by (whole_sources registers) words sp (bp_of registers)) bp) (bp_of registers) ≡ new_bp
     → returned_caller registers words (sp, new_bp) ≡ Answers caller
     → caller_at registers words (record { cfa = cfa; bp = bp; ra = Some (rule.Offset (negsuc 7)) }) sp ≡ Some caller
 returned-gives registers words cfa bp sp new_bp caller column h =
@@ -126,7 +127,7 @@ row_outcome-same numbers (Answers caller) same = ap row_outcome (same caller ref
 -- ---- the law, for each form of a row
 
 -- a row whose CFA counts from a register of this value
-pub row-gives : (registers : UnwindRegsX86_64) (words : Words) (register : Register) (offset : ℤ) (bp : Option RegisterRule) (base sp : ℕ) (caller : Caller UnwindRegsX86_64)
+pub row-gives : (registers : UnwindRegsX86_64) (words : Words) (register : Register) (offset : ℤ) (bp : Option (RegisterRule ℕ)) (base sp : ℕ) (caller : Caller UnwindRegsX86_64)
     → value_of registers register ≡ Some base → plus base offset ≡ Some sp
     → caller_at registers words (record { cfa = RegisterAndOffset register offset; bp = bp; ra = Some (rule.Offset (negsuc 7)) }) sp ≡ Some caller
     → row_answer registers words (record { cfa = RegisterAndOffset register offset; bp = bp; ra = Some (rule.Offset (negsuc 7)) }) ≡ Some caller
@@ -143,18 +144,22 @@ moved-back : (registers : UnwindRegsX86_64) (words : Words) (moved to : StackFra
     → Answers to ≡ Answers moved → returned_caller registers words moved ≡ Answers caller → returned_caller registers words to ≡ Answers caller
 moved-back registers words moved to caller moves_to h = let e : to ≡ moved = cc in let P : StackFrame → Type 0 = λ m. returned_caller registers words m ≡ Answers caller in subst P (sym e) h
 
+-- the column of RBP says that it stays
+abbrev Stays : UnwindRegsX86_64 → Words → Option (RegisterRule ℕ) → Type 0
+Stays registers words bp = (sp : ℕ) → unwrap_or (option_and_then (column_by (whole_sources registers) words sp (bp_of registers)) bp) (bp_of registers) ≡ bp_of registers
+
 -- the stack pointer goes up, the frame pointer stays
-raised-gives : (registers : UnwindRegsX86_64) (words : Words) (register : Register) (offset : ℤ) (x : ℕ) (caller : Caller UnwindRegsX86_64)
-    → register.0 ≡ 7 → offset ≡ pos (8 * x)
+raised-gives : (registers : UnwindRegsX86_64) (words : Words) (register : Register) (offset : ℤ) (bp : Option (RegisterRule ℕ)) (x : ℕ) (caller : Caller UnwindRegsX86_64)
+    → register.0 ≡ 7 → offset ≡ pos (8 * x) → Stays registers words bp
     → and_then (raised_frame registers (8 * x)) (returned_caller registers words) ≡ Answers caller
-    → row_answer registers words (record { cfa = RegisterAndOffset register offset; bp = None; ra = Some (rule.Offset (negsuc 7)) }) ≡ Some caller
-raised-gives registers words register offset x caller at_7 is h =
+    → row_answer registers words (record { cfa = RegisterAndOffset register offset; bp = bp; ra = Some (rule.Offset (negsuc 7)) }) ≡ Some caller
+raised-gives registers words register offset bp x caller at_7 is stays h =
     let f : ℕ → Outcome StackFrame = λ sp. Answers (sp, bp_of registers) in
     let (moved, up, back) = and_then-gives (raised_frame registers (8 * x)) (returned_caller registers words) caller h in
     let (sp, placed, moves_to) = and_then-gives (address (pos (sp_of registers) +ℤ pos (8 * x))) f moved up in
-    row-gives registers words register offset None (sp_of registers) sp caller (value-at-7 registers register at_7)
+    row-gives registers words register offset bp (sp_of registers) sp caller (value-at-7 registers register at_7)
     (rw is (address-gives (pos (sp_of registers) +ℤ pos (8 * x)) sp placed))
-    (returned-gives registers words (RegisterAndOffset register offset) None sp (bp_of registers) caller refl (moved-back registers words moved (sp, bp_of registers) caller moves_to back))
+    (returned-gives registers words (RegisterAndOffset register offset) bp sp (bp_of registers) caller (stays sp) (moved-back registers words moved (sp, bp_of registers) caller moves_to back))
 
 -- the frame pointer that is restored in a step is what its column gives, or the one that stays
 stored-is : (first : Bool) (registers : UnwindRegsX86_64) (there : Option ℕ) (at bp : ℕ) → stored_bp first registers (λ _. there) at ≡ Answers bp → unwrap_or there (bp_of registers) ≡ bp
@@ -207,7 +212,7 @@ followed-gives registers words register caller at_6 h =
 -- ---- the law
 
 -- the row of a CFA at an offset from a register
-abbrev row_at : Register → ℤ → Option RegisterRule → Parts
+abbrev row_at : Register → ℤ → Option (RegisterRule ℕ) → Parts ℕ
 row_at register offset bp = record { cfa = RegisterAndOffset register offset; bp = bp; ra = Some (rule.Offset (negsuc 7)) }
 
 -- the offset in bytes is eight times that in words
@@ -217,14 +222,28 @@ words-of offset x h = let (q, eighth, fits) = and_then-some as_u16 (eighth_of of
 signed-words-of : (offset y : ℤ) → option_and_then as_i16 (eighth_of offset) ≡ Some y → offset ≡ pos 8 *ℤ y
 signed-words-of offset y h = let (q, eighth, fits) = and_then-some as_i16 (eighth_of offset) y h in rw (eighth-is offset q eighth, i16-is q y fits) refl
 
--- for a CFA that counts from the stack pointer
-law-sp : (first : Bool) (registers : UnwindRegsX86_64) (words : Words) (register : Register) (offset : ℤ) (bp : Option RegisterRule) (how : UnwindRuleX86_64) (caller : Caller UnwindRegsX86_64)
-    → register.0 ≡ 7 → from_sp offset bp ≡ Some how → rule_meaning how first registers words ≡ Answers caller
+-- for a CFA that counts from the stack pointer, where the frame pointer stays
+law-raised : (first : Bool) (registers : UnwindRegsX86_64) (words : Words) (register : Register) (offset : ℤ) (bp : Option (RegisterRule ℕ)) (how : UnwindRuleX86_64) (caller : Caller UnwindRegsX86_64)
+    → register.0 ≡ 7 → Stays registers words bp → raised_sp offset ≡ Some how → rule_meaning how first registers words ≡ Answers caller
     → row_answer registers words (row_at register offset bp) ≡ Some caller
-law-sp first registers words register offset None how caller at_7 says h =
+law-raised first registers words register offset bp how caller at_7 stays says h =
     let (x, scaled, is) = option_map-some OffsetSp (option_and_then as_u16 (eighth_of offset)) how says in
     let P : UnwindRuleX86_64 → Type 0 = λ r. rule_meaning r first registers words ≡ Answers caller in
-    raised-gives registers words register offset x caller at_7 (words-of offset x scaled) (subst P (sym is) h)
+    raised-gives registers words register offset bp x caller at_7 (words-of offset x scaled) stays (subst P (sym is) h)
+
+-- for a CFA that counts from the stack pointer
+law-sp : (first : Bool) (registers : UnwindRegsX86_64) (words : Words) (register : Register) (offset : ℤ) (bp : Option (RegisterRule ℕ)) (how : UnwindRuleX86_64) (caller : Caller UnwindRegsX86_64)
+    → register.0 ≡ 7 → from_sp offset bp ≡ Some how → rule_meaning how first registers words ≡ Answers caller
+    → row_answer registers words (row_at register offset bp) ≡ Some caller
+law-sp first registers words register offset None how caller at_7 says h = law-raised first registers words register offset None how caller at_7 (λ sp. refl) says h
+law-sp first registers words register offset (Some rule.Undefined) how caller at_7 says h = law-raised first registers words register offset (Some rule.Undefined) how caller at_7 (λ sp. refl) says h
+law-sp first registers words register offset (Some rule.SameValue) how caller at_7 says h = law-raised first registers words register offset (Some rule.SameValue) how caller at_7 (λ sp. refl) says h
+law-sp first registers words register offset (Some (rule.ValOffset stored)) how caller at_7 says h = cc
+law-sp first registers words register offset (Some (rule.Register source)) how caller at_7 says h = cc
+law-sp first registers words register offset (Some (rule.Expression expression)) how caller at_7 says h = cc
+law-sp first registers words register offset (Some (rule.ValExpression expression)) how caller at_7 says h = cc
+law-sp first registers words register offset (Some rule.Architectural) how caller at_7 says h = cc
+law-sp first registers words register offset (Some (rule.Constant n)) how caller at_7 says h = cc
 law-sp first registers words register offset (Some (rule.Offset stored)) how caller at_7 says h =
     let f : ℕ → Option UnwindRuleX86_64 = λ x. option_map (OffsetSpAndRestoreBp x) (option_and_then as_i16 (eighth_of (offset +ℤ stored))) in
     let (x, scaled, on) = and_then-some f (option_and_then as_u16 (eighth_of offset)) how says in
@@ -233,7 +252,7 @@ law-sp first registers words register offset (Some (rule.Offset stored)) how cal
     restored-gives first registers words register offset stored x y caller at_7 (words-of offset x scaled) (signed-words-of (offset +ℤ stored) y both) (subst P (sym is) h)
 
 -- the one row from the frame pointer that a rule says
-from_bp-is : (offset stored : ℤ) (how : UnwindRuleX86_64) → from_bp offset (Some (rule.Offset stored)) ≡ Some how → (offset ≡ pos 16) × (stored ≡ negsuc 15) × (how ≡ UseFramePointer)
+from_bp-is : (offset stored : ℤ) (how : UnwindRuleX86_64) → from_bp {T = ℕ} offset (Some (rule.Offset stored)) ≡ Some how → (offset ≡ pos 16) × (stored ≡ negsuc 15) × (how ≡ UseFramePointer)
 from_bp-is offset stored how says =
     by_test (int_eq offset (pos 16) && int_eq stored (negsuc 15)) (Some UseFramePointer) None how
     (λ are is. let (high, low) = both-true (int_eq offset (pos 16)) (int_eq stored (negsuc 15)) are in
@@ -250,24 +269,50 @@ follow-gives first registers words caller h = at_end (bp_of registers == 0) (by_
     at_end true x f c h = cc
     at_end false x f c h = h
 
+-- a column that isn't stored gives no rule from the frame pointer
+never : (b : Bool) (how : UnwindRuleX86_64) → (if b && false then Some UseFramePointer else None) ≡ Some how → ⊥
+never true how says = cc
+never false how says = cc
+
 -- for a CFA that counts from the frame pointer
-law-bp : (first : Bool) (registers : UnwindRegsX86_64) (words : Words) (register : Register) (offset : ℤ) (bp : Option RegisterRule) (how : UnwindRuleX86_64) (caller : Caller UnwindRegsX86_64)
+law-bp : (first : Bool) (registers : UnwindRegsX86_64) (words : Words) (register : Register) (offset : ℤ) (bp : Option (RegisterRule ℕ)) (how : UnwindRuleX86_64) (caller : Caller UnwindRegsX86_64)
     → register.0 ≡ 6 → from_bp offset bp ≡ Some how → rule_meaning how first registers words ≡ Answers caller
     → row_answer registers words (row_at register offset bp) ≡ Some caller
 law-bp first registers words register offset None how caller at_6 says h = cc
+law-bp first registers words register offset (Some rule.Undefined) how caller at_6 says h = absurd (never (int_eq offset (pos 16)) how says)
+law-bp first registers words register offset (Some rule.SameValue) how caller at_6 says h = absurd (never (int_eq offset (pos 16)) how says)
+law-bp first registers words register offset (Some (rule.ValOffset stored)) how caller at_6 says h = absurd (never (int_eq offset (pos 16)) how says)
+law-bp first registers words register offset (Some (rule.Register source)) how caller at_6 says h = absurd (never (int_eq offset (pos 16)) how says)
+law-bp first registers words register offset (Some (rule.Expression expression)) how caller at_6 says h = absurd (never (int_eq offset (pos 16)) how says)
+law-bp first registers words register offset (Some (rule.ValExpression expression)) how caller at_6 says h = absurd (never (int_eq offset (pos 16)) how says)
+law-bp first registers words register offset (Some rule.Architectural) how caller at_6 says h = absurd (never (int_eq offset (pos 16)) how says)
+law-bp first registers words register offset (Some (rule.Constant n)) how caller at_6 says h = absurd (never (int_eq offset (pos 16)) how says)
 law-bp first registers words register offset (Some (rule.Offset stored)) how caller at_6 says h =
     let (high, low, is) = from_bp-is offset stored how says in
     let P : UnwindRuleX86_64 → Type 0 = λ r. rule_meaning r first registers words ≡ Answers caller in
     rw (high, low) (followed-gives registers words register caller at_6 (follow-gives first registers words caller (subst P is h)))
 
--- by the parts of the row
-law-by_parts : (cfa : CfaRule) (bp ra : Option RegisterRule) (how : UnwindRuleX86_64) (first : Bool) (registers : UnwindRegsX86_64) (words : Words) (caller : Caller UnwindRegsX86_64)
-    → from_return_address cfa bp ra ≡ Some how → rule_meaning how first registers words ≡ Answers caller
-    → row_answer registers words (record { cfa = cfa; bp = bp; ra = ra }) ≡ Some caller
-law-by_parts cfa bp None how first registers words caller says h =
+-- at the end of the stack no caller is answered
+law-end : (how : UnwindRuleX86_64) (first : Bool) (registers : UnwindRegsX86_64) (words : Words) (caller : Caller UnwindRegsX86_64)
+    → ◌≡◌ {A = Option UnwindRuleX86_64} (Some EndOfStack) (Some how) → rule_meaning how first registers words ≡ Answers caller → ⊥
+law-end how first registers words caller says h =
     let is : EndOfStack ≡ how = cc in
     let P : UnwindRuleX86_64 → Type 0 = λ r. rule_meaning r first registers words ≡ Answers caller in
     let ended : Ends ≡ Answers caller = subst P (sym is) h in cc
+
+-- by the parts of the row
+law-by_parts : (cfa : CfaRule ℕ) (bp ra : Option (RegisterRule ℕ)) (how : UnwindRuleX86_64) (first : Bool) (registers : UnwindRegsX86_64) (words : Words) (caller : Caller UnwindRegsX86_64)
+    → from_return_address cfa bp ra ≡ Some how → rule_meaning how first registers words ≡ Answers caller
+    → row_answer registers words (record { cfa = cfa; bp = bp; ra = ra }) ≡ Some caller
+law-by_parts cfa bp None how first registers words caller says h = absurd (law-end how first registers words caller says h)
+law-by_parts cfa bp (Some rule.Undefined) how first registers words caller says h = absurd (law-end how first registers words caller says h)
+law-by_parts cfa bp (Some rule.SameValue) how first registers words caller says h = cc
+law-by_parts cfa bp (Some (rule.ValOffset stored)) how first registers words caller says h = cc
+law-by_parts cfa bp (Some (rule.Register source)) how first registers words caller says h = cc
+law-by_parts cfa bp (Some (rule.Expression expression)) how first registers words caller says h = cc
+law-by_parts cfa bp (Some (rule.ValExpression expression)) how first registers words caller says h = cc
+law-by_parts cfa bp (Some rule.Architectural) how first registers words caller says h = cc
+law-by_parts cfa bp (Some (rule.Constant n)) how first registers words caller says h = cc
 law-by_parts (Expression expression) bp (Some (rule.Offset stored)) how first registers words caller says h =
     by_test (int_eq stored (negsuc 7)) None None how (λ _ none. cc) (λ _ none. cc) says
 law-by_parts (RegisterAndOffset register offset) bp (Some (rule.Offset stored)) how first registers words caller says h =
@@ -284,12 +329,12 @@ law-by_parts (RegisterAndOffset register offset) bp (Some (rule.Offset stored)) 
     says
 
 -- where a rule says a row, and answers a caller, the row gives that caller
-pub law : (parts : Parts) (how : UnwindRuleX86_64) (first : Bool) (registers : UnwindRegsX86_64) (words : Words) (caller : Caller UnwindRegsX86_64)
+pub law : (parts : Parts ℕ) (how : UnwindRuleX86_64) (first : Bool) (registers : UnwindRegsX86_64) (words : Words) (caller : Caller UnwindRegsX86_64)
     → scaled_rule parts ≡ Some how → rule_meaning how first registers words ≡ Answers caller → row_answer registers words parts ≡ Some caller
 law parts how first registers words caller says h = law-by_parts parts.cfa parts.bp parts.ra how first registers words caller says h
 
 -- so what is judged of a scaled row is what its rule comes to
-pub scaled-judged : (limit : Option ℕ) (parts : Parts) (how : UnwindRuleX86_64) (first : Bool) (registers : UnwindRegsX86_64) (words : Words)
+pub scaled-judged : (limit : Option ℕ) (parts : Parts ℕ) (how : UnwindRuleX86_64) (first : Bool) (registers : UnwindRegsX86_64) (words : Words)
     → scaled_rule parts ≡ Some how → by_attempt limit first registers words (Scales how parts) ≡ rule_meaning how first registers words
 scaled-judged limit parts how first registers words says =
     row_outcome-same (row_answer registers words parts) (rule_meaning how first registers words)

@@ -18,12 +18,17 @@ use Rattle.framehop.specs.declared.unwind_result.UnwindResult.TheVariants.{ExecR
 use Rattle.framehop.specs.declared.dwarf.DwarfUnwinderError.TheVariants.{OutOfMemory}
 use Rattle.framehop.specs.declared.error.UnwinderError.{UnwinderError}
 use Rattle.framehop.specs.declared.error.UnwinderError.TheVariants.{Dwarf}
-use Rattle.dwarf_call_frames.specs.Entries.{Fde}
-use Rattle.dwarf_call_frames.specs.Rows.{Row, row_for}
+use Rattle.dwarf_constants.specs.declared.common.Vendor.{Vendor}
+use Rattle.dwarf_constants.specs.declared.common.Vendor.TheVariants.{Default}
+use Rattle.dwarf_readers.specs.Place.{Stretch}
+use Rattle.dwarf_frame_rows.specs.Row.{Row}
+use Rattle.dwarf_frame_sections.specs.Sections.{FrameSection}
+use Rattle.dwarf_frame_entries.specs.Entries.{Fde}
+use Rattle.dwarf_frame_entries.specs.EntryPrograms.{fde_row}
 use Rattle.framehop.specs.ScaledRow.{Parts, scaled_rule, parts_of}
 use Rattle.framehop.specs.EntryFor.{has_index, indexed_entry}
-use Rattle.framehop.specs.ModuleFound.{Loaded, module_found}
-use Rattle.framehop.specs.Attempt.{Attempt, Rules, Scales, Evaluates, Fails, by_rule, by_row, by_fde, by_section, attempt}
+use Rattle.framehop.specs.ModuleFound.{Loaded, module_found, section_of}
+use Rattle.framehop.specs.Attempt.{Attempt, Rules, Scales, Evaluates, Fails, by_rule, by_row, by_fde, by_section, attempt, row_limits}
 use Rattle.framehop.specs.Judge.{is_first, or_else, by_attempt, by_module, judge}
 use Rattle.framehop.specs.DirectRow.{direct_answer}
 use Rattle.framehop.specs.Memory.{HasExpression, MeetsExpression}
@@ -37,26 +42,26 @@ IsExact (Scales rule parts) = scaled_rule parts ≡ Some rule
 IsExact (Evaluates section parts) = Unit {0}
 IsExact (Fails failure) = Unit {0}
 
-exact-rule : (section : List ℕ) (parts : Parts) (rule : Option UnwindRuleX86_64) → scaled_rule parts ≡ rule → IsExact (by_rule section parts rule)
+exact-rule : (section : Stretch) (parts : Parts ℕ) (rule : Option UnwindRuleX86_64) → scaled_rule parts ≡ rule → IsExact (by_rule section parts rule)
 exact-rule section parts (Some rule) is = is
 exact-rule section parts None is = tt
 
-exact-row : (section : List ℕ) (fde : Fde) (row : Result Row dwarf.Error) → IsExact (by_row section fde row)
-exact-row section fde (Ok row) = exact-rule section (parts_of fde.cie.data_alignment_factor row) (scaled_rule (parts_of fde.cie.data_alignment_factor row)) refl
-exact-row section fde (Err e) = tt
+exact-row : (section : Stretch) (row : Result (Row ℕ) dwarf.Error) → IsExact (by_row section row)
+exact-row section (Ok row) = exact-rule section (parts_of row) (scaled_rule (parts_of row)) refl
+exact-row section (Err e) = tt
 
 exact-if : (b : Bool) (x y : Attempt) → IsExact x → IsExact y → IsExact (if b then x else y)
 exact-if true x y h k = h
 exact-if false x y h k = k
 
-exact-fde : (section : List ℕ) (address : ℕ) (fde : Option Fde) → IsExact (by_fde section address fde)
-exact-fde section address None = tt
-exact-fde section address (Some fde) = exact-if (nat_lt address (2 ^ 64)) _ _ (exact-row section fde (row_for fde address)) tt
+exact-fde : (section : FrameSection) (vendor : Vendor) (address : ℕ) (fde : Option Fde) → IsExact (by_fde section vendor address fde)
+exact-fde section vendor address None = tt
+exact-fde section vendor address (Some fde) = exact-if (nat_lt address (2 ^ 64)) _ _ (exact-row section.within.bytes (fde_row row_limits section vendor fde address)) tt
 
-exact-section : (base relative : ℕ) (section : Option (List ℕ)) → IsExact (by_section base relative section)
+exact-section : (base relative : ℕ) (section : Option FrameSection) → IsExact (by_section base relative section)
 exact-section base relative None = tt
 exact-section base relative (Some section) =
-    exact-if (has_index base section) _ _ (exact-fde section (base + relative) (indexed_entry base relative section)) tt
+    exact-if (has_index base section) _ _ (exact-fde section Default (base + relative) (indexed_entry base relative section)) tt
 
 -- what is executed after a failure is the frame pointer's rule
 abbrev pub or_fallback : Result UnwindResult UnwinderError → UnwindResult
@@ -121,7 +126,7 @@ step-found limit modules address lookup relative first m registers left words an
     let is : with_registers left answer ≡ trial limit (is_first address) registers words (attempt m (lookup_address_of address - m.base))
     = answered ∙ ap (λ n. trial limit first registers words (attempt m n)) at ∙ ap (λ b. trial limit b registers words (attempt m (lookup_address_of address - m.base))) kind in
     ap (by_module limit (is_first address) registers words (lookup_address_of address)) here
-    ∙ executed limit (is_first address) registers left words (attempt m (lookup_address_of address - m.base)) answer (exact-section m.base_svma (lookup_address_of address - m.base) m.eh_frame) is keeps
+    ∙ executed limit (is_first address) registers left words (attempt m (lookup_address_of address - m.base)) answer (exact-section m.base_svma (lookup_address_of address - m.base) (section_of m)) is keeps
 
 -- an expression that the module has for an address
 pub step-expression : (modules : List Loaded) (address : FrameAddress) (lookup relative : ℕ) (m : Loaded)

@@ -6,13 +6,17 @@ use Rattle.framehop.specs.declared.cfi_index.IndexedFde.{IndexedFde}
 use Rattle.framehop.specs.declared.cfi_index.DwarfCfiIndexError.{DwarfCfiIndexError}
 use Rattle.framehop.specs.declared.cfi_index.DwarfCfiIndexError.TheVariants.{Gimli, CouldNotSubtractBaseAddress, RelativeAddressTooBig, FdeOffsetTooBig}
 use Rattle.dwarf_constants.specs.declared.error.Error.{Error}
-use Rattle.dwarf_call_frames.specs.Entries.{Fde, Entry, CieEntry, FdeEntry, entries_of, fde_of, whole_fdes}
+use Rattle.dwarf_frame_sections.specs.Sections.{FrameSection}
+use Rattle.dwarf_frame_entries.specs.Entries.{AnyEntry, Fde, fde_of}
+use Rattle.dwarf_frame_entries.specs.EntryLists.{entries_of}
+use Rattle.dwarf_frame_entries.specs.SectionFdes.{whole_fdes}
+use Rattle.dwarf_frame_entries.specs.declared.entries.Entry.TheVariants as which
 use Rattle.framehop.specs.EntryFor.{has_index, indexed_entry}
 use Rattle.lists.specs.Last.{last_of}
 
 -- why an index can't have an FDE, if it can't
 abbrev pub index_refusal : ℕ → Fde → Option DwarfCfiIndexError
-index_refusal base fde = if nat_lt fde.initial_address base then Some CouldNotSubtractBaseAddress else if nat_le (2 ^ 32) (fde.initial_address - base) then Some RelativeAddressTooBig else if nat_le (2 ^ 32) fde.offset then Some FdeOffsetTooBig else None
+index_refusal base fde = if nat_lt fde.initial_address base then Some CouldNotSubtractBaseAddress else if nat_le (2 ^ 32) (fde.initial_address - base) then Some RelativeAddressTooBig else if nat_le (2 ^ 32) fde.head.offset then Some FdeOffsetTooBig else None
 
 -- the same of an FDE that may be refused
 abbrev pub fde_error : ℕ → Result Fde Error → Option DwarfCfiIndexError
@@ -20,9 +24,9 @@ fde_error base (Ok fde) = index_refusal base fde
 fde_error base (Err e) = Some (Gimli e)
 
 -- why an index can't have an item of the section's list, if it can't: a fault, or its FDE
-abbrev pub item_error : ℕ → List ℕ → Result Entry Error → Option DwarfCfiIndexError
-item_error base section (Ok (CieEntry cie)) = None
-item_error base section (Ok (FdeEntry partial)) = fde_error base (fde_of section partial)
+abbrev pub item_error : ℕ → FrameSection → Result AnyEntry Error → Option DwarfCfiIndexError
+item_error base section (Ok (which.Cie cie)) = None
+item_error base section (Ok (which.Fde partial)) = fde_error base (fde_of section.limit section.kind partial)
 item_error base section (Err e) = Some (Gimli e)
 
 -- the first value that a list's elements have
@@ -31,20 +35,20 @@ first_value value [] = None
 first_value value (x ∷ xs) = option_or (value x) (first_value value xs)
 
 -- the error of the first entry of a section against an index
-abbrev pub index_error : ℕ → List ℕ → Option DwarfCfiIndexError
+abbrev pub index_error : ℕ → FrameSection → Option DwarfCfiIndexError
 index_error base section = first_value (item_error base section) (entries_of section)
 
 -- what an index keeps of an FDE: its start relative to the base, and its place
 abbrev pub index_entry : ℕ → Fde → IndexedFde
-index_entry base fde = record { start = fde.initial_address - base; offset = fde.offset }
+index_entry base fde = record { start = fde.initial_address - base; offset = fde.head.offset }
 
 -- the place of the last that starts at or below an address, of those that an index keeps
 abbrev pub offset_in : List IndexedFde → ℕ → Option ℕ
 offset_in kept relative = option_map (λ fde. fde.offset) (last_of (filter (λ fde. nat_le fde.start relative) kept))
 
 -- these are an index of the section: it has one, each address finds its entry, and as many are kept as it has FDEs
-abbrev pub Indexes : List IndexedFde → ℕ → List ℕ → Type 0
+abbrev pub Indexes : List IndexedFde → ℕ → FrameSection → Type 0
 Indexes kept base section =
     (has_index base section ≡ true)
-    × ((relative : ℕ) → offset_in kept relative ≡ option_map (λ fde. fde.offset) (indexed_entry base relative section))
+    × ((relative : ℕ) → offset_in kept relative ≡ option_map (λ fde. fde.head.offset) (indexed_entry base relative section))
     × (length kept ≡ length (whole_fdes section))

@@ -1,6 +1,7 @@
 pub mod Attempt
 pub mod CfiIndex
 pub mod CfiIndexView
+pub mod Columns
 pub mod DirectRow
 pub mod DirectViews
 pub mod EntryFor

@@ -1,24 +1,37 @@
 -- When a step may want memory: where it evaluates an expression whose values lie where memory is taken.
 use Rattle.std.specs.Prelude.{◌≡◌, ◌⊎◌, ℕ, ◌-◌, List, Bool, false, Option, Some, None}
-use Rattle.dwarf_call_frames.specs.declared.rows.CfaRule.{CfaRule}
-use Rattle.dwarf_call_frames.specs.declared.rows.CfaRule.TheVariants.{RegisterAndOffset, Expression}
+use Rattle.dwarf_frame_rows.specs.declared.rules.CfaRule.{CfaRule}
+use Rattle.dwarf_frame_rows.specs.declared.rules.CfaRule.TheVariants as cfa
+use Rattle.dwarf_frame_rows.specs.declared.rules.RegisterRule.{RegisterRule}
+use Rattle.dwarf_frame_rows.specs.declared.rules.RegisterRule.TheVariants as rule
 use Rattle.framehop.specs.Attempt.{Attempt, Rules, Scales, Evaluates, Fails, attempt}
 use Rattle.framehop.specs.ModuleFound.{Loaded, module_found}
+use Rattle.framehop.specs.ScaledRow.{Parts}
 
 -- A stack of values takes memory where it isn't made in place, or where it grows without a limit.
 abbrev pub TakesMemory : Bool → Option ℕ → Type 0
 TakesMemory in_place limit = (in_place ≡ false) ⊎ (limit ≡ None)
 
 -- The CFA is an expression.
-abbrev pub IsExpression : CfaRule → Type 0
-IsExpression (RegisterAndOffset register offset) = ⊥
-IsExpression (Expression expression) = Unit {0}
+abbrev pub IsExpression : {T : Type 0} → CfaRule T → Type 0
+IsExpression (cfa.RegisterAndOffset register offset) = ⊥
+IsExpression (cfa.Expression expression) = Unit {0}
 
--- What a module says of an address is a row to evaluate whose CFA is an expression.
+-- A column is an expression, or the word at one.
+abbrev pub IsColumnExpression : {T : Type 0} → Option (RegisterRule T) → Type 0
+IsColumnExpression (Some (rule.Expression expression)) = Unit {0}
+IsColumnExpression (Some (rule.ValExpression expression)) = Unit {0}
+IsColumnExpression _ = ⊥
+
+-- One of the parts of a row is an expression, or the word at one.
+abbrev pub HasExpressionPart : Parts ℕ → Type 0
+HasExpressionPart parts = IsExpression parts.cfa ⊎ (IsColumnExpression parts.bp ⊎ IsColumnExpression parts.ra)
+
+-- What a module says of an address is a row to evaluate one of whose parts is an expression.
 abbrev pub HasExpression : Attempt → Type 0
 HasExpression (Rules rule) = ⊥
 HasExpression (Scales rule parts) = ⊥
-HasExpression (Evaluates section parts) = IsExpression parts.cfa
+HasExpression (Evaluates section parts) = HasExpressionPart parts
 HasExpression (Fails failure) = ⊥
 
 -- It is, of the module that an address is in.

@@ -12,6 +12,7 @@ module_view module_ = record {
   end = module_.avma_range.end;
   base = module_.base_avma;
   base_svma = module_.base_svma;
+  bases = module_.bases;
   eh_frame = option_map (λ section. section.items) module_.eh_frame;
 }
 

@@ -6,10 +6,8 @@ use Rattle.framehop_rules.specs.Outcome.{Caller}
 use Rattle.framehop_registers.specs.Registers.{ip_of, sp_of, bp_of}
 use Rattle.framehop_rules.specs.RuleMeaning.{caller_registers}
 use Rattle.framehop_registers.specs.declared.x86_64.unwindregs.UnwindRegsX86_64.{UnwindRegsX86_64}
-use Rattle.dwarf_call_frames.specs.declared.rows.CfaRule.{CfaRule}
-use Rattle.dwarf_call_frames.specs.declared.rows.CfaRule.TheVariants.{RegisterAndOffset, Expression}
-use Rattle.dwarf_call_frames.specs.declared.rows.RegisterRule.{RegisterRule}
-use Rattle.dwarf_call_frames.specs.declared.rows.RegisterRule.TheVariants as rule
+use Rattle.dwarf_frame_rows.specs.declared.rules.RegisterRule.{RegisterRule}
+use Rattle.framehop.specs.Columns.{Sources, cfa_by, column_by}
 use Rattle.framehop.specs.ScaledRow.{Parts, RBP, RSP, RA}
 
 -- the value of a register that a step knows
@@ -29,28 +27,24 @@ in_range (negsuc n) = None
 abbrev pub plus : ℕ → ℤ → Option ℕ
 plus base offset = in_range (pos base +ℤ offset)
 
--- the canonical frame address, where it counts from a register
-abbrev pub cfa_value : UnwindRegsX86_64 → CfaRule → Option ℕ
-cfa_value registers (RegisterAndOffset register offset) =
-    option_and_then (λ base. plus base offset) (value_of registers register)
-cfa_value registers (Expression expression) = None
-
--- what a column gives at a CFA
-abbrev pub column_value : Words → ℕ → RegisterRule → Option ℕ
-column_value words cfa (rule.Offset offset) = option_and_then words (plus cfa offset)
+-- what a row that a rule says is worked out by: none of its parts is an expression
+abbrev pub whole_sources : UnwindRegsX86_64 → Sources
+whole_sources registers = record { sum = plus; registers = value_of registers; value = λ expression. None }
 
 -- the caller with a CFA and a return address: the CFA is its stack pointer, its RBP is what the column gives, or stays
-abbrev pub caller_from : UnwindRegsX86_64 → Words → Option RegisterRule → ℕ → ℕ → Caller UnwindRegsX86_64
+abbrev pub caller_from : UnwindRegsX86_64 → Words → Option (RegisterRule ℕ) → ℕ → ℕ → Caller UnwindRegsX86_64
 caller_from registers words bp cfa return_address = record {
   return_address = return_address;
-  registers = caller_registers registers return_address cfa (unwrap_or (option_and_then (column_value words cfa) bp) (bp_of registers));
+  registers = caller_registers registers return_address cfa
+      (unwrap_or (option_and_then (column_by (whole_sources registers) words cfa (bp_of registers)) bp) (bp_of registers));
 }
 
 -- the caller at a CFA, where its return address can be read
-abbrev pub caller_at : UnwindRegsX86_64 → Words → Parts → ℕ → Option (Caller UnwindRegsX86_64)
+abbrev pub caller_at : UnwindRegsX86_64 → Words → Parts ℕ → ℕ → Option (Caller UnwindRegsX86_64)
 caller_at registers words parts cfa =
-    option_map (caller_from registers words parts.bp cfa) (option_and_then (column_value words cfa) parts.ra)
+    option_map (caller_from registers words parts.bp cfa)
+    (option_and_then (column_by (whole_sources registers) words cfa (ip_of registers)) parts.ra)
 
 -- the row's answer, where it has a CFA and a return address
-abbrev pub row_answer : UnwindRegsX86_64 → Words → Parts → Option (Caller UnwindRegsX86_64)
-row_answer registers words parts = option_and_then (caller_at registers words parts) (cfa_value registers parts.cfa)
+abbrev pub row_answer : UnwindRegsX86_64 → Words → Parts ℕ → Option (Caller UnwindRegsX86_64)
+row_answer registers words parts = option_and_then (caller_at registers words parts) (cfa_by (whole_sources registers) parts.cfa)

@@ -1,15 +1,17 @@
-//! The index of a section `.eh_frame`: which entry is for an address.
+//! The index of a section of call frames: which entry is for an address.
 
-ghost use Rattle.std.specs.Prelude.{◌≡◌, ◌≢◌, ◌<◌, ◌≤◌, ◌^◌, ℕ, suc, List, None, Some, option_map, map, length, codes, Result, Ok, Err, IfOk, IfErr};
+ghost use Rattle.std.specs.Prelude.{◌≡◌, ◌≢◌, ◌<◌, ◌≤◌, ◌^◌, ℕ, suc, None, Some, option_map, map, length, codes, Result, Ok, Err, IfOk, IfErr};
 ghost use Rattle.std.specs.List.Sorted.{IsNonDecreasingBy, IsPartitionPoint};
-ghost use Rattle.dwarf_call_frames.specs.Entries.{whole_fdes};
-ghost use Rattle.dwarf_call_frames.specs.EntryViews.{section_bytes, fde_view};
+ghost use Rattle.dwarf_frame_sections.specs.Sections.{FrameSection, frame_section};
+ghost use Rattle.dwarf_frame_entries.specs.SectionFdes.{whole_fdes};
 ghost use Rattle.framehop.specs.EntryFor.{indexed_entry};
+ghost use Rattle.framehop.specs.ModuleFound.{eh_frame_of};
 ghost use Rattle.framehop.specs.CfiIndex.{index_refusal, index_entry, index_error};
 ghost use Rattle.framehop.specs.declared.cfi_index.DwarfCfiIndexError.TheVariants.{OutOfMemory};
 
-use dwarf_call_frames::{CieOrFde, EhFrame, FrameDescriptionEntry};
-use dwarf_read_core::Error;
+use crate::dwarf::whole_fde;
+use dwarf_frame_entries::{BaseAddresses, EhFrame, Entry, FrameDescriptionEntry, UnwindSection};
+use dwarf_read_core::{Error, LittleEndian, Reader, ReaderOffset};
 use std::alloc::{AllocError, Global};
 use std::{error, fmt};
 
@@ -80,10 +82,13 @@ struct IndexedFde {
 }
 
 /// What the index keeps of an FDE, if it can have it.
-fn indexed(fde: &FrameDescriptionEntry, base_svma: u64) -> Result<IndexedFde, DwarfCfiIndexError>
-    ensures kept { IfOk result (λ kept. kept ≡ index_entry base_svma (fde_view fde.now)) }
-    ensures fits { IfOk result (λ kept. index_refusal base_svma (fde_view fde.now) ≡ None) }
-    ensures unfit { IfErr result (λ error. index_refusal base_svma (fde_view fde.now) ≡ Some error) }
+fn indexed<R: Reader>(
+    fde: &FrameDescriptionEntry<R>,
+    base_svma: u64,
+) -> Result<IndexedFde, DwarfCfiIndexError>
+    ensures kept { IfOk result (λ kept. kept ≡ index_entry base_svma fde.now) }
+    ensures fits { IfOk result (λ kept. index_refusal base_svma fde.now ≡ None) }
+    ensures unfit { IfErr result (λ error. index_refusal base_svma fde.now ≡ Some error) }
 {
     let start = fde
         .initial_address()
@@ -92,34 +97,39 @@ fn indexed(fde: &FrameDescriptionEntry, base_svma: u64) -> Result<IndexedFde, Dw
     let Ok(start) = u32::try_from(start) else {
         return Err(DwarfCfiIndexError::RelativeAddressTooBig);
     };
-    let Ok(offset) = u32::try_from(fde.offset()) else {
+    let Ok(offset) = u32::try_from(fde.offset().into_u64()) else {
         return Err(DwarfCfiIndexError::FdeOffsetTooBig);
     };
     Ok(IndexedFde { start, offset })
 }
 
 /// What the index keeps of a section's FDEs, in their order.
-fn indexed_fdes(
+fn indexed_fdes<R: Reader, Section: UnwindSection<R>>(
     alloc: Global,
-    section: &EhFrame,
+    section: &Section,
+    bases: &BaseAddresses,
     base_svma: u64,
 ) -> Result<Vec<IndexedFde>, DwarfCfiIndexError>
-    ensures kept { IfOk result (λ kept.
-        kept.items ≡ map (index_entry base_svma) (whole_fdes (section_bytes section.now))) }
-    ensures index { IfOk result (λ kept. index_error base_svma (section_bytes section.now) ≡ None) }
-    ensures error { IfErr result (λ error. error ≢ OutOfMemory
-        → index_error base_svma (section_bytes section.now) ≡ Some error) }
+    ensures kept { IfOk result (λ kept. kept.items ≡ map (index_entry base_svma)
+        (whole_fdes (frame_section R.Offset.limit Section.kind (Section.size section.now)
+        (R.stretch (Section.reader section.now)) bases.now))) }
+    ensures index { IfOk result (λ kept. index_error base_svma
+        (frame_section R.Offset.limit Section.kind (Section.size section.now)
+        (R.stretch (Section.reader section.now)) bases.now) ≡ None) }
+    ensures error { IfErr result (λ error. error ≢ OutOfMemory → index_error base_svma
+        (frame_section R.Offset.limit Section.kind (Section.size section.now)
+        (R.stretch (Section.reader section.now)) bases.now) ≡ Some error) }
 {
     let mut fdes = Vec::new(alloc);
-    let mut entries = section.entries();
+    let mut entries = section.entries(bases);
     'entries: loop {
         let Some(entry) = entries.next()? else {
             return Ok(fdes);
         };
-        let CieOrFde::Fde(partial) = entry else {
+        let Entry::Fde(partial) = entry else {
             continue;
         };
-        let fde = partial.parse(section)?;
+        let fde = whole_fde(section, &partial)?;
         let kept = indexed(&fde, base_svma)?;
         if fdes.push(kept).is_err() {
             return Err(DwarfCfiIndexError::OutOfMemory);
@@ -180,30 +190,56 @@ pub struct DwarfCfiIndex {
 impl DwarfCfiIndex {
     ghost use Rattle.framehop.specs.CfiIndexView.{IsIndexOf};
 
-    /// The index of a section, whose starts count from `base_svma`. Fails at the first entry that
-    /// doesn't parse or that an index can't have, and where memory is refused.
-    pub fn try_new_eh_frame(
+    /// The index of a section, whose starts count from `base_svma`; the section's pointers count from
+    /// `bases`. Fails at the first entry that doesn't parse or that an index can't have, and where
+    /// memory is refused.
+    pub fn try_new<R: Reader, Section: UnwindSection<R>>(
         alloc: Global,
-        section: &EhFrame,
+        section: &Section,
+        bases: &BaseAddresses,
         base_svma: u64,
     ) -> Result<Self, DwarfCfiIndexError>
-        ensures index { IfOk result (λ index. IsIndexOf index base_svma (section_bytes section.now)) }
-        ensures none_against { IfOk result (λ index. index_error base_svma (section_bytes section.now) ≡ None) }
-        ensures error { IfErr result (λ error. error ≢ OutOfMemory
-            → index_error base_svma (section_bytes section.now) ≡ Some error) }
+        ensures index { IfOk result (λ index. IsIndexOf index base_svma
+            (frame_section R.Offset.limit Section.kind (Section.size section.now)
+            (R.stretch (Section.reader section.now)) bases.now)) }
+        ensures none_against { IfOk result (λ index. index_error base_svma
+            (frame_section R.Offset.limit Section.kind (Section.size section.now)
+            (R.stretch (Section.reader section.now)) bases.now) ≡ None) }
+        ensures error { IfErr result (λ error. error ≢ OutOfMemory → index_error base_svma
+            (frame_section R.Offset.limit Section.kind (Section.size section.now)
+            (R.stretch (Section.reader section.now)) bases.now) ≡ Some error) }
     {
-        let mut fdes = indexed_fdes(alloc, section, base_svma)?;
+        let mut fdes = indexed_fdes(alloc, section, bases, base_svma)?;
         fdes.reverse();
         fdes.sort_by_key(|fde| fde.start)?;
         Ok(DwarfCfiIndex { fdes })
+    }
+
+    /// The index of a section `.eh_frame` of these bytes, as `try_new` makes it. The low byte of a number
+    /// comes first, and addresses have 8 bytes.
+    pub fn try_new_eh_frame(
+        alloc: Global,
+        eh_frame_data: &[u8],
+        bases: &BaseAddresses,
+        base_svma: u64,
+    ) -> Result<Self, DwarfCfiIndexError>
+        ensures index { IfOk result (λ index.
+            IsIndexOf index base_svma (eh_frame_of bases.now eh_frame_data.now)) }
+        ensures none_against { IfOk result (λ index.
+            index_error base_svma (eh_frame_of bases.now eh_frame_data.now) ≡ None) }
+        ensures error { IfErr result (λ error. error ≢ OutOfMemory
+            → index_error base_svma (eh_frame_of bases.now eh_frame_data.now) ≡ Some error) }
+    {
+        let section = EhFrame::new(eh_frame_data, LittleEndian);
+        DwarfCfiIndex::try_new(alloc, &section, bases, base_svma)
     }
 
     /// Where the FDE for an address relative to the base stands, in bytes from the section's start:
     /// of those with the greatest start at or below it the first in the section. `None` where each
     /// starts above. Reads at most ceil(log2(n)) + 1 of the n starts.
     pub fn fde_offset_for_relative_address(&self, rel_lookup_address: u32) -> Option<u32>
-        ensures { (base_svma : ℕ) (section : List ℕ) → IsIndexOf self.now base_svma section
-            → result ≡ option_map (λ fde. fde.offset) (indexed_entry base_svma rel_lookup_address section) }
+        ensures { (base_svma : ℕ) (section : FrameSection) → IsIndexOf self.now base_svma section
+            → result ≡ option_map (λ fde. fde.head.offset) (indexed_entry base_svma rel_lookup_address section) }
     {
         self.look_up(rel_lookup_address).fde_offset
     }
@@ -211,11 +247,11 @@ impl DwarfCfiIndex {
     /// As `fde_offset_for_relative_address`, with the number of starts that were read: of n at most
     /// ceil(log2(n)) + 1, and at least floor(log2(n + 1)).
     pub fn look_up(&self, rel_lookup_address: u32) -> LookUp
-        ensures found { (base_svma : ℕ) (section : List ℕ) → IsIndexOf self.now base_svma section
-            → result.fde_offset ≡ option_map (λ fde. fde.offset) (indexed_entry base_svma rel_lookup_address section) }
-        ensures few { (base_svma : ℕ) (section : List ℕ) → IsIndexOf self.now base_svma section
+        ensures found { (base_svma : ℕ) (section : FrameSection) → IsIndexOf self.now base_svma section
+            → result.fde_offset ≡ option_map (λ fde. fde.head.offset) (indexed_entry base_svma rel_lookup_address section) }
+        ensures few { (base_svma : ℕ) (section : FrameSection) → IsIndexOf self.now base_svma section
             → (k : ℕ) → length (whole_fdes section) ≤ 2 ^ k → result.starts_read ≤ suc k }
-        ensures counted { (base_svma : ℕ) (section : List ℕ) → IsIndexOf self.now base_svma section
+        ensures counted { (base_svma : ℕ) (section : FrameSection) → IsIndexOf self.now base_svma section
             → (k : ℕ) → 2 ^ k ≤ suc (length (whole_fdes section)) → k ≤ result.starts_read }
     {
         let halved = halve(&self.fdes, rel_lookup_address);

@@ -1,16 +1,19 @@
 //! The values of a row's CFA and columns, where no unwind rule says the row (DWARF 5, 6.4.1).
 
-ghost use Rattle.std.specs.Prelude.{◌≡◌, ◌≢◌, ℕ, None, Option, IfErr, IfOk, option_and_then};
+ghost use Rattle.std.specs.Prelude.{◌≡◌, ◌≢◌, ℕ, None, Some, Option, IfErr, IfOk, option_and_then, option_map};
 ghost use Rattle.dwarf_constants.specs.declared.common.Register.{Register};
 ghost use Rattle.dwarf_expressions.specs.Evaluation.{Ready, state_reached, first_machine};
 ghost use Rattle.framehop_registers.specs.Callback.{OverWords};
-ghost use Rattle.framehop.specs.DirectRow.{sum_of, direct_cfa, stored_at, direct_column, word_below};
+ghost use Rattle.dwarf_frame_programs.specs.InstructionViews.{expression_as};
+ghost use Rattle.dwarf_frame_programs.specs.StateViews.{cfa_as, rule_as};
+ghost use Rattle.framehop.specs.Columns.{cfa_by, column_by, found_by, found_in};
+ghost use Rattle.framehop.specs.DirectRow.{direct_sources, sum_of, value_in, word_below};
 ghost use Rattle.framehop.specs.ExpressionValue.{program_of, value_from};
-ghost use Rattle.framehop.specs.Memory.{IsExpression, TakesMemory};
-ghost use Rattle.dwarf_call_frames.specs.EntryViews.{section_bytes};
+ghost use Rattle.framehop.specs.Memory.{IsColumnExpression, IsExpression, TakesMemory};
 
-use dwarf_call_frames::{CfaRule, EhFrame, RegisterRule};
 use dwarf_expressions::{Evaluation, EvaluationResult, EvaluationStorage, Expression, Value};
+use dwarf_frame_entries::_UnwindSectionPrivate;
+use dwarf_frame_rows::{CfaRule, RegisterRule, UnwindExpression};
 use dwarf_read_core::{Encoding, Error, Format, Reader, Register};
 use std::alloc::{AllocError, Global};
 
@@ -81,6 +84,30 @@ fn eval_expression<S: EvaluationStorage, R: Reader, G: DwarfUnwindRegs>(
     }
 }
 
+/// The value of an expression of a section, each register that it asks for having its value in the
+/// frame. There is none where its bytes aren't there, or where `eval_expression` has none.
+fn eval_expression_in<
+    S: EvaluationStorage,
+    R: Reader,
+    Section: _UnwindSectionPrivate<R>,
+    G: DwarfUnwindRegs,
+>(
+    alloc: Global,
+    section: &Section,
+    expression: UnwindExpression<R::Offset>,
+    regs: &G,
+) -> Result<Option<u64>, AllocError>
+    ensures value { IfOk result (λ value. value ≡ value_in S.Stack.capacity
+        (R.stretch (Section.reader section.now)) (G.value_of regs.now)
+        (expression_as R.Offset.value expression)) }
+    ensures memory { IfErr result (λ _. TakesMemory S.Stack.is_made_in_place S.Stack.capacity) }
+{
+    match expression.get(section) {
+        Ok(expression) => eval_expression::<S, R, G>(alloc, expression, regs),
+        Err(_) => Ok(None),
+    }
+}
+
 /// A register's value plus an offset in bytes, where it has a value.
 fn offset_value<G: DwarfUnwindRegs>(register: Register, offset: i64, regs: &G) -> Option<u64>
     ensures { result ≡ option_and_then (λ base. sum_of base offset) (G.value_of regs.now register) }
@@ -90,50 +117,127 @@ fn offset_value<G: DwarfUnwindRegs>(register: Register, offset: i64, regs: &G) -
 
 /// The canonical frame address, where it has a value. Only the values of an expression may want
 /// memory.
-pub(crate) fn eval_cfa_rule<S: EvaluationStorage, G: DwarfUnwindRegs>(
+pub(crate) fn eval_cfa_rule<
+    S: EvaluationStorage,
+    R: Reader,
+    Section: _UnwindSectionPrivate<R>,
+    G: DwarfUnwindRegs,
+>(
     alloc: Global,
-    section: &EhFrame,
-    rule: CfaRule,
+    section: &Section,
+    rule: CfaRule<R::Offset>,
     regs: &G,
 ) -> Result<Option<u64>, AllocError>
-    ensures value { IfOk result (λ cfa. cfa
-        ≡ direct_cfa S.Stack.capacity (section_bytes section.now) (G.value_of regs.now) rule) }
-    ensures expression { IfErr result (λ _. IsExpression rule) }
+    ensures value { IfOk result (λ cfa. cfa ≡ cfa_by (direct_sources S.Stack.capacity
+        (R.stretch (Section.reader section.now)) (G.value_of regs.now))
+        (cfa_as R.Offset.value rule)) }
+    ensures expression { IfErr result (λ _. IsExpression (cfa_as R.Offset.value rule)) }
     ensures memory { IfErr result (λ _. TakesMemory S.Stack.is_made_in_place S.Stack.capacity) }
 {
     match rule {
         CfaRule::RegisterAndOffset { register, offset } => Ok(offset_value(register, offset, regs)),
-        CfaRule::Expression(expression) => match expression.get(section) {
-            Ok(expression) => eval_expression::<S, _, G>(alloc, expression, regs),
-            Err(_) => Ok(None),
-        },
+        CfaRule::Expression(expression) => {
+            eval_expression_in::<S, R, Section, G>(alloc, section, expression, regs)
+        }
     }
 }
 
-/// Where a column is stored at a CFA, if it is.
-fn stored_at(rule: Option<RegisterRule>, cfa: u64) -> Option<u64>
-    ensures { result ≡ option_and_then (stored_at cfa) rule }
+/// Where the value of a column is found.
+#[derive(Debug, Clone, Copy, PartialEq, Eq)]
+pub(crate) enum Found {
+    /// It is this number.
+    Value(u64),
+    /// It is the word of the stack at this address.
+    Word(u64),
+}
+
+/// Where the value of a column is found, if it has one, at a CFA; `own` is the value that the
+/// column's register has in the frame. Only the values of an expression may want memory.
+fn find_column<
+    S: EvaluationStorage,
+    R: Reader,
+    Section: _UnwindSectionPrivate<R>,
+    G: DwarfUnwindRegs,
+>(
+    alloc: Global,
+    section: &Section,
+    rule: RegisterRule<R::Offset>,
+    cfa: u64,
+    own: u64,
+    regs: &G,
+) -> Result<Option<Found>, AllocError>
+    ensures value { IfOk result (λ found. found ≡ found_by (direct_sources S.Stack.capacity
+        (R.stretch (Section.reader section.now)) (G.value_of regs.now)) cfa own
+        (rule_as R.Offset.value rule)) }
+    ensures expression { IfErr result (λ _.
+        IsColumnExpression (Some (rule_as R.Offset.value rule))) }
+    ensures memory { IfErr result (λ _. TakesMemory S.Stack.is_made_in_place S.Stack.capacity) }
 {
     match rule {
-        Some(RegisterRule::Offset(offset)) => offset_sum(cfa, offset),
-        None => None,
+        RegisterRule::Undefined | RegisterRule::Architectural | RegisterRule::Constant(_) => {
+            Ok(None)
+        }
+        RegisterRule::SameValue => Ok(Some(Found::Value(own))),
+        RegisterRule::Offset(offset) => Ok(offset_sum(cfa, offset).map(Found::Word)),
+        RegisterRule::ValOffset(offset) => Ok(offset_sum(cfa, offset).map(Found::Value)),
+        RegisterRule::Register(register) => Ok(regs.get(register).map(Found::Value)),
+        RegisterRule::Expression(expression) => {
+            let at = eval_expression_in::<S, R, Section, G>(alloc, section, expression, regs)?;
+            Ok(at.map(Found::Word))
+        }
+        RegisterRule::ValExpression(expression) => {
+            let value = eval_expression_in::<S, R, Section, G>(alloc, section, expression, regs)?;
+            Ok(value.map(Found::Value))
+        }
     }
 }
 
-/// What a column gives at a CFA, where it gives a value: the word that is stored at its offset.
-pub(crate) fn eval_register_rule<F: FnMut(u64) -> Result<u64, ()>>(
-    rule: Option<RegisterRule>,
-    cfa: u64,
-    read_stack: &mut F,
-) -> Option<u64>
+/// What is found, if the word can be read.
+fn read_found<F: FnMut(u64) -> Result<u64, ()>>(found: Found, read_stack: &mut F) -> Option<u64>
     requires { F.IsAlwaysCallable read_stack.old }
     ensures callable { F.IsAlwaysCallable read_stack.new }
     ensures value { OverWords F.step read_stack.old read_stack.new (λ words.
-        result ≡ option_and_then (direct_column words cfa) rule) }
+        result ≡ found_in words found) }
 {
-    match stored_at(rule, cfa) {
-        Some(at) => read_at(read_stack, at),
-        None => None,
+    match found {
+        Found::Value(value) => Some(value),
+        Found::Word(at) => read_at(read_stack, at),
+    }
+}
+
+/// What a column gives at a CFA, where it gives a value; `own` is the value that the column's
+/// register has in the frame. Only the values of an expression may want memory.
+pub(crate) fn eval_register_rule<
+    S: EvaluationStorage,
+    R: Reader,
+    Section: _UnwindSectionPrivate<R>,
+    G: DwarfUnwindRegs,
+    F: FnMut(u64) -> Result<u64, ()>,
+>(
+    alloc: Global,
+    section: &Section,
+    rule: Option<RegisterRule<R::Offset>>,
+    cfa: u64,
+    own: u64,
+    regs: &G,
+    read_stack: &mut F,
+) -> Result<Option<u64>, AllocError>
+    requires { F.IsAlwaysCallable read_stack.old }
+    ensures callable { F.IsAlwaysCallable read_stack.new }
+    ensures value { OverWords F.step read_stack.old read_stack.new (λ words.
+        IfOk result (λ value. value ≡ option_and_then (column_by (direct_sources S.Stack.capacity
+        (R.stretch (Section.reader section.now)) (G.value_of regs.now)) words cfa own)
+        (option_map (rule_as R.Offset.value) rule))) }
+    ensures expression { IfErr result (λ _.
+        IsColumnExpression (option_map (rule_as R.Offset.value) rule)) }
+    ensures memory { IfErr result (λ _. TakesMemory S.Stack.is_made_in_place S.Stack.capacity) }
+{
+    let Some(rule) = rule else {
+        return Ok(None);
+    };
+    match find_column::<S, R, Section, G>(alloc, section, rule, cfa, own, regs)? {
+        Some(found) => Ok(read_found(found, read_stack)),
+        None => Ok(None),
     }
 }
 

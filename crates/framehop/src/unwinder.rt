@@ -3,13 +3,16 @@
 ghost use Rattle.std.specs.Prelude.{◌≡◌, ◌≢◌, ◌-◌, Err, [], option_map, IfSome, IfNone, IfOk, IfErr, OnOk, OnErr, MatchOption};
 ghost use Rattle.std.specs.List.Sorted.{IsNonDecreasingBy};
 ghost use Rattle.framehop.specs.CfiIndexView.{IsIndexed, IsUnindexed};
+ghost use Rattle.framehop.specs.ModuleFound.{eh_frame_of};
 
 use crate::cfi_index::{DwarfCfiIndex, DwarfCfiIndexError};
 use crate::dwarf::{indexed_fde, lookup_address, unwind_frame_with_fde};
 use crate::error::UnwinderError;
 use crate::unwind_result::UnwindResult;
-use dwarf_call_frames::{EhFrame, UnwindContext};
 use dwarf_expressions::EvaluationStorage;
+use dwarf_frame_entries::{BaseAddresses, EhFrame, UnwindContext};
+use dwarf_frame_rows::StoreOnHeap;
+use dwarf_read_core::{EndianSlice, LittleEndian};
 use framehop_rules::x86_64::UnwindRegsX86_64;
 use std::alloc::{AllocError, AllocFailed, Global};
 use std::ops::Range;
@@ -24,30 +27,33 @@ pub struct Module {
     avma_range: Range<u64>,
     base_avma: u64,
     base_svma: u64,
+    bases: BaseAddresses,
     eh_frame: Option<Vec<u8>>,
     index: Option<DwarfCfiIndex>,
     // the index is that of the section
-    ghost indexed: { IsIndexed index base_svma (option_map (λ section. section.items) eh_frame) },
+    ghost indexed: { IsIndexed index base_svma
+        (option_map (λ section. eh_frame_of bases section.items) eh_frame) },
     // there is none only where there is no section, or one without an index
-    ghost unindexed: { IsUnindexed index base_svma (option_map (λ section. section.items) eh_frame) },
+    ghost unindexed: { IsUnindexed index base_svma
+        (option_map (λ section. eh_frame_of bases section.items) eh_frame) },
 }
 
 /// The index of a module's section, if it has a section, and that an index.
 fn index_of(
     alloc: Global,
     eh_frame: &Option<Vec<u8>>,
+    bases: &BaseAddresses,
     base_svma: u64,
 ) -> Result<Option<DwarfCfiIndex>, AllocError>
-    ensures indexed { IfOk result (λ index.
-        IsIndexed index base_svma (option_map (λ section. section.items) eh_frame.now)) }
-    ensures unindexed { IfOk result (λ index.
-        IsUnindexed index base_svma (option_map (λ section. section.items) eh_frame.now)) }
+    ensures indexed { IfOk result (λ index. IsIndexed index base_svma
+        (option_map (λ section. eh_frame_of bases.now section.items) eh_frame.now)) }
+    ensures unindexed { IfOk result (λ index. IsUnindexed index base_svma
+        (option_map (λ section. eh_frame_of bases.now section.items) eh_frame.now)) }
 {
     let Some(section) = eh_frame else {
         return Ok(None);
     };
-    let section = EhFrame::new(section.as_slice());
-    match DwarfCfiIndex::try_new_eh_frame(alloc, &section, base_svma) {
+    match DwarfCfiIndex::try_new_eh_frame(alloc, section.as_slice(), bases, base_svma) {
         Ok(index) => Ok(Some(index)),
         Err(error) => match error {
             DwarfCfiIndexError::OutOfMemory => Err(AllocError),
@@ -67,27 +73,31 @@ impl Module {
     ghost use Rattle.framehop.specs.UnwindResults.{trial, with_registers, KeepsUnlessDirect, HasValidRule};
 
     /// A module at a range of AVMAs, whose base is at `base_avma` and is called `base_svma` by its
-    /// sections, with the bytes of its section `.eh_frame`, if it has one. A section without an
-    /// index says nothing of any address. Fails where memory for the index is refused.
+    /// sections, with the bytes of its section `.eh_frame`, if it has one, and the SVMAs that pointers
+    /// in it count from. A section without an index says nothing of any address. Fails where memory for
+    /// the index is refused.
     pub fn new(
         alloc: Global,
         avma_range: Range<u64>,
         base_avma: u64,
         base_svma: u64,
+        bases: BaseAddresses,
         eh_frame: Option<Vec<u8>>,
     ) -> Result<Self, AllocError>
         ensures start { IfOk result (λ module_. (module_view module_).start ≡ avma_range.start) }
         ensures end { IfOk result (λ module_. (module_view module_).end ≡ avma_range.end) }
         ensures base { IfOk result (λ module_. (module_view module_).base ≡ base_avma) }
         ensures base_svma { IfOk result (λ module_. (module_view module_).base_svma ≡ base_svma) }
+        ensures bases { IfOk result (λ module_. (module_view module_).bases ≡ bases) }
         ensures eh_frame { IfOk result (λ module_.
             (module_view module_).eh_frame ≡ option_map (λ section. section.items) eh_frame) }
     {
-        let index = index_of(alloc, &eh_frame, base_svma)?;
+        let index = index_of(alloc, &eh_frame, &bases, base_svma)?;
         Ok(Module {
             avma_range,
             base_avma,
             base_svma,
+            bases,
             eh_frame,
             index,
         })
@@ -138,7 +148,7 @@ impl Module {
         relative_address: u32,
         is_first_frame: bool,
         regs: &mut UnwindRegsX86_64,
-        context: &mut UnwindContext,
+        context: &mut UnwindContext<usize, StoreOnHeap>,
         read_stack: &mut F,
     ) -> Result<UnwindResult, UnwinderError>
         requires { F.IsAlwaysCallable read_stack.old }
@@ -160,14 +170,15 @@ impl Module {
         let Some(index) = &self.index else {
             return Err(UnwinderError::NoModuleUnwindData);
         };
-        let section = EhFrame::new(section.as_slice());
-        let Some(fde) = indexed_fde(&section, index, relative_address) else {
+        let section = EhFrame::new(section.as_slice(), LittleEndian);
+        let Some(fde) = indexed_fde(&section, &self.bases, index, relative_address) else {
             return Err(UnwinderError::DwarfCfiIndexCouldNotFindAddress);
         };
         let address = lookup_address(self.base_svma, relative_address)?;
-        unwind_frame_with_fde::<S, F>(
+        unwind_frame_with_fde::<S, EndianSlice<'_, LittleEndian>, _, F>(
             alloc,
             &section,
+            &self.bases,
             &fde,
             address,
             is_first_frame,

@@ -1,9 +1,15 @@
 //! Look-ups of an index, compared with a pass over the whole section.
-use dwarf_call_frames::{CieOrFde, EhFrame, FrameDescriptionEntry};
-use dwarf_read_core::Error;
+use dwarf_frame_entries::{BaseAddresses, EhFrame, Entry, FrameDescriptionEntry, UnwindSection};
+use dwarf_read_core::{EndianSlice, Error, LittleEndian};
 use framehop::{DwarfCfiIndex, DwarfCfiIndexError};
 use std::alloc::Global;
 use std::test::Fail;
+
+/// A section with its bytes in place.
+type Section<'a> = EhFrame<EndianSlice<'a, LittleEndian>>;
+
+/// An FDE of one.
+type Fde<'a> = FrameDescriptionEntry<EndianSlice<'a, LittleEndian>>;
 
 const BASE: u64 = 0x40_0000;
 
@@ -35,32 +41,39 @@ fn scrambled(alloc: Global, count: u64) -> Result<Vec<u64>, Fail> {
     Ok(starts)
 }
 
+/// Where an FDE starts, and where it stands.
+#[derive(Debug, Clone, Copy)]
+struct Placed {
+    start: u64,
+    offset: usize,
+}
+
 /// The later start of two entries at or below an address, or the earlier entry where they are equal.
-fn nearer<'a>(
-    nearest: Option<FrameDescriptionEntry<'a>>,
-    fde: FrameDescriptionEntry<'a>,
-    address: u64,
-) -> Option<FrameDescriptionEntry<'a>> {
-    if fde.initial_address() > address {
+fn nearer(nearest: Option<Placed>, fde: Placed, address: u64) -> Option<Placed> {
+    if fde.start > address {
         return nearest;
     }
     match nearest {
-        Some(found) if found.initial_address() >= fde.initial_address() => Some(found),
+        Some(found) if found.start >= fde.start => Some(found),
         _ => Some(fde),
     }
 }
 
 /// The FDEs of a section, in their order.
-fn fdes_of<'a>(
-    alloc: Global,
-    section: &EhFrame<'a>,
-) -> Result<Vec<FrameDescriptionEntry<'a>>, Fail> {
+fn fdes_of(alloc: Global, section: &Section<'_>) -> Result<Vec<Placed>, Fail> {
     let mut fdes = Vec::new(alloc);
-    let mut entries = section.entries();
+    let bases = BaseAddresses::default();
+    let mut entries = section.entries(&bases);
     for _ in 0..u64::MAX {
         match entries.next()? {
-            Some(CieOrFde::Fde(partial)) => fdes.push(partial.parse(section)?)?,
-            Some(CieOrFde::Cie(_)) => {}
+            Some(Entry::Fde(partial)) => {
+                let fde: Fde<'_> = partial.parse(UnwindSection::cie_from_offset)?;
+                fdes.push(Placed {
+                    start: fde.initial_address(),
+                    offset: fde.offset(),
+                })?;
+            }
+            Some(Entry::Cie(_)) => {}
             None => break,
         }
     }
@@ -68,21 +81,27 @@ fn fdes_of<'a>(
 }
 
 /// Where the entry for an address stands, by one pass over the section's FDEs.
-fn plain_pass(fdes: &[FrameDescriptionEntry], address: u64) -> Option<u64> {
+fn plain_pass(fdes: &[Placed], address: u64) -> Option<usize> {
     let mut nearest = None;
     for fde in fdes {
         nearest = nearer(nearest, *fde, address);
     }
-    nearest.map(|fde| fde.offset())
+    nearest.map(|fde| fde.offset)
+}
+
+/// The index of a section whose addresses count from the base.
+fn index_of(alloc: Global, bytes: &[u8], base: u64) -> Result<DwarfCfiIndex, Fail> {
+    let bases = BaseAddresses::default();
+    let index = DwarfCfiIndex::try_new_eh_frame(alloc, bytes, &bases, base)?;
+    Ok(index)
 }
 
 /// The look-ups that differ from the plain pass, at and beside each start of a section of so many FDEs.
 fn differing(rt: &HostRuntime, count: u64) -> Result<u64, Fail> {
     let starts = scrambled(rt.alloc(), count)?;
     let bytes = section_of(rt.alloc(), &starts)?;
-    let section = EhFrame::new(&bytes);
-    let index = DwarfCfiIndex::try_new_eh_frame(rt.alloc(), &section, BASE)?;
-    let fdes = fdes_of(rt.alloc(), &section)?;
+    let index = index_of(rt.alloc(), &bytes, BASE)?;
+    let fdes = fdes_of(rt.alloc(), &EhFrame::new(&bytes, LittleEndian))?;
     let mut differing: u64 = 0;
     for start in &starts {
         let first = u32::try_from(start.wrapping_sub(BASE))
@@ -91,7 +110,7 @@ fn differing(rt: &HostRuntime, count: u64) -> Result<u64, Fail> {
         for relative in first..first.saturating_add(3) {
             let found = index.fde_offset_for_relative_address(relative);
             let wanted = plain_pass(&fdes, BASE.wrapping_add(u64::from(relative)));
-            if found.map(|offset| u64::from(offset)) != wanted {
+            if found.map(|offset| offset as usize) != wanted {
                 differing = differing.wrapping_add(1);
             }
         }
@@ -110,7 +129,7 @@ fn look_ups_are_those_of_a_plain_pass(rt: HostRuntime) -> Result<(), Fail> {
 #[test]
 fn the_first_of_equal_starts_is_found(rt: HostRuntime) -> Result<(), Fail> {
     let bytes = section_of(rt.alloc(), &[BASE + 32, BASE + 16, BASE + 16])?;
-    let index = DwarfCfiIndex::try_new_eh_frame(rt.alloc(), &EhFrame::new(&bytes), BASE)?;
+    let index = index_of(rt.alloc(), &bytes, BASE)?;
     assert_eq!(rt; index.fde_offset_for_relative_address(15), None);
     assert_eq!(rt; index.fde_offset_for_relative_address(16), Some(44));
     assert_eq!(rt; index.fde_offset_for_relative_address(32), Some(20));
@@ -121,7 +140,7 @@ fn the_first_of_equal_starts_is_found(rt: HostRuntime) -> Result<(), Fail> {
 fn most_reads(alloc: Global, count: u32) -> Result<u32, Fail> {
     let starts = scrambled(alloc, u64::from(count))?;
     let bytes = section_of(alloc, &starts)?;
-    let index = DwarfCfiIndex::try_new_eh_frame(alloc, &EhFrame::new(&bytes), BASE - 16)?;
+    let index = index_of(alloc, &bytes, BASE - 16)?;
     let mut most = 0;
     for place in 0..count {
         let found = index.look_up(place.wrapping_mul(16));

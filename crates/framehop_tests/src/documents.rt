@@ -9,14 +9,14 @@ use std::test::Fail;
 /// The greatest length of a document, in bytes.
 const GREATEST: u64 = 16_777_216;
 
-/// A document of so many commands that make a cache.
-fn caches(alloc: Global, count: usize) -> Result<String, Fail> {
+/// A document of so many commands that make an unwinder.
+fn unwinders(alloc: Global, count: usize) -> Result<String, Fail> {
     let mut text = String::from_str(
         alloc,
-        "{\"arch\":\"x86_64\",\"policy\":\"must\",\"commands\":[{\"do\":\"cache\"}",
+        "{\"arch\":\"x86_64\",\"policy\":\"must\",\"commands\":[{\"do\":\"unwinder\"}",
     )?;
     for _ in 1..count {
-        text.push_str(",{\"do\":\"cache\"}")?;
+        text.push_str(",{\"do\":\"unwinder\"}")?;
     }
     text.push_str("]}")?;
     Ok(text)
@@ -25,7 +25,7 @@ fn caches(alloc: Global, count: usize) -> Result<String, Fail> {
 #[test]
 fn greatest_number_of_commands(rt: HostRuntime) -> Result<(), Fail> {
     for (count, line, status) in [(65_536, "", 0), (65_537, "fault BadDocument 0\n", 2)] {
-        let document = caches(rt.alloc(), count)?;
+        let document = unwinders(rt.alloc(), count)?;
         let (text, ended, _) = answer_to(rt.alloc(), document.as_bytes())?;
         assert_eq!(rt; text.as_str(), line, "of {count} commands");
         assert_eq!(rt; ended, status, "of {count} commands");

@@ -2,7 +2,7 @@
 use crate::worked::word_at;
 use dwarf_tests::WORKED;
 use framehop::x86_64::{CacheX86_64, UnwindRegsX86_64, UnwinderX86_64};
-use framehop::{AllocationPolicy, FrameAddress, MayAllocateDuringUnwind, Module};
+use framehop::{AllocationPolicy, BaseAddresses, FrameAddress, MayAllocateDuringUnwind, Module};
 use std::test::Fail;
 
 /// An FDE that follows the worked section's: a function of sixteen bytes at 0x1010, whose CFA is the
@@ -22,7 +22,9 @@ pub fn step<P: AllocationPolicy>(
     (ip, sp, bp): Registers,
 ) -> Result<(Option<u64>, Registers), Fail> {
     let section = section.to_vec(rt.alloc())?;
-    let module = Module::new(rt.alloc(), 0x100000..0x102000, 0x100000, 0, Some(section))?;
+    let bases = BaseAddresses::default();
+    let range = 0x100000..0x102000;
+    let module = Module::new(rt.alloc(), range, 0x100000, 0, bases, Some(section))?;
     let mut unwinder = UnwinderX86_64::new(rt.alloc());
     unwinder.add_module(module)?;
     let mut cache = CacheX86_64::<P>::new_in(rt.alloc())?;
@@ -72,7 +74,8 @@ fn a_row_gives_the_caller(rt: HostRuntime) -> Result<(), Fail> {
 
 #[test]
 fn a_module_tells_its_place(rt: HostRuntime) -> Result<(), Fail> {
-    let module = Module::new(rt.alloc(), 0x100000..0x102000, 0x0ff000, 0, None)?;
+    let bases = BaseAddresses::default();
+    let module = Module::new(rt.alloc(), 0x100000..0x102000, 0x0ff000, 0, bases, None)?;
     let range = module.avma_range();
     assert_eq!(rt;
         (range.start, range.end, module.base_avma()),

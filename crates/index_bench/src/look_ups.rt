@@ -1,7 +1,8 @@
 //! Look-ups of addresses in steps of one size.
 
-ghost use Rattle.std.specs.Prelude.{◌≡◌, ◌≤◌, ◌^◌, ℕ, List, suc, length};
-ghost use Rattle.dwarf_call_frames.specs.Entries.{whole_fdes};
+ghost use Rattle.std.specs.Prelude.{◌≡◌, ◌≤◌, ◌^◌, ℕ, suc, length};
+ghost use Rattle.dwarf_frame_sections.specs.Sections.{FrameSection};
+ghost use Rattle.dwarf_frame_entries.specs.SectionFdes.{whole_fdes};
 ghost use Rattle.framehop.specs.CfiIndexView.{IsIndexOf};
 ghost use Rattle.index_bench.specs.LookUps.{found_among};
 
@@ -18,11 +19,11 @@ pub struct Tally {
 
 /// Looks up so many addresses, which count from 0 on by `apart`, modulo 2^32.
 pub fn look_up_each(index: &DwarfCfiIndex, count: u32, apart: u32) -> Tally
-    ensures found { (base_svma : ℕ) (section : List ℕ) → IsIndexOf index.now base_svma section
+    ensures found { (base_svma : ℕ) (section : FrameSection) → IsIndexOf index.now base_svma section
         → result.found ≡ found_among count apart base_svma section }
-    ensures few { (base_svma : ℕ) (section : List ℕ) → IsIndexOf index.now base_svma section
+    ensures few { (base_svma : ℕ) (section : FrameSection) → IsIndexOf index.now base_svma section
         → (k : ℕ) → length (whole_fdes section) ≤ 2 ^ k → result.most_starts_read ≤ suc k }
-    ensures counted { (base_svma : ℕ) (section : List ℕ) → IsIndexOf index.now base_svma section
+    ensures counted { (base_svma : ℕ) (section : FrameSection) → IsIndexOf index.now base_svma section
         → 1 ≤ count → (k : ℕ) → 2 ^ k ≤ suc (length (whole_fdes section)) → k ≤ result.most_starts_read }
 {
     let mut tally = Tally {

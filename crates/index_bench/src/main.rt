@@ -14,9 +14,8 @@ mod tests;
 mod timing;
 
 use anyhow::Result;
-use dwarf_call_frames::EhFrame;
 use dwarf_readers::{EndianSlice, LittleEndian, Reader};
-use framehop::DwarfCfiIndex;
+use framehop::{BaseAddresses, DwarfCfiIndex};
 use look_ups::look_up_each;
 use std::env;
 use std::io::Read;
@@ -49,8 +48,8 @@ fn print_look_ups(rt: &HostRuntime, input: &[u8]) -> Result<()> {
     let mut reader = EndianSlice::new(input, LittleEndian);
     let count = reader.read_u32()?;
     let apart = reader.read_u32()?;
-    let section = EhFrame::new(reader.slice());
-    let index = DwarfCfiIndex::try_new_eh_frame(rt.alloc(), &section, 0)?;
+    let bases = BaseAddresses::default();
+    let index = DwarfCfiIndex::try_new_eh_frame(rt.alloc(), reader.slice(), &bases, 0)?;
     let tally = look_up_each(&index, count, apart);
     println!(rt;
         "{} of {count} found, at most {} starts read",

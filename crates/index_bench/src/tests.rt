@@ -1,6 +1,5 @@
 use crate::look_ups::{Tally, look_up_each};
-use dwarf_call_frames::EhFrame;
-use framehop::DwarfCfiIndex;
+use framehop::{BaseAddresses, DwarfCfiIndex};
 use std::alloc::Global;
 use std::test::Fail;
 
@@ -23,7 +22,7 @@ fn section_of(alloc: Global, fdes: u32) -> Result<Vec<u8>, Fail> {
 /// What look-ups 16 bytes apart come to, in an index of so many FDEs.
 fn tally_of(alloc: Global, fdes: u32, count: u32) -> Result<Tally, Fail> {
     let bytes = section_of(alloc, fdes)?;
-    let index = DwarfCfiIndex::try_new_eh_frame(alloc, &EhFrame::new(&bytes), 0)?;
+    let index = DwarfCfiIndex::try_new_eh_frame(alloc, &bytes, &BaseAddresses::default(), 0)?;
     Ok(look_up_each(&index, count, 16))
 }
 

@@ -1,10 +1,9 @@
 //! How long the making of an index and steps through it take, by the clock of the machine.
 
 use anyhow::Result;
-use dwarf_call_frames::EhFrame;
 use dwarf_readers::{EndianSlice, LittleEndian, Reader};
 use framehop::x86_64::{CacheX86_64, UnwindRegsX86_64, UnwinderX86_64};
-use framehop::{DwarfCfiIndex, FrameAddress, MayAllocateDuringUnwind, Module};
+use framehop::{BaseAddresses, DwarfCfiIndex, FrameAddress, MayAllocateDuringUnwind, Module};
 use std::alloc::Global;
 use std::time::{Clock, Duration, Instant};
 
@@ -108,12 +107,13 @@ pub fn time(clock: &impl Clock, alloc: Global, work: &Work) -> Result<Times> {
     let mut unwinder = UnwinderX86_64::new(alloc);
     let section = work.section.as_slice().to_vec(alloc)?;
     let range = work.base..work.end;
-    let module = Module::new(alloc, range, work.base, 0, Some(section))?;
+    let bases = BaseAddresses::default();
+    let module = Module::new(alloc, range, work.base, 0, bases, Some(section))?;
     unwinder.add_module(module)?;
     let mut cache = CacheX86_64::new(alloc)?;
     for _ in 0..work.rounds {
         let start = Instant::now(clock)?;
-        let _index = DwarfCfiIndex::try_new_eh_frame(alloc, &EhFrame::new(&work.section), 0)?;
+        let _index = DwarfCfiIndex::try_new_eh_frame(alloc, &work.section, &bases, 0)?;
         times.index = times.index.min(start.elapsed(clock)?);
         let start = Instant::now(clock)?;
         times.answered = steps(&unwinder, &mut cache, &work.stack, &work.frames);

@@ -1,5 +1,5 @@
 -- What a run writes for a document: a line for each step, or one for the first fault.
-use Rattle.std.specs.Prelude.{ℕ, ◌-◌, ◌/◌, ◌%◌, List, [], ◌∷◌, ◌++◌, Bool, true, false, ◌&&◌, codes, bytes_eq, slice_get, slice_set, Option, Some, None, Result, Ok, Err, ◌==◌, nat_le, if◌then◌else◌}
+use Rattle.std.specs.Prelude.{ℕ, ◌-◌, ◌/◌, ◌%◌, List, [], ◌∷◌, ◌++◌, Bool, true, false, ◌&&◌, codes, bytes_eq, slice_get, slice_set, Option, Some, None, option_map, unwrap_or, Result, Ok, Err, ◌==◌, nat_le, if◌then◌else◌}
 use Rattle.std.specs.List.{slice_index_or}
 use Rattle.std.specs.Option.{option_or}
 use Rattle.framehop_registers.specs.Callback.{Words}
@@ -18,6 +18,7 @@ use Rattle.unwind_commands.specs.Faults.{fault_line}
 use Rattle.framehop.specs.Judge.{judge_at}
 use Rattle.unwind_commands.specs.Lines.{line, outcome_line}
 use Rattle.framehop.specs.ModuleFound.{Loaded, with_module}
+use Rattle.dwarf_frame_rows.specs.declared.base_addresses.BaseAddresses.{BaseAddresses}
 
 -- the data of the first section that has this name and data
 abbrev pub data_named : List ℕ → List SectionData → Option (List ℕ)
@@ -30,6 +31,28 @@ abbrev pub eh_frame_of : List SectionData → Option (List ℕ)
 eh_frame_of sections =
     option_or (data_named (codes ".eh_frame") sections) (data_named (codes "__eh_frame") sections)
 
+-- the start of the first section that has this name and a range
+abbrev pub start_named : List ℕ → List SectionData → Option ℕ
+start_named name [] = None
+start_named name (section ∷ sections) =
+    option_or (if bytes_eq section.name name then option_map (λ range. range.start) section.range else None)
+    (start_named name sections)
+
+-- the start of a section, by its name in Mach-O or in ELF, the first of them that has a range; 0 where neither has one
+abbrev pub start_under : List ℕ → List ℕ → List SectionData → ℕ
+start_under mach_o elf sections = unwrap_or (option_or (start_named mach_o sections) (start_named elf sections)) 0
+
+-- the addresses that pointers count from: the starts of sections
+abbrev pub bases_of : List SectionData → BaseAddresses
+bases_of sections = record {
+  eh_frame_hdr = record { section = None; text = Some (start_under (codes "__text") (codes ".text") sections); data_base = None };
+  eh_frame = record {
+    section = Some (start_under (codes "__eh_frame") (codes ".eh_frame") sections);
+    text = Some (start_under (codes "__text") (codes ".text") sections);
+    data_base = Some (start_under (codes "__got") (codes ".got") sections);
+  };
+}
+
 -- the module that a command loads
 abbrev pub loaded_by : Loading → Loaded
 loaded_by l = record {
@@ -37,6 +60,7 @@ loaded_by l = record {
   end = l.end;
   base = l.base;
   base_svma = l.base_svma;
+  bases = bases_of l.sections;
   eh_frame = eh_frame_of l.sections;
 }
 

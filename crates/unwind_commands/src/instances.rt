@@ -5,7 +5,7 @@ ghost use Rattle.framehop_registers.specs.Callback.{read_answer};
 ghost use Rattle.framehop_registers.specs.FrameAddress.{lookup_address_of};
 ghost use Rattle.framehop.specs.Judge.{is_first};
 ghost use Rattle.unwind_commands.specs.Numbered.{IsNumbered, caches_after};
-ghost use Rattle.unwind_commands.specs.Text.{unwinders_after, line_of, data_named, eh_frame_of, words_of, is_first_kind, lookup_address_at};
+ghost use Rattle.unwind_commands.specs.Text.{unwinders_after, line_of, data_named, eh_frame_of, start_named, start_under, bases_of, words_of, is_first_kind, lookup_address_at};
 ghost use Rattle.unwind_commands.specs.CommandViews.{task_of, words_view, section_view, sections_view};
 ghost use Rattle.unwind_commands.specs.declared.document.command.Section.{Section};
 ghost use Rattle.unwind_commands.specs.declared.document.command.FrameKind.TheVariants.{Ra};
@@ -13,7 +13,7 @@ ghost use Rattle.unwind_commands.specs.declared.document.command.FrameKind.TheVa
 use crate::document::{Command, FrameKind, Load, Section, Stack, Step};
 use crate::lines::step_line;
 use framehop::x86_64::{CacheX86_64, UnwindRegsX86_64, UnwinderX86_64};
-use framehop::{AllocationPolicy, FrameAddress, Module};
+use framehop::{AllocationPolicy, BaseAddresses, FrameAddress, Module};
 use std::alloc::{AllocError, Global};
 
 /// The unwinders and the caches that commands have made, numbered from 0.
@@ -65,9 +65,10 @@ impl<P: AllocationPolicy> Instances<P> {
             ≡ unwinders_after (modules_in self.old) (task_of (Command.Load load))) }
         ensures caches { caches_in self.new ≡ caches_in self.old }
     {
+        let bases = bases_in(&load.sections);
         let eh_frame = eh_frame_data(load.sections);
         let range = load.start..load.end;
-        let module = Module::new(alloc, range, load.base, load.base_svma, eh_frame)?;
+        let module = Module::new(alloc, range, load.base, load.base_svma, bases, eh_frame)?;
         self.unwinders[load.unwinder].add_module(module)?;
         Ok(())
     }
@@ -117,6 +118,40 @@ fn word_at(stack: &Stack, address: u64) -> Result<u64, ()>
         return Err(());
     }
     stack.words.get((offset / 8) as usize).copied().ok_or(())
+}
+
+/// The start of the first section that has this name and a range.
+fn start_named(sections: &[Section], name: &str) -> Option<u64>
+    ensures { result ≡ start_named name.now (sections_view sections.now) }
+{
+    for section in sections {
+        if section.name.as_str() == name {
+            if let Some(range) = section.range {
+                return Some(range.start);
+            }
+        }
+    }
+    None
+}
+
+/// The start of a section, by its name in Mach-O or in ELF, the first of them that has a range; 0 where
+/// neither has one.
+fn start_under(sections: &[Section], mach_o: &str, elf: &str) -> u64
+    ensures { result ≡ start_under mach_o.now elf.now (sections_view sections.now) }
+{
+    start_named(sections, mach_o)
+        .or(start_named(sections, elf))
+        .unwrap_or(0)
+}
+
+/// The addresses that pointers count from: the starts of sections.
+fn bases_in(sections: &[Section]) -> BaseAddresses
+    ensures { result ≡ bases_of (sections_view sections.now) }
+{
+    BaseAddresses::default()
+        .set_eh_frame(start_under(sections, "__eh_frame", ".eh_frame"))
+        .set_text(start_under(sections, "__text", ".text"))
+        .set_got(start_under(sections, "__got", ".got"))
 }
 
 /// The place of the first section that has this name and data.

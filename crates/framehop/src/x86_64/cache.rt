@@ -1,7 +1,8 @@
 //! What a walk on x86_64 keeps from step to step.
 
 use crate::cache::{AllocationPolicy, MayAllocateDuringUnwind};
-use dwarf_call_frames::UnwindContext;
+use dwarf_frame_entries::UnwindContext;
+use dwarf_frame_rows::StoreOnHeap;
 use std::alloc::{AllocError, Global};
 use std::marker::PhantomData;
 
@@ -9,7 +10,7 @@ use std::marker::PhantomData;
 /// depends on what was worked out there before. A step takes memory beside it as its policy says.
 #[derive(Drop)]
 pub struct CacheX86_64<P> {
-    unwind_context: UnwindContext,
+    unwind_context: UnwindContext<usize, StoreOnHeap>,
     alloc: Global,
     policy: PhantomData<P>,
 }
@@ -38,7 +39,7 @@ impl<P: AllocationPolicy> CacheX86_64<P> {
     }
 
     /// The place where the rows of an entry are worked out.
-    pub(crate) fn unwind_context(&mut self) -> &mut UnwindContext {
+    pub(crate) fn unwind_context(&mut self) -> &mut UnwindContext<usize, StoreOnHeap> {
         &mut self.unwind_context
     }
 }

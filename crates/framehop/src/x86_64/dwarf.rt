@@ -1,28 +1,29 @@
 //! The rows of x86_64: as unwind rules, or evaluated.
 
-ghost use Rattle.std.specs.Prelude.{◌≡◌, ◌≢◌, Bool, option_and_then, Err, IfSome, IfOk};
+ghost use Rattle.std.specs.Prelude.{◌≡◌, ◌≢◌, ℕ, Bool, option_and_then, option_map, Err, IfErr, IfSome, IfOk};
 ghost use Rattle.framehop_registers.specs.Callback.{Words, OverWords};
 ghost use Rattle.framehop.specs.Attempt.{by_parts};
-ghost use Rattle.framehop.specs.DirectRow.{direct_return_address, direct_refusal, direct_answer};
+ghost use Rattle.framehop.specs.DirectRow.{direct_return_address, direct_refusal, direct_answer, frame_sources};
 ghost use Rattle.framehop.specs.DirectViews.{caller_shown};
-ghost use Rattle.framehop.specs.Memory.{HasExpression, IsExpression, TakesMemory};
-ghost use Rattle.dwarf_call_frames.specs.EntryViews.{section_bytes};
+ghost use Rattle.framehop.specs.Memory.{HasExpression, HasExpressionPart, IsColumnExpression, TakesMemory};
+ghost use Rattle.dwarf_frame_programs.specs.StateViews.{rule_as};
 ghost use Rattle.framehop.specs.UnwindResults.{trial, with_registers, of_dwarf, KeepsUnlessDirect, HasValidRule};
 ghost use Rattle.framehop_rules.specs.Outcome.{Answers, Caller};
 ghost use Rattle.framehop_rules.specs.RuleMeaning.{rule_meaning, IsValid};
 ghost use Rattle.framehop.specs.RowAnswer.{row_answer, value_of};
 ghost use Rattle.framehop.specs.declared.dwarf.DwarfUnwinderError.TheVariants.{OutOfMemory};
-ghost use Rattle.framehop.specs.ScaledRow.{Parts, eighth_of, as_u16, as_i16, from_sp, from_bp, from_return_address, scaled_rule};
+ghost use Rattle.framehop.specs.ScaledRow.{Parts, eighth_of, as_u16, as_i16, raised_sp, restored_bp, from_sp, from_bp, from_return_address, scaled_rule};
 ghost use Rattle.framehop.specs.RowViews.{parts_shown};
 
 use crate::dwarf::DwarfUnwinderError;
 use crate::evaluation::{DwarfUnwindRegs, eval_cfa_rule, eval_register_rule, read_below};
 use crate::unwind_result::UnwindResult;
-use dwarf_call_frames::{CfaRule, EhFrame, RegisterRule, UnwindTableRow};
-use dwarf_expressions::EvaluationStorage;
-use dwarf_read_core::{Register, X86_64};
+use dwarf_expressions::{ArrayLike, EvaluationStorage};
+use dwarf_frame_entries::{_UnwindSectionPrivate, UnwindTableRow};
+use dwarf_frame_rows::{CfaRule, RegisterRule, RuledRegister};
+use dwarf_read_core::{Reader, ReaderOffset, Register, X86_64};
 use framehop_rules::x86_64::{UnwindRegsX86_64, UnwindRuleX86_64};
-use std::alloc::Global;
+use std::alloc::{AllocError, Global};
 
 /// RSP, RBP, and RIP by the return address's column (System V ABI for AMD64, figure 3.36).
 impl DwarfUnwindRegs for UnwindRegsX86_64 {
@@ -63,15 +64,21 @@ fn signed_words(offset: i64) -> Option<i16>
     i16::try_from(exact_eighth(offset)?).ok()
 }
 
-/// The rule for a CFA that is RSP plus an offset.
-fn rule_from_sp(offset: i64, bp: Option<RegisterRule>) -> Option<UnwindRuleX86_64>
-    ensures rule { result ≡ from_sp offset bp }
+/// The rule for a CFA that is RSP plus an offset, where RBP stays.
+fn rule_that_raises(offset: i64) -> Option<UnwindRuleX86_64>
+    ensures rule { result ≡ raised_sp offset }
     ensures valid { IfSome result IsValid }
 {
     let sp_offset_by_8 = unsigned_words(offset)?;
-    let Some(RegisterRule::Offset(stored)) = bp else {
-        return Some(UnwindRuleX86_64::OffsetSp { sp_offset_by_8 });
-    };
+    Some(UnwindRuleX86_64::OffsetSp { sp_offset_by_8 })
+}
+
+/// The rule for a CFA that is RSP plus an offset, where RBP is stored at another offset from the CFA.
+fn rule_that_restores(offset: i64, stored: i64) -> Option<UnwindRuleX86_64>
+    ensures rule { result ≡ restored_bp offset stored }
+    ensures valid { IfSome result IsValid }
+{
+    let sp_offset_by_8 = unsigned_words(offset)?;
     let bp_storage_offset_from_sp_by_8 = signed_words(offset.checked_add(stored)?)?;
     Some(UnwindRuleX86_64::OffsetSpAndRestoreBp {
         sp_offset_by_8,
@@ -79,8 +86,20 @@ fn rule_from_sp(offset: i64, bp: Option<RegisterRule>) -> Option<UnwindRuleX86_6
     })
 }
 
+/// The rule for a CFA that is RSP plus an offset.
+fn rule_from_sp<T: Copy>(offset: i64, bp: Option<RegisterRule<T>>) -> Option<UnwindRuleX86_64>
+    ensures rule { result ≡ from_sp offset bp }
+    ensures valid { IfSome result IsValid }
+{
+    match bp {
+        None | Some(RegisterRule::Undefined | RegisterRule::SameValue) => rule_that_raises(offset),
+        Some(RegisterRule::Offset(stored)) => rule_that_restores(offset, stored),
+        Some(_) => None,
+    }
+}
+
 /// The rule for a CFA that is RBP plus an offset.
-fn rule_from_bp(offset: i64, bp: Option<RegisterRule>) -> Option<UnwindRuleX86_64>
+fn rule_from_bp<T: Copy>(offset: i64, bp: Option<RegisterRule<T>>) -> Option<UnwindRuleX86_64>
     ensures rule { result ≡ from_bp offset bp }
     ensures valid { IfSome result IsValid }
 {
@@ -93,18 +112,18 @@ fn rule_from_bp(offset: i64, bp: Option<RegisterRule>) -> Option<UnwindRuleX86_6
 /// The rule that says a row exactly, from the row's CFA and its columns of RBP and of the return
 /// address, if one does. Offsets of a rule are in words, and an offset that is no multiple of 8 is
 /// never rounded.
-fn translate_into_unwind_rule(
-    cfa: CfaRule,
-    bp: Option<RegisterRule>,
-    ra: Option<RegisterRule>,
+fn translate_into_unwind_rule<T: Copy>(
+    cfa: CfaRule<T>,
+    bp: Option<RegisterRule<T>>,
+    ra: Option<RegisterRule<T>>,
 ) -> Option<UnwindRuleX86_64>
     ensures rule { result ≡ from_return_address cfa bp ra }
     ensures valid { IfSome result IsValid }
 {
     match ra {
-        None => return Some(UnwindRuleX86_64::EndOfStack),
+        None | Some(RegisterRule::Undefined) => return Some(UnwindRuleX86_64::EndOfStack),
         Some(RegisterRule::Offset(-8)) => {}
-        Some(RegisterRule::Offset(_)) => return None,
+        Some(_) => return None,
     }
     match cfa {
         CfaRule::RegisterAndOffset {
@@ -120,8 +139,10 @@ fn translate_into_unwind_rule(
 }
 
 /// The rule that says a row exactly, if one does.
-fn rule_for_row(row: &UnwindTableRow) -> Option<UnwindRuleX86_64>
-    ensures rule { result ≡ scaled_rule (parts_shown row.now) }
+fn rule_for_row<T: ReaderOffset, Rules: ArrayLike<Item = RuledRegister<RegisterRule<T>>>>(
+    row: &UnwindTableRow<T, Rules>,
+) -> Option<UnwindRuleX86_64>
+    ensures rule { result ≡ scaled_rule (parts_shown T.value row.now) }
     ensures valid { IfSome result IsValid }
 {
     translate_into_unwind_rule(
@@ -139,20 +160,38 @@ struct DirectCaller {
     bp: u64,
 }
 
-/// The return address at a CFA: what its column gives, or else the word below the CFA.
-fn eval_return_address<F: FnMut(u64) -> Result<u64, ()>>(
-    rule: Option<RegisterRule>,
+/// The return address at a CFA: what its column gives, or else the word below the CFA. Only the values
+/// of an expression may want memory.
+fn eval_return_address<
+    S: EvaluationStorage,
+    R: Reader,
+    Section: _UnwindSectionPrivate<R>,
+    F: FnMut(u64) -> Result<u64, ()>,
+>(
+    alloc: Global,
+    section: &Section,
+    rule: Option<RegisterRule<R::Offset>>,
     cfa: u64,
+    regs: &UnwindRegsX86_64,
     read_stack: &mut F,
-) -> Option<u64>
+) -> Result<Option<u64>, AllocError>
     requires { F.IsAlwaysCallable read_stack.old }
     ensures callable { F.IsAlwaysCallable read_stack.new }
     ensures value { OverWords F.step read_stack.old read_stack.new (λ words.
-        result ≡ direct_return_address words cfa rule) }
+        IfOk result (λ value. value ≡ direct_return_address
+        (frame_sources S.Stack.capacity (R.stretch (Section.reader section.now)) regs.now)
+        regs.now words cfa (option_map (rule_as R.Offset.value) rule))) }
+    ensures expression { IfErr result (λ _.
+        IsColumnExpression (option_map (rule_as R.Offset.value) rule)) }
+    ensures memory { IfErr result (λ _. TakesMemory S.Stack.is_made_in_place S.Stack.capacity) }
 {
-    match eval_register_rule(rule, cfa, read_stack) {
-        Some(return_address) => Some(return_address),
-        None => read_below(cfa, read_stack),
+    let ip = regs.ip();
+    let stored = eval_register_rule::<S, R, Section, _, F>(
+        alloc, section, rule, cfa, ip, regs, read_stack,
+    )?;
+    match stored {
+        Some(return_address) => Ok(Some(return_address)),
+        None => Ok(read_below(cfa, read_stack)),
     }
 }
 
@@ -175,10 +214,16 @@ fn refusal(
 }
 
 /// The caller that a row gives. A column of RBP without a value keeps RBP.
-fn eval_row<S: EvaluationStorage, F: FnMut(u64) -> Result<u64, ()>>(
+fn eval_row<
+    S: EvaluationStorage,
+    R: Reader,
+    Section: _UnwindSectionPrivate<R>,
+    Rules: ArrayLike<Item = RuledRegister<RegisterRule<R::Offset>>>,
+    F: FnMut(u64) -> Result<u64, ()>,
+>(
     alloc: Global,
-    section: &EhFrame,
-    row: &UnwindTableRow,
+    section: &Section,
+    row: &UnwindTableRow<R::Offset, Rules>,
     is_first_frame: bool,
     regs: &UnwindRegsX86_64,
     read_stack: &mut F,
@@ -188,38 +233,54 @@ fn eval_row<S: EvaluationStorage, F: FnMut(u64) -> Result<u64, ()>>(
     ensures caller { OverWords F.step read_stack.old read_stack.new (λ words.
         result ≢ Err OutOfMemory → caller_shown regs.now result
         ≡ direct_answer S.Stack.capacity is_first_frame regs.now words
-        (section_bytes section.now) (parts_shown row.now)) }
-    ensures expression { result ≡ Err OutOfMemory → IsExpression (parts_shown row.now).cfa }
+        (R.stretch (Section.reader section.now)) (parts_shown R.Offset.value row.now)) }
+    ensures expression { result ≡ Err OutOfMemory
+        → HasExpressionPart (parts_shown R.Offset.value row.now) }
     ensures memory { result ≡ Err OutOfMemory
         → TakesMemory S.Stack.is_made_in_place S.Stack.capacity }
 {
-    let Ok(found) = eval_cfa_rule::<S, _>(alloc, section, *row.cfa(), regs) else {
-        return Err(DwarfUnwinderError::OutOfMemory);
-    };
-    let Some(cfa) = found else {
+    let Some(cfa) = eval_cfa_rule::<S, R, Section, _>(alloc, section, *row.cfa(), regs)? else {
         return Err(DwarfUnwinderError::CouldNotRecoverCfa);
     };
-    let stored_bp = eval_register_rule(row.register(X86_64::RBP), cfa, read_stack);
-    let return_address = match eval_return_address(row.register(X86_64::RA), cfa, read_stack) {
-        Some(return_address) => return_address,
-        None => return Err(DwarfUnwinderError::CouldNotRecoverReturnAddress),
+    let bp = regs.bp();
+    let stored_bp = eval_register_rule::<S, R, Section, _, F>(
+        alloc,
+        section,
+        row.register(X86_64::RBP),
+        cfa,
+        bp,
+        regs,
+        read_stack,
+    )?;
+    let ra = row.register(X86_64::RA);
+    let Some(return_address) = eval_return_address::<S, R, Section, F>(
+        alloc, section, ra, cfa, regs, read_stack,
+    )?
+    else {
+        return Err(DwarfUnwinderError::CouldNotRecoverReturnAddress);
     };
     match refusal(cfa, return_address, is_first_frame, regs) {
         Some(refusal) => Err(refusal),
         None => Ok(DirectCaller {
             return_address,
             sp: cfa,
-            bp: stored_bp.unwrap_or(regs.bp()),
+            bp: stored_bp.unwrap_or(bp),
         }),
     }
 }
 
 /// What a row of a section says of a frame: the rule that says the row exactly, or else the caller
 /// that the row gives by itself, whose registers it leaves then. An `Err` leaves them as they were.
-pub(crate) fn unwind_frame<S: EvaluationStorage, F: FnMut(u64) -> Result<u64, ()>>(
+pub(crate) fn unwind_frame<
+    S: EvaluationStorage,
+    R: Reader,
+    Section: _UnwindSectionPrivate<R>,
+    Rules: ArrayLike<Item = RuledRegister<RegisterRule<R::Offset>>>,
+    F: FnMut(u64) -> Result<u64, ()>,
+>(
     alloc: Global,
-    section: &EhFrame,
-    row: &UnwindTableRow,
+    section: &Section,
+    row: &UnwindTableRow<R::Offset, Rules>,
     is_first_frame: bool,
     regs: &mut UnwindRegsX86_64,
     read_stack: &mut F,
@@ -229,9 +290,9 @@ pub(crate) fn unwind_frame<S: EvaluationStorage, F: FnMut(u64) -> Result<u64, ()
     ensures trial { OverWords F.step read_stack.old read_stack.new (λ words.
         result ≢ Err OutOfMemory → with_registers regs.new (of_dwarf result)
         ≡ trial S.Stack.capacity is_first_frame regs.old words
-        (by_parts (section_bytes section.now) (parts_shown row.now))) }
-    ensures expression { result ≡ Err OutOfMemory
-        → HasExpression (by_parts (section_bytes section.now) (parts_shown row.now)) }
+        (by_parts (R.stretch (Section.reader section.now)) (parts_shown R.Offset.value row.now))) }
+    ensures expression { result ≡ Err OutOfMemory → HasExpression
+        (by_parts (R.stretch (Section.reader section.now)) (parts_shown R.Offset.value row.now)) }
     ensures memory { result ≡ Err OutOfMemory
         → TakesMemory S.Stack.is_made_in_place S.Stack.capacity }
     ensures keeps { KeepsUnlessDirect result regs.old regs.new }
@@ -240,7 +301,14 @@ pub(crate) fn unwind_frame<S: EvaluationStorage, F: FnMut(u64) -> Result<u64, ()
     if let Some(rule) = rule_for_row(row) {
         return Ok(UnwindResult::ExecRule(rule));
     }
-    let caller = eval_row::<S, F>(alloc, section, row, is_first_frame, regs, read_stack)?;
+    let caller = eval_row::<S, R, Section, Rules, F>(
+        alloc,
+        section,
+        row,
+        is_first_frame,
+        regs,
+        read_stack,
+    )?;
     regs.set_ip(caller.return_address);
     regs.set_sp(caller.sp);
     regs.set_bp(caller.bp);
@@ -252,7 +320,7 @@ pub(crate) fn unwind_frame<S: EvaluationStorage, F: FnMut(u64) -> Result<u64, ()
 /// CFA and columns give, so that a row that is translated needs no evaluation of its own. The
 /// function does nothing when the program runs.
 pub fn rule_answers_as_its_row()
-    ensures { (parts : Parts) (rule : UnwindRuleX86_64) (first : Bool) (registers : UnwindRegsX86_64)
+    ensures { (parts : Parts ℕ) (rule : UnwindRuleX86_64) (first : Bool) (registers : UnwindRegsX86_64)
         (words : Words) (caller : Caller UnwindRegsX86_64)
         → scaled_rule parts ≡ Some rule
         → rule_meaning rule first registers words ≡ Answers caller

@@ -1,7 +1,9 @@
-use Rattle.std.proofs.Common.{rules}
-use Rattle.dwarf_call_frames.specs.EntryViews.{section_bytes, entries_left}
+use Rattle.std.proofs.Common.{rules, ap}
+use Rattle.dwarf_frame_sections.specs.Sections.{frame_section}
 use Rattle.framehop.proofs.CfiIndexBuild.{none-gathered}
 use Rattle.framehop.proofs.cfi_index.indexed_fdes.Goals as goal
 
 pub entries-init : goal.entries-init
-entries-init c = none-gathered (section_bytes c.args.section.now) c.args.base_svma c.new-fdes.result.items (entries_left c.entries-entries.result) (search rules) c.entries-entries.ensures
+entries-init g c =
+    none-gathered (frame_section g.R.Offset.ReaderOffset.limit g.Section._UnwindSectionPrivate.kind (g.Section._UnwindSectionPrivate.size c.args.section.now)
+    (g.R.Reader.stretch (g.Section._UnwindSectionPrivate.reader c.args.section.now)) c.args.bases.now) c.args.base_svma c.new-fdes.result.items c.entries-entries.result.entries (search rules) (ap (λ l. l.entries) c.entries-entries.ensures)

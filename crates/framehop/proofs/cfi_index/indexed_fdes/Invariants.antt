@@ -1,10 +1,12 @@
 use Rattle.std.proofs.Common.{length}
-use Rattle.dwarf_call_frames.specs.EntryViews.{section_bytes, entries_left}
+use Rattle.dwarf_frame_sections.specs.Sections.{frame_section}
 use Rattle.framehop.proofs.CfiIndexBuild.{Gathered}
 use Rattle.framehop.proofs.cfi_index.indexed_fdes.Given as goal
 
 abbrev pub invariant-entries : goal.invariant-entries
-invariant-entries l = Gathered (section_bytes l.section) l.base_svma l.fdes.items (entries_left l.entries)
+invariant-entries g l =
+    Gathered (frame_section g.R.Offset.ReaderOffset.limit g.Section._UnwindSectionPrivate.kind (g.Section._UnwindSectionPrivate.size l.section)
+    (g.R.Reader.stretch (g.Section._UnwindSectionPrivate.reader l.section)) l.bases) l.base_svma l.fdes.items l.entries.entries
 
 abbrev pub decreases-entries : goal.decreases-entries
-decreases-entries l = length (entries_left l.entries).bytes
+decreases-entries g l = length l.entries.entries

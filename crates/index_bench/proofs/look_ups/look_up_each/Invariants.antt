@@ -1,5 +1,6 @@
-use Rattle.std.proofs.Common.{◌≡◌, ◌≤◌, ◌^◌, ℕ, List, suc, length}
-use Rattle.dwarf_call_frames.specs.Entries.{whole_fdes}
+use Rattle.std.proofs.Common.{◌≡◌, ◌≤◌, ◌^◌, ℕ, suc, length}
+use Rattle.dwarf_frame_sections.specs.Sections.{FrameSection}
+use Rattle.dwarf_frame_entries.specs.SectionFdes.{whole_fdes}
 use Rattle.framehop.specs.CfiIndexView.{IsIndexOf}
 use Rattle.index_bench.specs.LookUps.{found_among}
 use Rattle.index_bench.proofs.look_ups.look_up_each.Given as goal
@@ -7,7 +8,7 @@ use Rattle.index_bench.proofs.look_ups.look_up_each.Given as goal
 abbrev pub invariant-loop-i : goal.invariant-loop-i
 invariant-loop-i l = record {
   fits : l.tally.found ≤ l.i;
-  found : (base : ℕ) (section : List ℕ) → IsIndexOf l.index base section → l.tally.found ≡ found_among l.i l.fn.apart base section;
-  few : (base : ℕ) (section : List ℕ) → IsIndexOf l.index base section → (k : ℕ) → length (whole_fdes section) ≤ 2 ^ k → l.tally.most_starts_read ≤ suc k;
-  counted : (base : ℕ) (section : List ℕ) → IsIndexOf l.index base section → 1 ≤ l.i → (k : ℕ) → 2 ^ k ≤ suc (length (whole_fdes section)) → k ≤ l.tally.most_starts_read;
+  found : (base : ℕ) (section : FrameSection) → IsIndexOf l.index base section → l.tally.found ≡ found_among l.i l.fn.apart base section;
+  few : (base : ℕ) (section : FrameSection) → IsIndexOf l.index base section → (k : ℕ) → length (whole_fdes section) ≤ 2 ^ k → l.tally.most_starts_read ≤ suc k;
+  counted : (base : ℕ) (section : FrameSection) → IsIndexOf l.index base section → 1 ≤ l.i → (k : ℕ) → 2 ^ k ≤ suc (length (whole_fdes section)) → k ≤ l.tally.most_starts_read;
 }

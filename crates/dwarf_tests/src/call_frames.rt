@@ -1,3 +1,0 @@
-//! Entries and rows of worked sections.
-mod entries;
-mod rows;
