@@ -5,10 +5,12 @@ ghost use Rattle.std.proofs.Common.{lit≤};
 use arrayvec::ArrayVec;
 use dwarf_constants::{AArch64, Error, Register};
 use dwarf_frame_rows::{
-    CfaRule, Effect, RegisterRule, RuledRegister, StoreOnHeap, UnwindContext, UnwindContextStorage,
-    UnwindExpression, UnwindTableRow,
+    BaseAddresses, CfaRule, CieOffsetEncoding, Effect, Pointer, RegisterRule, RuledRegister,
+    StoreOnHeap, UnwindContext, UnwindContextStorage, UnwindExpression, UnwindTableRow,
 };
 use dwarf_readers::ReaderOffset;
+use std::alloc::Global;
+use std::fmt::Debug;
 use std::process::Abort;
 use std::test::Fail;
 
@@ -266,6 +268,149 @@ fn texts(rt: HostRuntime) -> Result<(), Fail> {
          RegisterRuleMap { rules: [RuledRegister { register: Register(6), rule: Offset(-16) }], .. } }"
     );
     Ok(())
+}
+
+// A CIE with one rule, and a program that restores its register and another one.
+fn restored(context: &mut UnwindContext<u64, StoreOnHeap>) -> Result<(), Error> {
+    context.clear();
+    rule(context, 1)?;
+    context.save_initial_rules()?;
+    run(
+        context,
+        &[
+            Effect::Rule(Register(0), RegisterRule::SameValue),
+            Effect::Rule(Register(1), RegisterRule::SameValue),
+            Effect::RestoreRule(Register(0)),
+            Effect::RestoreRule(Register(1)),
+        ],
+    )
+}
+
+#[test]
+fn a_program_behind_a_refused_one_of_another_cie(rt: HostRuntime) -> Result<(), Fail> {
+    let mut context: UnwindContext<u64, StoreOnHeap> = UnwindContext::new(rt.alloc())?;
+    rule(&mut context, 3)?;
+    context.save_initial_rules()?;
+    let refused = run(
+        &mut context,
+        &[
+            Effect::ArgsSize(5),
+            Effect::Remember,
+            Effect::CfaOffset(24),
+            Effect::Restore,
+            Effect::Restore,
+        ],
+    );
+    assert_eq!(rt; refused, Err(Error::PopWithEmptyStack));
+    restored(&mut context)?;
+    let mut new: UnwindContext<u64, StoreOnHeap> = UnwindContext::new(rt.alloc())?;
+    restored(&mut new)?;
+    assert_eq!(rt; context.row() == new.row(), true);
+    assert_eq!(rt; context.row().register(Register(1)), None);
+    assert_eq!(rt;
+        context.row().register(Register(0)),
+        Some(RegisterRule::Offset(8))
+    );
+    Ok(())
+}
+
+// Rules for so many registers, and a row remembered behind each. Where memory is wanted, nothing is
+// changed; how many rules and rows there are then.
+fn rules_and_rows(
+    rt: &impl Abort,
+    context: &mut UnwindContext<u64, Growing>,
+    registers: u16,
+) -> (u16, u16) {
+    for register in 0..registers {
+        let effect = Effect::Rule(Register(register), RegisterRule::Offset(8));
+        if let Err(error) = context.apply(effect) {
+            assert_eq!(rt; error, Error::OutOfMemory);
+            return (register, register);
+        }
+        if let Err(error) = context.apply(Effect::Remember) {
+            assert_eq!(rt; error, Error::OutOfMemory);
+            return (register + 1, register);
+        }
+    }
+    (registers, registers)
+}
+
+#[test]
+fn want_of_memory_changes_nothing(rt: HostRuntime) -> Result<(), Fail> {
+    let mut context: UnwindContext<u64, Growing> = UnwindContext::new_in(rt.alloc())?;
+    let (rules, rows) = rules_and_rows(&rt, &mut context, 20);
+    assert_eq!(rt; context.row().registers().count(), usize::from(rules));
+    assert_eq!(rt; context.row().register(Register(rules)), None);
+    for _ in 0..rows {
+        context.apply(Effect::Restore)?;
+    }
+    assert_eq!(rt;
+        context.apply(Effect::Restore),
+        Err(Error::PopWithEmptyStack)
+    );
+    Ok(())
+}
+
+// Wants the text of a value.
+fn shows<T: Debug>(rt: &impl Abort, alloc: Global, value: &T, want: &str) -> Result<(), Fail> {
+    let text = format!(in alloc; "{value:?}")?;
+    assert_eq!(rt; text.as_str(), want);
+    Ok(())
+}
+
+#[test]
+fn texts_of_rules(rt: HostRuntime) -> Result<(), Fail> {
+    let expression: UnwindExpression<u64> = UnwindExpression {
+        offset: 5,
+        length: 2,
+    };
+    let rows = [
+        (RegisterRule::Undefined, "Undefined"),
+        (RegisterRule::SameValue, "SameValue"),
+        (RegisterRule::Offset(-8), "Offset(-8)"),
+        (RegisterRule::ValOffset(16), "ValOffset(16)"),
+        (RegisterRule::Register(Register(3)), "Register(Register(3))"),
+        (
+            RegisterRule::Expression(expression),
+            "Expression(UnwindExpression { offset: 5, length: 2 })",
+        ),
+        (
+            RegisterRule::ValExpression(expression),
+            "ValExpression(UnwindExpression { offset: 5, length: 2 })",
+        ),
+        (RegisterRule::Architectural, "Architectural"),
+        (RegisterRule::Constant(1), "Constant(1)"),
+    ];
+    for (rule, want) in rows {
+        shows(&rt, rt.alloc(), &rule, want)?;
+    }
+    let cfa: CfaRule<u64> = CfaRule::default();
+    shows(
+        &rt,
+        rt.alloc(),
+        &cfa,
+        "RegisterAndOffset { register: Register(0), offset: 0 }",
+    )?;
+    shows(
+        &rt,
+        rt.alloc(),
+        &Effect::Rule(Register(2), RegisterRule::Expression(expression)),
+        "Rule(Register(2), Expression(UnwindExpression { offset: 5, length: 2 }))",
+    )
+}
+
+#[test]
+fn texts_of_bases_and_pointers(rt: HostRuntime) -> Result<(), Fail> {
+    shows(&rt, rt.alloc(), &Pointer::Indirect(7), "Indirect(7)")?;
+    shows(&rt, rt.alloc(), &CieOffsetEncoding::U64, "U64")?;
+    shows(
+        &rt,
+        rt.alloc(),
+        &BaseAddresses::default().set_text(0x10).set_got(0x20),
+        "BaseAddresses { eh_frame_hdr: SectionBaseAddresses \
+         { section: None, text: Some(16), data_base: None }, eh_frame: SectionBaseAddresses \
+         { section: None, text: Some(16), data_base: Some(32) } }",
+    )
 }
 
 #[test]
