@@ -10,7 +10,7 @@ use Rattle.dwarf_numbers.specs.Answers.{Gives}
 use Rattle.dwarf_readers.specs.Place.{◌>>=◌}
 use Rattle.dwarf_frame_entries.specs.Entries.{Fde, PartialFde, fde_from_offset, fde_of, partial_fde_from_offset}
 use Rattle.dwarf_frame_entries.specs.SectionFdes.{StandsAtItsOffset, whole_fdes}
-use Rattle.dwarf_frame_entries.proofs.EntryPlaces.{fdes_there}
+use Rattle.dwarf_frame_entries.proofs.Laws.{fdes_there}
 use Rattle.lists.specs.Greatest.{is_greatest}
 use Rattle.lists.proofs.Laws.{by_case}
 use Rattle.framehop.specs.EntryFor.{has_index, indexed_among, indexed_entry}
