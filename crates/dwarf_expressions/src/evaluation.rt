@@ -25,7 +25,7 @@ pub trait EvaluationStorage {
     type Stack: ArrayLike<Item = u64>;
 }
 
-/// Values that lie on the heap, as many as there is memory for.
+/// A storage on the heap: for an evaluation, as many values as there is memory for.
 #[derive(Debug, Clone, Copy)]
 pub struct StoreOnHeap;
 

@@ -13,8 +13,8 @@ use Rattle.dwarf_frame_rows.specs.declared.row.UnwindTableRow.{UnwindTableRow}
 use Rattle.dwarf_frame_sections.specs.Sections.{FrameSection}
 use Rattle.dwarf_frame_programs.specs.Execution.{IsRefusal}
 use Rattle.dwarf_frame_programs.specs.ProgramRows.{IsRowFor}
-use Rattle.dwarf_frame_entries.specs.Entries.{Fde, contains, fde_from_offset}
-use Rattle.dwarf_frame_entries.specs.EntryPrograms.{fde_row}
+use Rattle.dwarf_call_frames.specs.Entries.{Fde, contains, fde_from_offset}
+use Rattle.dwarf_call_frames.specs.EntryPrograms.{fde_row}
 use Rattle.dwarf_frame_headers.specs.Header.{Header, offset_of_pointer}
 use Rattle.dwarf_frame_headers.specs.HeaderEntries.{fde_by_header, row_by_header}
 use Rattle.dwarf_frame_headers.specs.HeaderTable.{header_row, table_of}

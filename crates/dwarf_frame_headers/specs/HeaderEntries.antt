@@ -8,8 +8,8 @@ use Rattle.dwarf_frame_rows.specs.Effects.{Limits}
 use Rattle.dwarf_frame_rows.specs.Row.{Row}
 use Rattle.dwarf_frame_rows.specs.declared.base_addresses.BaseAddresses.{BaseAddresses}
 use Rattle.dwarf_frame_sections.specs.Sections.{FrameSection, eh_frame, frame_section}
-use Rattle.dwarf_frame_entries.specs.Entries.{Fde, contains, fde_from_offset}
-use Rattle.dwarf_frame_entries.specs.EntryPrograms.{fde_row}
+use Rattle.dwarf_call_frames.specs.Entries.{Fde, contains, fde_from_offset}
+use Rattle.dwarf_call_frames.specs.EntryPrograms.{fde_row}
 use Rattle.dwarf_frame_headers.specs.Header.{Header, offset_of_pointer}
 use Rattle.dwarf_frame_headers.specs.HeaderTable.{header_row, table_of}
 

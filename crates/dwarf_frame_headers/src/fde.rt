@@ -3,17 +3,17 @@ ghost use Rattle.std.specs.Prelude.{◌≡◌, false};
 ghost use Rattle.dwarf_frame_rows.specs.Effects.{limits_of};
 ghost use Rattle.dwarf_frame_programs.specs.Execution.{TakesNoMemory};
 ghost use Rattle.dwarf_frame_programs.specs.ProgramRows.{IsRowFor};
-ghost use Rattle.dwarf_frame_entries.specs.Entries.{cie_from_offset};
-ghost use Rattle.dwarf_frame_entries.specs.EntryViews.{cie_view};
-ghost use Rattle.dwarf_frame_entries.specs.Memory.{MayGive};
+ghost use Rattle.dwarf_call_frames.specs.Entries.{cie_from_offset};
+ghost use Rattle.dwarf_call_frames.specs.EntryViews.{cie_view};
+ghost use Rattle.dwarf_call_frames.specs.Memory.{MayGive};
 ghost use Rattle.dwarf_frame_headers.specs.HeaderEntries.{fde_by_header, row_by_header, section_of_header};
 
 use crate::table::EhHdrTable;
-use dwarf_constants::{EhFrameOffset, Error, Result};
-use dwarf_frame_entries::{
+use dwarf_call_frames::{
     BaseAddresses, CommonInformationEntry, EhFrame, FrameDescriptionEntry, UnwindContext,
     UnwindContextStorage, UnwindSection, UnwindTableRow,
 };
+use dwarf_constants::{EhFrameOffset, Error, Result};
 use dwarf_readers::Reader;
 
 impl<'a, R: Reader> EhHdrTable<'a, R> {

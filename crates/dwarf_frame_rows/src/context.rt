@@ -8,7 +8,7 @@ use crate::rule_map::RegisterRuleMap;
 use crate::{Effect, RegisterRule, RuledRegister, UnwindTableRow};
 use arrayvec::ArrayVec;
 use dwarf_constants::{AArch64, Error, Register, Result};
-use dwarf_expressions::ArrayLike;
+use dwarf_expressions::{ArrayLike, StoreOnHeap};
 use dwarf_readers::ReaderOffset;
 use std::alloc::{AllocError, Global};
 
@@ -23,10 +23,6 @@ pub trait UnwindContextStorage<T: ReaderOffset> {
     ghost room: { HasRoom Self.Stack.capacity 0 };
 }
 
-/// Rows of up to 192 rules each, and on the heap 4 of them.
-#[derive(Debug, Clone, Copy)]
-pub struct StoreOnHeap;
-
 /// How many rules a row of [`StoreOnHeap`] holds.
 const MAX_RULES: usize = 192;
 
@@ -36,6 +32,7 @@ const MAX_ROWS: usize = 4;
 /// A row of [`StoreOnHeap`].
 type HeapRow<T> = UnwindTableRow<T, ArrayVec<RuledRegister<RegisterRule<T>>, MAX_RULES>>;
 
+/// Rows of up to 192 rules each, and on the heap 4 of them.
 impl<T: ReaderOffset> UnwindContextStorage<T> for StoreOnHeap {
     ghost use Rattle.std.proofs.Common.{lit≤};
 

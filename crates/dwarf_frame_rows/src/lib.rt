@@ -14,7 +14,8 @@ mod rules;
 mod section;
 
 pub use base_addresses::{BaseAddresses, SectionBaseAddresses};
-pub use context::{StoreOnHeap, UnwindContext, UnwindContextStorage};
+pub use context::{UnwindContext, UnwindContextStorage};
+pub use dwarf_expressions::StoreOnHeap;
 pub use effect::Effect;
 pub use expression::UnwindExpression;
 pub use pointer::{

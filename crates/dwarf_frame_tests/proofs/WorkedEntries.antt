@@ -3,9 +3,9 @@ use Rattle.std.proofs.Common.{◌≡◌, ℕ, ◌^◌, List, [], ◌∷◌, None
 use Rattle.dwarf_readers.specs.Place.{whole}
 use Rattle.dwarf_frame_rows.specs.declared.base_addresses.BaseAddresses.{BaseAddresses}
 use Rattle.dwarf_frame_sections.specs.Sections.{FrameSection, eh_frame, frame_section}
-use Rattle.dwarf_frame_entries.specs.Entries.{Fde}
-use Rattle.dwarf_frame_entries.specs.EntryLists.{entries_from}
-use Rattle.dwarf_frame_entries.specs.SectionFdes.{whole_fdes}
+use Rattle.dwarf_call_frames.specs.Entries.{Fde}
+use Rattle.dwarf_call_frames.specs.EntryLists.{entries_from}
+use Rattle.dwarf_call_frames.specs.SectionFdes.{whole_fdes}
 
 bytes : List ℕ
 bytes = 16 ∷ 0 ∷ 0 ∷ 0 ∷ 0 ∷ 0 ∷ 0 ∷ 0 ∷ 1 ∷ 0 ∷ 1 ∷ 120 ∷ 16 ∷ 12 ∷ 7 ∷ 8 ∷ 144 ∷ 1 ∷ 0 ∷ 0 ∷ 28 ∷ 0 ∷ 0 ∷ 0 ∷ 24 ∷ 0 ∷ 0 ∷ 0 ∷ 0 ∷ 16 ∷ 0 ∷ 0 ∷ 0 ∷ 0 ∷ 0 ∷ 0 ∷ 16 ∷ 0 ∷ 0 ∷ 0 ∷ 0 ∷ 0 ∷ 0 ∷ 0 ∷ 65 ∷ 14 ∷ 16 ∷ 134 ∷ 2 ∷ 67 ∷ 13 ∷ 6 ∷ 0 ∷ 0 ∷ 0 ∷ 0 ∷ []

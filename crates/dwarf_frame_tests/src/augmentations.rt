@@ -1,8 +1,8 @@
 //! Versions, sizes and augmentations of CIEs. Written by `scripts/frame-entries`.
 
 use super::listed::{Listed, Seen, Which};
+use dwarf_call_frames::{Augmentation, Pointer};
 use dwarf_constants::{DwEhPe, Error, ReaderOffsetId};
-use dwarf_frame_entries::{Augmentation, Pointer};
 
 // The section starts at 0x10000, the code at 0x20000, and the global offset table at 0x30000.
 pub const CASES: &[Listed] = &[

@@ -2,8 +2,8 @@
 use super::augmentations::CASES;
 use super::listed::{Listed, Seen, Which};
 use super::real_sections::SECTIONS;
+use dwarf_call_frames::{Augmentation, BaseAddresses, DebugFrame, EhFrame, UnwindSection};
 use dwarf_constants::{DebugFrameOffset, DwEhPe, EhFrameOffset, Error, ReaderOffsetId};
-use dwarf_frame_entries::{Augmentation, BaseAddresses, DebugFrame, EhFrame, UnwindSection};
 use dwarf_readers::{Reader, ReaderOffset, RunTimeEndian};
 use dwarf_tests::{Outcome, ReaderTest, over_each_reader};
 use std::alloc::Global;

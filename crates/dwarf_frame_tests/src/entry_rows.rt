@@ -1,8 +1,8 @@
 //! The rows of a function that pushes and sets a frame pointer, by its entry.
-use dwarf_constants::{EhFrameOffset, Error, X86_64};
-use dwarf_frame_entries::{
+use dwarf_call_frames::{
     BaseAddresses, EhFrame, FrameDescriptionEntry, UnwindContext, UnwindSection,
 };
+use dwarf_constants::{EhFrameOffset, Error, X86_64};
 use dwarf_frame_rows::{CfaRule, RegisterRule, StoreOnHeap};
 use dwarf_readers::{EndianSlice, LittleEndian};
 use dwarf_tests::WORKED;

@@ -1,10 +1,10 @@
 //! Lists of entries that sections have.
-use dwarf_constants::{Error, Result as Answer};
-use dwarf_frame_entries::{
+use dwarf_call_frames::{
     _UnwindSectionPrivate, Augmentation, BaseAddresses, CfiEntriesIter, CieOrFde,
     CommonInformationEntry, DebugFrame, EhFrame, Entry, FrameDescriptionEntry,
     PartialFrameDescriptionEntry, Pointer, UnwindOffset, UnwindSection,
 };
+use dwarf_constants::{Error, Result as Answer};
 use dwarf_readers::{Reader, ReaderOffset};
 use dwarf_tests::{Outcome, ReaderTest};
 use std::alloc::Global;

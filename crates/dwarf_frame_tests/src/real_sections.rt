@@ -1,8 +1,8 @@
 //! Sections of call frames that compilers and assemblers built. Written by `scripts/frame-entries`.
 
 use super::listed::{Listed, Seen, Which};
+use dwarf_call_frames::{Augmentation, Pointer};
 use dwarf_constants::DwEhPe;
-use dwarf_frame_entries::{Augmentation, Pointer};
 
 pub const SECTIONS: &[Listed] = &[
     // exceptions by g++

@@ -14,10 +14,10 @@ use Rattle.dwarf_constants.specs.declared.error.Error.{Error}
 use Rattle.dwarf_frame_sections.specs.Sections.{FrameSection}
 use Rattle.framehop.specs.declared.cfi_index.IndexedFde.{IndexedFde}
 use Rattle.framehop.specs.declared.cfi_index.DwarfCfiIndexError.{DwarfCfiIndexError}
-use Rattle.dwarf_frame_entries.specs.Entries.{AnyEntry, Fde, PartialFde, fde_of}
-use Rattle.dwarf_frame_entries.specs.EntryLists.{entries_of}
-use Rattle.dwarf_frame_entries.specs.SectionFdes.{fde_in, whole_fdes}
-use Rattle.dwarf_frame_entries.specs.declared.entries.Entry.TheVariants as which
+use Rattle.dwarf_call_frames.specs.Entries.{AnyEntry, Fde, PartialFde, fde_of}
+use Rattle.dwarf_call_frames.specs.EntryLists.{entries_of}
+use Rattle.dwarf_call_frames.specs.SectionFdes.{fde_in, whole_fdes}
+use Rattle.dwarf_call_frames.specs.declared.entries.Entry.TheVariants as which
 use Rattle.framehop.specs.EntryFor.{indexed_among, fits_index, fde_fits, item_fits, has_index, indexed_entry}
 use Rattle.lists.specs.Greatest.{is_greatest, greater}
 use Rattle.lists.specs.Last.{last_of}

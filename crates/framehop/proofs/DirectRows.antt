@@ -14,8 +14,8 @@ use Rattle.dwarf_frame_programs.specs.Execution.{row_in}
 use Rattle.dwarf_frame_programs.specs.StateViews.{rule_as}
 use Rattle.dwarf_frame_programs.proofs.Views.{get_as}
 use Rattle.dwarf_frame_sections.specs.Sections.{FrameSection}
-use Rattle.dwarf_frame_entries.specs.Entries.{Fde}
-use Rattle.dwarf_frame_entries.specs.EntryPrograms.{fde_row}
+use Rattle.dwarf_call_frames.specs.Entries.{Fde}
+use Rattle.dwarf_call_frames.specs.EntryPrograms.{fde_row}
 use Rattle.framehop.specs.declared.dwarf.DwarfUnwinderError.{DwarfUnwinderError}
 use Rattle.framehop.specs.declared.dwarf.DwarfUnwinderError.TheVariants.{LookupAddressOverflow}
 use Rattle.framehop.specs.declared.error.UnwinderError.TheVariants.{Dwarf}

@@ -5,7 +5,7 @@ use Rattle.std.specs.List.{All, filter, find}
 use Rattle.std.proofs.lemmas.List.Elements.{All-head, All-tail}
 use Rattle.lists.specs.Greatest.{greater_of}
 use Rattle.lists.proofs.Laws.{by_case, first_greatest-cons}
-use Rattle.dwarf_frame_entries.specs.Entries.{Fde}
+use Rattle.dwarf_call_frames.specs.Entries.{Fde}
 use Rattle.framehop.specs.EntryFor.{indexed_among}
 
 -- what is found has what all have

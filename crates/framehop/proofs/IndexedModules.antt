@@ -10,7 +10,7 @@ use Rattle.framehop.specs.declared.cfi_index.DwarfCfiIndex.{DwarfCfiIndex}
 use Rattle.framehop.specs.declared.dwarf.DwarfUnwinderError.TheVariants.{LookupAddressOverflow}
 use Rattle.framehop.specs.declared.error.UnwinderError.TheVariants.{Dwarf, DwarfCfiIndexCouldNotFindAddress}
 use Rattle.framehop.specs.declared.unwinder.Module.{Module}
-use Rattle.dwarf_frame_entries.specs.Entries.{Fde}
+use Rattle.dwarf_call_frames.specs.Entries.{Fde}
 use Rattle.framehop.specs.EntryFor.{has_index, indexed_entry}
 use Rattle.framehop.specs.Attempt.{Fails, by_fde, by_entries, by_section, attempt}
 use Rattle.framehop.specs.CfiIndexView.{IsIndexOf}

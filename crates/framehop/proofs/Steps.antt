@@ -23,8 +23,8 @@ use Rattle.dwarf_constants.specs.declared.common.Vendor.TheVariants.{Default}
 use Rattle.dwarf_readers.specs.Place.{Stretch}
 use Rattle.dwarf_frame_rows.specs.Row.{Row}
 use Rattle.dwarf_frame_sections.specs.Sections.{FrameSection}
-use Rattle.dwarf_frame_entries.specs.Entries.{Fde}
-use Rattle.dwarf_frame_entries.specs.EntryPrograms.{fde_row}
+use Rattle.dwarf_call_frames.specs.Entries.{Fde}
+use Rattle.dwarf_call_frames.specs.EntryPrograms.{fde_row}
 use Rattle.framehop.specs.ScaledRow.{Parts, scaled_rule, parts_of}
 use Rattle.framehop.specs.EntryFor.{has_index, indexed_entry}
 use Rattle.framehop.specs.ModuleFound.{Loaded, module_found, section_of}

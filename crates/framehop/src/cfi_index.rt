@@ -3,14 +3,14 @@
 ghost use Rattle.std.specs.Prelude.{◌≡◌, ◌≢◌, ◌<◌, ◌≤◌, ◌^◌, ℕ, suc, None, Some, option_map, map, length, codes, Result, Ok, Err, IfOk, IfErr};
 ghost use Rattle.std.specs.List.Sorted.{IsNonDecreasingBy, IsPartitionPoint};
 ghost use Rattle.dwarf_frame_sections.specs.Sections.{FrameSection, frame_section};
-ghost use Rattle.dwarf_frame_entries.specs.SectionFdes.{whole_fdes};
+ghost use Rattle.dwarf_call_frames.specs.SectionFdes.{whole_fdes};
 ghost use Rattle.framehop.specs.EntryFor.{indexed_entry};
 ghost use Rattle.framehop.specs.ModuleFound.{eh_frame_of};
 ghost use Rattle.framehop.specs.CfiIndex.{index_refusal, index_entry, index_error};
 ghost use Rattle.framehop.specs.declared.cfi_index.DwarfCfiIndexError.TheVariants.{OutOfMemory};
 
 use crate::dwarf::whole_fde;
-use dwarf_frame_entries::{BaseAddresses, EhFrame, Entry, FrameDescriptionEntry, UnwindSection};
+use dwarf_call_frames::{BaseAddresses, EhFrame, Entry, FrameDescriptionEntry, UnwindSection};
 use dwarf_read_core::{Error, LittleEndian, Reader, ReaderOffset};
 use std::alloc::{AllocError, Global};
 use std::{error, fmt};

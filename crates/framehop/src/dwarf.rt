@@ -3,9 +3,9 @@
 ghost use Rattle.std.specs.Prelude.{◌≡◌, ◌≢◌, ℕ, ◌+◌, ◌^◌, ◌≤◌, false, Some, Err, IfOk, IfErr};
 ghost use Rattle.dwarf_numbers.specs.Answers.{Gives};
 ghost use Rattle.dwarf_frame_sections.specs.Sections.{frame_section};
-ghost use Rattle.dwarf_frame_entries.specs.Entries.{cie_from_offset, fde_of};
-ghost use Rattle.dwarf_frame_entries.specs.EntryViews.{cie_view};
-ghost use Rattle.dwarf_frame_entries.specs.Memory.{MayGive};
+ghost use Rattle.dwarf_call_frames.specs.Entries.{cie_from_offset, fde_of};
+ghost use Rattle.dwarf_call_frames.specs.EntryViews.{cie_view};
+ghost use Rattle.dwarf_call_frames.specs.Memory.{MayGive};
 ghost use Rattle.framehop.specs.EntryFor.{indexed_entry};
 ghost use Rattle.framehop.specs.CfiIndexView.{IsIndexOf};
 ghost use Rattle.framehop_registers.specs.Callback.{OverWords};
@@ -17,11 +17,11 @@ ghost use Rattle.framehop.specs.UnwindResults.{trial, with_registers, of_dwarf, 
 use crate::cfi_index::DwarfCfiIndex;
 use crate::unwind_result::UnwindResult;
 use crate::x86_64::unwind_frame;
-use dwarf_expressions::EvaluationStorage;
-use dwarf_frame_entries::{
+use dwarf_call_frames::{
     _UnwindSectionPrivate, BaseAddresses, CommonInformationEntry, FrameDescriptionEntry,
     PartialFrameDescriptionEntry, UnwindContext, UnwindSection,
 };
+use dwarf_expressions::EvaluationStorage;
 use dwarf_frame_rows::StoreOnHeap;
 use dwarf_read_core::{Reader, ReaderOffset};
 use framehop_rules::x86_64::{UnwindRegsX86_64, UnwindRuleX86_64};

@@ -11,8 +11,8 @@ ghost use Rattle.framehop.specs.DirectRow.{direct_sources, sum_of, value_in, wor
 ghost use Rattle.framehop.specs.ExpressionValue.{program_of, value_from};
 ghost use Rattle.framehop.specs.Memory.{IsColumnExpression, IsExpression, TakesMemory};
 
+use dwarf_call_frames::_UnwindSectionPrivate;
 use dwarf_expressions::{Evaluation, EvaluationResult, EvaluationStorage, Expression, Value};
-use dwarf_frame_entries::_UnwindSectionPrivate;
 use dwarf_frame_rows::{CfaRule, RegisterRule, UnwindExpression};
 use dwarf_read_core::{Encoding, Error, Format, Reader, Register};
 use std::alloc::{AllocError, Global};

@@ -15,7 +15,7 @@ pub use cache::{
     must_not_allocate_takes_no_memory,
 };
 pub use cfi_index::{DwarfCfiIndex, DwarfCfiIndexError, LookUp};
-pub use dwarf_frame_entries::BaseAddresses;
+pub use dwarf_call_frames::BaseAddresses;
 pub use evaluation::DwarfUnwindRegs;
 pub use framehop_rules::{Arch, Error, FrameAddress, HexNum, UnwindRule};
 pub use unwinder::Module;

@@ -1,5 +1,5 @@
 //! Look-ups of an index, compared with a pass over the whole section.
-use dwarf_frame_entries::{BaseAddresses, EhFrame, Entry, FrameDescriptionEntry, UnwindSection};
+use dwarf_call_frames::{BaseAddresses, EhFrame, Entry, FrameDescriptionEntry, UnwindSection};
 use dwarf_read_core::{EndianSlice, Error, LittleEndian};
 use framehop::{DwarfCfiIndex, DwarfCfiIndexError};
 use std::alloc::Global;

@@ -2,7 +2,7 @@
 
 ghost use Rattle.std.specs.Prelude.{◌≡◌, ◌≤◌, ◌^◌, ℕ, suc, length};
 ghost use Rattle.dwarf_frame_sections.specs.Sections.{FrameSection};
-ghost use Rattle.dwarf_frame_entries.specs.SectionFdes.{whole_fdes};
+ghost use Rattle.dwarf_call_frames.specs.SectionFdes.{whole_fdes};
 ghost use Rattle.framehop.specs.CfiIndexView.{IsIndexOf};
 ghost use Rattle.index_bench.specs.LookUps.{found_among};
 

@@ -1,7 +1,7 @@
 //! What a walk on x86_64 keeps from step to step.
 
 use crate::cache::{AllocationPolicy, MayAllocateDuringUnwind};
-use dwarf_frame_entries::UnwindContext;
+use dwarf_call_frames::UnwindContext;
 use dwarf_frame_rows::StoreOnHeap;
 use std::alloc::{AllocError, Global};
 use std::marker::PhantomData;

@@ -5,7 +5,7 @@ use Rattle.std.specs.Result.{result_ok}
 use Rattle.dwarf_constants.specs.declared.error.Error.{Error}
 use Rattle.dwarf_numbers.specs.Answers.{Gives}
 use Rattle.dwarf_frame_sections.specs.Sections.{FrameSection, frame_section}
-use Rattle.dwarf_frame_entries.specs.Entries.{PartialFde, partial_fde_from_offset}
+use Rattle.dwarf_call_frames.specs.Entries.{PartialFde, partial_fde_from_offset}
 use Rattle.framehop.specs.EntryFor.{indexed_entry}
 use Rattle.framehop.proofs.EntryPlaces.{not-refused, read-there}
 use Rattle.framehop.proofs.dwarf.indexed_fde.Goals as goal

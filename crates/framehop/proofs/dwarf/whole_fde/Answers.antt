@@ -1,7 +1,7 @@
 use Rattle.std.proofs.Common.{rules, ◌≡◌, inl, inr, false, Result, Ok, Err}
 use Rattle.dwarf_constants.specs.declared.error.Error.{Error}
 use Rattle.dwarf_numbers.specs.Answers.{Gives}
-use Rattle.dwarf_frame_entries.specs.Memory.{MayGive}
+use Rattle.dwarf_call_frames.specs.Memory.{MayGive}
 use Rattle.framehop.proofs.dwarf.whole_fde.Goals as goal
 
 -- an answer for which no memory is wanted

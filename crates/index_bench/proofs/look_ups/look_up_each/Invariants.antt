@@ -1,6 +1,6 @@
 use Rattle.std.proofs.Common.{◌≡◌, ◌≤◌, ◌^◌, ℕ, suc, length}
 use Rattle.dwarf_frame_sections.specs.Sections.{FrameSection}
-use Rattle.dwarf_frame_entries.specs.SectionFdes.{whole_fdes}
+use Rattle.dwarf_call_frames.specs.SectionFdes.{whole_fdes}
 use Rattle.framehop.specs.CfiIndexView.{IsIndexOf}
 use Rattle.index_bench.specs.LookUps.{found_among}
 use Rattle.index_bench.proofs.look_ups.look_up_each.Given as goal
