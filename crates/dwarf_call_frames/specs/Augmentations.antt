@@ -12,23 +12,27 @@ use Rattle.dwarf_frame_rows.specs.EncodedPointer.{Origins, encoding_at, pointer_
 use Rattle.dwarf_frame_rows.specs.declared.pointer.Pointer.{Pointer}
 use Rattle.dwarf_call_frames.specs.declared.augmentation.Augmentation.{Augmentation}
 
--- the letters: data follows (z); encoding of pointers to language-specific data (L); personality routine (P); encoding of an FDE's
--- addresses (R); a signal handler's frame (S); return addresses signed with the second key (B), which changes nothing here
+-- letters: z says that data follows, with its length
 abbrev pub letter_z : ℕ
 letter_z = 0x7a
 
+-- L: the encoding of addresses of language-specific data follows
 abbrev pub letter_L : ℕ
 letter_L = 0x4c
 
+-- P: a personality routine follows, its encoding first
 abbrev pub letter_P : ℕ
 letter_P = 0x50
 
+-- R: the encoding of FDEs' addresses follows
 abbrev pub letter_R : ℕ
 letter_R = 0x52
 
+-- S: the frame is a signal handler's
 abbrev pub letter_S : ℕ
 letter_S = 0x53
 
+-- B: return addresses are signed with the second key of aarch64, which changes nothing here
 abbrev pub letter_B : ℕ
 letter_B = 0x42
 

@@ -53,6 +53,7 @@ pub data Front : Type 0 where
   Ended : (past : List (Effect ℕ)) → Front
   Faulty : (error : Error) → Front
 
+-- the front after all instructions from a location on, behind a past
 abbrev pub front_from : Frame ℕ → ℕ → List (Effect ℕ) → Instructions ℕ → Front
 front_from frame location past [] = Ended past
 front_from frame location past (Err e ∷ rest) = Faulty e

@@ -153,6 +153,7 @@ listed_at rows opcode = known_or_refused opcode (look_up opcode rows)
 abbrev pub rules_and_others : Conventions → List (DwCfa × Operands)
 rules_and_others conventions = register_rules conventions ++ others conventions
 
+-- all instructions but those that set or advance the location
 abbrev pub all_but_locations : Conventions → List (DwCfa × Operands)
 all_but_locations conventions = cfa_definitions conventions ++ rules_and_others conventions
 

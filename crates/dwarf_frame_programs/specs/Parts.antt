@@ -26,10 +26,12 @@ abbrev pub expression_of : {T : Type 0} → CfaRule T → Option (UnwindExpressi
 expression_of (Expression expression) = Some expression
 expression_of (RegisterAndOffset register offset) = None
 
+-- the register that the CFA counts from, where it counts from one
 abbrev pub register_of : {T : Type 0} → CfaRule T → Option Register
 register_of (Expression expression) = None
 register_of (RegisterAndOffset register offset) = Some register
 
+-- the offset of the CFA from a register, where it counts from one
 abbrev pub offset_of : {T : Type 0} → CfaRule T → Option ℤ
 offset_of (Expression expression) = None
 offset_of (RegisterAndOffset register offset) = Some offset
@@ -66,6 +68,7 @@ cfa_of past = cfa_from (cfa_expression past) (unwrap_or (latest cfa_register_by 
 
 -- ---- the size of arguments
 
+-- the size of arguments that an effect sets, if it sets one
 abbrev pub size_by : {T : Type 0} → Effect T → Option ℕ
 size_by (ArgsSize size) = Some size
 size_by _ = None
@@ -139,6 +142,7 @@ rules_of initial past = rules_at (rule_of initial past) (filter_map ruled_regist
 
 -- ---- all parts
 
+-- The parts of a row: what it has beside its bounds.
 pub record Parts (T : Type 0) : Type 0 where
   pub saved_args_size : ℕ
   pub cfa : CfaRule T

@@ -153,5 +153,6 @@ found_or refusal None = Err (unwrap_or refusal NoUnwindInfoForAddress)
 abbrev pub row_among : {T : Type 0} → ℕ → Rows T → Result (Row T) Error
 row_among address left = found_or left.refusal (find (holds_at address) left.rows)
 
+-- a program's row for an address: the first that holds it, else the refusal, if rows end by one
 abbrev pub row_for : {T : Type 0} → Limits → Program T → ℕ → Result (Row T) Error
 row_for limits program address = row_among address (rows_of_program limits program)

@@ -36,6 +36,7 @@ pub record Turn (Data Registers : Type 0) : Type 0 where
   pub reply : Reply Registers
   pub scene : Scene Data Registers
 
+-- a reply, and the scene afterwards
 abbrev pub turn_to : {Data Registers : Type 0} → Reply Registers → Scene Data Registers → Turn Data Registers
 turn_to reply scene = record { reply = reply; scene = scene }
 
@@ -48,6 +49,7 @@ if_known (Some known) scene next = next known
 abbrev pub modules_of : {Data Registers : Type 0} → Scene Data Registers → ℕ → Option (List (Loaded Data))
 modules_of scene unwinder = slice_get scene.unwinders unwinder
 
+-- the modules of an unwinder, where the unwinder and the cache are there
 abbrev pub modules_with_cache : {Data Registers : Type 0} → Scene Data Registers → ℕ → ℕ → Option (List (Loaded Data))
 modules_with_cache scene unwinder cache = if nat_lt cache scene.caches then modules_of scene unwinder else None
 
@@ -58,12 +60,15 @@ with_new_list reply unwinders scene =
     if scene.left == 0 then turn_to Exhausted scene
     else turn_to reply (record scene { unwinders = unwinders; left = scene.left - 1 })
 
+-- a new unwinder has no module, and needs a list that can be told apart
 abbrev pub turn_of_unwinder : {Data Registers : Type 0} → Scene Data Registers → Turn Data Registers
 turn_of_unwinder scene = with_new_list Added (scene.unwinders ++ [] ∷ []) scene
 
+-- a new cache
 abbrev pub turn_of_cache : {Data Registers : Type 0} → Scene Data Registers → Turn Data Registers
 turn_of_cache scene = turn_to Added (record scene { caches = scene.caches + 1 })
 
+-- a load adds the module to those of its unwinder, which are a new list
 abbrev pub turn_of_load : {Data Registers : Type 0} → ℕ → Loaded Data → Scene Data Registers → Turn Data Registers
 turn_of_load unwinder module_ scene = if_known (modules_of scene unwinder) scene (λ modules.
     with_new_list Added (slice_set scene.unwinders unwinder (with_module (λ m. m.start) module_ modules)) scene)
@@ -75,6 +80,7 @@ turn_of_unload unwinder start scene = if_known (modules_of scene unwinder) scene
     then with_new_list Removed (slice_set scene.unwinders unwinder (without_module (λ m. m.start) start modules)) scene
     else turn_to Removed scene)
 
+-- a clone has the same modules, and shares their list
 abbrev pub turn_of_clone : {Data Registers : Type 0} → ℕ → Scene Data Registers → Turn Data Registers
 turn_of_clone unwinder scene = if_known (modules_of scene unwinder) scene (λ modules.
     turn_to Added (record scene { unwinders = scene.unwinders ++ modules ∷ [] }))
@@ -83,11 +89,13 @@ turn_of_clone unwinder scene = if_known (modules_of scene unwinder) scene (λ mo
 abbrev pub stepped : {Registers : Type 0} → Registers → Outcome (Caller Registers) → Reply Registers
 stepped registers judged = Stepped (answer_of_outcome judged) (registers_after registers judged)
 
+-- a step is the judge's from the modules of its unwinder, through any cache that is there
 abbrev pub turn_of_step : {Data Rule Registers : Type 0} → Meanings Data Rule Registers → ℕ → ℕ → Frame → Registers → Words
     → Scene Data Registers → Turn Data Registers
 turn_of_step m unwinder cache frame registers words scene = if_known (modules_with_cache scene unwinder cache) scene (λ modules.
     turn_to (stepped registers (judge m modules frame registers words)) scene)
 
+-- a new walk stands before its instruction pointer
 abbrev pub turn_of_walk : {Data Registers : Type 0} → ℕ → Registers → Scene Data Registers → Turn Data Registers
 turn_of_walk pc registers scene =
     turn_to Added (record scene { walks = scene.walks ++ (record { place = Starts pc; registers = registers }) ∷ [] })
@@ -97,6 +105,7 @@ abbrev pub moved : {Data Registers : Type 0} → ℕ → Move Registers → Scen
 moved walk made scene =
     turn_to (Moved made.answer made.walk.registers) (record scene { walks = slice_set scene.walks walk made.walk })
 
+-- the next frame of a walk is the move's by the judge, from the modules of an unwinder
 abbrev pub turn_of_frame : {Data Rule Registers : Type 0} → Meanings Data Rule Registers → ℕ → ℕ → ℕ → Words
     → Scene Data Registers → Turn Data Registers
 turn_of_frame m unwinder cache walk words scene = if_known (modules_with_cache scene unwinder cache) scene (λ modules.

@@ -17,6 +17,7 @@ with_range range bytes =
 abbrev pub whole_section : Sections → List ℕ → Option (SectionData (List ℕ))
 whole_section s name = with_range (s.section_range name) (s.section_data name)
 
+-- a segment with its range, where it has both
 abbrev pub whole_segment : Sections → List ℕ → Option (SectionData (List ℕ))
 whole_segment s name = with_range (s.segment_range name) (s.segment_data name)
 

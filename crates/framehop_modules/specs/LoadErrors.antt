@@ -3,6 +3,7 @@ use Rattle.std.specs.Prelude.{Bool, true, false}
 use Rattle.framehop_modules.specs.declared.generations.LoadError.{LoadError}
 use Rattle.framehop_modules.specs.declared.generations.LoadError.TheVariants.{GenerationsExhausted, OutOfMemory}
 
+-- the module that a refused load hands back
 abbrev pub module_returned : {M : Type 0} → LoadError M → M
 module_returned (GenerationsExhausted module_) = module_
 module_returned (OutOfMemory module_) = module_

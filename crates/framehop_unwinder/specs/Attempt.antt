@@ -18,6 +18,7 @@ pub record Meanings (Data Rule Registers : Type 0) : Type 0 where
   pub fallback : Rule
   pub attempt : Data → ℕ → Bool → Attempt Rule Registers
 
+-- the three of them as one
 abbrev pub meanings : {Data Rule Registers : Type 0} → (Rule → Bool → Registers → Words → Outcome (Caller Registers)) → Rule
     → (Data → ℕ → Bool → Attempt Rule Registers) → Meanings Data Rule Registers
 meanings meaning fallback attempt = record { meaning = meaning; fallback = fallback; attempt = attempt }
@@ -28,6 +29,7 @@ abbrev pub attempt_of : {Data Rule Registers : Type 0} → Meanings Data Rule Re
 attempt_of m first address None = SaysNothing
 attempt_of m first address (Some module_) = m.attempt module_.unwind_data (address - module_.base) first
 
+-- what the modules of a list say of an address
 abbrev pub attempt_at : {Data Rule Registers : Type 0} → Meanings Data Rule Registers → List (Loaded Data) → Bool → ℕ
     → Attempt Rule Registers
 attempt_at m modules first address = attempt_of m first address (module_found modules address)

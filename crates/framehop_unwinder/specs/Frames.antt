@@ -14,9 +14,11 @@ pub record Frame : Type 0 where
 abbrev pub first_frame : ℕ → Frame
 first_frame pc = record { address = pc; is_first = true }
 
+-- a later frame, at a caller's return address
 abbrev pub later_frame : ℕ → Frame
 later_frame return_address = record { address = return_address; is_first = false }
 
+-- the frame that an address of a frame says
 abbrev pub frame_of : FrameAddress → Frame
 frame_of (InstructionPointer address) = first_frame address
 frame_of (ReturnAddress address) = later_frame (address_of (ReturnAddress address))

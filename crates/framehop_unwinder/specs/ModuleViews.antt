@@ -3,6 +3,7 @@ use Rattle.std.specs.String.{string_bytes}
 use Rattle.framehop_unwinder.specs.Modules.{Loaded}
 use Rattle.framehop_unwinder.specs.declared.module.ModuleInner.{ModuleInner}
 
+-- what contracts see of a module's parts
 abbrev pub loaded : {Data : Type 0} → ModuleInner Data → Loaded Data
 loaded inner = record {
   name = string_bytes inner.name;

@@ -31,6 +31,7 @@ cache_at caches i = slice_index_or caches i (record { slots = []; counts = no_co
 abbrev pub new_cache : {Rule : Type 0} → Kept Rule
 new_cache = record { slots = replicate 509 None; counts = no_counts }
 
+-- modules that a generation tells apart
 abbrev pub loads_with : {Data : Type 0} → List (Loaded Data) → ℕ → Loads (Loaded Data)
 loads_with modules generation = record { modules = modules; generation = generation }
 
@@ -47,6 +48,7 @@ histories_after_move m wanted (Starts pc) loads cache histories = histories
 histories_after_move m wanted (At frame) loads cache histories = histories_after_step m wanted frame loads cache histories
 histories_after_move m wanted Over loads cache histories = histories
 
+-- the slots of each cache
 abbrev pub slots_of_all : {Rule : Type 0} → List (Kept Rule) → List (List (Option (Entry Rule)))
 slots_of_all caches = map (λ cache. cache.slots) caches
 

@@ -16,6 +16,7 @@ pub data Place : Type 0 where
   At : Frame → Place
   Over : Place
 
+-- A walk: how far it has come, and the registers there.
 pub record Walk (Registers : Type 0) : Type 0 where
   pub place : Place
   pub registers : Registers
@@ -25,6 +26,7 @@ pub record Move (Registers : Type 0) : Type 0 where
   pub answer : Result (Option Frame) Error
   pub walk : Walk Registers
 
+-- a move that answers this and comes to this place with these registers
 abbrev pub move_to : {Registers : Type 0} → Result (Option Frame) Error → Place → Registers → Move Registers
 move_to answer place registers = record { answer = answer; walk = record { place = place; registers = registers } }
 

@@ -8,11 +8,13 @@ use Rattle.framehop_unwinder.specs.declared.iterator.StackWalk.{StackWalk}
 use Rattle.framehop_unwinder.specs.declared.iterator.UnwindIteratorState.{UnwindIteratorState}
 use Rattle.framehop_unwinder.specs.declared.iterator.UnwindIteratorState.TheVariants.{Initial, Unwinding, Done}
 
+-- the place that the state of an iterator says
 abbrev pub place_of : UnwindIteratorState → Place
 place_of (Initial pc) = Starts pc
 place_of (Unwinding address) = At (frame_of address)
 place_of Done = Over
 
+-- an answer with the frame in place of its address
 abbrev pub frame_answer : Result (Option FrameAddress) Error → Result (Option Frame) Error
 frame_answer (Ok answer) = Ok (option_map frame_of answer)
 frame_answer (Err error) = Err error
@@ -21,6 +23,7 @@ frame_answer (Err error) = Err error
 abbrev pub walk_of : {Registers : Type 0} → StackWalk Registers → Walk Registers
 walk_of walk = record { place = place_of walk.state; registers = walk.regs }
 
+-- a walk that has not begun
 abbrev pub walk_from : {Registers : Type 0} → ℕ → Registers → Walk Registers
 walk_from pc registers = record { place = Starts pc; registers = registers }
 
