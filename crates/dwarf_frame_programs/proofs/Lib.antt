@@ -1,5 +1,6 @@
 pub mod Execution
 pub mod InstructionLists
+pub mod Laws
 pub mod OneRow
 pub mod Rules
 pub mod Standing

@@ -4,10 +4,10 @@
 
 mod effects;
 mod instructions;
-mod laws;
+mod row_laws;
 mod rows;
 
 pub use effects::Factors;
 pub use instructions::{CallFrameInstruction, CallFrameInstructionIter};
-pub use laws::each_address_has_one_row;
+pub use row_laws::{each_address_has_one_row, each_rule_is_seen_alike};
 pub use rows::{FrameProgram, ProgramRows, row_for_address};

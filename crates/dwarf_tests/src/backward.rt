@@ -25,7 +25,11 @@ impl<'a> Backward<'a> {
     pub fn new_at(stored: &'a [u8], endian: RunTimeEndian, first: u64) -> Backward<'a>
         requires small { length stored.now < 2 ^ 32 }
         requires fits { first + length stored.now < 2 ^ 64 }
-        ensures { ⟦<Backward<'a> as Reader>⟧.stretch result ≡ record { bytes = reverse stored.now; place = first; big = ⟦<RunTimeEndian as Endianity>⟧.is_big endian } }
+        ensures { ⟦<Backward<'a> as Reader>⟧.stretch result ≡ record {
+            bytes = reverse stored.now;
+            place = first;
+            big = ⟦<RunTimeEndian as Endianity>⟧.is_big endian;
+        } }
     {
         Backward {
             stored,

@@ -12,7 +12,7 @@ use Rattle.dwarf_frame_rows.specs.declared.row.UnwindTableRow.{UnwindTableRow}
 use Rattle.dwarf_frame_rows.specs.Row.{Row, row_of}
 use Rattle.dwarf_frame_programs.specs.Execution.{row_in}
 use Rattle.dwarf_frame_programs.specs.StateViews.{rule_as}
-use Rattle.dwarf_frame_programs.proofs.Views.{get_as}
+use Rattle.dwarf_frame_programs.proofs.Laws.{rule_seen}
 use Rattle.dwarf_frame_sections.specs.Sections.{FrameSection}
 use Rattle.dwarf_call_frames.specs.Entries.{Fde}
 use Rattle.dwarf_call_frames.specs.EntryPrograms.{fde_row}
@@ -59,7 +59,7 @@ caller_is sources first registers words parts cfa to bp h bp_is =
 
 -- the parts of a row whose expressions' places are numbers
 pub parts_alike : {T L : Type 0} (number : T → ℕ) (row : Row ℕ) (shown : UnwindTableRow T L) → row_in number shown ≡ row → parts_shown number shown ≡ parts_of row
-parts_alike number row shown is = rw (← is, get_as (rule_as number) (row_of shown).rules RBP.0, get_as (rule_as number) (row_of shown).rules RA.0) refl
+parts_alike number row shown is = rw (← is, rule_seen (rule_as number) (row_of shown).rules RBP.0, rule_seen (rule_as number) (row_of shown).rules RA.0) refl
 
 -- what the row that was found says is what its FDE says
 pub found_says : {T L : Type 0} (number : T → ℕ) (section : FrameSection) (vendor : Vendor) (fde : Fde) (address : ℕ) (shown : UnwindTableRow T L) → address < 2 ^ 64 → fde_row row_limits section vendor fde address ≡ Ok (row_in number shown)
