@@ -7,9 +7,9 @@ mod arch;
 #[cfg(test)]
 mod cfi_index;
 #[cfg(test)]
-mod documents;
-#[cfg(test)]
 mod expressions;
+#[cfg(test)]
+mod limits;
 #[cfg(test)]
 mod pop_lists;
 #[cfg(test)]

@@ -1,57 +1,18 @@
 -- What a run has written, and what is left to write.
-use Rattle.std.proofs.Common.{◌≡◌, ℕ, List, [], ◌∷◌, ◌++◌, length, take, drop, reverse, Bool, true, false, ◌↔◌, IsTrue, Result, Ok, Err, Option, Some, None, refl, sym, ◌∙◌, ap, subst, append_assoc}
-use Rattle.std.proofs.Math.Seq.{take-append_seam}
-use Rattle.std.proofs.lemmas.List.{append-nil, take-append-drop, reverse-append, length-append, length-set}
+use Rattle.std.proofs.Common.{◌≡◌, ℕ, List, [], ◌∷◌, ◌++◌, length, reverse, Bool, true, false, ◌↔◌, IsTrue, Result, Ok, Err, Option, refl, sym, ◌∙◌, ap, subst}
+use Rattle.std.proofs.lemmas.List.{reverse-append, length-append, length-set}
 use Rattle.std.specs.Io.KnownBytes.{Appends}
 use Rattle.std.specs.Prelude.{IsErrOf, OnErr}
-use Rattle.unwind_commands.specs.declared.status.RunError.{RunError}
-use Rattle.unwind_commands.specs.declared.status.RunError.TheVariants.{Write}
+use Rattle.documents.specs.declared.status.RunError.{RunError}
+use Rattle.documents.specs.declared.status.RunError.TheVariants.{Write}
 use Rattle.unwind_commands.specs.declared.document.command.Command.{Command}
 use Rattle.unwind_commands.specs.Commands.{Task, make_unwinder, make_cache, load_module, take_step}
 use Rattle.framehop.specs.ModuleFound.{Loaded}
 use Rattle.unwind_commands.specs.Numbered.{AreNumbered, unwinder_count_after, caches_after}
 use Rattle.unwind_commands.specs.Text.{unwinders_after, line_of, lines_of}
 use Rattle.unwind_commands.specs.CommandViews.{tasks_of, task_of}
-use Rattle.unwind_commands.specs.Stream.{AppendsFront}
-
--- a front of all the lines is written, and these are left
-abbrev pub IsWritten : Option (List ℕ) → Option (List ℕ) → List ℕ → List ℕ → Type 0
-IsWritten old now left all = (front : List ℕ) × Appends old now front × (front ++ left ≡ all)
-
--- nothing is written yet
-pub written_none : (old : Option (List ℕ)) (all : List ℕ) → IsWritten old old all all
-written_none None all = ([], tt, refl)
-written_none (Some xs) all = ([], sym (append-nil xs), refl)
-
--- one append after another
-pub appends_both : (old mid new : Option (List ℕ)) (xs ys : List ℕ) → Appends old mid xs → Appends mid new ys → Appends old new (xs ++ ys)
-appends_both None mid new xs ys h k = tt
-appends_both (Some us) None new xs ys h k = absurd h
-appends_both (Some us) (Some vs) None xs ys h k = absurd k
-appends_both (Some us) (Some vs) (Some ws) xs ys h k = k ∙ (ap (λ (zs : List ℕ). zs ++ ys) h ∙ append_assoc us xs ys)
-
--- a line more is written
-pub written_more : (old mid new : Option (List ℕ)) (line left all : List ℕ) → IsWritten old mid (line ++ left) all → Appends mid new line → IsWritten old new left all
-written_more old mid new line left all (front, added, whole) h = (front ++ line, appends_both old mid new front line added h, append_assoc front line left ∙ whole)
-
--- all is written
-pub written_all : (old new : Option (List ℕ)) (all : List ℕ) → IsWritten old new [] all → Appends old new all
-written_all old new all (front, added, whole) = subst (λ (xs : List ℕ). Appends old new xs) (sym (append-nil front) ∙ whole) added
-
--- a front is written
-pub written_front : (old new : Option (List ℕ)) (left all : List ℕ) → IsWritten old new left all → AppendsFront old new all
-written_front old new left all (front, added, whole) = (length front, subst (λ (xs : List ℕ). Appends old new xs) (sym (take-append_seam front left) ∙ ap (take (length front)) whole) added)
-
--- a front of a line is written before the rest
-pub begun_line : (old mid new : Option (List ℕ)) (line left all : List ℕ) → IsWritten old mid (line ++ left) all → AppendsFront mid new line → AppendsFront old new all
-begun_line old mid new line left all written (count, added) =
-    written_front old new (drop count line ++ left) all
-    (written_more old mid new (take count line) (drop count line ++ left) all
-    (subst (λ (xs : List ℕ). IsWritten old mid xs all) (ap (λ (xs : List ℕ). xs ++ left) (sym (take-append-drop count line)) ∙ append_assoc (take count line) (drop count line) left) written) added)
-
--- nothing is a front of anything
-pub begun_none : (old : Option (List ℕ)) (all : List ℕ) → AppendsFront old old all
-begun_none old all = written_front old old all all (written_none old all)
+use Rattle.documents.proofs.Laws.{begun_line, written_more}
+use Rattle.documents.specs.Stream.{AppendsFront, IsWritten}
 
 -- the last of the commands that are kept in reverse is the next
 pub next_task : (all kept : List Command) (command : Command) → all ≡ kept ++ command ∷ [] → tasks_of (reverse all) ≡ task_of command ∷ tasks_of (reverse kept)

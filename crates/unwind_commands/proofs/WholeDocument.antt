@@ -1,12 +1,12 @@
 -- A document is read up to one byte past the limit, and that decides what it says.
-use Rattle.std.proofs.Common.{◌≡◌, ℕ, ◌<◌, ◌+◌, List, length, take, Option, Some, None, inl, inr, Err, sym, ◌∙◌, ap, arith}
+use Rattle.std.proofs.Common.{◌≡◌, ℕ, ◌<◌, List, length, Option, Some, None, Err, ◌∙◌, ap}
 use Rattle.std.specs.Prelude.{IfSome}
-use Rattle.std.proofs.lemmas.List.{length-take, take_all}
-use Rattle.std.proofs.lemmas.Bool.{cases_lt, lt-ltb}
-use Rattle.unwind_commands.specs.declared.document.fault.FaultName.TheVariants.{TooLong}
+use Rattle.std.proofs.lemmas.Bool.{lt-ltb}
+use Rattle.documents.specs.declared.fault.FaultName.TheVariants.{TooLong}
 use Rattle.unwind_commands.specs.Document.{content_of}
-use Rattle.unwind_commands.specs.declared.document.TheConstants.{DOCUMENT_LIMIT}
-use Rattle.unwind_commands.specs.Stream.{part_read}
+use Rattle.documents.specs.declared.transfer.TheConstants.{DOCUMENT_LIMIT}
+use Rattle.documents.proofs.Laws.{front_says}
+use Rattle.documents.specs.Stream.{part_read}
 use Rattle.unwind_commands.specs.Text.{text_of, answer_to, ending_of, ending_for}
 
 -- what holds of a value holds of it in another way
@@ -23,13 +23,9 @@ if_some_always None P f = tt
 too_long : (bytes : List ℕ) → DOCUMENT_LIMIT < length bytes → content_of bytes ≡ Err (record { name = TooLong; number = 0 })
 too_long bytes h = rw (lt-ltb DOCUMENT_LIMIT (length bytes) h)
 
--- the front that is read says what the whole does
+-- the part that is read says what the whole does
 pub content_of-part_read : (all : List ℕ) → content_of (part_read all) ≡ content_of all
-unfolding part_read
-content_of-part_read all = elim (cases_lt DOCUMENT_LIMIT (length all)) [
-  | inl long ↦ too_long (take (DOCUMENT_LIMIT + 1) all) (omega (arith, length-take (DOCUMENT_LIMIT + 1) all)) ∙ sym (too_long all long)
-  | inr short ↦ ap content_of (take_all (DOCUMENT_LIMIT + 1) all (omega arith))
-]
+content_of-part_read = front_says content_of (Err (record { name = TooLong; number = 0 })) too_long
 
 -- so a front says what is written for the whole, and how its run ends
 pub text_of-part_read : (document all : List ℕ) → document ≡ part_read all → text_of document ≡ text_of all

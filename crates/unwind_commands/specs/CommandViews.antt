@@ -1,5 +1,5 @@
 -- What the decoded commands are, without where they lie in memory.
-use Rattle.std.specs.Prelude.{◌≡◌, List, map, option_map, Result, Ok, Err, string_bytes}
+use Rattle.std.specs.Prelude.{List, map, option_map, string_bytes}
 use Rattle.unwind_commands.specs.declared.document.command.Command.{Command}
 use Rattle.unwind_commands.specs.declared.document.command.Command.TheVariants as commands
 use Rattle.unwind_commands.specs.declared.document.command.Load.{Load}
@@ -8,15 +8,8 @@ use Rattle.unwind_commands.specs.declared.document.command.Stack.{Stack}
 use Rattle.unwind_commands.specs.declared.document.command.Step.{Step}
 use Rattle.unwind_commands.specs.declared.document.Document.{Document}
 use Rattle.unwind_commands.specs.declared.document.made.Made as memory
-use Rattle.unwind_commands.specs.declared.document.fault.Refusal.{Refusal}
-use Rattle.unwind_commands.specs.declared.document.fault.Refusal.TheVariants as refusal
 use Rattle.unwind_commands.specs.Document.{Content}
 use Rattle.unwind_commands.specs.Commands.{SectionData, Loading, StackWords, Stepping, Task, Made, make_unwinder, make_cache, load_module, take_step}
-
--- the value as f sees it, or the same error
-abbrev pub result_map : {A B E : Type 0} → (A → B) → Result A E → Result B E
-result_map f (Ok x) = Ok (f x)
-result_map f (Err e) = Err e
 
 -- a section
 abbrev pub section_view : Section → SectionData
@@ -73,9 +66,3 @@ content_view d = record { policy = d.policy; tasks = tasks_of d.commands.items }
 -- what earlier commands made
 abbrev pub made_view : memory.Made → Made
 made_view m = record { loaded = m.loaded.items; caches = m.caches }
-
--- what a call answers, seen by a view, is what is decoded or the fault of it, and may be anything where memory ran out
-abbrev pub Decodes : {A B F : Type 0} → (A → B) → Result A (Refusal F) → Result B F → Type 0
-Decodes view (Ok value) decoded = decoded ≡ Ok (view value)
-Decodes view (Err (refusal.Fault fault)) decoded = decoded ≡ Err fault
-Decodes view (Err refusal.OutOfMemory) decoded = Unit {0}

@@ -6,15 +6,15 @@ use Rattle.std.specs.Option.{ok_or, option_to_list}
 use Rattle.serde_json.specs.Data.{Data, Items, no_items, item}
 use Rattle.serde_json.specs.Find.{get, as_str, as_array}
 use Rattle.serde_json.specs.Written.{has_float}
-use Rattle.unwind_commands.specs.declared.document.fault.FaultName.TheVariants.{FloatNumber, BadCommand, BadNumber, UnknownNumber}
+use Rattle.documents.specs.declared.fault.FaultName.TheVariants.{FloatNumber, BadCommand, BadNumber, UnknownNumber}
 use Rattle.unwind_commands.specs.declared.document.command.FrameKind.{FrameKind}
 use Rattle.unwind_commands.specs.declared.document.command.FrameKind.TheVariants.{Ip, Ra}
 use Rattle.unwind_commands.specs.declared.document.command.AddressRange.{AddressRange}
 use Rattle.unwind_commands.specs.declared.document.step.Registers.{Registers}
 use Rattle.unwind_commands.specs.declared.document.command.Verb.{Verb}
 use Rattle.unwind_commands.specs.declared.document.command.Verb.TheVariants as verb
-use Rattle.unwind_commands.specs.Faults.{Checked, ◌⊛◌, both, ◌>>=◌}
-use Rattle.unwind_commands.specs.Json.{text_value, address_value, number_value, bytes_value, field, optional_value, list_of, has_only}
+use Rattle.documents.specs.Faults.{Checked, ◌⊛◌, both, ◌>>=◌}
+use Rattle.documents.specs.Json.{text_value, address_value, number_value, bytes_value, field, optional_value, list_of, has_only}
 
 -- ---- what is decoded
 

@@ -1,24 +1,18 @@
 -- What the bytes of a document say: its policy and its commands, or its first fault.
-use Rattle.std.specs.Prelude.{ℕ, ◌+◌, ◌&&◌, ◌||◌, Bool, false, nat_lt, nat_le, is_some, if◌then◌else◌, List, [], ◌∷◌, length, codes, bytes_eq, Option, None, option_and_then, ok_or, Result, Ok, Err}
-use Rattle.std.specs.Option.{option_map_or}
-use Rattle.std.specs.Str.{is_utf8}
+use Rattle.std.specs.Prelude.{ℕ, ◌+◌, ◌&&◌, ◌||◌, Bool, false, nat_lt, nat_le, is_some, if◌then◌else◌, List, [], ◌∷◌, length, codes, bytes_eq, option_and_then, ok_or, Result, Ok, Err}
 use Rattle.serde_json.specs.Data.{Data, null, boolean, number, string, array, object, Items, no_items, item, Members, no_members, member}
-use Rattle.serde_json.specs.Find.{get, as_str, as_array, is_float}
+use Rattle.serde_json.specs.Find.{get, as_array, is_float}
 use Rattle.serde_json.specs.Events.{items_len}
-use Rattle.serde_json.specs.Read.{read}
 use Rattle.serde_json.specs.Written.{has_float}
-use Rattle.unwind_commands.specs.declared.document.fault.FaultName.TheVariants.{TooLong, NotJson, FloatNumber, BadDocument}
-use Rattle.unwind_commands.specs.declared.document.fault.Fault.{Fault}
-use Rattle.unwind_commands.specs.declared.document.TheConstants.{DOCUMENT_LIMIT, COMMAND_LIMIT}
+use Rattle.documents.specs.declared.fault.FaultName.TheVariants.{TooLong, NotJson, FloatNumber, BadDocument}
+use Rattle.documents.specs.declared.fault.Fault.{Fault}
+use Rattle.documents.specs.declared.transfer.TheConstants.{DOCUMENT_LIMIT}
+use Rattle.unwind_commands.specs.declared.document.TheConstants.{COMMAND_LIMIT}
 use Rattle.unwind_commands.specs.declared.document.Policy.{Policy}
 use Rattle.unwind_commands.specs.declared.document.Policy.TheVariants.{May, Must}
-use Rattle.unwind_commands.specs.Faults.{Checked, ◌>>=◌}
-use Rattle.unwind_commands.specs.Json.{has_only}
+use Rattle.documents.specs.Faults.{Checked, ◌>>=◌, in_unit}
+use Rattle.documents.specs.Json.{has_only, is_text, json_of}
 use Rattle.unwind_commands.specs.Commands.{Task, Made, command_in, made_after}
-
--- the value that bytes spell, which are UTF-8 (RFC 3629) and JSON (RFC 8259) as the reader takes it
-unfoldable pub json_of : List ℕ → Option Data
-json_of bytes = if is_utf8 bytes then read bytes else None
 
 -- a member has a float that is the document's: the elements of the list of commands are units of their own
 abbrev pub has_own_float : List ℕ → Data → Bool
@@ -37,10 +31,6 @@ has_float_outside (number n) = is_float n
 has_float_outside (string s) = false
 has_float_outside (array ds) = has_float (array ds)
 has_float_outside (object ms) = have_own_float ms
-
--- a field is this text
-abbrev pub is_text : List ℕ → List ℕ → Data → Bool
-is_text text name d = option_map_or (λ s. bytes_eq s text) (option_and_then as_str (get name d)) false
 
 -- the fields of a document
 abbrev pub document_names : List (List ℕ)
@@ -70,11 +60,6 @@ items_in d = do
 unfoldable pub document_in : Data → Checked Items
 document_in d =
     if has_float_outside d then Err FloatNumber else if is_supported d then items_in d else Err BadDocument
-
--- a fault is that of the unit of this number
-abbrev pub in_unit : {A : Type 0} → ℕ → Checked A → Result A Fault
-in_unit n (Ok x) = Ok x
-in_unit n (Err name) = Err (record { name = name; number = n })
 
 -- a command before the others
 abbrev pub with_task : Task → Result (List Task) Fault → Result (List Task) Fault

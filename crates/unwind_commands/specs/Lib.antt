@@ -1,10 +1,7 @@
 pub mod CommandViews
 pub mod Commands
 pub mod Document
-pub mod Faults
 pub mod InstanceViews
-pub mod Json
 pub mod Lines
 pub mod Numbered
-pub mod Stream
 pub mod Text

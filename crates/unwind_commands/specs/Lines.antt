@@ -1,15 +1,11 @@
 -- The lines that a run writes, as bytes of ASCII text.
-use Rattle.std.specs.Prelude.{ℕ, List, [], ◌∷◌, ◌++◌, codes, Option, Some, None, Result, Ok, Err, false}
-use Rattle.std.specs.Fmt.{digits}
+use Rattle.std.specs.Prelude.{ℕ, List, ◌++◌, codes, Option, Some, None, Result, Ok, Err}
+use Rattle.documents.specs.Lines.{hexadecimal, line}
 use Rattle.framehop_rules.specs.Outcome.{Outcome, Caller, answer_of_outcome, registers_after}
 use Rattle.framehop_registers.specs.Registers.{ip_of, sp_of, bp_of}
 use Rattle.framehop_registers.specs.declared.error.Error.{Error}
 use Rattle.framehop_registers.specs.declared.error.Error.TheVariants.{CouldNotReadStack, FramepointerUnwindingMovedBackwards, DidNotAdvance, IntegerOverflow, ReturnAddressIsNull, OutOfMemory}
 use Rattle.framehop_registers.specs.declared.x86_64.unwindregs.UnwindRegsX86_64.{UnwindRegsX86_64}
-
--- 0x and the hexadecimal digits of a number, in lower case and without leading zeros
-abbrev pub hexadecimal : ℕ → List ℕ
-hexadecimal number = codes "0x" ++ digits 16 false number
 
 -- the name of an error, and the address that couldn't be read
 abbrev pub error_name : Error → List ℕ
@@ -35,10 +31,6 @@ registers_text registers =
 -- what a step answers, and the registers that it leaves
 abbrev pub step_text : Result (Option ℕ) Error → UnwindRegsX86_64 → List ℕ
 step_text answer registers = answer_text answer ++ registers_text registers
-
--- a text and the line feed that ends its line
-abbrev pub line : List ℕ → List ℕ
-line text = text ++ 10 ∷ []
 
 -- the line of a step
 abbrev pub step_line : Result (Option ℕ) Error → UnwindRegsX86_64 → List ℕ

@@ -7,16 +7,17 @@ use Rattle.framehop_registers.specs.Registers.{new_registers}
 use Rattle.framehop_registers.specs.declared.x86_64.unwindregs.UnwindRegsX86_64.{UnwindRegsX86_64}
 use Rattle.unwind_commands.specs.declared.document.command.FrameKind.{FrameKind}
 use Rattle.unwind_commands.specs.declared.document.command.FrameKind.TheVariants.{Ip, Ra}
-use Rattle.unwind_commands.specs.declared.document.fault.Fault.{Fault}
+use Rattle.documents.specs.declared.fault.Fault.{Fault}
 use Rattle.unwind_commands.specs.declared.document.Policy.{Policy}
 use Rattle.unwind_commands.specs.declared.document.Policy.TheVariants.{May, Must}
-use Rattle.unwind_commands.specs.declared.status.Ending.{Ending}
-use Rattle.unwind_commands.specs.declared.status.Ending.TheVariants.{Completed, Faulted}
+use Rattle.documents.specs.declared.status.Ending.{Ending}
+use Rattle.documents.specs.declared.status.Ending.TheVariants.{Completed, Faulted}
 use Rattle.unwind_commands.specs.Commands.{StackWords, SectionData, Loading, Stepping, Task, make_unwinder, load_module, take_step}
 use Rattle.unwind_commands.specs.Document.{Content, content_of}
-use Rattle.unwind_commands.specs.Faults.{fault_line}
+use Rattle.documents.specs.Faults.{fault_line}
 use Rattle.framehop.specs.Judge.{judge_at}
-use Rattle.unwind_commands.specs.Lines.{line, outcome_line}
+use Rattle.documents.specs.Lines.{line}
+use Rattle.unwind_commands.specs.Lines.{outcome_line}
 use Rattle.framehop.specs.ModuleFound.{Loaded, with_module}
 use Rattle.dwarf_frame_rows.specs.declared.base_addresses.BaseAddresses.{BaseAddresses}
 

@@ -1,32 +1,29 @@
 //! The document: JSON text in, typed commands or the first fault out.
 ghost use Rattle.std.specs.Prelude.{◌≡◌, IfOk, ok_or};
 ghost use Rattle.serde_json.specs.View.{items_view, members_view, view};
-ghost use Rattle.unwind_commands.specs.Document.{have_own_float, commands_from, content_of, document_in, has_float_outside, few_commands, is_supported, json_of, nothing_made, has_own_float, is_text, policy_of};
+ghost use Rattle.unwind_commands.specs.Document.{have_own_float, commands_from, content_of, document_in, has_float_outside, few_commands, is_supported, nothing_made, has_own_float, policy_of};
+ghost use Rattle.documents.specs.Json.{json_of, is_text};
 ghost use Rattle.unwind_commands.specs.Commands.{AreSound};
-ghost use Rattle.unwind_commands.specs.CommandViews.{Decodes, content_view, result_map, tasks_of};
-ghost use Rattle.unwind_commands.specs.declared.document.fault.FaultName.TheVariants.{NotJson};
+ghost use Rattle.documents.specs.Decoded.{Decodes, result_map};
+ghost use Rattle.unwind_commands.specs.CommandViews.{content_view, tasks_of};
+ghost use Rattle.documents.specs.declared.fault.FaultName.TheVariants.{NotJson};
 
-mod address;
 mod command;
-mod fault;
-mod field;
-mod float;
 mod load;
 mod made;
 mod step;
 
 use command::command_in;
 pub use command::{AddressRange, Command, FrameKind, Load, Section, Stack, Step};
-use fault::{Checked, in_unit};
-pub use fault::{Fault, FaultName, Refusal};
-use field::has_only;
-use float::has_float;
+use documents::check::{Checked, in_unit};
+use documents::field::has_only;
+use documents::float::has_float;
+use documents::json::{is_text, read};
+use documents::{DOCUMENT_LIMIT, Fault, FaultName, Refusal};
 use made::{Made, add};
-use serde_json::{Category, Map, Value};
+use serde_json::{Map, Value};
 use std::alloc::Global;
 
-/// The most bytes that a document may have.
-pub const DOCUMENT_LIMIT: usize = 16_777_216;
 /// The most commands that a document may have.
 pub const COMMAND_LIMIT: usize = 65_536;
 
@@ -77,19 +74,6 @@ fn has_float_outside(document: &Value) -> bool
     match document.as_object() {
         Some(members) => have_own_float(members),
         None => has_float(document),
-    }
-}
-
-/// Whether a field is this text.
-fn is_text(object: &Value, name: &str, text: &str) -> bool
-    ensures { result ≡ is_text text.now name.now (view object.now) }
-{
-    match object.get(name) {
-        Some(value) => match value.as_str() {
-            Some(found) => found == text,
-            None => false,
-        },
-        None => false,
     }
 }
 
@@ -158,19 +142,6 @@ fn commands(alloc: Global, items: &Vec<Value>) -> Result<Vec<Command>, Refusal<F
         number += 1;
     }
     Ok(commands)
-}
-
-/// The JSON value that bytes spell.
-fn read(alloc: Global, text: &[u8]) -> Result<Value, Refusal<FaultName>>
-    ensures { Decodes view result (ok_or (json_of text.now) NotJson) }
-{
-    match Value::from_slice(alloc, text) {
-        Ok(document) => Ok(document),
-        Err(e) => match e.classify() {
-            Category::Memory => Err(Refusal::OutOfMemory),
-            _ => Err(Refusal::Fault(FaultName::NotJson)),
-        },
-    }
 }
 
 /// What a document's bytes ask for, or their first fault: a text of JSON (RFC 8259) with the

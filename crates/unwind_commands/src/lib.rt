@@ -5,10 +5,6 @@ mod document;
 mod instances;
 mod lines;
 mod program;
-mod status;
-mod stream;
-mod transfer;
 
+pub use documents::{Ending, RunError, Sink, Source, StreamError, Streamed};
 pub use program::run;
-pub use status::{Ending, RunError};
-pub use stream::{Sink, Source, StreamError, Streamed};

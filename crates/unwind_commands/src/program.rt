@@ -3,14 +3,12 @@ ghost use Rattle.std.specs.Prelude.{◌≡◌, ◌↔◌, ◌≢◌, [], false, 
 ghost use Rattle.std.specs.Io.KnownBytes.{Appends};
 ghost use Rattle.unwind_commands.specs.Text.{text_of, ending_of, lines_of, value_limit};
 ghost use Rattle.unwind_commands.specs.Numbered.{AreNumbered};
-ghost use Rattle.unwind_commands.specs.Stream.{AppendsFront};
+ghost use Rattle.documents.specs.Stream.{AppendsFront};
 ghost use Rattle.unwind_commands.specs.CommandViews.{tasks_of};
 
-use crate::document::{Command, Document, Policy, Refusal, decode};
+use crate::document::{Command, Document, Policy, decode};
 use crate::instances::Instances;
-use crate::status::{Ending, RunError};
-use crate::stream::{Sink, Source};
-use crate::transfer::{read_document, write_all};
+use documents::{Ending, Refusal, RunError, Sink, Source, read_document, write_all};
 use framehop::{AllocationPolicy, MayAllocateDuringUnwind, MustNotAllocateDuringUnwind};
 use std::alloc::Global;
 

@@ -1,25 +1,23 @@
 -- What a decoded command names was made before it.
-use Rattle.std.proofs.Common.{◌≡◌, ◌≢◌, ℕ, ◌+◌, ◌-◌, ◌*◌, ◌^◌, ◌<◌, Bool, true, false, cond, List, [], ◌∷◌, length, Result, Ok, Err, Vec, Global, refl, sym, ap, subst, ◌∙◌}
-use Rattle.std.specs.Prelude.{nat_lt, codes, ok_or, IfOk, ◌==◌}
+use Rattle.std.proofs.Common.{◌≡◌, ◌≢◌, ℕ, ◌+◌, ◌-◌, ◌*◌, ◌^◌, ◌<◌, Bool, true, false, cond, List, [], ◌∷◌, length, Result, Ok, Err, refl, sym, ap, subst, ◌∙◌}
+use Rattle.std.specs.Prelude.{nat_lt, codes, ok_or, ◌==◌}
 use Rattle.std.specs.List.{slice_index_or}
 use Rattle.std.proofs.lemmas.Bool.{ltb-true, eqb-false}
 use Rattle.serde_json.specs.Data.{Data, Items, no_items, item}
 use Rattle.serde_json.specs.Written.{has_float}
-use Rattle.unwind_commands.specs.declared.document.fault.FaultName.TheVariants.{FloatNumber, BadCommand, BadNumber, UnknownNumber}
-use Rattle.unwind_commands.specs.declared.document.fault.Fault.{Fault}
-use Rattle.unwind_commands.specs.declared.document.fault.Refusal.{Refusal}
-use Rattle.unwind_commands.specs.declared.document.command.Command.{Command}
-use Rattle.unwind_commands.specs.CommandViews.{Decodes, tasks_of}
+use Rattle.documents.specs.declared.fault.FaultName.TheVariants.{FloatNumber, BadCommand, BadNumber, UnknownNumber}
+use Rattle.documents.specs.declared.fault.Fault.{Fault}
 use Rattle.unwind_commands.specs.declared.document.command.FrameKind.{FrameKind}
 use Rattle.unwind_commands.specs.declared.document.command.FrameKind.TheVariants.{Ip, Ra}
 use Rattle.unwind_commands.specs.declared.document.command.Verb.{Verb}
 use Rattle.unwind_commands.specs.declared.document.command.Verb.TheVariants as verb
-use Rattle.unwind_commands.specs.Faults.{Checked, ◌⊛◌, both, ◌>>=◌}
-use Rattle.unwind_commands.specs.Json.{field, text_value, address_value, number_value, has_only}
+use Rattle.documents.specs.Faults.{Checked, ◌⊛◌, both, ◌>>=◌}
+use Rattle.documents.specs.Json.{field, text_value, address_value, number_value, has_only}
 use Rattle.serde_json.specs.Find.{get}
 use Rattle.unwind_commands.specs.Commands.{Made, Task, make_unwinder, make_cache, load_module, take_step, Stepping, Loading, StackWords, IsSound, IsSoundStep, AreSound, kind_in, words_in, registers_in, sections_in, made_number, stepping_of, loading_of, stack_names, step_names, load_names, number_below, frame_at, frame_in, stack_at, stack_in, step_in, free_unwinder, unwinder_to_load, load_in, verb_in, task_in, command_in, made_after}
-use Rattle.unwind_commands.specs.Document.{in_unit, with_task, commands_from, nothing_made}
-use Rattle.unwind_commands.proofs.DocumentLemmas.Checks.{ok_is}
+use Rattle.documents.specs.Faults.{in_unit}
+use Rattle.unwind_commands.specs.Document.{with_task, commands_from}
+use Rattle.documents.proofs.Laws.{ok_is}
 
 -- ---- what a check that holds was made of
 

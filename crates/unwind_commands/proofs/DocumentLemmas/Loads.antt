@@ -2,10 +2,11 @@
 use Rattle.std.proofs.Common.{◌≡◌, ℕ, List, Option, option_map, Ok, String, Vec, Global, string_bytes}
 use Rattle.unwind_commands.specs.declared.document.command.AddressRange.{AddressRange}
 use Rattle.unwind_commands.specs.declared.document.command.Section.{Section}
-use Rattle.unwind_commands.specs.Faults.{Checked, ◌⊛◌, both}
+use Rattle.documents.specs.Faults.{Checked, ◌⊛◌, both}
 use Rattle.unwind_commands.specs.Commands.{loading_of, Loading, SectionData}
-use Rattle.unwind_commands.specs.CommandViews.{result_map, sections_view}
-use Rattle.unwind_commands.proofs.DocumentLemmas.Checks.{first-field, and-field, as_it_is}
+use Rattle.documents.specs.Decoded.{result_map}
+use Rattle.unwind_commands.specs.CommandViews.{sections_view}
+use Rattle.documents.proofs.Laws.{first-field, and-field, as_it_is}
 
 abbrev pub Text : Type 0
 Text = String Global

@@ -10,7 +10,7 @@ use Rattle.serde_json.specs.Find.{get, as_str}
 use Rattle.serde_json.specs.View.{view, items_view}
 use Rattle.serde_json.specs.declared.value.Value.{Value}
 use Rattle.unwind_commands.specs.Commands.{are_new, names_of}
-use Rattle.unwind_commands.proofs.DocumentLemmas.Lists.{drop-element}
+use Rattle.documents.proofs.Laws.{drop-element}
 
 abbrev pub text_cmp : Bor (List ℕ) → Bor (List ℕ) → Ordering
 text_cmp x y = slice_cmp nat_cmp x.now y.now

@@ -3,10 +3,11 @@ use Rattle.std.proofs.Common.{◌≡◌, ℕ, List, Bool, true, cond, Ok, Vec, G
 use Rattle.unwind_commands.specs.declared.document.command.FrameKind.{FrameKind}
 use Rattle.unwind_commands.specs.declared.document.command.Stack.{Stack}
 use Rattle.unwind_commands.specs.declared.document.step.Registers.{Registers}
-use Rattle.unwind_commands.specs.Faults.{Checked, ◌⊛◌, both}
+use Rattle.documents.specs.Faults.{Checked, ◌⊛◌, both}
 use Rattle.unwind_commands.specs.Commands.{stepping_of, StackWords}
-use Rattle.unwind_commands.specs.CommandViews.{result_map, words_view}
-use Rattle.unwind_commands.proofs.DocumentLemmas.Checks.{first-field, and-field, as_it_is}
+use Rattle.documents.specs.Decoded.{result_map}
+use Rattle.unwind_commands.specs.CommandViews.{words_view}
+use Rattle.documents.proofs.Laws.{first-field, and-field, as_it_is}
 
 -- what stands under a test that holds
 pub under : {A : Type 0} (has : Bool) (x y z : A) → has ≡ true → x ≡ y → x ≡ cond has y z

@@ -1,17 +1,19 @@
 -- Commands, one after the other.
 use Rattle.std.proofs.Common.{◌≡◌, ℕ, ◌+◌, List, [], ◌∷◌, ◌++◌, length, true, false, cond, Option, Some, None, Result, Ok, Err, refl, sym, ap, ◌∙◌, append_assoc}
 use Rattle.std.specs.Prelude.{nat_lt, ok_or}
-use Rattle.unwind_commands.specs.declared.document.fault.FaultName.TheVariants.{TooLong, NotJson}
+use Rattle.documents.specs.declared.fault.FaultName.TheVariants.{TooLong, NotJson}
 use Rattle.serde_json.specs.Data.{Data, Items, item}
-use Rattle.unwind_commands.specs.declared.document.fault.FaultName.{FaultName}
-use Rattle.unwind_commands.specs.declared.document.fault.Fault.{Fault}
-use Rattle.unwind_commands.specs.declared.document.fault.Refusal.{Refusal}
-use Rattle.unwind_commands.specs.declared.document.fault.Refusal.TheVariants as refusal
-use Rattle.unwind_commands.specs.CommandViews.{Decodes}
-use Rattle.unwind_commands.specs.Faults.{Checked, ◌>>=◌}
+use Rattle.documents.specs.declared.fault.FaultName.{FaultName}
+use Rattle.documents.specs.declared.fault.Fault.{Fault}
+use Rattle.documents.specs.declared.fault.Refusal.{Refusal}
+use Rattle.documents.specs.declared.fault.Refusal.TheVariants as refusal
+use Rattle.documents.specs.Decoded.{Decodes}
+use Rattle.documents.specs.Faults.{Checked, ◌>>=◌}
 use Rattle.unwind_commands.specs.Commands.{Task, Made, command_in, made_after}
-use Rattle.unwind_commands.specs.Document.{Content, commands_from, content_in, content_of, document_in, in_unit, json_of, nothing_made, policy_of, under, with_task}
-use Rattle.unwind_commands.specs.declared.document.TheConstants.{DOCUMENT_LIMIT}
+use Rattle.unwind_commands.specs.Document.{Content, commands_from, content_in, content_of, document_in, nothing_made, policy_of, under, with_task}
+use Rattle.documents.specs.Faults.{in_unit}
+use Rattle.documents.specs.Json.{json_of}
+use Rattle.documents.specs.declared.transfer.TheConstants.{DOCUMENT_LIMIT}
 
 -- commands that are decoded, and what the rest gives
 abbrev pub behind : List Task → Result (List Task) Fault → Result (List Task) Fault

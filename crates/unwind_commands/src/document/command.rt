@@ -2,15 +2,17 @@
 ghost use Rattle.std.specs.Prelude.{◌≡◌, codes};
 ghost use Rattle.serde_json.specs.View.{view};
 ghost use Rattle.unwind_commands.specs.Commands.{command_in, task_in, verb_in};
-ghost use Rattle.unwind_commands.specs.Json.{field};
-ghost use Rattle.unwind_commands.specs.CommandViews.{Decodes, made_view, task_of};
+ghost use Rattle.documents.specs.Json.{field};
+ghost use Rattle.documents.specs.Decoded.{Decodes};
+ghost use Rattle.unwind_commands.specs.CommandViews.{made_view, task_of};
 
-use super::fault::{Checked, FaultName, Refusal};
-use super::field::{has_only, text_field};
-use super::float::has_float;
 use super::load::load_in;
 use super::made::Made;
 use super::step::step_in;
+use documents::check::Checked;
+use documents::field::{has_only, text_field};
+use documents::float::has_float;
+use documents::{FaultName, Refusal};
 use serde_json::Value;
 use std::alloc::Global;
 

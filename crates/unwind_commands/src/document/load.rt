@@ -2,17 +2,17 @@
 ghost use Rattle.std.specs.Prelude.{◌≡◌, codes, option_map, option_and_then, IfOk, string_bytes};
 ghost use Rattle.serde_json.specs.Find.{as_str, get};
 ghost use Rattle.serde_json.specs.View.{view, items_view};
-ghost use Rattle.unwind_commands.specs.Json.{bytes_value, list_of, field, optional_value, text_value};
+ghost use Rattle.documents.specs.Json.{bytes_value, list_of, field, optional_value, text_value};
 ghost use Rattle.unwind_commands.specs.Commands.{are_distinct, is_refused, load_in, names_of, range_between, section_in, section_name_in, sections_in, unwinder_to_load};
-ghost use Rattle.unwind_commands.specs.CommandViews.{Decodes, load_view, made_view, section_view, sections_view};
+ghost use Rattle.documents.specs.Decoded.{Decodes};
+ghost use Rattle.unwind_commands.specs.CommandViews.{load_view, made_view, section_view, sections_view};
 
 use super::command::{AddressRange, Load, Section};
-use super::fault::{Checked, FaultName, Refusal, both, weighed, with_fault};
-use super::field::{
-    address_field, address_in, has_only, needed, number_field, text_field, text_in,
-};
 use super::made::Made;
-use hex::FromHexError;
+use documents::check::{Checked, both, weighed, with_fault};
+use documents::field::{address_field, address_in, has_only, needed, number_field, text_field};
+use documents::json::bytes_in;
+use documents::{FaultName, Refusal};
 use serde_json::Value;
 use std::alloc::{AllocError, Global};
 use std::collections::BTreeSet;
@@ -60,18 +60,6 @@ fn range_in(object: &Value) -> Checked<Option<AddressRange>>
             Err(name) => Err(name),
         },
         (Some(_), None) | (None, Some(_)) => Err(FaultName::BadCommand),
-    }
-}
-
-/// The bytes that a text spells, two hexadecimal digits each.
-fn bytes_in(alloc: Global, value: &Value) -> Result<Vec<u8>, Refusal<FaultName>>
-    ensures { Decodes (λ bytes. bytes.items) result (bytes_value (view value.now)) }
-{
-    let text = text_in(value)?;
-    match hex::decode(alloc, text.as_bytes()) {
-        Ok(bytes) => Ok(bytes),
-        Err(FromHexError::OutOfMemory) => Err(Refusal::OutOfMemory),
-        Err(_) => Err(Refusal::Fault(FaultName::BadHex)),
     }
 }
 

@@ -1,14 +1,16 @@
 //! Steps.
 ghost use Rattle.std.specs.Prelude.{◌≡◌, codes};
 ghost use Rattle.serde_json.specs.View.{view, items_view};
-ghost use Rattle.unwind_commands.specs.Json.{address_value, list_of, field};
+ghost use Rattle.documents.specs.Json.{address_value, list_of, field};
 ghost use Rattle.unwind_commands.specs.Commands.{made_number, kind_in, frame_in, registers_in, words_in, stack_at, stack_in, step_in};
-ghost use Rattle.unwind_commands.specs.CommandViews.{Decodes, result_map, words_view, step_view, made_view};
+ghost use Rattle.documents.specs.Decoded.{Decodes, result_map};
+ghost use Rattle.unwind_commands.specs.CommandViews.{words_view, step_view, made_view};
 
 use super::command::{FrameKind, Stack, Step};
-use super::fault::{Checked, FaultName, Refusal, both, weighed, with_fault};
-use super::field::{address_field, address_in, has_only, needed, number_field, text_field};
 use super::made::Made;
+use documents::check::{Checked, both, weighed, with_fault};
+use documents::field::{address_field, address_in, has_only, needed, number_field, text_field};
+use documents::{FaultName, Refusal};
 use serde_json::Value;
 use std::alloc::Global;
 

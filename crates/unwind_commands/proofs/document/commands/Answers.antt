@@ -3,11 +3,13 @@ use Rattle.std.proofs.lemmas.List.{map-append}
 use Rattle.serde_json.specs.View.{view, items_view}
 use Rattle.unwind_commands.specs.declared.document.command.Command.{Command}
 use Rattle.unwind_commands.specs.Commands.{command_in}
-use Rattle.unwind_commands.specs.Document.{commands_from, in_unit, nothing_made}
-use Rattle.unwind_commands.specs.CommandViews.{Decodes, made_view, task_of, tasks_of}
-use Rattle.unwind_commands.proofs.DocumentLemmas.Lists.{drop-element}
+use Rattle.unwind_commands.specs.Document.{commands_from, nothing_made}
+use Rattle.documents.specs.Faults.{in_unit}
+use Rattle.documents.specs.Decoded.{Decodes}
+use Rattle.unwind_commands.specs.CommandViews.{made_view, task_of, tasks_of}
+use Rattle.documents.proofs.Laws.{drop-element}
 use Rattle.unwind_commands.proofs.DocumentLemmas.Tasks.{behind, behind-step, behind-refused}
-use Rattle.unwind_commands.proofs.DocumentLemmas.Checks.{same_refusal, unit_answer-decoded, unit_answer-good}
+use Rattle.documents.proofs.Laws.{same_refusal, unit_answer-decoded, unit_answer-good}
 use Rattle.unwind_commands.proofs.document.commands.Goals as goal
 
 pub returns-in_err-command : goal.returns-in_err-command

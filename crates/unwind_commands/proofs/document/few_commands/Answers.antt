@@ -5,7 +5,7 @@ use Rattle.serde_json.proofs.Views.{items_len-items_view}
 use Rattle.serde_json.specs.Events.{items_len}
 use Rattle.serde_json.specs.View.{items_view}
 use Rattle.serde_json.specs.declared.value.Value.{Value}
-use Rattle.unwind_commands.specs.declared.document.fault.FaultName.TheVariants.{BadDocument}
+use Rattle.documents.specs.declared.fault.FaultName.TheVariants.{BadDocument}
 use Rattle.unwind_commands.specs.Document.{few_commands}
 use Rattle.unwind_commands.specs.declared.document.TheConstants.{COMMAND_LIMIT}
 use Rattle.unwind_commands.proofs.document.few_commands.Goals as goal

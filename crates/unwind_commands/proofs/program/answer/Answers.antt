@@ -2,7 +2,8 @@ use Rattle.unwind_commands.specs.CommandViews.{tasks_of}
 use Rattle.unwind_commands.specs.Document.{nothing_made}
 use Rattle.unwind_commands.proofs.DecodedNumbers.{numbered_sound}
 use Rattle.unwind_commands.specs.Text.{text_of}
-use Rattle.unwind_commands.proofs.Runs.{begun_none, on_err}
+use Rattle.documents.proofs.Laws.{begun_none}
+use Rattle.unwind_commands.proofs.Runs.{on_err}
 use Rattle.unwind_commands.proofs.program.answer.Goals as goal
 
 pub run_document-requires-clause-numbered : goal.run_document-requires-clause-numbered

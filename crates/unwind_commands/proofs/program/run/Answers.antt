@@ -2,9 +2,10 @@ use Rattle.std.proofs.Common.{◌≡◌, ℕ, List, ◌∙◌, subst}
 use Rattle.std.proofs.lemmas.Result.{on_ok_weaker, on_err_weaker, IfOk-weaker}
 use Rattle.std.specs.Io.KnownBytes.{Appends}
 use Rattle.std.specs.Prelude.{IfSome}
-use Rattle.unwind_commands.specs.Stream.{AppendsFront, part_read}
+use Rattle.documents.specs.Stream.{AppendsFront, part_read}
 use Rattle.unwind_commands.specs.Text.{text_of, ending_of}
-use Rattle.unwind_commands.proofs.Runs.{begun_none, on_err}
+use Rattle.documents.proofs.Laws.{begun_none}
+use Rattle.unwind_commands.proofs.Runs.{on_err}
 use Rattle.unwind_commands.proofs.WholeDocument.{if_some_always, if_some_map, text_of-part_read, ending_of-part_read}
 use Rattle.unwind_commands.proofs.program.run.Goals as goal
 

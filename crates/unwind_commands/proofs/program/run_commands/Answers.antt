@@ -4,7 +4,9 @@ use Rattle.unwind_commands.specs.InstanceViews.{modules_in, caches_in}
 use Rattle.unwind_commands.specs.Text.{lines_of}
 use Rattle.unwind_commands.specs.Commands.{Task}
 use Rattle.unwind_commands.specs.CommandViews.{tasks_of, task_of}
-use Rattle.unwind_commands.proofs.Runs.{IsWritten, begun_next, on_err, written_front, written_next, numbered_after, next_task, not_failed}
+use Rattle.documents.specs.Stream.{IsWritten}
+use Rattle.documents.proofs.Laws.{written_front}
+use Rattle.unwind_commands.proofs.Runs.{begun_next, on_err, written_next, numbered_after, next_task, not_failed}
 use Rattle.unwind_commands.proofs.program.run_commands.Goals as goal
 
 pub returns-in_err-line-clause-begun : goal.returns-in_err-line-clause-begun

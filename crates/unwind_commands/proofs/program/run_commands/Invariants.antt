@@ -3,7 +3,7 @@ use Rattle.unwind_commands.specs.Numbered.{AreNumbered}
 use Rattle.unwind_commands.specs.InstanceViews.{modules_in, caches_in}
 use Rattle.unwind_commands.specs.Text.{lines_of}
 use Rattle.unwind_commands.specs.CommandViews.{tasks_of}
-use Rattle.unwind_commands.proofs.Runs.{IsWritten}
+use Rattle.documents.specs.Stream.{IsWritten}
 use Rattle.unwind_commands.proofs.program.run_commands.Given as goal
 
 -- what is written and the lines of the commands that are left, which stand in reverse, make the lines of all

@@ -1,6 +1,6 @@
 use Rattle.std.proofs.Common.{sym, ap, ◌∙◌}
-use Rattle.unwind_commands.specs.CommandViews.{result_map}
-use Rattle.unwind_commands.proofs.DocumentLemmas.Checks.{weighed-decoded, passed_on}
+use Rattle.documents.specs.Decoded.{result_map}
+use Rattle.documents.proofs.Laws.{weighed-decoded, passed_on}
 use Rattle.unwind_commands.proofs.DocumentLemmas.Steps.{under}
 use Rattle.unwind_commands.proofs.DocumentLemmas.Loads.{loaded, seven_fields}
 use Rattle.unwind_commands.proofs.document.load.load_in.Goals as goal

@@ -1,6 +1,6 @@
 use Rattle.std.proofs.Common.{string_bytes, sym, ap, ◌∙◌}
-use Rattle.unwind_commands.specs.CommandViews.{result_map}
-use Rattle.unwind_commands.proofs.DocumentLemmas.Checks.{weighed-decoded, passed_on}
+use Rattle.documents.specs.Decoded.{result_map}
+use Rattle.documents.proofs.Laws.{weighed-decoded, passed_on}
 use Rattle.unwind_commands.proofs.DocumentLemmas.Steps.{under}
 use Rattle.unwind_commands.proofs.DocumentLemmas.Loads.{section, bytes_view, three_fields}
 use Rattle.unwind_commands.proofs.document.load.section_in.Goals as goal

@@ -2,9 +2,10 @@ use Rattle.std.proofs.Common.{Vec, Global, [], ◌∷◌, sym, ap, ◌∙◌}
 use Rattle.std.proofs.lemmas.List.{map-append}
 use Rattle.unwind_commands.specs.declared.document.command.Section.{Section}
 use Rattle.unwind_commands.specs.Commands.{section_in}
-use Rattle.unwind_commands.specs.CommandViews.{result_map, section_view, sections_view}
-use Rattle.unwind_commands.proofs.DocumentLemmas.Checks.{weighed-decoded}
-use Rattle.unwind_commands.proofs.DocumentLemmas.Lists.{kept-good, kept-bad}
+use Rattle.documents.specs.Decoded.{result_map}
+use Rattle.unwind_commands.specs.CommandViews.{section_view, sections_view}
+use Rattle.documents.proofs.Laws.{weighed-decoded}
+use Rattle.documents.proofs.Laws.{kept-good, kept-bad}
 use Rattle.unwind_commands.proofs.document.load.sections.Goals as goal
 use Rattle.unwind_commands.proofs.document.load.sections.Goals.{in-Ok+in_ok-push-in-Ok, in-Err}
 

@@ -1,9 +1,9 @@
 use Rattle.std.proofs.Common.{◌≡◌, drop}
 use Rattle.serde_json.specs.View.{items_view}
-use Rattle.unwind_commands.specs.Json.{list_of}
+use Rattle.documents.specs.Json.{list_of}
 use Rattle.unwind_commands.specs.Commands.{section_in}
 use Rattle.unwind_commands.specs.CommandViews.{sections_view}
-use Rattle.unwind_commands.proofs.DocumentLemmas.Checks.{so_far, joined}
+use Rattle.documents.specs.Elements.{so_far, joined}
 use Rattle.unwind_commands.proofs.document.load.sections.Given as goal
 
 abbrev pub invariant-loop-item : goal.invariant-loop-item

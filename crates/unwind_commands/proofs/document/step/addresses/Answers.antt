@@ -1,6 +1,6 @@
 use Rattle.std.proofs.Common.{ℕ, Vec, Global, sym, ap, ◌∙◌}
-use Rattle.unwind_commands.specs.Json.{address_value}
-use Rattle.unwind_commands.proofs.DocumentLemmas.Lists.{kept-good, kept-bad}
+use Rattle.documents.specs.Json.{address_value}
+use Rattle.documents.proofs.Laws.{kept-good, kept-bad}
 use Rattle.unwind_commands.proofs.document.step.addresses.Goals as goal
 use Rattle.unwind_commands.proofs.document.step.addresses.Goals.{in-Ok+in_ok-push-in-Ok, in-Err}
 

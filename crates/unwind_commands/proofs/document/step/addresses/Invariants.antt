@@ -1,7 +1,7 @@
 use Rattle.std.proofs.Common.{◌≡◌, drop}
 use Rattle.serde_json.specs.View.{items_view}
-use Rattle.unwind_commands.specs.Json.{address_value, list_of}
-use Rattle.unwind_commands.proofs.DocumentLemmas.Checks.{so_far, joined}
+use Rattle.documents.specs.Json.{address_value, list_of}
+use Rattle.documents.specs.Elements.{so_far, joined}
 use Rattle.unwind_commands.proofs.document.step.addresses.Given as goal
 
 abbrev pub invariant-loop-item : goal.invariant-loop-item

@@ -1,6 +1,6 @@
 use Rattle.std.proofs.Common.{sym, ap, ◌∙◌}
-use Rattle.unwind_commands.specs.CommandViews.{result_map}
-use Rattle.unwind_commands.proofs.DocumentLemmas.Checks.{same_fault}
+use Rattle.documents.specs.Decoded.{result_map}
+use Rattle.documents.proofs.Laws.{same_fault}
 use Rattle.unwind_commands.proofs.DocumentLemmas.Steps.{under, registers, three_registers}
 use Rattle.unwind_commands.proofs.document.step.registers_in.Goals as goal
 

@@ -1,8 +1,8 @@
 use Rattle.std.proofs.Common.{sym, ap, ◌∙◌}
-use Rattle.unwind_commands.specs.Faults.{◌>>=◌}
+use Rattle.documents.specs.Faults.{◌>>=◌}
 use Rattle.unwind_commands.specs.Commands.{stack_at}
-use Rattle.unwind_commands.specs.CommandViews.{result_map}
-use Rattle.unwind_commands.proofs.DocumentLemmas.Checks.{weighed-decoded, passed_on}
+use Rattle.documents.specs.Decoded.{result_map}
+use Rattle.documents.proofs.Laws.{weighed-decoded, passed_on}
 use Rattle.unwind_commands.proofs.DocumentLemmas.Steps.{under, two_fields}
 use Rattle.unwind_commands.proofs.document.step.stack_in.Goals as goal
 

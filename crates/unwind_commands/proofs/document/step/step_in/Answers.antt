@@ -1,8 +1,9 @@
 use Rattle.std.proofs.Common.{sym, ap, ◌∙◌, codes}
 use Rattle.serde_json.specs.View.{view}
 use Rattle.unwind_commands.specs.Commands.{stepping_of, made_number}
-use Rattle.unwind_commands.specs.CommandViews.{result_map, words_view}
-use Rattle.unwind_commands.proofs.DocumentLemmas.Checks.{weighed-decoded, passed_on}
+use Rattle.documents.specs.Decoded.{result_map}
+use Rattle.unwind_commands.specs.CommandViews.{words_view}
+use Rattle.documents.proofs.Laws.{weighed-decoded, passed_on}
 use Rattle.unwind_commands.proofs.DocumentLemmas.Steps.{under, five_fields}
 use Rattle.unwind_commands.proofs.document.step.step_in.Goals as goal
 

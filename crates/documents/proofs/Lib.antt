@@ -1,0 +1,4 @@
+mod Digits
+pub mod Laws
+mod Members
+mod Texts

@@ -1,0 +1,6 @@
+pub mod Decoded
+pub mod Elements
+pub mod Faults
+pub mod Json
+pub mod Lines
+pub mod Stream

@@ -1,0 +1,20 @@
+//! What a program needs that reads one JSON document and writes lines, or the document's first fault: streams, the fields
+//! of JSON values, faults, and how a run ends.
+#![tactic(auto)]
+
+mod address;
+pub mod check;
+pub mod decoding;
+mod fault;
+pub mod field;
+pub mod float;
+pub mod json;
+mod status;
+mod stream;
+mod transfer;
+pub mod writing;
+
+pub use fault::{Fault, FaultName, Refusal};
+pub use status::{Ending, RunError};
+pub use stream::{Sink, Source, StreamError, Streamed};
+pub use transfer::{DOCUMENT_LIMIT, read_document, write_all};

@@ -1,0 +1,29 @@
+//! Laws of documents that are read in part, and of lines that are written one after the other. The functions do nothing when
+//! the program runs.
+ghost use Rattle.std.specs.Prelude.{◌≡◌, ◌<◌, ℕ, List, [], ◌++◌, Option, length};
+ghost use Rattle.std.specs.Io.KnownBytes.{Appends};
+ghost use Rattle.documents.specs.Stream.{AppendsFront, IsWritten, part_read};
+ghost use Rattle.documents.specs.declared.transfer.TheConstants.{DOCUMENT_LIMIT};
+
+/// Lines are written one after the other: nothing, one more, a front of one, and all.
+pub fn lines_by_parts()
+    ensures none { (old : Option (List ℕ)) (all : List ℕ) → IsWritten old old all all }
+    ensures more { (old mid new : Option (List ℕ)) (line left all : List ℕ)
+        → IsWritten old mid (line ++ left) all → Appends mid new line
+        → IsWritten old new left all }
+    ensures begun { (old mid new : Option (List ℕ)) (line left all : List ℕ)
+        → IsWritten old mid (line ++ left) all → AppendsFront mid new line
+        → AppendsFront old new all }
+    ensures front { (old new : Option (List ℕ)) (left all : List ℕ)
+        → IsWritten old new left all → AppendsFront old new all }
+    ensures all { (old new : Option (List ℕ)) (all : List ℕ)
+        → IsWritten old new [] all → Appends old new all }
+{}
+
+/// Where all documents past the limit come to one thing, the part that is read of a document says
+/// what all of it does.
+pub fn parts_say_the_whole<A>()
+    ensures { (says : List ℕ → A) (refused : A)
+        → ((bytes : List ℕ) → DOCUMENT_LIMIT < length bytes → says bytes ≡ refused)
+        → (all : List ℕ) → says (part_read all) ≡ says all }
+{}
