@@ -129,4 +129,4 @@ entry-left section s =
     left-then (initial_length-left section.limit s) (λ length h.
     left-if (length.0.0 == 0) (left-ok h)
     (left-then (left-from h (split-left length.0.0 length.1)) (λ parts k.
-    left-value (entry_within section (record { offset = offset_in section s; length = length.0.0; format = length.0.1 }) parts.0) (λ entry. left-ok k))))
+    left-value (entry_within section (record { offset = offset_in section s; length = length.0.0 }) length.0.1 parts.0) (λ entry. left-ok k))))

@@ -36,6 +36,9 @@ each_if false p q = q
 pub each_ok : {X : Type 0} {P : X → Type 0} {x : X} → P x → Each P (Ok x)
 each_ok h = record { each = h }
 
+pub each_err : {X : Type 0} {P : X → Type 0} {e : Error} → Each P (Err e)
+each_err = record { each = tt }
+
 -- .. where the answer is known
 pub each_known : {X : Type 0} (P : X → Type 0) (answer : Result X Error) (x : X) → Each P answer → answer ≡ Ok x → P x
 each_known {X = X} P answer x h is = let Q : Result X Error → Type 0 = IsEach P in subst Q is h.each

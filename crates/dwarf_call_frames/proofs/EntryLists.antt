@@ -20,7 +20,7 @@ entry_takes section s =
     leaves_then (initial_length_takes section.limit s) (λ length le.
     leaves_if (length.0.0 == 0) (leaves_ok le)
     (leaves_then (leaves_from {m = 4} (split_takes length.0.0 length.1) (omega arith)) (λ parts less.
-    leaves_then {n = 0} (leaves_none (entry_within section (record { offset = offset_in section s; length = length.0.0; format = length.0.1 }) parts.0)) (λ entry _. leaves_ok less))))
+    leaves_then {n = 0} (leaves_none (entry_within section (record { offset = offset_in section s; length = length.0.0 }) length.0.1 parts.0)) (λ entry _. leaves_ok less))))
 
 ended_takes : (ends : Bool) (s : Stretch) (read : Option AnyEntry × Stretch) → 4 + length read.1.bytes ≤ length s.bytes → TakesItem 4 s (unless_ended ends read)
 ended_takes true s (None, rest) le = leaves_ok tt

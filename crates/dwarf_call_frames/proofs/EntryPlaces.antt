@@ -5,6 +5,7 @@ use Rattle.std.specs.List.{All, filter_map}
 use Rattle.std.specs.Result.{result_ok}
 use Rattle.std.proofs.lemmas.List.Elements.{All-nil, All-cons, All-head, All-tail}
 use Rattle.lists.specs.Items.{Answer, items_from, items_within}
+use Rattle.dwarf_constants.specs.declared.common.Format.{Format}
 use Rattle.dwarf_constants.specs.declared.error.Error.{Error}
 use Rattle.dwarf_readers.specs.Place.{Stretch, ◌>>=◌, behind_at, byte_at, split_at, string_at}
 use Rattle.dwarf_readers.specs.Remainder.{size_of}
@@ -17,14 +18,14 @@ use Rattle.dwarf_call_frames.specs.declared.entries.Entry.TheVariants as which
 use Rattle.dwarf_call_frames.specs.Augmentations.{augmentation_at}
 use Rattle.dwarf_call_frames.specs.Entries.{AnyEntry, Cie, Fde, Head, PartialFde, address_encoding, addresses_at, cie_among, cie_at, cie_from_offset, entry_at, entry_within, fde_from_offset, fde_of, id_at, lsda_at, offset_in, partial_among, partial_at, partial_fde_from_offset, register_at, sizes_at}
 use Rattle.dwarf_call_frames.specs.EntryLists.{entries_from, entries_of, entry_there, next_length, unless_ended}
-use Rattle.dwarf_call_frames.specs.SectionFdes.{StandsAtItsOffset, StandsThere, fde_in, whole_fdes}
+use Rattle.dwarf_call_frames.specs.SectionFdes.{IsOfSection, StandsAtItsOffset, StandsThere, fde_in, whole_fdes}
 use Rattle.dwarf_call_frames.proofs.Behind.{IsBehind, behind-both, behind-none, entry-left, left-known}
-use Rattle.dwarf_call_frames.proofs.Each.{Each, each_if, each_known, each_ok, each_then, each_value}
+use Rattle.dwarf_call_frames.proofs.Each.{Each, each_err, each_if, each_known, each_ok, each_then, each_value}
 
 -- ---- the heads of entries
 
-cie-head : (section : FrameSection) (head : Head) (s : Stretch) → Each (λ (cie : Cie). cie.head ≡ head) (cie_at section head s)
-cie-head section head s =
+cie-head : (section : FrameSection) (head : Head) (format : Format) (s : Stretch) → Each (λ (cie : Cie). cie.head ≡ head) (cie_at section head format s)
+cie-head section head format s =
     each_value (byte_at s) (λ version.
     each_value _ (λ _.
     each_value (string_at version.1) (λ text.
@@ -43,11 +44,11 @@ abbrev HasHead : Head → AnyEntry → Type 0
 HasHead head (which.Cie cie) = cie.head ≡ head
 HasHead head (which.Fde partial) = partial.head ≡ head
 
-entry-head : (section : FrameSection) (head : Head) (s : Stretch) → Each (HasHead head) (entry_within section head s)
-entry-head section head s =
-    each_value (id_at (section.kind.id_width head.format) s) (λ id.
-    each_if (section.kind.is_cie head.format id.0)
-    (each_then (cie-head section head id.1) (λ cie is. each_ok is))
+entry-head : (section : FrameSection) (head : Head) (format : Format) (s : Stretch) → Each (HasHead head) (entry_within section head format s)
+entry-head section head format s =
+    each_value (id_at (section.kind.id_width format) s) (λ id.
+    each_if (section.kind.is_cie format id.0)
+    (each_then (cie-head section head format id.1) (λ cie is. each_ok is))
     (each_then (partial-head section head (offset_in section s) id) (λ partial is. each_ok is)))
 
 -- an entry that stands at this offset
@@ -68,8 +69,8 @@ entry-offset section s =
     each_value (initial_length_at section.limit s) (λ length.
     each_if (length.0.0 == 0) (each_ok tt)
     (each_value (split_at length.0.0 length.1) (λ parts.
-    let head : Head = record { offset = offset_in section s; length = length.0.0; format = length.0.1 } in
-    each_then (entry-head section head parts.0) (λ entry is. each_ok (head-offset head entry is)))))
+    let head : Head = record { offset = offset_in section s; length = length.0.0 } in
+    each_then (entry-head section head length.0.1 parts.0) (λ entry is. each_ok (head-offset head entry is)))))
 
 -- ---- what stands at an offset
 
@@ -136,6 +137,54 @@ there-within (suc n) section s h = there-by n section s h (there-within n sectio
 pub entries_there : (section : FrameSection) → All (StandsThere section) (entries_of section)
 unfolding entries_from
 entries_there section = there-within (suc (size_of section.within.bytes)) section section.within.bytes (behind-none section.within.bytes)
+
+-- ---- the section of an FDE
+
+partial-within : (section : FrameSection) (head : Head) (place : ℕ) (id : ℕ × Stretch) → Each (λ (partial : PartialFde). partial.within ≡ section.within) (partial_at section head place id)
+partial-within section head place id = each_value (offset_below section.limit id.0) (λ pointer. each_value _ (λ cie_offset. each_ok refl))
+
+entry-within : (section : FrameSection) (head : Head) (format : Format) (s : Stretch) → Each (λ (entry : AnyEntry). IsOfSection section (Ok entry)) (entry_within section head format s)
+entry-within section head format s =
+    each_value (id_at (section.kind.id_width format) s) (λ id.
+    each_if (section.kind.is_cie format id.0)
+    (each_value (cie_at section head format id.1) (λ cie. each_ok tt))
+    (each_then (partial-within section head (offset_in section s) id) (λ partial is. each_ok is)))
+
+abbrev MayBeOfSection : FrameSection → Option AnyEntry → Type 0
+MayBeOfSection section None = Unit {0}
+MayBeOfSection section (Some entry) = IsOfSection section (Ok entry)
+
+read-within : (section : FrameSection) (s : Stretch) → Each (λ (read : Option AnyEntry × Stretch). MayBeOfSection section read.0) (entry_at section s)
+read-within section s =
+    each_value (initial_length_at section.limit s) (λ length.
+    each_if (length.0.0 == 0) (each_ok tt)
+    (each_value (split_at length.0.0 length.1) (λ parts.
+    each_then (entry-within section (record { offset = offset_in section s; length = length.0.0 }) length.0.1 parts.0) (λ entry is. each_ok is))))
+
+among-within : (section : FrameSection) (offset : ℕ) (read : Option AnyEntry) → MayBeOfSection section read → Each (λ (partial : PartialFde). partial.within ≡ section.within) (partial_among offset read)
+among-within section offset None is = each_err
+among-within section offset (Some (which.Cie cie)) is = each_err
+among-within section offset (Some (which.Fde partial)) is = each_ok is
+
+-- an FDE at an offset of a section is read in it
+there-is-of : (section : FrameSection) (offset : ℕ) → Each (λ (partial : PartialFde). partial.within ≡ section.within) (partial_fde_from_offset section offset)
+there-is-of section offset =
+    each_value (behind_at offset section.within.bytes) (λ rest.
+    each_then (read-within section rest) (λ read is. among-within section offset read.0 is))
+
+there-of : (section : FrameSection) (item : Result AnyEntry Error) → StandsThere section item → IsOfSection section item
+there-of section (Ok (which.Cie cie)) h = tt
+there-of section (Ok (which.Fde partial)) h = each_known _ (partial_fde_from_offset section partial.head.offset) partial (there-is-of section partial.head.offset) h
+there-of section (Err e) h = tt
+
+all-of : (section : FrameSection) (entries : List (Result AnyEntry Error)) → All (StandsThere section) entries → All (IsOfSection section) entries
+all-of section [] all = All-nil (IsOfSection section)
+all-of section (item ∷ entries) all =
+    All-cons (IsOfSection section) item entries (there-of section item (All-head (StandsThere section) item entries all)) (all-of section entries (All-tail (StandsThere section) item entries all))
+
+-- each FDE of a section is read in it
+pub fdes_of_section : (section : FrameSection) → All (IsOfSection section) (entries_of section)
+fdes_of_section section = all-of section (entries_of section) (entries_there section)
 
 -- ---- whole FDEs
 

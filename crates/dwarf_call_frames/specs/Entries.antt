@@ -22,15 +22,15 @@ use Rattle.dwarf_call_frames.specs.declared.augmentation.Augmentation.{Augmentat
 use Rattle.dwarf_call_frames.specs.declared.entries.Entry.{Entry}
 use Rattle.dwarf_call_frames.specs.declared.entries.Entry.TheVariants as which
 
--- what entries of both kinds begin with: the offset from the section's start, and the length that the entry says, in its format
+-- what entries of both kinds begin with: the offset from the section's start, and the length that the entry says
 pub record Head : Type 0 where
   pub offset : ℕ
   pub length : ℕ
-  pub format : Format
 
--- a common information entry
+-- a common information entry, with the format of its length
 pub record Cie : Type 0 where
   pub head : Head
+  pub format : Format
   pub version : ℕ
   pub address_size : ℕ
   pub augmentation : Option Augmentation
@@ -84,8 +84,8 @@ abbrev pub register_at : ℕ → Stretch → Result (ℕ × Stretch) Error
 register_at version s = if version == 1 then byte_at s else unsigned_16_at s
 
 -- a CIE's parts behind its id
-abbrev pub cie_at : FrameSection → Head → Stretch → Result Cie Error
-cie_at section head s = do
+abbrev pub cie_at : FrameSection → Head → Format → Stretch → Result Cie Error
+cie_at section head format s = do
   version ← byte_at s
   _ ← requirement (is_version version.0) (UnknownVersion version.0)
   text ← string_at version.1
@@ -96,6 +96,7 @@ cie_at section head s = do
   augmentation ← augmentation_at section.limit (origins_in section.within size.0 None) text.0.bytes register.1
   Ok (record {
     head = head;
+    format = format;
     version = version.0;
     address_size = size.0;
     augmentation = augmentation.0;
@@ -119,12 +120,12 @@ partial_at section head place id = do
   cie_offset ← ok_or (section.kind.cie_place place pointer) OffsetOutOfBounds
   Ok (record { head = head; cie_offset = cie_offset; within = section.within; rest = id.1 })
 
--- an entry from its id on
-abbrev pub entry_within : FrameSection → Head → Stretch → Result AnyEntry Error
-entry_within section head s = do
-  id ← id_at (section.kind.id_width head.format) s
-  if section.kind.is_cie head.format id.0 then (do
-    cie ← cie_at section head id.1
+-- an entry from its id on, which is as wide as the format of its length says
+abbrev pub entry_within : FrameSection → Head → Format → Stretch → Result AnyEntry Error
+entry_within section head format s = do
+  id ← id_at (section.kind.id_width format) s
+  if section.kind.is_cie format id.0 then (do
+    cie ← cie_at section head format id.1
     Ok (which.Cie cie)) else (do
       partial ← partial_at section head (offset_in section s) id
       Ok (which.Fde partial))
@@ -135,7 +136,7 @@ entry_at section s = do
   length ← initial_length_at section.limit s
   if length.0.0 == 0 then Ok (None, length.1) else (do
     parts ← split_at length.0.0 length.1
-    entry ← entry_within section (record { offset = offset_in section s; length = length.0.0; format = length.0.1 }) parts.0
+    entry ← entry_within section (record { offset = offset_in section s; length = length.0.0 }) length.0.1 parts.0
     Ok (Some entry, parts.1))
 
 -- ---- entries at an offset
@@ -219,10 +220,14 @@ fde_with limit partial cie = do
     instructions = lsda.1;
   })
 
+-- the CIE of an FDE
+abbrev pub cie_of : ℕ → SectionKind → PartialFde → Result Cie Error
+cie_of limit kind partial = cie_from_offset (record { limit = limit; kind = kind; within = partial.within }) partial.cie_offset
+
 -- the FDE, once its CIE is read
 abbrev pub fde_of : ℕ → SectionKind → PartialFde → Result Fde Error
 fde_of limit kind partial = do
-  cie ← cie_from_offset (record { limit = limit; kind = kind; within = partial.within }) partial.cie_offset
+  cie ← cie_of limit kind partial
   fde_with limit partial cie
 
 -- the FDE at an offset of the section

@@ -12,6 +12,7 @@ use Rattle.dwarf_call_frames.specs.declared.entries.Entry.TheVariants as which
 abbrev pub cie_view : {R E O : Type 0} → (R → Stretch) → (O → ℕ) → CommonInformationEntry R E O → Cie
 cie_view stretch value cie = record {
   head = head_view value cie.head;
+  format = cie.format;
   version = cie.version;
   address_size = cie.address_size;
   augmentation = cie.augmentation;

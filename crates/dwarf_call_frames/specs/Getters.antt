@@ -8,7 +8,7 @@ use Rattle.dwarf_call_frames.specs.declared.augmentation.Augmentation.{Augmentat
 
 -- the size of addresses, the format and the version
 abbrev pub unit_encoding : Cie → Encoding
-unit_encoding cie = record { address_size = cie.address_size; format = cie.head.format; version = cie.version }
+unit_encoding cie = record { address_size = cie.address_size; format = cie.format; version = cie.version }
 
 -- the encoding of pointers to language-specific data
 abbrev pub lsda_encoding : Cie → Option DwEhPe

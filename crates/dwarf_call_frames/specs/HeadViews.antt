@@ -5,4 +5,4 @@ use Rattle.dwarf_call_frames.specs.declared.cie.Head.{Head as Read}
 
 -- offset and length as numbers
 abbrev pub head_view : {T : Type 0} → (T → ℕ) → Read T → Head
-head_view value head = record { offset = value head.offset; length = value head.length; format = head.format }
+head_view value head = record { offset = value head.offset; length = value head.length }

@@ -28,6 +28,12 @@ StandsThere section (Ok (which.Cie cie)) = cie_from_offset section cie.head.offs
 StandsThere section (Ok (which.Fde partial)) = partial_fde_from_offset section partial.head.offset ≡ Ok partial
 StandsThere section (Err e) = Unit {0}
 
+-- The item of a list, where it is an FDE, is read in this section.
+abbrev pub IsOfSection : FrameSection → Result AnyEntry Error → Type 0
+IsOfSection section (Ok (which.Cie cie)) = Unit {0}
+IsOfSection section (Ok (which.Fde partial)) = partial.within ≡ section.within
+IsOfSection section (Err e) = Unit {0}
+
 -- The FDE is what stands at its offset in the section.
 abbrev pub StandsAtItsOffset : FrameSection → Fde → Type 0
 StandsAtItsOffset section fde = fde_from_offset section fde.head.offset ≡ Ok fde

@@ -7,6 +7,7 @@ use crate::augmentation::Augmentation;
 use dwarf_constants::{DwEhPe, Encoding, Format, Register};
 use dwarf_frame_rows::Pointer;
 use dwarf_readers::{Reader, ReaderOffset};
+use std::alloc::AllocError;
 
 /// What entries of both kinds begin with.
 #[derive(Debug, Clone, Copy)]
@@ -14,13 +15,14 @@ pub(crate) struct Head<T> {
     // In bytes from the section's start.
     pub(crate) offset: T,
     pub(crate) length: T,
-    pub(crate) format: Format,
 }
 
 /// What FDEs have in common (DWARF 5, 6.4.1).
-#[derive(Debug, Clone, Drop)]
+#[derive(Debug, Drop)]
 pub struct CommonInformationEntry<R: Reader> {
     pub(crate) head: Head<R::Offset>,
+    // Of the length: FDEs don't keep theirs.
+    pub(crate) format: Format,
     pub(crate) version: u8,
     pub(crate) address_size: u8,
     pub(crate) augmentation: Option<Augmentation>,
@@ -28,6 +30,28 @@ pub struct CommonInformationEntry<R: Reader> {
     pub(crate) data_alignment_factor: i64,
     pub(crate) return_address_register: Register,
     pub(crate) instructions: R,
+}
+
+/// A copy takes no memory.
+impl<R: Reader> Clone for CommonInformationEntry<R> {
+    ghost is_clone = { λ cie copy. copy ≡ cie };
+
+    ghost is_infallible = { λ _. Unit {0} };
+
+    #[inline(always)]
+    fn clone(&self) -> std::result::Result<Self, AllocError> {
+        Ok(CommonInformationEntry {
+            head: self.head,
+            format: self.format,
+            version: self.version,
+            address_size: self.address_size,
+            augmentation: self.augmentation,
+            code_alignment_factor: self.code_alignment_factor,
+            data_alignment_factor: self.data_alignment_factor,
+            return_address_register: self.return_address_register,
+            instructions: self.instructions,
+        })
+    }
 }
 
 impl<R: Reader> CommonInformationEntry<R> {
@@ -46,7 +70,7 @@ impl<R: Reader> CommonInformationEntry<R> {
     {
         Encoding {
             address_size: self.address_size,
-            format: self.head.format,
+            format: self.format,
             version: u16::from(self.version),
         }
     }

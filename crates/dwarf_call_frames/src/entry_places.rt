@@ -2,7 +2,7 @@
 ghost use Rattle.std.specs.List.{All};
 ghost use Rattle.dwarf_frame_sections.specs.Sections.{FrameSection};
 ghost use Rattle.dwarf_call_frames.specs.EntryLists.{entries_of};
-ghost use Rattle.dwarf_call_frames.specs.SectionFdes.{StandsAtItsOffset, StandsThere, whole_fdes};
+ghost use Rattle.dwarf_call_frames.specs.SectionFdes.{IsOfSection, StandsAtItsOffset, StandsThere, whole_fdes};
 
 /// Each entry in the list of a section is what [`UnwindSection::cie_from_offset`] or
 /// [`UnwindSection::partial_fde_from_offset`] gives at its offset. It does nothing when the program
@@ -13,6 +13,13 @@ ghost use Rattle.dwarf_call_frames.specs.SectionFdes.{StandsAtItsOffset, StandsT
 #[tactic(auto, using(crate::proofs::Laws::entries_there))]
 pub fn listed_entries_stand_at_their_offsets()
     ensures { (section : FrameSection) → All (StandsThere section) (entries_of section) }
+{}
+
+/// Each FDE in the list of a section is read in that section, as its CIE is. It does nothing when the
+/// program runs.
+#[tactic(auto, using(crate::proofs::Laws::fdes_of_section))]
+pub fn listed_fdes_are_of_their_section()
+    ensures { (section : FrameSection) → All (IsOfSection section) (entries_of section) }
 {}
 
 /// Each FDE in the list of a section's entries that isn't refused is what

@@ -3,11 +3,11 @@ ghost use Rattle.std.specs.Prelude.{◌≡◌, ◌≤◌};
 ghost use Rattle.dwarf_numbers.specs.Answers.{Gives};
 ghost use Rattle.dwarf_readers.specs.Place.{Reads};
 ghost use Rattle.dwarf_frame_rows.specs.EncodedPointer.{origins_of};
-ghost use Rattle.dwarf_call_frames.specs.Entries.{addresses_at, cie_from_offset, contains, end_address, fde_of, fde_with, lsda_at};
+ghost use Rattle.dwarf_call_frames.specs.Entries.{addresses_at, cie_of, contains, end_address, fde_of, fde_with, lsda_at};
 ghost use Rattle.dwarf_call_frames.specs.EntryViews.{cie_view};
 ghost use Rattle.dwarf_call_frames.specs.Getters.{is_signal_trampoline, personality};
 ghost use Rattle.dwarf_call_frames.specs.Memory.{MayGive};
-ghost use Rattle.dwarf_frame_sections.specs.Sections.{frame_section};
+ghost use Rattle.dwarf_frame_sections.specs.Sections.{section_data};
 
 use crate::augmentation::{Augmentation, read_data};
 use crate::cie::{CommonInformationEntry, Head};
@@ -78,17 +78,18 @@ impl<'bases, Section: UnwindSection<R>, R: Reader> PartialFrameDescriptionEntry<
     }
 
     /// The whole entry, with its CIE, for which `get_cie` is called once with the section in which
-    /// this entry was read. Where `get_cie` answers as `cie_from_offset` does, so does this; its want of
-    /// memory is passed on.
+    /// this entry was read, its bases, and where the CIE stands. Where `get_cie` answers that as
+    /// `cie_from_offset` does, this is the entry or the refusal; its want of memory is passed on.
+    #[inline(always)]
     pub fn parse<
         F: FnMut(&Section, &BaseAddresses, Section::Offset) -> Result<CommonInformationEntry<R>>,
     >(&self, mut get_cie: F) -> Result<FrameDescriptionEntry<R>>
         requires { F.IsAlwaysCallable get_cie }
-        ensures { (may_want : _) → ((f : F) (s : _) (b : _) (o : Section.Offset) (r : _) (after : F)
-            → F.step f s b o r after
-            → MayGive may_want (cie_view R.stretch R.Offset.value) r (cie_from_offset
-            (frame_section R.Offset.limit Section.kind (Section.size s.now)
-            (R.stretch (Section.reader s.now)) b.now) (Section.Offset.number o)))
+        ensures { (may_want : _) → ((s : _) (b : _) (o : Section.Offset) (r : _) (after : F)
+            → self.now.within ≡ section_data (Section.size s.now) (R.stretch (Section.reader s.now)) b.now
+            → self.now.cie_offset ≡ Section.Offset.number o → F.step get_cie s b o r after
+            → MayGive may_want (cie_view R.stretch R.Offset.value) r
+            (cie_of R.Offset.limit Section.kind self.now))
             → MayGive may_want (λ fde. fde) result
             (fde_of R.Offset.limit Section.kind self.now) }
     {

@@ -21,7 +21,10 @@ pub use dwarf_frame_rows::{
 };
 pub use dwarf_frame_sections::{DebugFrame, EhFrame};
 pub use entries::{CfiEntriesIter, CieOrFde, Entry};
-pub use entry_places::{listed_entries_stand_at_their_offsets, listed_fdes_stand_at_their_offsets};
+pub use entry_places::{
+    listed_entries_stand_at_their_offsets, listed_fdes_are_of_their_section,
+    listed_fdes_stand_at_their_offsets,
+};
 pub use fde::{FrameDescriptionEntry, PartialFrameDescriptionEntry};
 pub use section::UnwindSection;
 pub use table::UnwindTable;

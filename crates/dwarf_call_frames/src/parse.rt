@@ -13,7 +13,7 @@ use crate::cie::{CommonInformationEntry, Head};
 use crate::entries::CieOrFde;
 use crate::fde::PartialFrameDescriptionEntry;
 use crate::section::UnwindSection;
-use dwarf_constants::{Error, Register, Result};
+use dwarf_constants::{Error, Format, Register, Result};
 use dwarf_frame_rows::{
     _UnwindSectionPrivate, BaseAddresses, CieOffsetEncoding, PointerEncodingParameters,
 };
@@ -38,12 +38,8 @@ pub(crate) fn parse_entry<'bases, Section: UnwindSection<R>, R: Reader>(
         return Ok(None);
     }
     let body = input.split(length)?;
-    let head = Head {
-        offset,
-        length,
-        format,
-    };
-    let entry = parse_body(section, bases, head, body)?;
+    let head = Head { offset, length };
+    let entry = parse_body(section, bases, head, format, body)?;
     Ok(Some(entry))
 }
 
@@ -57,24 +53,25 @@ fn offset_in<R: Reader>(section: &R, reader: &R) -> R::Offset
     reader.offset_from(section)
 }
 
-// Reads an entry from its id on.
+// Reads an entry from its id on, whose length is in this format.
 #[inline(always)]
 fn parse_body<'bases, Section: UnwindSection<R>, R: Reader>(
     section: &Section,
     bases: &'bases BaseAddresses,
     head: Head<R::Offset>,
+    format: Format,
     body: R,
 ) -> Result<CieOrFde<'bases, Section, R>>
     requires { IsPart (R.stretch (Section.reader section.now)) (R.stretch body) }
     ensures { Gives (entry_view R.stretch R.Offset.value) result (entry_within
         (frame_section R.Offset.limit Section.kind (Section.size section.now)
         (R.stretch (Section.reader section.now)) bases.now)
-        (head_view R.Offset.value head) (R.stretch body)) }
+        (head_view R.Offset.value head) format (R.stretch body)) }
 {
     let mut rest = body;
-    let id = read_id(Section::cie_offset_encoding(head.format), &mut rest)?;
-    if Section::is_cie(head.format, id) {
-        let cie = parse_cie(section, bases, head, rest)?;
+    let id = read_id(Section::cie_offset_encoding(format), &mut rest)?;
+    if Section::is_cie(format, id) {
+        let cie = parse_cie(section, bases, head, format, rest)?;
         return Ok(CieOrFde::Cie(cie));
     }
     let place = offset_in(section.section(), &body);
@@ -108,13 +105,14 @@ fn parse_cie<Section: UnwindSection<R>, R: Reader>(
     section: &Section,
     bases: &BaseAddresses,
     head: Head<R::Offset>,
+    format: Format,
     input: R,
 ) -> Result<CommonInformationEntry<R>>
     requires { (R.stretch (Section.reader section.now)).place ≤ (R.stretch input).place }
     ensures { Gives (cie_view R.stretch R.Offset.value) result (cie_at
         (frame_section R.Offset.limit Section.kind (Section.size section.now)
         (R.stretch (Section.reader section.now)) bases.now)
-        (head_view R.Offset.value head) (R.stretch input)) }
+        (head_view R.Offset.value head) format (R.stretch input)) }
 {
     let mut rest = input;
     let version = rest.read_u8()?;
@@ -135,6 +133,7 @@ fn parse_cie<Section: UnwindSection<R>, R: Reader>(
     let augmentation = parse_augmentation(text, &parameters, &mut rest)?;
     Ok(CommonInformationEntry {
         head,
+        format,
         version,
         address_size,
         augmentation,

@@ -1,5 +1,5 @@
 -- An index that is sorted from the FDEs of a section finds what the section's index has.
-use Rattle.std.proofs.Common.{◌≡◌, ℕ, ◌+◌, ◌-◌, ◌<◌, ◌≤◌, Bool, true, false, cond, List, [], ◌∷◌, ◌++◌, map, reverse, Option, Some, None, Result, Ok, Err, nat_cmp, is_lt, refl, sym, ap, ◌∙◌, arith}
+use Rattle.std.proofs.Common.{◌≡◌, ℕ, ◌+◌, ◌-◌, ◌<◌, ◌≤◌, Bool, true, false, cond, List, [], ◌∷◌, ◌++◌, map, reverse, Option, Some, None, Result, Ok, Err, nat_cmp, is_lt, refl, sym, ap, ◌∙◌, arith, subst}
 use Rattle.std.specs.Prelude.{nat_le, nat_lt, ◌&&◌, is_none, option_map}
 use Rattle.std.specs.List.{All, cons_option, filter, filter_map, find, list_all}
 use Rattle.std.specs.Result.{result_ok}
@@ -7,16 +7,16 @@ use Rattle.std.specs.Option.{option_or}
 use Rattle.std.specs.List.Sorted.{IsNonDecreasingBy, IsPermutation, IsStableByKey, ties}
 use Rattle.std.proofs.lemmas.Bool.{and_parts}
 use Rattle.std.proofs.lemmas.Bool.Decides.{nat_tests}
-use Rattle.std.proofs.lemmas.List.{length-map, length-reverse}
+use Rattle.std.proofs.lemmas.List.{append_assoc, length-map, length-reverse}
 use Rattle.std.proofs.lemmas.List.Elements.{All-nil, All-cons, All-head, All-tail}
 use Rattle.std.proofs.lemmas.List.Sorted.{All-permutation, IsPermutation-sym, IsPermutation-reverse, length_permutation}
 use Rattle.dwarf_constants.specs.declared.error.Error.{Error}
 use Rattle.dwarf_frame_sections.specs.Sections.{FrameSection}
 use Rattle.framehop.specs.declared.cfi_index.IndexedFde.{IndexedFde}
 use Rattle.framehop.specs.declared.cfi_index.DwarfCfiIndexError.{DwarfCfiIndexError}
-use Rattle.dwarf_call_frames.specs.Entries.{AnyEntry, Fde, PartialFde, fde_of}
+use Rattle.dwarf_call_frames.specs.Entries.{AnyEntry, Cie, Fde, PartialFde, fde_of}
 use Rattle.dwarf_call_frames.specs.EntryLists.{entries_of}
-use Rattle.dwarf_call_frames.specs.SectionFdes.{fde_in, whole_fdes}
+use Rattle.dwarf_call_frames.specs.SectionFdes.{IsOfSection, fde_in, whole_fdes}
 use Rattle.dwarf_call_frames.specs.declared.entries.Entry.TheVariants as which
 use Rattle.framehop.specs.EntryFor.{indexed_among, fits_index, fde_fits, item_fits, has_index, indexed_entry}
 use Rattle.lists.specs.Greatest.{is_greatest, greater}
@@ -232,3 +232,29 @@ none-gathered section base kept left none is = record {
   error = ap (first_value (item_error base section)) (sym is);
   fdes = rw (none, is) refl;
 }
+
+-- a CIE is passed
+pub cie-gathered : (section : FrameSection) (base : ℕ) (kept : List IndexedFde) (all left : List (Result AnyEntry Error)) (cie : Cie) → all ≡ Ok (which.Cie cie) ∷ left → Gathered section base kept all
+    → Gathered section base kept left
+cie-gathered section base kept all left cie is before = record {
+  error = before.error ∙ ap (first_value (item_error base section)) is;
+  fdes = before.fdes ∙ ap (λ entries. kept ++ map (index_entry base) (whole_among section entries)) is;
+}
+
+-- an FDE that an index can have is kept
+pub fde-gathered : (section : FrameSection) (base : ℕ) (kept : List IndexedFde) (all left : List (Result AnyEntry Error)) (partial : PartialFde) (fde : Fde) → all ≡ Ok (which.Fde partial) ∷ left
+    → fde_of section.limit section.kind partial ≡ Ok fde → index_refusal base fde ≡ None → Gathered section base kept all → Gathered section base (kept ++ index_entry base fde ∷ []) left
+fde-gathered section base kept all left partial fde is whole fits before = record {
+  error = before.error ∙ ap (first_value (item_error base section)) is ∙ rw (whole, fits) refl;
+  fdes = before.fdes ∙ ap (λ entries. kept ++ map (index_entry base) (whole_among section entries)) is ∙ rw whole (sym (append_assoc kept (index_entry base fde ∷ []) (map (index_entry base) (whole_among section left))));
+}
+
+-- ---- the entries that are left are of the section
+
+-- the first of them
+pub first-of : (section : FrameSection) (all left : List (Result AnyEntry Error)) (item : Result AnyEntry Error) → all ≡ item ∷ left → All (IsOfSection section) all → IsOfSection section item
+first-of section all left item is of = All-head (IsOfSection section) item left (subst (All (IsOfSection section)) is of)
+
+-- and the others
+pub others-of : (section : FrameSection) (all left : List (Result AnyEntry Error)) (item : Result AnyEntry Error) → all ≡ item ∷ left → All (IsOfSection section) all → All (IsOfSection section) left
+others-of section all left item is of = All-tail (IsOfSection section) item left (subst (All (IsOfSection section)) is of)

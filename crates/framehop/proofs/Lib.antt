@@ -9,3 +9,4 @@ pub mod IndexedModules
 pub mod ModulesInOrder
 pub mod RowsOfRules
 pub mod Steps
+pub mod WholeFdes

@@ -7,6 +7,7 @@ pub mod DirectViews
 pub mod EntryFor
 pub mod ExpressionValue
 pub mod Judge
+pub mod LastCie
 pub mod Memory
 pub mod ModuleFound
 pub mod ModuleViews

@@ -2,15 +2,21 @@
 
 ghost use Rattle.std.specs.Prelude.{◌≡◌, ◌≢◌, ◌<◌, ◌≤◌, ◌^◌, ℕ, suc, None, Some, option_map, map, length, codes, Result, Ok, Err, IfOk, IfErr};
 ghost use Rattle.std.specs.List.Sorted.{IsNonDecreasingBy, IsPartitionPoint};
-ghost use Rattle.dwarf_frame_sections.specs.Sections.{FrameSection, frame_section};
+ghost use Rattle.dwarf_numbers.specs.Answers.{Gives};
+ghost use Rattle.dwarf_frame_sections.specs.Sections.{FrameSection, frame_section, section_data};
+ghost use Rattle.dwarf_call_frames.specs.Entries.{cie_of, fde_of};
+ghost use Rattle.dwarf_call_frames.specs.EntryViews.{cie_view};
+ghost use Rattle.framehop.specs.LastCie.{IsLastCie};
 ghost use Rattle.dwarf_call_frames.specs.SectionFdes.{whole_fdes};
 ghost use Rattle.framehop.specs.EntryFor.{indexed_entry};
 ghost use Rattle.framehop.specs.ModuleFound.{eh_frame_of};
 ghost use Rattle.framehop.specs.CfiIndex.{index_refusal, index_entry, index_error};
 ghost use Rattle.framehop.specs.declared.cfi_index.DwarfCfiIndexError.TheVariants.{OutOfMemory};
 
-use crate::dwarf::whole_fde;
-use dwarf_call_frames::{BaseAddresses, EhFrame, Entry, FrameDescriptionEntry, UnwindSection};
+use dwarf_call_frames::{
+    BaseAddresses, CommonInformationEntry, EhFrame, Entry, FrameDescriptionEntry,
+    PartialFrameDescriptionEntry, UnwindOffset, UnwindSection,
+};
 use dwarf_read_core::{Error, LittleEndian, Reader, ReaderOffset};
 use std::alloc::{AllocError, Global};
 use std::{error, fmt};
@@ -103,6 +109,61 @@ fn indexed<R: Reader>(
     Ok(IndexedFde { start, offset })
 }
 
+/// The CIE that was read last, and its offset in the section.
+#[derive(Drop)]
+struct LastCie<R: Reader> {
+    offset: u64,
+    cie: CommonInformationEntry<R>,
+}
+
+/// An FDE with this CIE, which is its own.
+#[inline(always)]
+fn fde_with<R: Reader, Section: UnwindSection<R>>(
+    partial: &PartialFrameDescriptionEntry<'_, Section, R>,
+    cie: &CommonInformationEntry<R>,
+) -> dwarf_read_core::Result<FrameDescriptionEntry<R>>
+    requires { cie_of R.Offset.limit Section.kind partial.now
+        ≡ Ok (cie_view R.stretch R.Offset.value cie.now) }
+    ensures { Gives (λ fde. fde) result (fde_of R.Offset.limit Section.kind partial.now) }
+{
+    let get_cie = move |_section: &Section, _bases: &BaseAddresses, _offset: Section::Offset| -> dwarf_read_core::Result<
+        CommonInformationEntry<R>,
+    >
+        ensures { result ≡ Ok cie.entry.now }
+    {
+        Ok(cie.clone()?)
+    };
+    partial.parse(get_cie)
+}
+
+/// An FDE of a section with its CIE, which is read only where it isn't the one that was read last.
+#[inline(always)]
+fn fde_by_last<R: Reader, Section: UnwindSection<R>>(
+    section: &Section,
+    bases: &BaseAddresses,
+    partial: &PartialFrameDescriptionEntry<'_, Section, R>,
+    last: &mut Option<LastCie<R>>,
+) -> dwarf_read_core::Result<FrameDescriptionEntry<R>>
+    requires within { partial.now.within ≡ section_data (Section.size section.now)
+        (R.stretch (Section.reader section.now)) bases.now }
+    requires last { IsLastCie R.stretch R.Offset.value (frame_section R.Offset.limit Section.kind
+        (Section.size section.now) (R.stretch (Section.reader section.now)) bases.now) last.old }
+    ensures fde { Gives (λ fde. fde) result (fde_of R.Offset.limit Section.kind partial.now) }
+    ensures last { IsLastCie R.stretch R.Offset.value (frame_section R.Offset.limit Section.kind
+        (Section.size section.now) (R.stretch (Section.reader section.now)) bases.now) last.new }
+{
+    let offset = UnwindOffset::into(partial.cie_offset()).into_u64();
+    if let Some(last) = last
+        && last.offset == offset
+    {
+        return fde_with(partial, &last.cie);
+    }
+    let cie = section.cie_from_offset(bases, partial.cie_offset())?;
+    let fde = fde_with(partial, &cie)?;
+    *last = Some(LastCie { offset, cie });
+    Ok(fde)
+}
+
 /// What the index keeps of a section's FDEs, in their order.
 fn indexed_fdes<R: Reader, Section: UnwindSection<R>>(
     alloc: Global,
@@ -121,6 +182,7 @@ fn indexed_fdes<R: Reader, Section: UnwindSection<R>>(
         (R.stretch (Section.reader section.now)) bases.now) ≡ Some error) }
 {
     let mut fdes = Vec::new(alloc);
+    let mut last = None;
     let mut entries = section.entries(bases);
     'entries: loop {
         let Some(entry) = entries.next()? else {
@@ -129,7 +191,7 @@ fn indexed_fdes<R: Reader, Section: UnwindSection<R>>(
         let Entry::Fde(partial) = entry else {
             continue;
         };
-        let fde = whole_fde(section, &partial)?;
+        let fde = fde_by_last(section, bases, &partial, &mut last)?;
         let kept = indexed(&fde, base_svma)?;
         if fdes.push(kept).is_err() {
             return Err(DwarfCfiIndexError::OutOfMemory);

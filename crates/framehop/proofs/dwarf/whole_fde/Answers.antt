@@ -1,14 +1,6 @@
-use Rattle.std.proofs.Common.{rules, ◌≡◌, inl, inr, false, Result, Ok, Err}
-use Rattle.dwarf_constants.specs.declared.error.Error.{Error}
-use Rattle.dwarf_numbers.specs.Answers.{Gives}
-use Rattle.dwarf_call_frames.specs.Memory.{MayGive}
+use Rattle.std.proofs.Common.{rules, false}
+use Rattle.framehop.proofs.WholeFdes.{wants-none}
 use Rattle.framehop.proofs.dwarf.whole_fde.Goals as goal
 
--- an answer for which no memory is wanted
-wants-none : {X Y : Type 0} (view : X → Y) (r : Result X Error) (answer : Result Y Error) → MayGive false view r answer → Gives view r answer
-wants-none view (Ok x) answer h = h
-wants-none view (Err e) answer (inl h) = h
-wants-none view (Err e) answer (inr wanted) = let never = wanted.0 in cc
-
 pub returns : goal.returns
-returns g c = wants-none (λ fde. fde) c.parse.result _ (c.parse.ensures false (λ f s b o r after step. search rules))
+returns g c = wants-none (λ fde. fde) c.parse.result _ (c.parse.ensures false (λ s b o r after same at step. rw (same, at) (search rules)))
