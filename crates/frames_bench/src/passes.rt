@@ -95,7 +95,11 @@ pub fn list_fdes<R: Reader, Section: UnwindSection<R>>(
         if let Entry::Fde(partial) = entry {
             let fde = whole_fde(section, bases, &partial, &mut last)?;
             let offset = fde.offset().into_u64();
-            tally.count(offset.wrapping_add(fde.initial_address()).wrapping_add(fde.len()));
+            tally.count(
+                offset
+                    .wrapping_add(fde.initial_address())
+                    .wrapping_add(fde.len()),
+            );
         }
     }
     Ok(tally)
@@ -126,7 +130,9 @@ fn parts_of<T: ReaderOffset, Rules: ArrayLike<Item = RuledRegister<RegisterRule<
         CfaRule::RegisterAndOffset { offset, .. } => offset.cast_unsigned(),
         CfaRule::Expression(_) => 1,
     };
-    row.start_address().wrapping_add(row.end_address()).wrapping_add(offset)
+    row.start_address()
+        .wrapping_add(row.end_address())
+        .wrapping_add(offset)
 }
 
 /// Goes over the rows of an FDE.

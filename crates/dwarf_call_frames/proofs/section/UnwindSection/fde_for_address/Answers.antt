@@ -2,8 +2,7 @@ use denote.Param.Always.{mut_next}
 use Rattle.std.proofs.Common.{inl, refl, sym, ap, ◌∙◌}
 use Rattle.std.proofs.lemmas.Result.{err_from_is_err_and}
 use Rattle.dwarf_frame_sections.specs.Sections.{frame_section, section_data}
-use Rattle.dwarf_call_frames.specs.AddressLookups.{fde_for_address}
-use Rattle.dwarf_call_frames.specs.Entries.{PartialFde, cie_from_offset}
+use Rattle.dwarf_call_frames.specs.Entries.{PartialFde}
 use Rattle.dwarf_call_frames.specs.EntryViews.{cie_view}
 use Rattle.dwarf_call_frames.proofs.AddressLookups.{by-cie, cie-comes, cie-refused, fault-comes, fde-found, fde-passed, fde-refused, none-comes}
 use Rattle.dwarf_call_frames.proofs.section.UnwindSection.fde_for_address.Goals as goal
