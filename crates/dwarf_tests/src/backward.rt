@@ -26,9 +26,9 @@ impl<'a> Backward<'a> {
         requires small { length stored.now < 2 ^ 32 }
         requires fits { first + length stored.now < 2 ^ 64 }
         ensures { ⟦<Backward<'a> as Reader>⟧.stretch result ≡ record {
-            bytes = reverse stored.now;
-            place = first;
-            big = ⟦<RunTimeEndian as Endianity>⟧.is_big endian;
+          bytes = reverse stored.now;
+          place = first;
+          big = ⟦<RunTimeEndian as Endianity>⟧.is_big endian;
         } }
     {
         Backward {

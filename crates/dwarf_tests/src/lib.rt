@@ -13,8 +13,10 @@ pub mod over_readers;
 mod read_core;
 #[cfg(test)]
 mod readers;
+pub mod row_line;
 pub mod worked;
 
 pub use backward::Backward;
 pub use over_readers::{Outcome, ReaderTest, over_each_reader};
+pub use row_line::line_of;
 pub use worked::WORKED;
