@@ -1,0 +1,9 @@
+//! What the commands of a document come to in a session of unwinders and caches, and the lines
+//! that they write, on any architecture and whatever modules are unwound by.
+#![tactic(auto)]
+
+mod lines;
+mod turns;
+
+pub use lines::ErrorName;
+pub use turns::{Written, add_cache, add_unwinder, clone_unwinder, load, stats, unload, walk};
