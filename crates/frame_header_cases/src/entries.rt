@@ -1,0 +1,88 @@
+//! The entries and the rows for addresses, by a header.
+
+use anyhow::Result;
+use dwarf_call_frames::{BaseAddresses, EhFrame, UnwindContext, UnwindSection};
+use dwarf_frame_headers::{EhFrameHdr, EhHdrTable};
+use dwarf_frame_rows::StoreOnHeap;
+use dwarf_readers::{EndianSlice, LittleEndian};
+use dwarf_tests::line_of;
+use std::alloc::Global;
+
+/// A header, the section of call frames that it is about, and addresses.
+#[derive(Drop)]
+pub struct Entries {
+    pub header_start: u64,
+    pub header: Vec<u8>,
+    pub frame_start: u64,
+    pub frame: Vec<u8>,
+    pub addresses: Vec<u64>,
+}
+
+type Slice<'a> = EndianSlice<'a, LittleEndian>;
+
+// The offset of the FDE for an address, or the refusal.
+fn show_entry<'a>(
+    table: &EhHdrTable<'_, Slice<'a>>,
+    frame: &EhFrame<Slice<'a>>,
+    bases: &BaseAddresses,
+    address: u64,
+    shown: &mut String,
+) -> Result<()> {
+    match table.fde_for_address(frame, bases, address, UnwindSection::cie_from_offset) {
+        Ok(fde) => write!(shown, "  {address:x}: {:x}", fde.offset())?,
+        Err(error) => write!(shown, "  {address:x}: {error:?}")?,
+    }
+    Ok(())
+}
+
+// The row for an address, or the refusal.
+fn show_row<'a>(
+    alloc: Global,
+    table: &EhHdrTable<'_, Slice<'a>>,
+    frame: &EhFrame<Slice<'a>>,
+    bases: &BaseAddresses,
+    context: &mut UnwindContext<usize, StoreOnHeap>,
+    address: u64,
+    shown: &mut String,
+) -> Result<()> {
+    match table.unwind_info_for_address(
+        frame,
+        bases,
+        context,
+        address,
+        UnwindSection::cie_from_offset,
+    ) {
+        Ok(row) => {
+            let line = line_of(alloc, row)?;
+            write!(shown, ", {line}\n")?;
+        }
+        Err(error) => write!(shown, ", {error:?}\n")?,
+    }
+    Ok(())
+}
+
+/// What is shown for each address.
+pub fn show_entries(alloc: Global, entries: &Entries) -> Result<String> {
+    let bases = BaseAddresses::default()
+        .set_eh_frame_hdr(entries.header_start)
+        .set_eh_frame(entries.frame_start);
+    let frame = EhFrame::new(&entries.frame, LittleEndian);
+    let header = EhFrameHdr::new(&entries.header, LittleEndian).parse(&bases, 8)?;
+    let mut context: UnwindContext<usize, StoreOnHeap> = UnwindContext::new(alloc)?;
+    let mut shown = String::new(alloc);
+    if let Some(table) = header.table() {
+        for address in &entries.addresses {
+            show_entry(&table, &frame, &bases, *address, &mut shown)?;
+            show_row(
+                alloc,
+                &table,
+                &frame,
+                &bases,
+                &mut context,
+                *address,
+                &mut shown,
+            )?;
+        }
+    }
+    Ok(shown)
+}
