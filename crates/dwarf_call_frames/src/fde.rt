@@ -2,7 +2,7 @@
 ghost use Rattle.std.specs.Prelude.{◌≡◌, ◌≤◌};
 ghost use Rattle.dwarf_numbers.specs.Answers.{Gives};
 ghost use Rattle.dwarf_readers.specs.Place.{Reads};
-ghost use Rattle.dwarf_frame_rows.specs.EncodedPointer.{origins_of};
+ghost use Rattle.dwarf_frame_rows.specs.EncodedPointer.{origins_of, pointer_at};
 ghost use Rattle.dwarf_call_frames.specs.Entries.{addresses_at, cie_of, contains, end_address, fde_of, fde_with, lsda_at};
 ghost use Rattle.dwarf_call_frames.specs.EntryViews.{cie_view};
 ghost use Rattle.dwarf_call_frames.specs.Getters.{is_signal_trampoline, personality};
@@ -180,8 +180,22 @@ fn read_lsda<R: Reader>(
     let Some(encoding) = said.lsda else {
         return Ok(None);
     };
-    let pointer = parse_encoded_pointer(encoding, parameters, &mut data)?;
+    let pointer = read_lsda_pointer(encoding, parameters, &mut data)?;
     Ok(Some(pointer))
+}
+
+// Reads where language-specific data stands, which few FDEs have.
+#[inline(never)]
+fn read_lsda_pointer<R: Reader>(
+    encoding: DwEhPe,
+    parameters: &PointerEncodingParameters<'_, R>,
+    input: &mut R,
+) -> Result<Pointer>
+    requires { (R.stretch parameters.now.section.now).place ≤ (R.stretch input.old).place }
+    ensures { Reads result (pointer_at (origins_of R.stretch parameters.now) encoding.0
+        (R.stretch input.old)) (R.stretch input.new) }
+{
+    parse_encoded_pointer(encoding, parameters, input)
 }
 
 /// How a range of code is unwound (DWARF 5, 6.4.1).

@@ -1,10 +1,10 @@
 //! The index of a section of call frames: which entry is for an address.
 
-ghost use Rattle.std.specs.Prelude.{◌≡◌, ◌≢◌, ◌<◌, ◌≤◌, ◌^◌, ℕ, suc, None, Some, option_map, map, length, codes, Result, Ok, Err, IfOk, IfErr};
+ghost use Rattle.std.specs.Prelude.{◌≡◌, ◌≢◌, ◌<◌, ◌≤◌, ◌^◌, ◌+◌, ◌*◌, ℕ, suc, None, Some, option_map, map, length, codes, nat_le, if◌then◌else◌, Result, Ok, Err, IfOk, IfErr};
 ghost use Rattle.std.specs.List.Sorted.{IsNonDecreasingBy, IsPartitionPoint};
 ghost use Rattle.dwarf_numbers.specs.Answers.{Gives};
 ghost use Rattle.dwarf_frame_sections.specs.Sections.{FrameSection, frame_section, section_data};
-ghost use Rattle.dwarf_call_frames.specs.Entries.{cie_of, fde_of};
+ghost use Rattle.dwarf_call_frames.specs.Entries.{cie_from_offset, cie_of, fde_of};
 ghost use Rattle.dwarf_call_frames.specs.EntryViews.{cie_view};
 ghost use Rattle.framehop.specs.LastCie.{IsLastCie};
 ghost use Rattle.dwarf_call_frames.specs.SectionFdes.{whole_fdes};
@@ -126,14 +126,62 @@ fn fde_with<R: Reader, Section: UnwindSection<R>>(
         ≡ Ok (cie_view R.stretch R.Offset.value cie.now) }
     ensures { Gives (λ fde. fde) result (fde_of R.Offset.limit Section.kind partial.now) }
 {
-    let get_cie = move |_section: &Section, _bases: &BaseAddresses, _offset: Section::Offset| -> dwarf_read_core::Result<
-        CommonInformationEntry<R>,
-    >
-        ensures { result ≡ Ok cie.entry.now }
-    {
-        Ok(cie.clone()?)
-    };
+    let get_cie =
+        move |_section: &Section, _bases: &BaseAddresses, _offset: Section::Offset| -> dwarf_read_core::Result<
+            CommonInformationEntry<R>,
+        >
+            ensures { result ≡ Ok cie.entry.now }
+        { Ok(cie.clone()?) };
     partial.parse(get_cie)
+}
+
+/// Reads the CIE at an offset of a section and keeps it. A call of its own, so that what comes to it
+/// for few FDEs is small.
+#[inline(never)]
+fn read_cie<R: Reader, Section: UnwindSection<R>>(
+    section: &Section,
+    bases: &BaseAddresses,
+    offset: Section::Offset,
+    last: &mut Option<LastCie<R>>,
+) -> dwarf_read_core::Result<CommonInformationEntry<R>>
+    requires { IsLastCie R.stretch R.Offset.value (frame_section R.Offset.limit Section.kind
+        (Section.size section.now) (R.stretch (Section.reader section.now)) bases.now) last.old }
+    ensures cie { Gives (cie_view R.stretch R.Offset.value) result (cie_from_offset
+        (frame_section R.Offset.limit Section.kind (Section.size section.now)
+        (R.stretch (Section.reader section.now)) bases.now) (Section.Offset.number offset)) }
+    ensures last { IsLastCie R.stretch R.Offset.value (frame_section R.Offset.limit Section.kind
+        (Section.size section.now) (R.stretch (Section.reader section.now)) bases.now) last.new }
+{
+    let cie = section.cie_from_offset(bases, offset)?;
+    *last = Some(LastCie {
+        offset: UnwindOffset::into(offset).into_u64(),
+        cie: cie.clone()?,
+    });
+    Ok(cie)
+}
+
+/// The CIE at an offset of a section, which is read only where it isn't the one that was read last.
+#[inline(always)]
+fn cie_by_last<R: Reader, Section: UnwindSection<R>>(
+    section: &Section,
+    bases: &BaseAddresses,
+    offset: Section::Offset,
+    last: &mut Option<LastCie<R>>,
+) -> dwarf_read_core::Result<CommonInformationEntry<R>>
+    requires { IsLastCie R.stretch R.Offset.value (frame_section R.Offset.limit Section.kind
+        (Section.size section.now) (R.stretch (Section.reader section.now)) bases.now) last.old }
+    ensures cie { Gives (cie_view R.stretch R.Offset.value) result (cie_from_offset
+        (frame_section R.Offset.limit Section.kind (Section.size section.now)
+        (R.stretch (Section.reader section.now)) bases.now) (Section.Offset.number offset)) }
+    ensures last { IsLastCie R.stretch R.Offset.value (frame_section R.Offset.limit Section.kind
+        (Section.size section.now) (R.stretch (Section.reader section.now)) bases.now) last.new }
+{
+    if let Some(last) = last
+        && last.offset == UnwindOffset::into(offset).into_u64()
+    {
+        return Ok(last.cie.clone()?);
+    }
+    read_cie(section, bases, offset, last)
 }
 
 /// An FDE of a section with its CIE, which is read only where it isn't the one that was read last.
@@ -152,16 +200,8 @@ fn fde_by_last<R: Reader, Section: UnwindSection<R>>(
     ensures last { IsLastCie R.stretch R.Offset.value (frame_section R.Offset.limit Section.kind
         (Section.size section.now) (R.stretch (Section.reader section.now)) bases.now) last.new }
 {
-    let offset = UnwindOffset::into(partial.cie_offset()).into_u64();
-    if let Some(last) = last
-        && last.offset == offset
-    {
-        return fde_with(partial, &last.cie);
-    }
-    let cie = section.cie_from_offset(bases, partial.cie_offset())?;
-    let fde = fde_with(partial, &cie)?;
-    *last = Some(LastCie { offset, cie });
-    Ok(fde)
+    let cie = cie_by_last(section, bases, partial.cie_offset(), last)?;
+    fde_with(partial, &cie)
 }
 
 /// What the index keeps of a section's FDEs, in their order.
@@ -206,29 +246,59 @@ struct Halved {
     reads: u32,
 }
 
+/// How many FDEs are so near to one another that all of them soon lie in a cache. Among more, a branch
+/// lets the processor go ahead and fetch what it guesses.
+const NEAR: usize = 2048;
+
+/// How many of one start are at or below an address: a number, where no processor could foresee a
+/// branch.
+#[inline(always)]
+fn count_at_or_below(start: u32, address: u32) -> usize
+    ensures { result ≡ (if nat_le start address then 1 else 0) }
+{
+    ((u64::from(address) + (1 << 32) - u64::from(start)) >> 32) as usize
+}
+
+/// Where to go on from a place: behind a half of the FDEs, if the first one behind it starts at or below
+/// the address.
+#[inline(always)]
+fn passed(low: usize, half: usize, start: u32, address: u32) -> usize
+    requires { low + half < 2 ^ 64 }
+    ensures { result ≡ low + half * (if nat_le start address then 1 else 0) }
+{
+    if half <= NEAR {
+        return low + half * count_at_or_below(start, address);
+    }
+    if start <= address { low + half } else { low }
+}
+
 /// Halves an index's FDEs until it is known how many start at or below an address.
 fn halve(fdes: &[IndexedFde], address: u32) -> Halved
     requires ordered { IsNonDecreasingBy (λ fde. fde.start) fdes.now }
     ensures bound { result.at_or_below ≤ length fdes.now }
-    ensures partition { IsPartitionPoint (λ fde. fde.start ≤ address) (λ fde. address < fde.start) fdes.now result.at_or_below }
-    ensures few { (k : ℕ) → length fdes.now < 2 ^ k → result.reads ≤ k }
+    ensures partition { IsPartitionPoint (λ fde. fde.start ≤ address)
+        (λ fde. address < fde.start) fdes.now result.at_or_below }
+    ensures few { (k : ℕ) → length fdes.now ≤ 2 ^ k → result.reads ≤ suc k }
     ensures enough { (k : ℕ) → 2 ^ k ≤ suc (length fdes.now) → k ≤ result.reads }
 {
+    if fdes.is_empty() {
+        return Halved {
+            at_or_below: 0,
+            reads: 0,
+        };
+    }
     let mut low = 0;
-    let mut high = fdes.len();
+    let mut len = fdes.len();
     let mut reads: u32 = 0;
-    'halves: while low < high {
-        let middle = low + (high - low) / 2;
+    'halves: while len > 1 {
+        let half = len / 2;
+        low = passed(low, half, fdes[low + half].start, address);
         reads += 1;
-        if fdes[middle].start <= address {
-            low = middle + 1;
-        } else {
-            high = middle;
-        }
+        len -= half;
     }
     Halved {
-        at_or_below: low,
-        reads,
+        at_or_below: low + count_at_or_below(fdes[low].start, address),
+        reads: reads + 1,
     }
 }
 

@@ -149,16 +149,16 @@ fn most_reads(alloc: Global, count: u32) -> Result<u32, Fail> {
     Ok(most)
 }
 
-/// The logarithm of the number of starts by 2, rounded down, and one more.
+/// The logarithm of the number of starts by 2, rounded up, and one more.
 #[test]
 fn a_look_up_reads_few_starts(rt: HostRuntime) -> Result<(), Fail> {
     for (count, most) in [
         (1, 1),
         (2, 2),
-        (3, 2),
+        (3, 3),
         (4, 3),
-        (5, 3),
-        (1_000, 10),
+        (5, 4),
+        (1_000, 11),
         (4_096, 13),
     ] {
         assert_eq!(rt; most_reads(rt.alloc(), count)?, most, "of {count} starts");

@@ -63,7 +63,39 @@ fn fde_with<R: Reader, Section: UnwindSection<R>>(
     partial.parse(move |_section, _bases, _offset| Ok(cie.clone()?))
 }
 
-/// An FDE with its CIE, which is read only where it isn't the last one that was.
+/// Reads the CIE at an offset, and keeps it.
+#[inline(never)]
+fn read_cie<R: Reader, Section: UnwindSection<R>>(
+    section: &Section,
+    bases: &BaseAddresses,
+    offset: Section::Offset,
+    last: &mut Option<LastCie<R, Section>>,
+) -> Result<CommonInformationEntry<R>> {
+    let cie = section.cie_from_offset(bases, offset)?;
+    *last = Some(LastCie {
+        offset,
+        cie: cie.clone()?,
+    });
+    Ok(cie)
+}
+
+/// The CIE at an offset, which is read only where it isn't the last one that was.
+#[inline(always)]
+fn cie_by_last<R: Reader, Section: UnwindSection<R>>(
+    section: &Section,
+    bases: &BaseAddresses,
+    offset: Section::Offset,
+    last: &mut Option<LastCie<R, Section>>,
+) -> Result<CommonInformationEntry<R>> {
+    if let Some(last) = last
+        && last.offset == offset
+    {
+        return Ok(last.cie.clone()?);
+    }
+    read_cie(section, bases, offset, last)
+}
+
+/// An FDE with its CIE.
 #[inline(always)]
 fn whole_fde<R: Reader, Section: UnwindSection<R>>(
     section: &Section,
@@ -71,16 +103,8 @@ fn whole_fde<R: Reader, Section: UnwindSection<R>>(
     partial: &PartialFrameDescriptionEntry<'_, Section, R>,
     last: &mut Option<LastCie<R, Section>>,
 ) -> Result<FrameDescriptionEntry<R>> {
-    let offset = partial.cie_offset();
-    if let Some(last) = last
-        && last.offset == offset
-    {
-        return fde_with(partial, &last.cie);
-    }
-    let cie = section.cie_from_offset(bases, offset)?;
-    let fde = fde_with(partial, &cie)?;
-    *last = Some(LastCie { offset, cie });
-    Ok(fde)
+    let cie = cie_by_last(section, bases, partial.cie_offset(), last)?;
+    fde_with(partial, &cie)
 }
 
 /// Lists the FDEs with their CIEs, and adds up where they and their code stand.

@@ -33,9 +33,9 @@ fn all_but_the_first_address_are_found(rt: HostRuntime) -> Result<(), Fail> {
         (1, 0, 0, 0),
         (1, 9, 8, 1),
         (2, 3, 2, 2),
-        (7, 8, 7, 3),
+        (7, 8, 7, 4),
         (8, 9, 8, 4),
-        (1_000, 1_001, 1_000, 10),
+        (1_000, 1_001, 1_000, 11),
     ] {
         assert_eq!(rt;
             tally_of(rt.alloc(), fdes, count)?,

@@ -43,7 +43,7 @@ entries-preserved g c =
     let pushed : c.push.new.self.items ≡ c.entries.fdes.items ++ c.in_ok-kept.kept ∷ [] = search rules in
     record {
       gathered = rw (pushed, c.in_ok-kept.ensures.kept) (fde-gathered section c.args.base_svma c.entries.fdes.items c.entries.entries.entries c.next.new.self.entries c.in-Fde.partial c.in_ok-fde.fde list
-      c.in_ok-fde.ensures.fde c.in_ok-kept.ensures.fits c.entries.invariant.gathered);
+          c.in_ok-fde.ensures.fde c.in_ok-kept.ensures.fits c.entries.invariant.gathered);
       within = others-of section c.entries.entries.entries c.next.new.self.entries _ list c.entries.invariant.within;
       last = c.fde_by_last.ensures.last;
     }

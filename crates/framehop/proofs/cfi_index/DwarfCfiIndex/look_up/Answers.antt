@@ -5,7 +5,6 @@ use Rattle.std.proofs.lemmas.Bool.Decides.{nat_tests}
 use Rattle.framehop.specs.declared.cfi_index.IndexedFde.{IndexedFde}
 use Rattle.framehop.specs.CfiIndex.{offset_in}
 use Rattle.framehop.proofs.CfiIndexOrder.{last-at, last-none}
-use Rattle.framehop.proofs.Halves.{doubled}
 use Rattle.framehop.proofs.cfi_index.DwarfCfiIndex.look_up.Goals as goal
 
 pub returns-in-0-clause-found : goal.returns-in-0-clause-found
@@ -17,7 +16,7 @@ returns-in-0-clause-found c base listing is =
 
 pub returns-in-0-clause-few : goal.returns-in-0-clause-few
 returns-in-0-clause-few c base listing is k few =
-    c.halve-halved.ensures.few (suc k) (doubled k _ (rw (c.deref.ensures.value, is.2) few))
+    c.halve-halved.ensures.few k (rw (c.deref.ensures.value, is.2) few)
 
 pub returns-in_default-clause-found : goal.returns-in_default-clause-found
 returns-in_default-clause-found c base listing is =
@@ -35,7 +34,7 @@ returns-in_default-clause-found c base listing is =
 
 pub returns-in_default-clause-few : goal.returns-in_default-clause-few
 returns-in_default-clause-few c base listing is k few =
-    c.halve-halved.ensures.few (suc k) (doubled k _ (rw (c.deref.ensures.value, is.2) few))
+    c.halve-halved.ensures.few k (rw (c.deref.ensures.value, is.2) few)
 
 pub returns-in-0-clause-counted : goal.returns-in-0-clause-counted
 returns-in-0-clause-counted c base listing is k many = c.halve-halved.ensures.enough k (rw (c.deref.ensures.value, is.2) many)
