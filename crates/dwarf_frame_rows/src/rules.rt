@@ -87,6 +87,11 @@ pub enum RegisterRule<T> {
 
 /// What fills a place that holds no rule.
 impl<T> Default for RegisterRule<T> {
+    ghost use Rattle.std.specs.Prelude.{◌≡◌};
+    ghost use Rattle.dwarf_frame_rows.specs.declared.rules.RegisterRule.TheVariants.{Undefined};
+
+    ghost is_default = { λ rule. rule ≡ Undefined };
+
     fn default() -> Self {
         RegisterRule::Undefined
     }
