@@ -98,3 +98,25 @@ fn values_up_to_the_capacity(rt: HostRuntime) -> Outcome {
     let pieces = TwoPieces::new(&bytes[..65], &bytes[65..], RunTimeEndian::Little);
     over.run(&rt, rt.alloc(), pieces)
 }
+
+// Values want memory more than once. Where it is refused, each call says so.
+#[test]
+fn want_of_memory_stays(rt: HostRuntime) -> Outcome {
+    let bytes = [0x30; 200];
+    let expression = Expression(EndianSlice::new(&bytes, RunTimeEndian::Little));
+    let made = Evaluation::<EndianSlice<'_, RunTimeEndian>, StoreOnHeap>::new_in(
+        rt.alloc(),
+        expression,
+        sized(8),
+    );
+    let mut evaluation = made?;
+    if evaluation.evaluate().is_ok() {
+        assert_eq!(rt; evaluation.value_result(), Some(0));
+        return Ok(());
+    }
+    for _ in 0..3 {
+        assert_eq!(rt; evaluation.evaluate(), Err(Error::OutOfMemory));
+        assert_eq!(rt; evaluation.value_result(), None);
+    }
+    Ok(())
+}
