@@ -14,7 +14,7 @@ use Rattle.dwarf_call_frames.specs.Entries.{Fde}
 use Rattle.framehop.specs.EntryFor.{has_index, indexed_entry}
 use Rattle.framehop.specs.Attempt.{Fails, by_fde, by_entries, by_section, attempt}
 use Rattle.framehop.specs.CfiIndexView.{IsIndexOf}
-use Rattle.framehop.specs.ModuleFound.{eh_frame_of}
+use Rattle.framehop.specs.FrameSections.{eh_frame_of}
 use Rattle.framehop.specs.ModuleViews.{module_view}
 
 indexed-by : (section : FrameSection) (base relative : ℕ) (o : Option Fde) → has_index base section ≡ true → o ≡ indexed_entry base relative section → by_entries section base relative ≡ by_fde section Default (base + relative) o

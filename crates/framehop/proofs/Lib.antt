@@ -1,5 +1,6 @@
 pub mod CfiIndexBuild
 pub mod CfiIndexOrder
+pub mod Coverages
 pub mod DirectRows
 pub mod EntryIndex
 pub mod EntryPlaces
@@ -7,6 +8,8 @@ pub mod Evaluations
 pub mod Halves
 pub mod IndexedModules
 pub mod ModulesInOrder
+pub mod RowTrials
 pub mod RowsOfRules
+pub mod RowsX86_64
 pub mod Steps
 pub mod WholeFdes

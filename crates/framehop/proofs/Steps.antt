@@ -111,7 +111,7 @@ executed : (limit : Option ℕ) (first : Bool) (registers left : UnwindRegsX86_6
     → by_attempt limit first registers words attempted ≡ outcome_of_result (or_fallback answer) first left words
 executed limit first registers left words (Rules rule) answer exact is keeps = by_its_rule first registers left words rule answer is
 executed limit first registers left words (Scales rule parts) answer exact is keeps = scaled-judged limit parts rule first registers words exact ∙ by_its_rule first registers left words rule answer is
-executed limit first registers left words (Evaluates section parts) answer exact is keeps = directly first registers left words (direct_answer limit first registers words section parts) answer is keeps
+executed limit first registers left words (Evaluates section parts) answer exact is keeps = directly first registers left words (direct_answer limit 8 first registers words section parts) answer is keeps
 executed limit first registers left words (Fails failure) (Ok answer) exact is keeps = cc
 executed limit first registers left words (Fails failure) (Err other) exact is keeps = ap (λ r. rule_meaning UseFramePointer first r words) (sym keeps)
 

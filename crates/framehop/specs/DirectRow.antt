@@ -26,18 +26,20 @@ in_half (negsuc n) = None
 abbrev pub sum_of : ℕ → ℤ → Option ℕ
 sum_of base offset = if nat_lt base (2 ^ 63) then in_half (pos base +ℤ offset) else None
 
--- the value of an expression of a section, by the limit of an expression's values and the registers that have values
-abbrev pub value_in : Option ℕ → Stretch → RegisterValues → UnwindExpression ℕ → Option ℕ
-value_in limit section registers expression =
-    expression_value limit registers (expression_in section expression.offset expression.length)
+-- the value of an expression of a section, by the limit of an expression's values, the size of an address and the registers that
+-- have values
+abbrev pub value_in : (limit : Option ℕ) → (address_size : ℕ) → Stretch → RegisterValues → UnwindExpression ℕ → Option ℕ
+value_in limit address_size section registers expression =
+    expression_value limit address_size registers (expression_in section expression.offset expression.length)
 
 -- what a row of a section is worked out by
-abbrev pub direct_sources : Option ℕ → Stretch → RegisterValues → Sources
-direct_sources limit section registers = record { sum = sum_of; registers = registers; value = value_in limit section registers }
+abbrev pub direct_sources : (limit : Option ℕ) → (address_size : ℕ) → Stretch → RegisterValues → Sources
+direct_sources limit address_size section registers =
+    record { sum = sum_of; registers = registers; value = value_in limit address_size section registers }
 
 -- what a row of a section is worked out by in a frame
-abbrev pub frame_sources : Option ℕ → Stretch → UnwindRegsX86_64 → Sources
-frame_sources limit section registers = direct_sources limit section (value_of registers)
+abbrev pub frame_sources : (limit : Option ℕ) → (address_size : ℕ) → Stretch → UnwindRegsX86_64 → Sources
+frame_sources limit address_size section registers = direct_sources limit address_size section (value_of registers)
 
 -- the word below the CFA
 abbrev pub word_below : Words → ℕ → Option ℕ
@@ -89,7 +91,7 @@ abbrev pub direct_by : Sources → Bool → UnwindRegsX86_64 → Words → Parts
 direct_by sources first registers words parts = direct_by_cfa sources first registers words parts (cfa_by sources parts.cfa)
 
 -- the caller that a row of a section gives in a first or a later frame, or the first refusal
-abbrev pub direct_answer : Option ℕ → Bool → UnwindRegsX86_64 → Words → Stretch → Parts ℕ
+abbrev pub direct_answer : (limit : Option ℕ) → (address_size : ℕ) → Bool → UnwindRegsX86_64 → Words → Stretch → Parts ℕ
     → Result (Caller UnwindRegsX86_64) DwarfUnwinderError
-direct_answer limit first registers words section parts =
-    direct_by (frame_sources limit section registers) first registers words parts
+direct_answer limit address_size first registers words section parts =
+    direct_by (frame_sources limit address_size section registers) first registers words parts

@@ -1,7 +1,8 @@
 -- The value of an expression in a frame (DWARF 5, 2.5), where some registers have values.
-use Rattle.std.specs.Prelude.{ℕ, zero, suc, Option, Some, None, option_and_then, Result, Ok, Err}
+use Rattle.std.specs.Prelude.{ℕ, zero, suc, Option, Some, None, option_and_then, Result, Ok, Err, if◌then◌else◌}
 use Rattle.dwarf_constants.specs.declared.common.Register.{Register}
 use Rattle.dwarf_constants.specs.declared.error.Error.{Error}
+use Rattle.dwarf_readers.specs.InitialLength.{is_size}
 use Rattle.dwarf_readers.specs.Place.{Stretch}
 use Rattle.dwarf_expressions.specs.Evaluation.{Program, State, Ready, Asking, Finished, Refused, state_reached, first_machine, operations_left, state_reached_with}
 
@@ -23,12 +24,14 @@ value_within (suc n) p registers (Asking register offset m) =
 abbrev pub value_from : Program → RegisterValues → State → Option ℕ
 value_from p registers state = value_within (suc (operations_left state)) p registers state
 
--- an expression of these bytes, whose addresses have 8 bytes, with room for so many values, or for any number
-abbrev pub program_of : Option ℕ → Stretch → Program
-program_of limit bytes = record { expression = bytes; address_size = 8; capacity = limit }
+-- an expression of these bytes, whose addresses have this size, with room for so many values, or for any number
+abbrev pub program_of : (limit : Option ℕ) → (address_size : ℕ) → Stretch → Program
+program_of limit address_size bytes = record { expression = bytes; address_size = address_size; capacity = limit }
 
--- the value of an expression; bytes that aren't there have none
-abbrev pub expression_value : Option ℕ → RegisterValues → Result Stretch Error → Option ℕ
-expression_value limit registers (Ok bytes) =
-    value_from (program_of limit bytes) registers (state_reached (program_of limit bytes) (Ready first_machine))
-expression_value limit registers (Err e) = None
+-- the value of an expression; bytes that aren't there have none, and addresses have 1, 2, 4 or 8 bytes
+abbrev pub expression_value : (limit : Option ℕ) → (address_size : ℕ) → RegisterValues → Result Stretch Error → Option ℕ
+expression_value limit address_size registers (Ok bytes) =
+    if is_size address_size
+    then value_from (program_of limit address_size bytes) registers (state_reached (program_of limit address_size bytes) (Ready first_machine))
+    else None
+expression_value limit address_size registers (Err e) = None

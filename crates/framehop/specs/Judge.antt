@@ -38,7 +38,7 @@ by_attempt limit first registers words (Rules rule) = rule_meaning rule first re
 by_attempt limit first registers words (Scales rule parts) =
     and_then (rule_meaning rule first registers words) (λ _. row_outcome (row_answer registers words parts))
 by_attempt limit first registers words (Evaluates section parts) =
-    or_else (direct_answer limit first registers words section parts) (rule_meaning UseFramePointer first registers words)
+    or_else (direct_answer limit 8 first registers words section parts) (rule_meaning UseFramePointer first registers words)
 by_attempt limit first registers words (Fails failure) = rule_meaning UseFramePointer first registers words
 
 -- without a module the frame pointer is followed

@@ -1,5 +1,5 @@
 -- When a step may want memory: where it evaluates an expression whose values lie where memory is taken.
-use Rattle.std.specs.Prelude.{◌≡◌, ◌⊎◌, ℕ, ◌-◌, List, Bool, false, Option, Some, None}
+use Rattle.std.specs.Prelude.{◌≡◌, ◌⊎◌, ℕ, ◌-◌, List, Bool, true, false, Option, Some, None}
 use Rattle.dwarf_frame_rows.specs.declared.rules.CfaRule.{CfaRule}
 use Rattle.dwarf_frame_rows.specs.declared.rules.CfaRule.TheVariants as cfa
 use Rattle.dwarf_frame_rows.specs.declared.rules.RegisterRule.{RegisterRule}
@@ -11,6 +11,12 @@ use Rattle.framehop.specs.ScaledRow.{Parts}
 -- A stack of values takes memory where it isn't made in place, or where it grows without a limit.
 abbrev pub TakesMemory : Bool → Option ℕ → Type 0
 TakesMemory in_place limit = (in_place ≡ false) ⊎ (limit ≡ None)
+
+-- whether it does
+abbrev pub takes_memory : Bool → Option ℕ → Bool
+takes_memory true (Some limit) = false
+takes_memory true None = true
+takes_memory false limit = true
 
 -- The CFA is an expression.
 abbrev pub IsExpression : {T : Type 0} → CfaRule T → Type 0

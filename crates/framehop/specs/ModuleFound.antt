@@ -1,10 +1,10 @@
 -- Modules, and the one that an address is in.
-use Rattle.std.specs.Prelude.{ℕ, ◌-◌, ◌^◌, List, [], ◌∷◌, Bool, false, ◌&&◌, ◌||◌, Option, Some, None, option_and_then, option_map, ◌==◌, nat_lt, nat_le, if◌then◌else◌}
+use Rattle.std.specs.Prelude.{ℕ, ◌-◌, ◌^◌, List, [], ◌∷◌, Bool, ◌&&◌, ◌||◌, Option, Some, None, option_and_then, option_map, ◌==◌, nat_lt, nat_le, if◌then◌else◌}
 use Rattle.std.specs.List.{filter}
 use Rattle.lists.specs.Greatest.{last_greatest}
-use Rattle.dwarf_readers.specs.Place.{whole}
 use Rattle.dwarf_frame_rows.specs.declared.base_addresses.BaseAddresses.{BaseAddresses}
-use Rattle.dwarf_frame_sections.specs.Sections.{FrameSection, eh_frame, frame_section}
+use Rattle.dwarf_frame_sections.specs.Sections.{FrameSection}
+use Rattle.framehop.specs.FrameSections.{eh_frame_of}
 
 -- a module as it is loaded: its range of addresses, the address that relative addresses count from, what its sections
 -- call that address, the addresses that pointers in them count from, and the bytes of its `.eh_frame`, if it has some
@@ -15,10 +15,6 @@ pub record Loaded : Type 0 where
   pub base_svma : ℕ
   pub bases : BaseAddresses
   pub eh_frame : Option (List ℕ)
-
--- a section `.eh_frame` of these bytes: the low byte of a number comes first, and addresses and offsets have 8 bytes
-abbrev pub eh_frame_of : BaseAddresses → List ℕ → FrameSection
-eh_frame_of bases bytes = frame_section (2 ^ 64) eh_frame 8 (whole false bytes) bases
 
 -- the section that says how a module's code is unwound, if it has one
 abbrev pub section_of : Loaded → Option FrameSection

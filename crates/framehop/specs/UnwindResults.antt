@@ -27,7 +27,7 @@ abbrev pub trial : Option ℕ → Bool → UnwindRegsX86_64 → Words → Attemp
 trial limit first registers words (Rules rule) = Ok (ExecRule rule, registers)
 trial limit first registers words (Scales rule parts) = Ok (ExecRule rule, registers)
 trial limit first registers words (Evaluates section parts) =
-    direct_trial (direct_answer limit first registers words section parts)
+    direct_trial (direct_answer limit 8 first registers words section parts)
 trial limit first registers words (Fails failure) = Err failure
 
 -- an answer with the registers that are left

@@ -9,12 +9,12 @@ ghost use Rattle.dwarf_call_frames.specs.EntryViews.{cie_view};
 ghost use Rattle.framehop.specs.LastCie.{IsLastCie};
 ghost use Rattle.dwarf_call_frames.specs.SectionFdes.{whole_fdes};
 ghost use Rattle.framehop.specs.EntryFor.{indexed_entry};
-ghost use Rattle.framehop.specs.ModuleFound.{eh_frame_of};
+ghost use Rattle.framehop.specs.FrameSections.{eh_frame_of, debug_frame_of};
 ghost use Rattle.framehop.specs.CfiIndex.{index_refusal, index_entry, index_error};
 ghost use Rattle.framehop.specs.declared.cfi_index.DwarfCfiIndexError.TheVariants.{OutOfMemory};
 
 use dwarf_call_frames::{
-    BaseAddresses, CommonInformationEntry, EhFrame, Entry, FrameDescriptionEntry,
+    BaseAddresses, CommonInformationEntry, DebugFrame, EhFrame, Entry, FrameDescriptionEntry,
     PartialFrameDescriptionEntry, UnwindOffset, UnwindSection,
 };
 use dwarf_read_core::{Error, LittleEndian, Reader, ReaderOffset};
@@ -363,6 +363,25 @@ impl DwarfCfiIndex {
             → index_error base_svma (eh_frame_of bases.now eh_frame_data.now) ≡ Some error) }
     {
         let section = EhFrame::new(eh_frame_data, LittleEndian);
+        DwarfCfiIndex::try_new(alloc, &section, bases, base_svma)
+    }
+
+    /// The index of a section `.debug_frame` of these bytes, as `try_new` makes it. The low byte of a
+    /// number comes first, and addresses have 8 bytes where no CIE says another size.
+    pub fn try_new_debug_frame(
+        alloc: Global,
+        debug_frame_data: &[u8],
+        bases: &BaseAddresses,
+        base_svma: u64,
+    ) -> Result<Self, DwarfCfiIndexError>
+        ensures index { IfOk result (λ index.
+            IsIndexOf index base_svma (debug_frame_of bases.now debug_frame_data.now)) }
+        ensures none_against { IfOk result (λ index.
+            index_error base_svma (debug_frame_of bases.now debug_frame_data.now) ≡ None) }
+        ensures error { IfErr result (λ error. error ≢ OutOfMemory
+            → index_error base_svma (debug_frame_of bases.now debug_frame_data.now) ≡ Some error) }
+    {
+        let section = DebugFrame::new(debug_frame_data, LittleEndian);
         DwarfCfiIndex::try_new(alloc, &section, bases, base_svma)
     }
 

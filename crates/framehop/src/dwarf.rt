@@ -1,35 +1,42 @@
 //! The entry of a section of call frames for an address, and what its row comes to.
 
-ghost use Rattle.std.specs.Prelude.{◌≡◌, ◌≢◌, ℕ, ◌+◌, ◌^◌, ◌≤◌, false, Some, Err, IfOk, IfErr};
+ghost use Rattle.std.specs.Prelude.{◌≡◌, ◌≢◌, ℕ, ◌+◌, ◌^◌, ◌≤◌, Bool, true, false, Option, Some, Err, IfOk, IfErr};
 ghost use Rattle.dwarf_numbers.specs.Answers.{Gives};
+ghost use Rattle.dwarf_readers.specs.Place.{Stretch};
+ghost use Rattle.dwarf_frame_programs.specs.Execution.{row_in};
+ghost use Rattle.dwarf_frame_rows.specs.Effects.{limits_of};
+ghost use Rattle.dwarf_frame_rows.specs.Row.{Row};
 ghost use Rattle.dwarf_frame_sections.specs.Sections.{frame_section};
 ghost use Rattle.dwarf_call_frames.specs.Entries.{cie_from_offset, fde_of};
 ghost use Rattle.dwarf_call_frames.specs.EntryViews.{cie_view};
 ghost use Rattle.dwarf_call_frames.specs.Memory.{MayGive};
-ghost use Rattle.framehop.specs.EntryFor.{indexed_entry};
-ghost use Rattle.framehop.specs.CfiIndexView.{IsIndexOf};
 ghost use Rattle.framehop_registers.specs.Callback.{OverWords};
-ghost use Rattle.framehop.specs.Attempt.{by_fde};
-ghost use Rattle.framehop.specs.Memory.{HasExpression, TakesMemory};
+ghost use Rattle.framehop_unwinder.specs.RulesKept.{rule_of_attempt};
+ghost use Rattle.framehop_unwinder.specs.Trials.{trial, has_wanted, rule_of_result, HasValidRule, KeepsUnlessDirect};
+ghost use Rattle.framehop.specs.CfiIndexView.{IsIndexOf};
+ghost use Rattle.framehop.specs.Coverage.{by_fde, by_index, row_meanings, attempt_by, EvaluatesExpression};
+ghost use Rattle.framehop.specs.EntryFor.{indexed_entry};
+ghost use Rattle.framehop.specs.Memory.{TakesMemory};
+ghost use Rattle.framehop.specs.RowAttempt.{RowAttempt, row_trial, rule_of_row, rule_answered, failure_of};
+ghost use Rattle.framehop.specs.UnwindData.{room_of};
 ghost use Rattle.framehop.specs.declared.dwarf.DwarfUnwinderError.TheVariants.{OutOfMemory};
-ghost use Rattle.framehop.specs.UnwindResults.{trial, with_registers, of_dwarf, KeepsUnlessDirect, HasValidRule};
 
+use crate::cache::AllocationPolicy;
 use crate::cfi_index::DwarfCfiIndex;
-use crate::unwind_result::UnwindResult;
-use crate::x86_64::unwind_frame;
 use dwarf_call_frames::{
     _UnwindSectionPrivate, BaseAddresses, CommonInformationEntry, FrameDescriptionEntry,
-    PartialFrameDescriptionEntry, UnwindContext, UnwindSection,
+    PartialFrameDescriptionEntry, UnwindContext, UnwindSection, UnwindTableRow,
 };
-use dwarf_expressions::EvaluationStorage;
-use dwarf_frame_rows::StoreOnHeap;
-use dwarf_read_core::{Reader, ReaderOffset};
-use framehop_rules::x86_64::{UnwindRegsX86_64, UnwindRuleX86_64};
+use dwarf_expressions::{ArrayLike, EvaluationStorage};
+use dwarf_frame_rows::{RegisterRule, RuledRegister};
+use dwarf_read_core::{Encoding, Reader, ReaderOffset};
+use framehop_rules::Arch;
+use framehop_unwinder::{UnwindFailure, UnwindResult};
 use std::alloc::{AllocError, Global};
 
-/// Why an entry can't be used.
+/// Why call frame information gives no caller.
 #[derive(Debug, Clone, Copy, PartialEq, Eq)]
-pub(crate) enum DwarfUnwinderError {
+pub enum DwarfUnwinderError {
     /// The module's base plus the relative address is past 64 bits.
     LookupAddressOverflow,
     /// The row's CFA has no value.
@@ -50,6 +57,61 @@ impl From<AllocError> for DwarfUnwinderError {
     fn from(_error: AllocError) -> Self {
         DwarfUnwinderError::OutOfMemory
     }
+}
+
+/// An architecture whose call frames are read: what their rows come to.
+pub trait DwarfUnwinding: Arch {
+    /// What a row of a section comes to, in a first or a later frame, by how many values of an
+    /// expression there is room for, the size of an address and the bytes of the section.
+    ghost row_attempt: { Bool → Option ℕ → ℕ → Stretch → Row ℕ
+        → RowAttempt Self.UnwindRule Self.UnwindRegs };
+
+    /// The rows that evaluate an expression.
+    ghost MeetsExpression: { Row ℕ → Type 0 };
+
+    /// The rule for code of an entry that none of its rows covers.
+    ghost uncovered: { Self.UnwindRule };
+
+    /// What a row of a section says of a frame: the unwind rule that says the row exactly, or else
+    /// the return address by the row itself, the registers being the caller's then. An `Err` leaves
+    /// them as they were. `encoding` is that of the row's CIE.
+    fn unwind_frame<
+        S: EvaluationStorage,
+        R: Reader,
+        Section: _UnwindSectionPrivate<R>,
+        Rules: ArrayLike<Item = RuledRegister<RegisterRule<R::Offset>>>,
+        F: FnMut(u64) -> Result<u64, ()>,
+    >(
+        alloc: Global,
+        section: &Section,
+        row: &UnwindTableRow<R::Offset, Rules>,
+        encoding: Encoding,
+        is_first_frame: bool,
+        regs: &mut Self::UnwindRegs,
+        read_stack: &mut F,
+    ) -> Result<UnwindResult<Self::UnwindRule>, DwarfUnwinderError>
+        requires { F.IsAlwaysCallable read_stack.old }
+        ensures callable { F.IsAlwaysCallable read_stack.new }
+        ensures trial { let section_bytes = R.stretch (Section.reader section.now) in
+            let attempt = row_attempt is_first_frame S.Stack.capacity encoding.address_size
+            section_bytes (row_in R.Offset.value row.now) in
+            OverWords F.step read_stack.old read_stack.new (λ words.
+            result ≢ Err OutOfMemory
+            → (result, regs.new) ≡ row_trial regs.old words attempt) }
+        ensures rule { let section_bytes = R.stretch (Section.reader section.now) in
+            let attempt = row_attempt is_first_frame S.Stack.capacity encoding.address_size
+            section_bytes (row_in R.Offset.value row.now) in
+            result ≢ Err OutOfMemory → rule_answered result ≡ rule_of_row attempt }
+        ensures keeps { KeepsUnlessDirect result regs.old regs.new }
+        ensures valid { HasValidRule Self.UnwindRule.is_valid result }
+        ensures expression { result ≡ Err OutOfMemory → MeetsExpression (row_in R.Offset.value row.now) }
+        ensures memory { result ≡ Err OutOfMemory
+            → TakesMemory S.Stack.is_made_in_place S.Stack.capacity };
+
+    /// The rule for code of an entry that none of its rows covers.
+    fn rule_if_uncovered_by_fde() -> Self::UnwindRule
+        ensures rule { result ≡ uncovered }
+        ensures valid { Self.UnwindRule.is_valid result };
 }
 
 /// An FDE with its CIE, which is read in the section in which the FDE was.
@@ -102,57 +164,6 @@ pub(crate) fn indexed_fde<R: Reader, Section: UnwindSection<R>>(
     whole_fde(section, &partial).ok()
 }
 
-/// What an entry of a section says of an address of its code: the rule that says its row exactly,
-/// or else what the row gives by itself; and where no row is for the address, the rule for code that
-/// no entry covers.
-pub(crate) fn unwind_frame_with_fde<
-    S: EvaluationStorage,
-    R: Reader<Offset = usize>,
-    Section: UnwindSection<R>,
-    F: FnMut(u64) -> Result<u64, ()>,
->(
-    alloc: Global,
-    section: &Section,
-    bases: &BaseAddresses,
-    fde: &FrameDescriptionEntry<R>,
-    address: u64,
-    is_first_frame: bool,
-    regs: &mut UnwindRegsX86_64,
-    context: &mut UnwindContext<usize, StoreOnHeap>,
-    read_stack: &mut F,
-) -> Result<UnwindResult, DwarfUnwinderError>
-    requires { F.IsAlwaysCallable read_stack.old }
-    ensures callable { F.IsAlwaysCallable read_stack.new }
-    ensures trial { let s = frame_section (2 ^ 64) Section.kind (Section.size section.now)
-        (R.stretch (Section.reader section.now)) bases.now in
-        OverWords F.step read_stack.old read_stack.new (λ words.
-        result ≢ Err OutOfMemory → with_registers regs.new (of_dwarf result)
-        ≡ trial S.Stack.capacity is_first_frame regs.old words
-        (by_fde s (Section.extensions section.now) address (Some fde.now))) }
-    ensures expression { let s = frame_section (2 ^ 64) Section.kind
-        (Section.size section.now) (R.stretch (Section.reader section.now)) bases.now in
-        result ≡ Err OutOfMemory
-        → HasExpression (by_fde s (Section.extensions section.now) address (Some fde.now)) }
-    ensures memory { result ≡ Err OutOfMemory
-        → TakesMemory S.Stack.is_made_in_place S.Stack.capacity }
-    ensures keeps { KeepsUnlessDirect result regs.old regs.new }
-    ensures valid { IfOk result HasValidRule }
-{
-    match fde.unwind_info_for_address(section, bases, context, address) {
-        Ok(row) => {
-            unwind_frame::<S, R, Section, _, F>(
-                alloc,
-                section,
-                row,
-                is_first_frame,
-                regs,
-                read_stack,
-            )
-        }
-        Err(_) => Ok(UnwindResult::ExecRule(UnwindRuleX86_64::JustReturnIfFirstFrameOtherwiseFp)),
-    }
-}
-
 /// The address of a section at a relative address. Fails where it doesn't fit 64 bits.
 pub(crate) fn lookup_address(
     base_svma: u64,
@@ -165,4 +176,173 @@ pub(crate) fn lookup_address(
     base_svma
         .checked_add(u64::from(relative_address))
         .ok_or(DwarfUnwinderError::LookupAddressOverflow)
+}
+
+/// What steps reuse: the place where rows are worked out. No answer depends on what was worked out
+/// there before.
+#[derive(Drop)]
+pub struct DwarfUnwindContext<P: AllocationPolicy> {
+    rows: UnwindContext<usize, P::GimliUnwindContextStorage>,
+    // where the values of an expression take memory, if they take some
+    alloc: Global,
+}
+
+impl<P: AllocationPolicy> DwarfUnwindContext<P> {
+    /// A place for the rows of any number of steps.
+    pub fn new(alloc: Global) -> Result<Self, AllocError> {
+        let rows = UnwindContext::new_in(alloc)?;
+        Ok(DwarfUnwindContext { rows, alloc })
+    }
+}
+
+/// What is left of a row that gave no caller.
+fn failure_of(error: DwarfUnwinderError) -> UnwindFailure
+    ensures { result ≡ failure_of error }
+{
+    match error {
+        DwarfUnwinderError::OutOfMemory => UnwindFailure::OutOfMemory,
+        DwarfUnwinderError::LookupAddressOverflow
+        | DwarfUnwinderError::CouldNotRecoverCfa
+        | DwarfUnwinderError::CouldNotRecoverReturnAddress
+        | DwarfUnwinderError::DidNotAdvance
+        | DwarfUnwinderError::StackPointerMovedBackwards => UnwindFailure::OfFrame,
+    }
+}
+
+/// What an entry of a section says of a frame at an address of its code: what its row for the
+/// address comes to; and where no row is for it, the rule for code that no row covers.
+fn unwind_frame_by_fde<
+    A: DwarfUnwinding,
+    P: AllocationPolicy,
+    R: Reader<Offset = usize>,
+    Section: UnwindSection<R>,
+    F: FnMut(u64) -> Result<u64, ()>,
+>(
+    section: &Section,
+    bases: &BaseAddresses,
+    fde: &FrameDescriptionEntry<R>,
+    address: u64,
+    is_first_frame: bool,
+    regs: &mut A::UnwindRegs,
+    context: &mut DwarfUnwindContext<P>,
+    read_stack: &mut F,
+) -> Result<UnwindResult<A::UnwindRule>, UnwindFailure>
+    requires { F.IsAlwaysCallable read_stack.old }
+    ensures callable { F.IsAlwaysCallable read_stack.new }
+    ensures trial { let room = room_of (limits_of P.GimliUnwindContextStorage.Rules.capacity
+        P.GimliUnwindContextStorage.Stack.capacity) P.GimliEvaluationStorage.Stack.capacity in
+        let m = row_meanings A.row_attempt A.uncovered in
+        let s = frame_section (2 ^ 64) Section.kind (Section.size section.now)
+        (R.stretch (Section.reader section.now)) bases.now in
+        let coverage = by_fde room.rows s (Section.extensions section.now) address fde.now in
+        OverWords F.step read_stack.old read_stack.new (λ words. has_wanted result ≡ false
+        → (result, regs.new)
+        ≡ trial regs.old words (attempt_by m is_first_frame room.values coverage)) }
+    ensures kept { let room = room_of (limits_of P.GimliUnwindContextStorage.Rules.capacity
+        P.GimliUnwindContextStorage.Stack.capacity) P.GimliEvaluationStorage.Stack.capacity in
+        let m = row_meanings A.row_attempt A.uncovered in
+        let s = frame_section (2 ^ 64) Section.kind (Section.size section.now)
+        (R.stretch (Section.reader section.now)) bases.now in
+        let coverage = by_fde room.rows s (Section.extensions section.now) address fde.now in
+        (fallback : A.UnwindRule) → has_wanted result ≡ false → rule_of_result fallback result
+        ≡ rule_of_attempt fallback (attempt_by m is_first_frame room.values coverage) }
+    ensures keeps { KeepsUnlessDirect result regs.old regs.new }
+    ensures valid { HasValidRule A.UnwindRule.is_valid result }
+    ensures expression { let limits = limits_of P.GimliUnwindContextStorage.Rules.capacity
+        P.GimliUnwindContextStorage.Stack.capacity in
+        let s = frame_section (2 ^ 64) Section.kind (Section.size section.now)
+        (R.stretch (Section.reader section.now)) bases.now in
+        let coverage = by_fde limits s (Section.extensions section.now) address fde.now in
+        has_wanted result ≡ true → EvaluatesExpression A.MeetsExpression coverage }
+    ensures memory { has_wanted result ≡ true
+        → TakesMemory P.GimliEvaluationStorage.Stack.is_made_in_place
+        P.GimliEvaluationStorage.Stack.capacity }
+{
+    let encoding = fde.cie().encoding();
+    let row = match fde.unwind_info_for_address(section, bases, &mut context.rows, address) {
+        Ok(row) => row,
+        Err(_) => return Ok(UnwindResult::ExecRule(A::rule_if_uncovered_by_fde())),
+    };
+    match A::unwind_frame::<P::GimliEvaluationStorage, R, Section, _, F>(
+        context.alloc,
+        section,
+        row,
+        encoding,
+        is_first_frame,
+        regs,
+        read_stack,
+    ) {
+        Ok(answer) => Ok(answer),
+        Err(error) => Err(failure_of(error)),
+    }
+}
+
+/// What a section with its index says of a frame at an address relative to the index's base. An
+/// address that no entry covers, or that doesn't fit 64 bits, has none.
+pub(crate) fn unwind_frame_by_index<
+    A: DwarfUnwinding,
+    P: AllocationPolicy,
+    R: Reader<Offset = usize>,
+    Section: UnwindSection<R>,
+    F: FnMut(u64) -> Result<u64, ()>,
+>(
+    section: &Section,
+    bases: &BaseAddresses,
+    index: &DwarfCfiIndex,
+    base_svma: u64,
+    relative_address: u32,
+    is_first_frame: bool,
+    regs: &mut A::UnwindRegs,
+    context: &mut DwarfUnwindContext<P>,
+    read_stack: &mut F,
+) -> Result<UnwindResult<A::UnwindRule>, UnwindFailure>
+    requires index { IsIndexOf index.now base_svma (frame_section (2 ^ 64) Section.kind
+        (Section.size section.now) (R.stretch (Section.reader section.now)) bases.now) }
+    requires callable { F.IsAlwaysCallable read_stack.old }
+    ensures callable { F.IsAlwaysCallable read_stack.new }
+    ensures trial { let room = room_of (limits_of P.GimliUnwindContextStorage.Rules.capacity
+        P.GimliUnwindContextStorage.Stack.capacity) P.GimliEvaluationStorage.Stack.capacity in
+        let m = row_meanings A.row_attempt A.uncovered in
+        let s = frame_section (2 ^ 64) Section.kind (Section.size section.now)
+        (R.stretch (Section.reader section.now)) bases.now in
+        let coverage = by_index room.rows s (Section.extensions section.now) base_svma relative_address in
+        OverWords F.step read_stack.old read_stack.new (λ words. has_wanted result ≡ false
+        → (result, regs.new)
+        ≡ trial regs.old words (attempt_by m is_first_frame room.values coverage)) }
+    ensures kept { let room = room_of (limits_of P.GimliUnwindContextStorage.Rules.capacity
+        P.GimliUnwindContextStorage.Stack.capacity) P.GimliEvaluationStorage.Stack.capacity in
+        let m = row_meanings A.row_attempt A.uncovered in
+        let s = frame_section (2 ^ 64) Section.kind (Section.size section.now)
+        (R.stretch (Section.reader section.now)) bases.now in
+        let coverage = by_index room.rows s (Section.extensions section.now) base_svma relative_address in
+        (fallback : A.UnwindRule) → has_wanted result ≡ false → rule_of_result fallback result
+        ≡ rule_of_attempt fallback (attempt_by m is_first_frame room.values coverage) }
+    ensures keeps { KeepsUnlessDirect result regs.old regs.new }
+    ensures valid { HasValidRule A.UnwindRule.is_valid result }
+    ensures expression { let limits = limits_of P.GimliUnwindContextStorage.Rules.capacity
+        P.GimliUnwindContextStorage.Stack.capacity in
+        let s = frame_section (2 ^ 64) Section.kind (Section.size section.now)
+        (R.stretch (Section.reader section.now)) bases.now in
+        let coverage = by_index limits s (Section.extensions section.now) base_svma relative_address in
+        has_wanted result ≡ true → EvaluatesExpression A.MeetsExpression coverage }
+    ensures memory { has_wanted result ≡ true
+        → TakesMemory P.GimliEvaluationStorage.Stack.is_made_in_place
+        P.GimliEvaluationStorage.Stack.capacity }
+{
+    let Some(fde) = indexed_fde(section, bases, index, relative_address) else {
+        return Err(UnwindFailure::OfModule);
+    };
+    let Ok(address) = lookup_address(base_svma, relative_address) else {
+        return Err(UnwindFailure::OfModule);
+    };
+    unwind_frame_by_fde::<A, P, R, Section, F>(
+        section,
+        bases,
+        &fde,
+        address,
+        is_first_frame,
+        regs,
+        context,
+        read_stack,
+    )
 }

@@ -1,8 +1,9 @@
 //! The values of a row's CFA and columns, where no unwind rule says the row (DWARF 5, 6.4.1).
 
-ghost use Rattle.std.specs.Prelude.{◌≡◌, ◌≢◌, ℕ, None, Some, Option, IfErr, IfOk, option_and_then, option_map};
+ghost use Rattle.std.specs.Prelude.{◌≡◌, ◌≢◌, ℕ, true, None, Some, Option, IfErr, IfOk, option_and_then, option_map};
 ghost use Rattle.dwarf_constants.specs.declared.common.Register.{Register};
 ghost use Rattle.dwarf_expressions.specs.Evaluation.{Ready, state_reached, first_machine};
+ghost use Rattle.dwarf_readers.specs.InitialLength.{is_size};
 ghost use Rattle.framehop_registers.specs.Callback.{OverWords};
 ghost use Rattle.dwarf_frame_programs.specs.InstructionViews.{expression_as};
 ghost use Rattle.dwarf_frame_programs.specs.StateViews.{cfa_as, rule_as};
@@ -14,7 +15,7 @@ ghost use Rattle.framehop.specs.Memory.{IsColumnExpression, IsExpression, TakesM
 use dwarf_call_frames::_UnwindSectionPrivate;
 use dwarf_expressions::{Evaluation, EvaluationResult, EvaluationStorage, Expression, Value};
 use dwarf_frame_rows::{CfaRule, RegisterRule, UnwindExpression};
-use dwarf_read_core::{Encoding, Error, Format, Reader, Register};
+use dwarf_read_core::{Encoding, Error, Reader, Register};
 use std::alloc::{AllocError, Global};
 
 /// The registers of a frame, by their DWARF numbers.
@@ -35,12 +36,12 @@ fn offset_sum(base: u64, offset: i64) -> Option<u64>
     u64::try_from(base.checked_add(offset)?).ok()
 }
 
-/// What an expression asks of its surroundings: addresses of 8 bytes.
-const ENCODING: Encoding = Encoding {
-    address_size: 8,
-    format: Format::Dwarf32,
-    version: 1,
-};
+/// Whether this is the size of an address in bytes.
+fn is_address_size(size: u8) -> bool
+    ensures { result ≡ is_size size }
+{
+    size == 1 || size == 2 || size == 4 || size == 8
+}
 
 /// What is left of an evaluation that was refused: no value, or want of memory.
 fn refused_value(error: Error) -> Result<Option<u64>, AllocError>
@@ -59,14 +60,16 @@ fn refused_value(error: Error) -> Result<Option<u64>, AllocError>
 fn eval_expression<S: EvaluationStorage, R: Reader, G: DwarfUnwindRegs>(
     alloc: Global,
     expression: Expression<R>,
+    encoding: Encoding,
     regs: &G,
 ) -> Result<Option<u64>, AllocError>
-    ensures value { IfOk result (λ value. value
-        ≡ value_from (program_of S.Stack.capacity (R.stretch expression.0)) (G.value_of regs.now)
-        (state_reached (program_of S.Stack.capacity (R.stretch expression.0)) (Ready first_machine))) }
+    requires { is_size encoding.address_size ≡ true }
+    ensures value { let p = program_of S.Stack.capacity encoding.address_size (R.stretch expression.0) in
+        IfOk result (λ value. value
+        ≡ value_from p (G.value_of regs.now) (state_reached p (Ready first_machine))) }
     ensures memory { IfErr result (λ _. TakesMemory S.Stack.is_made_in_place S.Stack.capacity) }
 {
-    let Ok(mut evaluation) = Evaluation::<R, S>::new_in(alloc, expression, ENCODING) else {
+    let Ok(mut evaluation) = Evaluation::<R, S>::new_in(alloc, expression, encoding) else {
         return Err(AllocError);
     };
     let mut answer = evaluation.evaluate();
@@ -95,15 +98,20 @@ fn eval_expression_in<
     alloc: Global,
     section: &Section,
     expression: UnwindExpression<R::Offset>,
+    encoding: Encoding,
     regs: &G,
 ) -> Result<Option<u64>, AllocError>
-    ensures value { IfOk result (λ value. value ≡ value_in S.Stack.capacity
+    ensures value { IfOk result (λ value. value
+        ≡ value_in S.Stack.capacity encoding.address_size
         (R.stretch (Section.reader section.now)) (G.value_of regs.now)
         (expression_as R.Offset.value expression)) }
     ensures memory { IfErr result (λ _. TakesMemory S.Stack.is_made_in_place S.Stack.capacity) }
 {
+    if !is_address_size(encoding.address_size) {
+        return Ok(None);
+    }
     match expression.get(section) {
-        Ok(expression) => eval_expression::<S, R, G>(alloc, expression, regs),
+        Ok(expression) => eval_expression::<S, R, G>(alloc, expression, encoding, regs),
         Err(_) => Ok(None),
     }
 }
@@ -126,9 +134,11 @@ pub(crate) fn eval_cfa_rule<
     alloc: Global,
     section: &Section,
     rule: CfaRule<R::Offset>,
+    encoding: Encoding,
     regs: &G,
 ) -> Result<Option<u64>, AllocError>
-    ensures value { IfOk result (λ cfa. cfa ≡ cfa_by (direct_sources S.Stack.capacity
+    ensures value { IfOk result (λ cfa. cfa
+        ≡ cfa_by (direct_sources S.Stack.capacity encoding.address_size
         (R.stretch (Section.reader section.now)) (G.value_of regs.now))
         (cfa_as R.Offset.value rule)) }
     ensures expression { IfErr result (λ _. IsExpression (cfa_as R.Offset.value rule)) }
@@ -137,7 +147,7 @@ pub(crate) fn eval_cfa_rule<
     match rule {
         CfaRule::RegisterAndOffset { register, offset } => Ok(offset_value(register, offset, regs)),
         CfaRule::Expression(expression) => {
-            eval_expression_in::<S, R, Section, G>(alloc, section, expression, regs)
+            eval_expression_in::<S, R, Section, G>(alloc, section, expression, encoding, regs)
         }
     }
 }
@@ -164,9 +174,11 @@ fn find_column<
     rule: RegisterRule<R::Offset>,
     cfa: u64,
     own: u64,
+    encoding: Encoding,
     regs: &G,
 ) -> Result<Option<Found>, AllocError>
-    ensures value { IfOk result (λ found. found ≡ found_by (direct_sources S.Stack.capacity
+    ensures value { IfOk result (λ found. found
+        ≡ found_by (direct_sources S.Stack.capacity encoding.address_size
         (R.stretch (Section.reader section.now)) (G.value_of regs.now)) cfa own
         (rule_as R.Offset.value rule)) }
     ensures expression { IfErr result (λ _.
@@ -182,11 +194,15 @@ fn find_column<
         RegisterRule::ValOffset(offset) => Ok(offset_sum(cfa, offset).map(Found::Value)),
         RegisterRule::Register(register) => Ok(regs.get(register).map(Found::Value)),
         RegisterRule::Expression(expression) => {
-            let at = eval_expression_in::<S, R, Section, G>(alloc, section, expression, regs)?;
+            let at = eval_expression_in::<S, R, Section, G>(
+                alloc, section, expression, encoding, regs,
+            )?;
             Ok(at.map(Found::Word))
         }
         RegisterRule::ValExpression(expression) => {
-            let value = eval_expression_in::<S, R, Section, G>(alloc, section, expression, regs)?;
+            let value = eval_expression_in::<S, R, Section, G>(
+                alloc, section, expression, encoding, regs,
+            )?;
             Ok(value.map(Found::Value))
         }
     }
@@ -219,13 +235,15 @@ pub(crate) fn eval_register_rule<
     rule: Option<RegisterRule<R::Offset>>,
     cfa: u64,
     own: u64,
+    encoding: Encoding,
     regs: &G,
     read_stack: &mut F,
 ) -> Result<Option<u64>, AllocError>
     requires { F.IsAlwaysCallable read_stack.old }
     ensures callable { F.IsAlwaysCallable read_stack.new }
     ensures value { OverWords F.step read_stack.old read_stack.new (λ words.
-        IfOk result (λ value. value ≡ option_and_then (column_by (direct_sources S.Stack.capacity
+        IfOk result (λ value. value
+        ≡ option_and_then (column_by (direct_sources S.Stack.capacity encoding.address_size
         (R.stretch (Section.reader section.now)) (G.value_of regs.now)) words cfa own)
         (option_map (rule_as R.Offset.value) rule))) }
     ensures expression { IfErr result (λ _.
@@ -235,7 +253,7 @@ pub(crate) fn eval_register_rule<
     let Some(rule) = rule else {
         return Ok(None);
     };
-    match find_column::<S, R, Section, G>(alloc, section, rule, cfa, own, regs)? {
+    match find_column::<S, R, Section, G>(alloc, section, rule, cfa, own, encoding, regs)? {
         Some(found) => Ok(read_found(found, read_stack)),
         None => Ok(None),
     }

@@ -1,19 +1,28 @@
 //! The modules of a process, and the one that an address is in.
 
-ghost use Rattle.std.specs.Prelude.{◌≡◌, ◌≢◌, ◌-◌, Err, [], option_map, IfSome, IfNone, IfOk, IfErr, OnOk, OnErr, MatchOption};
+ghost use Rattle.std.specs.Prelude.{◌≡◌, ◌≢◌, ◌-◌, ◌^◌, Err, Some, [], option_map, IfSome, IfNone, IfOk, IfErr, OnOk, OnErr, MatchOption};
 ghost use Rattle.std.specs.List.Sorted.{IsNonDecreasingBy};
+ghost use Rattle.dwarf_frame_sections.specs.Sections.{frame_section};
+ghost use Rattle.framehop_registers.specs.Callback.{OverWords};
+ghost use Rattle.framehop.specs.Attempt.{by_fde};
 ghost use Rattle.framehop.specs.CfiIndexView.{IsIndexed, IsUnindexed};
-ghost use Rattle.framehop.specs.ModuleFound.{eh_frame_of};
+ghost use Rattle.framehop.specs.FrameSections.{eh_frame_of};
+ghost use Rattle.framehop.specs.Memory.{HasExpression, TakesMemory};
+ghost use Rattle.framehop.specs.UnwindResults.{trial, with_registers, of_dwarf, KeepsUnlessDirect, HasValidRule};
+ghost use Rattle.framehop.specs.declared.dwarf.DwarfUnwinderError.TheVariants.{OutOfMemory};
 
 use crate::cfi_index::{DwarfCfiIndex, DwarfCfiIndexError};
-use crate::dwarf::{indexed_fde, lookup_address, unwind_frame_with_fde};
+use crate::dwarf::{DwarfUnwinderError, indexed_fde, lookup_address};
 use crate::error::UnwinderError;
 use crate::unwind_result::UnwindResult;
-use dwarf_call_frames::{BaseAddresses, EhFrame, UnwindContext};
+use crate::x86_64::unwind_frame;
+use dwarf_call_frames::{
+    BaseAddresses, EhFrame, FrameDescriptionEntry, UnwindContext, UnwindSection,
+};
 use dwarf_expressions::EvaluationStorage;
 use dwarf_frame_rows::StoreOnHeap;
-use dwarf_read_core::{EndianSlice, LittleEndian};
-use framehop_rules::x86_64::UnwindRegsX86_64;
+use dwarf_read_core::{EndianSlice, LittleEndian, Reader};
+use framehop_rules::x86_64::{UnwindRegsX86_64, UnwindRuleX86_64};
 use std::alloc::{AllocError, AllocFailed, Global};
 use std::ops::Range;
 
@@ -66,11 +75,7 @@ impl Module {
     ghost use Rattle.framehop.specs.ModuleViews.{module_view};
     ghost use Rattle.framehop.specs.ModuleFound.{is_inside, if_inside};
     ghost use Rattle.framehop.specs.Attempt.{attempt};
-    ghost use Rattle.framehop.specs.Memory.{HasExpression, TakesMemory};
-    ghost use Rattle.framehop.specs.declared.dwarf.DwarfUnwinderError.TheVariants.{OutOfMemory};
     ghost use Rattle.framehop.specs.declared.error.UnwinderError.TheVariants.{Dwarf};
-    ghost use Rattle.framehop_registers.specs.Callback.{OverWords};
-    ghost use Rattle.framehop.specs.UnwindResults.{trial, with_registers, KeepsUnlessDirect, HasValidRule};
 
     /// A module at a range of AVMAs, whose base is at `base_avma` and is called `base_svma` by its
     /// sections, with the bytes of its section `.eh_frame`, if it has one, and the SVMAs that pointers
@@ -187,6 +192,57 @@ impl Module {
             read_stack,
         )
         .map_err(UnwinderError::Dwarf)
+    }
+}
+
+/// What an entry of a section says of an address of its code: the rule that says its row exactly,
+/// or else what the row gives by itself; and where no row is for the address, the rule for code that
+/// no entry covers.
+fn unwind_frame_with_fde<
+    S: EvaluationStorage,
+    R: Reader<Offset = usize>,
+    Section: UnwindSection<R>,
+    F: FnMut(u64) -> Result<u64, ()>,
+>(
+    alloc: Global,
+    section: &Section,
+    bases: &BaseAddresses,
+    fde: &FrameDescriptionEntry<R>,
+    address: u64,
+    is_first_frame: bool,
+    regs: &mut UnwindRegsX86_64,
+    context: &mut UnwindContext<usize, StoreOnHeap>,
+    read_stack: &mut F,
+) -> Result<UnwindResult, DwarfUnwinderError>
+    requires { F.IsAlwaysCallable read_stack.old }
+    ensures callable { F.IsAlwaysCallable read_stack.new }
+    ensures trial { let s = frame_section (2 ^ 64) Section.kind (Section.size section.now)
+        (R.stretch (Section.reader section.now)) bases.now in
+        OverWords F.step read_stack.old read_stack.new (λ words.
+        result ≢ Err OutOfMemory → with_registers regs.new (of_dwarf result)
+        ≡ trial S.Stack.capacity is_first_frame regs.old words
+        (by_fde s (Section.extensions section.now) address (Some fde.now))) }
+    ensures expression { let s = frame_section (2 ^ 64) Section.kind
+        (Section.size section.now) (R.stretch (Section.reader section.now)) bases.now in
+        result ≡ Err OutOfMemory
+        → HasExpression (by_fde s (Section.extensions section.now) address (Some fde.now)) }
+    ensures memory { result ≡ Err OutOfMemory
+        → TakesMemory S.Stack.is_made_in_place S.Stack.capacity }
+    ensures keeps { KeepsUnlessDirect result regs.old regs.new }
+    ensures valid { IfOk result HasValidRule }
+{
+    match fde.unwind_info_for_address(section, bases, context, address) {
+        Ok(row) => {
+            unwind_frame::<S, R, Section, _, F>(
+                alloc,
+                section,
+                row,
+                is_first_frame,
+                regs,
+                read_stack,
+            )
+        }
+        Err(_) => Ok(UnwindResult::ExecRule(UnwindRuleX86_64::JustReturnIfFirstFrameOtherwiseFp)),
     }
 }
 

@@ -19,6 +19,8 @@ mod rules;
 #[cfg(test)]
 mod rules_aarch64;
 #[cfg(test)]
+mod sections;
+#[cfg(test)]
 mod steps;
 #[cfg(test)]
 mod streams;

@@ -1,5 +1,5 @@
 -- A step by a kept rule, and by an attempt, is the judge's; and what it keeps.
-use Rattle.std.proofs.Common.{◌≡◌, ◌∙◌, ℕ, Bool, true, false, List, Option, Some, None, Result, Ok, Err, ap, sym, subst, refl}
+use Rattle.std.proofs.Common.{◌≡◌, ◌∙◌, ◌-◌, ℕ, Bool, true, false, List, Option, Some, None, Result, Ok, Err, ap, sym, subst, refl}
 use Rattle.std.specs.Prelude.{IfErr, IsTrue, ◌↔◌, not}
 use Rattle.framehop_registers.specs.Callback.{Words}
 use Rattle.framehop_registers.specs.FrameAddress.{lookup_address_of, IsReturnAddress}
@@ -14,7 +14,8 @@ use Rattle.framehop_rules.specs.declared.rule_cache.CacheResult.TheVariants.{Mis
 use Rattle.framehop_unwinder.specs.Attempt.{Attempt, Says, Evaluates, SaysNothing, Meanings, attempt_at}
 use Rattle.framehop_unwinder.specs.Frames.{frame_of, lookup_address}
 use Rattle.framehop_unwinder.specs.Judge.{or_else, by_attempt, judge_at}
-use Rattle.framehop_unwinder.specs.Modules.{Loaded}
+use Rattle.framehop_unwinder.specs.Memory.{AsksMemoryAt, AsksMemory}
+use Rattle.framehop_unwinder.specs.Modules.{Loaded, module_found}
 use Rattle.framehop_unwinder.specs.RulesKept.{rule_of_attempt, rule_kept, key_for, with_any, with_missed, finding_in, slots_after}
 use Rattle.framehop_unwinder.specs.Trials.{trial, trial_of_caller, wants_memory}
 use Rattle.framehop_unwinder.specs.declared.unwinding.UnwindFailure.{UnwindFailure}
@@ -38,6 +39,12 @@ first-is false (InstructionPointer at) h = refl
 first-is true (ReturnAddress at) h = refl
 first-is false (ReturnAddress at) h = let e : IsTrue false = h.1 tt in cc
 
+-- the module that is found for an address may want memory there
+pub asked-there : {Data : Type 0} (asks : Data → ℕ → Bool → Type 0) (modules : List (Loaded Data)) (first : Bool) (address relative : ℕ) (module_ : Loaded Data) (held : Data)
+    → module_found modules address ≡ Some module_ → relative ≡ address - module_.base → held ≡ module_.unwind_data → asks held relative first → AsksMemoryAt asks modules first address
+asked-there asks modules first address relative module_ held found counted made asked =
+    record { module_ = module_; found = found; asked = subst (λ n. asks module_.unwind_data n first) counted (subst (λ d. asks d relative first) made asked) }
+
 pub looked-up-is : (address : FrameAddress) → lookup_address_of address ≡ lookup_address (frame_of address)
 looked-up-is (InstructionPointer at) = refl
 looked-up-is (ReturnAddress at) = refl
@@ -47,6 +54,12 @@ key-is address lookup b generation looked kind =
     let at = looked ∙ looked-up-is address in
     let first = first-is b address kind in
     rw (at, first) refl
+
+-- the module that is found for a frame may want memory
+pub asked-from : {Data : Type 0} (asks : Data → ℕ → Bool → Type 0) (modules : List (Loaded Data)) (address : FrameAddress) (lookup : ℕ) (b : Bool) → lookup ≡ lookup_address_of address → (IsTrue b ↔ IsReturnAddress address)
+    → AsksMemoryAt asks modules (not b) lookup → AsksMemory asks modules (frame_of address)
+asked-from asks modules address lookup b looked kind asked =
+    subst (λ n. AsksMemoryAt asks modules (frame_of address).is_first n) (looked ∙ looked-up-is address) (subst (λ f. AsksMemoryAt asks modules f lookup) (first-is b address kind) asked)
 
 module _ {Data Rule Registers : Type 0} (m : Meanings Data Rule Registers) (first : Bool) (registers : Registers) (words : Words) where
   -- what an attempt keeps means what the attempt comes to

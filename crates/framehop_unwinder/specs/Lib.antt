@@ -3,6 +3,7 @@ pub mod CacheViews
 pub mod Frames
 pub mod History
 pub mod Judge
+pub mod Memory
 pub mod Modules
 pub mod ModuleViews
 pub mod ModulesApart

@@ -41,14 +41,13 @@ rule_of_result fallback (Err failure.OfFrame) = None
 rule_of_result fallback (Err failure.OutOfMemory) = None
 
 -- a rule in an answer can be executed
-abbrev pub HasValidRule : {Rule : Type 0} → (Rule → Type 0) → Result (UnwindResult Rule) UnwindFailure → Type 0
+abbrev pub HasValidRule : {Rule Failure : Type 0} → (Rule → Type 0) → Result (UnwindResult Rule) Failure → Type 0
 HasValidRule is_valid (Ok (ExecRule rule)) = is_valid rule
 HasValidRule is_valid (Ok (Uncacheable return_address)) = Unit {0}
 HasValidRule is_valid (Err failure) = Unit {0}
 
 -- only the answer of a caller changes the registers
-abbrev pub KeepsUnlessDirect : {Rule Registers : Type 0} → Result (UnwindResult Rule) UnwindFailure → Registers → Registers
-    → Type 0
+abbrev pub KeepsUnlessDirect : {Rule Failure Registers : Type 0} → Result (UnwindResult Rule) Failure → Registers → Registers → Type 0
 KeepsUnlessDirect (Ok (ExecRule rule)) before after = after ≡ before
 KeepsUnlessDirect (Ok (Uncacheable return_address)) before after = Unit {0}
 KeepsUnlessDirect (Err failure) before after = after ≡ before

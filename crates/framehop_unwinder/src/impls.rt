@@ -2,6 +2,7 @@
 ghost use Rattle.framehop_unwinder.specs.Attempt.{meanings};
 ghost use Rattle.framehop_unwinder.specs.CacheViews.{rules_of};
 ghost use Rattle.framehop_unwinder.specs.Judge.{judge};
+ghost use Rattle.framehop_unwinder.specs.Memory.{AsksMemory};
 ghost use Rattle.framehop_unwinder.specs.RulesKept.{Fits, rule_kept};
 
 use crate::cache::Cache;
@@ -34,6 +35,8 @@ impl<A: Unwinding> Unwinder for UnwinderInternal<A> {
         Fits (rule_kept m unwinder.modules) unwinder.generation (rules_of cache).slots };
 
     ghost takes_memory = { A.takes_memory };
+
+    ghost asks_memory = { λ unwinder frame. AsksMemory A.asks_memory unwinder.modules frame };
 
     fn add_module(
         &mut self,

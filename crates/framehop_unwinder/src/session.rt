@@ -6,6 +6,7 @@ ghost use Rattle.framehop_modules.specs.LoadErrors.{module_returned, is_exhauste
 ghost use Rattle.framehop_unwinder.specs.Attempt.{meanings};
 ghost use Rattle.framehop_unwinder.specs.Frames.{frame_of};
 ghost use Rattle.framehop_unwinder.specs.Judge.{judge};
+ghost use Rattle.framehop_unwinder.specs.Memory.{AsksMemory};
 ghost use Rattle.framehop_unwinder.specs.Modules.{with_module, without_module, has_start};
 ghost use Rattle.framehop_unwinder.specs.History.{KeyHistory, HaveHistories, history_at, no_history};
 ghost use Rattle.framehop_unwinder.specs.State.{empty_state, unwinder_at, cache_at, histories_after_step, histories_after_move, new_cache, loads_with};
@@ -222,6 +223,8 @@ impl<A: Unwinding> Session<A> {
         ensures error_keeps { OnErr result (regs.new ≡ regs.old) }
         ensures refusals { IfErr result IsOfStep }
         ensures memory { A.takes_memory ≡ false → wants_memory result ≡ false }
+        ensures asked { let modules = (unwinder_at self.old.unwinders unwinder).modules in
+            wants_memory result ≡ true → AsksMemory A.asks_memory modules (frame_of address) }
     {
         let cache = &mut self.caches[cache];
         self.unwinders[unwinder].unwind_frame(address, regs, cache, read_stack)

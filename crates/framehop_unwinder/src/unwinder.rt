@@ -9,6 +9,7 @@ ghost use Rattle.framehop_unwinder.specs.Attempt.{meanings, attempt_at};
 ghost use Rattle.framehop_unwinder.specs.CacheViews.{rules_of};
 ghost use Rattle.framehop_unwinder.specs.Frames.{frame_of};
 ghost use Rattle.framehop_unwinder.specs.Judge.{judge, judge_at};
+ghost use Rattle.framehop_unwinder.specs.Memory.{AsksMemory, AsksMemoryAt};
 ghost use Rattle.framehop_unwinder.specs.Modules.{Loaded, nearest_module, module_found, with_module, without_module, has_start, last_end};
 ghost use Rattle.framehop_unwinder.specs.RulesKept.{Fits, rule_kept, key_for, finding_in, slots_after};
 ghost use Rattle.framehop_unwinder.specs.Trials.{trial, has_wanted, rule_of_result, HasValidRule, KeepsUnlessDirect, wants_memory, IsOfStep};
@@ -241,6 +242,8 @@ impl<A: Unwinding> UnwinderInternal<A> {
         ensures keeps { KeepsUnlessDirect result regs.old regs.new }
         ensures valid { HasValidRule A.UnwindRule.is_valid result }
         ensures memory { A.takes_memory ≡ false → has_wanted result ≡ false }
+        ensures asked { has_wanted result ≡ true
+            → AsksMemoryAt A.asks_memory self.now.modules is_first_frame address }
     {
         match module_for_address(&self.modules, address) {
             Some((module, relative_address)) => A::unwind_frame(
@@ -284,6 +287,8 @@ impl<A: Unwinding> UnwinderInternal<A> {
         ensures error_keeps { OnErr result (regs.new ≡ regs.old) }
         ensures refusals { IfErr result IsOfStep }
         ensures memory { A.takes_memory ≡ false → wants_memory result ≡ false }
+        ensures asked { wants_memory result ≡ true
+            → AsksMemoryAt A.asks_memory self.now.modules is_first_frame address }
     {
         let handle = match cache
             .rule_cache
@@ -344,6 +349,8 @@ impl<A: Unwinding> UnwinderInternal<A> {
         ensures error_keeps { OnErr result (regs.new ≡ regs.old) }
         ensures refusals { IfErr result IsOfStep }
         ensures memory { A.takes_memory ≡ false → wants_memory result ≡ false }
+        ensures asked { wants_memory result ≡ true
+            → AsksMemory A.asks_memory self.now.modules (frame_of address) }
     {
         let lookup_address = address.address_for_lookup();
         let is_first_frame = !address.is_return_address();

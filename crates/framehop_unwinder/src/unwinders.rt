@@ -41,6 +41,9 @@ pub trait Unwinder {
     /// Whether a step may take memory.
     ghost takes_memory: { Bool };
 
+    /// The frames from which one may.
+    ghost asks_memory: { Self → Frame → Type 0 };
+
     /// Loads a module, and takes a generation. A refusal hands the module back and changes nothing.
     fn add_module(
         &mut self,
@@ -108,7 +111,8 @@ pub trait Unwinder {
         ensures none_keeps { result ≡ Ok None → regs.new ≡ regs.old }
         ensures error_keeps { OnErr result (regs.new ≡ regs.old) }
         ensures refusals { IfErr result IsOfStep }
-        ensures memory { takes_memory ≡ false → wants_memory result ≡ false };
+        ensures memory { takes_memory ≡ false → wants_memory result ≡ false }
+        ensures asked { wants_memory result ≡ true → asks_memory self.now (frame_of address) };
 
     /// A walk from a frame at the instruction pointer `pc` with these registers.
     final fn iter_frames<'u, 'c, 'r, F: FnMut(u64) -> Result<u64, ()>>(

@@ -1,5 +1,5 @@
 //! What the modules of an architecture say of a frame.
-ghost use Rattle.std.specs.Prelude.{◌≡◌, ℕ, Bool, false};
+ghost use Rattle.std.specs.Prelude.{◌≡◌, ℕ, Bool, true, false};
 ghost use Rattle.framehop_registers.specs.Callback.{Words, OverWords};
 ghost use Rattle.framehop_unwinder.specs.Attempt.{Attempt};
 ghost use Rattle.framehop_unwinder.specs.Trials.{trial, has_wanted, rule_of_result, HasValidRule, KeepsUnlessDirect};
@@ -43,6 +43,9 @@ pub trait Unwinding: Arch {
     /// Whether an attempt may take memory.
     ghost takes_memory: { Bool };
 
+    /// The modules' data, relative addresses and kinds of frames where one may.
+    ghost asks_memory: { Self.UnwindData → ℕ → Bool → Type 0 };
+
     /// What a module says of a frame at an address that counts from the module's base: a rule, or
     /// the return address where the registers are the caller's already; or why it says nothing, with
     /// the registers as they were.
@@ -64,5 +67,7 @@ pub trait Unwinding: Arch {
             ≡ rule_of_attempt fallback (attempt unwind_data.now relative_address is_first_frame) }
         ensures keeps { KeepsUnlessDirect result regs.old regs.new }
         ensures valid { HasValidRule Self.UnwindRule.is_valid result }
-        ensures memory { takes_memory ≡ false → has_wanted result ≡ false };
+        ensures memory { takes_memory ≡ false → has_wanted result ≡ false }
+        ensures asked { has_wanted result ≡ true
+            → asks_memory unwind_data.now relative_address is_first_frame };
 }

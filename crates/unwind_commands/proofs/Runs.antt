@@ -1,6 +1,6 @@
 -- What a run has written, and what is left to write.
 use Rattle.std.proofs.Common.{◌≡◌, ℕ, List, [], ◌∷◌, ◌++◌, length, reverse, Bool, true, false, ◌↔◌, IsTrue, Result, Ok, Err, Option, refl, sym, ◌∙◌, ap, subst}
-use Rattle.std.proofs.lemmas.List.{reverse-append, length-append, length-set}
+use Rattle.std.proofs.lemmas.List.{reverse-append, reverse-reverse, length-append, length-set}
 use Rattle.std.specs.Io.KnownBytes.{Appends}
 use Rattle.std.specs.Prelude.{IsErrOf, OnErr}
 use Rattle.documents.specs.declared.status.RunError.{RunError}
@@ -11,7 +11,7 @@ use Rattle.framehop.specs.ModuleFound.{Loaded}
 use Rattle.unwind_commands.specs.Numbered.{AreNumbered, unwinder_count_after, caches_after}
 use Rattle.unwind_commands.specs.Text.{unwinders_after, line_of, lines_of}
 use Rattle.unwind_commands.specs.CommandViews.{tasks_of, task_of}
-use Rattle.documents.proofs.Laws.{begun_line, written_more}
+use Rattle.documents.proofs.Laws.{begun_line, written_more, written_none}
 use Rattle.documents.specs.Stream.{AppendsFront, IsWritten}
 
 -- the last of the commands that are kept in reverse is the next
@@ -54,3 +54,24 @@ begun_next limit old mid new before task tasks line all lined h added =
 pub on_err : {T E P : Type 0} (r : Result T E) → P → OnErr r P
 on_err (Ok value) holds = tt
 on_err (Err error) holds = holds
+
+-- commands that are kept in reverse are all that are left at first
+left_first : (commands kept : List Command) → kept ≡ reverse commands → commands ≡ reverse kept
+left_first commands kept turned = sym (ap reverse turned ∙ reverse-reverse commands)
+
+-- the same without what was made, so that each is numbered
+pub numbered_first : (commands kept : List Command) (modules : List (List Loaded)) (caches : ℕ) → kept ≡ reverse commands → modules ≡ [] → caches ≡ 0
+    → AreNumbered 0 0 (tasks_of commands) → AreNumbered (length modules) caches (tasks_of (reverse kept))
+numbered_first commands kept modules caches turned none empty h =
+    subst (λ (cs : List Command). AreNumbered (length modules) caches (tasks_of cs)) (left_first commands kept turned)
+    (subst (λ (n : ℕ). AreNumbered (length modules) n (tasks_of commands)) (sym empty)
+    (subst (λ (m : List (List Loaded)). AreNumbered (length m) 0 (tasks_of commands)) (sym none) h))
+
+-- and nothing is written
+pub written_first : (limit : Option ℕ) (writer : Option (List ℕ)) (commands kept : List Command) (modules : List (List Loaded)) → kept ≡ reverse commands → modules ≡ []
+    → IsWritten writer writer (lines_of limit modules (tasks_of (reverse kept))) (lines_of limit [] (tasks_of commands))
+written_first limit writer commands kept modules turned none =
+    let all : List ℕ = lines_of limit [] (tasks_of commands) in
+    let left : all ≡ lines_of limit modules (tasks_of (reverse kept))
+    = ap (λ (cs : List Command). lines_of limit [] (tasks_of cs)) (left_first commands kept turned) ∙ ap (λ (m : List (List Loaded)). lines_of limit m (tasks_of (reverse kept))) (sym none) in
+    subst (λ (lines : List ℕ). IsWritten writer writer lines all) left (written_none writer all)

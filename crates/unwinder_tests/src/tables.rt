@@ -52,8 +52,9 @@ impl<A: Arch> Arch for Tables<A> {
 }
 
 impl<A: Arch> Unwinding for Tables<A> {
-    ghost use Rattle.std.specs.Prelude.{true};
+    ghost use Rattle.std.specs.Prelude.{true, Some};
     ghost use Rattle.unwinder_tests.specs.Tables.{attempt_said};
+    ghost use Rattle.unwinder_tests.specs.declared.tables.Said.TheVariants.{WantsMemory};
 
     type UnwindData = Vec<Row>;
 
@@ -63,6 +64,8 @@ impl<A: Arch> Unwinding for Tables<A> {
         attempt_said A.UnwindRule.stub_rule A.UnwindRule.start_rule (said_at rows.items address) };
 
     ghost takes_memory = { true };
+
+    ghost asks_memory = { λ rows address first. said_at rows.items address ≡ Some WantsMemory };
 
     fn unwind_frame<F: FnMut(u64) -> Result<u64, ()>>(
         unwind_data: &Vec<Row>,

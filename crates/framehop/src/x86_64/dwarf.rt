@@ -2,12 +2,10 @@
 
 ghost use Rattle.std.specs.Prelude.{◌≡◌, ◌≢◌, ℕ, Bool, option_and_then, option_map, Err, IfErr, IfSome, IfOk};
 ghost use Rattle.framehop_registers.specs.Callback.{Words, OverWords};
-ghost use Rattle.framehop.specs.Attempt.{by_parts};
 ghost use Rattle.framehop.specs.DirectRow.{direct_return_address, direct_refusal, direct_answer, frame_sources};
 ghost use Rattle.framehop.specs.DirectViews.{caller_shown};
-ghost use Rattle.framehop.specs.Memory.{HasExpression, HasExpressionPart, IsColumnExpression, TakesMemory};
+ghost use Rattle.framehop.specs.Memory.{HasExpressionPart, IsColumnExpression, TakesMemory};
 ghost use Rattle.dwarf_frame_programs.specs.StateViews.{rule_as};
-ghost use Rattle.framehop.specs.UnwindResults.{trial, with_registers, of_dwarf, KeepsUnlessDirect, HasValidRule};
 ghost use Rattle.framehop_rules.specs.Outcome.{Answers, Caller};
 ghost use Rattle.framehop_rules.specs.RuleMeaning.{rule_meaning, IsValid};
 ghost use Rattle.framehop.specs.RowAnswer.{row_answer, value_of};
@@ -15,14 +13,14 @@ ghost use Rattle.framehop.specs.declared.dwarf.DwarfUnwinderError.TheVariants.{O
 ghost use Rattle.framehop.specs.ScaledRow.{Parts, eighth_of, as_u16, as_i16, raised_sp, restored_bp, from_sp, from_bp, from_return_address, scaled_rule};
 ghost use Rattle.framehop.specs.RowViews.{parts_shown};
 
-use crate::dwarf::DwarfUnwinderError;
+use crate::dwarf::{DwarfUnwinderError, DwarfUnwinding};
 use crate::evaluation::{DwarfUnwindRegs, eval_cfa_rule, eval_register_rule, read_below};
-use crate::unwind_result::UnwindResult;
 use dwarf_call_frames::{_UnwindSectionPrivate, UnwindTableRow};
 use dwarf_expressions::{ArrayLike, EvaluationStorage};
 use dwarf_frame_rows::{CfaRule, RegisterRule, RuledRegister};
-use dwarf_read_core::{Reader, ReaderOffset, Register, X86_64};
-use framehop_rules::x86_64::{UnwindRegsX86_64, UnwindRuleX86_64};
+use dwarf_read_core::{Encoding, Reader, ReaderOffset, Register, X86_64};
+use framehop_rules::x86_64::{ArchX86_64, UnwindRegsX86_64, UnwindRuleX86_64};
+use framehop_unwinder::UnwindResult;
 use std::alloc::{AllocError, Global};
 
 /// RSP, RBP, and RIP by the return address's column (System V ABI for AMD64, figure 3.36).
@@ -139,9 +137,10 @@ fn translate_into_unwind_rule<T: Copy>(
 }
 
 /// The rule that says a row exactly, if one does.
-fn rule_for_row<T: ReaderOffset, Rules: ArrayLike<Item = RuledRegister<RegisterRule<T>>>>(
-    row: &UnwindTableRow<T, Rules>,
-) -> Option<UnwindRuleX86_64>
+pub(super) fn rule_for_row<
+    T: ReaderOffset,
+    Rules: ArrayLike<Item = RuledRegister<RegisterRule<T>>>,
+>(row: &UnwindTableRow<T, Rules>) -> Option<UnwindRuleX86_64>
     ensures rule { result ≡ scaled_rule (parts_shown T.value row.now) }
     ensures valid { IfSome result IsValid }
 {
@@ -154,10 +153,10 @@ fn rule_for_row<T: ReaderOffset, Rules: ArrayLike<Item = RuledRegister<RegisterR
 
 /// The caller of a frame, as a row gives it.
 #[derive(Clone, Copy)]
-struct DirectCaller {
-    return_address: u64,
-    sp: u64,
-    bp: u64,
+pub(super) struct DirectCaller {
+    pub(super) return_address: u64,
+    pub(super) sp: u64,
+    pub(super) bp: u64,
 }
 
 /// The return address at a CFA: what its column gives, or else the word below the CFA. Only the values
@@ -172,6 +171,7 @@ fn eval_return_address<
     section: &Section,
     rule: Option<RegisterRule<R::Offset>>,
     cfa: u64,
+    encoding: Encoding,
     regs: &UnwindRegsX86_64,
     read_stack: &mut F,
 ) -> Result<Option<u64>, AllocError>
@@ -179,7 +179,8 @@ fn eval_return_address<
     ensures callable { F.IsAlwaysCallable read_stack.new }
     ensures value { OverWords F.step read_stack.old read_stack.new (λ words.
         IfOk result (λ value. value ≡ direct_return_address
-        (frame_sources S.Stack.capacity (R.stretch (Section.reader section.now)) regs.now)
+        (frame_sources S.Stack.capacity encoding.address_size
+        (R.stretch (Section.reader section.now)) regs.now)
         regs.now words cfa (option_map (rule_as R.Offset.value) rule))) }
     ensures expression { IfErr result (λ _.
         IsColumnExpression (option_map (rule_as R.Offset.value) rule)) }
@@ -187,7 +188,7 @@ fn eval_return_address<
 {
     let ip = regs.ip();
     let stored = eval_register_rule::<S, R, Section, _, F>(
-        alloc, section, rule, cfa, ip, regs, read_stack,
+        alloc, section, rule, cfa, ip, encoding, regs, read_stack,
     )?;
     match stored {
         Some(return_address) => Ok(Some(return_address)),
@@ -214,7 +215,7 @@ fn refusal(
 }
 
 /// The caller that a row gives. A column of RBP without a value keeps RBP.
-fn eval_row<
+pub(super) fn eval_row<
     S: EvaluationStorage,
     R: Reader,
     Section: _UnwindSectionPrivate<R>,
@@ -224,6 +225,7 @@ fn eval_row<
     alloc: Global,
     section: &Section,
     row: &UnwindTableRow<R::Offset, Rules>,
+    encoding: Encoding,
     is_first_frame: bool,
     regs: &UnwindRegsX86_64,
     read_stack: &mut F,
@@ -232,14 +234,15 @@ fn eval_row<
     ensures callable { F.IsAlwaysCallable read_stack.new }
     ensures caller { OverWords F.step read_stack.old read_stack.new (λ words.
         result ≢ Err OutOfMemory → caller_shown regs.now result
-        ≡ direct_answer S.Stack.capacity is_first_frame regs.now words
+        ≡ direct_answer S.Stack.capacity encoding.address_size is_first_frame regs.now words
         (R.stretch (Section.reader section.now)) (parts_shown R.Offset.value row.now)) }
     ensures expression { result ≡ Err OutOfMemory
         → HasExpressionPart (parts_shown R.Offset.value row.now) }
     ensures memory { result ≡ Err OutOfMemory
         → TakesMemory S.Stack.is_made_in_place S.Stack.capacity }
 {
-    let Some(cfa) = eval_cfa_rule::<S, R, Section, _>(alloc, section, *row.cfa(), regs)? else {
+    let Some(cfa) = eval_cfa_rule::<S, R, Section, _>(alloc, section, *row.cfa(), encoding, regs)?
+    else {
         return Err(DwarfUnwinderError::CouldNotRecoverCfa);
     };
     let bp = regs.bp();
@@ -249,12 +252,13 @@ fn eval_row<
         row.register(X86_64::RBP),
         cfa,
         bp,
+        encoding,
         regs,
         read_stack,
     )?;
     let ra = row.register(X86_64::RA);
     let Some(return_address) = eval_return_address::<S, R, Section, F>(
-        alloc, section, ra, cfa, regs, read_stack,
+        alloc, section, ra, cfa, encoding, regs, read_stack,
     )?
     else {
         return Err(DwarfUnwinderError::CouldNotRecoverReturnAddress);
@@ -269,50 +273,56 @@ fn eval_row<
     }
 }
 
-/// What a row of a section says of a frame: the rule that says the row exactly, or else the caller
-/// that the row gives by itself, whose registers it leaves then. An `Err` leaves them as they were.
-pub(crate) fn unwind_frame<
-    S: EvaluationStorage,
-    R: Reader,
-    Section: _UnwindSectionPrivate<R>,
-    Rules: ArrayLike<Item = RuledRegister<RegisterRule<R::Offset>>>,
-    F: FnMut(u64) -> Result<u64, ()>,
->(
-    alloc: Global,
-    section: &Section,
-    row: &UnwindTableRow<R::Offset, Rules>,
-    is_first_frame: bool,
-    regs: &mut UnwindRegsX86_64,
-    read_stack: &mut F,
-) -> Result<UnwindResult, DwarfUnwinderError>
-    requires { F.IsAlwaysCallable read_stack.old }
-    ensures callable { F.IsAlwaysCallable read_stack.new }
-    ensures trial { OverWords F.step read_stack.old read_stack.new (λ words.
-        result ≢ Err OutOfMemory → with_registers regs.new (of_dwarf result)
-        ≡ trial S.Stack.capacity is_first_frame regs.old words
-        (by_parts (R.stretch (Section.reader section.now)) (parts_shown R.Offset.value row.now))) }
-    ensures expression { result ≡ Err OutOfMemory → HasExpression
-        (by_parts (R.stretch (Section.reader section.now)) (parts_shown R.Offset.value row.now)) }
-    ensures memory { result ≡ Err OutOfMemory
-        → TakesMemory S.Stack.is_made_in_place S.Stack.capacity }
-    ensures keeps { KeepsUnlessDirect result regs.old regs.new }
-    ensures valid { IfOk result HasValidRule }
-{
-    if let Some(rule) = rule_for_row(row) {
-        return Ok(UnwindResult::ExecRule(rule));
+impl DwarfUnwinding for ArchX86_64 {
+    ghost use Rattle.framehop.specs.RowAttemptX86_64.{row_attempt, MeetsExpression};
+    ghost use Rattle.framehop_rules.specs.declared.x86_64.unwind_rule.UnwindRuleX86_64.TheVariants.{JustReturnIfFirstFrameOtherwiseFp};
+
+    ghost row_attempt = { row_attempt };
+
+    ghost MeetsExpression = { MeetsExpression };
+
+    ghost uncovered = { JustReturnIfFirstFrameOtherwiseFp };
+
+    fn unwind_frame<
+        S: EvaluationStorage,
+        R: Reader,
+        Section: _UnwindSectionPrivate<R>,
+        Rules: ArrayLike<Item = RuledRegister<RegisterRule<R::Offset>>>,
+        F: FnMut(u64) -> Result<u64, ()>,
+    >(
+        alloc: Global,
+        section: &Section,
+        row: &UnwindTableRow<R::Offset, Rules>,
+        encoding: Encoding,
+        is_first_frame: bool,
+        regs: &mut UnwindRegsX86_64,
+        read_stack: &mut F,
+    ) -> Result<UnwindResult<UnwindRuleX86_64>, DwarfUnwinderError> {
+        if let Some(rule) = rule_for_row(row) {
+            return Ok(UnwindResult::ExecRule(rule));
+        }
+        match eval_row::<S, R, Section, Rules, F>(
+            alloc,
+            section,
+            row,
+            encoding,
+            is_first_frame,
+            regs,
+            read_stack,
+        ) {
+            Ok(caller) => {
+                regs.set_ip(caller.return_address);
+                regs.set_sp(caller.sp);
+                regs.set_bp(caller.bp);
+                Ok(UnwindResult::Uncacheable(caller.return_address))
+            }
+            Err(error) => Err(error),
+        }
     }
-    let caller = eval_row::<S, R, Section, Rules, F>(
-        alloc,
-        section,
-        row,
-        is_first_frame,
-        regs,
-        read_stack,
-    )?;
-    regs.set_ip(caller.return_address);
-    regs.set_sp(caller.sp);
-    regs.set_bp(caller.bp);
-    Ok(UnwindResult::Uncacheable(caller.return_address))
+
+    fn rule_if_uncovered_by_fde() -> UnwindRuleX86_64 {
+        UnwindRuleX86_64::JustReturnIfFirstFrameOtherwiseFp
+    }
 }
 
 /// A law of scaled rows: where a rule says a row exactly and the rule answers, its answer is the

@@ -6,11 +6,13 @@ ghost use Rattle.framehop_registers.specs.FrameAddress.{lookup_address_of};
 ghost use Rattle.framehop_registers.specs.declared.error.Error.TheVariants.{OutOfMemory};
 ghost use Rattle.framehop_rules.specs.Outcome.{IsStep, IsOfRule};
 ghost use Rattle.framehop_registers.specs.declared.x86_64.unwindregs.UnwindRegsX86_64.{UnwindRegsX86_64};
-ghost use Rattle.framehop.specs.Memory.{MeetsExpression, TakesMemory};
+ghost use Rattle.framehop.specs.Attempt.{by_parts};
+ghost use Rattle.framehop.specs.Memory.{HasExpression, MeetsExpression, TakesMemory};
+ghost use Rattle.framehop.specs.RowViews.{parts_shown};
 ghost use Rattle.framehop.specs.ModuleViews.{module_view};
 ghost use Rattle.framehop.specs.ModuleFound.{with_module};
 ghost use Rattle.framehop.specs.Judge.{judge, is_first};
-ghost use Rattle.framehop.specs.UnwindResults.{KeepsUnlessDirect, HasValidRule, outcome_of_result};
+ghost use Rattle.framehop.specs.UnwindResults.{trial, with_registers, of_dwarf, KeepsUnlessDirect, HasValidRule, outcome_of_result};
 
 use crate::cache::AllocationPolicy;
 use crate::dwarf::DwarfUnwinderError;
@@ -18,6 +20,11 @@ use crate::error::UnwinderError;
 use crate::unwind_result::UnwindResult;
 use crate::unwinder::{Module, UnwinderInternal};
 use crate::x86_64::cache::CacheX86_64;
+use crate::x86_64::dwarf::{eval_row, rule_for_row};
+use dwarf_call_frames::{_UnwindSectionPrivate, UnwindTableRow};
+use dwarf_expressions::{ArrayLike, EvaluationStorage};
+use dwarf_frame_rows::{RegisterRule, RuledRegister};
+use dwarf_read_core::{Encoding, Format, Reader};
 use framehop_rules::x86_64::{UnwindRegsX86_64, UnwindRuleX86_64};
 use framehop_rules::{Error, FrameAddress, UnwindRule};
 use std::alloc::{AllocFailed, Global};
@@ -49,6 +56,60 @@ fn after_failure(error: UnwinderError) -> Result<UnwindResult, Error>
             Ok(UnwindResult::ExecRule(UnwindRuleX86_64::fallback_rule()))
         }
     }
+}
+
+/// What expressions of `.eh_frame` are read by: addresses of 8 bytes.
+const ENCODING: Encoding = Encoding {
+    address_size: 8,
+    format: Format::Dwarf32,
+    version: 1,
+};
+
+/// What a row of a section says of a frame: the rule that says the row exactly, or else the caller
+/// that the row gives by itself, whose registers it leaves then. An `Err` leaves them as they were.
+pub(crate) fn unwind_frame<
+    S: EvaluationStorage,
+    R: Reader,
+    Section: _UnwindSectionPrivate<R>,
+    Rules: ArrayLike<Item = RuledRegister<RegisterRule<R::Offset>>>,
+    F: FnMut(u64) -> Result<u64, ()>,
+>(
+    alloc: Global,
+    section: &Section,
+    row: &UnwindTableRow<R::Offset, Rules>,
+    is_first_frame: bool,
+    regs: &mut UnwindRegsX86_64,
+    read_stack: &mut F,
+) -> Result<UnwindResult, DwarfUnwinderError>
+    requires { F.IsAlwaysCallable read_stack.old }
+    ensures callable { F.IsAlwaysCallable read_stack.new }
+    ensures trial { OverWords F.step read_stack.old read_stack.new (λ words.
+        result ≢ Err DwarfUnwinderError.OutOfMemory → with_registers regs.new (of_dwarf result)
+        ≡ trial S.Stack.capacity is_first_frame regs.old words
+        (by_parts (R.stretch (Section.reader section.now)) (parts_shown R.Offset.value row.now))) }
+    ensures expression { result ≡ Err DwarfUnwinderError.OutOfMemory → HasExpression
+        (by_parts (R.stretch (Section.reader section.now)) (parts_shown R.Offset.value row.now)) }
+    ensures memory { result ≡ Err DwarfUnwinderError.OutOfMemory
+        → TakesMemory S.Stack.is_made_in_place S.Stack.capacity }
+    ensures keeps { KeepsUnlessDirect result regs.old regs.new }
+    ensures valid { IfOk result HasValidRule }
+{
+    if let Some(rule) = rule_for_row(row) {
+        return Ok(UnwindResult::ExecRule(rule));
+    }
+    let caller = eval_row::<S, R, Section, Rules, F>(
+        alloc,
+        section,
+        row,
+        ENCODING,
+        is_first_frame,
+        regs,
+        read_stack,
+    )?;
+    regs.set_ip(caller.return_address);
+    regs.set_sp(caller.sp);
+    regs.set_bp(caller.bp);
+    Ok(UnwindResult::Uncacheable(caller.return_address))
 }
 
 /// The unwinder of a process on x86_64.

@@ -14,7 +14,7 @@ requests-smaller g c =
 pub requests-preserved : goal.requests-preserved
 requests-preserved g c =
     let limit = g.S.Stack.ArrayLike.capacity in
-    let p = program_of limit (g.R.Reader.stretch c.args.expression.0) in
+    let p = program_of limit c.args.encoding.address_size (g.R.Reader.stretch c.args.expression.0) in
     let registers = g.G.DwarfUnwindRegs.value_of c.args.regs.now in
     let s = c.requests.evaluation.state in
     let t = c.resume_with_register-answer.new.self.state in

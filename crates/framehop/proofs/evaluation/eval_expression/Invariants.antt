@@ -10,7 +10,7 @@ use Rattle.framehop.proofs.evaluation.eval_expression.Given as goal
 abbrev pub invariant-requests : goal.invariant-requests
 invariant-requests g l =
     let limit = g.S.Stack.ArrayLike.capacity in
-    let p = program_of limit (g.R.Reader.stretch l.fn.expression.0) in
+    let p = program_of limit l.fn.encoding.address_size (g.R.Reader.stretch l.fn.expression.0) in
     let registers = g.G.DwarfUnwindRegs.value_of l.regs in
     record {
       program : l.evaluation.program ≡ p;

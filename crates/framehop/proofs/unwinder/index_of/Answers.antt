@@ -1,7 +1,7 @@
 -- A section with an error against its index has none.
 use Rattle.std.proofs.Common.{◌≡◌, Some, ap, sym, ◌∙◌}
 use Rattle.std.specs.Prelude.{option_map}
-use Rattle.framehop.specs.ModuleFound.{eh_frame_of}
+use Rattle.framehop.specs.FrameSections.{eh_frame_of}
 use Rattle.framehop.proofs.CfiIndexBuild.{has-no-index}
 use Rattle.framehop.proofs.unwinder.index_of.Goals as goal
 

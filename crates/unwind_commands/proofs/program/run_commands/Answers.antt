@@ -6,7 +6,7 @@ use Rattle.unwind_commands.specs.Commands.{Task}
 use Rattle.unwind_commands.specs.CommandViews.{tasks_of, task_of}
 use Rattle.documents.specs.Stream.{IsWritten}
 use Rattle.documents.proofs.Laws.{written_front}
-use Rattle.unwind_commands.proofs.Runs.{begun_next, on_err, written_next, numbered_after, next_task, not_failed}
+use Rattle.unwind_commands.proofs.Runs.{begun_next, on_err, written_next, numbered_after, next_task, not_failed, numbered_first, written_first}
 use Rattle.unwind_commands.proofs.program.run_commands.Goals as goal
 
 pub returns-in_err-line-clause-begun : goal.returns-in_err-line-clause-begun
@@ -31,4 +31,14 @@ loop-command-preserved g c =
       failed = not_failed (g.W.Sink.has_failed c.write_all.new.sink) c.in_ok-write_all.ensures.write;
       numbered = numbered_after (modules_in c.loop-command.instances) (modules_in c.perform.new.self) (caches_in c.loop-command.instances) (caches_in c.perform.new.self) (task_of c.in-Some.command) (tasks_of (reverse c.pop.new.self.items)) c.in_ok-line.ensures.unwinders c.in_ok-line.ensures.caches numbered;
       written = written_next limit (g.W.Sink.contents c.args.writer.now) (g.W.Sink.contents c.loop-command.writer) (g.W.Sink.contents c.write_all.new.sink) (modules_in c.loop-command.instances) (modules_in c.perform.new.self) (task_of c.in-Some.command) (tasks_of (reverse c.pop.new.self.items)) c.as_bytes.result.now (lines_of limit [] (tasks_of c.args.commands.items)) c.in_ok-line.ensures.unwinders (c.as_bytes.ensures.value ∙ c.in_ok-line.ensures.line) written c.in_ok-write_all.ensures.written;
+    }
+
+pub loop-command-init : goal.loop-command-init
+loop-command-init g c =
+    let limit = g.P.GimliEvaluationStorage.Stack.ArrayLike.capacity in
+    let kept = c.reverse.new.self.items in
+    record {
+      failed = c.requires.writer;
+      numbered = numbered_first c.args.commands.items kept (modules_in c.new-instances.result) (caches_in c.new-instances.result) c.reverse.ensures.items c.new-instances.ensures.unwinders c.new-instances.ensures.caches c.requires.numbered;
+      written = written_first limit (g.W.Sink.contents c.args.writer.now) c.args.commands.items kept (modules_in c.new-instances.result) c.reverse.ensures.items c.new-instances.ensures.unwinders;
     }

@@ -10,7 +10,7 @@ use Rattle.framehop.specs.declared.error.UnwinderError.{UnwinderError}
 use Rattle.framehop.specs.declared.error.UnwinderError.TheVariants.{Dwarf}
 use Rattle.framehop.specs.Attempt.{by_fde}
 use Rattle.framehop.specs.Memory.{HasExpression}
-use Rattle.framehop.specs.ModuleFound.{eh_frame_of}
+use Rattle.framehop.specs.FrameSections.{eh_frame_of}
 use Rattle.framehop.specs.UnwindResults.{trial, with_registers, of_dwarf}
 use Rattle.framehop_registers.proofs.Laws.{over_none, over_weaker}
 use Rattle.framehop.proofs.IndexedModules.{address-indexed, address-missed, address-past, same-section}

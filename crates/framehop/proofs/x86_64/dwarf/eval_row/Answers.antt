@@ -22,7 +22,7 @@ returns-in_default-2-clause-caller g c =
     let number = g.R.Offset.ReaderOffset.value in
     let registers = c.args.regs.now in
     let parts = parts_shown number c.args.row.now in
-    let sources : Sources = frame_sources g.S.Stack.ArrayLike.capacity (g.R.Reader.stretch (g.Section._UnwindSectionPrivate.reader c.args.section.now)) registers in
+    let sources : Sources = frame_sources g.S.Stack.ArrayLike.capacity c.args.encoding.address_size (g.R.Reader.stretch (g.Section._UnwindSectionPrivate.reader c.args.section.now)) registers in
     let cfa : ℕ = c.in-Some.cfa in
     over_both c.in_ok-stored_bp.ensures.value c.in_ok-return_address.ensures.value (λ words bp to _.
     answer_is sources c.args.is_first_frame registers words parts cfa None _
@@ -36,7 +36,7 @@ returns-in-Some-refusal-clause-caller g c =
     let number = g.R.Offset.ReaderOffset.value in
     let registers = c.args.regs.now in
     let parts = parts_shown number c.args.row.now in
-    let sources : Sources = frame_sources g.S.Stack.ArrayLike.capacity (g.R.Reader.stretch (g.Section._UnwindSectionPrivate.reader c.args.section.now)) registers in
+    let sources : Sources = frame_sources g.S.Stack.ArrayLike.capacity c.args.encoding.address_size (g.R.Reader.stretch (g.Section._UnwindSectionPrivate.reader c.args.section.now)) registers in
     let cfa : ℕ = c.in-Some.cfa in
     let to : ℕ = c.in-Some-2.return_address in
     over_both c.in_ok-stored_bp.ensures.value c.in_ok-return_address.ensures.value (λ words bp read _.
@@ -51,7 +51,7 @@ returns-in-None-clause-caller g c =
     let number = g.R.Offset.ReaderOffset.value in
     let registers = c.args.regs.now in
     let parts = parts_shown number c.args.row.now in
-    let sources : Sources = frame_sources g.S.Stack.ArrayLike.capacity (g.R.Reader.stretch (g.Section._UnwindSectionPrivate.reader c.args.section.now)) registers in
+    let sources : Sources = frame_sources g.S.Stack.ArrayLike.capacity c.args.encoding.address_size (g.R.Reader.stretch (g.Section._UnwindSectionPrivate.reader c.args.section.now)) registers in
     let cfa : ℕ = c.in-Some.cfa in
     let to : ℕ = c.in-Some-2.return_address in
     over_both c.in_ok-stored_bp.ensures.value c.in_ok-return_address.ensures.value (λ words stored read _.

@@ -8,6 +8,7 @@ use Rattle.framehop_unwinder.specs.CacheViews.{rules_of}
 use Rattle.framehop_unwinder.specs.Frames.{frame_of}
 use Rattle.framehop_unwinder.specs.History.{HaveHistories}
 use Rattle.framehop_unwinder.specs.Judge.{judge}
+use Rattle.framehop_unwinder.specs.Memory.{AsksMemory}
 use Rattle.framehop_unwinder.specs.Modules.{Loaded, Loads}
 use Rattle.framehop_unwinder.specs.RulesKept.{key_for, rule_kept}
 use Rattle.framehop_unwinder.specs.State.{State, unwinder_at, cache_at, histories_after_step, slots_of_all}
@@ -96,3 +97,13 @@ returns-clause-histories g c =
     ∙ ap (λ (s : State D R). slice_set s.caches c.args.cache (stands mine_now (cache_at c.args.self.now.caches c.args.cache))) c.self.view_is in
     λ histories have. subst (HaveHistories (histories_after_step m w (frame_of c.args.address) mine_now c.args.cache histories)) (sym made)
     (step-have w (rule_kept m mine_now.modules) (key_for (frame_of c.args.address) mine_now.generation) histories c.args.self.now.caches c.args.cache empty within have)
+
+-- the module that is found wants memory
+pub returns-clause-asked : goal.returns-clause-asked
+returns-clause-asked g c wanted =
+    let loads = c.self.inside.unwinders.items in
+    let there : c.args.unwinder < length loads = omega (arith, ap (λ (s : State g.row.A-UnwindData.Denot g.row.A-UnwindRule.Denot). length s.unwinders) c.self.view_is) in
+    let none : Loads (Loaded g.row.A-UnwindData.Denot) = record { modules = []; generation = 0 } in
+    let is : c.index.result.now ≡ unwinder_at c.args.self.now.unwinders c.args.unwinder =
+    c.index.ensures ∙ get_or_default loads c.args.unwinder c.index.result.now none there ∙ ap (λ (s : State g.row.A-UnwindData.Denot g.row.A-UnwindRule.Denot). unwinder_at s.unwinders c.args.unwinder) c.self.view_is in
+    subst (λ (u : Loads (Loaded g.row.A-UnwindData.Denot)). AsksMemory g.A.Unwinding.asks_memory u.modules (frame_of c.args.address)) is (c.unwind_frame.ensures.asked wanted)

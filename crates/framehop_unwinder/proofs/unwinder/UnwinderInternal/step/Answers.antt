@@ -78,3 +78,8 @@ returns-in-Err-OfFrame-clause-step g c =
           (c.exec-in-Err-OfFrame.ensures.step.said words (c.in-Err-OfFrame.ensures.trial.still words answers)));
       still = λ words answers. c.exec-in-Err-OfFrame.ensures.step.still words (c.in-Err-OfFrame.ensures.trial.still words answers);
     }
+
+-- memory was refused
+pub returns-in-Err-OutOfMemory-clause-asked : goal.returns-in-Err-OutOfMemory-clause-asked
+returns-in-Err-OutOfMemory-clause-asked g c wanted =
+    c.in-Err-OutOfMemory.ensures.asked (ap (λ (f : UnwindFailure). has_wanted {Rule = g.row.A-UnwindRule.Denot} (Err f)) c.in-Err-OutOfMemory.field-0-is)

@@ -5,7 +5,7 @@ use Rattle.framehop.specs.RowViews.{parts_shown}
 use Rattle.framehop.specs.UnwindResults.{Trial, direct_trial, trial}
 use Rattle.framehop.specs.declared.unwind_result.UnwindResult.TheVariants.{Uncacheable}
 use Rattle.framehop_registers.proofs.Laws.{over_weaker}
-use Rattle.framehop.proofs.x86_64.dwarf.unwind_frame.Goals as goal
+use Rattle.framehop.proofs.x86_64.unwinder.unwind_frame.Goals as goal
 
 -- no rule says the row, and the row has an answer
 pub returns-clause-trial : goal.returns-clause-trial

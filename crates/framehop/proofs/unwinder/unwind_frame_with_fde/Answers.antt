@@ -5,7 +5,7 @@ use Rattle.framehop.specs.Memory.{HasExpression}
 use Rattle.framehop.specs.UnwindResults.{trial}
 use Rattle.framehop_registers.proofs.Laws.{over_none, over_weaker}
 use Rattle.framehop.proofs.DirectRows.{found_says, missed_says}
-use Rattle.framehop.proofs.dwarf.unwind_frame_with_fde.Goals as goal
+use Rattle.framehop.proofs.unwinder.unwind_frame_with_fde.Goals as goal
 
 -- a row is found
 pub returns-in-Ok-clause-trial : goal.returns-in-Ok-clause-trial

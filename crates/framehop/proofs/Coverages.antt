@@ -1,0 +1,68 @@
+-- How an address is covered, by what an index and an entry gave.
+use Rattle.std.proofs.Common.{◌≡◌, ℕ, ◌+◌, ◌^◌, ◌<◌, ◌≤◌, cond, true, false, List, Option, Some, None, Result, Ok, Err, refl, sym, ap, ◌∙◌, arith}
+use Rattle.std.specs.Prelude.{nat_lt}
+use Rattle.std.specs.Option.{ForSome}
+use Rattle.std.proofs.lemmas.Bool.{lt-ltb}
+use Rattle.std.proofs.lemmas.Bool.Decides.{nat_tests}
+use Rattle.dwarf_constants.specs.declared.common.Vendor.{Vendor}
+use Rattle.dwarf_constants.specs.declared.common.Vendor.TheVariants.{Default}
+use Rattle.dwarf_constants.specs.declared.error.Error.{Error}
+use Rattle.dwarf_readers.specs.Place.{Stretch, whole}
+use Rattle.dwarf_frame_rows.specs.Effects.{Limits}
+use Rattle.dwarf_frame_rows.specs.Row.{Row}
+use Rattle.dwarf_frame_rows.specs.SectionKind.{SectionKind}
+use Rattle.dwarf_frame_rows.specs.declared.base_addresses.BaseAddresses.{BaseAddresses}
+use Rattle.dwarf_frame_sections.specs.Sections.{FrameData, FrameSection, frame_section, plain_data}
+use Rattle.dwarf_call_frames.specs.Entries.{Fde}
+use Rattle.dwarf_call_frames.specs.EntryPrograms.{fde_row}
+use Rattle.framehop.specs.Coverage.{Coverage, Covered, Uncovered, NoEntry, by_row, by_fde, by_entry, by_index}
+use Rattle.framehop.specs.EntryFor.{has_index, indexed_entry}
+use Rattle.framehop.specs.UnwindData.{Room, coverage_in}
+
+module _ (limits : Limits) (section : FrameSection) (vendor : Vendor) (address : ℕ) (fde : Fde) where
+  -- the entry has a row, or none
+  pub covered-by : (size : ℕ) (row : Row ℕ) → size ≡ fde.cie.address_size → fde_row limits section vendor fde address ≡ Ok row → by_fde limits section vendor address fde ≡ Covered size section.within.bytes row
+  covered-by size row sized is = ap (by_row fde.cie.address_size section.within.bytes) is ∙ ap (λ n. Covered n section.within.bytes row) (sym sized)
+
+  pub uncovered-by : (e : Error) → fde_row limits section vendor fde address ≡ Err e → by_fde limits section vendor address fde ≡ Uncovered
+  uncovered-by e is = ap (by_row fde.cie.address_size section.within.bytes) is
+
+module _ (limits : Limits) (section : FrameSection) (vendor : Vendor) (base relative : ℕ) where
+  -- the index has an entry for the address
+  pub index-found : (found : Option Fde) (address : ℕ) (fde : Fde) → found ≡ indexed_entry base relative section → found ≡ Some fde → address ≡ base + relative → address < 2 ^ 64
+      → by_fde limits section vendor address fde ≡ by_index limits section vendor base relative
+  index-found found address fde indexed is at fits =
+      ap (λ b. cond b (by_fde limits section vendor address fde) NoEntry) (sym (lt-ltb address (2 ^ 64) fits))
+      ∙ ap (λ a. by_entry limits section vendor a (Some fde)) at
+      ∙ ap (by_entry limits section vendor (base + relative)) (sym is ∙ indexed)
+
+  -- it has none
+  pub index-missed : (found : Option Fde) → found ≡ indexed_entry base relative section → found ≡ None → NoEntry ≡ by_index limits section vendor base relative
+  index-missed found indexed is = ap (by_entry limits section vendor (base + relative)) (sym is ∙ indexed)
+
+  -- the address doesn't fit 64 bits
+  pub index-past : (found : Option Fde) (fde : Fde) → found ≡ indexed_entry base relative section → found ≡ Some fde → 2 ^ 64 ≤ base + relative → NoEntry ≡ by_index limits section vendor base relative
+  index-past found fde indexed is past =
+      let over = test (base + relative) past in
+      sym (ap (λ b. cond b (by_fde limits section vendor (base + relative) fde) NoEntry) over) ∙ ap (by_entry limits section vendor (base + relative)) (sym is ∙ indexed)
+    where
+      test : (n : ℕ) → 2 ^ 64 ≤ n → nat_lt n (2 ^ 64) ≡ false
+      test n h = grind (arith, nat_tests)
+
+-- without an index there is no entry
+none-indexed : (base relative : ℕ) (section : FrameSection) → has_index base section ≡ false → indexed_entry base relative section ≡ None
+unfolding indexed_entry
+none-indexed base relative section none = rw none refl
+
+-- and no address is covered
+pub unindexed : (room : Room) (base relative : ℕ) (section : Option FrameSection) → ForSome section (λ s. has_index base s ≡ false) → NoEntry ≡ coverage_in room base relative section
+unindexed room base relative None none = refl
+unindexed room base relative (Some section) none =
+    ap (by_entry room.rows section Default (base + relative)) (sym (none-indexed base relative section (none section refl)))
+
+-- a section that is made of bytes is the section of these bytes
+pub section-made : {R : Type 0} (stretch : R → Stretch) (kind : SectionKind) (made : FrameData R) (bytes : List ℕ) (bases : BaseAddresses) → stretch made.reader ≡ whole false bytes → made ≡ plain_data made.reader
+    → frame_section (2 ^ 64) kind made.address_size (stretch made.reader) bases ≡ frame_section (2 ^ 64) kind 8 (whole false bytes) bases
+section-made stretch kind made bytes bases is plain =
+    ap (λ (n : ℕ). frame_section (2 ^ 64) kind n (stretch made.reader) bases) (ap (λ d. d.address_size) plain)
+    ∙ ap (λ (s : Stretch). frame_section (2 ^ 64) kind 8 s bases) is

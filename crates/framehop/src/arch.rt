@@ -1,0 +1,101 @@
+//! Architectures whose modules are unwound by their sections.
+
+ghost use Rattle.std.specs.Prelude.{◌≡◌, true, false, ℕ};
+ghost use Rattle.dwarf_frame_rows.specs.Effects.{limits_of};
+ghost use Rattle.framehop_registers.specs.Callback.{OverWords};
+ghost use Rattle.framehop_unwinder.specs.RulesKept.{rule_of_attempt};
+ghost use Rattle.framehop_unwinder.specs.Trials.{trial, has_wanted, rule_of_result, HasValidRule, KeepsUnlessDirect};
+ghost use Rattle.framehop.specs.Coverage.{row_meanings};
+ghost use Rattle.framehop.specs.Memory.{takes_memory, TakesMemory};
+ghost use Rattle.framehop.specs.UnwindData.{AsksExpression, attempt, room_of};
+
+use crate::cache::AllocationPolicy;
+use crate::dwarf::{DwarfUnwindContext, DwarfUnwinding, unwind_frame_by_index};
+use crate::unwind_data::ModuleUnwindData;
+use dwarf_call_frames::{DebugFrame, EhFrame};
+use dwarf_read_core::{EndianSlice, LittleEndian};
+use framehop_modules::{ModuleSections, SectionBytes};
+use framehop_rules::Arch;
+use framehop_unwinder::{UnwindFailure, UnwindResult, Unwinding};
+use std::marker::PhantomData;
+
+/// The architecture `A`, whose modules are unwound by their sections, which are values of `D`, under
+/// the policy `P`.
+pub struct BySections<A, D, P> {
+    arch: PhantomData<A>,
+    sections: PhantomData<D>,
+    policy: PhantomData<P>,
+}
+
+impl<A: DwarfUnwinding, D: SectionBytes + Drop, P: AllocationPolicy> Arch for BySections<A, D, P> {
+    type UnwindRegs = A::UnwindRegs;
+
+    type UnwindRule = A::UnwindRule;
+}
+
+impl<A: DwarfUnwinding, D: SectionBytes + Drop, P: AllocationPolicy> Unwinding
+    for BySections<A, D, P> {
+    type UnwindData = ModuleUnwindData<D>;
+
+    type UnwindContext = DwarfUnwindContext<P>;
+
+    ghost attempt = { let room = room_of (limits_of P.GimliUnwindContextStorage.Rules.capacity
+        P.GimliUnwindContextStorage.Stack.capacity) P.GimliEvaluationStorage.Stack.capacity in
+        attempt (row_meanings A.row_attempt A.uncovered) room };
+
+    ghost takes_memory = { takes_memory P.GimliEvaluationStorage.Stack.is_made_in_place
+        P.GimliEvaluationStorage.Stack.capacity };
+
+    ghost asks_memory = { λ given relative first.
+        let room = room_of (limits_of P.GimliUnwindContextStorage.Rules.capacity
+        P.GimliUnwindContextStorage.Stack.capacity) P.GimliEvaluationStorage.Stack.capacity in
+        AsksExpression A.MeetsExpression room given relative };
+
+    fn unwind_frame<F: FnMut(u64) -> Result<u64, ()>>(
+        unwind_data: &ModuleUnwindData<D>,
+        relative_address: u32,
+        is_first_frame: bool,
+        regs: &mut A::UnwindRegs,
+        unwind_context: &mut DwarfUnwindContext<P>,
+        read_stack: &mut F,
+    ) -> Result<UnwindResult<A::UnwindRule>, UnwindFailure> {
+        let Some(index) = unwind_data.index() else {
+            return Err(UnwindFailure::OfModule);
+        };
+        let bases = unwind_data.bases();
+        let base_svma = unwind_data.base_svma();
+        match unwind_data.sections() {
+            ModuleSections::EhFrame { eh_frame, .. } => {
+                let section = EhFrame::new(eh_frame.bytes(), LittleEndian);
+                unwind_frame_by_index::<A, P, EndianSlice<'_, LittleEndian>, _, F>(
+                    &section,
+                    bases,
+                    index,
+                    base_svma,
+                    relative_address,
+                    is_first_frame,
+                    regs,
+                    unwind_context,
+                    read_stack,
+                )
+            }
+            ModuleSections::DebugFrame { debug_frame } => {
+                let section = DebugFrame::new(debug_frame.bytes(), LittleEndian);
+                unwind_frame_by_index::<A, P, EndianSlice<'_, LittleEndian>, _, F>(
+                    &section,
+                    bases,
+                    index,
+                    base_svma,
+                    relative_address,
+                    is_first_frame,
+                    regs,
+                    unwind_context,
+                    read_stack,
+                )
+            }
+            ModuleSections::CompactUnwindInfoAndEhFrame { .. }
+            | ModuleSections::PeUnwindInfo { .. }
+            | ModuleSections::NoSections => Err(UnwindFailure::OfModule),
+        }
+    }
+}
