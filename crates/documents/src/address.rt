@@ -29,7 +29,7 @@ fn number_of(digits: &[u8]) -> Option<u64>
 }
 
 /// The address that a text spells: `0x`, then 1 to 16 hexadecimal digits of either case.
-pub(crate) fn address_of(text: &str) -> Option<u64>
+pub fn address_of(text: &str) -> Option<u64>
     ensures { result ≡ spelled_address text.now }
 {
     let bytes = text.as_bytes();

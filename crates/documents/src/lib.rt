@@ -2,7 +2,7 @@
 //! of JSON values, faults, and how a run ends.
 #![tactic(auto)]
 
-mod address;
+pub mod address;
 pub mod check;
 pub mod decoding;
 mod fault;

@@ -1,8 +1,6 @@
-pub mod DecodedNumbers
 pub mod DocumentLemmas
-pub mod LoadedModules
 pub mod Runs
-pub mod SectionData
+pub mod SectionLists
 pub mod StepLines
 pub mod StillCallback
 pub mod WholeDocument

@@ -1,29 +1,35 @@
--- The line of a step, from what the unwinder answers.
-use Rattle.std.proofs.Common.{◌≡◌, ℕ, List, Bool, Option, Result, Ok, Err, ◌∙◌, ap}
-use Rattle.std.specs.Prelude.{IfOk}
+-- The line of a step, from what a session answers.
+use Rattle.std.proofs.Common.{◌≡◌, ◌≢◌, List, Option, Result, Ok, Err, ℕ, refl, ◌∙◌, ap}
 use Rattle.framehop_registers.specs.Callback.{Words}
-use Rattle.framehop_rules.specs.Outcome.{answer_of_outcome, registers_after}
 use Rattle.framehop_registers.specs.declared.error.Error.{Error}
+use Rattle.framehop_registers.specs.declared.error.Error.TheVariants.{CouldNotReadStack, FramepointerUnwindingMovedBackwards, DidNotAdvance, IntegerOverflow, ReturnAddressIsNull, OutOfMemory}
 use Rattle.framehop_registers.specs.declared.x86_64.unwindregs.UnwindRegsX86_64.{UnwindRegsX86_64}
-use Rattle.framehop.specs.Judge.{judge_at}
+use Rattle.framehop_rules.specs.Outcome.{IsStep, answer_of_outcome}
+use Rattle.framehop_unwinder.specs.Attempt.{Meanings}
+use Rattle.framehop_unwinder.specs.Frames.{Frame}
+use Rattle.framehop_unwinder.specs.Judge.{judge}
+use Rattle.framehop_unwinder.specs.Modules.{Loaded}
+use Rattle.framehop_unwinder.specs.Trials.{wants_memory}
+use Rattle.std.specs.Prelude.{false}
 use Rattle.unwind_commands.specs.Lines.{step_line, outcome_line}
-use Rattle.framehop.specs.ModuleFound.{Loaded}
 
--- what is made has both
-pub both_hold : {T E : Type 0} (r : Result T E) (P Q R : T → Type 0) → ((x : T) → P x → Q x → R x) → IfOk r P → IfOk r Q → IfOk r R
-both_hold (Ok x) P Q R follows p q = follows x p q
-both_hold (Err e) P Q R follows p q = tt
+-- an answer other than want of memory
+pub not_wanted : (answer : Result (Option ℕ) Error) → answer ≢ Err OutOfMemory → wants_memory answer ≡ false
+not_wanted (Ok address) other = refl
+not_wanted (Err (CouldNotReadStack address)) other = refl
+not_wanted (Err FramepointerUnwindingMovedBackwards) other = refl
+not_wanted (Err DidNotAdvance) other = refl
+not_wanted (Err IntegerOverflow) other = refl
+not_wanted (Err ReturnAddressIsNull) other = refl
+not_wanted (Err OutOfMemory) other = absurd (other refl)
 
 -- the line of what a step answers is that of what is judged
-pub line_judged : (limit : Option ℕ) (modules found : List Loaded) (first first' : Bool) (lookup lookup' : ℕ) (regs given left : UnwindRegsX86_64) (words : Words) (answer : Result (Option ℕ) Error)
-    → found ≡ modules → first' ≡ first → lookup' ≡ lookup → given ≡ regs
-    → answer ≡ answer_of_outcome (judge_at limit found first' lookup' given words)
-    → left ≡ registers_after given (judge_at limit found first' lookup' given words)
-    → step_line answer left ≡ outcome_line regs (judge_at limit modules first lookup regs words)
-line_judged limit modules found first first' lookup lookup' regs given left words answer same_modules same_kind same_lookup same_regs answered kept =
-    ap (λ (a : Result (Option ℕ) Error). step_line a left) answered
-    ∙ ap (λ (r : UnwindRegsX86_64). step_line (answer_of_outcome (judge_at limit found first' lookup' given words)) r) kept
-    ∙ ap (λ (m : List Loaded). outcome_line given (judge_at limit m first' lookup' given words)) same_modules
-    ∙ ap (λ (f : Bool). outcome_line given (judge_at limit modules f lookup' given words)) same_kind
-    ∙ ap (λ (l : ℕ). outcome_line given (judge_at limit modules first l given words)) same_lookup
-    ∙ ap (λ (r : UnwindRegsX86_64). outcome_line r (judge_at limit modules first lookup r words)) same_regs
+pub line_judged : {Data Rule : Type 0} (m : Meanings Data Rule UnwindRegsX86_64) (modules found : List (Loaded Data)) (frame given_frame : Frame) (regs given left : UnwindRegsX86_64) (words : Words) (answer : Result (Option ℕ) Error)
+    → found ≡ modules → given_frame ≡ frame → given ≡ regs → IsStep answer given left (judge m found given_frame given words)
+    → step_line answer left ≡ outcome_line regs (judge m modules frame regs words)
+line_judged {Data} m modules found frame given_frame regs given left words answer same_modules same_frame same_regs stepped =
+    ap (λ (a : Result (Option ℕ) Error). step_line a left) stepped.answer
+    ∙ ap (λ (r : UnwindRegsX86_64). step_line (answer_of_outcome (judge m found given_frame given words)) r) stepped.registers
+    ∙ ap (λ (ms : List (Loaded Data)). outcome_line given (judge m ms given_frame given words)) same_modules
+    ∙ ap (λ (f : Frame). outcome_line given (judge m modules f given words)) same_frame
+    ∙ ap (λ (r : UnwindRegsX86_64). outcome_line r (judge m modules frame r words)) same_regs

@@ -6,10 +6,12 @@ use Rattle.unwind_commands.specs.declared.document.command.Load.{Load}
 use Rattle.unwind_commands.specs.declared.document.command.Section.{Section}
 use Rattle.unwind_commands.specs.declared.document.command.Stack.{Stack}
 use Rattle.unwind_commands.specs.declared.document.command.Step.{Step}
+use Rattle.unwind_commands.specs.declared.document.command.Unload.{Unload}
+use Rattle.unwind_commands.specs.declared.document.command.Walk.{Walk}
 use Rattle.unwind_commands.specs.declared.document.Document.{Document}
 use Rattle.unwind_commands.specs.declared.document.made.Made as memory
 use Rattle.unwind_commands.specs.Document.{Content}
-use Rattle.unwind_commands.specs.Commands.{SectionData, Loading, StackWords, Stepping, Task, Made, make_unwinder, make_cache, load_module, take_step}
+use Rattle.unwind_commands.specs.Commands.{SectionData, Loading, Unloading, StackWords, Stepping, Walking, Task, Made, make_unwinder, make_cache, clone_unwinder, load_module, unload_module, take_step, take_walk, show_counts}
 
 -- a section
 abbrev pub section_view : Section → SectionData
@@ -48,12 +50,33 @@ step_view s = record {
   stack = words_view s.stack;
 }
 
+-- a walk
+abbrev pub walk_view : Walk → Walking
+walk_view w = record {
+  unwinder = w.unwinder;
+  cache = w.cache;
+  pc = w.pc;
+  limit = w.limit;
+  ip = w.ip;
+  sp = w.sp;
+  bp = w.bp;
+  stack = words_view w.stack;
+}
+
+-- an unload
+abbrev pub unload_view : Unload → Unloading
+unload_view u = record { unwinder = u.unwinder; start = u.start }
+
 -- a command
 abbrev pub task_of : Command → Task
 task_of commands.Unwinder = make_unwinder
 task_of commands.Cache = make_cache
+task_of (commands.Clone u) = clone_unwinder u
 task_of (commands.Load l) = load_module (load_view l)
+task_of (commands.Unload u) = unload_module (unload_view u)
 task_of (commands.Step s) = take_step (step_view s)
+task_of (commands.Walk w) = take_walk (walk_view w)
+task_of (commands.Stats c) = show_counts c
 
 -- commands
 abbrev pub tasks_of : List Command → List Task
@@ -61,8 +84,8 @@ tasks_of cs = map task_of cs
 
 -- a document
 abbrev pub content_view : Document → Content
-content_view d = record { policy = d.policy; tasks = tasks_of d.commands.items }
+content_view d = record { policy = d.policy; generation = d.generation; tasks = tasks_of d.commands.items }
 
 -- what earlier commands made
 abbrev pub made_view : memory.Made → Made
-made_view m = record { loaded = m.loaded.items; caches = m.caches }
+made_view m = record { unwinders = m.unwinders; caches = m.caches }

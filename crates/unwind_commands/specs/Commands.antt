@@ -1,7 +1,7 @@
 -- The commands of a document, each decoded from its JSON value. Each field is checked by itself, and of the
 -- faults of a command the one of the first class counts.
-use Rattle.std.specs.Prelude.{◌≡◌, ◌≢◌, ◌<◌, ℕ, ◌+◌, ◌-◌, ◌*◌, ◌^◌, ◌==◌, ◌&&◌, Bool, true, false, not, nat_lt, if◌then◌else◌, List, [], ◌∷◌, ◌++◌, length, codes, bytes_eq, slice_set, Option, Some, None, option_and_then, Ok, Err}
-use Rattle.std.specs.List.{list_any, slice_index_or}
+use Rattle.std.specs.Prelude.{◌≡◌, ◌≢◌, ◌<◌, ℕ, ◌+◌, ◌-◌, ◌*◌, ◌^◌, ◌==◌, ◌&&◌, Bool, true, not, nat_lt, nat_le, if◌then◌else◌, List, [], ◌∷◌, ◌++◌, length, codes, bytes_eq, Option, Some, None, option_and_then, Ok, Err}
+use Rattle.std.specs.List.{list_any}
 use Rattle.std.specs.Option.{ok_or, option_to_list}
 use Rattle.serde_json.specs.Data.{Data, Items, no_items, item}
 use Rattle.serde_json.specs.Find.{get, as_str, as_array}
@@ -11,6 +11,7 @@ use Rattle.unwind_commands.specs.declared.document.command.FrameKind.{FrameKind}
 use Rattle.unwind_commands.specs.declared.document.command.FrameKind.TheVariants.{Ip, Ra}
 use Rattle.unwind_commands.specs.declared.document.command.AddressRange.{AddressRange}
 use Rattle.unwind_commands.specs.declared.document.step.Registers.{Registers}
+use Rattle.unwind_commands.specs.declared.document.TheConstants.{WALK_LIMIT}
 use Rattle.unwind_commands.specs.declared.document.command.Verb.{Verb}
 use Rattle.unwind_commands.specs.declared.document.command.Verb.TheVariants as verb
 use Rattle.documents.specs.Faults.{Checked, ◌⊛◌, both, ◌>>=◌}
@@ -50,16 +51,37 @@ pub record Stepping : Type 0 where
   pub bp : ℕ
   pub stack : StackWords
 
+-- a walk over the frames of an unwinder with a cache: the instruction pointer, the most frames that it gives, the registers
+-- and the stack
+pub record Walking : Type 0 where
+  pub unwinder : ℕ
+  pub cache : ℕ
+  pub pc : ℕ
+  pub limit : ℕ
+  pub ip : ℕ
+  pub sp : ℕ
+  pub bp : ℕ
+  pub stack : StackWords
+
+-- the module of an unwinder that is unloaded, by its start
+pub record Unloading : Type 0 where
+  pub unwinder : ℕ
+  pub start : ℕ
+
 -- a command
 pub data Task : Type 0 where
   make_unwinder : Task
   make_cache : Task
+  clone_unwinder : ℕ → Task
   load_module : Loading → Task
+  unload_module : Unloading → Task
   take_step : Stepping → Task
+  take_walk : Walking → Task
+  show_counts : ℕ → Task
 
--- what earlier commands made: for each unwinder whether it has a module, and how many caches
+-- how many unwinders and caches earlier commands made
 pub record Made : Type 0 where
-  pub loaded : List Bool
+  pub unwinders : ℕ
   pub caches : ℕ
 
 -- ---- steps
@@ -153,8 +175,43 @@ stepping_of unwinder cache frame regs stack = record {
 abbrev pub step_in : Made → Data → Checked Stepping
 step_in made d =
     if has_only step_names d
-    then Ok stepping_of ⊛ made_number (length made.loaded) (codes "unwinder") d ⊛ made_number made.caches (codes "cache") d
+    then Ok stepping_of ⊛ made_number made.unwinders (codes "unwinder") d ⊛ made_number made.caches (codes "cache") d
     ⊛ frame_in d ⊛ field registers_in (codes "regs") d ⊛ field stack_in (codes "stack") d
+    else Err BadCommand
+
+-- ---- walks
+
+-- a value that has to be the most frames of a walk, from 1 to 65,536
+abbrev pub limit_value : Data → Checked ℕ
+limit_value d = do
+  limit ← number_value d
+  if nat_le 1 limit && nat_le limit WALK_LIMIT then Ok limit else Err BadNumber
+
+-- the fields of a walk
+abbrev pub walk_names : List (List ℕ)
+walk_names =
+    codes "do" ∷ codes "unwinder" ∷ codes "cache" ∷ codes "pc" ∷ codes "limit" ∷ codes "regs" ∷ codes "stack" ∷ []
+
+-- the walk of these parts
+abbrev pub walking_of : ℕ → ℕ → ℕ → ℕ → Registers → StackWords → Walking
+walking_of unwinder cache pc limit regs stack = record {
+  unwinder = unwinder;
+  cache = cache;
+  pc = pc;
+  limit = limit;
+  ip = regs.ip;
+  sp = regs.sp;
+  bp = regs.bp;
+  stack = stack;
+}
+
+-- a value that has to be a walk
+abbrev pub walk_in : Made → Data → Checked Walking
+walk_in made d =
+    if has_only walk_names d
+    then Ok walking_of ⊛ made_number made.unwinders (codes "unwinder") d ⊛ made_number made.caches (codes "cache") d
+    ⊛ field address_value (codes "pc") d ⊛ field limit_value (codes "limit") d
+    ⊛ field registers_in (codes "regs") d ⊛ field stack_in (codes "stack") d
     else Err BadCommand
 
 -- ---- loads
@@ -162,8 +219,8 @@ step_in made d =
 -- the section names that are not taken yet
 abbrev pub refused_names : List (List ℕ)
 refused_names =
-    codes ".debug_frame" ∷ codes ".eh_frame_hdr" ∷ codes "__eh_frame_hdr" ∷ codes "__unwind_info" ∷ codes "__stubs"
-    ∷ codes "__stub_helper" ∷ codes ".pdata" ∷ codes ".rdata" ∷ codes ".xdata" ∷ []
+    codes ".eh_frame_hdr" ∷ codes "__eh_frame_hdr" ∷ codes "__unwind_info" ∷ codes "__stubs" ∷ codes "__stub_helper"
+    ∷ codes ".pdata" ∷ codes ".rdata" ∷ codes ".xdata" ∷ []
 
 -- the text is one of them
 unfoldable pub is_refused : List ℕ → Bool
@@ -220,16 +277,6 @@ sections_in d = do
   items ← ok_or (as_array d) BadCommand
   sections_at items
 
--- the number of an unwinder that has no module: a second one is not taken yet
-abbrev pub free_unwinder : List Bool → ℕ → Checked ℕ
-free_unwinder loaded n = if slice_index_or loaded n false then Err BadCommand else number_below (length loaded) n
-
--- the unwinder that a module is for
-abbrev pub unwinder_to_load : List Bool → Data → Checked ℕ
-unwinder_to_load loaded d = do
-  number ← field number_value (codes "unwinder") d
-  free_unwinder loaded number
-
 -- the fields of a load
 abbrev pub load_names : List (List ℕ)
 load_names =
@@ -252,21 +299,45 @@ loading_of unwinder name start end base base_svma sections = record {
 abbrev pub load_in : Made → Data → Checked Loading
 load_in made d =
     if has_only load_names d
-    then Ok loading_of ⊛ unwinder_to_load made.loaded d ⊛ field text_value (codes "name") d
+    then Ok loading_of ⊛ made_number made.unwinders (codes "unwinder") d ⊛ field text_value (codes "name") d
     ⊛ field address_value (codes "start") d ⊛ field address_value (codes "end") d
     ⊛ field address_value (codes "base") d ⊛ field address_value (codes "base_svma") d
     ⊛ field sections_in (codes "sections") d
     else Err BadCommand
 
+-- the fields of an unload
+abbrev pub unload_names : List (List ℕ)
+unload_names = codes "do" ∷ codes "unwinder" ∷ codes "start" ∷ []
+
+-- the unload of these parts
+abbrev pub unloading_of : ℕ → ℕ → Unloading
+unloading_of unwinder start = record { unwinder = unwinder; start = start }
+
+-- a value that has to be an unload
+abbrev pub unload_in : Made → Data → Checked Unloading
+unload_in made d =
+    if has_only unload_names d
+    then Ok unloading_of ⊛ made_number made.unwinders (codes "unwinder") d ⊛ field address_value (codes "start") d
+    else Err BadCommand
+
 -- ---- commands
+
+-- a value that has nothing but a number of what earlier commands made, beside what it does
+abbrev pub one_number : ℕ → List ℕ → Data → Checked ℕ
+one_number count name d =
+    if has_only (codes "do" ∷ name ∷ []) d then made_number count name d else Err BadCommand
 
 -- what a command does
 abbrev pub verb_of : List ℕ → Option Verb
 verb_of text =
     if bytes_eq text (codes "unwinder") then Some verb.Unwinder
     else if bytes_eq text (codes "cache") then Some verb.Cache
+    else if bytes_eq text (codes "clone") then Some verb.Clone
     else if bytes_eq text (codes "load") then Some verb.Load
+    else if bytes_eq text (codes "unload") then Some verb.Unload
     else if bytes_eq text (codes "step") then Some verb.Step
+    else if bytes_eq text (codes "walk") then Some verb.Walk
+    else if bytes_eq text (codes "stats") then Some verb.Stats
     else None
 
 -- a value that has to say so
@@ -279,8 +350,12 @@ verb_in d = do
 abbrev pub task_in : Made → Data → Verb → Checked Task
 task_in made d verb.Unwinder = if has_only (codes "do" ∷ []) d then Ok make_unwinder else Err BadCommand
 task_in made d verb.Cache = if has_only (codes "do" ∷ []) d then Ok make_cache else Err BadCommand
+task_in made d verb.Clone = Ok clone_unwinder ⊛ one_number made.unwinders (codes "unwinder") d
 task_in made d verb.Load = Ok load_module ⊛ load_in made d
+task_in made d verb.Unload = Ok unload_module ⊛ unload_in made d
 task_in made d verb.Step = Ok take_step ⊛ step_in made d
+task_in made d verb.Walk = Ok take_walk ⊛ walk_in made d
+task_in made d verb.Stats = Ok show_counts ⊛ one_number made.caches (codes "cache") d
 
 -- the task of a value that has to be a command
 abbrev pub command_fields : Made → Data → Checked Task
@@ -294,26 +369,36 @@ command_in made d = if has_float d then Err FloatNumber else command_fields made
 
 -- what is made once a command is done
 abbrev pub made_after : Made → Task → Made
-made_after made make_unwinder = record { loaded = made.loaded ++ false ∷ []; caches = made.caches }
-made_after made make_cache = record { loaded = made.loaded; caches = made.caches + 1 }
-made_after made (load_module load) = record { loaded = slice_set made.loaded load.unwinder true; caches = made.caches }
-made_after made (take_step step) = made
+made_after made make_unwinder = record { unwinders = made.unwinders + 1; caches = made.caches }
+made_after made make_cache = record { unwinders = made.unwinders; caches = made.caches + 1 }
+made_after made (clone_unwinder unwinder) = record { unwinders = made.unwinders + 1; caches = made.caches }
+made_after made _ = made
 
 -- ---- what holds of decoded commands
 
 -- what a step names was made before it, no return address is 0, and the last word of the stack has an address
 pub record IsSoundStep (made : Made) (step : Stepping) : Type 0 where
-  pub unwinder : step.unwinder < length made.loaded
+  pub unwinder : step.unwinder < made.unwinders
   pub cache : step.cache < made.caches
   pub address : step.kind ≡ Ra → step.address ≢ 0
   pub words : step.stack.start + 8 * (length step.stack.words - 1) < 2 ^ 64
+
+-- what a walk names was made before it, and the last word of the stack has an address
+pub record IsSoundWalk (made : Made) (walk : Walking) : Type 0 where
+  pub unwinder : walk.unwinder < made.unwinders
+  pub cache : walk.cache < made.caches
+  pub words : walk.stack.start + 8 * (length walk.stack.words - 1) < 2 ^ 64
 
 -- what a command names was made before it
 abbrev pub IsSound : Made → Task → Type 0
 IsSound made make_unwinder = Unit {0}
 IsSound made make_cache = Unit {0}
-IsSound made (load_module load) = load.unwinder < length made.loaded
+IsSound made (clone_unwinder unwinder) = unwinder < made.unwinders
+IsSound made (load_module load) = load.unwinder < made.unwinders
+IsSound made (unload_module unload) = unload.unwinder < made.unwinders
 IsSound made (take_step step) = IsSoundStep made step
+IsSound made (take_walk walk) = IsSoundWalk made walk
+IsSound made (show_counts cache) = cache < made.caches
 
 -- each of the commands, one after the other
 abbrev pub AreSound : Made → List Task → Type 0

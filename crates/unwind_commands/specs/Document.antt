@@ -1,17 +1,17 @@
 -- What the bytes of a document say: its policy and its commands, or its first fault.
-use Rattle.std.specs.Prelude.{ℕ, ◌+◌, ◌&&◌, ◌||◌, Bool, false, nat_lt, nat_le, is_some, if◌then◌else◌, List, [], ◌∷◌, length, codes, bytes_eq, option_and_then, ok_or, Result, Ok, Err}
+use Rattle.std.specs.Prelude.{ℕ, ◌+◌, ◌&&◌, ◌||◌, Bool, false, nat_lt, nat_le, is_some, if◌then◌else◌, List, [], ◌∷◌, length, codes, bytes_eq, option_and_then, ok_or, Result, Ok, Err, Option, Some, None}
 use Rattle.serde_json.specs.Data.{Data, null, boolean, number, string, array, object, Items, no_items, item, Members, no_members, member}
-use Rattle.serde_json.specs.Find.{get, as_array, is_float}
+use Rattle.serde_json.specs.Find.{as_str, get, as_array, is_float}
 use Rattle.serde_json.specs.Events.{items_len}
 use Rattle.serde_json.specs.Written.{has_float}
-use Rattle.documents.specs.declared.fault.FaultName.TheVariants.{TooLong, NotJson, FloatNumber, BadDocument}
+use Rattle.documents.specs.declared.fault.FaultName.TheVariants.{TooLong, NotJson, FloatNumber, BadDocument, BadNumber}
 use Rattle.documents.specs.declared.fault.Fault.{Fault}
 use Rattle.documents.specs.declared.transfer.TheConstants.{DOCUMENT_LIMIT}
 use Rattle.unwind_commands.specs.declared.document.TheConstants.{COMMAND_LIMIT}
 use Rattle.unwind_commands.specs.declared.document.Policy.{Policy}
 use Rattle.unwind_commands.specs.declared.document.Policy.TheVariants.{May, Must}
-use Rattle.documents.specs.Faults.{Checked, ◌>>=◌, in_unit}
-use Rattle.documents.specs.Json.{has_only, is_text, json_of}
+use Rattle.documents.specs.Faults.{Checked, ◌>>=◌, both, in_unit}
+use Rattle.documents.specs.Json.{has_only, is_text, json_of, spelled_address}
 use Rattle.unwind_commands.specs.Commands.{Task, Made, command_in, made_after}
 
 -- a member has a float that is the document's: the elements of the list of commands are units of their own
@@ -34,9 +34,9 @@ has_float_outside (object ms) = have_own_float ms
 
 -- the fields of a document
 abbrev pub document_names : List (List ℕ)
-document_names = codes "arch" ∷ codes "policy" ∷ codes "commands" ∷ []
+document_names = codes "arch" ∷ codes "policy" ∷ codes "commands" ∷ codes "generation" ∷ []
 
--- the fields beside the commands are as they have to be
+-- no other field stands there, and those beside the commands that have to be there are as they have to be
 unfoldable pub is_supported : Data → Bool
 is_supported d =
     has_only document_names d && is_text (codes "x86_64") (codes "arch") d
@@ -56,10 +56,22 @@ items_in d = do
   items ← ok_or (option_and_then as_array (get (codes "commands") d)) BadDocument
   few_commands items
 
--- the same, of a document whose own fields are as they have to be
-unfoldable pub document_in : Data → Checked Items
+-- the first generation that is taken: an address's text, else 0
+abbrev pub generation_at : Option Data → Checked ℕ
+generation_at None = Ok 0
+generation_at (Some d) = do
+  text ← ok_or (as_str d) BadDocument
+  ok_or (spelled_address text) BadNumber
+
+-- the first generation of a document
+abbrev pub generation_in : Data → Checked ℕ
+generation_in d = generation_at (get (codes "generation") d)
+
+-- the first generation, and the commands that are still to be decoded
+unfoldable pub document_in : Data → Checked (ℕ × Items)
 document_in d =
-    if has_float_outside d then Err FloatNumber else if is_supported d then items_in d else Err BadDocument
+    if has_float_outside d then Err FloatNumber
+    else if is_supported d then both (generation_in d) (items_in d) else Err BadDocument
 
 -- a command before the others
 abbrev pub with_task : Task → Result (List Task) Fault → Result (List Task) Fault
@@ -75,23 +87,24 @@ commands_from n made (item d ds) = do
 
 -- before the first command
 abbrev pub nothing_made : Made
-nothing_made = record { loaded = []; caches = 0 }
+nothing_made = record { unwinders = 0; caches = 0 }
 
--- what a document asks for: commands, and the policy under which they run
+-- what a document asks for: commands, the policy under which they run, and the first generation that they take
 pub record Content : Type 0 where
   pub policy : Policy
+  pub generation : ℕ
   pub tasks : List Task
 
--- commands under a policy
-abbrev pub under : Policy → Result (List Task) Fault → Result Content Fault
-under policy (Ok tasks) = Ok (record { policy = policy; tasks = tasks })
-under policy (Err fault) = Err fault
+-- commands under a policy, from a generation on
+abbrev pub under : Policy → ℕ → Result (List Task) Fault → Result Content Fault
+under policy generation (Ok tasks) = Ok (record { policy = policy; generation = generation; tasks = tasks })
+under policy generation (Err fault) = Err fault
 
 -- what a document asks for, or its first fault: unit 0 is the document itself, the commands count from 1
 abbrev pub content_in : Data → Result Content Fault
 content_in d = do
-  items ← in_unit 0 (document_in d)
-  under (policy_of d) (commands_from 1 nothing_made items)
+  own ← in_unit 0 (document_in d)
+  under (policy_of d) own.0 (commands_from 1 nothing_made own.1)
 
 -- the same of a document's bytes
 abbrev pub content_of : List ℕ → Result Content Fault

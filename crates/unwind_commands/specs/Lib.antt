@@ -1,7 +1,7 @@
 pub mod CommandViews
 pub mod Commands
 pub mod Document
-pub mod InstanceViews
 pub mod Lines
-pub mod Numbered
+pub mod SectionViews
+pub mod Sections
 pub mod Text

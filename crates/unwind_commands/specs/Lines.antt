@@ -1,20 +1,11 @@
 -- The lines that a run writes, as bytes of ASCII text.
 use Rattle.std.specs.Prelude.{ℕ, List, ◌++◌, codes, Option, Some, None, Result, Ok, Err}
 use Rattle.documents.specs.Lines.{hexadecimal, line}
+use Rattle.unwind_sessions.specs.Lines.{error_name}
 use Rattle.framehop_rules.specs.Outcome.{Outcome, Caller, answer_of_outcome, registers_after}
 use Rattle.framehop_registers.specs.Registers.{ip_of, sp_of, bp_of}
 use Rattle.framehop_registers.specs.declared.error.Error.{Error}
-use Rattle.framehop_registers.specs.declared.error.Error.TheVariants.{CouldNotReadStack, FramepointerUnwindingMovedBackwards, DidNotAdvance, IntegerOverflow, ReturnAddressIsNull, OutOfMemory}
 use Rattle.framehop_registers.specs.declared.x86_64.unwindregs.UnwindRegsX86_64.{UnwindRegsX86_64}
-
--- the name of an error, and the address that couldn't be read
-abbrev pub error_name : Error → List ℕ
-error_name (CouldNotReadStack address) = codes "CouldNotReadStack(" ++ hexadecimal address ++ codes ")"
-error_name FramepointerUnwindingMovedBackwards = codes "FramepointerUnwindingMovedBackwards"
-error_name DidNotAdvance = codes "DidNotAdvance"
-error_name IntegerOverflow = codes "IntegerOverflow"
-error_name ReturnAddressIsNull = codes "ReturnAddressIsNull"
-error_name OutOfMemory = codes "OutOfMemory"
 
 -- the return address that a step gives, that there is none, or why it failed
 abbrev pub answer_text : Result (Option ℕ) Error → List ℕ

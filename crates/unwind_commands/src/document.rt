@@ -1,7 +1,7 @@
 //! The document: JSON text in, typed commands or the first fault out.
 ghost use Rattle.std.specs.Prelude.{◌≡◌, IfOk, ok_or};
 ghost use Rattle.serde_json.specs.View.{items_view, members_view, view};
-ghost use Rattle.unwind_commands.specs.Document.{have_own_float, commands_from, content_of, document_in, has_float_outside, few_commands, is_supported, nothing_made, has_own_float, policy_of};
+ghost use Rattle.unwind_commands.specs.Document.{have_own_float, commands_from, content_of, document_in, generation_in, has_float_outside, few_commands, is_supported, items_in, nothing_made, has_own_float, policy_of};
 ghost use Rattle.documents.specs.Json.{json_of, is_text};
 ghost use Rattle.unwind_commands.specs.Commands.{AreSound};
 ghost use Rattle.documents.specs.Decoded.{Decodes, result_map};
@@ -12,10 +12,12 @@ mod command;
 mod load;
 mod made;
 mod step;
+mod walk;
 
 use command::command_in;
-pub use command::{AddressRange, Command, FrameKind, Load, Section, Stack, Step};
-use documents::check::{Checked, in_unit};
+pub use command::{AddressRange, Command, FrameKind, Load, Section, Stack, Step, Unload, Walk};
+use documents::address::address_of;
+use documents::check::{Checked, both, in_unit};
 use documents::field::has_only;
 use documents::float::has_float;
 use documents::json::{is_text, read};
@@ -26,6 +28,8 @@ use std::alloc::Global;
 
 /// The most commands that a document may have.
 pub const COMMAND_LIMIT: usize = 65_536;
+/// The most frames that a walk may be asked for.
+pub const WALK_LIMIT: u64 = 65_536;
 
 /// Whether the steps of a document may take memory.
 #[derive(Clone, Copy, Debug, PartialEq, Eq)]
@@ -40,6 +44,8 @@ pub enum Policy {
 #[derive(Debug, Drop)]
 pub struct Document {
     pub policy: Policy,
+    /// The first number that the counter of generations gives.
+    pub generation: u64,
     pub commands: Vec<Command>,
 }
 
@@ -77,12 +83,12 @@ fn has_float_outside(document: &Value) -> bool
     }
 }
 
-/// Whether the fields beside the commands are as they have to be.
+/// Whether no other field stands there, and the policy and the architecture are as they have to be.
 #[tactic(auto, unfolding(crate::specs::Document::is_supported))]
 fn is_supported(document: &Value) -> bool
     ensures { result ≡ is_supported (view document.now) }
 {
-    has_only(document, &["arch", "policy", "commands"])
+    has_only(document, &["arch", "policy", "commands", "generation"])
         && is_text(document, "arch", "x86_64")
         && (is_text(document, "policy", "may") || is_text(document, "policy", "must"))
 }
@@ -109,10 +115,32 @@ fn few_commands(items: &Vec<Value>) -> Checked<&Vec<Value>>
     Ok(items)
 }
 
-/// The commands of a document whose own fields are as they have to be.
+/// The commands of a document, which are still to be decoded.
+fn items_in(document: &Value) -> Checked<&Vec<Value>>
+    ensures { result_map (λ v. items_view v.now.items) result ≡ items_in (view document.now) }
+{
+    let commands = document.get("commands").ok_or(FaultName::BadDocument)?;
+    few_commands(commands.as_array().ok_or(FaultName::BadDocument)?)
+}
+
+/// The first generation, 0 where the document doesn't say.
+fn generation_in(document: &Value) -> Checked<u64>
+    ensures { result ≡ generation_in (view document.now) }
+{
+    match document.get("generation") {
+        None => Ok(0),
+        Some(generation) => {
+            let text = generation.as_str().ok_or(FaultName::BadDocument)?;
+            address_of(text).ok_or(FaultName::BadNumber)
+        }
+    }
+}
+
+/// The first generation, and the commands that are still to be decoded.
 #[tactic(auto, unfolding(crate::specs::Document::document_in))]
-fn document_in(document: &Value) -> Checked<&Vec<Value>>
-    ensures { result_map (λ v. items_view v.now.items) result ≡ document_in (view document.now) }
+fn document_in(document: &Value) -> Checked<(u64, &Vec<Value>)>
+    ensures { result_map (λ own. (own.0, items_view own.1.now.items)) result
+        ≡ document_in (view document.now) }
 {
     if has_float_outside(document) {
         return Err(FaultName::FloatNumber);
@@ -120,8 +148,7 @@ fn document_in(document: &Value) -> Checked<&Vec<Value>>
     if !is_supported(document) {
         return Err(FaultName::BadDocument);
     }
-    let commands = document.get("commands").ok_or(FaultName::BadDocument)?;
-    few_commands(commands.as_array().ok_or(FaultName::BadDocument)?)
+    both(generation_in(document), items_in(document))
 }
 
 /// The commands, or the first fault among them.
@@ -130,14 +157,14 @@ fn commands(alloc: Global, items: &Vec<Value>) -> Result<Vec<Command>, Refusal<F
         (commands_from 1 nothing_made (items_view items.now.items)) }
 {
     let mut made = Made {
-        loaded: Vec::new(alloc),
+        unwinders: 0,
         caches: 0,
     };
     let mut commands = Vec::new(alloc);
     let mut number: u64 = 1;
     for item in items {
         let command = in_unit(number, command_in(alloc, item, &made))?;
-        add(&mut made, &command)?;
+        add(&mut made, &command);
         commands.push(command)?;
         number += 1;
     }
@@ -145,7 +172,7 @@ fn commands(alloc: Global, items: &Vec<Value>) -> Result<Vec<Command>, Refusal<F
 }
 
 /// What a document's bytes ask for, or their first fault: a text of JSON (RFC 8259) with the
-/// fields `arch`, `policy` and `commands`. Unit 0 is the document itself, and the commands count
+/// fields `arch`, `policy` and `commands`, and `generation` if it is wanted. Unit 0 is the document itself, and the commands count
 /// from 1. The units are checked one after the other, and of the faults of a unit the one of
 /// the first class counts. Memory may run out on any document.
 pub fn decode(alloc: Global, text: &[u8]) -> Result<Document, Refusal<Fault>>
@@ -159,10 +186,11 @@ pub fn decode(alloc: Global, text: &[u8]) -> Result<Document, Refusal<Fault>>
         return Err(Refusal::Fault(Fault::of_document(FaultName::TooLong)));
     }
     let document = in_unit(0, read(alloc, text))?;
-    let items = document_in(&document).map_err(Fault::of_document)?;
+    let (generation, items) = document_in(&document).map_err(Fault::of_document)?;
     let commands = commands(alloc, items)?;
     Ok(Document {
         policy: policy_of(&document),
+        generation,
         commands,
     })
 }

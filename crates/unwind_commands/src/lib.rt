@@ -2,9 +2,10 @@
 #![tactic(auto)]
 
 mod document;
-mod instances;
 mod lines;
+mod perform;
 mod program;
+mod sections;
 
 pub use documents::{Ending, RunError, Sink, Source, StreamError, Streamed};
 pub use program::run;

@@ -1,33 +1,13 @@
 //! The lines that a run writes. Each ends with a line feed.
 ghost use Rattle.std.specs.Prelude.{◌≡◌, ◌≢◌, ◌↔◌, Err, Some, IfOk, IsTrue, string_bytes};
 ghost use Rattle.framehop_registers.specs.declared.error.Error.TheVariants.{OutOfMemory};
-ghost use Rattle.unwind_commands.specs.Lines.{error_name, answer_text, registers_text, step_text, step_line};
+ghost use Rattle.unwind_commands.specs.Lines.{answer_text, registers_text, step_text, step_line};
 
-use framehop::Error;
-use framehop::x86_64::UnwindRegsX86_64;
+use framehop_rules::Error;
+use framehop_rules::x86_64::UnwindRegsX86_64;
 use std::alloc::{AllocError, Global};
 use std::fmt;
-
-/// Shows an error by its name.
-#[derive(Clone, Copy)]
-struct ErrorName(Error);
-
-impl fmt::Display for ErrorName {
-    ghost output = { λ name. Some (error_name name.0) };
-
-    fn fmt<W: fmt::Write>(&self, f: &mut fmt::Formatter<W>) -> fmt::Result {
-        match self.0 {
-            Error::CouldNotReadStack(address) => write!(f, "CouldNotReadStack(0x{address:x})"),
-            Error::FramepointerUnwindingMovedBackwards => {
-                write!(f, "FramepointerUnwindingMovedBackwards")
-            }
-            Error::DidNotAdvance => write!(f, "DidNotAdvance"),
-            Error::IntegerOverflow => write!(f, "IntegerOverflow"),
-            Error::ReturnAddressIsNull => write!(f, "ReturnAddressIsNull"),
-            Error::OutOfMemory => write!(f, "OutOfMemory"),
-        }
-    }
-}
+use unwind_sessions::ErrorName;
 
 /// Shows what a step answers.
 #[derive(Clone, Copy)]

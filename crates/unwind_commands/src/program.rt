@@ -1,18 +1,27 @@
 //! One run of the program: a document in, its answers out.
-ghost use Rattle.std.specs.Prelude.{◌≡◌, ◌↔◌, ◌≢◌, [], false, IsTrue, IfOk, IfErr, IfSome, IsErrOf, OnErr, OnOk};
+ghost use Rattle.std.specs.Prelude.{◌≡◌, ◌↔◌, ◌≢◌, false, IsTrue, IfOk, IfErr, IfSome, IsErrOf, OnErr, OnOk};
 ghost use Rattle.std.specs.Io.KnownBytes.{Appends};
-ghost use Rattle.unwind_commands.specs.Text.{text_of, ending_of, lines_of, value_limit};
-ghost use Rattle.unwind_commands.specs.Numbered.{AreNumbered};
 ghost use Rattle.documents.specs.Stream.{AppendsFront};
-ghost use Rattle.unwind_commands.specs.CommandViews.{tasks_of};
+ghost use Rattle.framehop_unwinder.specs.Attempt.{meanings};
+ghost use Rattle.unwind_sessions.specs.Turns.{beginning};
+ghost use Rattle.unwind_commands.specs.Commands.{AreSound};
+ghost use Rattle.unwind_commands.specs.Document.{nothing_made};
+ghost use Rattle.unwind_commands.specs.CommandViews.{content_view, tasks_of};
+ghost use Rattle.unwind_commands.specs.Text.{text_of, ending_of, content_lines, lines_of};
 
 use crate::document::{Command, Document, Policy, decode};
-use crate::instances::Instances;
+use crate::perform::{DocumentModules, perform};
 use documents::{Ending, Refusal, RunError, Sink, Source, read_document, write_all};
-use framehop::{AllocationPolicy, MayAllocateDuringUnwind, MustNotAllocateDuringUnwind};
+use framehop::{BySections, MayAllocateDuringUnwind, MustNotAllocateDuringUnwind};
+use framehop_modules::Generations;
+use framehop_rules::x86_64::ArchX86_64;
+use framehop_unwinder::Session;
 use std::alloc::Global;
 
-/// Reads a document, and writes a line for each of its steps, or one for its first fault.
+/// Modules of x86_64 by the bytes of their sections, under a policy.
+type Modules<P> = BySections<ArchX86_64, Vec<u8>, P>;
+
+/// Reads a document, and writes what its commands ask for, or a line for its first fault.
 ///
 /// A run that stops before its end has written a front of the whole text, and nothing where
 /// the document couldn't be read.
@@ -68,41 +77,55 @@ fn answer<W: Sink>(alloc: Global, document: &[u8], writer: &mut W) -> Result<End
 /// Carries out a document's commands under its policy.
 fn run_document<W: Sink>(alloc: Global, document: Document, writer: &mut W) -> Result<(), RunError>
     requires writer { W.has_failed writer.old ≡ false }
-    requires numbered { AreNumbered 0 0 (tasks_of document.commands.items) }
+    requires sound { AreSound nothing_made (tasks_of document.commands.items) }
     ensures text { OnOk result (Appends (W.contents writer.old) (W.contents writer.new)
-        (lines_of (value_limit document.policy) [] (tasks_of document.commands.items))) }
+        (content_lines (content_view document))) }
     ensures write { IsErrOf result RunError.Write ↔ IsTrue (W.has_failed writer.new) }
     ensures no_read { IfErr result (λ error. error ≢ RunError.Read) }
     ensures begun { OnErr result (AppendsFront (W.contents writer.old) (W.contents writer.new)
-        (lines_of (value_limit document.policy) [] (tasks_of document.commands.items))) }
+        (content_lines (content_view document))) }
 {
+    let generation = document.generation;
     let commands = document.commands;
     match document.policy {
-        Policy::May => run_commands::<MayAllocateDuringUnwind, W>(alloc, commands, writer),
-        Policy::Must => run_commands::<MustNotAllocateDuringUnwind, W>(alloc, commands, writer),
+        Policy::May => {
+            run_commands::<Modules<MayAllocateDuringUnwind>, W>(alloc, generation, commands, writer)
+        }
+        Policy::Must => {
+            run_commands::<Modules<MustNotAllocateDuringUnwind>, W>(
+                alloc, generation, commands, writer,
+            )
+        }
     }
 }
 
-/// Carries out commands in their order, and writes what each of them writes.
-fn run_commands<P: AllocationPolicy, W: Sink>(
+/// Carries out commands in their order, up to one that is refused, and writes what each of them
+/// writes. The counter of generations gives this number first.
+fn run_commands<A: DocumentModules, W: Sink>(
     alloc: Global,
+    generation: u64,
     mut commands: Vec<Command>,
     writer: &mut W,
 ) -> Result<(), RunError>
     requires writer { W.has_failed writer.old ≡ false }
-    requires numbered { AreNumbered 0 0 (tasks_of commands.items) }
-    ensures text { OnOk result (Appends (W.contents writer.old) (W.contents writer.new)
-        (lines_of P.GimliEvaluationStorage.Stack.capacity [] (tasks_of commands.items))) }
+    requires sound { AreSound nothing_made (tasks_of commands.items) }
+    ensures text { let m = meanings A.UnwindRule.meaning A.UnwindRule.fallback A.attempt in
+        OnOk result (Appends (W.contents writer.old) (W.contents writer.new)
+        (lines_of m A.data_of (beginning generation) (tasks_of commands.items))) }
     ensures write { IsErrOf result RunError.Write ↔ IsTrue (W.has_failed writer.new) }
     ensures no_read { IfErr result (λ error. error ≢ RunError.Read) }
-    ensures begun { OnErr result (AppendsFront (W.contents writer.old) (W.contents writer.new)
-        (lines_of P.GimliEvaluationStorage.Stack.capacity [] (tasks_of commands.items))) }
+    ensures begun { let m = meanings A.UnwindRule.meaning A.UnwindRule.fallback A.attempt in
+        OnErr result (AppendsFront (W.contents writer.old) (W.contents writer.new)
+        (lines_of m A.data_of (beginning generation) (tasks_of commands.items))) }
 {
     commands.reverse();
-    let mut instances = Instances::<P>::new(alloc);
+    let mut session = Session::<A>::new(alloc, Generations::starting_at(generation));
     while let Some(command) = commands.pop() {
-        let line = instances.perform(alloc, command)?;
-        write_all(writer, line.as_bytes())?;
+        let written = perform(&mut session, alloc, command)?;
+        write_all(writer, written.text.as_bytes())?;
+        if written.is_refused {
+            return Ok(());
+        }
     }
     Ok(())
 }

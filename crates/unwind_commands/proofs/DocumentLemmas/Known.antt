@@ -1,7 +1,6 @@
 -- What a decoded command names was made before it.
 use Rattle.std.proofs.Common.{◌≡◌, ◌≢◌, ℕ, ◌+◌, ◌-◌, ◌*◌, ◌^◌, ◌<◌, Bool, true, false, cond, List, [], ◌∷◌, length, Result, Ok, Err, refl, sym, ap, subst, ◌∙◌}
 use Rattle.std.specs.Prelude.{nat_lt, codes, ok_or, ◌==◌}
-use Rattle.std.specs.List.{slice_index_or}
 use Rattle.std.proofs.lemmas.Bool.{ltb-true, eqb-false}
 use Rattle.serde_json.specs.Data.{Data, Items, no_items, item}
 use Rattle.serde_json.specs.Written.{has_float}
@@ -14,7 +13,7 @@ use Rattle.unwind_commands.specs.declared.document.command.Verb.TheVariants as v
 use Rattle.documents.specs.Faults.{Checked, ◌⊛◌, both, ◌>>=◌}
 use Rattle.documents.specs.Json.{field, text_value, address_value, number_value, has_only}
 use Rattle.serde_json.specs.Find.{get}
-use Rattle.unwind_commands.specs.Commands.{Made, Task, make_unwinder, make_cache, load_module, take_step, Stepping, Loading, StackWords, IsSound, IsSoundStep, AreSound, kind_in, words_in, registers_in, sections_in, made_number, stepping_of, loading_of, stack_names, step_names, load_names, number_below, frame_at, frame_in, stack_at, stack_in, step_in, free_unwinder, unwinder_to_load, load_in, verb_in, task_in, command_in, made_after}
+use Rattle.unwind_commands.specs.Commands.{Made, Task, make_unwinder, make_cache, clone_unwinder, load_module, unload_module, take_step, take_walk, show_counts, Stepping, Walking, Loading, Unloading, StackWords, IsSound, IsSoundStep, IsSoundWalk, AreSound, kind_in, words_in, registers_in, sections_in, made_number, one_number, stepping_of, walking_of, loading_of, unloading_of, limit_value, stack_names, step_names, walk_names, load_names, unload_names, number_below, frame_at, frame_in, stack_at, stack_in, step_in, walk_in, load_in, unload_in, verb_in, task_in, command_in, made_after}
 use Rattle.documents.specs.Faults.{in_unit}
 use Rattle.unwind_commands.specs.Document.{with_task, commands_from}
 use Rattle.documents.proofs.Laws.{ok_is}
@@ -132,27 +131,66 @@ stack_field_sound d stack is =
 
 step_sound : (made : Made) (d : Data) (step : Stepping) → step_in made d ≡ Ok step → IsSoundStep made step
 step_sound made d step is =
-    let u = made_number (length made.loaded) (codes "unwinder") d in
+    let u = made_number made.unwinders (codes "unwinder") d in
     let c = made_number made.caches (codes "cache") d in
     let t = test_ok (has_only step_names d) (Ok stepping_of ⊛ u ⊛ c ⊛ frame_in d ⊛ field registers_in (codes "regs") d ⊛ field stack_in (codes "stack") d) BadCommand step is in
     let p = five_ok stepping_of u c (frame_in d) (field registers_in (codes "regs") d) (field stack_in (codes "stack") d) step t.1 in
     subst (IsSoundStep made) (sym p.9) (record {
-      unwinder = number_known (length made.loaded) (field number_value (codes "unwinder") d) p.0 p.5;
+      unwinder = number_known made.unwinders (field number_value (codes "unwinder") d) p.0 p.5;
       cache = number_known made.caches (field number_value (codes "cache") d) p.1 p.6;
       address = frame_in_sound d p.2 p.7;
       words = stack_field_sound d p.4 p.8;
     })
 
-load_sound : (made : Made) (d : Data) (load : Loading) → load_in made d ≡ Ok load → load.unwinder < length made.loaded
+load_sound : (made : Made) (d : Data) (load : Loading) → load_in made d ≡ Ok load → load.unwinder < made.unwinders
 load_sound made d load is =
-    let u = unwinder_to_load made.loaded d in
+    let u = made_number made.unwinders (codes "unwinder") d in
     let t = test_ok (has_only load_names d) (Ok loading_of ⊛ u ⊛ field text_value (codes "name") d ⊛ field address_value (codes "start") d ⊛ field address_value (codes "end") d
     ⊛ field address_value (codes "base") d ⊛ field address_value (codes "base_svma") d ⊛ field sections_in (codes "sections") d) BadCommand load is in
     let known : u ≡ Ok load.unwinder = seven_ok loading_of (λ l. l.unwinder) (λ u n s e b v ss. refl) u (field text_value (codes "name") d) (field address_value (codes "start") d) (field address_value (codes "end") d)
     (field address_value (codes "base") d) (field address_value (codes "base_svma") d) (field sections_in (codes "sections") d) load t.1 in
-    let s = bind_ok (field number_value (codes "unwinder") d) (free_unwinder made.loaded) load.unwinder known in
-    let q = test_not (slice_index_or made.loaded s.0 false) (number_below (length made.loaded) s.0) BadCommand load.unwinder s.2 in
-    below_count (length made.loaded) s.0 load.unwinder q.1
+    number_known made.unwinders (field number_value (codes "unwinder") d) load.unwinder known
+
+-- the fields of an unload gave values, and the unload has its unwinder
+unload_sound : (made : Made) (d : Data) (unload : Unloading) → unload_in made d ≡ Ok unload → unload.unwinder < made.unwinders
+unload_sound made d unload is =
+    let u = made_number made.unwinders (codes "unwinder") d in
+    let s = field address_value (codes "start") d in
+    let t = test_ok (has_only unload_names d) (Ok unloading_of ⊛ u ⊛ s) BadCommand unload is in
+    let l2 = last_ok (Ok unloading_of ⊛ u) s unload t.1 in
+    let l1 = last_ok (Ok unloading_of) u l2.0 l2.2 in
+    let made_of : unload ≡ unloading_of l1.1 l2.1 = l2.4 ∙ ap (λ g. g l2.1) (l1.4 ∙ ap (λ g. g l1.1) (sym (ok_is unloading_of l1.0 l1.2))) in
+    subst (λ (u : Unloading). u.unwinder < made.unwinders) (sym made_of) (number_known made.unwinders (field number_value (codes "unwinder") d) l1.1 l1.3)
+
+walk_sound : (made : Made) (d : Data) (walk : Walking) → walk_in made d ≡ Ok walk → IsSoundWalk made walk
+walk_sound made d walk is =
+    let u = made_number made.unwinders (codes "unwinder") d in
+    let c = made_number made.caches (codes "cache") d in
+    let p = field address_value (codes "pc") d in
+    let l = field limit_value (codes "limit") d in
+    let r = field registers_in (codes "regs") d in
+    let s = field stack_in (codes "stack") d in
+    let t = test_ok (has_only walk_names d) (Ok walking_of ⊛ u ⊛ c ⊛ p ⊛ l ⊛ r ⊛ s) BadCommand walk is in
+    let l6 = last_ok (Ok walking_of ⊛ u ⊛ c ⊛ p ⊛ l ⊛ r) s walk t.1 in
+    let l5 = last_ok (Ok walking_of ⊛ u ⊛ c ⊛ p ⊛ l) r l6.0 l6.2 in
+    let l4 = last_ok (Ok walking_of ⊛ u ⊛ c ⊛ p) l l5.0 l5.2 in
+    let l3 = last_ok (Ok walking_of ⊛ u ⊛ c) p l4.0 l4.2 in
+    let l2 = last_ok (Ok walking_of ⊛ u) c l3.0 l3.2 in
+    let l1 = last_ok (Ok walking_of) u l2.0 l2.2 in
+    let made_of : walk ≡ walking_of l1.1 l2.1 l3.1 l4.1 l5.1 l6.1 =
+    l6.4 ∙ ap (λ g. g l6.1) (l5.4 ∙ ap (λ g. g l5.1) (l4.4 ∙ ap (λ g. g l4.1) (l3.4 ∙ ap (λ g. g l3.1) (l2.4 ∙ ap (λ g. g l2.1)
+    (l1.4 ∙ ap (λ g. g l1.1) (sym (ok_is walking_of l1.0 l1.2))))))) in
+    subst (IsSoundWalk made) (sym made_of) (record {
+      unwinder = number_known made.unwinders (field number_value (codes "unwinder") d) l1.1 l1.3;
+      cache = number_known made.caches (field number_value (codes "cache") d) l2.1 l2.3;
+      words = stack_field_sound d l6.1 l6.3;
+    })
+
+-- the number that a command has beside what it does
+one_sound : (count : ℕ) (name : List ℕ) (d : Data) (n : ℕ) → one_number count name d ≡ Ok n → n < count
+one_sound count name d n is =
+    let t = test_ok (has_only (codes "do" ∷ name ∷ []) d) (made_number count name d) BadCommand n is in
+    number_known count (field number_value name d) n t.1
 
 -- ---- commands
 
@@ -165,6 +203,18 @@ task_sound made d verb.Load task is =
 task_sound made d verb.Step task is =
     let l = last_ok (Ok take_step) (step_in made d) task is in
     subst (IsSound made) (sym (l.4 ∙ ap (λ g. g l.1) (sym (ok_is take_step l.0 l.2)))) (step_sound made d l.1 l.3)
+task_sound made d verb.Clone task is =
+    let l = last_ok (Ok clone_unwinder) (one_number made.unwinders (codes "unwinder") d) task is in
+    subst (IsSound made) (sym (l.4 ∙ ap (λ g. g l.1) (sym (ok_is clone_unwinder l.0 l.2)))) (one_sound made.unwinders (codes "unwinder") d l.1 l.3)
+task_sound made d verb.Unload task is =
+    let l = last_ok (Ok unload_module) (unload_in made d) task is in
+    subst (IsSound made) (sym (l.4 ∙ ap (λ g. g l.1) (sym (ok_is unload_module l.0 l.2)))) (unload_sound made d l.1 l.3)
+task_sound made d verb.Walk task is =
+    let l = last_ok (Ok take_walk) (walk_in made d) task is in
+    subst (IsSound made) (sym (l.4 ∙ ap (λ g. g l.1) (sym (ok_is take_walk l.0 l.2)))) (walk_sound made d l.1 l.3)
+task_sound made d verb.Stats task is =
+    let l = last_ok (Ok show_counts) (one_number made.caches (codes "cache") d) task is in
+    subst (IsSound made) (sym (l.4 ∙ ap (λ g. g l.1) (sym (ok_is show_counts l.0 l.2)))) (one_sound made.caches (codes "cache") d l.1 l.3)
 
 command_sound : (made : Made) (d : Data) (task : Task) → command_in made d ≡ Ok task → IsSound made task
 command_sound made d task is =

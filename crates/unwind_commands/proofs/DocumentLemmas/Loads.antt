@@ -1,9 +1,9 @@
--- The fields of a load and of a section.
+-- The fields of a load, of an unload and of a section.
 use Rattle.std.proofs.Common.{◌≡◌, ℕ, List, Option, option_map, Ok, String, Vec, Global, string_bytes}
 use Rattle.unwind_commands.specs.declared.document.command.AddressRange.{AddressRange}
 use Rattle.unwind_commands.specs.declared.document.command.Section.{Section}
 use Rattle.documents.specs.Faults.{Checked, ◌⊛◌, both}
-use Rattle.unwind_commands.specs.Commands.{loading_of, Loading, SectionData}
+use Rattle.unwind_commands.specs.Commands.{loading_of, unloading_of, Loading, SectionData}
 use Rattle.documents.specs.Decoded.{result_map}
 use Rattle.unwind_commands.specs.CommandViews.{sections_view}
 use Rattle.documents.proofs.Laws.{first-field, and-field, as_it_is}
@@ -71,3 +71,8 @@ seven_fields u n s e b v ss one two three four five six U N S E B V SS u_is n_is
     (as_it_is b B b_is) four_is)
     (as_it_is v V v_is) five_is)
     ss_is six_is
+
+pub unload_fields : (u s : Checked ℕ) (one : Checked (ℕ × ℕ)) (U S : Checked ℕ) → u ≡ U → s ≡ S → one ≡ both u s
+    → result_map (λ p. unloading_of p.0 p.1) one ≡ Ok unloading_of ⊛ U ⊛ S
+unload_fields u s one U S u_is s_is one_is =
+    and-field unloading_of (λ v. v) u s one _ S (first-field unloading_of (λ v. v) u U (as_it_is u U u_is)) (as_it_is s S s_is) one_is

@@ -1,10 +1,10 @@
--- The fields of a step.
+-- The fields of a step and of a walk.
 use Rattle.std.proofs.Common.{◌≡◌, ℕ, List, Bool, true, cond, Ok, Vec, Global, sym, ap, ◌∙◌}
 use Rattle.unwind_commands.specs.declared.document.command.FrameKind.{FrameKind}
 use Rattle.unwind_commands.specs.declared.document.command.Stack.{Stack}
 use Rattle.unwind_commands.specs.declared.document.step.Registers.{Registers}
 use Rattle.documents.specs.Faults.{Checked, ◌⊛◌, both}
-use Rattle.unwind_commands.specs.Commands.{stepping_of, StackWords}
+use Rattle.unwind_commands.specs.Commands.{stepping_of, walking_of, StackWords}
 use Rattle.documents.specs.Decoded.{result_map}
 use Rattle.unwind_commands.specs.CommandViews.{words_view}
 use Rattle.documents.proofs.Laws.{first-field, and-field, as_it_is}
@@ -48,3 +48,21 @@ five_fields u c f r s one two three four U C F R S u_is c_is f_is r_is s_is one_
     (as_it_is f F f_is) two_is)
     (as_it_is r R r_is) three_is)
     s_is four_is
+
+pub six_fields : (u c p l : Checked ℕ) (r : Checked Registers) (s : Checked Stack)
+    (one : Checked (ℕ × ℕ)) (two : Checked ((ℕ × ℕ) × ℕ)) (three : Checked (((ℕ × ℕ) × ℕ) × ℕ))
+    (four : Checked ((((ℕ × ℕ) × ℕ) × ℕ) × Registers)) (five : Checked (((((ℕ × ℕ) × ℕ) × ℕ) × Registers) × Stack))
+    (U C P L : Checked ℕ) (R : Checked Registers) (S : Checked StackWords)
+    → u ≡ U → c ≡ C → p ≡ P → l ≡ L → r ≡ R → result_map words_view s ≡ S
+    → one ≡ both u c → two ≡ both one p → three ≡ both two l → four ≡ both three r → five ≡ both four s
+    → result_map (λ p. walking_of p.0.0.0.0.0 p.0.0.0.0.1 p.0.0.0.1 p.0.0.1 p.0.1 (words_view p.1)) five ≡ Ok walking_of ⊛ U ⊛ C ⊛ P ⊛ L ⊛ R ⊛ S
+six_fields u c p l r s one two three four five U C P L R S u_is c_is p_is l_is r_is s_is one_is two_is three_is four_is five_is =
+    and-field (λ p. walking_of p.0.0.0.0 p.0.0.0.1 p.0.0.1 p.0.1 p.1) words_view four s five _ S
+    (and-field (λ p. walking_of p.0.0.0 p.0.0.1 p.0.1 p.1) (λ v. v) three r four _ R
+    (and-field (λ p. walking_of p.0.0 p.0.1 p.1) (λ v. v) two l three _ L
+    (and-field (λ p. walking_of p.0 p.1) (λ v. v) one p two _ P
+    (and-field walking_of (λ v. v) u c one _ C (first-field walking_of (λ v. v) u U (as_it_is u U u_is)) (as_it_is c C c_is) one_is)
+    (as_it_is p P p_is) two_is)
+    (as_it_is l L l_is) three_is)
+    (as_it_is r R r_is) four_is)
+    s_is five_is

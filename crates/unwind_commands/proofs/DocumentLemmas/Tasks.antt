@@ -75,9 +75,9 @@ content_of-no-json bytes short none = content_of-short bytes None short none
 pub content_of-bad : (bytes : List ℕ) (d : Data) (name : FaultName) → nat_lt DOCUMENT_LIMIT (length bytes) ≡ false → json_of bytes ≡ Some d → document_in d ≡ Err name
     → content_of bytes ≡ Err (record { name = name; number = 0 })
 content_of-bad bytes d name short is bad =
-    content_of-short bytes (Some d) short is ∙ ap (λ r. in_unit 0 r >>= λ items. under (policy_of d) (commands_from 1 nothing_made items)) bad
+    content_of-short bytes (Some d) short is ∙ ap (λ r. in_unit 0 r >>= λ own. under (policy_of d) own.0 (commands_from 1 nothing_made own.1)) bad
 
-pub content_of-good : (bytes : List ℕ) (d : Data) (ds : Items) → nat_lt DOCUMENT_LIMIT (length bytes) ≡ false → json_of bytes ≡ Some d → document_in d ≡ Ok ds
-    → content_of bytes ≡ under (policy_of d) (commands_from 1 nothing_made ds)
-content_of-good bytes d ds short is good =
-    content_of-short bytes (Some d) short is ∙ ap (λ r. in_unit 0 r >>= λ items. under (policy_of d) (commands_from 1 nothing_made items)) good
+pub content_of-good : (bytes : List ℕ) (d : Data) (own : ℕ × Items) → nat_lt DOCUMENT_LIMIT (length bytes) ≡ false → json_of bytes ≡ Some d → document_in d ≡ Ok own
+    → content_of bytes ≡ under (policy_of d) own.0 (commands_from 1 nothing_made own.1)
+content_of-good bytes d own short is good =
+    content_of-short bytes (Some d) short is ∙ ap (λ r. in_unit 0 r >>= λ own. under (policy_of d) own.0 (commands_from 1 nothing_made own.1)) good

@@ -1,14 +1,15 @@
 //! The commands of a document.
 ghost use Rattle.std.specs.Prelude.{◌≡◌, codes};
 ghost use Rattle.serde_json.specs.View.{view};
-ghost use Rattle.unwind_commands.specs.Commands.{command_in, task_in, verb_in};
+ghost use Rattle.unwind_commands.specs.Commands.{command_in, one_number, task_in, verb_in};
 ghost use Rattle.documents.specs.Json.{field};
 ghost use Rattle.documents.specs.Decoded.{Decodes};
 ghost use Rattle.unwind_commands.specs.CommandViews.{made_view, task_of};
 
-use super::load::load_in;
-use super::made::Made;
+use super::load::{load_in, unload_in};
+use super::made::{Made, made_number};
 use super::step::step_in;
+use super::walk::walk_in;
 use documents::check::Checked;
 use documents::field::{has_only, text_field};
 use documents::float::has_float;
@@ -23,10 +24,18 @@ pub enum Command {
     Unwinder,
     /// Makes the next cache.
     Cache,
-    /// Gives an unwinder its module.
+    /// Makes the next unwinder, with the modules of the one of this number.
+    Clone(usize),
+    /// Loads a module in an unwinder.
     Load(Load),
+    /// Unloads a module.
+    Unload(Unload),
     /// Makes one step.
     Step(Step),
+    /// Walks over frames.
+    Walk(Walk),
+    /// Shows the counts of the cache of this number.
+    Stats(usize),
 }
 
 /// A module for an unwinder.
@@ -45,6 +54,15 @@ pub struct Load {
     pub base_svma: u64,
     /// The sections, of which no two have one name.
     pub sections: Vec<Section>,
+}
+
+/// A module of an unwinder, by its start.
+#[derive(Clone, Copy, Debug, PartialEq, Eq)]
+pub struct Unload {
+    /// The unwinder's number, from 0 on.
+    pub unwinder: usize,
+    /// Where the module starts in memory.
+    pub start: u64,
 }
 
 /// A section of a module.
@@ -87,6 +105,23 @@ pub struct Step {
     pub stack: Stack,
 }
 
+/// A walk over the frames of an unwinder with a cache.
+#[derive(Debug, Drop)]
+pub struct Walk {
+    /// The unwinder's number, from 0 on.
+    pub unwinder: usize,
+    /// The cache's number, from 0 on.
+    pub cache: usize,
+    /// The instruction pointer.
+    pub pc: u64,
+    /// The most frames, from 1 to 65,536.
+    pub limit: u64,
+    pub ip: u64,
+    pub sp: u64,
+    pub bp: u64,
+    pub stack: Stack,
+}
+
 /// The readable words, eight bytes each, the first of them at the start.
 #[derive(Debug, Drop)]
 pub struct Stack {
@@ -99,8 +134,12 @@ pub struct Stack {
 pub(crate) enum Verb {
     Unwinder,
     Cache,
+    Clone,
     Load,
+    Unload,
     Step,
+    Walk,
+    Stats,
 }
 
 /// What a command does.
@@ -110,10 +149,24 @@ fn verb_field(object: &Value) -> Checked<Verb>
     match text_field(object, "do")? {
         "unwinder" => Ok(Verb::Unwinder),
         "cache" => Ok(Verb::Cache),
+        "clone" => Ok(Verb::Clone),
         "load" => Ok(Verb::Load),
+        "unload" => Ok(Verb::Unload),
         "step" => Ok(Verb::Step),
+        "walk" => Ok(Verb::Walk),
+        "stats" => Ok(Verb::Stats),
         _ => Err(FaultName::BadCommand),
     }
+}
+
+/// The number in the one field beside `do`, of something that earlier commands made.
+fn one_number(object: &Value, name: &str, count: usize) -> Checked<usize>
+    ensures { result ≡ one_number count name.now (view object.now) }
+{
+    if !has_only(object, &["do", name]) {
+        return Err(FaultName::BadCommand);
+    }
+    made_number(object, name, count)
 }
 
 /// The command that does it.
@@ -129,8 +182,12 @@ fn task_in(
         Verb::Unwinder if has_only(object, &["do"]) => Ok(Command::Unwinder),
         Verb::Cache if has_only(object, &["do"]) => Ok(Command::Cache),
         Verb::Unwinder | Verb::Cache => Err(Refusal::Fault(FaultName::BadCommand)),
+        Verb::Clone => Ok(Command::Clone(one_number(object, "unwinder", made.unwinders)?)),
         Verb::Load => Ok(Command::Load(load_in(alloc, object, made)?)),
+        Verb::Unload => Ok(Command::Unload(unload_in(object, made)?)),
         Verb::Step => Ok(Command::Step(step_in(alloc, object, made)?)),
+        Verb::Walk => Ok(Command::Walk(walk_in(alloc, object, made)?)),
+        Verb::Stats => Ok(Command::Stats(one_number(object, "cache", made.caches)?)),
     }
 }
 

@@ -3,14 +3,14 @@ ghost use Rattle.std.specs.Prelude.{◌≡◌, codes, option_map, option_and_the
 ghost use Rattle.serde_json.specs.Find.{as_str, get};
 ghost use Rattle.serde_json.specs.View.{view, items_view};
 ghost use Rattle.documents.specs.Json.{bytes_value, list_of, field, optional_value, text_value};
-ghost use Rattle.unwind_commands.specs.Commands.{are_distinct, is_refused, load_in, names_of, range_between, section_in, section_name_in, sections_in, unwinder_to_load};
-ghost use Rattle.documents.specs.Decoded.{Decodes};
-ghost use Rattle.unwind_commands.specs.CommandViews.{load_view, made_view, section_view, sections_view};
+ghost use Rattle.unwind_commands.specs.Commands.{are_distinct, is_refused, load_in, names_of, range_between, section_in, section_name_in, sections_in, unload_in};
+ghost use Rattle.documents.specs.Decoded.{Decodes, result_map};
+ghost use Rattle.unwind_commands.specs.CommandViews.{load_view, made_view, section_view, sections_view, unload_view};
 
-use super::command::{AddressRange, Load, Section};
-use super::made::Made;
+use super::command::{AddressRange, Load, Section, Unload};
+use super::made::{Made, made_number};
 use documents::check::{Checked, both, weighed, with_fault};
-use documents::field::{address_field, address_in, has_only, needed, number_field, text_field};
+use documents::field::{address_field, address_in, has_only, needed, text_field};
 use documents::json::bytes_in;
 use documents::{FaultName, Refusal};
 use serde_json::Value;
@@ -23,7 +23,6 @@ fn is_refused(name: &str) -> bool
     ensures { result ≡ is_refused name.now }
 {
     [
-        ".debug_frame",
         ".eh_frame_hdr",
         "__eh_frame_hdr",
         "__unwind_info",
@@ -153,21 +152,6 @@ fn sections_field(alloc: Global, object: &Value) -> Result<Vec<Section>, Refusal
     sections_in(alloc, needed(object, "sections")?)
 }
 
-/// The unwinder that the module is for, which has none yet.
-fn unwinder_to_load(object: &Value, made: &Made) -> Checked<usize>
-    ensures { result ≡ unwinder_to_load made.now.loaded.items (view object.now) }
-{
-    let number = number_field(object, "unwinder")?;
-    if number >= made.loaded.len() as u64 {
-        return Err(FaultName::UnknownNumber);
-    }
-    let unwinder = number as usize;
-    if made.loaded[unwinder] {
-        return Err(FaultName::BadCommand);
-    }
-    Ok(unwinder)
-}
-
 /// The name of a module.
 fn module_name(alloc: Global, object: &Value) -> Result<String, Refusal<FaultName>>
     ensures { Decodes string_bytes result (field text_value (codes "name") (view object.now)) }
@@ -175,7 +159,7 @@ fn module_name(alloc: Global, object: &Value) -> Result<String, Refusal<FaultNam
     Ok(String::from_str(alloc, text_field(object, "name")?)?)
 }
 
-/// A module for an unwinder that an earlier command made and that has none.
+/// A module for an unwinder that an earlier command made.
 pub(crate) fn load_in(
     alloc: Global,
     object: &Value,
@@ -196,7 +180,7 @@ pub(crate) fn load_in(
     if !has_only(object, &names) {
         return Err(Refusal::Fault(FaultName::BadCommand));
     }
-    let unwinder = unwinder_to_load(object, made);
+    let unwinder = made_number(object, "unwinder", made.unwinders);
     let name = weighed(module_name(alloc, object))?;
     let start = address_field(object, "start");
     let end = address_field(object, "end");
@@ -217,4 +201,16 @@ pub(crate) fn load_in(
         base_svma,
         sections,
     })
+}
+
+/// A module of an unwinder that an earlier command made, by its start.
+pub(crate) fn unload_in(object: &Value, made: &Made) -> Checked<Unload>
+    ensures { result_map unload_view result ≡ unload_in (made_view made.now) (view object.now) }
+{
+    if !has_only(object, &["do", "unwinder", "start"]) {
+        return Err(FaultName::BadCommand);
+    }
+    let unwinder = made_number(object, "unwinder", made.unwinders);
+    let (unwinder, start) = both(unwinder, address_field(object, "start"))?;
+    Ok(Unload { unwinder, start })
 }

@@ -2,36 +2,24 @@
 ghost use Rattle.std.specs.Prelude.{◌≡◌, codes};
 ghost use Rattle.serde_json.specs.View.{view, items_view};
 ghost use Rattle.documents.specs.Json.{address_value, list_of, field};
-ghost use Rattle.unwind_commands.specs.Commands.{made_number, kind_in, frame_in, registers_in, words_in, stack_at, stack_in, step_in};
+ghost use Rattle.unwind_commands.specs.Commands.{kind_in, frame_in, registers_in, words_in, stack_at, stack_in, step_in};
 ghost use Rattle.documents.specs.Decoded.{Decodes, result_map};
 ghost use Rattle.unwind_commands.specs.CommandViews.{words_view, step_view, made_view};
 
 use super::command::{FrameKind, Stack, Step};
-use super::made::Made;
+use super::made::{Made, made_number};
 use documents::check::{Checked, both, weighed, with_fault};
-use documents::field::{address_field, address_in, has_only, needed, number_field, text_field};
+use documents::field::{address_field, address_in, has_only, needed, text_field};
 use documents::{FaultName, Refusal};
 use serde_json::Value;
 use std::alloc::Global;
 
-/// The registers of a step.
+/// The registers of a step or a walk.
 #[derive(Clone, Copy, Debug, PartialEq, Eq)]
 pub(crate) struct Registers {
     pub(crate) ip: u64,
     pub(crate) sp: u64,
     pub(crate) bp: u64,
-}
-
-/// The number in a field, of something that earlier commands made.
-fn made_number(object: &Value, name: &str, count: usize) -> Checked<usize>
-    ensures { result ≡ made_number count name.now (view object.now) }
-{
-    let number = number_field(object, name)?;
-    if number < count as u64 {
-        Ok(number as usize)
-    } else {
-        Err(FaultName::UnknownNumber)
-    }
 }
 
 /// How the address of the frame is meant.
@@ -70,8 +58,8 @@ fn registers_in(value: &Value) -> Checked<Registers>
     Ok(Registers { ip, sp, bp })
 }
 
-/// The registers of a step.
-fn registers_field(object: &Value) -> Checked<Registers>
+/// The registers of a step or a walk.
+pub(crate) fn registers_field(object: &Value) -> Checked<Registers>
     ensures { result ≡ field registers_in (codes "regs") (view object.now) }
 {
     registers_in(needed(object, "regs")?)
@@ -135,8 +123,8 @@ fn stack_at(start: u64, words: Vec<u64>) -> Checked<Stack>
     }
 }
 
-/// The stack of a step.
-fn stack_field(alloc: Global, object: &Value) -> Result<Stack, Refusal<FaultName>>
+/// The stack of a step or a walk.
+pub(crate) fn stack_field(alloc: Global, object: &Value) -> Result<Stack, Refusal<FaultName>>
     ensures { Decodes words_view result (field stack_in (codes "stack") (view object.now)) }
 {
     stack_in(alloc, needed(object, "stack")?)
@@ -158,7 +146,7 @@ pub(crate) fn step_in(
     ) {
         return Err(Refusal::Fault(FaultName::BadCommand));
     }
-    let unwinder = made_number(object, "unwinder", made.loaded.len());
+    let unwinder = made_number(object, "unwinder", made.unwinders);
     let cache = made_number(object, "cache", made.caches);
     let frame = frame_in(object);
     let registers = registers_field(object);

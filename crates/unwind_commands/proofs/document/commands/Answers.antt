@@ -38,8 +38,9 @@ loop-item-preserved c =
           (l.invariant.same
           ∙ ap (λ ws. behind done (commands_from l.number (made_view l.made) (items_view ws))) (drop-element vs l.item-index c.item-item.result c.loop-item-test.true c.item-item.is))
           (unit_answer-good task_of l.number _ _ _ c.command_in.ensures (sym c.in_unit.ensures ∙ c.in_ok-command.was))
-          c.in_ok-add.ensures.ok
+          c.add.ensures.made
           (ap tasks_of c.in_ok-push.ensures.items ∙ map-append task_of l.commands.items (c.in_ok-command.command ∷ []));
       counted = omega (arith, l.invariant.counted);
-      few = omega (arith, l.invariant.few, c.in_ok-add.ensures.few);
+      few_unwinders = omega (arith, l.invariant.few_unwinders, c.add.ensures.few_unwinders);
+      few_caches = omega (arith, l.invariant.few_caches, c.add.ensures.few_caches);
     }

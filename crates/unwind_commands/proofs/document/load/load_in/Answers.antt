@@ -10,7 +10,7 @@ returns-in_err-unwinder c =
     passed_on _ _ _ _ c.from_residual-in_err-unwinder.ensures.1
     (under _ _ _ _ (sym c.has_only.ensures ∙ c.if-not-has_only.false)
     (ap (result_map loaded) (sym c.in_err-unwinder.was)
-    ∙ seven_fields _ _ _ _ _ _ _ _ _ _ _ _ _ _ _ _ _ _ _ _ c.unwinder_to_load-unwinder.ensures
+    ∙ seven_fields _ _ _ _ _ _ _ _ _ _ _ _ _ _ _ _ _ _ _ _ c.made_number-unwinder.ensures
     (weighed-decoded _ _ _ _ c.module_name.ensures (sym c.weighed.ensures ∙ c.in_ok-name.was))
     c.address_field-start.ensures c.address_field-end.ensures c.address_field-base.ensures c.address_field-base_svma.ensures
     (weighed-decoded _ _ _ _ c.sections_field.ensures (sym c.weighed-2.ensures ∙ c.in_ok-sections.was))
@@ -21,7 +21,7 @@ returns c =
     sym
     (under _ _ _ _ (sym c.has_only.ensures ∙ c.if-not-has_only.false)
     (ap (result_map loaded) (sym c.in_ok-unwinder.was)
-    ∙ seven_fields _ _ _ _ _ _ _ _ _ _ _ _ _ _ _ _ _ _ _ _ c.unwinder_to_load-unwinder.ensures
+    ∙ seven_fields _ _ _ _ _ _ _ _ _ _ _ _ _ _ _ _ _ _ _ _ c.made_number-unwinder.ensures
     (weighed-decoded _ _ _ _ c.module_name.ensures (sym c.weighed.ensures ∙ c.in_ok-name.was))
     c.address_field-start.ensures c.address_field-end.ensures c.address_field-base.ensures c.address_field-base_svma.ensures
     (weighed-decoded _ _ _ _ c.sections_field.ensures (sym c.weighed-2.ensures ∙ c.in_ok-sections.was))

@@ -1,6 +1,5 @@
-use Rattle.std.proofs.Common.{sym, ap, ◌∙◌, codes}
-use Rattle.serde_json.specs.View.{view}
-use Rattle.unwind_commands.specs.Commands.{stepping_of, made_number}
+use Rattle.std.proofs.Common.{sym, ap, ◌∙◌}
+use Rattle.unwind_commands.specs.Commands.{stepping_of}
 use Rattle.documents.specs.Decoded.{result_map}
 use Rattle.unwind_commands.specs.CommandViews.{words_view}
 use Rattle.documents.proofs.Laws.{weighed-decoded, passed_on}
@@ -13,8 +12,7 @@ returns-in_err-unwinder c =
     (under _ _ _ _ (sym c.has_only.ensures ∙ c.if-not-has_only.false)
     (ap (result_map (λ p. stepping_of p.0.0.0.0 p.0.0.0.1 p.0.0.1 p.0.1 (words_view p.1))) (sym c.in_err-unwinder.was)
     ∙ five_fields _ _ _ _ _ _ _ _ _ _ _ _ _ _
-    (c.made_number-unwinder.ensures ∙ ap (λ n. made_number n (codes "unwinder") (view c.args.object.now)) (c.len.ensures ∙ c.args.made.now.loaded.ok.0))
-    c.made_number-cache.ensures c.frame_in-frame.ensures c.registers_field-registers.ensures
+    c.made_number-unwinder.ensures c.made_number-cache.ensures c.frame_in-frame.ensures c.registers_field-registers.ensures
     (weighed-decoded _ _ _ _ c.stack_field.ensures (sym c.weighed.ensures ∙ c.in_ok-stack.was))
     c.both.ensures c.both-2.ensures c.both-3.ensures c.both-4.ensures))
 
@@ -24,7 +22,6 @@ returns c =
     (under _ _ _ _ (sym c.has_only.ensures ∙ c.if-not-has_only.false)
     (ap (result_map (λ p. stepping_of p.0.0.0.0 p.0.0.0.1 p.0.0.1 p.0.1 (words_view p.1))) (sym c.in_ok-unwinder.was)
     ∙ five_fields _ _ _ _ _ _ _ _ _ _ _ _ _ _
-    (c.made_number-unwinder.ensures ∙ ap (λ n. made_number n (codes "unwinder") (view c.args.object.now)) (c.len.ensures ∙ c.args.made.now.loaded.ok.0))
-    c.made_number-cache.ensures c.frame_in-frame.ensures c.registers_field-registers.ensures
+    c.made_number-unwinder.ensures c.made_number-cache.ensures c.frame_in-frame.ensures c.registers_field-registers.ensures
     (weighed-decoded _ _ _ _ c.stack_field.ensures (sym c.weighed.ensures ∙ c.in_ok-stack.was))
     c.both.ensures c.both-2.ensures c.both-3.ensures c.both-4.ensures))

@@ -1,7 +1,7 @@
 use Rattle.std.proofs.Common.{◌≡◌, drop}
 use Rattle.unwind_commands.specs.CommandViews.{sections_view}
-use Rattle.unwind_commands.specs.Text.{data_named}
-use Rattle.unwind_commands.proofs.instances.place_of.Given as goal
+use Rattle.unwind_commands.specs.Sections.{data_named}
+use Rattle.unwind_commands.proofs.sections.place_of.Given as goal
 
 -- the sections that are left have the data that all have under the name
 abbrev pub invariant-loop-i : goal.invariant-loop-i

@@ -1,0 +1,38 @@
+-- The sections of a load by their names.
+use Rattle.std.specs.Prelude.{ℕ, List, [], ◌∷◌, Option, None, option_map, bytes_eq, if◌then◌else◌}
+use Rattle.std.specs.Option.{option_or}
+use Rattle.std.specs.declared.ops.Range.{Range}
+use Rattle.framehop.specs.UnwindData.{UnwindData, unwind_data_of}
+use Rattle.framehop_modules.specs.Sections.{Sections}
+use Rattle.unwind_commands.specs.declared.document.command.AddressRange.{AddressRange}
+use Rattle.unwind_commands.specs.Commands.{SectionData}
+
+-- where a section lies, as a range of numbers
+abbrev pub range_of : AddressRange → Range ℕ
+range_of range = record { start = range.start; end = range.end }
+
+-- the range of the first section of this name that has one
+abbrev pub range_named : List ℕ → List SectionData → Option (Range ℕ)
+range_named name [] = None
+range_named name (section ∷ sections) =
+    option_or (if bytes_eq section.name name then option_map range_of section.range else None) (range_named name sections)
+
+-- the data of the first section of this name that has some
+abbrev pub data_named : List ℕ → List SectionData → Option (List ℕ)
+data_named name [] = None
+data_named name (section ∷ sections) =
+    option_or (if bytes_eq section.name name then section.bytes else None) (data_named name sections)
+
+-- sections by their names, whose stated addresses count from an address. There are no segments
+abbrev pub sections_stated : ℕ → List SectionData → Sections
+sections_stated base_svma sections = record {
+  base_svma = base_svma;
+  section_range = λ name. range_named name sections;
+  section_data = λ name. data_named name sections;
+  segment_range = λ name. None;
+  segment_data = λ name. None;
+}
+
+-- what they give to unwind by
+abbrev pub data_stated : ℕ → List SectionData → UnwindData
+data_stated base_svma sections = unwind_data_of (sections_stated base_svma sections)

@@ -1,0 +1,161 @@
+//! What each command of a document does in a session.
+ghost use Rattle.std.specs.Prelude.{◌≡◌, ◌≢◌, ◌<◌, ℕ, List, IfOk, length, string_bytes};
+ghost use Rattle.framehop_registers.specs.Callback.{read_answer};
+ghost use Rattle.framehop_unwinder.specs.Attempt.{meanings};
+ghost use Rattle.framehop_unwinder.specs.Frames.{frame_of};
+ghost use Rattle.unwind_commands.specs.Commands.{IsSound, SectionData};
+ghost use Rattle.unwind_commands.specs.CommandViews.{sections_view, task_of, words_view};
+ghost use Rattle.unwind_sessions.specs.Turns.{Progress, IsAt, ComesTo};
+ghost use Rattle.unwind_commands.specs.Text.{frame_at, made_in, turn, words_of};
+ghost use Rattle.unwind_commands.specs.declared.document.command.FrameKind.TheVariants.{Ra};
+
+use crate::document::{Command, FrameKind, Load, Section, Stack, Step, Walk};
+use crate::lines::step_line;
+use framehop_rules::FrameAddress;
+use framehop_rules::x86_64::UnwindRegsX86_64;
+use framehop_unwinder::{Module, Session, StackWalk, Unwinding};
+use std::alloc::{AllocError, Global};
+use unwind_sessions as turns;
+use unwind_sessions::Written;
+
+/// What the modules of documents are unwound by: their sections, in one way or another.
+pub(crate) trait DocumentModules: Unwinding<UnwindRegs = UnwindRegsX86_64> {
+    ghost data_of: { ℕ → List SectionData → Self.UnwindData };
+
+    /// What sections give to unwind by, whose stated addresses count from an address.
+    fn unwind_data(
+        alloc: Global,
+        base_svma: u64,
+        sections: Vec<Section>,
+    ) -> Result<Self::UnwindData, AllocError>
+        ensures { IfOk result (λ unwind_data.
+            unwind_data ≡ data_of base_svma (sections_view sections.items)) };
+
+    /// Room for the attempts of a new cache.
+    fn unwind_context(alloc: Global) -> Result<Self::UnwindContext, AllocError>;
+}
+
+/// Carries out a command, and answers what it writes.
+pub(crate) fn perform<A: DocumentModules>(
+    session: &mut Session<A>,
+    alloc: Global,
+    command: Command,
+) -> Result<Written, AllocError>
+    requires { IsSound (made_in session.old) (task_of command) }
+    ensures { let m = meanings A.UnwindRule.meaning A.UnwindRule.fallback A.attempt in
+        (progress : Progress A.UnwindData) → IsAt progress session.old
+        → IfOk result (λ written. ComesTo (turn m A.data_of progress (task_of command))
+        (string_bytes written.text) written.is_refused session.new) }
+{
+    match command {
+        Command::Unwinder => turns::add_unwinder(session, alloc),
+        Command::Cache => turns::add_cache(session, alloc, A::unwind_context(alloc)?),
+        Command::Clone(unwinder) => turns::clone_unwinder(session, alloc, unwinder),
+        Command::Load(load) => load_module(session, alloc, load),
+        Command::Unload(unload) => turns::unload(session, alloc, unload.unwinder, unload.start),
+        Command::Step(step) => take_step(session, alloc, &step),
+        Command::Walk(walk) => take_walk(session, alloc, &walk),
+        Command::Stats(cache) => turns::stats(session, alloc, cache),
+    }
+}
+
+/// Loads a module in an unwinder.
+fn load_module<A: DocumentModules>(
+    session: &mut Session<A>,
+    alloc: Global,
+    load: Load,
+) -> Result<Written, AllocError>
+    requires { load.unwinder < length session.old.unwinders }
+    ensures { let m = meanings A.UnwindRule.meaning A.UnwindRule.fallback A.attempt in
+        (progress : Progress A.UnwindData) → IsAt progress session.old
+        → IfOk result (λ written. ComesTo (turn m A.data_of progress (task_of (Command.Load load)))
+        (string_bytes written.text) written.is_refused session.new) }
+{
+    let unwind_data = A::unwind_data(alloc, load.base_svma, load.sections)?;
+    let range = load.start..load.end;
+    let module = Module::new(alloc, load.name, range, load.base, unwind_data)?;
+    turns::load(session, alloc, load.unwinder, module)
+}
+
+/// Makes a step, and answers its line.
+fn take_step<A: DocumentModules>(
+    session: &mut Session<A>,
+    alloc: Global,
+    step: &Step,
+) -> Result<Written, AllocError>
+    requires { IsSound (made_in session.old) (task_of (Command.Step step.now)) }
+    ensures { let m = meanings A.UnwindRule.meaning A.UnwindRule.fallback A.attempt in
+        (progress : Progress A.UnwindData) → IsAt progress session.old
+        → IfOk result (λ written. ComesTo (turn m A.data_of progress (task_of (Command.Step step.now)))
+        (string_bytes written.text) written.is_refused session.new) }
+{
+    let address = frame_address(step.kind, step.address);
+    let mut regs = UnwindRegsX86_64::new(step.ip, step.sp, step.bp);
+    let stack = &step.stack;
+    let mut read_stack = |at: u64| -> Result<u64, ()>
+        ensures answer { result ≡ read_answer (words_of (words_view stack.entry.now) at) }
+        ensures same { stack.exit ≡ stack.entry }
+    { word_at(stack, at) };
+    let answer = session.step(
+        step.unwinder,
+        step.cache,
+        address,
+        &mut regs,
+        &mut read_stack,
+    );
+    let line = step_line(alloc, answer, regs)?;
+    Ok(Written::lines(line))
+}
+
+/// Walks over frames, and answers their lines.
+fn take_walk<A: DocumentModules>(
+    session: &mut Session<A>,
+    alloc: Global,
+    walk: &Walk,
+) -> Result<Written, AllocError>
+    requires { IsSound (made_in session.old) (task_of (Command.Walk walk.now)) }
+    ensures { let m = meanings A.UnwindRule.meaning A.UnwindRule.fallback A.attempt in
+        (progress : Progress A.UnwindData) → IsAt progress session.old
+        → IfOk result (λ written. ComesTo (turn m A.data_of progress (task_of (Command.Walk walk.now)))
+        (string_bytes written.text) written.is_refused session.new) }
+{
+    let regs = UnwindRegsX86_64::new(walk.ip, walk.sp, walk.bp);
+    let mut frames = StackWalk::new(walk.pc, regs);
+    let stack = &walk.stack;
+    let mut read_stack = |at: u64| -> Result<u64, ()>
+        ensures answer { result ≡ read_answer (words_of (words_view stack.entry.now) at) }
+        ensures same { stack.exit ≡ stack.entry }
+    { word_at(stack, at) };
+    let (unwinder, cache) = (walk.unwinder, walk.cache);
+    turns::walk(
+        session,
+        alloc,
+        unwinder,
+        cache,
+        walk.limit,
+        &mut frames,
+        &mut read_stack,
+    )
+}
+
+/// The address of a frame, by its kind.
+fn frame_address(kind: FrameKind, address: u64) -> FrameAddress
+    requires { kind ≡ Ra → address ≢ 0 }
+    ensures { frame_of result ≡ frame_at kind address }
+{
+    match kind {
+        FrameKind::Ip => FrameAddress::from_instruction_pointer(address),
+        FrameKind::Ra => FrameAddress::from_return_address(address).unwrap(),
+    }
+}
+
+/// The word of a stack at an address, where there is one.
+fn word_at(stack: &Stack, address: u64) -> Result<u64, ()>
+    ensures { result ≡ read_answer (words_of (words_view stack.now) address) }
+{
+    let offset = address.checked_sub(stack.start).ok_or(())?;
+    if offset % 8 != 0 {
+        return Err(());
+    }
+    stack.words.get((offset / 8) as usize).copied().ok_or(())
+}
