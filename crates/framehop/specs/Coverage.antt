@@ -46,6 +46,7 @@ pub record RowMeanings (Rule Registers : Type 0) : Type 0 where
   pub row_attempt : Bool → (values : Option ℕ) → (address_size : ℕ) → (section : Stretch) → Row ℕ → RowAttempt Rule Registers
   pub uncovered : Rule
 
+-- both of them as one
 abbrev pub row_meanings : {Rule Registers : Type 0} → (Bool → Option ℕ → ℕ → Stretch → Row ℕ → RowAttempt Rule Registers) → Rule
     → RowMeanings Rule Registers
 row_meanings row_attempt uncovered = record { row_attempt = row_attempt; uncovered = uncovered }

@@ -41,6 +41,7 @@ section_among bases (EhFrame bytes header) = Some (eh_frame_of bases bytes)
 section_among bases (DebugFrame bytes) = Some (debug_frame_of bases bytes)
 section_among bases NoSections = None
 
+-- the section of call frames that a module is unwound by
 abbrev pub section_of : UnwindData → Option FrameSection
 section_of given = section_among given.bases given.sections
 
@@ -49,6 +50,7 @@ pub record Room : Type 0 where
   pub rows : Limits
   pub values : Option ℕ
 
+-- both of them as one
 abbrev pub room_of : Limits → Option ℕ → Room
 room_of rows values = record { rows = rows; values = values }
 

@@ -62,10 +62,11 @@ abbrev pub with_modules : {Data : Type 0} → ℕ → List (Loaded Data) → Pro
 with_modules unwinder modules progress =
     with_number (slice_set progress.unwinders unwinder (loads_with modules progress.next)) progress
 
--- a new unwinder, and a new cache
+-- a new unwinder, without a module
 abbrev pub turn_of_unwinder : {Data : Type 0} → Progress Data → Turn Data
 turn_of_unwinder progress = with_number (progress.unwinders ++ loads_with [] progress.next ∷ []) progress
 
+-- a new cache, in which no key was kept
 abbrev pub turn_of_cache : {Data : Type 0} → Progress Data → Turn Data
 turn_of_cache progress = writes [] (with_histories (progress.histories ++ no_history ∷ []) progress)
 
@@ -74,11 +75,12 @@ abbrev pub turn_of_clone : {Data : Type 0} → ℕ → Progress Data → Turn Da
 turn_of_clone unwinder progress =
     writes [] (with_unwinders (progress.unwinders ++ unwinder_at progress.unwinders unwinder ∷ []) progress)
 
--- a module more in an unwinder, and one less, if one starts there
+-- a module more in an unwinder
 abbrev pub turn_of_load : {Data : Type 0} → ℕ → Loaded Data → Progress Data → Turn Data
 turn_of_load unwinder module_ progress =
     with_modules unwinder (with_module (λ m. m.start) module_ (modules_in unwinder progress)) progress
 
+-- the last of the modules that start there less, if one does
 abbrev pub turn_of_unload : {Data : Type 0} → ℕ → ℕ → Progress Data → Turn Data
 turn_of_unload unwinder start progress =
     if has_start (λ m. m.start) start (modules_in unwinder progress)
