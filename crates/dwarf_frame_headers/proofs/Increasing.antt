@@ -43,12 +43,12 @@ length-read (row ∷ rows) = ap suc (length-read rows)
 -- ---- increasing starts, row by row
 
 -- all starts are above one
-abbrev AllAbove : ℕ → List (ℕ × Pointer) → Type 0
+abbrev pub AllAbove : ℕ → List (ℕ × Pointer) → Type 0
 AllAbove low [] = Unit {0}
 AllAbove low (row ∷ rows) = (low < row.0) × AllAbove low rows
 
 -- each start is below those behind it
-abbrev Increases : List (ℕ × Pointer) → Type 0
+abbrev pub Increases : List (ℕ × Pointer) → Type 0
 Increases [] = Unit {0}
 Increases (row ∷ rows) = AllAbove row.0 rows × Increases rows
 
@@ -56,7 +56,7 @@ above-more : (low high : ℕ) (rows : List (ℕ × Pointer)) → low < high → 
 above-more low high [] h all = tt
 above-more low high (row ∷ rows) h all = (omega (arith, all.0), above-more low high rows h all.1)
 
-increases : (rows : List (ℕ × Pointer)) → IsStrictlyIncreasing (map (λ row. row.0) rows) → Increases rows
+pub increases : (rows : List (ℕ × Pointer)) → IsStrictlyIncreasing (map (λ row. row.0) rows) → Increases rows
 increases [] up = tt
 increases (row ∷ []) up = (tt, tt)
 increases (row ∷ next ∷ rows) up =

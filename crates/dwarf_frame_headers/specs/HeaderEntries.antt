@@ -17,6 +17,12 @@ use Rattle.dwarf_frame_headers.specs.HeaderTable.{header_row, table_of}
 abbrev pub section_of_header : ℕ → ℕ → Stretch → BaseAddresses → FrameSection
 section_of_header limit address_size bytes bases = frame_section limit eh_frame address_size bytes bases
 
+-- the offset of the FDE in the row for an address
+abbrev pub named_offset : (limit : ℕ) → BaseAddresses → Header → ℕ → Result ℕ Error
+named_offset limit bases header address = do
+  pointer ← header_row limit address (table_of bases.eh_frame_hdr header)
+  offset_of_pointer limit header pointer
+
 -- the FDE in the row for an address, where it contains the address
 abbrev pub fde_by_header : FrameSection → BaseAddresses → Header → ℕ → Result Fde Error
 fde_by_header section bases header address = do

@@ -2,3 +2,4 @@ pub mod Header
 pub mod HeaderTable
 pub mod Halving
 pub mod HeaderEntries
+pub mod Truthful

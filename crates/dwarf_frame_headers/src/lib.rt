@@ -8,6 +8,7 @@ mod iter;
 mod rows;
 pub mod search;
 mod table;
+pub mod truthful;
 
 pub use dwarf_frame_rows::{BaseAddresses, Pointer, SectionBaseAddresses};
 pub use header::{EhFrameHdr, ParsedEhFrameHdr};
