@@ -1,15 +1,8 @@
 pub mod CfiIndexBuild
 pub mod CfiIndexOrder
 pub mod Coverages
-pub mod DirectRows
 pub mod EntryIndex
 pub mod EntryPlaces
-pub mod Evaluations
 pub mod Halves
-pub mod IndexedModules
-pub mod ModulesInOrder
 pub mod RowTrials
-pub mod RowsOfRules
-pub mod RowsX86_64
-pub mod Steps
 pub mod WholeFdes

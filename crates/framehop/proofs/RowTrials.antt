@@ -7,9 +7,9 @@ use Rattle.framehop_unwinder.specs.RulesKept.{rule_of_attempt}
 use Rattle.framehop_unwinder.specs.Trials.{Trial, trial, trial_of_caller, has_wanted, rule_of_result}
 use Rattle.framehop_unwinder.specs.declared.unwinding.UnwindResult.{UnwindResult}
 use Rattle.framehop_unwinder.specs.declared.unwinding.UnwindResult.TheVariants.{ExecRule, Uncacheable}
-use Rattle.framehop.specs.declared.dwarf.DwarfUnwinderError.{DwarfUnwinderError}
-use Rattle.framehop.specs.declared.dwarf.DwarfUnwinderError.TheVariants as why
-use Rattle.framehop.specs.RowAttempt.{RowAttempt, Translates, Gives, RowTrial, attempt_by_row, row_trial, trial_of_row_caller, rule_of_row, rule_answered, failure_of}
+use Rattle.framehop_rows.specs.declared.dwarf.DwarfUnwinderError.{DwarfUnwinderError}
+use Rattle.framehop_rows.specs.declared.dwarf.DwarfUnwinderError.TheVariants as why
+use Rattle.framehop_rows.specs.RowAttempt.{RowAttempt, Translates, Gives, RowTrial, attempt_by_row, row_trial, trial_of_row_caller, rule_of_row, rule_answered, failure_of}
 
 module _ {Rule Registers : Type 0} where
   abbrev answer_part : UnwindResult Rule → RowTrial Rule Registers → UnwindResult Rule

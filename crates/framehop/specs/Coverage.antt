@@ -10,7 +10,7 @@ use Rattle.dwarf_call_frames.specs.Entries.{Fde}
 use Rattle.dwarf_call_frames.specs.EntryPrograms.{fde_row}
 use Rattle.framehop_unwinder.specs.Attempt.{Attempt, Says, SaysNothing}
 use Rattle.framehop.specs.EntryFor.{indexed_entry}
-use Rattle.framehop.specs.RowAttempt.{RowAttempt, attempt_by_row}
+use Rattle.framehop_rows.specs.RowAttempt.{RowAttempt, attempt_by_row}
 
 -- How an address is covered: by a row of an entry, whose section has these bytes and whose addresses have this size; by an
 -- entry that has no row for it; or by no entry.

@@ -6,15 +6,16 @@ ghost use Rattle.framehop_registers.specs.Callback.{OverWords};
 ghost use Rattle.framehop_unwinder.specs.RulesKept.{rule_of_attempt};
 ghost use Rattle.framehop_unwinder.specs.Trials.{trial, has_wanted, rule_of_result, HasValidRule, KeepsUnlessDirect};
 ghost use Rattle.framehop.specs.Coverage.{row_meanings};
-ghost use Rattle.framehop.specs.Memory.{takes_memory, TakesMemory};
+ghost use Rattle.framehop_rows.specs.Memory.{takes_memory, TakesMemory};
 ghost use Rattle.framehop.specs.UnwindData.{AsksExpression, attempt, room_of};
 
 use crate::cache::AllocationPolicy;
-use crate::dwarf::{DwarfUnwindContext, DwarfUnwinding, unwind_frame_by_index};
+use crate::dwarf::{DwarfUnwindContext, unwind_frame_by_index};
 use crate::unwind_data::ModuleUnwindData;
 use dwarf_call_frames::{DebugFrame, EhFrame};
 use dwarf_read_core::{EndianSlice, LittleEndian};
 use framehop_modules::{ModuleSections, SectionBytes};
+use framehop_rows::DwarfUnwinding;
 use framehop_rules::Arch;
 use framehop_unwinder::{UnwindFailure, UnwindResult, Unwinding};
 use std::marker::PhantomData;

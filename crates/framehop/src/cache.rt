@@ -3,7 +3,7 @@
 ghost use Rattle.std.specs.Prelude.{◌≡◌, false, Some};
 ghost use Rattle.dwarf_frame_programs.specs.Execution.{TakesNoMemory};
 ghost use Rattle.dwarf_frame_rows.specs.Effects.{limits_of};
-ghost use Rattle.framehop.specs.Memory.{TakesMemory, takes_memory};
+ghost use Rattle.framehop_rows.specs.Memory.{TakesMemory, takes_memory};
 
 use arrayvec::ArrayVec;
 use dwarf_expressions::{ArrayLike, EvaluationStorage, StoreOnHeap};

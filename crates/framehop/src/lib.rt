@@ -5,11 +5,7 @@ mod arch;
 mod cache;
 mod cfi_index;
 mod dwarf;
-mod error;
-mod evaluation;
 mod unwind_data;
-mod unwind_result;
-mod unwinder;
 pub mod x86_64;
 
 pub use arch::BySections;
@@ -18,9 +14,16 @@ pub use cache::{
     must_not_allocate_takes_no_memory,
 };
 pub use cfi_index::{DwarfCfiIndex, DwarfCfiIndexError, LookUp};
-pub use dwarf::{DwarfUnwindContext, DwarfUnwinderError, DwarfUnwinding};
+pub use dwarf::DwarfUnwindContext;
 pub use dwarf_call_frames::BaseAddresses;
-pub use evaluation::DwarfUnwindRegs;
-pub use framehop_rules::{Arch, Error, FrameAddress, HexNum, UnwindRule};
+pub use framehop_modules::{
+    ExplicitModuleSectionInfo, Generations, GenerationsExhausted, LoadError, ModuleSectionInfo,
+    SectionBytes,
+};
+pub use framehop_rows::{DwarfUnwindRegs, DwarfUnwinderError, DwarfUnwinding};
+pub use framehop_rules::{Arch, CacheStats, Error, FrameAddress, HexNum, UnwindRule};
+pub use framehop_unwinder::{UnwindIterator, Unwinder};
 pub use unwind_data::ModuleUnwindData;
-pub use unwinder::Module;
+
+/// A module that is unwound by its sections, which are values of `D`.
+pub type Module<D> = framehop_unwinder::Module<ModuleUnwindData<D>>;

@@ -1,8 +1,12 @@
-//! Steps over one module, on the worked stack.
+//! Steps over one module by an unwinder and a cache of x86_64, on the worked stack.
 use crate::worked::word_at;
 use dwarf_tests::WORKED;
 use framehop::x86_64::{CacheX86_64, UnwindRegsX86_64, UnwinderX86_64};
-use framehop::{AllocationPolicy, BaseAddresses, FrameAddress, MayAllocateDuringUnwind, Module};
+use framehop::{
+    AllocationPolicy, DwarfUnwindContext, ExplicitModuleSectionInfo, FrameAddress, Generations,
+    MayAllocateDuringUnwind, Module, ModuleUnwindData,
+};
+use std::alloc::Global;
 use std::test::Fail;
 
 /// An FDE that follows the worked section's: a function of sixteen bytes at 0x1010, whose CFA is the
@@ -15,19 +19,29 @@ const BY_EXPRESSION: [u8; 32] = [
 /// The registers ip, sp and bp.
 pub type Registers = (u64, u64, u64);
 
+/// A module at 0x100000 with this section `.eh_frame`, whose relative addresses count from there.
+fn module_with(alloc: Global, section: &[u8]) -> Result<Module<&[u8]>, Fail> {
+    let mut sections = ExplicitModuleSectionInfo::default();
+    sections.eh_frame = Some(section);
+    let name = String::from_str(alloc, "m")?;
+    let unwind_data = ModuleUnwindData::new(alloc, &mut sections)?;
+    Ok(Module::new(alloc, name, 0x100000..0x102000, 0x100000, unwind_data)?)
+}
+
 /// What a step answers in a module with this section, and the registers that it leaves.
 pub fn step<P: AllocationPolicy>(
     rt: &HostRuntime,
     section: &[u8],
     (ip, sp, bp): Registers,
 ) -> Result<(Option<u64>, Registers), Fail> {
-    let section = section.to_vec(rt.alloc())?;
-    let bases = BaseAddresses::default();
-    let range = 0x100000..0x102000;
-    let module = Module::new(rt.alloc(), range, 0x100000, 0, bases, Some(section))?;
-    let mut unwinder = UnwinderX86_64::new(rt.alloc());
-    unwinder.add_module(module)?;
-    let mut cache = CacheX86_64::<P>::new_in(rt.alloc())?;
+    let alloc = rt.alloc();
+    let mut generations = Generations::new();
+    let mut unwinder = UnwinderX86_64::<&[u8], P>::new(alloc, &mut generations)?;
+    let module = module_with(alloc, section)?;
+    if unwinder.add_module(&mut generations, module).is_err() {
+        return Err(Fail::new("not loaded"));
+    }
+    let mut cache = CacheX86_64::<P>::new(alloc, DwarfUnwindContext::new(alloc)?)?;
     let mut regs = UnwindRegsX86_64::new(ip, sp, bp);
     let address = FrameAddress::from_instruction_pointer(ip);
     let mut read = word_at;
@@ -74,12 +88,11 @@ fn a_row_gives_the_caller(rt: HostRuntime) -> Result<(), Fail> {
 
 #[test]
 fn a_module_tells_its_place(rt: HostRuntime) -> Result<(), Fail> {
-    let bases = BaseAddresses::default();
-    let module = Module::new(rt.alloc(), 0x100000..0x102000, 0x0ff000, 0, bases, None)?;
+    let module = module_with(rt.alloc(), &WORKED)?;
     let range = module.avma_range();
     assert_eq!(rt;
-        (range.start, range.end, module.base_avma()),
-        (0x100000, 0x102000, 0x0ff000)
+        (module.name(), range.start, range.end, module.base_avma()),
+        ("m", 0x100000, 0x102000, 0x100000)
     );
     Ok(())
 }

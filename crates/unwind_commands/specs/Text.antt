@@ -14,7 +14,7 @@ use Rattle.framehop_rules.specs.declared.x86_64.unwind_rule.UnwindRuleX86_64.The
 use Rattle.framehop_unwinder.specs.Attempt.{Meanings, meanings}
 use Rattle.dwarf_frame_rows.specs.Effects.{limits_of}
 use Rattle.framehop.specs.Coverage.{row_meanings}
-use Rattle.framehop.specs.RowAttemptX86_64.{row_attempt}
+use Rattle.framehop_rows.specs.RowAttemptX86_64.{row_attempt}
 use Rattle.framehop.specs.UnwindData.{UnwindData, attempt, room_of}
 use Rattle.unwind_commands.specs.Sections.{data_stated}
 use Rattle.framehop_unwinder.specs.Frames.{Frame, first_frame, later_frame}

@@ -1,0 +1,44 @@
+-- What the parts of a row say of values (DWARF 5, 6.4.1), by how numbers are added and expressions have values.
+use Rattle.std.specs.Prelude.{ℕ, ℤ, Option, Some, None, option_and_then, option_map}
+use Rattle.framehop_registers.specs.Callback.{Words}
+use Rattle.dwarf_frame_rows.specs.declared.expression.UnwindExpression.{UnwindExpression}
+use Rattle.dwarf_frame_rows.specs.declared.rules.CfaRule.{CfaRule}
+use Rattle.dwarf_frame_rows.specs.declared.rules.CfaRule.TheVariants as cfa
+use Rattle.dwarf_frame_rows.specs.declared.rules.RegisterRule.{RegisterRule}
+use Rattle.dwarf_frame_rows.specs.declared.rules.RegisterRule.TheVariants as rule
+use Rattle.framehop_rows.specs.declared.evaluation.Found.{Found}
+use Rattle.framehop_rows.specs.declared.evaluation.Found.TheVariants.{Value, Word}
+use Rattle.framehop_rows.specs.ExpressionValue.{RegisterValues}
+
+-- what a row is worked out by: how a base and an offset are added, the registers that have values, and the values of expressions
+pub record Sources : Type 0 where
+  pub sum : ℕ → ℤ → Option ℕ
+  pub registers : RegisterValues
+  pub value : UnwindExpression ℕ → Option ℕ
+
+-- the canonical frame address
+abbrev pub cfa_by : Sources → CfaRule ℕ → Option ℕ
+cfa_by sources (cfa.RegisterAndOffset register offset) =
+    option_and_then (λ base. sources.sum base offset) (sources.registers register)
+cfa_by sources (cfa.Expression expression) = sources.value expression
+
+-- where a column's value is found, by the CFA and the value that the column's register has in the frame
+abbrev pub found_by : Sources → (cfa own : ℕ) → RegisterRule ℕ → Option Found
+found_by sources cfa own rule.Undefined = None
+found_by sources cfa own rule.SameValue = Some (Value own)
+found_by sources cfa own (rule.Offset offset) = option_map Word (sources.sum cfa offset)
+found_by sources cfa own (rule.ValOffset offset) = option_map Value (sources.sum cfa offset)
+found_by sources cfa own (rule.Register register) = option_map Value (sources.registers register)
+found_by sources cfa own (rule.Expression expression) = option_map Word (sources.value expression)
+found_by sources cfa own (rule.ValExpression expression) = option_map Value (sources.value expression)
+found_by sources cfa own rule.Architectural = None
+found_by sources cfa own (rule.Constant n) = None
+
+-- what is found: a number by itself, or the word at an address, if there is one
+abbrev pub found_in : Words → Found → Option ℕ
+found_in words (Value value) = Some value
+found_in words (Word at) = words at
+
+-- what a column gives
+abbrev pub column_by : Sources → Words → (cfa own : ℕ) → RegisterRule ℕ → Option ℕ
+column_by sources words cfa own column = option_and_then (found_in words) (found_by sources cfa own column)

@@ -1,0 +1,10 @@
+pub mod Columns
+pub mod DirectRow
+pub mod DirectViews
+pub mod ExpressionValue
+pub mod Memory
+pub mod RowAnswer
+pub mod RowAttempt
+pub mod RowAttemptX86_64
+pub mod RowViews
+pub mod ScaledRow

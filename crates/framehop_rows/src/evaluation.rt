@@ -1,0 +1,287 @@
+//! The values of a row's CFA and columns, where no unwind rule says the row (DWARF 5, 6.4.1).
+
+ghost use Rattle.std.specs.Prelude.{◌≡◌, ◌≢◌, ℕ, true, None, Some, Option, IfErr, IfOk, option_and_then, option_map};
+ghost use Rattle.dwarf_constants.specs.declared.common.Register.{Register};
+ghost use Rattle.dwarf_expressions.specs.Evaluation.{Ready, state_reached, first_machine};
+ghost use Rattle.dwarf_readers.specs.InitialLength.{is_size};
+ghost use Rattle.framehop_registers.specs.Callback.{OverWords};
+ghost use Rattle.dwarf_frame_programs.specs.InstructionViews.{expression_as};
+ghost use Rattle.dwarf_frame_programs.specs.StateViews.{cfa_as, rule_as};
+ghost use Rattle.framehop_rows.specs.Columns.{cfa_by, column_by, found_by, found_in};
+ghost use Rattle.framehop_rows.specs.DirectRow.{direct_sources, sum_of, value_in, word_below};
+ghost use Rattle.framehop_rows.specs.ExpressionValue.{program_of, value_from};
+ghost use Rattle.framehop_rows.specs.Memory.{IsColumnExpression, IsExpression, TakesMemory};
+
+use dwarf_constants::{Encoding, Error, Register};
+use dwarf_expressions::{Evaluation, EvaluationResult, EvaluationStorage, Expression, Value};
+use dwarf_frame_rows::{_UnwindSectionPrivate, CfaRule, RegisterRule, UnwindExpression};
+use dwarf_readers::Reader;
+use std::alloc::{AllocError, Global};
+
+/// The registers of a frame, by their DWARF numbers.
+pub trait DwarfUnwindRegs {
+    /// The registers that have values.
+    ghost value_of: { Self → Register → Option ℕ };
+
+    /// The value of a register, if it has one.
+    fn get(&self, register: Register) -> Option<u64>
+        ensures { result ≡ value_of self.now register };
+}
+
+/// A base plus an offset in bytes. `None` where the base or the sum isn't from 0 to below 2^63.
+fn offset_sum(base: u64, offset: i64) -> Option<u64>
+    ensures { result ≡ sum_of base offset }
+{
+    let base = i64::try_from(base).ok()?;
+    u64::try_from(base.checked_add(offset)?).ok()
+}
+
+/// Whether this is the size of an address in bytes.
+fn is_address_size(size: u8) -> bool
+    ensures { result ≡ is_size size }
+{
+    size == 1 || size == 2 || size == 4 || size == 8
+}
+
+/// What is left of an evaluation that was refused: no value, or want of memory.
+fn refused_value(error: Error) -> Result<Option<u64>, AllocError>
+    ensures none { IfOk result (λ value. value ≡ None) }
+    ensures other { IfOk result (λ value. error ≢ Error.OutOfMemory) }
+    ensures memory { IfErr result (λ _. error ≡ Error.OutOfMemory) }
+{
+    match error {
+        Error::OutOfMemory => Err(AllocError),
+        _ => Ok(None),
+    }
+}
+
+/// The value of an expression, each register that it asks for having its value in the frame. There
+/// is none where the evaluation is refused, or asks for a register that has none.
+fn eval_expression<S: EvaluationStorage, R: Reader, G: DwarfUnwindRegs>(
+    alloc: Global,
+    expression: Expression<R>,
+    encoding: Encoding,
+    regs: &G,
+) -> Result<Option<u64>, AllocError>
+    requires { is_size encoding.address_size ≡ true }
+    ensures value { let p = program_of S.Stack.capacity encoding.address_size (R.stretch expression.0) in
+        IfOk result (λ value. value
+        ≡ value_from p (G.value_of regs.now) (state_reached p (Ready first_machine))) }
+    ensures memory { IfErr result (λ _. TakesMemory S.Stack.is_made_in_place S.Stack.capacity) }
+{
+    let Ok(mut evaluation) = Evaluation::<R, S>::new_in(alloc, expression, encoding) else {
+        return Err(AllocError);
+    };
+    let mut answer = evaluation.evaluate();
+    'requests: loop {
+        match answer {
+            Ok(EvaluationResult::Complete) => return Ok(evaluation.value_result()),
+            Ok(EvaluationResult::RequiresRegister { register }) => {
+                let Some(value) = regs.get(register) else {
+                    return Ok(None);
+                };
+                answer = evaluation.resume_with_register(Value::Generic(value));
+            }
+            Err(error) => return refused_value(error),
+        }
+    }
+}
+
+/// The value of an expression of a section, each register that it asks for having its value in the
+/// frame. There is none where its bytes aren't there, or where `eval_expression` has none.
+fn eval_expression_in<
+    S: EvaluationStorage,
+    R: Reader,
+    Section: _UnwindSectionPrivate<R>,
+    G: DwarfUnwindRegs,
+>(
+    alloc: Global,
+    section: &Section,
+    expression: UnwindExpression<R::Offset>,
+    encoding: Encoding,
+    regs: &G,
+) -> Result<Option<u64>, AllocError>
+    ensures value { IfOk result (λ value. value
+        ≡ value_in S.Stack.capacity encoding.address_size
+        (R.stretch (Section.reader section.now)) (G.value_of regs.now)
+        (expression_as R.Offset.value expression)) }
+    ensures memory { IfErr result (λ _. TakesMemory S.Stack.is_made_in_place S.Stack.capacity) }
+{
+    if !is_address_size(encoding.address_size) {
+        return Ok(None);
+    }
+    match expression.get(section) {
+        Ok(expression) => eval_expression::<S, R, G>(alloc, expression, encoding, regs),
+        Err(_) => Ok(None),
+    }
+}
+
+/// A register's value plus an offset in bytes, where it has a value.
+fn offset_value<G: DwarfUnwindRegs>(register: Register, offset: i64, regs: &G) -> Option<u64>
+    ensures { result ≡ option_and_then (λ base. sum_of base offset) (G.value_of regs.now register) }
+{
+    offset_sum(regs.get(register)?, offset)
+}
+
+/// The canonical frame address, where it has a value. Only the values of an expression may want
+/// memory.
+pub(crate) fn eval_cfa_rule<
+    S: EvaluationStorage,
+    R: Reader,
+    Section: _UnwindSectionPrivate<R>,
+    G: DwarfUnwindRegs,
+>(
+    alloc: Global,
+    section: &Section,
+    rule: CfaRule<R::Offset>,
+    encoding: Encoding,
+    regs: &G,
+) -> Result<Option<u64>, AllocError>
+    ensures value { IfOk result (λ cfa. cfa
+        ≡ cfa_by (direct_sources S.Stack.capacity encoding.address_size
+        (R.stretch (Section.reader section.now)) (G.value_of regs.now))
+        (cfa_as R.Offset.value rule)) }
+    ensures expression { IfErr result (λ _. IsExpression (cfa_as R.Offset.value rule)) }
+    ensures memory { IfErr result (λ _. TakesMemory S.Stack.is_made_in_place S.Stack.capacity) }
+{
+    match rule {
+        CfaRule::RegisterAndOffset { register, offset } => Ok(offset_value(register, offset, regs)),
+        CfaRule::Expression(expression) => {
+            eval_expression_in::<S, R, Section, G>(alloc, section, expression, encoding, regs)
+        }
+    }
+}
+
+/// Where the value of a column is found.
+#[derive(Debug, Clone, Copy, PartialEq, Eq)]
+pub(crate) enum Found {
+    /// It is this number.
+    Value(u64),
+    /// It is the word of the stack at this address.
+    Word(u64),
+}
+
+/// Where the value of a column is found, if it has one, at a CFA; `own` is the value that the
+/// column's register has in the frame. Only the values of an expression may want memory.
+fn find_column<
+    S: EvaluationStorage,
+    R: Reader,
+    Section: _UnwindSectionPrivate<R>,
+    G: DwarfUnwindRegs,
+>(
+    alloc: Global,
+    section: &Section,
+    rule: RegisterRule<R::Offset>,
+    cfa: u64,
+    own: u64,
+    encoding: Encoding,
+    regs: &G,
+) -> Result<Option<Found>, AllocError>
+    ensures value { IfOk result (λ found. found
+        ≡ found_by (direct_sources S.Stack.capacity encoding.address_size
+        (R.stretch (Section.reader section.now)) (G.value_of regs.now)) cfa own
+        (rule_as R.Offset.value rule)) }
+    ensures expression { IfErr result (λ _.
+        IsColumnExpression (Some (rule_as R.Offset.value rule))) }
+    ensures memory { IfErr result (λ _. TakesMemory S.Stack.is_made_in_place S.Stack.capacity) }
+{
+    match rule {
+        RegisterRule::Undefined | RegisterRule::Architectural | RegisterRule::Constant(_) => {
+            Ok(None)
+        }
+        RegisterRule::SameValue => Ok(Some(Found::Value(own))),
+        RegisterRule::Offset(offset) => Ok(offset_sum(cfa, offset).map(Found::Word)),
+        RegisterRule::ValOffset(offset) => Ok(offset_sum(cfa, offset).map(Found::Value)),
+        RegisterRule::Register(register) => Ok(regs.get(register).map(Found::Value)),
+        RegisterRule::Expression(expression) => {
+            let at = eval_expression_in::<S, R, Section, G>(
+                alloc, section, expression, encoding, regs,
+            )?;
+            Ok(at.map(Found::Word))
+        }
+        RegisterRule::ValExpression(expression) => {
+            let value = eval_expression_in::<S, R, Section, G>(
+                alloc, section, expression, encoding, regs,
+            )?;
+            Ok(value.map(Found::Value))
+        }
+    }
+}
+
+/// What is found, if the word can be read.
+fn read_found<F: FnMut(u64) -> Result<u64, ()>>(found: Found, read_stack: &mut F) -> Option<u64>
+    requires { F.IsAlwaysCallable read_stack.old }
+    ensures callable { F.IsAlwaysCallable read_stack.new }
+    ensures value { OverWords F.step read_stack.old read_stack.new (λ words.
+        result ≡ found_in words found) }
+{
+    match found {
+        Found::Value(value) => Some(value),
+        Found::Word(at) => read_at(read_stack, at),
+    }
+}
+
+/// What a column gives at a CFA, where it gives a value; `own` is the value that the column's
+/// register has in the frame. Only the values of an expression may want memory.
+pub(crate) fn eval_register_rule<
+    S: EvaluationStorage,
+    R: Reader,
+    Section: _UnwindSectionPrivate<R>,
+    G: DwarfUnwindRegs,
+    F: FnMut(u64) -> Result<u64, ()>,
+>(
+    alloc: Global,
+    section: &Section,
+    rule: Option<RegisterRule<R::Offset>>,
+    cfa: u64,
+    own: u64,
+    encoding: Encoding,
+    regs: &G,
+    read_stack: &mut F,
+) -> Result<Option<u64>, AllocError>
+    requires { F.IsAlwaysCallable read_stack.old }
+    ensures callable { F.IsAlwaysCallable read_stack.new }
+    ensures value { OverWords F.step read_stack.old read_stack.new (λ words.
+        IfOk result (λ value. value
+        ≡ option_and_then (column_by (direct_sources S.Stack.capacity encoding.address_size
+        (R.stretch (Section.reader section.now)) (G.value_of regs.now)) words cfa own)
+        (option_map (rule_as R.Offset.value) rule))) }
+    ensures expression { IfErr result (λ _.
+        IsColumnExpression (option_map (rule_as R.Offset.value) rule)) }
+    ensures memory { IfErr result (λ _. TakesMemory S.Stack.is_made_in_place S.Stack.capacity) }
+{
+    let Some(rule) = rule else {
+        return Ok(None);
+    };
+    match find_column::<S, R, Section, G>(alloc, section, rule, cfa, own, encoding, regs)? {
+        Some(found) => Ok(read_found(found, read_stack)),
+        None => Ok(None),
+    }
+}
+
+/// The word below a CFA, if there is one.
+pub(crate) fn read_below<F: FnMut(u64) -> Result<u64, ()>>(
+    cfa: u64,
+    read_stack: &mut F,
+) -> Option<u64>
+    requires { F.IsAlwaysCallable read_stack.old }
+    ensures callable { F.IsAlwaysCallable read_stack.new }
+    ensures value { OverWords F.step read_stack.old read_stack.new (λ words.
+        result ≡ word_below words cfa) }
+{
+    let at = cfa.checked_sub(8)?;
+    read_at(read_stack, at)
+}
+
+/// The word of the stack at an address, if it can be read.
+fn read_at<F: FnMut(u64) -> Result<u64, ()>>(read_stack: &mut F, at: u64) -> Option<u64>
+    requires { F.IsAlwaysCallable read_stack.old }
+    ensures callable { F.IsAlwaysCallable read_stack.new }
+    ensures value { OverWords F.step read_stack.old read_stack.new (λ words.
+        result ≡ words at) }
+{
+    match read_stack(at) {
+        Ok(word) => Some(word),
+        Err(()) => None,
+    }
+}

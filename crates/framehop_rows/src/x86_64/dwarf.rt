@@ -1,0 +1,340 @@
+//! The rows of x86_64: as unwind rules, or evaluated.
+
+ghost use Rattle.std.specs.Prelude.{◌≡◌, ◌≢◌, ℕ, Bool, option_and_then, option_map, Err, IfErr, IfSome, IfOk};
+ghost use Rattle.framehop_registers.specs.Callback.{Words, OverWords};
+ghost use Rattle.framehop_rows.specs.DirectRow.{direct_return_address, direct_refusal, direct_answer, frame_sources};
+ghost use Rattle.framehop_rows.specs.DirectViews.{caller_shown};
+ghost use Rattle.framehop_rows.specs.Memory.{HasExpressionPart, IsColumnExpression, TakesMemory};
+ghost use Rattle.dwarf_frame_programs.specs.StateViews.{rule_as};
+ghost use Rattle.framehop_rules.specs.Outcome.{Answers, Caller};
+ghost use Rattle.framehop_rules.specs.RuleMeaning.{rule_meaning, IsValid};
+ghost use Rattle.framehop_rows.specs.RowAnswer.{row_answer, value_of};
+ghost use Rattle.framehop_rows.specs.declared.dwarf.DwarfUnwinderError.TheVariants.{OutOfMemory};
+ghost use Rattle.framehop_rows.specs.ScaledRow.{Parts, eighth_of, as_u16, as_i16, raised_sp, restored_bp, from_sp, from_bp, from_return_address, scaled_rule};
+ghost use Rattle.framehop_rows.specs.RowViews.{parts_shown};
+
+use crate::dwarf::{DwarfUnwinderError, DwarfUnwinding};
+use crate::evaluation::{DwarfUnwindRegs, eval_cfa_rule, eval_register_rule, read_below};
+use dwarf_constants::{Encoding, Register, X86_64};
+use dwarf_expressions::{ArrayLike, EvaluationStorage};
+use dwarf_frame_rows::{
+    _UnwindSectionPrivate, CfaRule, RegisterRule, RuledRegister, UnwindTableRow,
+};
+use dwarf_readers::{Reader, ReaderOffset};
+use framehop_rules::x86_64::{ArchX86_64, UnwindRegsX86_64, UnwindRuleX86_64};
+use framehop_unwinder::UnwindResult;
+use std::alloc::{AllocError, Global};
+
+/// RSP, RBP, and RIP by the return address's column (System V ABI for AMD64, figure 3.36).
+impl DwarfUnwindRegs for UnwindRegsX86_64 {
+    ghost value_of = { value_of };
+
+    fn get(&self, register: Register) -> Option<u64> {
+        match register {
+            X86_64::RA => Some(self.ip()),
+            X86_64::RSP => Some(self.sp()),
+            X86_64::RBP => Some(self.bp()),
+            _ => None,
+        }
+    }
+}
+
+/// The eighth of a multiple of 8.
+fn exact_eighth(offset: i64) -> Option<i64>
+    ensures { result ≡ eighth_of offset }
+{
+    if offset % 8 == 0 {
+        Some(offset / 8)
+    } else {
+        None
+    }
+}
+
+/// An offset in bytes as a number of words without a sign.
+fn unsigned_words(offset: i64) -> Option<u16>
+    ensures { result ≡ option_and_then as_u16 (eighth_of offset) }
+{
+    u16::try_from(exact_eighth(offset)?).ok()
+}
+
+/// An offset in bytes as a number of words with a sign.
+fn signed_words(offset: i64) -> Option<i16>
+    ensures { result ≡ option_and_then as_i16 (eighth_of offset) }
+{
+    i16::try_from(exact_eighth(offset)?).ok()
+}
+
+/// The rule for a CFA that is RSP plus an offset, where RBP stays.
+fn rule_that_raises(offset: i64) -> Option<UnwindRuleX86_64>
+    ensures rule { result ≡ raised_sp offset }
+    ensures valid { IfSome result IsValid }
+{
+    let sp_offset_by_8 = unsigned_words(offset)?;
+    Some(UnwindRuleX86_64::OffsetSp { sp_offset_by_8 })
+}
+
+/// The rule for a CFA that is RSP plus an offset, where RBP is stored at another offset from the CFA.
+fn rule_that_restores(offset: i64, stored: i64) -> Option<UnwindRuleX86_64>
+    ensures rule { result ≡ restored_bp offset stored }
+    ensures valid { IfSome result IsValid }
+{
+    let sp_offset_by_8 = unsigned_words(offset)?;
+    let bp_storage_offset_from_sp_by_8 = signed_words(offset.checked_add(stored)?)?;
+    Some(UnwindRuleX86_64::OffsetSpAndRestoreBp {
+        sp_offset_by_8,
+        bp_storage_offset_from_sp_by_8,
+    })
+}
+
+/// The rule for a CFA that is RSP plus an offset.
+fn rule_from_sp<T: Copy>(offset: i64, bp: Option<RegisterRule<T>>) -> Option<UnwindRuleX86_64>
+    ensures rule { result ≡ from_sp offset bp }
+    ensures valid { IfSome result IsValid }
+{
+    match bp {
+        None | Some(RegisterRule::Undefined | RegisterRule::SameValue) => rule_that_raises(offset),
+        Some(RegisterRule::Offset(stored)) => rule_that_restores(offset, stored),
+        Some(_) => None,
+    }
+}
+
+/// The rule for a CFA that is RBP plus an offset.
+fn rule_from_bp<T: Copy>(offset: i64, bp: Option<RegisterRule<T>>) -> Option<UnwindRuleX86_64>
+    ensures rule { result ≡ from_bp offset bp }
+    ensures valid { IfSome result IsValid }
+{
+    match bp {
+        Some(RegisterRule::Offset(-16)) if offset == 16 => Some(UnwindRuleX86_64::UseFramePointer),
+        _ => None,
+    }
+}
+
+/// The rule that says a row exactly, from the row's CFA and its columns of RBP and of the return
+/// address, if one does. Offsets of a rule are in words, and an offset that is no multiple of 8 is
+/// never rounded.
+fn translate_into_unwind_rule<T: Copy>(
+    cfa: CfaRule<T>,
+    bp: Option<RegisterRule<T>>,
+    ra: Option<RegisterRule<T>>,
+) -> Option<UnwindRuleX86_64>
+    ensures rule { result ≡ from_return_address cfa bp ra }
+    ensures valid { IfSome result IsValid }
+{
+    match ra {
+        None | Some(RegisterRule::Undefined) => return Some(UnwindRuleX86_64::EndOfStack),
+        Some(RegisterRule::Offset(-8)) => {}
+        Some(_) => return None,
+    }
+    match cfa {
+        CfaRule::RegisterAndOffset {
+            register: X86_64::RSP,
+            offset,
+        } => rule_from_sp(offset, bp),
+        CfaRule::RegisterAndOffset {
+            register: X86_64::RBP,
+            offset,
+        } => rule_from_bp(offset, bp),
+        CfaRule::RegisterAndOffset { .. } | CfaRule::Expression(_) => None,
+    }
+}
+
+/// The rule that says a row exactly, if one does.
+pub(super) fn rule_for_row<
+    T: ReaderOffset,
+    Rules: ArrayLike<Item = RuledRegister<RegisterRule<T>>>,
+>(row: &UnwindTableRow<T, Rules>) -> Option<UnwindRuleX86_64>
+    ensures rule { result ≡ scaled_rule (parts_shown T.value row.now) }
+    ensures valid { IfSome result IsValid }
+{
+    translate_into_unwind_rule(
+        *row.cfa(),
+        row.register(X86_64::RBP),
+        row.register(X86_64::RA),
+    )
+}
+
+/// The caller of a frame, as a row gives it.
+#[derive(Clone, Copy)]
+pub(super) struct DirectCaller {
+    pub(super) return_address: u64,
+    pub(super) sp: u64,
+    pub(super) bp: u64,
+}
+
+/// The return address at a CFA: what its column gives, or else the word below the CFA. Only the values
+/// of an expression may want memory.
+fn eval_return_address<
+    S: EvaluationStorage,
+    R: Reader,
+    Section: _UnwindSectionPrivate<R>,
+    F: FnMut(u64) -> Result<u64, ()>,
+>(
+    alloc: Global,
+    section: &Section,
+    rule: Option<RegisterRule<R::Offset>>,
+    cfa: u64,
+    encoding: Encoding,
+    regs: &UnwindRegsX86_64,
+    read_stack: &mut F,
+) -> Result<Option<u64>, AllocError>
+    requires { F.IsAlwaysCallable read_stack.old }
+    ensures callable { F.IsAlwaysCallable read_stack.new }
+    ensures value { OverWords F.step read_stack.old read_stack.new (λ words.
+        IfOk result (λ value. value ≡ direct_return_address
+        (frame_sources S.Stack.capacity encoding.address_size
+        (R.stretch (Section.reader section.now)) regs.now)
+        regs.now words cfa (option_map (rule_as R.Offset.value) rule))) }
+    ensures expression { IfErr result (λ _.
+        IsColumnExpression (option_map (rule_as R.Offset.value) rule)) }
+    ensures memory { IfErr result (λ _. TakesMemory S.Stack.is_made_in_place S.Stack.capacity) }
+{
+    let ip = regs.ip();
+    let stored = eval_register_rule::<S, R, Section, _, F>(
+        alloc, section, rule, cfa, ip, encoding, regs, read_stack,
+    )?;
+    match stored {
+        Some(return_address) => Ok(Some(return_address)),
+        None => Ok(read_below(cfa, read_stack)),
+    }
+}
+
+/// Why a step to this CFA and return address is refused, if it is.
+fn refusal(
+    cfa: u64,
+    return_address: u64,
+    is_first_frame: bool,
+    regs: &UnwindRegsX86_64,
+) -> Option<DwarfUnwinderError>
+    ensures { result ≡ direct_refusal is_first_frame regs.now cfa return_address }
+{
+    if cfa == regs.sp() && return_address == regs.ip() {
+        return Some(DwarfUnwinderError::DidNotAdvance);
+    }
+    if !is_first_frame && cfa < regs.sp() {
+        return Some(DwarfUnwinderError::StackPointerMovedBackwards);
+    }
+    None
+}
+
+/// The caller that a row gives. A column of RBP without a value keeps RBP.
+pub(super) fn eval_row<
+    S: EvaluationStorage,
+    R: Reader,
+    Section: _UnwindSectionPrivate<R>,
+    Rules: ArrayLike<Item = RuledRegister<RegisterRule<R::Offset>>>,
+    F: FnMut(u64) -> Result<u64, ()>,
+>(
+    alloc: Global,
+    section: &Section,
+    row: &UnwindTableRow<R::Offset, Rules>,
+    encoding: Encoding,
+    is_first_frame: bool,
+    regs: &UnwindRegsX86_64,
+    read_stack: &mut F,
+) -> Result<DirectCaller, DwarfUnwinderError>
+    requires { F.IsAlwaysCallable read_stack.old }
+    ensures callable { F.IsAlwaysCallable read_stack.new }
+    ensures caller { OverWords F.step read_stack.old read_stack.new (λ words.
+        result ≢ Err OutOfMemory → caller_shown regs.now result
+        ≡ direct_answer S.Stack.capacity encoding.address_size is_first_frame regs.now words
+        (R.stretch (Section.reader section.now)) (parts_shown R.Offset.value row.now)) }
+    ensures expression { result ≡ Err OutOfMemory
+        → HasExpressionPart (parts_shown R.Offset.value row.now) }
+    ensures memory { result ≡ Err OutOfMemory
+        → TakesMemory S.Stack.is_made_in_place S.Stack.capacity }
+{
+    let Some(cfa) = eval_cfa_rule::<S, R, Section, _>(alloc, section, *row.cfa(), encoding, regs)?
+    else {
+        return Err(DwarfUnwinderError::CouldNotRecoverCfa);
+    };
+    let bp = regs.bp();
+    let stored_bp = eval_register_rule::<S, R, Section, _, F>(
+        alloc,
+        section,
+        row.register(X86_64::RBP),
+        cfa,
+        bp,
+        encoding,
+        regs,
+        read_stack,
+    )?;
+    let ra = row.register(X86_64::RA);
+    let Some(return_address) = eval_return_address::<S, R, Section, F>(
+        alloc, section, ra, cfa, encoding, regs, read_stack,
+    )?
+    else {
+        return Err(DwarfUnwinderError::CouldNotRecoverReturnAddress);
+    };
+    match refusal(cfa, return_address, is_first_frame, regs) {
+        Some(refusal) => Err(refusal),
+        None => Ok(DirectCaller {
+            return_address,
+            sp: cfa,
+            bp: stored_bp.unwrap_or(bp),
+        }),
+    }
+}
+
+impl DwarfUnwinding for ArchX86_64 {
+    ghost use Rattle.framehop_rows.specs.RowAttemptX86_64.{row_attempt, MeetsExpression};
+    ghost use Rattle.framehop_rules.specs.declared.x86_64.unwind_rule.UnwindRuleX86_64.TheVariants.{JustReturnIfFirstFrameOtherwiseFp};
+
+    ghost row_attempt = { row_attempt };
+
+    ghost MeetsExpression = { MeetsExpression };
+
+    ghost uncovered = { JustReturnIfFirstFrameOtherwiseFp };
+
+    fn unwind_frame<
+        S: EvaluationStorage,
+        R: Reader,
+        Section: _UnwindSectionPrivate<R>,
+        Rules: ArrayLike<Item = RuledRegister<RegisterRule<R::Offset>>>,
+        F: FnMut(u64) -> Result<u64, ()>,
+    >(
+        alloc: Global,
+        section: &Section,
+        row: &UnwindTableRow<R::Offset, Rules>,
+        encoding: Encoding,
+        is_first_frame: bool,
+        regs: &mut UnwindRegsX86_64,
+        read_stack: &mut F,
+    ) -> Result<UnwindResult<UnwindRuleX86_64>, DwarfUnwinderError> {
+        if let Some(rule) = rule_for_row(row) {
+            return Ok(UnwindResult::ExecRule(rule));
+        }
+        match eval_row::<S, R, Section, Rules, F>(
+            alloc,
+            section,
+            row,
+            encoding,
+            is_first_frame,
+            regs,
+            read_stack,
+        ) {
+            Ok(caller) => {
+                regs.set_ip(caller.return_address);
+                regs.set_sp(caller.sp);
+                regs.set_bp(caller.bp);
+                Ok(UnwindResult::Uncacheable(caller.return_address))
+            }
+            Err(error) => Err(error),
+        }
+    }
+
+    fn rule_if_uncovered_by_fde() -> UnwindRuleX86_64 {
+        UnwindRuleX86_64::JustReturnIfFirstFrameOtherwiseFp
+    }
+}
+
+/// A law of scaled rows: where a rule says a row exactly and the rule answers, its answer is the
+/// row's, for all registers and all stacks. RIP, RSP and RBP of the caller are those that the row's
+/// CFA and columns give, so that a row that is translated needs no evaluation of its own. The
+/// function does nothing when the program runs.
+pub fn rule_answers_as_its_row()
+    ensures { (parts : Parts ℕ) (rule : UnwindRuleX86_64) (first : Bool) (registers : UnwindRegsX86_64)
+        (words : Words) (caller : Caller UnwindRegsX86_64)
+        → scaled_rule parts ≡ Some rule
+        → rule_meaning rule first registers words ≡ Answers caller
+        → row_answer registers words parts ≡ Some caller }
+{}

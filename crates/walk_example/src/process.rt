@@ -1,0 +1,56 @@
+//! What a profiler knows of a process: a library, the stack of a thread, and the registers of two samples of it.
+
+use anyhow::Result;
+use framehop::{ExplicitModuleSectionInfo, Module, ModuleUnwindData};
+use std::alloc::Global;
+
+/// The registers of a thread that was stopped.
+pub struct Sample {
+    pub ip: u64,
+    pub sp: u64,
+    pub bp: u64,
+}
+
+/// A function of sixteen bytes at 0x101000: before it stores the caller's frame pointer, and behind.
+pub static SAMPLES: [Sample; 2] = [
+    Sample {
+        ip: 0x101000,
+        sp: 0x10,
+        bp: 0x20,
+    },
+    Sample {
+        ip: 0x101004,
+        sp: 0x18,
+        bp: 0x20,
+    },
+];
+
+/// The library's section `.eh_frame`: a CIE and an FDE for the function at 0x1000, as the section calls it.
+static EH_FRAME: [u8; 56] = [
+    0x10, 0, 0, 0, 0, 0, 0, 0, 1, 0, 1, 0x78, 0x10, 0x0c, 7, 8, 0x90, 1, 0, 0, 0x1c, 0, 0, 0, 0x18,
+    0, 0, 0, 0, 0x10, 0, 0, 0, 0, 0, 0, 0x10, 0, 0, 0, 0, 0, 0, 0, 0x41, 0x0e, 0x10, 0x86, 2, 0x43,
+    0x0d, 6, 0, 0, 0, 0,
+];
+
+/// The library, which is loaded at 0x100000.
+pub fn library(alloc: Global) -> Result<Module<&'static [u8]>> {
+    let mut sections = ExplicitModuleSectionInfo::default();
+    sections.eh_frame = Some(EH_FRAME.as_slice());
+    let unwind_data = ModuleUnwindData::new(alloc, &mut sections)?;
+    let name = String::from_str(alloc, "library")?;
+    Ok(Module::new(alloc, name, 0x100000..0x102000, 0x100000, unwind_data)?)
+}
+
+/// The words of the stack, from address 0 on: the frames' pointers lie at 0x20 and 0x40, the last at 0x70.
+static STACK: [u64; 16] = [
+    0x1, 0x2, 0x100300, 0x20, 0x40, 0x100200, 0x5, 0x6, 0x70, 0x100100, 0x7, 0x8, 0x9, 0xa, 0x0,
+    0x0,
+];
+
+/// The word of the stack at an address. `Err` where there is none.
+pub fn word_at(address: u64) -> std::result::Result<u64, ()> {
+    if address % 8 != 0 {
+        return Err(());
+    }
+    STACK.get((address / 8) as usize).copied().ok_or(())
+}

@@ -1,0 +1,122 @@
+//! How long the making of a module and walks through its code take, by the clock of the machine.
+
+use crate::work::{Walk, Work};
+use anyhow::{Result, bail};
+use framehop::x86_64::{CacheX86_64, UnwindRegsX86_64, UnwinderX86_64};
+use framehop::{
+    DwarfUnwindContext, ExplicitModuleSectionInfo, Generations, Module, ModuleUnwindData, Unwinder,
+};
+use std::alloc::Global;
+use std::time::{Clock, Duration, Instant};
+
+/// The least times of all rounds.
+#[derive(Debug, Clone, Copy)]
+pub struct Times {
+    pub module: Duration,
+    pub warm: Duration,
+    pub fresh: Duration,
+    pub with_making: Duration,
+}
+
+/// The module with the section that is timed.
+fn module_of(alloc: Global, work: &Work) -> Result<Module<&[u8]>> {
+    let mut sections = ExplicitModuleSectionInfo::default();
+    sections.text_svma = Some(work.text..work.text);
+    sections.eh_frame_svma = Some(work.eh_frame..work.eh_frame);
+    sections.eh_frame = Some(work.section.as_slice());
+    let unwind_data = ModuleUnwindData::new(alloc, &mut sections)?;
+    let name = String::from_str(alloc, "timed")?;
+    Ok(Module::new(alloc, name, work.base..work.end, work.base, unwind_data)?)
+}
+
+/// An unwinder with the module.
+fn unwinder_of(alloc: Global, work: &Work) -> Result<UnwinderX86_64<&[u8]>> {
+    let mut generations = Generations::new();
+    let mut unwinder = UnwinderX86_64::new(alloc, &mut generations)?;
+    let module = module_of(alloc, work)?;
+    if unwinder.add_module(&mut generations, module).is_err() {
+        bail!("the module was not loaded");
+    }
+    Ok(unwinder)
+}
+
+fn cache(alloc: Global) -> Result<CacheX86_64> {
+    Ok(CacheX86_64::new(alloc, DwarfUnwindContext::new(alloc)?)?)
+}
+
+/// How many frames a walk gives.
+fn frames_of(unwinder: &UnwinderX86_64<&[u8]>, cache: &mut CacheX86_64, walk: &Walk) -> u32 {
+    let regs = UnwindRegsX86_64::new(walk.pc, walk.sp, walk.bp);
+    let mut read_stack = |at: u64| -> std::result::Result<u64, ()> { walk.stack.word(at) };
+    let mut frames = unwinder.iter_frames(walk.pc, regs, cache, &mut read_stack);
+    let mut count: u32 = 0;
+    for _ in 0..walk.limit {
+        match frames.next() {
+            Ok(Some(_)) => count = count.wrapping_add(1),
+            _ => break,
+        }
+    }
+    count
+}
+
+/// How many frames all walks give through one cache.
+fn frames_of_each(
+    unwinder: &UnwinderX86_64<&[u8]>,
+    cache: &mut CacheX86_64,
+    walks: &[Walk],
+) -> u32 {
+    let mut count: u32 = 0;
+    for walk in walks {
+        count = count.wrapping_add(frames_of(unwinder, cache, walk));
+    }
+    count
+}
+
+/// How many frames all walks give.
+pub fn frames_of_all(alloc: Global, work: &Work) -> Result<u32> {
+    let unwinder = unwinder_of(alloc, work)?;
+    Ok(frames_of_each(&unwinder, &mut cache(alloc)?, &work.walks))
+}
+
+/// How long all walks with a new cache each take, without and with the making of the caches.
+fn fresh_walks(
+    clock: &impl Clock,
+    alloc: Global,
+    unwinder: &UnwinderX86_64<&[u8]>,
+    walks: &[Walk],
+) -> Result<(Duration, Duration)> {
+    let mut fresh = Duration::ZERO;
+    let all = Instant::now(clock)?;
+    for walk in walks {
+        let mut cache = cache(alloc)?;
+        let start = Instant::now(clock)?;
+        frames_of(unwinder, &mut cache, walk);
+        fresh = fresh.saturating_add(start.elapsed(clock)?);
+    }
+    Ok((fresh, all.elapsed(clock)?))
+}
+
+/// Makes the module and all walks as often as there are rounds.
+pub fn time(clock: &impl Clock, alloc: Global, work: &Work) -> Result<Times> {
+    let mut times = Times {
+        module: Duration::MAX,
+        warm: Duration::MAX,
+        fresh: Duration::MAX,
+        with_making: Duration::MAX,
+    };
+    let unwinder = unwinder_of(alloc, work)?;
+    let mut cache = cache(alloc)?;
+    frames_of_each(&unwinder, &mut cache, &work.walks);
+    for _ in 0..work.rounds {
+        let start = Instant::now(clock)?;
+        let _module = module_of(alloc, work)?;
+        times.module = times.module.min(start.elapsed(clock)?);
+        let start = Instant::now(clock)?;
+        frames_of_each(&unwinder, &mut cache, &work.walks);
+        times.warm = times.warm.min(start.elapsed(clock)?);
+        let (fresh, with_making) = fresh_walks(clock, alloc, &unwinder, &work.walks)?;
+        times.fresh = times.fresh.min(fresh);
+        times.with_making = times.with_making.min(with_making);
+    }
+    Ok(times)
+}

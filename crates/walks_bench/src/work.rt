@@ -1,0 +1,93 @@
+//! What is timed: a module's section, and walks from first frames over stacks.
+
+use anyhow::Result;
+use dwarf_readers::{EndianSlice, LittleEndian, Reader};
+use std::alloc::Global;
+
+/// Words of a stack, eight bytes each, the first of them at the start.
+#[derive(Drop)]
+pub struct Stack {
+    start: u64,
+    words: Vec<u64>,
+}
+
+impl Stack {
+    /// The word at an address. `Err` where there is none.
+    pub fn word(&self, address: u64) -> std::result::Result<u64, ()> {
+        let offset = address.checked_sub(self.start).ok_or(())?;
+        if offset % 8 != 0 {
+            return Err(());
+        }
+        self.words.get((offset / 8) as usize).copied().ok_or(())
+    }
+}
+
+/// A walk from a first frame, of at most so many frames.
+#[derive(Drop)]
+pub struct Walk {
+    pub pc: u64,
+    pub sp: u64,
+    pub bp: u64,
+    pub limit: u32,
+    pub stack: Stack,
+}
+
+/// What is timed, and how often. The module's code begins at the base, which its sections call 0.
+#[derive(Drop)]
+pub struct Work {
+    pub rounds: u32,
+    pub base: u64,
+    pub end: u64,
+    pub text: u64,
+    pub eh_frame: u64,
+    pub walks: Vec<Walk>,
+    pub section: Vec<u8>,
+}
+
+/// Reads what is to be timed: the rounds, the module's base and its end, and the addresses of `.text` and `.eh_frame` as the
+/// module's sections have them; the number of walks, and of each the instruction pointer, the stack pointer, the frame
+/// pointer, the most frames, and its stack's start, number of words, and words; and then the bytes of `.eh_frame`. Rounds,
+/// counts and limits have four bytes, all else eight, the low byte first.
+pub fn read_work(alloc: Global, bytes: &[u8]) -> Result<Work> {
+    let mut reader = EndianSlice::new(bytes, LittleEndian);
+    let rounds = reader.read_u32()?;
+    let base = reader.read_u64()?;
+    let end = reader.read_u64()?;
+    let text = reader.read_u64()?;
+    let eh_frame = reader.read_u64()?;
+    let count = reader.read_u32()?;
+    let mut walks = Vec::new(alloc);
+    for _ in 0..count {
+        walks.push(read_walk(alloc, &mut reader)?)?;
+    }
+    let section = reader.slice().to_vec(alloc)?;
+    Ok(Work {
+        rounds,
+        base,
+        end,
+        text,
+        eh_frame,
+        walks,
+        section,
+    })
+}
+
+fn read_walk(alloc: Global, reader: &mut EndianSlice<'_, LittleEndian>) -> Result<Walk> {
+    Ok(Walk {
+        pc: reader.read_u64()?,
+        sp: reader.read_u64()?,
+        bp: reader.read_u64()?,
+        limit: reader.read_u32()?,
+        stack: read_stack(alloc, reader)?,
+    })
+}
+
+fn read_stack(alloc: Global, reader: &mut EndianSlice<'_, LittleEndian>) -> Result<Stack> {
+    let start = reader.read_u64()?;
+    let count = reader.read_u32()?;
+    let mut words = Vec::new(alloc);
+    for _ in 0..count {
+        words.push(reader.read_u64()?)?;
+    }
+    Ok(Stack { start, words })
+}
