@@ -44,6 +44,7 @@ module _ {Rule Registers : Type 0} where
   no-caller why.LookupAddressOverflow registers unwanted = refl
   no-caller why.CouldNotRecoverCfa registers unwanted = refl
   no-caller why.CouldNotRecoverReturnAddress registers unwanted = refl
+  no-caller why.CouldNotRecoverFramePointer registers unwanted = refl
   no-caller why.DidNotAdvance registers unwanted = refl
   no-caller why.StackPointerMovedBackwards registers unwanted = refl
   no-caller why.OutOfMemory registers unwanted = cc
@@ -75,6 +76,7 @@ module _ {Rule Registers : Type 0} where
   failure-kept (Gives caller) fallback why.LookupAddressOverflow is = refl
   failure-kept (Gives caller) fallback why.CouldNotRecoverCfa is = refl
   failure-kept (Gives caller) fallback why.CouldNotRecoverReturnAddress is = refl
+  failure-kept (Gives caller) fallback why.CouldNotRecoverFramePointer is = refl
   failure-kept (Gives caller) fallback why.DidNotAdvance is = refl
   failure-kept (Gives caller) fallback why.StackPointerMovedBackwards is = refl
   failure-kept (Gives caller) fallback why.OutOfMemory is = refl
@@ -85,6 +87,7 @@ not-for-memory why.OutOfMemory unwanted = absurd cc
 not-for-memory why.LookupAddressOverflow unwanted = λ h. cc
 not-for-memory why.CouldNotRecoverCfa unwanted = λ h. cc
 not-for-memory why.CouldNotRecoverReturnAddress unwanted = λ h. cc
+not-for-memory why.CouldNotRecoverFramePointer unwanted = λ h. cc
 not-for-memory why.DidNotAdvance unwanted = λ h. cc
 not-for-memory why.StackPointerMovedBackwards unwanted = λ h. cc
 
@@ -94,5 +97,6 @@ for-memory why.OutOfMemory wanted = refl
 for-memory why.LookupAddressOverflow wanted = cc
 for-memory why.CouldNotRecoverCfa wanted = cc
 for-memory why.CouldNotRecoverReturnAddress wanted = cc
+for-memory why.CouldNotRecoverFramePointer wanted = cc
 for-memory why.DidNotAdvance wanted = cc
 for-memory why.StackPointerMovedBackwards wanted = cc

@@ -118,6 +118,7 @@ fn failure_of(error: DwarfUnwinderError) -> UnwindFailure
         DwarfUnwinderError::LookupAddressOverflow
         | DwarfUnwinderError::CouldNotRecoverCfa
         | DwarfUnwinderError::CouldNotRecoverReturnAddress
+        | DwarfUnwinderError::CouldNotRecoverFramePointer
         | DwarfUnwinderError::DidNotAdvance
         | DwarfUnwinderError::StackPointerMovedBackwards => UnwindFailure::OfFrame,
     }

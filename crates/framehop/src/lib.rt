@@ -1,6 +1,7 @@
 //! A stack unwinder: modules with their unwind sections, and the step from a frame to its caller.
 #![tactic(auto)]
 
+pub mod aarch64;
 mod arch;
 mod cache;
 mod cfi_index;

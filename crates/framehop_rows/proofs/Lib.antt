@@ -1,4 +1,7 @@
 pub mod DirectRows
+pub mod DirectRowsAarch64
 pub mod Evaluations
 pub mod RowsOfRules
-pub mod RowsX86_64
+pub mod RowsOfRulesAarch64
+pub mod RuleParts
+pub mod TakenParts

@@ -1,5 +1,5 @@
 -- Where a rule says a row exactly, the numbers of its answer are the row's.
-use Rattle.std.proofs.Common.{◌≡◌, ℕ, ◌+◌, ◌*◌, ◌<◌, ◌^◌, refl, sym, ap, subst, arith, Option, Some, None, Bool, true, false}
+use Rattle.std.proofs.Common.{◌≡◌, ℕ, ◌+◌, ◌*◌, ◌<◌, ◌^◌, refl, sym, subst, arith, Option, Some, None, Bool, true, false}
 use Rattle.std.specs.Prelude.{ℤ, pos, negsuc, ◌+ℤ◌, ◌-ℤ◌, ◌*ℤ◌, option_and_then, option_map, unwrap_or, nat_le, ◌==◌, ◌&&◌, if◌then◌else◌}
 use Rattle.std.proofs.lemmas.Int.{ints}
 use Rattle.std.specs.Ordering.{int_eq}
@@ -10,7 +10,6 @@ use Rattle.framehop_registers.specs.Callback.{Words}
 use Rattle.framehop_rules.specs.Outcome.{Outcome, Ends, Refuses, Answers, Caller, and_then, address, word}
 use Rattle.framehop_registers.specs.Registers.{ip_of, sp_of, bp_of}
 use Rattle.framehop_rules.specs.RuleMeaning.{raised_frame, by_frame_pointer, stored_bp, restored_frame, return_address, StackFrame, caller_registers, returned_caller, rule_meaning}
-use Rattle.framehop_registers.specs.declared.error.Error.{Error}
 use Rattle.framehop_registers.specs.declared.error.Error.TheVariants.{DidNotAdvance, FramepointerUnwindingMovedBackwards}
 use Rattle.framehop_rules.specs.declared.x86_64.unwind_rule.UnwindRuleX86_64.{UnwindRuleX86_64}
 use Rattle.framehop_rules.specs.declared.x86_64.unwind_rule.UnwindRuleX86_64.TheVariants.{EndOfStack, OffsetSp, OffsetSpAndRestoreBp, UseFramePointer}
@@ -20,43 +19,14 @@ use Rattle.dwarf_frame_rows.specs.declared.rules.CfaRule.TheVariants.{RegisterAn
 use Rattle.dwarf_frame_rows.specs.declared.rules.RegisterRule.{RegisterRule}
 use Rattle.dwarf_frame_rows.specs.declared.rules.RegisterRule.TheVariants as rule
 use Rattle.framehop_rows.specs.Columns.{column_by}
-use Rattle.framehop_rows.specs.ScaledRow.{Parts, eighth_of, as_u16, as_i16, scaled_rule, from_return_address, from_register, from_sp, from_bp, raised_sp, restored_bp}
-use Rattle.framehop_rows.specs.RowAnswer.{value_of, in_range, plus, whole_sources, caller_at, row_answer}
+use Rattle.framehop_rows.specs.RowAnswer.{value_of, caller_at, row_answer}
+use Rattle.framehop_rows.specs.RowSources.{plus, whole_sources}
+use Rattle.framehop_rows.specs.RuleFields.{words_of, signed_words_of}
+use Rattle.framehop_rows.specs.ScaledRow.{scaled_rule, from_return_address, from_register, from_sp, from_bp, raised_sp}
+use Rattle.framehop_rows.specs.declared.parts.Parts.{Parts}
+use Rattle.framehop_rows.proofs.RuleParts.{and_then-gives, address-gives, in_range-is, in_range-fits, in_range-at, past-test, word-gives, option_map-some, and_then-some, by_test, both-true, words-is, signed_words-is}
 
 -- ---- what a part of a rule gives
-
--- a first part that gives, and then the second
-and_then-gives : {A B : Type 0} (x : Outcome A) (f : A → Outcome B) (c : B) → and_then x f ≡ Answers c → (v : A) × (x ≡ Answers v) × (f v ≡ Answers c)
-and_then-gives Ends f c h = cc
-and_then-gives (Refuses e) f c h = cc
-and_then-gives (Answers v) f c h = (v, refl, h)
-
--- an address that is given is in range
-address-gives : (z : ℤ) (a : ℕ) → address z ≡ Answers a → in_range z ≡ Some a
-address-gives (pos n) a h = grind arith
-address-gives (negsuc n) a h = cc
-
--- and it is that number
-in_range-is : (z : ℤ) (a : ℕ) → in_range z ≡ Some a → z ≡ pos a
-in_range-is (pos n) a h = grind arith
-in_range-is (negsuc n) a h = cc
-
-in_range-fits : (z : ℤ) (a : ℕ) → in_range z ≡ Some a → a < 2 ^ 64
-in_range-fits (pos n) a h = grind arith
-in_range-fits (negsuc n) a h = cc
-
-in_range-at : (a : ℕ) → a < 2 ^ 64 → in_range (pos a) ≡ Some a
-in_range-at a h = grind arith
-
--- a part that gives has passed its test
-past-test : {A : Type 0} (b : Bool) (e : Error) (x : Outcome A) (v : A) → (if b then Refuses e else x) ≡ Answers v → x ≡ Answers v
-past-test true e x v h = cc
-past-test false e x v h = h
-
--- a word that is given is there
-word-gives : (there : Option ℕ) (at to : ℕ) → word (λ _. there) at ≡ Answers to → there ≡ Some to
-word-gives (Some value) at to h = cc
-word-gives None at to h = cc
 
 -- a word that is read as a return address
 answered : (there : Option ℕ) (at : ℕ) (loops : ℕ → Bool) (to : ℕ)
@@ -65,7 +35,7 @@ answered (Some found) at loops to h = grind arith
 answered None at loops to h = cc
 
 -- the return address that is given is what the column at the CFA less 8 gives
-return-gives : (registers : UnwindRegsX86_64) (words : Words) (sp to : ℕ) → return_address registers words sp ≡ Answers to → column_by (whole_sources registers) words sp (ip_of registers) (rule.Offset (negsuc 7)) ≡ Some to
+return-gives : (registers : UnwindRegsX86_64) (words : Words) (sp to : ℕ) → return_address registers words sp ≡ Answers to → column_by (whole_sources (value_of registers)) words sp (ip_of registers) (rule.Offset (negsuc 7)) ≡ Some to
 return-gives registers words sp to h =
     let f : ℕ → Outcome ℕ = λ at. and_then (word words at) (λ found. if found == 0 then Ends else if (sp == sp_of registers) && (found == ip_of registers) then Refuses DidNotAdvance else Answers found) in
     let (at, placed, read) = and_then-gives (address (pos sp -ℤ pos 8)) f to h in
@@ -74,53 +44,21 @@ return-gives registers words sp to h =
 
 -- the caller that is given is the row's at its CFA, where the row has the frame pointer that the rule moved to
 returned-gives : (registers : UnwindRegsX86_64) (words : Words) (cfa : CfaRule ℕ) (bp : Option (RegisterRule ℕ)) (sp new_bp : ℕ) (caller : Caller UnwindRegsX86_64)
-    → unwrap_or (option_and_then (column_by (whole_sources registers) words sp (bp_of registers)) bp) (bp_of registers) ≡ new_bp
+    → unwrap_or (option_and_then (column_by (whole_sources (value_of registers)) words sp (bp_of registers)) bp) (bp_of registers) ≡ new_bp
     → returned_caller registers words (sp, new_bp) ≡ Answers caller
-    → caller_at registers words (record { cfa = cfa; bp = bp; ra = Some (rule.Offset (negsuc 7)) }) sp ≡ Some caller
+    → caller_at registers words (record { cfa = cfa; fp = bp; ra = Some (rule.Offset (negsuc 7)) }) sp ≡ Some caller
 returned-gives registers words cfa bp sp new_bp caller column h =
     let f : ℕ → Outcome (Caller UnwindRegsX86_64) = λ to. Answers (record { return_address = to; registers = caller_registers registers to sp new_bp }) in
     let (to, read, given) = and_then-gives (return_address registers words sp) f caller h in
     rw (return-gives registers words sp to read, column) (let e : f to ≡ Answers caller = given in cc)
-
--- ---- what the parts of a row say
-
-option_map-some : {A B : Type 0} (f : A → B) (o : Option A) (c : B) → option_map f o ≡ Some c → (v : A) × (o ≡ Some v) × (f v ≡ c)
-option_map-some f None c h = cc
-option_map-some f (Some v) c h = (v, refl, cc)
-
-and_then-some : {A B : Type 0} (f : A → Option B) (o : Option A) (c : B) → option_and_then f o ≡ Some c → (v : A) × (o ≡ Some v) × (f v ≡ Some c)
-and_then-some f None c h = cc
-and_then-some f (Some v) c h = (v, refl, h)
-
--- what either side of a test that is passed gives
-by_test : {A P : Type 0} (b : Bool) (x y : Option A) (c : A) → (b ≡ true → x ≡ Some c → P) → (b ≡ false → y ≡ Some c → P) → (if b then x else y) ≡ Some c → P
-by_test true x y c passes fails h = passes refl h
-by_test false x y c passes fails h = fails refl h
-
-both-true : (a b : Bool) → (a && b) ≡ true → (a ≡ true) × (b ≡ true)
-both-true true b h = (refl, h)
-both-true false b h = cc
-
--- eight times the eighth of a number is the number
-eighth-is : (n q : ℤ) → eighth_of n ≡ Some q → n ≡ pos 8 *ℤ q
-eighth-is (pos a) q h = grind arith
-eighth-is (negsuc a) q h = grind arith
-
-u16-is : (n : ℤ) (x : ℕ) → as_u16 n ≡ Some x → n ≡ pos x
-u16-is (pos a) x h = grind arith
-u16-is (negsuc a) x h = cc
-
-i16-is : (n x : ℤ) → as_i16 n ≡ Some x → n ≡ x
-i16-is (pos a) x h = grind arith
-i16-is (negsuc a) x h = grind arith
 
 -- ---- the law, for each form of a row
 
 -- a row whose CFA counts from a register of this value
 pub row-gives : (registers : UnwindRegsX86_64) (words : Words) (register : Register) (offset : ℤ) (bp : Option (RegisterRule ℕ)) (base sp : ℕ) (caller : Caller UnwindRegsX86_64)
     → value_of registers register ≡ Some base → plus base offset ≡ Some sp
-    → caller_at registers words (record { cfa = RegisterAndOffset register offset; bp = bp; ra = Some (rule.Offset (negsuc 7)) }) sp ≡ Some caller
-    → row_answer registers words (record { cfa = RegisterAndOffset register offset; bp = bp; ra = Some (rule.Offset (negsuc 7)) }) ≡ Some caller
+    → caller_at registers words (record { cfa = RegisterAndOffset register offset; fp = bp; ra = Some (rule.Offset (negsuc 7)) }) sp ≡ Some caller
+    → row_answer registers words (record { cfa = RegisterAndOffset register offset; fp = bp; ra = Some (rule.Offset (negsuc 7)) }) ≡ Some caller
 row-gives registers words register offset bp base sp caller known placed at_cfa = rw (known, placed) at_cfa
 
 value-at-7 : (registers : UnwindRegsX86_64) (register : Register) → register.0 ≡ 7 → value_of registers register ≡ Some (sp_of registers)
@@ -136,13 +74,13 @@ moved-back registers words moved to caller moves_to h = let e : to ≡ moved = c
 
 -- the column of RBP says that it stays
 abbrev Stays : UnwindRegsX86_64 → Words → Option (RegisterRule ℕ) → Type 0
-Stays registers words bp = (sp : ℕ) → unwrap_or (option_and_then (column_by (whole_sources registers) words sp (bp_of registers)) bp) (bp_of registers) ≡ bp_of registers
+Stays registers words bp = (sp : ℕ) → unwrap_or (option_and_then (column_by (whole_sources (value_of registers)) words sp (bp_of registers)) bp) (bp_of registers) ≡ bp_of registers
 
 -- the stack pointer goes up, the frame pointer stays
 raised-gives : (registers : UnwindRegsX86_64) (words : Words) (register : Register) (offset : ℤ) (bp : Option (RegisterRule ℕ)) (x : ℕ) (caller : Caller UnwindRegsX86_64)
     → register.0 ≡ 7 → offset ≡ pos (8 * x) → Stays registers words bp
     → and_then (raised_frame registers (8 * x)) (returned_caller registers words) ≡ Answers caller
-    → row_answer registers words (record { cfa = RegisterAndOffset register offset; bp = bp; ra = Some (rule.Offset (negsuc 7)) }) ≡ Some caller
+    → row_answer registers words (record { cfa = RegisterAndOffset register offset; fp = bp; ra = Some (rule.Offset (negsuc 7)) }) ≡ Some caller
 raised-gives registers words register offset bp x caller at_7 is stays h =
     let f : ℕ → Outcome StackFrame = λ sp. Answers (sp, bp_of registers) in
     let (moved, up, back) = and_then-gives (raised_frame registers (8 * x)) (returned_caller registers words) caller h in
@@ -160,7 +98,7 @@ stored-is first registers None at bp h = grind arith
 restored-gives : (first : Bool) (registers : UnwindRegsX86_64) (words : Words) (register : Register) (offset stored : ℤ) (x : ℕ) (y : ℤ) (caller : Caller UnwindRegsX86_64)
     → register.0 ≡ 7 → offset ≡ pos (8 * x) → offset +ℤ stored ≡ pos 8 *ℤ y
     → and_then (restored_frame first registers words (8 * x) (pos 8 *ℤ y)) (returned_caller registers words) ≡ Answers caller
-    → row_answer registers words (record { cfa = RegisterAndOffset register offset; bp = Some (rule.Offset stored); ra = Some (rule.Offset (negsuc 7)) }) ≡ Some caller
+    → row_answer registers words (record { cfa = RegisterAndOffset register offset; fp = Some (rule.Offset stored); ra = Some (rule.Offset (negsuc 7)) }) ≡ Some caller
 restored-gives first registers words register offset stored x y caller at_7 is both h =
     let f : ℕ → ℕ → Outcome StackFrame = λ sp bp. Answers (sp, bp) in
     let k : ℕ → ℕ → Outcome StackFrame = λ sp at. and_then (stored_bp first registers words at) (f sp) in
@@ -181,7 +119,7 @@ restored-gives first registers words register offset stored x y caller at_7 is b
 followed-gives : (registers : UnwindRegsX86_64) (words : Words) (register : Register) (caller : Caller UnwindRegsX86_64)
     → register.0 ≡ 6
     → and_then (by_frame_pointer registers words) (returned_caller registers words) ≡ Answers caller
-    → row_answer registers words (record { cfa = RegisterAndOffset register (pos 16); bp = Some (rule.Offset (negsuc 15)); ra = Some (rule.Offset (negsuc 7)) }) ≡ Some caller
+    → row_answer registers words (record { cfa = RegisterAndOffset register (pos 16); fp = Some (rule.Offset (negsuc 15)); ra = Some (rule.Offset (negsuc 7)) }) ≡ Some caller
 followed-gives registers words register caller at_6 h =
     let f : ℕ → ℕ → Outcome StackFrame = λ sp bp. Answers (sp, bp) in
     let k : ℕ → Outcome StackFrame = λ sp. if nat_le sp (sp_of registers) then Refuses FramepointerUnwindingMovedBackwards else and_then (word words (bp_of registers)) (f sp) in
@@ -203,23 +141,16 @@ followed-gives registers words register caller at_6 h =
 
 -- the row of a CFA at an offset from a register
 abbrev row_at : Register → ℤ → Option (RegisterRule ℕ) → Parts ℕ
-row_at register offset bp = record { cfa = RegisterAndOffset register offset; bp = bp; ra = Some (rule.Offset (negsuc 7)) }
-
--- the offset in bytes is eight times that in words
-words-of : (offset : ℤ) (x : ℕ) → option_and_then as_u16 (eighth_of offset) ≡ Some x → offset ≡ pos (8 * x)
-words-of offset x h = let (q, eighth, fits) = and_then-some as_u16 (eighth_of offset) x h in rw (eighth-is offset q eighth, u16-is q x fits) refl
-
-signed-words-of : (offset y : ℤ) → option_and_then as_i16 (eighth_of offset) ≡ Some y → offset ≡ pos 8 *ℤ y
-signed-words-of offset y h = let (q, eighth, fits) = and_then-some as_i16 (eighth_of offset) y h in rw (eighth-is offset q eighth, i16-is q y fits) refl
+row_at register offset bp = record { cfa = RegisterAndOffset register offset; fp = bp; ra = Some (rule.Offset (negsuc 7)) }
 
 -- for a CFA that counts from the stack pointer, where the frame pointer stays
 law-raised : (first : Bool) (registers : UnwindRegsX86_64) (words : Words) (register : Register) (offset : ℤ) (bp : Option (RegisterRule ℕ)) (how : UnwindRuleX86_64) (caller : Caller UnwindRegsX86_64)
     → register.0 ≡ 7 → Stays registers words bp → raised_sp offset ≡ Some how → rule_meaning how first registers words ≡ Answers caller
     → row_answer registers words (row_at register offset bp) ≡ Some caller
 law-raised first registers words register offset bp how caller at_7 stays says h =
-    let (x, scaled, is) = option_map-some OffsetSp (option_and_then as_u16 (eighth_of offset)) how says in
+    let (x, scaled, is) = option_map-some OffsetSp (words_of offset) how says in
     let P : UnwindRuleX86_64 → Type 0 = λ r. rule_meaning r first registers words ≡ Answers caller in
-    raised-gives registers words register offset bp x caller at_7 (words-of offset x scaled) stays (subst P (sym is) h)
+    raised-gives registers words register offset bp x caller at_7 (words-is offset x scaled) stays (subst P (sym is) h)
 
 -- for a CFA that counts from the stack pointer
 law-sp : (first : Bool) (registers : UnwindRegsX86_64) (words : Words) (register : Register) (offset : ℤ) (bp : Option (RegisterRule ℕ)) (how : UnwindRuleX86_64) (caller : Caller UnwindRegsX86_64)
@@ -235,11 +166,11 @@ law-sp first registers words register offset (Some (rule.ValExpression expressio
 law-sp first registers words register offset (Some rule.Architectural) how caller at_7 says h = cc
 law-sp first registers words register offset (Some (rule.Constant n)) how caller at_7 says h = cc
 law-sp first registers words register offset (Some (rule.Offset stored)) how caller at_7 says h =
-    let f : ℕ → Option UnwindRuleX86_64 = λ x. option_map (OffsetSpAndRestoreBp x) (option_and_then as_i16 (eighth_of (offset +ℤ stored))) in
-    let (x, scaled, on) = and_then-some f (option_and_then as_u16 (eighth_of offset)) how says in
-    let (y, both, is) = option_map-some (OffsetSpAndRestoreBp x) (option_and_then as_i16 (eighth_of (offset +ℤ stored))) how on in
+    let f : ℕ → Option UnwindRuleX86_64 = λ x. option_map (OffsetSpAndRestoreBp x) (signed_words_of (offset +ℤ stored)) in
+    let (x, scaled, on) = and_then-some f (words_of offset) how says in
+    let (y, both, is) = option_map-some (OffsetSpAndRestoreBp x) (signed_words_of (offset +ℤ stored)) how on in
     let P : UnwindRuleX86_64 → Type 0 = λ r. rule_meaning r first registers words ≡ Answers caller in
-    restored-gives first registers words register offset stored x y caller at_7 (words-of offset x scaled) (signed-words-of (offset +ℤ stored) y both) (subst P (sym is) h)
+    restored-gives first registers words register offset stored x y caller at_7 (words-is offset x scaled) (signed_words-is (offset +ℤ stored) y both) (subst P (sym is) h)
 
 -- the one row from the frame pointer that a rule says
 from_bp-is : (offset stored : ℤ) (how : UnwindRuleX86_64) → from_bp {T = ℕ} offset (Some (rule.Offset stored)) ≡ Some how → (offset ≡ pos 16) × (stored ≡ negsuc 15) × (how ≡ UseFramePointer)
@@ -293,7 +224,7 @@ law-end how first registers words caller says h =
 -- by the parts of the row
 law-by_parts : (cfa : CfaRule ℕ) (bp ra : Option (RegisterRule ℕ)) (how : UnwindRuleX86_64) (first : Bool) (registers : UnwindRegsX86_64) (words : Words) (caller : Caller UnwindRegsX86_64)
     → from_return_address cfa bp ra ≡ Some how → rule_meaning how first registers words ≡ Answers caller
-    → row_answer registers words (record { cfa = cfa; bp = bp; ra = ra }) ≡ Some caller
+    → row_answer registers words (record { cfa = cfa; fp = bp; ra = ra }) ≡ Some caller
 law-by_parts cfa bp None how first registers words caller says h = absurd (law-end how first registers words caller says h)
 law-by_parts cfa bp (Some rule.Undefined) how first registers words caller says h = absurd (law-end how first registers words caller says h)
 law-by_parts cfa bp (Some rule.SameValue) how first registers words caller says h = cc
@@ -321,4 +252,4 @@ law-by_parts (RegisterAndOffset register offset) bp (Some (rule.Offset stored)) 
 -- where a rule says a row, and answers a caller, the row gives that caller
 pub law : (parts : Parts ℕ) (how : UnwindRuleX86_64) (first : Bool) (registers : UnwindRegsX86_64) (words : Words) (caller : Caller UnwindRegsX86_64)
     → scaled_rule parts ≡ Some how → rule_meaning how first registers words ≡ Answers caller → row_answer registers words parts ≡ Some caller
-law parts how first registers words caller says h = law-by_parts parts.cfa parts.bp parts.ra how first registers words caller says h
+law parts how first registers words caller says h = law-by_parts parts.cfa parts.fp parts.ra how first registers words caller says h

@@ -1,5 +1,5 @@
 -- What a row that no rule says exactly comes to, in whole numbers (DWARF 5, 6.4.1), on x86_64.
-use Rattle.std.specs.Prelude.{ℕ, ◌-◌, ◌^◌, ℤ, pos, negsuc, ◌+ℤ◌, Bool, not, ◌&&◌, Option, Some, None, option_and_then, unwrap_or, Result, Ok, Err, ◌==◌, nat_lt, if◌then◌else◌}
+use Rattle.std.specs.Prelude.{ℕ, Bool, not, ◌&&◌, Option, Some, None, option_and_then, unwrap_or, Result, Ok, Err, ◌==◌, nat_lt, if◌then◌else◌}
 use Rattle.std.specs.Option.{option_or}
 use Rattle.framehop_registers.specs.Callback.{Words}
 use Rattle.framehop_rules.specs.Outcome.{Caller}
@@ -7,43 +7,17 @@ use Rattle.framehop_registers.specs.Registers.{ip_of, sp_of, bp_of}
 use Rattle.framehop_rules.specs.RuleMeaning.{caller_registers}
 use Rattle.framehop_registers.specs.declared.x86_64.unwindregs.UnwindRegsX86_64.{UnwindRegsX86_64}
 use Rattle.dwarf_readers.specs.Place.{Stretch}
-use Rattle.dwarf_frame_rows.specs.declared.expression.UnwindExpression.{UnwindExpression}
 use Rattle.dwarf_frame_rows.specs.declared.rules.RegisterRule.{RegisterRule}
-use Rattle.dwarf_frame_rows.specs.Expressions.{expression_in}
 use Rattle.framehop_rows.specs.declared.dwarf.DwarfUnwinderError.{DwarfUnwinderError}
 use Rattle.framehop_rows.specs.declared.dwarf.DwarfUnwinderError.TheVariants.{CouldNotRecoverCfa, CouldNotRecoverReturnAddress, DidNotAdvance, StackPointerMovedBackwards}
 use Rattle.framehop_rows.specs.Columns.{Sources, cfa_by, column_by}
-use Rattle.framehop_rows.specs.ExpressionValue.{RegisterValues, expression_value}
 use Rattle.framehop_rows.specs.RowAnswer.{value_of}
-use Rattle.framehop_rows.specs.ScaledRow.{Parts}
-
--- a number from 0 to below 2^63
-abbrev pub in_half : ℤ → Option ℕ
-in_half (pos n) = if nat_lt n (2 ^ 63) then Some n else None
-in_half (negsuc n) = None
-
--- a base plus an offset, both the base and the sum from 0 to below 2^63
-abbrev pub sum_of : ℕ → ℤ → Option ℕ
-sum_of base offset = if nat_lt base (2 ^ 63) then in_half (pos base +ℤ offset) else None
-
--- the value of an expression of a section, by the limit of an expression's values, the size of an address and the registers that
--- have values
-abbrev pub value_in : (limit : Option ℕ) → (address_size : ℕ) → Stretch → RegisterValues → UnwindExpression ℕ → Option ℕ
-value_in limit address_size section registers expression =
-    expression_value limit address_size registers (expression_in section expression.offset expression.length)
-
--- what a row of a section is worked out by
-abbrev pub direct_sources : (limit : Option ℕ) → (address_size : ℕ) → Stretch → RegisterValues → Sources
-direct_sources limit address_size section registers =
-    record { sum = sum_of; registers = registers; value = value_in limit address_size section registers }
+use Rattle.framehop_rows.specs.RowSources.{direct_sources, word_below}
+use Rattle.framehop_rows.specs.declared.parts.Parts.{Parts}
 
 -- what a row of a section is worked out by in a frame
 abbrev pub frame_sources : (limit : Option ℕ) → (address_size : ℕ) → Stretch → UnwindRegsX86_64 → Sources
 frame_sources limit address_size section registers = direct_sources limit address_size section (value_of registers)
-
--- the word below the CFA
-abbrev pub word_below : Words → ℕ → Option ℕ
-word_below words cfa = if nat_lt cfa 8 then None else words (cfa - 8)
 
 -- the return address: what its column gives, or else the word below the CFA
 abbrev pub direct_return_address : Sources → UnwindRegsX86_64 → Words → ℕ → Option (RegisterRule ℕ) → Option ℕ
@@ -76,7 +50,7 @@ direct_by_return_address sources first registers words parts cfa None = Err Coul
 direct_by_return_address sources first registers words parts cfa (Some to) =
     caller_unless (direct_refusal first registers cfa to) (record {
       return_address = to;
-      registers = caller_registers registers to cfa (direct_bp sources registers words cfa parts.bp);
+      registers = caller_registers registers to cfa (direct_bp sources registers words cfa parts.fp);
     })
 
 -- the caller by its CFA

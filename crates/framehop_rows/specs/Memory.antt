@@ -4,7 +4,7 @@ use Rattle.dwarf_frame_rows.specs.declared.rules.CfaRule.{CfaRule}
 use Rattle.dwarf_frame_rows.specs.declared.rules.CfaRule.TheVariants as cfa
 use Rattle.dwarf_frame_rows.specs.declared.rules.RegisterRule.{RegisterRule}
 use Rattle.dwarf_frame_rows.specs.declared.rules.RegisterRule.TheVariants as rule
-use Rattle.framehop_rows.specs.ScaledRow.{Parts}
+use Rattle.framehop_rows.specs.declared.parts.Parts.{Parts}
 
 -- A stack of values takes memory where it isn't made in place, or where it grows without a limit.
 abbrev pub TakesMemory : Bool → Option ℕ → Type 0
@@ -29,4 +29,4 @@ IsColumnExpression _ = ⊥
 
 -- One of the parts of a row is an expression, or the word at one.
 abbrev pub HasExpressionPart : Parts ℕ → Type 0
-HasExpressionPart parts = IsExpression parts.cfa ⊎ (IsColumnExpression parts.bp ⊎ IsColumnExpression parts.ra)
+HasExpressionPart parts = IsExpression parts.cfa ⊎ (IsColumnExpression parts.fp ⊎ IsColumnExpression parts.ra)

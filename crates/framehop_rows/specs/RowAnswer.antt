@@ -1,5 +1,5 @@
 -- What a row says of the caller's registers, in whole numbers (DWARF 5, 6.4.1), on x86_64.
-use Rattle.std.specs.Prelude.{ℕ, ◌^◌, ℤ, pos, negsuc, ◌+ℤ◌, Option, Some, None, option_and_then, option_map, unwrap_or, ◌==◌, nat_lt, if◌then◌else◌}
+use Rattle.std.specs.Prelude.{ℕ, Option, Some, None, option_and_then, option_map, unwrap_or, ◌==◌, if◌then◌else◌}
 use Rattle.dwarf_constants.specs.declared.common.Register.{Register}
 use Rattle.framehop_registers.specs.Callback.{Words}
 use Rattle.framehop_rules.specs.Outcome.{Caller}
@@ -7,8 +7,10 @@ use Rattle.framehop_registers.specs.Registers.{ip_of, sp_of, bp_of}
 use Rattle.framehop_rules.specs.RuleMeaning.{caller_registers}
 use Rattle.framehop_registers.specs.declared.x86_64.unwindregs.UnwindRegsX86_64.{UnwindRegsX86_64}
 use Rattle.dwarf_frame_rows.specs.declared.rules.RegisterRule.{RegisterRule}
-use Rattle.framehop_rows.specs.Columns.{Sources, cfa_by, column_by}
-use Rattle.framehop_rows.specs.ScaledRow.{Parts, RBP, RSP, RA}
+use Rattle.framehop_rows.specs.Columns.{cfa_by, column_by}
+use Rattle.framehop_rows.specs.RowSources.{whole_sources}
+use Rattle.framehop_rows.specs.ScaledRow.{RBP, RSP, RA}
+use Rattle.framehop_rows.specs.declared.parts.Parts.{Parts}
 
 -- the value of a register that a step knows
 abbrev pub value_of : UnwindRegsX86_64 → Register → Option ℕ
@@ -18,33 +20,20 @@ value_of registers register =
     else if register.0 == RBP.0 then Some (bp_of registers)
     else None
 
--- a number from 0 to below 2^64
-abbrev pub in_range : ℤ → Option ℕ
-in_range (pos n) = if nat_lt n (2 ^ 64) then Some n else None
-in_range (negsuc n) = None
-
--- a base plus an offset
-abbrev pub plus : ℕ → ℤ → Option ℕ
-plus base offset = in_range (pos base +ℤ offset)
-
--- what a row that a rule says is worked out by: none of its parts is an expression
-abbrev pub whole_sources : UnwindRegsX86_64 → Sources
-whole_sources registers = record { sum = plus; registers = value_of registers; value = λ expression. None }
-
 -- the caller with a CFA and a return address: the CFA is its stack pointer, its RBP is what the column gives, or stays
 abbrev pub caller_from : UnwindRegsX86_64 → Words → Option (RegisterRule ℕ) → ℕ → ℕ → Caller UnwindRegsX86_64
 caller_from registers words bp cfa return_address = record {
   return_address = return_address;
   registers = caller_registers registers return_address cfa
-      (unwrap_or (option_and_then (column_by (whole_sources registers) words cfa (bp_of registers)) bp) (bp_of registers));
+      (unwrap_or (option_and_then (column_by (whole_sources (value_of registers)) words cfa (bp_of registers)) bp) (bp_of registers));
 }
 
 -- the caller at a CFA, where its return address can be read
 abbrev pub caller_at : UnwindRegsX86_64 → Words → Parts ℕ → ℕ → Option (Caller UnwindRegsX86_64)
 caller_at registers words parts cfa =
-    option_map (caller_from registers words parts.bp cfa)
-    (option_and_then (column_by (whole_sources registers) words cfa (ip_of registers)) parts.ra)
+    option_map (caller_from registers words parts.fp cfa)
+    (option_and_then (column_by (whole_sources (value_of registers)) words cfa (ip_of registers)) parts.ra)
 
 -- the row's answer, where it has a CFA and a return address
 abbrev pub row_answer : UnwindRegsX86_64 → Words → Parts ℕ → Option (Caller UnwindRegsX86_64)
-row_answer registers words parts = option_and_then (caller_at registers words parts) (cfa_by (whole_sources registers) parts.cfa)
+row_answer registers words parts = option_and_then (caller_at registers words parts) (cfa_by (whole_sources (value_of registers)) parts.cfa)

@@ -1,21 +1,15 @@
 -- The rows of x86_64 that an unwind rule says exactly. Registers are numbered as in the System V ABI for AMD64, figure 3.36.
-use Rattle.std.specs.Prelude.{ℕ, ◌%◌, ◌^◌, ℤ, pos, negsuc, ◌+ℤ◌, Bool, false, ◌&&◌, Option, Some, None, option_and_then, option_map, ◌==◌, nat_lt, unsigned_abs, int_div, if◌then◌else◌}
+use Rattle.std.specs.Prelude.{ℤ, pos, negsuc, ◌+ℤ◌, Bool, false, ◌&&◌, Option, Some, None, option_and_then, option_map, ◌==◌, if◌then◌else◌}
 use Rattle.std.specs.Ordering.{int_eq}
 use Rattle.dwarf_constants.specs.declared.common.Register.{Register}
 use Rattle.framehop_rules.specs.declared.x86_64.unwind_rule.UnwindRuleX86_64.{UnwindRuleX86_64}
 use Rattle.framehop_rules.specs.declared.x86_64.unwind_rule.UnwindRuleX86_64.TheVariants.{EndOfStack, OffsetSp, OffsetSpAndRestoreBp, UseFramePointer}
-use Rattle.std.specs.FinMap.{get}
 use Rattle.dwarf_frame_rows.specs.declared.rules.CfaRule.{CfaRule}
 use Rattle.dwarf_frame_rows.specs.declared.rules.CfaRule.TheVariants.{RegisterAndOffset, Expression}
 use Rattle.dwarf_frame_rows.specs.declared.rules.RegisterRule.{RegisterRule}
 use Rattle.dwarf_frame_rows.specs.declared.rules.RegisterRule.TheVariants as rule
-use Rattle.dwarf_frame_rows.specs.Row.{Row}
-
--- the parts of a row that x86_64 asks for: the CFA, and the columns of RBP and of the return address
-pub record Parts (T : Type 0) : Type 0 where
-  pub cfa : CfaRule T
-  pub bp : Option (RegisterRule T)
-  pub ra : Option (RegisterRule T)
+use Rattle.framehop_rows.specs.RuleFields.{words_of, signed_words_of}
+use Rattle.framehop_rows.specs.declared.parts.Parts.{Parts}
 
 -- the frame pointer
 abbrev pub RBP : Register
@@ -29,24 +23,6 @@ RSP = record { 0 = 7 }
 abbrev pub RA : Register
 RA = record { 0 = 16 }
 
--- the parts of a row
-abbrev pub parts_of : {T : Type 0} → Row T → Parts T
-parts_of row = record { cfa = row.cfa; bp = get row.rules RBP.0; ra = get row.rules RA.0 }
-
--- the eighth of a multiple of 8
-abbrev pub eighth_of : ℤ → Option ℤ
-eighth_of n = if unsigned_abs n % 8 == 0 then Some (int_div n (pos 8)) else None
-
--- a number that fits 16 bits without a sign
-abbrev pub as_u16 : ℤ → Option ℕ
-as_u16 (pos n) = if nat_lt n (2 ^ 16) then Some n else None
-as_u16 (negsuc n) = None
-
--- a number that fits 16 bits with a sign
-abbrev pub as_i16 : ℤ → Option ℤ
-as_i16 (pos n) = if nat_lt n (2 ^ 15) then Some (pos n) else None
-as_i16 (negsuc n) = if nat_lt n (2 ^ 15) then Some (negsuc n) else None
-
 -- the column is stored at the CFA plus this offset
 abbrev pub is_at : {T : Type 0} → ℤ → RegisterRule T → Bool
 is_at offset (rule.Offset stored) = int_eq stored offset
@@ -54,14 +30,12 @@ is_at offset _ = false
 
 -- the CFA is RSP plus an offset, and RBP stays
 abbrev pub raised_sp : ℤ → Option UnwindRuleX86_64
-raised_sp offset = option_map OffsetSp (option_and_then as_u16 (eighth_of offset))
+raised_sp offset = option_map OffsetSp (words_of offset)
 
 -- the CFA is RSP plus an offset, and RBP is stored at an offset from the CFA
 abbrev pub restored_bp : ℤ → ℤ → Option UnwindRuleX86_64
 restored_bp offset stored =
-    option_and_then (λ x.
-    option_map (OffsetSpAndRestoreBp x) (option_and_then as_i16 (eighth_of (offset +ℤ stored))))
-    (option_and_then as_u16 (eighth_of offset))
+    option_and_then (λ x. option_map (OffsetSpAndRestoreBp x) (signed_words_of (offset +ℤ stored))) (words_of offset)
 
 -- the CFA is RSP plus an offset: RBP stays where its column has no rule, is undefined or the same, or it is stored
 abbrev pub from_sp : {T : Type 0} → ℤ → Option (RegisterRule T) → Option UnwindRuleX86_64
@@ -97,4 +71,4 @@ from_return_address cfa bp (Some stored) = if is_at (negsuc 7) stored then from_
 
 -- the rule that says the row exactly, if one does
 abbrev pub scaled_rule : {T : Type 0} → Parts T → Option UnwindRuleX86_64
-scaled_rule parts = from_return_address parts.cfa parts.bp parts.ra
+scaled_rule parts = from_return_address parts.cfa parts.fp parts.ra

@@ -25,11 +25,15 @@ pub enum DwarfUnwinderError {
     LookupAddressOverflow,
     /// The row's CFA has no value.
     CouldNotRecoverCfa,
-    /// The row's column of the return address has no value, and the word below the CFA can't be read.
+    /// The row's column of the return address has no value, and on x86_64 the word below the CFA can't be
+    /// read.
     CouldNotRecoverReturnAddress,
+    /// The row's column of the frame pointer has no value, in a later frame on aarch64.
+    CouldNotRecoverFramePointer,
     /// The step would answer the frame that it started from.
     DidNotAdvance,
-    /// The caller's stack pointer would be below that of a frame that isn't the first.
+    /// The caller's stack pointer would be below that of a frame that isn't the first, or on aarch64 not
+    /// above it.
     StackPointerMovedBackwards,
     /// Memory for the values of an expression was refused.
     OutOfMemory,

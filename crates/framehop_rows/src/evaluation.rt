@@ -8,7 +8,7 @@ ghost use Rattle.framehop_registers.specs.Callback.{OverWords};
 ghost use Rattle.dwarf_frame_programs.specs.InstructionViews.{expression_as};
 ghost use Rattle.dwarf_frame_programs.specs.StateViews.{cfa_as, rule_as};
 ghost use Rattle.framehop_rows.specs.Columns.{cfa_by, column_by, found_by, found_in};
-ghost use Rattle.framehop_rows.specs.DirectRow.{direct_sources, sum_of, value_in, word_below};
+ghost use Rattle.framehop_rows.specs.RowSources.{direct_sources, sum_of, value_in, word_below};
 ghost use Rattle.framehop_rows.specs.ExpressionValue.{program_of, value_from};
 ghost use Rattle.framehop_rows.specs.Memory.{IsColumnExpression, IsExpression, TakesMemory};
 

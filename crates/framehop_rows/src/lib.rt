@@ -2,8 +2,12 @@
 //! itself, on each architecture.
 #![tactic(auto)]
 
+pub mod aarch64;
 mod dwarf;
 mod evaluation;
+mod parts;
+mod rows;
+mod rule_fields;
 pub mod x86_64;
 
 pub use dwarf::{DwarfUnwinderError, DwarfUnwinding};

@@ -1,6 +1,6 @@
 //! The rows of x86_64: as unwind rules, or evaluated.
 
-ghost use Rattle.std.specs.Prelude.{◌≡◌, ◌≢◌, ℕ, Bool, option_and_then, option_map, Err, IfErr, IfSome, IfOk};
+ghost use Rattle.std.specs.Prelude.{◌≡◌, ◌≢◌, ℕ, Bool, option_map, Err, IfErr, IfSome, IfOk};
 ghost use Rattle.framehop_registers.specs.Callback.{Words, OverWords};
 ghost use Rattle.framehop_rows.specs.DirectRow.{direct_return_address, direct_refusal, direct_answer, frame_sources};
 ghost use Rattle.framehop_rows.specs.DirectViews.{caller_shown};
@@ -10,11 +10,15 @@ ghost use Rattle.framehop_rules.specs.Outcome.{Answers, Caller};
 ghost use Rattle.framehop_rules.specs.RuleMeaning.{rule_meaning, IsValid};
 ghost use Rattle.framehop_rows.specs.RowAnswer.{row_answer, value_of};
 ghost use Rattle.framehop_rows.specs.declared.dwarf.DwarfUnwinderError.TheVariants.{OutOfMemory};
-ghost use Rattle.framehop_rows.specs.ScaledRow.{Parts, eighth_of, as_u16, as_i16, raised_sp, restored_bp, from_sp, from_bp, from_return_address, scaled_rule};
-ghost use Rattle.framehop_rows.specs.RowViews.{parts_shown};
+ghost use Rattle.framehop_rows.specs.RowParts.{parts_as};
+ghost use Rattle.framehop_rows.specs.ScaledRow.{raised_sp, restored_bp, from_sp, from_bp, scaled_rule};
+ghost use Rattle.framehop_rows.specs.declared.parts.Parts.{Parts};
 
 use crate::dwarf::{DwarfUnwinderError, DwarfUnwinding};
 use crate::evaluation::{DwarfUnwindRegs, eval_cfa_rule, eval_register_rule, read_below};
+use crate::parts::Parts;
+use crate::rows::{PartsUnwinding, unwind_frame_by_row};
+use crate::rule_fields::{unsigned_words, words_from_base};
 use dwarf_constants::{Encoding, Register, X86_64};
 use dwarf_expressions::{ArrayLike, EvaluationStorage};
 use dwarf_frame_rows::{
@@ -39,31 +43,6 @@ impl DwarfUnwindRegs for UnwindRegsX86_64 {
     }
 }
 
-/// The eighth of a multiple of 8.
-fn exact_eighth(offset: i64) -> Option<i64>
-    ensures { result ≡ eighth_of offset }
-{
-    if offset % 8 == 0 {
-        Some(offset / 8)
-    } else {
-        None
-    }
-}
-
-/// An offset in bytes as a number of words without a sign.
-fn unsigned_words(offset: i64) -> Option<u16>
-    ensures { result ≡ option_and_then as_u16 (eighth_of offset) }
-{
-    u16::try_from(exact_eighth(offset)?).ok()
-}
-
-/// An offset in bytes as a number of words with a sign.
-fn signed_words(offset: i64) -> Option<i16>
-    ensures { result ≡ option_and_then as_i16 (eighth_of offset) }
-{
-    i16::try_from(exact_eighth(offset)?).ok()
-}
-
 /// The rule for a CFA that is RSP plus an offset, where RBP stays.
 fn rule_that_raises(offset: i64) -> Option<UnwindRuleX86_64>
     ensures rule { result ≡ raised_sp offset }
@@ -79,7 +58,7 @@ fn rule_that_restores(offset: i64, stored: i64) -> Option<UnwindRuleX86_64>
     ensures valid { IfSome result IsValid }
 {
     let sp_offset_by_8 = unsigned_words(offset)?;
-    let bp_storage_offset_from_sp_by_8 = signed_words(offset.checked_add(stored)?)?;
+    let bp_storage_offset_from_sp_by_8 = words_from_base(offset, stored)?;
     Some(UnwindRuleX86_64::OffsetSpAndRestoreBp {
         sp_offset_by_8,
         bp_storage_offset_from_sp_by_8,
@@ -109,56 +88,35 @@ fn rule_from_bp<T: Copy>(offset: i64, bp: Option<RegisterRule<T>>) -> Option<Unw
     }
 }
 
-/// The rule that says a row exactly, from the row's CFA and its columns of RBP and of the return
-/// address, if one does. Offsets of a rule are in words, and an offset that is no multiple of 8 is
-/// never rounded.
-fn translate_into_unwind_rule<T: Copy>(
-    cfa: CfaRule<T>,
-    bp: Option<RegisterRule<T>>,
-    ra: Option<RegisterRule<T>>,
-) -> Option<UnwindRuleX86_64>
-    ensures rule { result ≡ from_return_address cfa bp ra }
+/// The rule that says parts of a row exactly, if one does.
+fn translate_into_unwind_rule<T: Copy>(parts: &Parts<T>) -> Option<UnwindRuleX86_64>
+    ensures rule { result ≡ scaled_rule parts.now }
     ensures valid { IfSome result IsValid }
 {
-    match ra {
+    match parts.ra {
         None | Some(RegisterRule::Undefined) => return Some(UnwindRuleX86_64::EndOfStack),
         Some(RegisterRule::Offset(-8)) => {}
         Some(_) => return None,
     }
-    match cfa {
+    match parts.cfa {
         CfaRule::RegisterAndOffset {
             register: X86_64::RSP,
             offset,
-        } => rule_from_sp(offset, bp),
+        } => rule_from_sp(offset, parts.fp),
         CfaRule::RegisterAndOffset {
             register: X86_64::RBP,
             offset,
-        } => rule_from_bp(offset, bp),
+        } => rule_from_bp(offset, parts.fp),
         CfaRule::RegisterAndOffset { .. } | CfaRule::Expression(_) => None,
     }
 }
 
-/// The rule that says a row exactly, if one does.
-pub(super) fn rule_for_row<
-    T: ReaderOffset,
-    Rules: ArrayLike<Item = RuledRegister<RegisterRule<T>>>,
->(row: &UnwindTableRow<T, Rules>) -> Option<UnwindRuleX86_64>
-    ensures rule { result ≡ scaled_rule (parts_shown T.value row.now) }
-    ensures valid { IfSome result IsValid }
-{
-    translate_into_unwind_rule(
-        *row.cfa(),
-        row.register(X86_64::RBP),
-        row.register(X86_64::RA),
-    )
-}
-
-/// The caller of a frame, as a row gives it.
+/// The caller of a frame, as parts of a row give it.
 #[derive(Clone, Copy)]
-pub(super) struct DirectCaller {
-    pub(super) return_address: u64,
-    pub(super) sp: u64,
-    pub(super) bp: u64,
+struct DirectCaller {
+    return_address: u64,
+    sp: u64,
+    bp: u64,
 }
 
 /// The return address at a CFA: what its column gives, or else the word below the CFA. Only the values
@@ -216,17 +174,16 @@ fn refusal(
     None
 }
 
-/// The caller that a row gives. A column of RBP without a value keeps RBP.
-pub(super) fn eval_row<
+/// The caller that parts of a row give. A column of RBP without a value keeps RBP.
+fn eval_parts<
     S: EvaluationStorage,
     R: Reader,
     Section: _UnwindSectionPrivate<R>,
-    Rules: ArrayLike<Item = RuledRegister<RegisterRule<R::Offset>>>,
     F: FnMut(u64) -> Result<u64, ()>,
 >(
     alloc: Global,
     section: &Section,
-    row: &UnwindTableRow<R::Offset, Rules>,
+    parts: &Parts<R::Offset>,
     encoding: Encoding,
     is_first_frame: bool,
     regs: &UnwindRegsX86_64,
@@ -237,30 +194,22 @@ pub(super) fn eval_row<
     ensures caller { OverWords F.step read_stack.old read_stack.new (λ words.
         result ≢ Err OutOfMemory → caller_shown regs.now result
         ≡ direct_answer S.Stack.capacity encoding.address_size is_first_frame regs.now words
-        (R.stretch (Section.reader section.now)) (parts_shown R.Offset.value row.now)) }
+        (R.stretch (Section.reader section.now)) (parts_as R.Offset.value parts.now)) }
     ensures expression { result ≡ Err OutOfMemory
-        → HasExpressionPart (parts_shown R.Offset.value row.now) }
+        → HasExpressionPart (parts_as R.Offset.value parts.now) }
     ensures memory { result ≡ Err OutOfMemory
         → TakesMemory S.Stack.is_made_in_place S.Stack.capacity }
 {
-    let Some(cfa) = eval_cfa_rule::<S, R, Section, _>(alloc, section, *row.cfa(), encoding, regs)?
+    let Some(cfa) = eval_cfa_rule::<S, R, Section, _>(alloc, section, parts.cfa, encoding, regs)?
     else {
         return Err(DwarfUnwinderError::CouldNotRecoverCfa);
     };
     let bp = regs.bp();
     let stored_bp = eval_register_rule::<S, R, Section, _, F>(
-        alloc,
-        section,
-        row.register(X86_64::RBP),
-        cfa,
-        bp,
-        encoding,
-        regs,
-        read_stack,
+        alloc, section, parts.fp, cfa, bp, encoding, regs, read_stack,
     )?;
-    let ra = row.register(X86_64::RA);
     let Some(return_address) = eval_return_address::<S, R, Section, F>(
-        alloc, section, ra, cfa, encoding, regs, read_stack,
+        alloc, section, parts.ra, cfa, encoding, regs, read_stack,
     )?
     else {
         return Err(DwarfUnwinderError::CouldNotRecoverReturnAddress);
@@ -272,6 +221,63 @@ pub(super) fn eval_row<
             sp: cfa,
             bp: stored_bp.unwrap_or(bp),
         }),
+    }
+}
+
+impl PartsUnwinding for ArchX86_64 {
+    ghost use Rattle.framehop_rows.specs.ScaledRow.{RBP, RA};
+
+    ghost frame_pointer = { RBP };
+
+    ghost return_address = { RA };
+
+    ghost scaled_rule = { scaled_rule };
+
+    ghost direct_answer = { direct_answer };
+
+    fn frame_pointer() -> Register {
+        X86_64::RBP
+    }
+
+    fn return_address() -> Register {
+        X86_64::RA
+    }
+
+    fn rule_for_parts<T: ReaderOffset>(parts: &Parts<T>) -> Option<UnwindRuleX86_64> {
+        translate_into_unwind_rule(parts)
+    }
+
+    fn unwind_by_parts<
+        S: EvaluationStorage,
+        R: Reader,
+        Section: _UnwindSectionPrivate<R>,
+        F: FnMut(u64) -> Result<u64, ()>,
+    >(
+        alloc: Global,
+        section: &Section,
+        parts: &Parts<R::Offset>,
+        encoding: Encoding,
+        is_first_frame: bool,
+        regs: &mut UnwindRegsX86_64,
+        read_stack: &mut F,
+    ) -> Result<u64, DwarfUnwinderError> {
+        match eval_parts::<S, R, Section, F>(
+            alloc,
+            section,
+            parts,
+            encoding,
+            is_first_frame,
+            regs,
+            read_stack,
+        ) {
+            Ok(caller) => {
+                regs.set_ip(caller.return_address);
+                regs.set_sp(caller.sp);
+                regs.set_bp(caller.bp);
+                Ok(caller.return_address)
+            }
+            Err(error) => Err(error),
+        }
     }
 }
 
@@ -300,10 +306,7 @@ impl DwarfUnwinding for ArchX86_64 {
         regs: &mut UnwindRegsX86_64,
         read_stack: &mut F,
     ) -> Result<UnwindResult<UnwindRuleX86_64>, DwarfUnwinderError> {
-        if let Some(rule) = rule_for_row(row) {
-            return Ok(UnwindResult::ExecRule(rule));
-        }
-        match eval_row::<S, R, Section, Rules, F>(
+        unwind_frame_by_row::<ArchX86_64, S, R, Section, Rules, F>(
             alloc,
             section,
             row,
@@ -311,15 +314,7 @@ impl DwarfUnwinding for ArchX86_64 {
             is_first_frame,
             regs,
             read_stack,
-        ) {
-            Ok(caller) => {
-                regs.set_ip(caller.return_address);
-                regs.set_sp(caller.sp);
-                regs.set_bp(caller.bp);
-                Ok(UnwindResult::Uncacheable(caller.return_address))
-            }
-            Err(error) => Err(error),
-        }
+        )
     }
 
     fn rule_if_uncovered_by_fde() -> UnwindRuleX86_64 {

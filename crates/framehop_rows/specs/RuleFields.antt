@@ -1,0 +1,31 @@
+-- Offsets in bytes as the fields of unwind rules.
+use Rattle.std.specs.Prelude.{ℕ, ◌%◌, ◌^◌, ℤ, pos, negsuc, Option, Some, None, option_and_then, ◌==◌, nat_lt, unsigned_abs, int_div, if◌then◌else◌}
+
+-- the eighth of a multiple of 8
+abbrev pub eighth_of : ℤ → Option ℤ
+eighth_of n = if unsigned_abs n % 8 == 0 then Some (int_div n (pos 8)) else None
+
+-- the sixteenth of a multiple of 16
+abbrev pub sixteenth_of : ℤ → Option ℤ
+sixteenth_of n = if unsigned_abs n % 16 == 0 then Some (int_div n (pos 16)) else None
+
+-- a number that fits 16 bits without a sign
+abbrev pub as_u16 : ℤ → Option ℕ
+as_u16 (pos n) = if nat_lt n (2 ^ 16) then Some n else None
+as_u16 (negsuc n) = None
+
+-- a number that fits 16 bits with a sign
+abbrev pub as_i16 : ℤ → Option ℤ
+as_i16 (pos n) = if nat_lt n (2 ^ 15) then Some (pos n) else None
+as_i16 (negsuc n) = if nat_lt n (2 ^ 15) then Some (negsuc n) else None
+
+-- an offset in words, and one in words with a sign
+abbrev pub words_of : ℤ → Option ℕ
+words_of offset = option_and_then as_u16 (eighth_of offset)
+
+abbrev pub signed_words_of : ℤ → Option ℤ
+signed_words_of offset = option_and_then as_i16 (eighth_of offset)
+
+-- an offset in pairs of words
+abbrev pub pairs_of : ℤ → Option ℕ
+pairs_of offset = option_and_then as_u16 (sixteenth_of offset)

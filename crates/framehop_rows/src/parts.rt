@@ -1,0 +1,35 @@
+//! The parts of a row that a step asks for.
+
+ghost use Rattle.std.specs.Prelude.{◌≡◌};
+ghost use Rattle.dwarf_frame_programs.specs.Execution.{row_in};
+ghost use Rattle.framehop_rows.specs.RowParts.{parts_as, parts_of};
+
+use dwarf_constants::Register;
+use dwarf_expressions::ArrayLike;
+use dwarf_frame_rows::{CfaRule, RegisterRule, RuledRegister, UnwindTableRow};
+use dwarf_readers::ReaderOffset;
+
+/// The parts of a row that a step asks for.
+#[derive(Clone, Copy)]
+pub(crate) struct Parts<T> {
+    /// The canonical frame address.
+    pub(crate) cfa: CfaRule<T>,
+    /// The column of the frame pointer, if it has a rule.
+    pub(crate) fp: Option<RegisterRule<T>>,
+    /// The column of the return address, if it has a rule.
+    pub(crate) ra: Option<RegisterRule<T>>,
+}
+
+/// The parts of a row, by the columns of the frame pointer and of the return address.
+pub(crate) fn parts_of_row<
+    T: ReaderOffset,
+    Rules: ArrayLike<Item = RuledRegister<RegisterRule<T>>>,
+>(row: &UnwindTableRow<T, Rules>, fp: Register, ra: Register) -> Parts<T>
+    ensures { parts_as T.value result ≡ parts_of fp ra (row_in T.value row.now) }
+{
+    Parts {
+        cfa: *row.cfa(),
+        fp: row.register(fp),
+        ra: row.register(ra),
+    }
+}

@@ -1,0 +1,137 @@
+//! What the rows of an architecture come to, by their parts.
+
+ghost use Rattle.std.specs.Prelude.{◌≡◌, ◌≢◌, ℕ, Option, Err, IfSome, OnErr};
+ghost use Rattle.dwarf_constants.specs.declared.common.Register.{Register};
+ghost use Rattle.dwarf_frame_programs.specs.Execution.{row_in};
+ghost use Rattle.framehop_registers.specs.Callback.{OverWords};
+ghost use Rattle.framehop_unwinder.specs.Trials.{HasValidRule, KeepsUnlessDirect};
+ghost use Rattle.framehop_rows.specs.Memory.{HasExpressionPart, TakesMemory};
+ghost use Rattle.framehop_rows.specs.RowAttempt.{DirectAnswer, MeetsExpressionPart, attempt_by_parts, direct_trial, row_trial, rule_answered, rule_of_row};
+ghost use Rattle.framehop_rows.specs.RowParts.{parts_as, parts_of};
+ghost use Rattle.framehop_rows.specs.declared.dwarf.DwarfUnwinderError.TheVariants.{OutOfMemory};
+ghost use Rattle.framehop_rows.specs.declared.parts.Parts.{Parts};
+
+use crate::dwarf::DwarfUnwinderError;
+use crate::parts::{Parts, parts_of_row};
+use dwarf_constants::{Encoding, Register};
+use dwarf_expressions::{ArrayLike, EvaluationStorage};
+use dwarf_frame_rows::{_UnwindSectionPrivate, RegisterRule, RuledRegister, UnwindTableRow};
+use dwarf_readers::{Reader, ReaderOffset};
+use framehop_rules::Arch;
+use framehop_unwinder::UnwindResult;
+use std::alloc::Global;
+
+/// An architecture, by what it makes of the parts of a row.
+pub(crate) trait PartsUnwinding: Arch {
+    /// The registers whose columns are asked for.
+    ghost frame_pointer: { Register };
+
+    ghost return_address: { Register };
+
+    /// The rule that says parts exactly, if one does.
+    ghost scaled_rule: { Parts ℕ → Option Self.UnwindRule };
+
+    /// The caller that parts of a row give by themselves.
+    ghost direct_answer: { DirectAnswer Self.UnwindRegs };
+
+    /// The frame pointer.
+    fn frame_pointer() -> Register
+        ensures { result ≡ frame_pointer };
+
+    /// The register, or the column, of the return address.
+    fn return_address() -> Register
+        ensures { result ≡ return_address };
+
+    /// The rule that says parts of a row exactly, if one does. Offsets that are no multiples of a
+    /// rule's unit are never rounded.
+    fn rule_for_parts<T: ReaderOffset>(parts: &Parts<T>) -> Option<Self::UnwindRule>
+        ensures rule { result ≡ scaled_rule (parts_as T.value parts.now) }
+        ensures valid { IfSome result Self.UnwindRule.is_valid };
+
+    /// The return address that parts of a row give by themselves, the registers being the caller's
+    /// then. An `Err` leaves them as they were.
+    fn unwind_by_parts<
+        S: EvaluationStorage,
+        R: Reader,
+        Section: _UnwindSectionPrivate<R>,
+        F: FnMut(u64) -> Result<u64, ()>,
+    >(
+        alloc: Global,
+        section: &Section,
+        parts: &Parts<R::Offset>,
+        encoding: Encoding,
+        is_first_frame: bool,
+        regs: &mut Self::UnwindRegs,
+        read_stack: &mut F,
+    ) -> Result<u64, DwarfUnwinderError>
+        requires { F.IsAlwaysCallable read_stack.old }
+        ensures callable { F.IsAlwaysCallable read_stack.new }
+        ensures trial { OverWords F.step read_stack.old read_stack.new (λ words.
+            result ≢ Err OutOfMemory → (result, regs.new) ≡ direct_trial regs.old
+            (direct_answer S.Stack.capacity encoding.address_size is_first_frame regs.old words
+            (R.stretch (Section.reader section.now)) (parts_as R.Offset.value parts.now))) }
+        ensures keeps { OnErr result (regs.new ≡ regs.old) }
+        ensures expression { result ≡ Err OutOfMemory
+            → HasExpressionPart (parts_as R.Offset.value parts.now) }
+        ensures memory { result ≡ Err OutOfMemory
+            → TakesMemory S.Stack.is_made_in_place S.Stack.capacity };
+}
+
+/// What a row of a section says of a frame: the unwind rule that says the row exactly, or else the
+/// return address by the row itself, the registers being the caller's then. An `Err` leaves them as
+/// they were.
+pub(crate) fn unwind_frame_by_row<
+    A: PartsUnwinding,
+    S: EvaluationStorage,
+    R: Reader,
+    Section: _UnwindSectionPrivate<R>,
+    Rules: ArrayLike<Item = RuledRegister<RegisterRule<R::Offset>>>,
+    F: FnMut(u64) -> Result<u64, ()>,
+>(
+    alloc: Global,
+    section: &Section,
+    row: &UnwindTableRow<R::Offset, Rules>,
+    encoding: Encoding,
+    is_first_frame: bool,
+    regs: &mut A::UnwindRegs,
+    read_stack: &mut F,
+) -> Result<UnwindResult<A::UnwindRule>, DwarfUnwinderError>
+    requires { F.IsAlwaysCallable read_stack.old }
+    ensures callable { F.IsAlwaysCallable read_stack.new }
+    ensures trial { let section_bytes = R.stretch (Section.reader section.now) in
+        let parts = parts_of A.frame_pointer A.return_address (row_in R.Offset.value row.now) in
+        let attempt = attempt_by_parts A.scaled_rule A.direct_answer is_first_frame S.Stack.capacity
+        encoding.address_size section_bytes parts in
+        OverWords F.step read_stack.old read_stack.new (λ words.
+        result ≢ Err OutOfMemory
+        → (result, regs.new) ≡ row_trial regs.old words attempt) }
+    ensures rule { let section_bytes = R.stretch (Section.reader section.now) in
+        let parts = parts_of A.frame_pointer A.return_address (row_in R.Offset.value row.now) in
+        let attempt = attempt_by_parts A.scaled_rule A.direct_answer is_first_frame S.Stack.capacity
+        encoding.address_size section_bytes parts in
+        result ≢ Err OutOfMemory → rule_answered result ≡ rule_of_row attempt }
+    ensures keeps { KeepsUnlessDirect result regs.old regs.new }
+    ensures valid { HasValidRule A.UnwindRule.is_valid result }
+    ensures expression { let parts = parts_of A.frame_pointer A.return_address
+        (row_in R.Offset.value row.now) in
+        result ≡ Err OutOfMemory → MeetsExpressionPart A.scaled_rule parts }
+    ensures memory { result ≡ Err OutOfMemory
+        → TakesMemory S.Stack.is_made_in_place S.Stack.capacity }
+{
+    let parts = parts_of_row(row, A::frame_pointer(), A::return_address());
+    if let Some(rule) = A::rule_for_parts(&parts) {
+        return Ok(UnwindResult::ExecRule(rule));
+    }
+    match A::unwind_by_parts::<S, R, Section, F>(
+        alloc,
+        section,
+        &parts,
+        encoding,
+        is_first_frame,
+        regs,
+        read_stack,
+    ) {
+        Ok(return_address) => Ok(UnwindResult::Uncacheable(return_address)),
+        Err(error) => Err(error),
+    }
+}
