@@ -7,7 +7,7 @@ use Rattle.documents.proofs.Laws.{begun_line, written_more, written_all}
 use Rattle.documents.specs.Stream.{AppendsFront, IsWritten}
 use Rattle.documents.specs.declared.status.RunError.{RunError}
 use Rattle.documents.specs.declared.status.RunError.TheVariants.{Write}
-use Rattle.framehop_registers.specs.declared.x86_64.unwindregs.UnwindRegsX86_64.{UnwindRegsX86_64}
+use Rattle.unwind_commands.specs.Registers.{RegisterForms}
 use Rattle.framehop_rules.specs.Slots.{Kept}
 use Rattle.framehop_unwinder.specs.Attempt.{Meanings}
 use Rattle.framehop_unwinder.specs.History.{KeyHistory, HaveHistories, no_history}
@@ -17,7 +17,6 @@ use Rattle.framehop_unwinder.specs.State.{State, loads_with, unwinder_at, histor
 use Rattle.framehop_unwinder.specs.Judge.{judge}
 use Rattle.framehop_unwinder.specs.Walk.{Walk, Place, Starts, At, Over, move}
 use Rattle.framehop_registers.specs.Callback.{Words}
-use Rattle.framehop_registers.specs.Registers.{new_registers}
 use Rattle.framehop_unwinder.specs.WalkViews.{walk_from}
 use Rattle.framehop_registers.specs.declared.error.Error.{Error}
 use Rattle.unwind_sessions.specs.Turns.{Progress, Turn, IsAt, ComesTo, writes, refuses, with_number, with_modules, modules_in, walk_histories, if_goes_on}
@@ -106,68 +105,68 @@ walk_count m words loads cache (suc left) walk histories =
     answer_count made.answer (walk_histories m words loads cache left made.walk after) after (length histories) (walk_count m words loads cache left made.walk after ∙ counted) counted
 
 -- what there is after a command that isn't refused
-turn_counts : {Data Rule : Type 0} (m : Meanings Data Rule UnwindRegsX86_64) (data_of : ℕ → List SectionData → Data) (p : Progress Data) (task : Task)
-    → (turn m data_of p task).is_refused ≡ false → made_by (turn m data_of p task).progress ≡ made_after (made_by p) task
-turn_counts m data_of p make_unwinder carried = made_numbered (p.unwinders ++ loads_with [] p.next ∷ []) p (length p.unwinders + 1) (length-append p.unwinders (loads_with [] p.next ∷ [])) carried
-turn_counts m data_of p make_cache carried =
+turn_counts : {Data Rule Registers : Type 0} (m : Meanings Data Rule Registers) (forms : RegisterForms Registers) (data_of : ℕ → List SectionData → Data) (p : Progress Data) (task : Task)
+    → (turn m forms data_of p task).is_refused ≡ false → made_by (turn m forms data_of p task).progress ≡ made_after (made_by p) task
+turn_counts m forms data_of p make_unwinder carried = made_numbered (p.unwinders ++ loads_with [] p.next ∷ []) p (length p.unwinders + 1) (length-append p.unwinders (loads_with [] p.next ∷ [])) carried
+turn_counts m forms data_of p make_cache carried =
     let part : ℕ → Made = λ k. record { unwinders = length p.unwinders; caches = k } in ap part (length-append p.histories (no_history ∷ []))
-turn_counts m data_of p (clone_unwinder u) carried =
+turn_counts m forms data_of p (clone_unwinder u) carried =
     let part : ℕ → Made = λ k. record { unwinders = k; caches = length p.histories } in ap part (length-append p.unwinders (unwinder_at p.unwinders u ∷ []))
-turn_counts m data_of p (load_module l) carried =
+turn_counts m forms data_of p (load_module l) carried =
     made_numbered (slice_set p.unwinders l.unwinder (loads_with (with_module (λ x. x.start) (loaded_by data_of l) (modules_in l.unwinder p)) p.next)) p (length p.unwinders) (simp length-set) carried
-turn_counts m data_of p (unload_module u) carried =
+turn_counts m forms data_of p (unload_module u) carried =
     let less = without_module (λ x. x.start) u.start (modules_in u.unwinder p) in
     either_turn (has_start (λ x. x.start) u.start (modules_in u.unwinder p)) (with_modules u.unwinder less p) (writes [] p) (made_by p)
     (made_numbered (slice_set p.unwinders u.unwinder (loads_with less p.next)) p (length p.unwinders) (simp length-set)) refl carried
-turn_counts m data_of p (take_step s) carried =
+turn_counts m forms data_of p (take_step s) carried =
     let part : ℕ → Made = λ k. record { unwinders = length p.unwinders; caches = k } in
     ap part (move_count m (At (frame_at s.kind s.address)) (unwinder_at p.unwinders s.unwinder) s.cache p.histories)
-turn_counts m data_of p (take_walk w) carried =
+turn_counts m forms data_of p (take_walk w) carried =
     let part : ℕ → Made = λ k. record { unwinders = length p.unwinders; caches = k } in
-    ap part (walk_count m (words_of w.stack) (unwinder_at p.unwinders w.unwinder) w.cache w.limit (walk_from w.pc (new_registers w.ip w.sp w.bp)) p.histories)
-turn_counts m data_of p (show_counts cache) carried = refl
+    ap part (walk_count m (words_of w.stack) (unwinder_at p.unwinders w.unwinder) w.cache w.limit (walk_from w.pc (forms.stated w.registers)) p.histories)
+turn_counts m forms data_of p (show_counts cache) carried = refl
 
 -- so what the next commands name is made
-pub sound_next : {Data Rule : Type 0} (m : Meanings Data Rule UnwindRegsX86_64) (data_of : ℕ → List SectionData → Data) (p : Progress Data) (old new : State Data Rule) (task : Task) (tasks : List Task) (text : List ℕ) (refused : Bool)
-    → IsAt p old → ComesTo (turn m data_of p task) text refused new → refused ≡ false → AreSound (made_in old) (task ∷ tasks) → AreSound (made_in new) tasks
-sound_next m data_of p old new task tasks text refused at comes carried sound =
-    let t = turn m data_of p task in
-    let made = made_at t.progress new comes.progress ∙ turn_counts m data_of p task (sym comes.is_refused ∙ carried) ∙ ap (λ (x : Made). made_after x task) (sym (made_at p old at)) in
+pub sound_next : {Data Rule Registers : Type 0} (m : Meanings Data Rule Registers) (forms : RegisterForms Registers) (data_of : ℕ → List SectionData → Data) (p : Progress Data) (old new : State Data Rule) (task : Task) (tasks : List Task) (text : List ℕ) (refused : Bool)
+    → IsAt p old → ComesTo (turn m forms data_of p task) text refused new → refused ≡ false → AreSound (made_in old) (task ∷ tasks) → AreSound (made_in new) tasks
+sound_next m forms data_of p old new task tasks text refused at comes carried sound =
+    let t = turn m forms data_of p task in
+    let made = made_at t.progress new comes.progress ∙ turn_counts m forms data_of p task (sym comes.is_refused ∙ carried) ∙ ap (λ (x : Made). made_after x task) (sym (made_at p old at)) in
     subst (λ (x : Made). AreSound x tasks) (sym made) sound.1
 
 -- what is left to write once a command has written
-abbrev pub rest_of : {Data Rule : Type 0} → Meanings Data Rule UnwindRegsX86_64 → (ℕ → List SectionData → Data) → Turn Data → List Task → List ℕ
-rest_of m data_of t tasks = cond t.is_refused [] (lines_of m data_of t.progress tasks)
+abbrev pub rest_of : {Data Rule Registers : Type 0} → Meanings Data Rule Registers → RegisterForms Registers → (ℕ → List SectionData → Data) → Turn Data → List Task → List ℕ
+rest_of m forms data_of t tasks = cond t.is_refused [] (lines_of m forms data_of t.progress tasks)
 
 -- a command has written its text
-written_text : {Data Rule : Type 0} (m : Meanings Data Rule UnwindRegsX86_64) (data_of : ℕ → List SectionData → Data) (t : Turn Data) (tasks : List Task) (old mid new : Option (List ℕ)) (text all : List ℕ)
-    → text ≡ t.text → IsWritten old mid (t.text ++ rest_of m data_of t tasks) all → Appends mid new text → IsWritten old new (rest_of m data_of t tasks) all
-written_text m data_of t tasks old mid new text all says written added =
-    written_more old mid new text (rest_of m data_of t tasks) all (subst (λ (xs : List ℕ). IsWritten old mid (xs ++ rest_of m data_of t tasks) all) (sym says) written) added
+written_text : {Data Rule Registers : Type 0} (m : Meanings Data Rule Registers) (forms : RegisterForms Registers) (data_of : ℕ → List SectionData → Data) (t : Turn Data) (tasks : List Task) (old mid new : Option (List ℕ)) (text all : List ℕ)
+    → text ≡ t.text → IsWritten old mid (t.text ++ rest_of m forms data_of t tasks) all → Appends mid new text → IsWritten old new (rest_of m forms data_of t tasks) all
+written_text m forms data_of t tasks old mid new text all says written added =
+    written_more old mid new text (rest_of m forms data_of t tasks) all (subst (λ (xs : List ℕ). IsWritten old mid (xs ++ rest_of m forms data_of t tasks) all) (sym says) written) added
 
 -- a command that isn't refused has written, and the lines that are left are those of the commands after it
-pub written_next : {Data Rule : Type 0} (m : Meanings Data Rule UnwindRegsX86_64) (data_of : ℕ → List SectionData → Data) (p : Progress Data) (task : Task) (tasks : List Task) (state : State Data Rule) (old mid new : Option (List ℕ)) (text all : List ℕ) (refused : Bool)
-    → ComesTo (turn m data_of p task) text refused state → refused ≡ false → IsWritten old mid (lines_of m data_of p (task ∷ tasks)) all → Appends mid new text
-    → IsWritten old new (lines_of m data_of (turn m data_of p task).progress tasks) all
-written_next m data_of p task tasks state old mid new text all refused comes carried written added =
-    let t = turn m data_of p task in
-    subst (λ (b : Bool). IsWritten old new (cond b [] (lines_of m data_of t.progress tasks)) all) (sym comes.is_refused ∙ carried)
-    (written_text m data_of t tasks old mid new text all comes.text written added)
+pub written_next : {Data Rule Registers : Type 0} (m : Meanings Data Rule Registers) (forms : RegisterForms Registers) (data_of : ℕ → List SectionData → Data) (p : Progress Data) (task : Task) (tasks : List Task) (state : State Data Rule) (old mid new : Option (List ℕ)) (text all : List ℕ) (refused : Bool)
+    → ComesTo (turn m forms data_of p task) text refused state → refused ≡ false → IsWritten old mid (lines_of m forms data_of p (task ∷ tasks)) all → Appends mid new text
+    → IsWritten old new (lines_of m forms data_of (turn m forms data_of p task).progress tasks) all
+written_next m forms data_of p task tasks state old mid new text all refused comes carried written added =
+    let t = turn m forms data_of p task in
+    subst (λ (b : Bool). IsWritten old new (cond b [] (lines_of m forms data_of t.progress tasks)) all) (sym comes.is_refused ∙ carried)
+    (written_text m forms data_of t tasks old mid new text all comes.text written added)
 
 -- a command that is refused has written, and all is written
-pub written_last : {Data Rule : Type 0} (m : Meanings Data Rule UnwindRegsX86_64) (data_of : ℕ → List SectionData → Data) (p : Progress Data) (task : Task) (tasks : List Task) (state : State Data Rule) (old mid new : Option (List ℕ)) (text all : List ℕ) (refused : Bool)
-    → ComesTo (turn m data_of p task) text refused state → refused ≡ true → IsWritten old mid (lines_of m data_of p (task ∷ tasks)) all → Appends mid new text
+pub written_last : {Data Rule Registers : Type 0} (m : Meanings Data Rule Registers) (forms : RegisterForms Registers) (data_of : ℕ → List SectionData → Data) (p : Progress Data) (task : Task) (tasks : List Task) (state : State Data Rule) (old mid new : Option (List ℕ)) (text all : List ℕ) (refused : Bool)
+    → ComesTo (turn m forms data_of p task) text refused state → refused ≡ true → IsWritten old mid (lines_of m forms data_of p (task ∷ tasks)) all → Appends mid new text
     → Appends old new all
-written_last m data_of p task tasks state old mid new text all refused comes carried written added =
-    let t = turn m data_of p task in
+written_last m forms data_of p task tasks state old mid new text all refused comes carried written added =
+    let t = turn m forms data_of p task in
     written_all old new all
-    (subst (λ (b : Bool). IsWritten old new (cond b [] (lines_of m data_of t.progress tasks)) all) (sym comes.is_refused ∙ carried)
-    (written_text m data_of t tasks old mid new text all comes.text written added))
+    (subst (λ (b : Bool). IsWritten old new (cond b [] (lines_of m forms data_of t.progress tasks)) all) (sym comes.is_refused ∙ carried)
+    (written_text m forms data_of t tasks old mid new text all comes.text written added))
 
 -- a front of what a command writes is written
-pub begun_next : {Data Rule : Type 0} (m : Meanings Data Rule UnwindRegsX86_64) (data_of : ℕ → List SectionData → Data) (p : Progress Data) (task : Task) (tasks : List Task) (state : State Data Rule) (old mid new : Option (List ℕ)) (text all : List ℕ) (refused : Bool)
-    → ComesTo (turn m data_of p task) text refused state → IsWritten old mid (lines_of m data_of p (task ∷ tasks)) all → AppendsFront mid new text
+pub begun_next : {Data Rule Registers : Type 0} (m : Meanings Data Rule Registers) (forms : RegisterForms Registers) (data_of : ℕ → List SectionData → Data) (p : Progress Data) (task : Task) (tasks : List Task) (state : State Data Rule) (old mid new : Option (List ℕ)) (text all : List ℕ) (refused : Bool)
+    → ComesTo (turn m forms data_of p task) text refused state → IsWritten old mid (lines_of m forms data_of p (task ∷ tasks)) all → AppendsFront mid new text
     → AppendsFront old new all
-begun_next m data_of p task tasks state old mid new text all refused comes written added =
-    let t = turn m data_of p task in
-    begun_line old mid new text (rest_of m data_of t tasks) all (subst (λ (xs : List ℕ). IsWritten old mid (xs ++ rest_of m data_of t tasks) all) (sym comes.text) written) added
+begun_next m forms data_of p task tasks state old mid new text all refused comes written added =
+    let t = turn m forms data_of p task in
+    begun_line old mid new text (rest_of m forms data_of t tasks) all (subst (λ (xs : List ℕ). IsWritten old mid (xs ++ rest_of m forms data_of t tasks) all) (sym comes.text) written) added

@@ -3,7 +3,6 @@ use Rattle.std.proofs.Common.{◌≡◌, ◌≢◌, List, Option, Result, Ok, Er
 use Rattle.framehop_registers.specs.Callback.{Words}
 use Rattle.framehop_registers.specs.declared.error.Error.{Error}
 use Rattle.framehop_registers.specs.declared.error.Error.TheVariants.{CouldNotReadStack, FramepointerUnwindingMovedBackwards, DidNotAdvance, IntegerOverflow, ReturnAddressIsNull, OutOfMemory}
-use Rattle.framehop_registers.specs.declared.x86_64.unwindregs.UnwindRegsX86_64.{UnwindRegsX86_64}
 use Rattle.framehop_rules.specs.Outcome.{IsStep, answer_of_outcome}
 use Rattle.framehop_unwinder.specs.Attempt.{Meanings}
 use Rattle.framehop_unwinder.specs.Frames.{Frame}
@@ -24,12 +23,12 @@ not_wanted (Err ReturnAddressIsNull) other = refl
 not_wanted (Err OutOfMemory) other = absurd (other refl)
 
 -- the line of what a step answers is that of what is judged
-pub line_judged : {Data Rule : Type 0} (m : Meanings Data Rule UnwindRegsX86_64) (modules found : List (Loaded Data)) (frame given_frame : Frame) (regs given left : UnwindRegsX86_64) (words : Words) (answer : Result (Option ℕ) Error)
+pub line_judged : {Data Rule Registers : Type 0} (m : Meanings Data Rule Registers) (text : Registers → List ℕ) (modules found : List (Loaded Data)) (frame given_frame : Frame) (regs given left : Registers) (words : Words) (answer : Result (Option ℕ) Error)
     → found ≡ modules → given_frame ≡ frame → given ≡ regs → IsStep answer given left (judge m found given_frame given words)
-    → step_line answer left ≡ outcome_line regs (judge m modules frame regs words)
-line_judged {Data} m modules found frame given_frame regs given left words answer same_modules same_frame same_regs stepped =
-    ap (λ (a : Result (Option ℕ) Error). step_line a left) stepped.answer
-    ∙ ap (λ (r : UnwindRegsX86_64). step_line (answer_of_outcome (judge m found given_frame given words)) r) stepped.registers
-    ∙ ap (λ (ms : List (Loaded Data)). outcome_line given (judge m ms given_frame given words)) same_modules
-    ∙ ap (λ (f : Frame). outcome_line given (judge m modules f given words)) same_frame
-    ∙ ap (λ (r : UnwindRegsX86_64). outcome_line r (judge m modules frame r words)) same_regs
+    → step_line text answer left ≡ outcome_line text regs (judge m modules frame regs words)
+line_judged {Data} {Rule} {Registers} m text modules found frame given_frame regs given left words answer same_modules same_frame same_regs stepped =
+    ap (λ (a : Result (Option ℕ) Error). step_line text a left) stepped.answer
+    ∙ ap (λ (r : Registers). step_line text (answer_of_outcome (judge m found given_frame given words)) r) stepped.registers
+    ∙ ap (λ (ms : List (Loaded Data)). outcome_line text given (judge m ms given_frame given words)) same_modules
+    ∙ ap (λ (f : Frame). outcome_line text given (judge m modules f given words)) same_frame
+    ∙ ap (λ (r : Registers). outcome_line text r (judge m modules frame r words)) same_regs

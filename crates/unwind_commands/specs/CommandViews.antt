@@ -44,9 +44,7 @@ step_view s = record {
   cache = s.cache;
   kind = s.kind;
   address = s.address;
-  ip = s.ip;
-  sp = s.sp;
-  bp = s.bp;
+  registers = s.registers;
   stack = words_view s.stack;
 }
 
@@ -57,9 +55,7 @@ walk_view w = record {
   cache = w.cache;
   pc = w.pc;
   limit = w.limit;
-  ip = w.ip;
-  sp = w.sp;
-  bp = w.bp;
+  registers = w.registers;
   stack = words_view w.stack;
 }
 
@@ -84,7 +80,7 @@ tasks_of cs = map task_of cs
 
 -- a document
 abbrev pub content_view : Document → Content
-content_view d = record { policy = d.policy; generation = d.generation; tasks = tasks_of d.commands.items }
+content_view d = record { arch = d.arch; policy = d.policy; generation = d.generation; tasks = tasks_of d.commands.items }
 
 -- what earlier commands made
 abbrev pub made_view : memory.Made → Made

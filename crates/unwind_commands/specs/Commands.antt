@@ -10,7 +10,9 @@ use Rattle.documents.specs.declared.fault.FaultName.TheVariants.{FloatNumber, Ba
 use Rattle.unwind_commands.specs.declared.document.command.FrameKind.{FrameKind}
 use Rattle.unwind_commands.specs.declared.document.command.FrameKind.TheVariants.{Ip, Ra}
 use Rattle.unwind_commands.specs.declared.document.command.AddressRange.{AddressRange}
-use Rattle.unwind_commands.specs.declared.document.step.Registers.{Registers}
+use Rattle.unwind_commands.specs.declared.document.Architecture.{Architecture}
+use Rattle.unwind_commands.specs.declared.document.Architecture.TheVariants as arch
+use Rattle.unwind_commands.specs.declared.document.registers.StatedRegisters.{StatedRegisters}
 use Rattle.unwind_commands.specs.declared.document.TheConstants.{WALK_LIMIT}
 use Rattle.unwind_commands.specs.declared.document.command.Verb.{Verb}
 use Rattle.unwind_commands.specs.declared.document.command.Verb.TheVariants as verb
@@ -46,9 +48,7 @@ pub record Stepping : Type 0 where
   pub cache : ℕ
   pub kind : FrameKind
   pub address : ℕ
-  pub ip : ℕ
-  pub sp : ℕ
-  pub bp : ℕ
+  pub registers : StatedRegisters
   pub stack : StackWords
 
 -- a walk over the frames of an unwinder with a cache: the instruction pointer, the most frames that it gives, the registers
@@ -58,9 +58,7 @@ pub record Walking : Type 0 where
   pub cache : ℕ
   pub pc : ℕ
   pub limit : ℕ
-  pub ip : ℕ
-  pub sp : ℕ
-  pub bp : ℕ
+  pub registers : StatedRegisters
   pub stack : StackWords
 
 -- the module of an unwinder that is unloaded, by its start
@@ -117,17 +115,44 @@ frame_in d = do
   frame ← both (field kind_in (codes "kind") d) (field address_value (codes "address") d)
   frame_at frame.0 frame.1
 
--- the fields of the registers
-abbrev pub register_names : List (List ℕ)
-register_names = codes "ip" ∷ codes "sp" ∷ codes "bp" ∷ []
+-- the fields of the registers of x86_64
+abbrev pub names_x86_64 : List (List ℕ)
+names_x86_64 = codes "ip" ∷ codes "sp" ∷ codes "bp" ∷ []
 
--- a value that has to be the registers
-abbrev pub registers_in : Data → Checked Registers
-registers_in d =
-    if has_only register_names d
-    then Ok (λ ip sp bp. record { ip = ip; sp = sp; bp = bp })
+-- all the bits of a code address
+abbrev pub all_bits : ℕ
+all_bits = 2 ^ 64 - 1
+
+-- a value that has to be the registers of x86_64
+abbrev pub registers_x86_64_in : Data → Checked StatedRegisters
+registers_x86_64_in d =
+    if has_only names_x86_64 d
+    then Ok (λ ip sp bp. record { code = ip; sp = sp; fp = bp; mask = all_bits })
     ⊛ field address_value (codes "ip") d ⊛ field address_value (codes "sp") d ⊛ field address_value (codes "bp") d
     else Err BadCommand
+
+-- the fields of the registers of aarch64
+abbrev pub names_aarch64 : List (List ℕ)
+names_aarch64 = codes "lr" ∷ codes "sp" ∷ codes "fp" ∷ codes "mask" ∷ []
+
+-- the mask of code addresses: all bits where none is stated
+abbrev pub mask_at : Option Data → Checked ℕ
+mask_at None = Ok all_bits
+mask_at (Some d) = address_value d
+
+-- a value that has to be the registers of aarch64
+abbrev pub registers_aarch64_in : Data → Checked StatedRegisters
+registers_aarch64_in d =
+    if has_only names_aarch64 d
+    then Ok (λ lr sp fp mask. record { code = lr; sp = sp; fp = fp; mask = mask })
+    ⊛ field address_value (codes "lr") d ⊛ field address_value (codes "sp") d ⊛ field address_value (codes "fp") d
+    ⊛ mask_at (get (codes "mask") d)
+    else Err BadCommand
+
+-- a value that has to be the registers of an architecture
+abbrev pub registers_in : Architecture → Data → Checked StatedRegisters
+registers_in arch.X86_64 d = registers_x86_64_in d
+registers_in arch.Aarch64 d = registers_aarch64_in d
 
 -- the words of a stack, of which the last has an address below 2^64 too
 abbrev pub stack_at : ℕ → List ℕ → Checked StackWords
@@ -159,24 +184,22 @@ abbrev pub step_names : List (List ℕ)
 step_names = codes "do" ∷ codes "unwinder" ∷ codes "cache" ∷ codes "kind" ∷ codes "address" ∷ codes "regs" ∷ codes "stack" ∷ []
 
 -- the step of these parts
-abbrev pub stepping_of : ℕ → ℕ → FrameKind × ℕ → Registers → StackWords → Stepping
+abbrev pub stepping_of : ℕ → ℕ → FrameKind × ℕ → StatedRegisters → StackWords → Stepping
 stepping_of unwinder cache frame regs stack = record {
   unwinder = unwinder;
   cache = cache;
   kind = frame.0;
   address = frame.1;
-  ip = regs.ip;
-  sp = regs.sp;
-  bp = regs.bp;
+  registers = regs;
   stack = stack;
 }
 
 -- a value that has to be a step
-abbrev pub step_in : Made → Data → Checked Stepping
-step_in made d =
+abbrev pub step_in : Architecture → Made → Data → Checked Stepping
+step_in machine made d =
     if has_only step_names d
     then Ok stepping_of ⊛ made_number made.unwinders (codes "unwinder") d ⊛ made_number made.caches (codes "cache") d
-    ⊛ frame_in d ⊛ field registers_in (codes "regs") d ⊛ field stack_in (codes "stack") d
+    ⊛ frame_in d ⊛ field (registers_in machine) (codes "regs") d ⊛ field stack_in (codes "stack") d
     else Err BadCommand
 
 -- ---- walks
@@ -193,25 +216,23 @@ walk_names =
     codes "do" ∷ codes "unwinder" ∷ codes "cache" ∷ codes "pc" ∷ codes "limit" ∷ codes "regs" ∷ codes "stack" ∷ []
 
 -- the walk of these parts
-abbrev pub walking_of : ℕ → ℕ → ℕ → ℕ → Registers → StackWords → Walking
+abbrev pub walking_of : ℕ → ℕ → ℕ → ℕ → StatedRegisters → StackWords → Walking
 walking_of unwinder cache pc limit regs stack = record {
   unwinder = unwinder;
   cache = cache;
   pc = pc;
   limit = limit;
-  ip = regs.ip;
-  sp = regs.sp;
-  bp = regs.bp;
+  registers = regs;
   stack = stack;
 }
 
 -- a value that has to be a walk
-abbrev pub walk_in : Made → Data → Checked Walking
-walk_in made d =
+abbrev pub walk_in : Architecture → Made → Data → Checked Walking
+walk_in machine made d =
     if has_only walk_names d
     then Ok walking_of ⊛ made_number made.unwinders (codes "unwinder") d ⊛ made_number made.caches (codes "cache") d
     ⊛ field address_value (codes "pc") d ⊛ field limit_value (codes "limit") d
-    ⊛ field registers_in (codes "regs") d ⊛ field stack_in (codes "stack") d
+    ⊛ field (registers_in machine) (codes "regs") d ⊛ field stack_in (codes "stack") d
     else Err BadCommand
 
 -- ---- loads
@@ -347,25 +368,25 @@ verb_in d = do
   ok_or (verb_of text) BadCommand
 
 -- the command that does it
-abbrev pub task_in : Made → Data → Verb → Checked Task
-task_in made d verb.Unwinder = if has_only (codes "do" ∷ []) d then Ok make_unwinder else Err BadCommand
-task_in made d verb.Cache = if has_only (codes "do" ∷ []) d then Ok make_cache else Err BadCommand
-task_in made d verb.Clone = Ok clone_unwinder ⊛ one_number made.unwinders (codes "unwinder") d
-task_in made d verb.Load = Ok load_module ⊛ load_in made d
-task_in made d verb.Unload = Ok unload_module ⊛ unload_in made d
-task_in made d verb.Step = Ok take_step ⊛ step_in made d
-task_in made d verb.Walk = Ok take_walk ⊛ walk_in made d
-task_in made d verb.Stats = Ok show_counts ⊛ one_number made.caches (codes "cache") d
+abbrev pub task_in : Architecture → Made → Data → Verb → Checked Task
+task_in machine made d verb.Unwinder = if has_only (codes "do" ∷ []) d then Ok make_unwinder else Err BadCommand
+task_in machine made d verb.Cache = if has_only (codes "do" ∷ []) d then Ok make_cache else Err BadCommand
+task_in machine made d verb.Clone = Ok clone_unwinder ⊛ one_number made.unwinders (codes "unwinder") d
+task_in machine made d verb.Load = Ok load_module ⊛ load_in made d
+task_in machine made d verb.Unload = Ok unload_module ⊛ unload_in made d
+task_in machine made d verb.Step = Ok take_step ⊛ step_in machine made d
+task_in machine made d verb.Walk = Ok take_walk ⊛ walk_in machine made d
+task_in machine made d verb.Stats = Ok show_counts ⊛ one_number made.caches (codes "cache") d
 
 -- the task of a value that has to be a command
-abbrev pub command_fields : Made → Data → Checked Task
-command_fields made d = do
+abbrev pub command_fields : Architecture → Made → Data → Checked Task
+command_fields machine made d = do
   verb ← field verb_in (codes "do") d
-  task_in made d verb
+  task_in machine made d verb
 
 -- one command, after what earlier ones made
-abbrev pub command_in : Made → Data → Checked Task
-command_in made d = if has_float d then Err FloatNumber else command_fields made d
+abbrev pub command_in : Architecture → Made → Data → Checked Task
+command_in machine made d = if has_float d then Err FloatNumber else command_fields machine made d
 
 -- what is made once a command is done
 abbrev pub made_after : Made → Task → Made

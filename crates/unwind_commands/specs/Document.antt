@@ -8,6 +8,8 @@ use Rattle.documents.specs.declared.fault.FaultName.TheVariants.{TooLong, NotJso
 use Rattle.documents.specs.declared.fault.Fault.{Fault}
 use Rattle.documents.specs.declared.transfer.TheConstants.{DOCUMENT_LIMIT}
 use Rattle.unwind_commands.specs.declared.document.TheConstants.{COMMAND_LIMIT}
+use Rattle.unwind_commands.specs.declared.document.Architecture.{Architecture}
+use Rattle.unwind_commands.specs.declared.document.Architecture.TheVariants.{X86_64, Aarch64}
 use Rattle.unwind_commands.specs.declared.document.Policy.{Policy}
 use Rattle.unwind_commands.specs.declared.document.Policy.TheVariants.{May, Must}
 use Rattle.documents.specs.Faults.{Checked, ◌>>=◌, both, in_unit}
@@ -39,8 +41,13 @@ document_names = codes "arch" ∷ codes "policy" ∷ codes "commands" ∷ codes 
 -- no other field stands there, and those beside the commands that have to be there are as they have to be
 unfoldable pub is_supported : Data → Bool
 is_supported d =
-    has_only document_names d && is_text (codes "x86_64") (codes "arch") d
+    has_only document_names d
+    && (is_text (codes "x86_64") (codes "arch") d || is_text (codes "aarch64") (codes "arch") d)
     && (is_text (codes "may") (codes "policy") d || is_text (codes "must") (codes "policy") d)
+
+-- the architecture that a document names, where its fields are as they have to be
+abbrev pub arch_of : Data → Architecture
+arch_of d = if is_text (codes "aarch64") (codes "arch") d then Aarch64 else X86_64
 
 -- the policy that a document names, where its fields are as they have to be
 abbrev pub policy_of : Data → Policy
@@ -79,32 +86,33 @@ with_task task (Ok tasks) = Ok (task ∷ tasks)
 with_task task (Err fault) = Err fault
 
 -- the commands from the one of this number on, or their first fault
-abbrev pub commands_from : ℕ → Made → Items → Result (List Task) Fault
-commands_from n made no_items = Ok []
-commands_from n made (item d ds) = do
-  task ← in_unit n (command_in made d)
-  with_task task (commands_from (n + 1) (made_after made task) ds)
+abbrev pub commands_from : Architecture → ℕ → Made → Items → Result (List Task) Fault
+commands_from machine n made no_items = Ok []
+commands_from machine n made (item d ds) = do
+  task ← in_unit n (command_in machine made d)
+  with_task task (commands_from machine (n + 1) (made_after made task) ds)
 
 -- before the first command
 abbrev pub nothing_made : Made
 nothing_made = record { unwinders = 0; caches = 0 }
 
--- what a document asks for: commands, the policy under which they run, and the first generation that they take
+-- what a document asks for: commands, the architecture and the policy under which they run, and the first generation that they take
 pub record Content : Type 0 where
+  pub arch : Architecture
   pub policy : Policy
   pub generation : ℕ
   pub tasks : List Task
 
--- commands under a policy, from a generation on
-abbrev pub under : Policy → ℕ → Result (List Task) Fault → Result Content Fault
-under policy generation (Ok tasks) = Ok (record { policy = policy; generation = generation; tasks = tasks })
-under policy generation (Err fault) = Err fault
+-- commands on an architecture under a policy, from a generation on
+abbrev pub under : Architecture → Policy → ℕ → Result (List Task) Fault → Result Content Fault
+under machine policy generation (Ok tasks) = Ok (record { arch = machine; policy = policy; generation = generation; tasks = tasks })
+under machine policy generation (Err fault) = Err fault
 
 -- what a document asks for, or its first fault: unit 0 is the document itself, the commands count from 1
 abbrev pub content_in : Data → Result Content Fault
 content_in d = do
   own ← in_unit 0 (document_in d)
-  under (policy_of d) own.0 (commands_from 1 nothing_made own.1)
+  under (arch_of d) (policy_of d) own.0 (commands_from (arch_of d) 1 nothing_made own.1)
 
 -- the same of a document's bytes
 abbrev pub content_of : List ℕ → Result Content Fault

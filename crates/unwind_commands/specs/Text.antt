@@ -1,19 +1,27 @@
 -- What a run writes for a document: a line for each step, the lines of each walk and of each count, or one for the first fault.
-use Rattle.std.specs.Prelude.{ℕ, ◌-◌, ◌/◌, ◌%◌, List, [], ◌∷◌, ◌++◌, ◌&&◌, length, Option, Some, None, Result, Ok, Err, slice_get, ◌==◌, nat_le, if◌then◌else◌}
+use Rattle.std.specs.Prelude.{ℕ, Bool, ◌-◌, ◌/◌, ◌%◌, List, [], ◌∷◌, ◌++◌, ◌&&◌, length, Option, Some, None, Result, Ok, Err, slice_get, ◌==◌, nat_le, if◌then◌else◌}
 use Rattle.documents.specs.Faults.{fault_line}
 use Rattle.documents.specs.Lines.{line}
 use Rattle.documents.specs.declared.fault.Fault.{Fault}
 use Rattle.documents.specs.declared.status.Ending.{Ending}
 use Rattle.documents.specs.declared.status.Ending.TheVariants.{Completed, Faulted}
 use Rattle.framehop_registers.specs.Callback.{Words}
-use Rattle.framehop_registers.specs.Registers.{new_registers}
+use Rattle.framehop_registers.specs.declared.aarch64.unwindregs.UnwindRegsAarch64.{UnwindRegsAarch64}
 use Rattle.framehop_registers.specs.declared.x86_64.unwindregs.UnwindRegsX86_64.{UnwindRegsX86_64}
+use Rattle.framehop_rules.specs.Outcome.{Outcome, Caller}
 use Rattle.framehop_rules.specs.RuleMeaning.{rule_meaning}
+use Rattle.framehop_rules.specs.RuleMeaningAarch64 as aarch64
+use Rattle.framehop_rules.specs.declared.aarch64.unwind_rule.UnwindRuleAarch64.{UnwindRuleAarch64}
+use Rattle.framehop_rules.specs.declared.aarch64.unwind_rule.UnwindRuleAarch64.TheVariants as aarch64_rule
 use Rattle.framehop_rules.specs.declared.x86_64.unwind_rule.UnwindRuleX86_64.{UnwindRuleX86_64}
 use Rattle.framehop_rules.specs.declared.x86_64.unwind_rule.UnwindRuleX86_64.TheVariants.{UseFramePointer, JustReturnIfFirstFrameOtherwiseFp}
 use Rattle.framehop_unwinder.specs.Attempt.{Meanings, meanings}
 use Rattle.dwarf_frame_rows.specs.Effects.{limits_of}
+use Rattle.dwarf_frame_rows.specs.Row.{Row}
+use Rattle.dwarf_readers.specs.Place.{Stretch}
 use Rattle.framehop.specs.Coverage.{row_meanings}
+use Rattle.framehop_rows.specs.RowAttempt.{RowAttempt}
+use Rattle.framehop_rows.specs.RowAttemptAarch64 as aarch64_row
 use Rattle.framehop_rows.specs.RowAttemptX86_64.{row_attempt}
 use Rattle.framehop.specs.UnwindData.{UnwindData, attempt, room_of}
 use Rattle.unwind_commands.specs.Sections.{data_stated}
@@ -24,11 +32,14 @@ use Rattle.framehop_unwinder.specs.State.{State}
 use Rattle.framehop_unwinder.specs.WalkViews.{walk_from}
 use Rattle.unwind_commands.specs.declared.document.command.FrameKind.{FrameKind}
 use Rattle.unwind_commands.specs.declared.document.command.FrameKind.TheVariants.{Ip, Ra}
+use Rattle.unwind_commands.specs.declared.document.Architecture.{Architecture}
+use Rattle.unwind_commands.specs.declared.document.Architecture.TheVariants as arch
 use Rattle.unwind_commands.specs.declared.document.Policy.{Policy}
 use Rattle.unwind_commands.specs.declared.document.Policy.TheVariants.{May, Must}
 use Rattle.unwind_commands.specs.Commands.{Made, StackWords, SectionData, Loading, Stepping, Task, make_unwinder, make_cache, clone_unwinder, load_module, unload_module, take_step, take_walk, show_counts}
 use Rattle.unwind_commands.specs.Document.{Content, content_of}
 use Rattle.unwind_commands.specs.Lines.{outcome_line}
+use Rattle.unwind_commands.specs.Registers.{RegisterForms, register_forms, stated_aarch64, stated_x86_64, text_aarch64, text_x86_64}
 use Rattle.unwind_sessions.specs.Turns.{Progress, Turn, beginning, modules_in, turn_of_unwinder, turn_of_cache, turn_of_clone, turn_of_load, turn_of_unload, turn_of_step, turn_of_walk, turn_of_stats}
 
 -- the words of a stack: one at each eighth byte from its start, as far as they go
@@ -41,10 +52,6 @@ words_of stack at =
 abbrev pub frame_at : FrameKind → ℕ → Frame
 frame_at Ip address = first_frame address
 frame_at Ra address = later_frame address
-
--- the registers that a step begins with
-abbrev pub registers_of : Stepping → UnwindRegsX86_64
-registers_of s = new_registers s.ip s.sp s.bp
 
 -- how many values of an expression a policy has room for; `may` has no limit
 abbrev pub value_limit : Policy → Option ℕ
@@ -62,31 +69,32 @@ loaded_by data_of l = record {
 }
 
 -- the line of a step over modules: the judge's
-abbrev pub line_at : {Data Rule : Type 0} → Meanings Data Rule UnwindRegsX86_64 → List (Loaded Data) → Stepping → List ℕ
-line_at m modules s =
-    outcome_line (registers_of s) (judge m modules (frame_at s.kind s.address) (registers_of s) (words_of s.stack))
+abbrev pub line_at : {Data Rule Registers : Type 0} → Meanings Data Rule Registers → RegisterForms Registers → List (Loaded Data) → Stepping → List ℕ
+line_at m forms modules s =
+    let registers = forms.stated s.registers in
+    outcome_line forms.text registers (judge m modules (frame_at s.kind s.address) registers (words_of s.stack))
 
 -- what a command comes to
-abbrev pub turn : {Data Rule : Type 0} → Meanings Data Rule UnwindRegsX86_64 → (ℕ → List SectionData → Data) → Progress Data → Task
+abbrev pub turn : {Data Rule Registers : Type 0} → Meanings Data Rule Registers → RegisterForms Registers → (ℕ → List SectionData → Data) → Progress Data → Task
     → Turn Data
-turn m data_of progress make_unwinder = turn_of_unwinder progress
-turn m data_of progress make_cache = turn_of_cache progress
-turn m data_of progress (clone_unwinder unwinder) = turn_of_clone unwinder progress
-turn m data_of progress (load_module l) = turn_of_load l.unwinder (loaded_by data_of l) progress
-turn m data_of progress (unload_module u) = turn_of_unload u.unwinder u.start progress
-turn m data_of progress (take_step s) =
-    turn_of_step m (line_at m (modules_in s.unwinder progress) s) (frame_at s.kind s.address) s.unwinder s.cache progress
-turn m data_of progress (take_walk w) =
-    turn_of_walk m (words_of w.stack) w.limit w.unwinder w.cache (walk_from w.pc (new_registers w.ip w.sp w.bp)) progress
-turn m data_of progress (show_counts cache) = turn_of_stats cache progress
+turn m forms data_of progress make_unwinder = turn_of_unwinder progress
+turn m forms data_of progress make_cache = turn_of_cache progress
+turn m forms data_of progress (clone_unwinder unwinder) = turn_of_clone unwinder progress
+turn m forms data_of progress (load_module l) = turn_of_load l.unwinder (loaded_by data_of l) progress
+turn m forms data_of progress (unload_module u) = turn_of_unload u.unwinder u.start progress
+turn m forms data_of progress (take_step s) =
+    turn_of_step m (line_at m forms (modules_in s.unwinder progress) s) (frame_at s.kind s.address) s.unwinder s.cache progress
+turn m forms data_of progress (take_walk w) =
+    turn_of_walk m (words_of w.stack) w.limit w.unwinder w.cache (walk_from w.pc (forms.stated w.registers)) progress
+turn m forms data_of progress (show_counts cache) = turn_of_stats cache progress
 
 -- what commands write, one after another, up to one that is refused
-abbrev pub lines_of : {Data Rule : Type 0} → Meanings Data Rule UnwindRegsX86_64 → (ℕ → List SectionData → Data) → Progress Data
+abbrev pub lines_of : {Data Rule Registers : Type 0} → Meanings Data Rule Registers → RegisterForms Registers → (ℕ → List SectionData → Data) → Progress Data
     → List Task → List ℕ
-lines_of m data_of progress [] = []
-lines_of m data_of progress (task ∷ tasks) =
-    (turn m data_of progress task).text
-    ++ (if (turn m data_of progress task).is_refused then [] else lines_of m data_of (turn m data_of progress task).progress tasks)
+lines_of m forms data_of progress [] = []
+lines_of m forms data_of progress (task ∷ tasks) =
+    (turn m forms data_of progress task).text
+    ++ (if (turn m forms data_of progress task).is_refused then [] else lines_of m forms data_of (turn m forms data_of progress task).progress tasks)
 
 -- how many unwinders and caches a session has
 abbrev pub made_in : {Data Rule : Type 0} → State Data Rule → Made
@@ -94,14 +102,29 @@ made_in state = record { unwinders = length state.unwinders; caches = length sta
 
 -- what steps go by, where expressions have room for so many values, if that is limited: rows have room for the rules of 192 registers, and
 -- there is room for 4 rows
-abbrev pub meanings_within : Option ℕ → Meanings UnwindData UnwindRuleX86_64 UnwindRegsX86_64
-meanings_within limit = meanings rule_meaning UseFramePointer
-    (attempt (row_meanings row_attempt JustReturnIfFirstFrameOtherwiseFp) (room_of (limits_of (Some 192) (Some 4)) limit))
+abbrev pub sections_meanings : {Rule Registers : Type 0} → (Rule → Bool → Registers → Words → Outcome (Caller Registers)) → Rule
+    → (Bool → Option ℕ → ℕ → Stretch → Row ℕ → RowAttempt Rule Registers) → Rule → Option ℕ → Meanings UnwindData Rule Registers
+sections_meanings meaning fallback row_attempt uncovered limit =
+    meanings meaning fallback (attempt (row_meanings row_attempt uncovered) (room_of (limits_of (Some 192) (Some 4)) limit))
+
+abbrev pub meanings_x86_64 : Option ℕ → Meanings UnwindData UnwindRuleX86_64 UnwindRegsX86_64
+meanings_x86_64 limit = sections_meanings rule_meaning UseFramePointer row_attempt JustReturnIfFirstFrameOtherwiseFp limit
+
+abbrev pub meanings_aarch64 : Option ℕ → Meanings UnwindData UnwindRuleAarch64 UnwindRegsAarch64
+meanings_aarch64 limit =
+    sections_meanings aarch64.rule_meaning aarch64_rule.UseFramePointer aarch64_row.row_attempt
+    aarch64_rule.NoOpIfFirstFrameOtherwiseFp limit
+
+-- the lines of commands on an architecture, from a generation on
+abbrev pub lines_on : Architecture → Option ℕ → ℕ → List Task → List ℕ
+lines_on arch.X86_64 limit generation tasks =
+    lines_of (meanings_x86_64 limit) (register_forms stated_x86_64 text_x86_64) data_stated (beginning generation) tasks
+lines_on arch.Aarch64 limit generation tasks =
+    lines_of (meanings_aarch64 limit) (register_forms stated_aarch64 text_aarch64) data_stated (beginning generation) tasks
 
 -- the lines of a document's commands: its policy limits the values of an expression, its counter begins with its generation
 abbrev pub content_lines : Content → List ℕ
-content_lines content =
-    lines_of (meanings_within (value_limit content.policy)) data_stated (beginning content.generation) content.tasks
+content_lines content = lines_on content.arch (value_limit content.policy) content.generation content.tasks
 
 -- what is written for the commands of a document, or for its fault
 abbrev pub answer_to : Result Content Fault → List ℕ

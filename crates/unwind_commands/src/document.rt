@@ -1,7 +1,7 @@
 //! The document: JSON text in, typed commands or the first fault out.
 ghost use Rattle.std.specs.Prelude.{◌≡◌, IfOk, ok_or};
 ghost use Rattle.serde_json.specs.View.{items_view, members_view, view};
-ghost use Rattle.unwind_commands.specs.Document.{have_own_float, commands_from, content_of, document_in, generation_in, has_float_outside, few_commands, is_supported, items_in, nothing_made, has_own_float, policy_of};
+ghost use Rattle.unwind_commands.specs.Document.{arch_of, have_own_float, commands_from, content_of, document_in, generation_in, has_float_outside, few_commands, is_supported, items_in, nothing_made, has_own_float, policy_of};
 ghost use Rattle.documents.specs.Json.{json_of, is_text};
 ghost use Rattle.unwind_commands.specs.Commands.{AreSound};
 ghost use Rattle.documents.specs.Decoded.{Decodes, result_map};
@@ -11,6 +11,7 @@ ghost use Rattle.documents.specs.declared.fault.FaultName.TheVariants.{NotJson};
 mod command;
 mod load;
 mod made;
+mod registers;
 mod step;
 mod walk;
 
@@ -23,6 +24,7 @@ use documents::float::has_float;
 use documents::json::{is_text, read};
 use documents::{DOCUMENT_LIMIT, Fault, FaultName, Refusal};
 use made::{Made, add};
+pub use registers::StatedRegisters;
 use serde_json::{Map, Value};
 use std::alloc::Global;
 
@@ -30,6 +32,13 @@ use std::alloc::Global;
 pub const COMMAND_LIMIT: usize = 65_536;
 /// The most frames that a walk may be asked for.
 pub const WALK_LIMIT: u64 = 65_536;
+
+/// The architecture of a document.
+#[derive(Clone, Copy, Debug, PartialEq, Eq)]
+pub enum Architecture {
+    X86_64,
+    Aarch64,
+}
 
 /// Whether the steps of a document may take memory.
 #[derive(Clone, Copy, Debug, PartialEq, Eq)]
@@ -43,6 +52,7 @@ pub enum Policy {
 /// What a document asks for.
 #[derive(Debug, Drop)]
 pub struct Document {
+    pub arch: Architecture,
     pub policy: Policy,
     /// The first number that the counter of generations gives.
     pub generation: u64,
@@ -89,8 +99,19 @@ fn is_supported(document: &Value) -> bool
     ensures { result ≡ is_supported (view document.now) }
 {
     has_only(document, &["arch", "policy", "commands", "generation"])
-        && is_text(document, "arch", "x86_64")
+        && (is_text(document, "arch", "x86_64") || is_text(document, "arch", "aarch64"))
         && (is_text(document, "policy", "may") || is_text(document, "policy", "must"))
+}
+
+/// The architecture, in a document whose own fields are as they have to be.
+fn arch_of(document: &Value) -> Architecture
+    ensures { result ≡ arch_of (view document.now) }
+{
+    if is_text(document, "arch", "aarch64") {
+        Architecture::Aarch64
+    } else {
+        Architecture::X86_64
+    }
 }
 
 /// The policy, in a document whose own fields are as they have to be.
@@ -152,9 +173,13 @@ fn document_in(document: &Value) -> Checked<(u64, &Vec<Value>)>
 }
 
 /// The commands, or the first fault among them.
-fn commands(alloc: Global, items: &Vec<Value>) -> Result<Vec<Command>, Refusal<Fault>>
+fn commands(
+    alloc: Global,
+    arch: Architecture,
+    items: &Vec<Value>,
+) -> Result<Vec<Command>, Refusal<Fault>>
     ensures { Decodes (λ commands. tasks_of commands.items) result
-        (commands_from 1 nothing_made (items_view items.now.items)) }
+        (commands_from arch 1 nothing_made (items_view items.now.items)) }
 {
     let mut made = Made {
         unwinders: 0,
@@ -163,7 +188,7 @@ fn commands(alloc: Global, items: &Vec<Value>) -> Result<Vec<Command>, Refusal<F
     let mut commands = Vec::new(alloc);
     let mut number: u64 = 1;
     for item in items {
-        let command = in_unit(number, command_in(alloc, item, &made))?;
+        let command = in_unit(number, command_in(alloc, arch, item, &made))?;
         add(&mut made, &command);
         commands.push(command)?;
         number += 1;
@@ -187,8 +212,10 @@ pub fn decode(alloc: Global, text: &[u8]) -> Result<Document, Refusal<Fault>>
     }
     let document = in_unit(0, read(alloc, text))?;
     let (generation, items) = document_in(&document).map_err(Fault::of_document)?;
-    let commands = commands(alloc, items)?;
+    let arch = arch_of(&document);
+    let commands = commands(alloc, arch, items)?;
     Ok(Document {
+        arch,
         policy: policy_of(&document),
         generation,
         commands,

@@ -1,6 +1,7 @@
 //! A document of commands for the unwinder, and the program's run over it.
 #![tactic(auto)]
 
+mod arch;
 mod document;
 mod lines;
 mod perform;

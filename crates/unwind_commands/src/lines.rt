@@ -1,10 +1,10 @@
 //! The lines that a run writes. Each ends with a line feed.
-ghost use Rattle.std.specs.Prelude.{◌≡◌, ◌≢◌, ◌↔◌, Err, Some, IfOk, IsTrue, string_bytes};
+ghost use Rattle.std.specs.Prelude.{◌≡◌, ◌++◌, ◌≢◌, ◌↔◌, Err, Some, IfOk, IsTrue, string_bytes};
 ghost use Rattle.framehop_registers.specs.declared.error.Error.TheVariants.{OutOfMemory};
-ghost use Rattle.unwind_commands.specs.Lines.{answer_text, registers_text, step_text, step_line};
+ghost use Rattle.unwind_commands.specs.Lines.{answer_text, step_line};
 
+use crate::perform::DocumentModules;
 use framehop_rules::Error;
-use framehop_rules::x86_64::UnwindRegsX86_64;
 use std::alloc::{AllocError, Global};
 use std::fmt;
 use unwind_sessions::ErrorName;
@@ -25,38 +25,18 @@ impl fmt::Display for AnswerText {
     }
 }
 
-/// Shows the registers that a step leaves.
+/// What a step answers, and the text of the registers that it leaves.
 #[derive(Clone, Copy)]
-struct RegistersText(UnwindRegsX86_64);
-
-impl fmt::Display for RegistersText {
-    ghost output = { λ text. Some (registers_text text.0) };
-
-    fn fmt<W: fmt::Write>(&self, f: &mut fmt::Formatter<W>) -> fmt::Result {
-        let ip = self.0.ip();
-        let sp = self.0.sp();
-        let bp = self.0.bp();
-        write!(f, " ip 0x{ip:x} sp 0x{sp:x} bp 0x{bp:x}")
-    }
-}
-
-/// What a step answers, and the registers that it leaves.
-#[derive(Clone, Copy)]
-struct StepText {
+struct StepText<'a> {
     answer: Result<Option<u64>, Error>,
-    registers: UnwindRegsX86_64,
+    registers: &'a str,
 }
 
-impl fmt::Display for StepText {
-    ghost output = { λ step. Some (step_text step.answer step.registers) };
+impl fmt::Display for StepText<'_> {
+    ghost output = { λ step. Some (answer_text step.answer ++ step.registers.now) };
 
     fn fmt<W: fmt::Write>(&self, f: &mut fmt::Formatter<W>) -> fmt::Result {
-        write!(
-            f,
-            "{}{}",
-            AnswerText(self.answer),
-            RegistersText(self.registers)
-        )
+        write!(f, "{}{}", AnswerText(self.answer), self.registers)
     }
 }
 
@@ -75,16 +55,18 @@ fn wants_memory(answer: Result<Option<u64>, Error>) -> bool
 
 /// The line of a step: what it answers, and the registers that it leaves. A step that wanted memory
 /// has no line: memory is wanted here too.
-pub(crate) fn step_line(
+pub(crate) fn step_line<A: DocumentModules>(
     alloc: Global,
     answer: Result<Option<u64>, Error>,
-    registers: UnwindRegsX86_64,
+    registers: A::UnwindRegs,
 ) -> Result<String, AllocError>
-    ensures line { IfOk result (λ text. string_bytes text ≡ step_line answer registers) }
+    ensures line { IfOk result (λ text. string_bytes text ≡ step_line A.shown answer registers) }
     ensures memory { IfOk result (λ text. answer ≢ Err OutOfMemory) }
 {
     if wants_memory(answer) {
         return Err(AllocError);
     }
+    let registers = A::registers_text(alloc, registers)?;
+    let registers = registers.as_str();
     format!(in alloc; "{}\n", StepText { answer, registers })
 }

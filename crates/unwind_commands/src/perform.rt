@@ -4,22 +4,27 @@ ghost use Rattle.framehop_registers.specs.Callback.{read_answer};
 ghost use Rattle.framehop_unwinder.specs.Attempt.{meanings};
 ghost use Rattle.framehop_unwinder.specs.Frames.{frame_of};
 ghost use Rattle.unwind_commands.specs.Commands.{IsSound, SectionData};
+ghost use Rattle.unwind_commands.specs.Registers.{register_forms};
 ghost use Rattle.unwind_commands.specs.CommandViews.{sections_view, task_of, words_view};
 ghost use Rattle.unwind_sessions.specs.Turns.{Progress, IsAt, ComesTo};
 ghost use Rattle.unwind_commands.specs.Text.{frame_at, made_in, turn, words_of};
+ghost use Rattle.unwind_commands.specs.declared.document.registers.StatedRegisters.{StatedRegisters};
 ghost use Rattle.unwind_commands.specs.declared.document.command.FrameKind.TheVariants.{Ra};
 
-use crate::document::{Command, FrameKind, Load, Section, Stack, Step, Walk};
+use crate::document::{Command, FrameKind, Load, Section, Stack, StatedRegisters, Step, Walk};
 use crate::lines::step_line;
 use framehop_rules::FrameAddress;
-use framehop_rules::x86_64::UnwindRegsX86_64;
 use framehop_unwinder::{Module, Session, StackWalk, Unwinding};
 use std::alloc::{AllocError, Global};
 use unwind_sessions as turns;
 use unwind_sessions::Written;
 
 /// What the modules of documents are unwound by: their sections, in one way or another.
-pub(crate) trait DocumentModules: Unwinding<UnwindRegs = UnwindRegsX86_64> {
+pub(crate) trait DocumentModules: Unwinding {
+    ghost of_stated: { StatedRegisters → Self.UnwindRegs };
+
+    ghost shown: { Self.UnwindRegs → List ℕ };
+
     ghost data_of: { ℕ → List SectionData → Self.UnwindData };
 
     /// What sections give to unwind by, whose stated addresses count from an address.
@@ -30,6 +35,14 @@ pub(crate) trait DocumentModules: Unwinding<UnwindRegs = UnwindRegsX86_64> {
     ) -> Result<Self::UnwindData, AllocError>
         ensures { IfOk result (λ unwind_data.
             unwind_data ≡ data_of base_svma (sections_view sections.items)) };
+
+    /// The registers that are stated.
+    fn stated_registers(stated: StatedRegisters) -> Self::UnwindRegs
+        ensures { result ≡ of_stated stated };
+
+    /// The text of registers, each after its name.
+    fn registers_text(alloc: Global, registers: Self::UnwindRegs) -> Result<String, AllocError>
+        ensures { IfOk result (λ text. string_bytes text ≡ shown registers) };
 
     /// Room for the attempts of a new cache.
     fn unwind_context(alloc: Global) -> Result<Self::UnwindContext, AllocError>;
@@ -43,8 +56,9 @@ pub(crate) fn perform<A: DocumentModules>(
 ) -> Result<Written, AllocError>
     requires { IsSound (made_in session.old) (task_of command) }
     ensures { let m = meanings A.UnwindRule.meaning A.UnwindRule.fallback A.attempt in
+        let forms = register_forms A.of_stated A.shown in
         (progress : Progress A.UnwindData) → IsAt progress session.old
-        → IfOk result (λ written. ComesTo (turn m A.data_of progress (task_of command))
+        → IfOk result (λ written. ComesTo (turn m forms A.data_of progress (task_of command))
         (string_bytes written.text) written.is_refused session.new) }
 {
     match command {
@@ -67,8 +81,9 @@ fn load_module<A: DocumentModules>(
 ) -> Result<Written, AllocError>
     requires { load.unwinder < length session.old.unwinders }
     ensures { let m = meanings A.UnwindRule.meaning A.UnwindRule.fallback A.attempt in
+        let forms = register_forms A.of_stated A.shown in
         (progress : Progress A.UnwindData) → IsAt progress session.old
-        → IfOk result (λ written. ComesTo (turn m A.data_of progress (task_of (Command.Load load)))
+        → IfOk result (λ written. ComesTo (turn m forms A.data_of progress (task_of (Command.Load load)))
         (string_bytes written.text) written.is_refused session.new) }
 {
     let unwind_data = A::unwind_data(alloc, load.base_svma, load.sections)?;
@@ -85,12 +100,13 @@ fn take_step<A: DocumentModules>(
 ) -> Result<Written, AllocError>
     requires { IsSound (made_in session.old) (task_of (Command.Step step.now)) }
     ensures { let m = meanings A.UnwindRule.meaning A.UnwindRule.fallback A.attempt in
+        let forms = register_forms A.of_stated A.shown in
         (progress : Progress A.UnwindData) → IsAt progress session.old
-        → IfOk result (λ written. ComesTo (turn m A.data_of progress (task_of (Command.Step step.now)))
+        → IfOk result (λ written. ComesTo (turn m forms A.data_of progress (task_of (Command.Step step.now)))
         (string_bytes written.text) written.is_refused session.new) }
 {
     let address = frame_address(step.kind, step.address);
-    let mut regs = UnwindRegsX86_64::new(step.ip, step.sp, step.bp);
+    let mut regs = A::stated_registers(step.registers);
     let stack = &step.stack;
     let mut read_stack = |at: u64| -> Result<u64, ()>
         ensures answer { result ≡ read_answer (words_of (words_view stack.entry.now) at) }
@@ -103,7 +119,7 @@ fn take_step<A: DocumentModules>(
         &mut regs,
         &mut read_stack,
     );
-    let line = step_line(alloc, answer, regs)?;
+    let line = step_line::<A>(alloc, answer, regs)?;
     Ok(Written::lines(line))
 }
 
@@ -115,11 +131,12 @@ fn take_walk<A: DocumentModules>(
 ) -> Result<Written, AllocError>
     requires { IsSound (made_in session.old) (task_of (Command.Walk walk.now)) }
     ensures { let m = meanings A.UnwindRule.meaning A.UnwindRule.fallback A.attempt in
+        let forms = register_forms A.of_stated A.shown in
         (progress : Progress A.UnwindData) → IsAt progress session.old
-        → IfOk result (λ written. ComesTo (turn m A.data_of progress (task_of (Command.Walk walk.now)))
+        → IfOk result (λ written. ComesTo (turn m forms A.data_of progress (task_of (Command.Walk walk.now)))
         (string_bytes written.text) written.is_refused session.new) }
 {
-    let regs = UnwindRegsX86_64::new(walk.ip, walk.sp, walk.bp);
+    let regs = A::stated_registers(walk.registers);
     let mut frames = StackWalk::new(walk.pc, regs);
     let stack = &walk.stack;
     let mut read_stack = |at: u64| -> Result<u64, ()>

@@ -7,19 +7,23 @@ ghost use Rattle.unwind_sessions.specs.Turns.{beginning};
 ghost use Rattle.unwind_commands.specs.Commands.{AreSound};
 ghost use Rattle.unwind_commands.specs.Document.{nothing_made};
 ghost use Rattle.unwind_commands.specs.CommandViews.{content_view, tasks_of};
-ghost use Rattle.unwind_commands.specs.Text.{text_of, ending_of, content_lines, lines_of};
+ghost use Rattle.unwind_commands.specs.Registers.{register_forms};
+ghost use Rattle.unwind_commands.specs.Sections.{data_stated};
+ghost use Rattle.unwind_commands.specs.Text.{text_of, ending_of, content_lines, lines_of, sections_meanings, value_limit};
 
-use crate::document::{Command, Document, Policy, decode};
+use crate::arch::DocumentArch;
+use crate::document::{Architecture, Command, Document, Policy, decode};
 use crate::perform::{DocumentModules, perform};
 use documents::{Ending, Refusal, RunError, Sink, Source, read_document, write_all};
 use framehop::{BySections, MayAllocateDuringUnwind, MustNotAllocateDuringUnwind};
 use framehop_modules::Generations;
+use framehop_rules::aarch64::ArchAarch64;
 use framehop_rules::x86_64::ArchX86_64;
 use framehop_unwinder::Session;
 use std::alloc::Global;
 
-/// Modules of x86_64 by the bytes of their sections, under a policy.
-type Modules<P> = BySections<ArchX86_64, Vec<u8>, P>;
+/// Modules of an architecture by the bytes of their sections, under a policy.
+type Modules<A, P> = BySections<A, Vec<u8>, P>;
 
 /// Reads a document, and writes what its commands ask for, or a line for its first fault.
 ///
@@ -87,12 +91,47 @@ fn run_document<W: Sink>(alloc: Global, document: Document, writer: &mut W) -> R
 {
     let generation = document.generation;
     let commands = document.commands;
-    match document.policy {
+    match document.arch {
+        Architecture::X86_64 => {
+            run_on::<ArchX86_64, W>(alloc, document.policy, generation, commands, writer)
+        }
+        Architecture::Aarch64 => {
+            run_on::<ArchAarch64, W>(alloc, document.policy, generation, commands, writer)
+        }
+    }
+}
+
+/// Carries out commands on an architecture under a policy.
+fn run_on<A: DocumentArch, W: Sink>(
+    alloc: Global,
+    policy: Policy,
+    generation: u64,
+    commands: Vec<Command>,
+    writer: &mut W,
+) -> Result<(), RunError>
+    requires writer { W.has_failed writer.old ≡ false }
+    requires sound { AreSound nothing_made (tasks_of commands.items) }
+    ensures text { let m = sections_meanings A.UnwindRule.meaning A.UnwindRule.fallback
+        A.row_attempt A.uncovered (value_limit policy) in
+        let forms = register_forms A.of_stated A.shown in
+        OnOk result (Appends (W.contents writer.old) (W.contents writer.new)
+        (lines_of m forms data_stated (beginning generation) (tasks_of commands.items))) }
+    ensures write { IsErrOf result RunError.Write ↔ IsTrue (W.has_failed writer.new) }
+    ensures no_read { IfErr result (λ error. error ≢ RunError.Read) }
+    ensures begun { let m = sections_meanings A.UnwindRule.meaning A.UnwindRule.fallback
+        A.row_attempt A.uncovered (value_limit policy) in
+        let forms = register_forms A.of_stated A.shown in
+        OnErr result (AppendsFront (W.contents writer.old) (W.contents writer.new)
+        (lines_of m forms data_stated (beginning generation) (tasks_of commands.items))) }
+{
+    match policy {
         Policy::May => {
-            run_commands::<Modules<MayAllocateDuringUnwind>, W>(alloc, generation, commands, writer)
+            run_commands::<Modules<A, MayAllocateDuringUnwind>, W>(
+                alloc, generation, commands, writer,
+            )
         }
         Policy::Must => {
-            run_commands::<Modules<MustNotAllocateDuringUnwind>, W>(
+            run_commands::<Modules<A, MustNotAllocateDuringUnwind>, W>(
                 alloc, generation, commands, writer,
             )
         }
@@ -110,13 +149,15 @@ fn run_commands<A: DocumentModules, W: Sink>(
     requires writer { W.has_failed writer.old ≡ false }
     requires sound { AreSound nothing_made (tasks_of commands.items) }
     ensures text { let m = meanings A.UnwindRule.meaning A.UnwindRule.fallback A.attempt in
+        let forms = register_forms A.of_stated A.shown in
         OnOk result (Appends (W.contents writer.old) (W.contents writer.new)
-        (lines_of m A.data_of (beginning generation) (tasks_of commands.items))) }
+        (lines_of m forms A.data_of (beginning generation) (tasks_of commands.items))) }
     ensures write { IsErrOf result RunError.Write ↔ IsTrue (W.has_failed writer.new) }
     ensures no_read { IfErr result (λ error. error ≢ RunError.Read) }
     ensures begun { let m = meanings A.UnwindRule.meaning A.UnwindRule.fallback A.attempt in
+        let forms = register_forms A.of_stated A.shown in
         OnErr result (AppendsFront (W.contents writer.old) (W.contents writer.new)
-        (lines_of m A.data_of (beginning generation) (tasks_of commands.items))) }
+        (lines_of m forms A.data_of (beginning generation) (tasks_of commands.items))) }
 {
     commands.reverse();
     let mut session = Session::<A>::new(alloc, Generations::starting_at(generation));

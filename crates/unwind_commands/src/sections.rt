@@ -5,11 +5,11 @@ ghost use Rattle.unwind_commands.specs.CommandViews.{section_view, sections_view
 ghost use Rattle.unwind_commands.specs.Sections.{data_named, range_named};
 ghost use Rattle.unwind_commands.specs.declared.document.command.Section.{Section};
 
-use crate::document::Section;
+use crate::arch::DocumentArch;
+use crate::document::{Section, StatedRegisters};
 use crate::perform::DocumentModules;
 use framehop::{AllocationPolicy, BySections, DwarfUnwindContext, ModuleUnwindData};
 use framehop_modules::ModuleSectionInfo;
-use framehop_rules::x86_64::ArchX86_64;
 use std::alloc::{AllocError, Global};
 use std::ops::Range;
 
@@ -96,7 +96,7 @@ impl ModuleSectionInfo<Vec<u8>> for StatedSections {
     }
 }
 
-impl<P: AllocationPolicy> DocumentModules for BySections<ArchX86_64, Vec<u8>, P> {
+impl<A: DocumentArch, P: AllocationPolicy> DocumentModules for BySections<A, Vec<u8>, P> {
     ghost use Rattle.unwind_commands.specs.Sections.{data_stated};
 
     ghost data_of = { data_stated };
@@ -108,6 +108,18 @@ impl<P: AllocationPolicy> DocumentModules for BySections<ArchX86_64, Vec<u8>, P>
     ) -> Result<ModuleUnwindData<Vec<u8>>, AllocError> {
         let mut info = StatedSections::new(base_svma, sections);
         ModuleUnwindData::new(alloc, &mut info)
+    }
+
+    ghost of_stated = { A.of_stated };
+
+    ghost shown = { A.shown };
+
+    fn stated_registers(stated: StatedRegisters) -> A::UnwindRegs {
+        A::stated_registers(stated)
+    }
+
+    fn registers_text(alloc: Global, registers: A::UnwindRegs) -> Result<String, AllocError> {
+        A::registers_text(alloc, registers)
     }
 
     fn unwind_context(alloc: Global) -> Result<DwarfUnwindContext<P>, AllocError> {

@@ -13,6 +13,7 @@ use Rattle.unwind_commands.specs.declared.document.command.Verb.TheVariants as v
 use Rattle.documents.specs.Faults.{Checked, ◌⊛◌, both, ◌>>=◌}
 use Rattle.documents.specs.Json.{field, text_value, address_value, number_value, has_only}
 use Rattle.serde_json.specs.Find.{get}
+use Rattle.unwind_commands.specs.declared.document.Architecture.{Architecture}
 use Rattle.unwind_commands.specs.Commands.{Made, Task, make_unwinder, make_cache, clone_unwinder, load_module, unload_module, take_step, take_walk, show_counts, Stepping, Walking, Loading, Unloading, StackWords, IsSound, IsSoundStep, IsSoundWalk, AreSound, kind_in, words_in, registers_in, sections_in, made_number, one_number, stepping_of, walking_of, loading_of, unloading_of, limit_value, stack_names, step_names, walk_names, load_names, unload_names, number_below, frame_at, frame_in, stack_at, stack_in, step_in, walk_in, load_in, unload_in, verb_in, task_in, command_in, made_after}
 use Rattle.documents.specs.Faults.{in_unit}
 use Rattle.unwind_commands.specs.Document.{with_task, commands_from}
@@ -129,12 +130,12 @@ stack_field_sound d stack is =
     let s = bind_ok (ok_or (get (codes "stack") d) BadCommand) stack_in stack is in
     stack_in_sound s.0 stack s.2
 
-step_sound : (made : Made) (d : Data) (step : Stepping) → step_in made d ≡ Ok step → IsSoundStep made step
-step_sound made d step is =
+step_sound : (machine : Architecture) (made : Made) (d : Data) (step : Stepping) → step_in machine made d ≡ Ok step → IsSoundStep made step
+step_sound machine made d step is =
     let u = made_number made.unwinders (codes "unwinder") d in
     let c = made_number made.caches (codes "cache") d in
-    let t = test_ok (has_only step_names d) (Ok stepping_of ⊛ u ⊛ c ⊛ frame_in d ⊛ field registers_in (codes "regs") d ⊛ field stack_in (codes "stack") d) BadCommand step is in
-    let p = five_ok stepping_of u c (frame_in d) (field registers_in (codes "regs") d) (field stack_in (codes "stack") d) step t.1 in
+    let t = test_ok (has_only step_names d) (Ok stepping_of ⊛ u ⊛ c ⊛ frame_in d ⊛ field (registers_in machine) (codes "regs") d ⊛ field stack_in (codes "stack") d) BadCommand step is in
+    let p = five_ok stepping_of u c (frame_in d) (field (registers_in machine) (codes "regs") d) (field stack_in (codes "stack") d) step t.1 in
     subst (IsSoundStep made) (sym p.9) (record {
       unwinder = number_known made.unwinders (field number_value (codes "unwinder") d) p.0 p.5;
       cache = number_known made.caches (field number_value (codes "cache") d) p.1 p.6;
@@ -162,13 +163,13 @@ unload_sound made d unload is =
     let made_of : unload ≡ unloading_of l1.1 l2.1 = l2.4 ∙ ap (λ g. g l2.1) (l1.4 ∙ ap (λ g. g l1.1) (sym (ok_is unloading_of l1.0 l1.2))) in
     subst (λ (u : Unloading). u.unwinder < made.unwinders) (sym made_of) (number_known made.unwinders (field number_value (codes "unwinder") d) l1.1 l1.3)
 
-walk_sound : (made : Made) (d : Data) (walk : Walking) → walk_in made d ≡ Ok walk → IsSoundWalk made walk
-walk_sound made d walk is =
+walk_sound : (machine : Architecture) (made : Made) (d : Data) (walk : Walking) → walk_in machine made d ≡ Ok walk → IsSoundWalk made walk
+walk_sound machine made d walk is =
     let u = made_number made.unwinders (codes "unwinder") d in
     let c = made_number made.caches (codes "cache") d in
     let p = field address_value (codes "pc") d in
     let l = field limit_value (codes "limit") d in
-    let r = field registers_in (codes "regs") d in
+    let r = field (registers_in machine) (codes "regs") d in
     let s = field stack_in (codes "stack") d in
     let t = test_ok (has_only walk_names d) (Ok walking_of ⊛ u ⊛ c ⊛ p ⊛ l ⊛ r ⊛ s) BadCommand walk is in
     let l6 = last_ok (Ok walking_of ⊛ u ⊛ c ⊛ p ⊛ l ⊛ r) s walk t.1 in
@@ -194,33 +195,33 @@ one_sound count name d n is =
 
 -- ---- commands
 
-task_sound : (made : Made) (d : Data) (v : Verb) (task : Task) → task_in made d v ≡ Ok task → IsSound made task
-task_sound made d verb.Unwinder task is = subst (IsSound made) (ok_is make_unwinder task (test_ok (has_only (codes "do" ∷ []) d) (Ok make_unwinder) BadCommand task is).1) tt
-task_sound made d verb.Cache task is = subst (IsSound made) (ok_is make_cache task (test_ok (has_only (codes "do" ∷ []) d) (Ok make_cache) BadCommand task is).1) tt
-task_sound made d verb.Load task is =
+task_sound : (machine : Architecture) (made : Made) (d : Data) (v : Verb) (task : Task) → task_in machine made d v ≡ Ok task → IsSound made task
+task_sound machine made d verb.Unwinder task is = subst (IsSound made) (ok_is make_unwinder task (test_ok (has_only (codes "do" ∷ []) d) (Ok make_unwinder) BadCommand task is).1) tt
+task_sound machine made d verb.Cache task is = subst (IsSound made) (ok_is make_cache task (test_ok (has_only (codes "do" ∷ []) d) (Ok make_cache) BadCommand task is).1) tt
+task_sound machine made d verb.Load task is =
     let l = last_ok (Ok load_module) (load_in made d) task is in
     subst (IsSound made) (sym (l.4 ∙ ap (λ g. g l.1) (sym (ok_is load_module l.0 l.2)))) (load_sound made d l.1 l.3)
-task_sound made d verb.Step task is =
-    let l = last_ok (Ok take_step) (step_in made d) task is in
-    subst (IsSound made) (sym (l.4 ∙ ap (λ g. g l.1) (sym (ok_is take_step l.0 l.2)))) (step_sound made d l.1 l.3)
-task_sound made d verb.Clone task is =
+task_sound machine made d verb.Step task is =
+    let l = last_ok (Ok take_step) (step_in machine made d) task is in
+    subst (IsSound made) (sym (l.4 ∙ ap (λ g. g l.1) (sym (ok_is take_step l.0 l.2)))) (step_sound machine made d l.1 l.3)
+task_sound machine made d verb.Clone task is =
     let l = last_ok (Ok clone_unwinder) (one_number made.unwinders (codes "unwinder") d) task is in
     subst (IsSound made) (sym (l.4 ∙ ap (λ g. g l.1) (sym (ok_is clone_unwinder l.0 l.2)))) (one_sound made.unwinders (codes "unwinder") d l.1 l.3)
-task_sound made d verb.Unload task is =
+task_sound machine made d verb.Unload task is =
     let l = last_ok (Ok unload_module) (unload_in made d) task is in
     subst (IsSound made) (sym (l.4 ∙ ap (λ g. g l.1) (sym (ok_is unload_module l.0 l.2)))) (unload_sound made d l.1 l.3)
-task_sound made d verb.Walk task is =
-    let l = last_ok (Ok take_walk) (walk_in made d) task is in
-    subst (IsSound made) (sym (l.4 ∙ ap (λ g. g l.1) (sym (ok_is take_walk l.0 l.2)))) (walk_sound made d l.1 l.3)
-task_sound made d verb.Stats task is =
+task_sound machine made d verb.Walk task is =
+    let l = last_ok (Ok take_walk) (walk_in machine made d) task is in
+    subst (IsSound made) (sym (l.4 ∙ ap (λ g. g l.1) (sym (ok_is take_walk l.0 l.2)))) (walk_sound machine made d l.1 l.3)
+task_sound machine made d verb.Stats task is =
     let l = last_ok (Ok show_counts) (one_number made.caches (codes "cache") d) task is in
     subst (IsSound made) (sym (l.4 ∙ ap (λ g. g l.1) (sym (ok_is show_counts l.0 l.2)))) (one_sound made.caches (codes "cache") d l.1 l.3)
 
-command_sound : (made : Made) (d : Data) (task : Task) → command_in made d ≡ Ok task → IsSound made task
-command_sound made d task is =
-    let t = test_not (has_float d) (field verb_in (codes "do") d >>= task_in made d) FloatNumber task is in
-    let s = bind_ok (field verb_in (codes "do") d) (task_in made d) task t.1 in
-    task_sound made d s.0 task s.2
+command_sound : (machine : Architecture) (made : Made) (d : Data) (task : Task) → command_in machine made d ≡ Ok task → IsSound made task
+command_sound machine made d task is =
+    let t = test_not (has_float d) (field verb_in (codes "do") d >>= task_in machine made d) FloatNumber task is in
+    let s = bind_ok (field verb_in (codes "do") d) (task_in machine made d) task t.1 in
+    task_sound machine made d s.0 task s.2
 
 unit_ok : {A : Type 0} (n : ℕ) (r : Checked A) (x : A) → in_unit n r ≡ Ok x → r ≡ Ok x
 unit_ok n (Ok y) x is = ap (λ z. Ok z) (ok_is y x is)
@@ -231,10 +232,10 @@ with_ok task (Ok more) ts is = (more, refl, ok_is (task ∷ more) ts is)
 with_ok task (Err f) ts is = absurd cc
 
 -- the commands that are decoded are sound, from what is made on
-pub commands_sound : (n : ℕ) (made : Made) (ds : Items) (ts : List Task) → commands_from n made ds ≡ Ok ts → AreSound made ts
-commands_sound n made no_items ts is = subst (AreSound made) (ok_is [] ts is) tt
-commands_sound n made (item d ds) ts is =
-    let s = bind_ok (in_unit n (command_in made d)) (λ task. with_task task (commands_from (n + 1) (made_after made task) ds)) ts is in
-    let w = with_ok s.0 (commands_from (n + 1) (made_after made s.0) ds) ts s.2 in
+pub commands_sound : (machine : Architecture) (n : ℕ) (made : Made) (ds : Items) (ts : List Task) → commands_from machine n made ds ≡ Ok ts → AreSound made ts
+commands_sound machine n made no_items ts is = subst (AreSound made) (ok_is [] ts is) tt
+commands_sound machine n made (item d ds) ts is =
+    let s = bind_ok (in_unit n (command_in machine made d)) (λ task. with_task task (commands_from machine (n + 1) (made_after made task) ds)) ts is in
+    let w = with_ok s.0 (commands_from machine (n + 1) (made_after made s.0) ds) ts s.2 in
     subst (AreSound made) w.2
-    (command_sound made d s.0 (unit_ok n (command_in made d) s.0 s.1), commands_sound (n + 1) (made_after made s.0) ds w.0 w.1)
+    (command_sound machine made d s.0 (unit_ok n (command_in machine made d) s.0 s.1), commands_sound machine (n + 1) (made_after made s.0) ds w.0 w.1)

@@ -6,8 +6,10 @@ ghost use Rattle.documents.specs.Json.{field};
 ghost use Rattle.documents.specs.Decoded.{Decodes};
 ghost use Rattle.unwind_commands.specs.CommandViews.{made_view, task_of};
 
+use super::Architecture;
 use super::load::{load_in, unload_in};
 use super::made::{Made, made_number};
+use super::registers::StatedRegisters;
 use super::step::step_in;
 use super::walk::walk_in;
 use documents::check::Checked;
@@ -99,9 +101,7 @@ pub struct Step {
     pub cache: usize,
     pub kind: FrameKind,
     pub address: u64,
-    pub ip: u64,
-    pub sp: u64,
-    pub bp: u64,
+    pub registers: StatedRegisters,
     pub stack: Stack,
 }
 
@@ -116,9 +116,7 @@ pub struct Walk {
     pub pc: u64,
     /// The most frames, from 1 to 65,536.
     pub limit: u64,
-    pub ip: u64,
-    pub sp: u64,
-    pub bp: u64,
+    pub registers: StatedRegisters,
     pub stack: Stack,
 }
 
@@ -172,11 +170,12 @@ fn one_number(object: &Value, name: &str, count: usize) -> Checked<usize>
 /// The command that does it.
 fn task_in(
     alloc: Global,
+    arch: Architecture,
     object: &Value,
     verb: Verb,
     made: &Made,
 ) -> Result<Command, Refusal<FaultName>>
-    ensures { Decodes task_of result (task_in (made_view made.now) (view object.now) verb) }
+    ensures { Decodes task_of result (task_in arch (made_view made.now) (view object.now) verb) }
 {
     match verb {
         Verb::Unwinder if has_only(object, &["do"]) => Ok(Command::Unwinder),
@@ -185,8 +184,8 @@ fn task_in(
         Verb::Clone => Ok(Command::Clone(one_number(object, "unwinder", made.unwinders)?)),
         Verb::Load => Ok(Command::Load(load_in(alloc, object, made)?)),
         Verb::Unload => Ok(Command::Unload(unload_in(object, made)?)),
-        Verb::Step => Ok(Command::Step(step_in(alloc, object, made)?)),
-        Verb::Walk => Ok(Command::Walk(walk_in(alloc, object, made)?)),
+        Verb::Step => Ok(Command::Step(step_in(alloc, arch, object, made)?)),
+        Verb::Walk => Ok(Command::Walk(walk_in(alloc, arch, object, made)?)),
         Verb::Stats => Ok(Command::Stats(one_number(object, "cache", made.caches)?)),
     }
 }
@@ -194,13 +193,14 @@ fn task_in(
 /// One command, after what earlier ones made.
 pub(crate) fn command_in(
     alloc: Global,
+    arch: Architecture,
     value: &Value,
     made: &Made,
 ) -> Result<Command, Refusal<FaultName>>
-    ensures { Decodes task_of result (command_in (made_view made.now) (view value.now)) }
+    ensures { Decodes task_of result (command_in arch (made_view made.now) (view value.now)) }
 {
     if has_float(value) {
         return Err(Refusal::Fault(FaultName::FloatNumber));
     }
-    task_in(alloc, value, verb_field(value)?, made)
+    task_in(alloc, arch, value, verb_field(value)?, made)
 }

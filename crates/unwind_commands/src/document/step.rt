@@ -2,25 +2,19 @@
 ghost use Rattle.std.specs.Prelude.{◌≡◌, codes};
 ghost use Rattle.serde_json.specs.View.{view, items_view};
 ghost use Rattle.documents.specs.Json.{address_value, list_of, field};
-ghost use Rattle.unwind_commands.specs.Commands.{kind_in, frame_in, registers_in, words_in, stack_at, stack_in, step_in};
+ghost use Rattle.unwind_commands.specs.Commands.{kind_in, frame_in, words_in, stack_at, stack_in, step_in};
 ghost use Rattle.documents.specs.Decoded.{Decodes, result_map};
 ghost use Rattle.unwind_commands.specs.CommandViews.{words_view, step_view, made_view};
 
+use super::Architecture;
 use super::command::{FrameKind, Stack, Step};
 use super::made::{Made, made_number};
+use super::registers::registers_field;
 use documents::check::{Checked, both, weighed, with_fault};
 use documents::field::{address_field, address_in, has_only, needed, text_field};
 use documents::{FaultName, Refusal};
 use serde_json::Value;
 use std::alloc::Global;
-
-/// The registers of a step or a walk.
-#[derive(Clone, Copy, Debug, PartialEq, Eq)]
-pub(crate) struct Registers {
-    pub(crate) ip: u64,
-    pub(crate) sp: u64,
-    pub(crate) bp: u64,
-}
 
 /// How the address of the frame is meant.
 fn kind_field(object: &Value) -> Checked<FrameKind>
@@ -42,27 +36,6 @@ fn frame_in(object: &Value) -> Checked<(FrameKind, u64)>
         return Err(FaultName::BadNumber);
     }
     Ok((kind, address))
-}
-
-/// A value that has to be the registers.
-fn registers_in(value: &Value) -> Checked<Registers>
-    ensures { result ≡ registers_in (view value.now) }
-{
-    if !has_only(value, &["ip", "sp", "bp"]) {
-        return Err(FaultName::BadCommand);
-    }
-    let ip = address_field(value, "ip");
-    let sp = address_field(value, "sp");
-    let bp = address_field(value, "bp");
-    let ((ip, sp), bp) = both(both(ip, sp), bp)?;
-    Ok(Registers { ip, sp, bp })
-}
-
-/// The registers of a step or a walk.
-pub(crate) fn registers_field(object: &Value) -> Checked<Registers>
-    ensures { result ≡ field registers_in (codes "regs") (view object.now) }
-{
-    registers_in(needed(object, "regs")?)
 }
 
 /// A value that has to be a list of words.
@@ -133,10 +106,11 @@ pub(crate) fn stack_field(alloc: Global, object: &Value) -> Result<Stack, Refusa
 /// A step of an unwinder with a cache that earlier commands made.
 pub(crate) fn step_in(
     alloc: Global,
+    arch: Architecture,
     object: &Value,
     made: &Made,
 ) -> Result<Step, Refusal<FaultName>>
-    ensures { Decodes step_view result (step_in (made_view made.now) (view object.now)) }
+    ensures { Decodes step_view result (step_in arch (made_view made.now) (view object.now)) }
 {
     if !has_only(
         object,
@@ -149,7 +123,7 @@ pub(crate) fn step_in(
     let unwinder = made_number(object, "unwinder", made.unwinders);
     let cache = made_number(object, "cache", made.caches);
     let frame = frame_in(object);
-    let registers = registers_field(object);
+    let registers = registers_field(arch, object);
     let stack = weighed(stack_field(alloc, object))?;
     let ((((unwinder, cache), (kind, address)), registers), stack) = both(
         both(both(both(unwinder, cache), frame), registers),
@@ -160,9 +134,7 @@ pub(crate) fn step_in(
         cache,
         kind,
         address,
-        ip: registers.ip,
-        sp: registers.sp,
-        bp: registers.bp,
+        registers,
         stack,
     })
 }

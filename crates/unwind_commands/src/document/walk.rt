@@ -6,10 +6,11 @@ ghost use Rattle.documents.specs.Json.{field};
 ghost use Rattle.unwind_commands.specs.Commands.{limit_value, walk_in};
 ghost use Rattle.unwind_commands.specs.CommandViews.{made_view, walk_view};
 
-use super::WALK_LIMIT;
 use super::command::Walk;
 use super::made::{Made, made_number};
-use super::step::{registers_field, stack_field};
+use super::registers::registers_field;
+use super::step::stack_field;
+use super::{Architecture, WALK_LIMIT};
 use documents::check::{Checked, both, weighed};
 use documents::field::{address_field, has_only, number_field};
 use documents::{FaultName, Refusal};
@@ -31,10 +32,11 @@ fn limit_field(object: &Value) -> Checked<u64>
 /// A walk over the frames of an unwinder with a cache that earlier commands made.
 pub(crate) fn walk_in(
     alloc: Global,
+    arch: Architecture,
     object: &Value,
     made: &Made,
 ) -> Result<Walk, Refusal<FaultName>>
-    ensures { Decodes walk_view result (walk_in (made_view made.now) (view object.now)) }
+    ensures { Decodes walk_view result (walk_in arch (made_view made.now) (view object.now)) }
 {
     if !has_only(
         object,
@@ -46,7 +48,7 @@ pub(crate) fn walk_in(
     let cache = made_number(object, "cache", made.caches);
     let pc = address_field(object, "pc");
     let limit = limit_field(object);
-    let registers = registers_field(object);
+    let registers = registers_field(arch, object);
     let stack = weighed(stack_field(alloc, object))?;
     let (((((unwinder, cache), pc), limit), registers), stack) = both(
         both(both(both(both(unwinder, cache), pc), limit), registers),
@@ -57,9 +59,7 @@ pub(crate) fn walk_in(
         cache,
         pc,
         limit,
-        ip: registers.ip,
-        sp: registers.sp,
-        bp: registers.bp,
+        registers,
         stack,
     })
 }

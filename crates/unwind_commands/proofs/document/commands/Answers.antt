@@ -19,11 +19,11 @@ returns-in_err-command c =
     let rest = items_view (drop (l.item-index + 1) vs) in
     let done = tasks_of l.commands.items in
     same_refusal _ _ c.in_err-command.field-0.0 _ c.from_residual.ensures.1
-    (behind-refused task_of (λ (v : Vec Command Global). tasks_of v.items) _ done l.number (made_view l.made) (view c.item-item.result) rest c.in_err-command.field-0.0
-    (sym (ap (λ vs. commands_from 1 nothing_made (items_view vs)) c.deref-item-items.ensures.value) ∙ l.invariant.same
-    ∙ ap (λ ws. behind done (commands_from l.number (made_view l.made) (items_view ws))) (drop-element vs l.item-index c.item-item.result c.loop-item-test.true c.item-item.is))
-    (subst (λ r. Decodes task_of r (in_unit l.number (command_in (made_view l.made) (view c.item-item.result)))) c.in_err-command.was
-    (subst (λ r. Decodes task_of r (in_unit l.number (command_in (made_view l.made) (view c.item-item.result)))) (sym c.in_unit.ensures)
+    (behind-refused c.args.arch task_of (λ (v : Vec Command Global). tasks_of v.items) _ done l.number (made_view l.made) (view c.item-item.result) rest c.in_err-command.field-0.0
+    (sym (ap (λ vs. commands_from c.args.arch 1 nothing_made (items_view vs)) c.deref-item-items.ensures.value) ∙ l.invariant.same
+    ∙ ap (λ ws. behind done (commands_from c.args.arch l.number (made_view l.made) (items_view ws))) (drop-element vs l.item-index c.item-item.result c.loop-item-test.true c.item-item.is))
+    (subst (λ r. Decodes task_of r (in_unit l.number (command_in c.args.arch (made_view l.made) (view c.item-item.result)))) c.in_err-command.was
+    (subst (λ r. Decodes task_of r (in_unit l.number (command_in c.args.arch (made_view l.made) (view c.item-item.result)))) (sym c.in_unit.ensures)
     (unit_answer-decoded task_of l.number _ _ c.command_in.ensures))))
 
 pub loop-item-preserved : goal.loop-item-preserved
@@ -34,9 +34,9 @@ loop-item-preserved c =
     let done = tasks_of l.commands.items in
     record {
       same =
-          behind-step _ done _ l.number (made_view l.made) _ (view c.item-item.result) rest (task_of c.in_ok-command.command)
+          behind-step c.args.arch _ done _ l.number (made_view l.made) _ (view c.item-item.result) rest (task_of c.in_ok-command.command)
           (l.invariant.same
-          ∙ ap (λ ws. behind done (commands_from l.number (made_view l.made) (items_view ws))) (drop-element vs l.item-index c.item-item.result c.loop-item-test.true c.item-item.is))
+          ∙ ap (λ ws. behind done (commands_from c.args.arch l.number (made_view l.made) (items_view ws))) (drop-element vs l.item-index c.item-item.result c.loop-item-test.true c.item-item.is))
           (unit_answer-good task_of l.number _ _ _ c.command_in.ensures (sym c.in_unit.ensures ∙ c.in_ok-command.was))
           c.add.ensures.made
           (ap tasks_of c.in_ok-push.ensures.items ∙ map-append task_of l.commands.items (c.in_ok-command.command ∷ []));

@@ -5,4 +5,4 @@ use Rattle.unwind_commands.proofs.DocumentLemmas.Known.{commands_sound}
 use Rattle.unwind_commands.proofs.document.decode.Goals as goal
 
 pub returns-clause-sound : goal.returns-clause-sound
-returns-clause-sound c = commands_sound 1 nothing_made (items_view c.in_ok-generation.items.now.items) (tasks_of c.in_ok-commands.commands.items) c.in_ok-commands.ensures
+returns-clause-sound c = commands_sound c.arch_of-arch.result 1 nothing_made (items_view c.in_ok-generation.items.now.items) (tasks_of c.in_ok-commands.commands.items) c.in_ok-commands.ensures

@@ -6,8 +6,8 @@ use Rattle.framehop_unwinder.specs.History.{HaveHistories}
 use Rattle.framehop_unwinder.specs.Modules.{Loaded, Loads}
 use Rattle.framehop_unwinder.specs.State.{unwinder_at, histories_after_step}
 use Rattle.unwind_sessions.specs.Turns.{modules_in}
-use Rattle.unwind_commands.specs.CommandViews.{step_view, words_view}
-use Rattle.unwind_commands.specs.Text.{frame_at, registers_of, words_of}
+use Rattle.unwind_commands.specs.CommandViews.{words_view}
+use Rattle.unwind_commands.specs.Text.{frame_at, words_of}
 use Rattle.unwind_commands.proofs.StepLines.{line_judged, not_wanted}
 use Rattle.unwind_commands.proofs.StillCallback.{answers_always}
 use Rattle.unwind_commands.proofs.perform.take_step.Goals as goal
@@ -26,8 +26,8 @@ returns g c = λ progress at.
     record {
       text =
           ap string_bytes c.lines.ensures.text ∙ c.in_ok-line.ensures.line
-          ∙ line_judged m (modules_in step.unwinder progress) (unwinder_at c.args.session.now.unwinders step.unwinder).modules (frame_at step.kind step.address) (frame_of c.frame_address-address.result) (registers_of (step_view step)) c.new-regs.result c.step-answer.new.regs words c.step-answer.result
-          same c.frame_address-address.ensures c.new-regs.ensures said;
+          ∙ line_judged m g.A.DocumentModules.shown (modules_in step.unwinder progress) (unwinder_at c.args.session.now.unwinders step.unwinder).modules (frame_at step.kind step.address) (frame_of c.frame_address-address.result) (g.A.DocumentModules.of_stated step.registers) c.stated_registers-regs.result c.step-answer.new.regs words c.step-answer.result
+          same c.frame_address-address.ensures c.stated_registers-regs.ensures said;
       is_refused = c.lines.ensures.refused;
       progress = record {
         unwinders = c.step-answer.ensures.unwinders ∙ at.unwinders;

@@ -1,6 +1,5 @@
 use Rattle.std.proofs.Common.{sym, ap, subst, ◌∙◌}
 use Rattle.std.specs.Prelude.{IfOk, string_bytes}
-use Rattle.framehop_registers.specs.declared.x86_64.unwindregs.UnwindRegsX86_64.{UnwindRegsX86_64}
 use Rattle.framehop_unwinder.specs.Attempt.{meanings}
 use Rattle.framehop_unwinder.specs.Walk.{Walk}
 use Rattle.framehop_unwinder.specs.WalkViews.{walk_from}
@@ -15,6 +14,6 @@ returns g c = λ progress at.
     let m = meanings g.A.UnwindRule.UnwindRule.meaning g.A.UnwindRule.UnwindRule.fallback g.A.Unwinding.attempt in
     let walk = c.args.walk.now in
     let words = words_of (words_view walk.stack) in
-    subst (λ (w : Walk UnwindRegsX86_64). IfOk c.walk.result (λ written. ComesTo (turn_of_walk m words walk.limit walk.unwinder walk.cache w progress) (string_bytes written.text) written.is_refused c.walk.new.session))
-    (c.new-frames.ensures ∙ ap (λ (r : UnwindRegsX86_64). walk_from walk.pc r) c.new-regs.ensures)
+    subst (λ (w : Walk g.row.A-UnwindRegs.Denot). IfOk c.walk.result (λ written. ComesTo (turn_of_walk m words walk.limit walk.unwinder walk.cache w progress) (string_bytes written.text) written.is_refused c.walk.new.session))
+    (c.new-frames.ensures ∙ ap (λ (r : g.row.A-UnwindRegs.Denot). walk_from walk.pc r) c.stated_registers-regs.ensures)
     (c.walk.ensures words (answers_always _ _ _ (λ at r next fits read. sym read.met.1.1) (λ at r next fits read. read.met.0)) progress at)

@@ -7,6 +7,7 @@ use Rattle.framehop_unwinder.specs.State.{State, empty_state}
 use Rattle.framehop_unwinder.specs.History.{HaveHistories}
 use Rattle.unwind_sessions.specs.Turns.{ComesTo, IsAt, beginning}
 use Rattle.unwind_commands.specs.Commands.{Task, AreSound}
+use Rattle.unwind_commands.specs.Registers.{register_forms}
 use Rattle.unwind_commands.specs.CommandViews.{tasks_of, task_of}
 use Rattle.unwind_commands.specs.Text.{lines_of, made_in, turn}
 use Rattle.unwind_commands.proofs.Runs.{begun_next, next_task, not_failed, on_err, sound_next, written_last, written_next}
@@ -18,6 +19,7 @@ loop-command-init g c =
     let R = g.row.A-UnwindRule.Denot in
     let m = meanings g.A.UnwindRule.UnwindRule.meaning g.A.UnwindRule.UnwindRule.fallback g.A.Unwinding.attempt in
     let d = g.A.DocumentModules.data_of in
+    let forms = register_forms g.A.DocumentModules.of_stated g.A.DocumentModules.shown in
     let begins : c.new-session.result ≡ empty_state c.args.generation = c.new-session.ensures ∙ ap (λ (n : ℕ). empty_state n) c.starting_at.ensures in
     let whole : tasks_of c.args.commands.items ≡ tasks_of (reverse c.reverse.new.self.items) =
     ap tasks_of (sym (reverse-reverse c.args.commands.items) ∙ ap reverse (sym c.reverse.ensures.items)) in
@@ -32,8 +34,8 @@ loop-command-init g c =
       stands = (
         beginning c.args.generation,
         at,
-        subst (λ (ts : List Task). IsWritten (g.W.Sink.contents c.args.writer.now) (g.W.Sink.contents c.args.writer.now) (lines_of m d (beginning c.args.generation) ts) (lines_of m d (beginning c.args.generation) (tasks_of c.args.commands.items))) whole
-            (written_none (g.W.Sink.contents c.args.writer.now) (lines_of m d (beginning c.args.generation) (tasks_of c.args.commands.items))),
+        subst (λ (ts : List Task). IsWritten (g.W.Sink.contents c.args.writer.now) (g.W.Sink.contents c.args.writer.now) (lines_of m forms d (beginning c.args.generation) ts) (lines_of m forms d (beginning c.args.generation) (tasks_of c.args.commands.items))) whole
+            (written_none (g.W.Sink.contents c.args.writer.now) (lines_of m forms d (beginning c.args.generation) (tasks_of c.args.commands.items))),
       );
     }
 
@@ -45,48 +47,51 @@ pub returns-in_err-write_all-clause-begun : goal.returns-in_err-write_all-clause
 returns-in_err-write_all-clause-begun g c =
     let m = meanings g.A.UnwindRule.UnwindRule.meaning g.A.UnwindRule.UnwindRule.fallback g.A.Unwinding.attempt in
     let d = g.A.DocumentModules.data_of in
+    let forms = register_forms g.A.DocumentModules.of_stated g.A.DocumentModules.shown in
     let l = c.loop-command in
     let p = l.invariant.stands.0 in
-    let all = lines_of m d (beginning c.args.generation) (tasks_of c.args.commands.items) in
+    let all = lines_of m forms d (beginning c.args.generation) (tasks_of c.args.commands.items) in
     let next = next_task l.commands.items c.pop.new.self.items c.in-Some.command c.in-Some.ensures.items in
-    let written = subst (λ (ts : List Task). IsWritten (g.W.Sink.contents c.args.writer.now) (g.W.Sink.contents l.writer) (lines_of m d p ts) all) next l.invariant.stands.2 in
+    let written = subst (λ (ts : List Task). IsWritten (g.W.Sink.contents c.args.writer.now) (g.W.Sink.contents l.writer) (lines_of m forms d p ts) all) next l.invariant.stands.2 in
     let comes = c.in_ok-written.ensures p l.invariant.stands.1 in
-    on_err _ (begun_next m d p (task_of c.in-Some.command) (tasks_of (reverse c.pop.new.self.items)) c.perform.new.session (g.W.Sink.contents c.args.writer.now) (g.W.Sink.contents l.writer) (g.W.Sink.contents c.write_all.new.sink) c.as_bytes.result.now all c.in_ok-written.written.is_refused
-    (subst (λ (xs : List ℕ). ComesTo (turn m d p (task_of c.in-Some.command)) xs c.in_ok-written.written.is_refused c.perform.new.session) (sym c.as_bytes.ensures.value) comes) written c.in_err-write_all.ensures.begun)
+    on_err _ (begun_next m forms d p (task_of c.in-Some.command) (tasks_of (reverse c.pop.new.self.items)) c.perform.new.session (g.W.Sink.contents c.args.writer.now) (g.W.Sink.contents l.writer) (g.W.Sink.contents c.write_all.new.sink) c.as_bytes.result.now all c.in_ok-written.written.is_refused
+    (subst (λ (xs : List ℕ). ComesTo (turn m forms d p (task_of c.in-Some.command)) xs c.in_ok-written.written.is_refused c.perform.new.session) (sym c.as_bytes.ensures.value) comes) written c.in_err-write_all.ensures.begun)
 
 pub returns-then-written-clause-text : goal.returns-then-written-clause-text
 returns-then-written-clause-text g c =
     let m = meanings g.A.UnwindRule.UnwindRule.meaning g.A.UnwindRule.UnwindRule.fallback g.A.Unwinding.attempt in
     let d = g.A.DocumentModules.data_of in
+    let forms = register_forms g.A.DocumentModules.of_stated g.A.DocumentModules.shown in
     let l = c.loop-command in
     let p = l.invariant.stands.0 in
-    let all = lines_of m d (beginning c.args.generation) (tasks_of c.args.commands.items) in
+    let all = lines_of m forms d (beginning c.args.generation) (tasks_of c.args.commands.items) in
     let next = next_task l.commands.items c.pop.new.self.items c.in-Some.command c.in-Some.ensures.items in
-    let written = subst (λ (ts : List Task). IsWritten (g.W.Sink.contents c.args.writer.now) (g.W.Sink.contents l.writer) (lines_of m d p ts) all) next l.invariant.stands.2 in
+    let written = subst (λ (ts : List Task). IsWritten (g.W.Sink.contents c.args.writer.now) (g.W.Sink.contents l.writer) (lines_of m forms d p ts) all) next l.invariant.stands.2 in
     let comes = c.in_ok-written.ensures p l.invariant.stands.1 in
-    written_last m d p (task_of c.in-Some.command) (tasks_of (reverse c.pop.new.self.items)) c.perform.new.session (g.W.Sink.contents c.args.writer.now) (g.W.Sink.contents l.writer) (g.W.Sink.contents c.write_all.new.sink) c.as_bytes.result.now all c.in_ok-written.written.is_refused
-    (subst (λ (xs : List ℕ). ComesTo (turn m d p (task_of c.in-Some.command)) xs c.in_ok-written.written.is_refused c.perform.new.session) (sym c.as_bytes.ensures.value) comes) c.if-written.true written c.in_ok-write_all.ensures.written
+    written_last m forms d p (task_of c.in-Some.command) (tasks_of (reverse c.pop.new.self.items)) c.perform.new.session (g.W.Sink.contents c.args.writer.now) (g.W.Sink.contents l.writer) (g.W.Sink.contents c.write_all.new.sink) c.as_bytes.result.now all c.in_ok-written.written.is_refused
+    (subst (λ (xs : List ℕ). ComesTo (turn m forms d p (task_of c.in-Some.command)) xs c.in_ok-written.written.is_refused c.perform.new.session) (sym c.as_bytes.ensures.value) comes) c.if-written.true written c.in_ok-write_all.ensures.written
 
 pub loop-command-preserved : goal.loop-command-preserved
 loop-command-preserved g c =
     let m = meanings g.A.UnwindRule.UnwindRule.meaning g.A.UnwindRule.UnwindRule.fallback g.A.Unwinding.attempt in
     let d = g.A.DocumentModules.data_of in
+    let forms = register_forms g.A.DocumentModules.of_stated g.A.DocumentModules.shown in
     let l = c.loop-command in
     let p = l.invariant.stands.0 in
     let task = task_of c.in-Some.command in
     let left = tasks_of (reverse c.pop.new.self.items) in
-    let all = lines_of m d (beginning c.args.generation) (tasks_of c.args.commands.items) in
+    let all = lines_of m forms d (beginning c.args.generation) (tasks_of c.args.commands.items) in
     let next = next_task l.commands.items c.pop.new.self.items c.in-Some.command c.in-Some.ensures.items in
-    let written = subst (λ (ts : List Task). IsWritten (g.W.Sink.contents c.args.writer.now) (g.W.Sink.contents l.writer) (lines_of m d p ts) all) next l.invariant.stands.2 in
+    let written = subst (λ (ts : List Task). IsWritten (g.W.Sink.contents c.args.writer.now) (g.W.Sink.contents l.writer) (lines_of m forms d p ts) all) next l.invariant.stands.2 in
     let sound = subst (λ (ts : List Task). AreSound (made_in l.session) ts) next l.invariant.sound in
     let comes = c.in_ok-written.ensures p l.invariant.stands.1 in
-    let comes_written = subst (λ (xs : List ℕ). ComesTo (turn m d p task) xs c.in_ok-written.written.is_refused c.perform.new.session) (sym c.as_bytes.ensures.value) comes in
+    let comes_written = subst (λ (xs : List ℕ). ComesTo (turn m forms d p task) xs c.in_ok-written.written.is_refused c.perform.new.session) (sym c.as_bytes.ensures.value) comes in
     record {
       failed = not_failed (g.W.Sink.has_failed c.write_all.new.sink) c.in_ok-write_all.ensures.write;
-      sound = sound_next m d p l.session c.perform.new.session task left c.as_bytes.result.now c.in_ok-written.written.is_refused l.invariant.stands.1 comes_written c.if-written.false sound;
+      sound = sound_next m forms d p l.session c.perform.new.session task left c.as_bytes.result.now c.in_ok-written.written.is_refused l.invariant.stands.1 comes_written c.if-written.false sound;
       stands = (
-        (turn m d p task).progress,
+        (turn m forms d p task).progress,
         comes_written.progress,
-        written_next m d p task left c.perform.new.session (g.W.Sink.contents c.args.writer.now) (g.W.Sink.contents l.writer) (g.W.Sink.contents c.write_all.new.sink) c.as_bytes.result.now all c.in_ok-written.written.is_refused comes_written c.if-written.false written c.in_ok-write_all.ensures.written,
+        written_next m forms d p task left c.perform.new.session (g.W.Sink.contents c.args.writer.now) (g.W.Sink.contents l.writer) (g.W.Sink.contents c.write_all.new.sink) c.as_bytes.result.now all c.in_ok-written.written.is_refused comes_written c.if-written.false written c.in_ok-write_all.ensures.written,
       );
     }

@@ -1,21 +1,19 @@
 use Rattle.std.proofs.Common.{sym, subst}
 use Rattle.std.specs.Prelude.{OnErr}
 use Rattle.documents.specs.Stream.{AppendsFront}
-use Rattle.unwind_sessions.specs.Turns.{beginning}
 use Rattle.unwind_commands.specs.CommandViews.{tasks_of}
-use Rattle.unwind_commands.specs.Sections.{data_stated}
-use Rattle.unwind_commands.specs.Text.{lines_of, meanings_within, value_limit}
-use Rattle.unwind_commands.specs.declared.document.Policy.{Policy}
+use Rattle.unwind_commands.specs.Text.{lines_on, value_limit}
+use Rattle.unwind_commands.specs.declared.document.Architecture.{Architecture}
 use Rattle.unwind_commands.proofs.program.run_document.Goals as goal
 
-pub returns-in-May-clause-begun : goal.returns-in-May-clause-begun
-returns-in-May-clause-begun g c =
-    subst (λ (policy : Policy). OnErr c.run_commands.result (AppendsFront (g.W.Sink.contents c.args.writer.now) (g.W.Sink.contents c.run_commands.new.writer)
-    (lines_of (meanings_within (value_limit policy)) data_stated (beginning c.args.document.generation) (tasks_of c.args.document.commands.items))))
-    (sym c.in-May.is) c.run_commands.ensures.begun
+pub returns-in-X86_64-clause-begun : goal.returns-in-X86_64-clause-begun
+returns-in-X86_64-clause-begun g c =
+    subst (λ (machine : Architecture). OnErr c.run_on.result (AppendsFront (g.W.Sink.contents c.args.writer.now) (g.W.Sink.contents c.run_on.new.writer)
+    (lines_on machine (value_limit c.args.document.policy) c.args.document.generation (tasks_of c.args.document.commands.items))))
+    (sym c.in-X86_64.is) c.run_on.ensures.begun
 
-pub returns-in-Must-clause-begun : goal.returns-in-Must-clause-begun
-returns-in-Must-clause-begun g c =
-    subst (λ (policy : Policy). OnErr c.run_commands-in-Must.result (AppendsFront (g.W.Sink.contents c.args.writer.now) (g.W.Sink.contents c.run_commands-in-Must.new.writer)
-    (lines_of (meanings_within (value_limit policy)) data_stated (beginning c.args.document.generation) (tasks_of c.args.document.commands.items))))
-    (sym c.in-Must.is) c.run_commands-in-Must.ensures.begun
+pub returns-in-Aarch64-clause-begun : goal.returns-in-Aarch64-clause-begun
+returns-in-Aarch64-clause-begun g c =
+    subst (λ (machine : Architecture). OnErr c.run_on-in-Aarch64.result (AppendsFront (g.W.Sink.contents c.args.writer.now) (g.W.Sink.contents c.run_on-in-Aarch64.new.writer)
+    (lines_on machine (value_limit c.args.document.policy) c.args.document.generation (tasks_of c.args.document.commands.items))))
+    (sym c.in-Aarch64.is) c.run_on-in-Aarch64.ensures.begun

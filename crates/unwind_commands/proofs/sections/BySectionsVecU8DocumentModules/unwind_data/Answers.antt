@@ -4,7 +4,7 @@ use Rattle.framehop.specs.UnwindData.{UnwindData, unwind_data_of}
 use Rattle.unwind_commands.specs.CommandViews.{sections_view}
 use Rattle.unwind_commands.specs.SectionViews.{stated}
 use Rattle.unwind_commands.specs.Sections.{data_stated}
-use Rattle.unwind_commands.proofs.sections.BySectionsArchX86_64VecU8DocumentModules.unwind_data.Goals as goal
+use Rattle.unwind_commands.proofs.sections.BySectionsVecU8DocumentModules.unwind_data.Goals as goal
 
 pub returns : goal.returns
 returns g c =

@@ -2,7 +2,7 @@ use Rattle.std.proofs.Common.{sym, ap, ◌∙◌}
 use Rattle.documents.specs.Decoded.{result_map}
 use Rattle.documents.proofs.Laws.{same_fault}
 use Rattle.unwind_commands.proofs.DocumentLemmas.Steps.{under, registers, three_registers}
-use Rattle.unwind_commands.proofs.document.step.registers_in.Goals as goal
+use Rattle.unwind_commands.proofs.document.registers.registers_x86_64_in.Goals as goal
 
 pub returns-in_err-ip : goal.returns-in_err-ip
 returns-in_err-ip c =
