@@ -20,9 +20,23 @@ const BY_EXPRESSION: [u8; 32] = [
 pub type Registers = (u64, u64, u64);
 
 /// A module at 0x100000 with this section `.eh_frame`, whose relative addresses count from there.
-fn module_with(alloc: Global, section: &[u8]) -> Result<Module<&[u8]>, Fail> {
-    let mut sections = ExplicitModuleSectionInfo::default();
-    sections.eh_frame = Some(section);
+fn module_with(alloc: Global, section: &[u8]) -> Result<Module<Vec<u8>>, Fail> {
+    let mut sections = ExplicitModuleSectionInfo {
+        base_svma: 0,
+        text_svma: None,
+        text: None,
+        stubs_svma: None,
+        stub_helper_svma: None,
+        got_svma: None,
+        unwind_info: None,
+        eh_frame_svma: None,
+        eh_frame: Some(section.to_vec(alloc)?),
+        eh_frame_hdr_svma: None,
+        eh_frame_hdr: None,
+        debug_frame: None,
+        text_segment_svma: None,
+        text_segment: None,
+    };
     let name = String::from_str(alloc, "m")?;
     let unwind_data = ModuleUnwindData::new(alloc, &mut sections)?;
     Ok(Module::new(alloc, name, 0x100000..0x102000, 0x100000, unwind_data)?)
@@ -36,7 +50,7 @@ pub fn step<P: AllocationPolicy>(
 ) -> Result<(Option<u64>, Registers), Fail> {
     let alloc = rt.alloc();
     let mut generations = Generations::new();
-    let mut unwinder = UnwinderX86_64::<&[u8], P>::new(alloc, &mut generations)?;
+    let mut unwinder = UnwinderX86_64::<Vec<u8>, P>::new(alloc, &mut generations)?;
     let module = module_with(alloc, section)?;
     if unwinder.add_module(&mut generations, module).is_err() {
         return Err(Fail::new("not loaded"));

@@ -33,9 +33,23 @@ static EH_FRAME: [u8; 56] = [
 ];
 
 /// The library, which is loaded at 0x100000.
-pub fn library(alloc: Global) -> Result<Module<&'static [u8]>> {
-    let mut sections = ExplicitModuleSectionInfo::default();
-    sections.eh_frame = Some(EH_FRAME.as_slice());
+pub fn library(alloc: Global) -> Result<Module<Vec<u8>>> {
+    let mut sections = ExplicitModuleSectionInfo {
+        base_svma: 0,
+        text_svma: None,
+        text: None,
+        stubs_svma: None,
+        stub_helper_svma: None,
+        got_svma: None,
+        unwind_info: None,
+        eh_frame_svma: None,
+        eh_frame: Some(EH_FRAME.to_vec(alloc)?),
+        eh_frame_hdr_svma: None,
+        eh_frame_hdr: None,
+        debug_frame: None,
+        text_segment_svma: None,
+        text_segment: None,
+    };
     let unwind_data = ModuleUnwindData::new(alloc, &mut sections)?;
     let name = String::from_str(alloc, "library")?;
     Ok(Module::new(alloc, name, 0x100000..0x102000, 0x100000, unwind_data)?)

@@ -18,22 +18,34 @@ pub struct Times {
     pub with_making: Duration,
 }
 
-/// The module with the section that is timed.
-fn module_of(alloc: Global, work: &Work) -> Result<Module<&[u8]>> {
-    let mut sections = ExplicitModuleSectionInfo::default();
-    sections.text_svma = Some(work.text..work.text);
-    sections.eh_frame_svma = Some(work.eh_frame..work.eh_frame);
-    sections.eh_frame = Some(work.section.as_slice());
+/// The module with the section that is timed, whose bytes are given.
+fn module_of(alloc: Global, work: &Work, section: Vec<u8>) -> Result<Module<Vec<u8>>> {
+    let mut sections = ExplicitModuleSectionInfo {
+        base_svma: 0,
+        text_svma: Some(work.text..work.text),
+        text: None,
+        stubs_svma: None,
+        stub_helper_svma: None,
+        got_svma: None,
+        unwind_info: None,
+        eh_frame_svma: Some(work.eh_frame..work.eh_frame),
+        eh_frame: Some(section),
+        eh_frame_hdr_svma: None,
+        eh_frame_hdr: None,
+        debug_frame: None,
+        text_segment_svma: None,
+        text_segment: None,
+    };
     let unwind_data = ModuleUnwindData::new(alloc, &mut sections)?;
     let name = String::from_str(alloc, "timed")?;
     Ok(Module::new(alloc, name, work.base..work.end, work.base, unwind_data)?)
 }
 
 /// An unwinder with the module.
-fn unwinder_of(alloc: Global, work: &Work) -> Result<UnwinderX86_64<&[u8]>> {
+fn unwinder_of(alloc: Global, work: &Work) -> Result<UnwinderX86_64<Vec<u8>>> {
     let mut generations = Generations::new();
     let mut unwinder = UnwinderX86_64::new(alloc, &mut generations)?;
-    let module = module_of(alloc, work)?;
+    let module = module_of(alloc, work, work.section.as_slice().to_vec(alloc)?)?;
     if unwinder.add_module(&mut generations, module).is_err() {
         bail!("the module was not loaded");
     }
@@ -45,7 +57,11 @@ fn cache(alloc: Global) -> Result<CacheX86_64> {
 }
 
 /// How many frames a walk gives.
-fn frames_of(unwinder: &UnwinderX86_64<&[u8]>, cache: &mut CacheX86_64, walk: &Walk) -> u32 {
+fn frames_of<U: Unwinder<UnwindRegs = UnwindRegsX86_64>>(
+    unwinder: &U,
+    cache: &mut U::Cache,
+    walk: &Walk,
+) -> u32 {
     let regs = UnwindRegsX86_64::new(walk.pc, walk.sp, walk.bp);
     let mut read_stack = |at: u64| -> std::result::Result<u64, ()> { walk.stack.word(at) };
     let mut frames = unwinder.iter_frames(walk.pc, regs, cache, &mut read_stack);
@@ -60,9 +76,9 @@ fn frames_of(unwinder: &UnwinderX86_64<&[u8]>, cache: &mut CacheX86_64, walk: &W
 }
 
 /// How many frames all walks give through one cache.
-fn frames_of_each(
-    unwinder: &UnwinderX86_64<&[u8]>,
-    cache: &mut CacheX86_64,
+fn frames_of_each<U: Unwinder<UnwindRegs = UnwindRegsX86_64>>(
+    unwinder: &U,
+    cache: &mut U::Cache,
     walks: &[Walk],
 ) -> u32 {
     let mut count: u32 = 0;
@@ -82,7 +98,7 @@ pub fn frames_of_all(alloc: Global, work: &Work) -> Result<u32> {
 fn fresh_walks(
     clock: &impl Clock,
     alloc: Global,
-    unwinder: &UnwinderX86_64<&[u8]>,
+    unwinder: &UnwinderX86_64<Vec<u8>>,
     walks: &[Walk],
 ) -> Result<(Duration, Duration)> {
     let mut fresh = Duration::ZERO;
@@ -108,8 +124,9 @@ pub fn time(clock: &impl Clock, alloc: Global, work: &Work) -> Result<Times> {
     let mut cache = cache(alloc)?;
     frames_of_each(&unwinder, &mut cache, &work.walks);
     for _ in 0..work.rounds {
+        let section = work.section.as_slice().to_vec(alloc)?;
         let start = Instant::now(clock)?;
-        let _module = module_of(alloc, work)?;
+        let _module = module_of(alloc, work, section)?;
         times.module = times.module.min(start.elapsed(clock)?);
         let start = Instant::now(clock)?;
         frames_of_each(&unwinder, &mut cache, &work.walks);
