@@ -1,0 +1,3 @@
+pub mod WalkLengths
+pub mod WalksAarch64
+pub mod WalksX86_64
