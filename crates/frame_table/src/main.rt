@@ -1,0 +1,19 @@
+//! Lists the entries of one section of call frames with their rows: JSON on standard input, on
+//! standard output lines as those of `readelf --debug-dump=frames-interp`.
+//!
+//! The exit status is 0 where all entries were listed, 2 where the document or the section has a
+//! fault, and 1 where standard input or output failed or memory ran out.
+#![tactic(auto)]
+
+use frame_tables::{Streamed, run};
+use std::io;
+use std::process::ExitCode;
+
+fn main(rt: HostRuntime) -> ExitCode {
+    let mut source = Streamed::new(rt.reader());
+    let mut sink = Streamed::new(io::writer(&rt));
+    match run(rt.alloc(), &mut source, &mut sink) {
+        Ok(ending) => ExitCode::from(ending.status()),
+        Err(_) => ExitCode::FAILURE,
+    }
+}

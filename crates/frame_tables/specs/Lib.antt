@@ -1,0 +1,13 @@
+pub mod Cells
+pub mod Columns
+pub mod Document
+pub mod DocumentViews
+pub mod Entries
+pub mod EntryWrites
+pub mod Front
+pub mod FrontViews
+pub mod Listing
+pub mod Names
+pub mod TableViews
+pub mod Tables
+pub mod Text
