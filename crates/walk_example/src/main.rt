@@ -9,7 +9,7 @@ mod process;
 use anyhow::{Result, bail};
 use framehop::x86_64::{CacheX86_64, UnwindRegsX86_64, UnwinderX86_64};
 use framehop::{DwarfUnwindContext, Generations, Unwinder};
-use process::{SAMPLES, Sample, library, word_at};
+use process::{SAMPLES, Sample, library};
 use std::alloc::Global;
 
 /// A profiler gives up on a stack that is deeper.
@@ -44,7 +44,7 @@ fn code_addresses<U: Unwinder<UnwindRegs = UnwindRegsX86_64>>(
 ) -> Result<Vec<u64>> {
     let mut addresses = Vec::new(alloc);
     let regs = UnwindRegsX86_64::new(sample.ip, sample.sp, sample.bp);
-    let mut read_stack = |address: u64| -> std::result::Result<u64, ()> { word_at(address) };
+    let mut read_stack = |at: u64| -> std::result::Result<u64, ()> { sample.word_at(at) };
     let mut frames = unwinder.iter_frames(sample.ip, regs, cache, &mut read_stack);
     for _ in 0..MOST_FRAMES {
         match frames.next() {

@@ -4,12 +4,29 @@ use anyhow::Result;
 use framehop::{ExplicitModuleSectionInfo, Module, ModuleUnwindData};
 use std::alloc::Global;
 
-/// The registers of a thread that was stopped.
+/// The registers of a thread that was stopped, and its stack.
 pub struct Sample {
     pub ip: u64,
     pub sp: u64,
     pub bp: u64,
+    stack: [u64; 16],
 }
+
+impl Sample {
+    /// The word of the stack at an address. `Err` where there is none. The stack begins at address 0.
+    pub fn word_at(&self, address: u64) -> std::result::Result<u64, ()> {
+        if address % 8 != 0 {
+            return Err(());
+        }
+        self.stack.get((address / 8) as usize).copied().ok_or(())
+    }
+}
+
+/// The words of the stack: the frames' pointers lie at 0x20 and 0x40, the last at 0x70.
+const STACK: [u64; 16] = [
+    0x1, 0x2, 0x100300, 0x20, 0x40, 0x100200, 0x5, 0x6, 0x70, 0x100100, 0x7, 0x8, 0x9, 0xa, 0x0,
+    0x0,
+];
 
 /// A function of sixteen bytes at 0x101000: before it stores the caller's frame pointer, and behind.
 pub static SAMPLES: [Sample; 2] = [
@@ -17,11 +34,13 @@ pub static SAMPLES: [Sample; 2] = [
         ip: 0x101000,
         sp: 0x10,
         bp: 0x20,
+        stack: STACK,
     },
     Sample {
         ip: 0x101004,
         sp: 0x18,
         bp: 0x20,
+        stack: STACK,
     },
 ];
 
@@ -53,18 +72,4 @@ pub fn library(alloc: Global) -> Result<Module<Vec<u8>>> {
     let unwind_data = ModuleUnwindData::new(alloc, &mut sections)?;
     let name = String::from_str(alloc, "library")?;
     Ok(Module::new(alloc, name, 0x100000..0x102000, 0x100000, unwind_data)?)
-}
-
-/// The words of the stack, from address 0 on: the frames' pointers lie at 0x20 and 0x40, the last at 0x70.
-static STACK: [u64; 16] = [
-    0x1, 0x2, 0x100300, 0x20, 0x40, 0x100200, 0x5, 0x6, 0x70, 0x100100, 0x7, 0x8, 0x9, 0xa, 0x0,
-    0x0,
-];
-
-/// The word of the stack at an address. `Err` where there is none.
-pub fn word_at(address: u64) -> std::result::Result<u64, ()> {
-    if address % 8 != 0 {
-        return Err(());
-    }
-    STACK.get((address / 8) as usize).copied().ok_or(())
 }
