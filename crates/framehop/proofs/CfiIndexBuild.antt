@@ -119,7 +119,7 @@ abbrev pub whole_among : FrameSection → List (Result AnyEntry Error) → List 
 whole_among section items = filter_map result_ok (filter_map (fde_in section) items)
 
 -- where each item fits, each FDE does
-whole-fit : (base : ℕ) (section : FrameSection) (items : List (Result AnyEntry Error)) → list_all (item_fits base section) items ≡ true → list_all (fits_index base) (whole_among section items) ≡ true
+pub whole-fit : (base : ℕ) (section : FrameSection) (items : List (Result AnyEntry Error)) → list_all (item_fits base section) items ≡ true → list_all (fits_index base) (whole_among section items) ≡ true
 whole-fit base section [] h = refl
 whole-fit base section (Ok (which.Cie cie) ∷ items) h = whole-fit base section items h
 whole-fit base section (Err e ∷ items) h = cc

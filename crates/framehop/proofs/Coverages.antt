@@ -1,7 +1,7 @@
 -- How an address is covered, by what an index and an entry gave.
-use Rattle.std.proofs.Common.{◌≡◌, ℕ, ◌+◌, ◌^◌, ◌<◌, ◌≤◌, cond, true, false, List, Option, Some, None, Result, Ok, Err, refl, sym, ap, ◌∙◌, arith}
+use Rattle.std.proofs.Common.{◌≡◌, ℕ, ◌+◌, ◌^◌, ◌<◌, ◌≤◌, Bool, cond, true, false, List, Option, Some, None, Result, Ok, Err, refl, sym, ap, ◌∙◌, arith}
 use Rattle.std.specs.Prelude.{nat_lt}
-use Rattle.std.specs.Option.{ForSome}
+use Rattle.std.specs.Option.{ForSome, ok_or}
 use Rattle.std.proofs.lemmas.Bool.{lt-ltb}
 use Rattle.std.proofs.lemmas.Bool.Decides.{nat_tests}
 use Rattle.dwarf_constants.specs.declared.common.Vendor.{Vendor}
@@ -15,8 +15,11 @@ use Rattle.dwarf_frame_rows.specs.declared.base_addresses.BaseAddresses.{BaseAdd
 use Rattle.dwarf_frame_sections.specs.Sections.{FrameData, FrameSection, frame_section, plain_data}
 use Rattle.dwarf_call_frames.specs.Entries.{Fde}
 use Rattle.dwarf_call_frames.specs.EntryPrograms.{fde_row}
-use Rattle.framehop.specs.Coverage.{Coverage, Covered, Uncovered, NoEntry, by_row, by_fde, by_entry, by_index}
+use Rattle.framehop.specs.Coverage.{Covered, Uncovered, NoEntry, by_row, by_fde, by_entry, by_road}
 use Rattle.framehop.specs.EntryFor.{has_index, indexed_entry}
+use Rattle.framehop.specs.Roads.{Road, ByIndex, entry_by}
+use Rattle.framehop.specs.declared.roads.NoFde.{NoFde}
+use Rattle.framehop.specs.declared.roads.NoFde.TheVariants.{Unknown}
 use Rattle.framehop.specs.UnwindData.{Room, coverage_in}
 
 module _ (limits : Limits) (section : FrameSection) (vendor : Vendor) (address : ℕ) (fde : Fde) where
@@ -27,24 +30,18 @@ module _ (limits : Limits) (section : FrameSection) (vendor : Vendor) (address :
   pub uncovered-by : (e : Error) → fde_row limits section vendor fde address ≡ Err e → by_fde limits section vendor address fde ≡ Uncovered
   uncovered-by e is = ap (by_row fde.cie.address_size section.within.bytes) is
 
-module _ (limits : Limits) (section : FrameSection) (vendor : Vendor) (base relative : ℕ) where
-  -- the index has an entry for the address
-  pub index-found : (found : Option Fde) (address : ℕ) (fde : Fde) → found ≡ indexed_entry base relative section → found ≡ Some fde → address ≡ base + relative → address < 2 ^ 64
-      → by_fde limits section vendor address fde ≡ by_index limits section vendor base relative
-  index-found found address fde indexed is at fits =
-      ap (λ b. cond b (by_fde limits section vendor address fde) NoEntry) (sym (lt-ltb address (2 ^ 64) fits))
-      ∙ ap (λ a. by_entry limits section vendor a (Some fde)) at
-      ∙ ap (by_entry limits section vendor (base + relative)) (sym is ∙ indexed)
-
-  -- it has none
-  pub index-missed : (found : Option Fde) → found ≡ indexed_entry base relative section → found ≡ None → NoEntry ≡ by_index limits section vendor base relative
-  index-missed found indexed is = ap (by_entry limits section vendor (base + relative)) (sym is ∙ indexed)
+module _ (limits : Limits) (road : Road) (bases : BaseAddresses) (section : FrameSection) (vendor : Vendor) (base relative : ℕ) where
+  -- what the road leads to for an address of 64 bits
+  pub led : (found : Result Fde NoFde) (address : ℕ) → found ≡ entry_by road bases section base relative → address ≡ base + relative → address < 2 ^ 64
+      → by_entry limits section vendor address found ≡ by_road limits road bases section vendor base relative
+  led found address is at fits =
+      let fits_sum : nat_lt (base + relative) (2 ^ 64) ≡ true = rw (← at) (lt-ltb address (2 ^ 64) fits) in
+      ap (λ a. by_entry limits section vendor a found) at ∙ ap (by_entry limits section vendor (base + relative)) is
+      ∙ sym (ap (λ b. cond b (by_entry limits section vendor (base + relative) (entry_by road bases section base relative)) NoEntry) fits_sum)
 
   -- the address doesn't fit 64 bits
-  pub index-past : (found : Option Fde) (fde : Fde) → found ≡ indexed_entry base relative section → found ≡ Some fde → 2 ^ 64 ≤ base + relative → NoEntry ≡ by_index limits section vendor base relative
-  index-past found fde indexed is past =
-      let over = test (base + relative) past in
-      sym (ap (λ b. cond b (by_fde limits section vendor (base + relative) fde) NoEntry) over) ∙ ap (by_entry limits section vendor (base + relative)) (sym is ∙ indexed)
+  pub past : 2 ^ 64 ≤ base + relative → NoEntry ≡ by_road limits road bases section vendor base relative
+  past over = sym (ap (λ b. cond b (by_entry limits section vendor (base + relative) (entry_by road bases section base relative)) NoEntry) (test (base + relative) over))
     where
       test : (n : ℕ) → 2 ^ 64 ≤ n → nat_lt n (2 ^ 64) ≡ false
       test n h = grind (arith, nat_tests)
@@ -55,10 +52,16 @@ unfolding indexed_entry
 none-indexed base relative section none = rw none refl
 
 -- and no address is covered
-pub unindexed : (room : Room) (base relative : ℕ) (section : Option FrameSection) → ForSome section (λ s. has_index base s ≡ false) → NoEntry ≡ coverage_in room base relative section
-unindexed room base relative None none = refl
-unindexed room base relative (Some section) none =
-    ap (by_entry room.rows section Default (base + relative)) (sym (none-indexed base relative section (none section refl)))
+pub unindexed : (room : Room) (road : Road) (bases : BaseAddresses) (base relative : ℕ) (section : Option FrameSection) → road ≡ ByIndex → ForSome section (λ s. has_index base s ≡ false)
+    → NoEntry ≡ coverage_in room road bases base relative section
+unindexed room road bases base relative None is none = refl
+unindexed room road bases base relative (Some section) is none =
+    let there : Err Unknown ≡ entry_by road bases section base relative = rw is (ap (λ o. ok_or o Unknown) (sym (none-indexed base relative section (none section refl)))) in
+    by (nat_lt (base + relative) (2 ^ 64)) ∙ ap (λ found. cond (nat_lt (base + relative) (2 ^ 64)) (by_entry room.rows section Default (base + relative) found) NoEntry) there
+  where
+    by : (fits : Bool) → NoEntry ≡ cond fits NoEntry NoEntry
+    by true = refl
+    by false = refl
 
 -- a section that is made of bytes is the section of these bytes
 pub section-made : {R : Type 0} (stretch : R → Stretch) (kind : SectionKind) (made : FrameData R) (bytes : List ℕ) (bases : BaseAddresses) → stretch made.reader ≡ whole false bytes → made ≡ plain_data made.reader

@@ -5,4 +5,5 @@ pub mod EntryIndex
 pub mod EntryPlaces
 pub mod Halves
 pub mod RowTrials
+pub mod TruthfulRoads
 pub mod WholeFdes

@@ -1,5 +1,5 @@
 -- FDEs with their CIEs.
-use Rattle.std.proofs.Common.{◌≡◌, inl, inr, false, Result, Ok, Err}
+use Rattle.std.proofs.Common.{inl, inr, false, Result, Ok, Err}
 use Rattle.dwarf_constants.specs.declared.error.Error.{Error}
 use Rattle.dwarf_numbers.specs.Answers.{Gives}
 use Rattle.dwarf_call_frames.specs.Memory.{MayGive}

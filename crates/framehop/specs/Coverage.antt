@@ -1,19 +1,22 @@
 -- How call frame information covers an address, and what is said of a frame there, on any architecture.
-use Rattle.std.specs.Prelude.{ℕ, ◌+◌, ◌^◌, Bool, Option, Some, None, Result, Ok, Err, nat_lt, if◌then◌else◌}
+use Rattle.std.specs.Prelude.{ℕ, ◌+◌, ◌^◌, Bool, Option, Result, Ok, Err, nat_lt, if◌then◌else◌}
 use Rattle.dwarf_constants.specs.declared.common.Vendor.{Vendor}
 use Rattle.dwarf_constants.specs.declared.error.Error.{Error}
 use Rattle.dwarf_readers.specs.Place.{Stretch}
 use Rattle.dwarf_frame_rows.specs.Effects.{Limits}
 use Rattle.dwarf_frame_rows.specs.Row.{Row}
+use Rattle.dwarf_frame_rows.specs.declared.base_addresses.BaseAddresses.{BaseAddresses}
 use Rattle.dwarf_frame_sections.specs.Sections.{FrameSection}
 use Rattle.dwarf_call_frames.specs.Entries.{Fde}
 use Rattle.dwarf_call_frames.specs.EntryPrograms.{fde_row}
 use Rattle.framehop_unwinder.specs.Attempt.{Attempt, Says, SaysNothing}
-use Rattle.framehop.specs.EntryFor.{indexed_entry}
+use Rattle.framehop.specs.Roads.{Road, entry_by}
+use Rattle.framehop.specs.declared.roads.NoFde.{NoFde}
+use Rattle.framehop.specs.declared.roads.NoFde.TheVariants as no
 use Rattle.framehop_rows.specs.RowAttempt.{RowAttempt, attempt_by_row}
 
--- How an address is covered: by a row of an entry, whose section has these bytes and whose addresses have this size; by an
--- entry that has no row for it; or by no entry.
+-- How an address is covered: by a row of an entry, whose section has these bytes and whose addresses have this size; by no row of
+-- an entry; or by no entry that is known.
 pub data Coverage : Type 0 where
   Covered : (address_size : ℕ) → (section : Stretch) → Row ℕ → Coverage
   Uncovered : Coverage
@@ -29,16 +32,17 @@ abbrev pub by_fde : Limits → FrameSection → Vendor → ℕ → Fde → Cover
 by_fde limits section vendor address fde =
     by_row fde.cie.address_size section.within.bytes (fde_row limits section vendor fde address)
 
--- the entry for an address, if there is one, where the address has 64 bits
-abbrev pub by_entry : Limits → FrameSection → Vendor → ℕ → Option Fde → Coverage
-by_entry limits section vendor address None = NoEntry
-by_entry limits section vendor address (Some fde) =
-    if nat_lt address (2 ^ 64) then by_fde limits section vendor address fde else NoEntry
+-- the entry for an address that a road leads to, or that the section has none
+abbrev pub by_entry : Limits → FrameSection → Vendor → ℕ → Result Fde NoFde → Coverage
+by_entry limits section vendor address (Ok fde) = by_fde limits section vendor address fde
+by_entry limits section vendor address (Err no.Uncovered) = Uncovered
+by_entry limits section vendor address (Err no.Unknown) = NoEntry
 
--- a section by its index, of an address that is relative to a base; without an index no address is covered
-abbrev pub by_index : Limits → FrameSection → Vendor → (base relative : ℕ) → Coverage
-by_index limits section vendor base relative =
-    by_entry limits section vendor (base + relative) (indexed_entry base relative section)
+-- a section by a road, of an address that is relative to a base, where the address has 64 bits
+abbrev pub by_road : Limits → Road → BaseAddresses → FrameSection → Vendor → (base relative : ℕ) → Coverage
+by_road limits road bases section vendor base relative =
+    if nat_lt (base + relative) (2 ^ 64)
+    then by_entry limits section vendor (base + relative) (entry_by road bases section base relative) else NoEntry
 
 -- What an architecture makes of coverage: what a row of a section comes to, in a first or a later frame, with room for so many
 -- values of an expression and addresses of this size; and the rule for code that no row covers.

@@ -4,4 +4,7 @@ pub mod Coverage
 pub mod EntryFor
 pub mod FrameSections
 pub mod LastCie
+pub mod RoadViews
+pub mod Roads
+pub mod TruthfulRoads
 pub mod UnwindData

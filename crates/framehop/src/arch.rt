@@ -10,7 +10,7 @@ ghost use Rattle.framehop_rows.specs.Memory.{takes_memory, TakesMemory};
 ghost use Rattle.framehop.specs.UnwindData.{AsksExpression, attempt, room_of};
 
 use crate::cache::AllocationPolicy;
-use crate::dwarf::{DwarfUnwindContext, unwind_frame_by_index};
+use crate::dwarf::{DwarfUnwindContext, unwind_frame_by_road};
 use crate::unwind_data::ModuleUnwindData;
 use dwarf_call_frames::{DebugFrame, EhFrame};
 use dwarf_read_core::{EndianSlice, LittleEndian};
@@ -60,7 +60,7 @@ impl<A: DwarfUnwinding, D: SectionBytes + Drop, P: AllocationPolicy> Unwinding
         unwind_context: &mut DwarfUnwindContext<P>,
         read_stack: &mut F,
     ) -> Result<UnwindResult<A::UnwindRule>, UnwindFailure> {
-        let Some(index) = unwind_data.index() else {
+        let Some(road) = unwind_data.road() else {
             return Err(UnwindFailure::OfModule);
         };
         let bases = unwind_data.bases();
@@ -68,10 +68,10 @@ impl<A: DwarfUnwinding, D: SectionBytes + Drop, P: AllocationPolicy> Unwinding
         match unwind_data.sections() {
             ModuleSections::EhFrame { eh_frame, .. } => {
                 let section = EhFrame::new(eh_frame.bytes(), LittleEndian);
-                unwind_frame_by_index::<A, P, EndianSlice<'_, LittleEndian>, _, F>(
+                unwind_frame_by_road::<A, P, EndianSlice<'_, LittleEndian>, _, F>(
                     &section,
                     bases,
-                    index,
+                    &road,
                     base_svma,
                     relative_address,
                     is_first_frame,
@@ -82,10 +82,10 @@ impl<A: DwarfUnwinding, D: SectionBytes + Drop, P: AllocationPolicy> Unwinding
             }
             ModuleSections::DebugFrame { debug_frame } => {
                 let section = DebugFrame::new(debug_frame.bytes(), LittleEndian);
-                unwind_frame_by_index::<A, P, EndianSlice<'_, LittleEndian>, _, F>(
+                unwind_frame_by_road::<A, P, EndianSlice<'_, LittleEndian>, _, F>(
                     &section,
                     bases,
-                    index,
+                    &road,
                     base_svma,
                     relative_address,
                     is_first_frame,

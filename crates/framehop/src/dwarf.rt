@@ -1,82 +1,24 @@
-//! The entry of a section of call frames for an address, and what its row comes to.
+//! What the row of a section of call frames for an address comes to.
 
 ghost use Rattle.std.specs.Prelude.{◌≡◌, ℕ, ◌+◌, ◌^◌, ◌≤◌, true, false, Option, Some, Err, IfOk, IfErr};
-ghost use Rattle.dwarf_numbers.specs.Answers.{Gives};
 ghost use Rattle.dwarf_frame_rows.specs.Effects.{limits_of};
 ghost use Rattle.dwarf_frame_sections.specs.Sections.{frame_section};
-ghost use Rattle.dwarf_call_frames.specs.Entries.{cie_from_offset, fde_of};
-ghost use Rattle.dwarf_call_frames.specs.EntryViews.{cie_view};
-ghost use Rattle.dwarf_call_frames.specs.Memory.{MayGive};
 ghost use Rattle.framehop_registers.specs.Callback.{OverWords};
 ghost use Rattle.framehop_unwinder.specs.RulesKept.{rule_of_attempt};
 ghost use Rattle.framehop_unwinder.specs.Trials.{trial, has_wanted, rule_of_result, HasValidRule, KeepsUnlessDirect};
-ghost use Rattle.framehop.specs.CfiIndexView.{IsIndexOf};
-ghost use Rattle.framehop.specs.Coverage.{by_fde, by_index, row_meanings, attempt_by, EvaluatesExpression};
-ghost use Rattle.framehop.specs.EntryFor.{indexed_entry};
+ghost use Rattle.framehop.specs.Coverage.{by_fde, by_road, row_meanings, attempt_by, EvaluatesExpression};
+ghost use Rattle.framehop.specs.RoadViews.{road_view, LeadsInto};
 ghost use Rattle.framehop_rows.specs.Memory.{TakesMemory};
 ghost use Rattle.framehop_rows.specs.RowAttempt.{failure_of};
 ghost use Rattle.framehop.specs.UnwindData.{room_of};
 
 use crate::cache::AllocationPolicy;
-use crate::cfi_index::DwarfCfiIndex;
-use dwarf_call_frames::{
-    BaseAddresses, CommonInformationEntry, FrameDescriptionEntry, PartialFrameDescriptionEntry,
-    UnwindContext, UnwindSection,
-};
-use dwarf_read_core::{Reader, ReaderOffset};
+use crate::roads::{NoFde, Road, fde_by_road};
+use dwarf_call_frames::{BaseAddresses, FrameDescriptionEntry, UnwindContext, UnwindSection};
+use dwarf_read_core::Reader;
 use framehop_rows::{DwarfUnwinderError, DwarfUnwinding};
 use framehop_unwinder::{UnwindFailure, UnwindResult};
 use std::alloc::{AllocError, Global};
-
-/// An FDE with its CIE, which is read in the section in which the FDE was.
-pub(crate) fn whole_fde<R: Reader, Section: UnwindSection<R>>(
-    section: &Section,
-    partial: &PartialFrameDescriptionEntry<'_, Section, R>,
-) -> dwarf_read_core::Result<FrameDescriptionEntry<R>>
-    ensures { Gives (λ fde. fde) result (fde_of R.Offset.limit Section.kind partial.now) }
-{
-    // What is passed has to hold a value of each type that its result has.
-    let reader = *section.section();
-    let held = (reader, reader.endian(), partial.offset());
-    let get_cie =
-        move |section: &Section, bases: &BaseAddresses, offset: Section::Offset| -> dwarf_read_core::Result<
-            CommonInformationEntry<R>,
-        >
-            ensures { MayGive false (cie_view R.stretch R.Offset.value) result (cie_from_offset
-                (frame_section R.Offset.limit Section.kind (Section.size section.now)
-                (R.stretch (Section.reader section.now)) bases.now) (Section.Offset.number offset)) }
-        {
-            let _held = held;
-            section.cie_from_offset(bases, offset)
-        };
-    partial.parse(get_cie)
-}
-
-/// An offset in a section.
-fn typed_offset<R: Reader, Section: UnwindSection<R>>(offset: u32) -> Section::Offset
-    ensures { Section.Offset.number result ≡ offset }
-{
-    Section::Offset::from(R::Offset::from_u32(offset))
-}
-
-/// The entry that the section's index has for an address relative to the base: of those with the
-/// greatest start at or below it, the first in the section. `None` where each starts above.
-pub(crate) fn indexed_fde<R: Reader, Section: UnwindSection<R>>(
-    section: &Section,
-    bases: &BaseAddresses,
-    index: &DwarfCfiIndex,
-    relative_address: u32,
-) -> Option<FrameDescriptionEntry<R>>
-    ensures { let s = frame_section R.Offset.limit Section.kind (Section.size section.now)
-        (R.stretch (Section.reader section.now)) bases.now in
-        (base_svma : ℕ) → IsIndexOf index.now base_svma s
-        → result ≡ indexed_entry base_svma relative_address s }
-{
-    let offset = index.fde_offset_for_relative_address(relative_address)?;
-    let offset = typed_offset::<R, Section>(offset);
-    let partial = section.partial_fde_from_offset(bases, offset).ok()?;
-    whole_fde(section, &partial).ok()
-}
 
 /// The address of a section at a relative address. Fails where it doesn't fit 64 bits.
 pub(crate) fn lookup_address(
@@ -192,9 +134,10 @@ fn unwind_frame_by_fde<
     }
 }
 
-/// What a section with its index says of a frame at an address relative to the index's base. An
-/// address that no entry covers, or that doesn't fit 64 bits, has none.
-pub(crate) fn unwind_frame_by_index<
+/// What a section says of a frame at an address relative to a base, by a road to its entries: where no
+/// entry contains the address, the rule for code that no row covers; and nothing where the road says
+/// nothing of the address, or where it doesn't fit 64 bits.
+pub(crate) fn unwind_frame_by_road<
     A: DwarfUnwinding,
     P: AllocationPolicy,
     R: Reader<Offset = usize>,
@@ -203,7 +146,7 @@ pub(crate) fn unwind_frame_by_index<
 >(
     section: &Section,
     bases: &BaseAddresses,
-    index: &DwarfCfiIndex,
+    road: &Road<'_>,
     base_svma: u64,
     relative_address: u32,
     is_first_frame: bool,
@@ -211,8 +154,8 @@ pub(crate) fn unwind_frame_by_index<
     context: &mut DwarfUnwindContext<P>,
     read_stack: &mut F,
 ) -> Result<UnwindResult<A::UnwindRule>, UnwindFailure>
-    requires index { IsIndexOf index.now base_svma (frame_section (2 ^ 64) Section.kind
-        (Section.size section.now) (R.stretch (Section.reader section.now)) bases.now) }
+    requires road { LeadsInto base_svma (frame_section (2 ^ 64) Section.kind
+        (Section.size section.now) (R.stretch (Section.reader section.now)) bases.now) road.now }
     requires callable { F.IsAlwaysCallable read_stack.old }
     ensures callable { F.IsAlwaysCallable read_stack.new }
     ensures trial { let room = room_of (limits_of P.GimliUnwindContextStorage.Rules.capacity
@@ -220,7 +163,8 @@ pub(crate) fn unwind_frame_by_index<
         let m = row_meanings A.row_attempt A.uncovered in
         let s = frame_section (2 ^ 64) Section.kind (Section.size section.now)
         (R.stretch (Section.reader section.now)) bases.now in
-        let coverage = by_index room.rows s (Section.extensions section.now) base_svma relative_address in
+        let coverage = by_road room.rows (road_view road.now) bases.now s
+        (Section.extensions section.now) base_svma relative_address in
         OverWords F.step read_stack.old read_stack.new (λ words. has_wanted result ≡ false
         → (result, regs.new)
         ≡ trial regs.old words (attempt_by m is_first_frame room.values coverage)) }
@@ -229,7 +173,8 @@ pub(crate) fn unwind_frame_by_index<
         let m = row_meanings A.row_attempt A.uncovered in
         let s = frame_section (2 ^ 64) Section.kind (Section.size section.now)
         (R.stretch (Section.reader section.now)) bases.now in
-        let coverage = by_index room.rows s (Section.extensions section.now) base_svma relative_address in
+        let coverage = by_road room.rows (road_view road.now) bases.now s
+        (Section.extensions section.now) base_svma relative_address in
         (fallback : A.UnwindRule) → has_wanted result ≡ false → rule_of_result fallback result
         ≡ rule_of_attempt fallback (attempt_by m is_first_frame room.values coverage) }
     ensures keeps { KeepsUnlessDirect result regs.old regs.new }
@@ -238,26 +183,28 @@ pub(crate) fn unwind_frame_by_index<
         P.GimliUnwindContextStorage.Stack.capacity in
         let s = frame_section (2 ^ 64) Section.kind (Section.size section.now)
         (R.stretch (Section.reader section.now)) bases.now in
-        let coverage = by_index limits s (Section.extensions section.now) base_svma relative_address in
+        let coverage = by_road limits (road_view road.now) bases.now s (Section.extensions section.now)
+        base_svma relative_address in
         has_wanted result ≡ true → EvaluatesExpression A.MeetsExpression coverage }
     ensures memory { has_wanted result ≡ true
         → TakesMemory P.GimliEvaluationStorage.Stack.is_made_in_place
         P.GimliEvaluationStorage.Stack.capacity }
 {
-    let Some(fde) = indexed_fde(section, bases, index, relative_address) else {
-        return Err(UnwindFailure::OfModule);
-    };
     let Ok(address) = lookup_address(base_svma, relative_address) else {
         return Err(UnwindFailure::OfModule);
     };
-    unwind_frame_by_fde::<A, P, R, Section, F>(
-        section,
-        bases,
-        &fde,
-        address,
-        is_first_frame,
-        regs,
-        context,
-        read_stack,
-    )
+    match fde_by_road(section, bases, road, relative_address, address) {
+        Ok(fde) => unwind_frame_by_fde::<A, P, R, Section, F>(
+            section,
+            bases,
+            &fde,
+            address,
+            is_first_frame,
+            regs,
+            context,
+            read_stack,
+        ),
+        Err(NoFde::Uncovered) => Ok(UnwindResult::ExecRule(A::rule_if_uncovered_by_fde())),
+        Err(NoFde::Unknown) => Err(UnwindFailure::OfModule),
+    }
 }

@@ -6,6 +6,8 @@ mod arch;
 mod cache;
 mod cfi_index;
 mod dwarf;
+pub mod road_laws;
+mod roads;
 mod unwind_data;
 pub mod x86_64;
 

@@ -1,9 +1,7 @@
 -- A section with an error against its index has none.
-use Rattle.std.proofs.Common.{◌≡◌, ◌≢◌, ℕ, Some, Result, subst}
+use Rattle.std.proofs.Common.{◌≡◌, ◌≢◌, Some, Result, subst}
 use Rattle.std.specs.Prelude.{IfErr}
-use Rattle.dwarf_frame_sections.specs.Sections.{FrameSection}
 use Rattle.framehop.specs.CfiIndex.{index_error}
-use Rattle.framehop.specs.EntryFor.{has_index}
 use Rattle.framehop.specs.declared.cfi_index.DwarfCfiIndex.{DwarfCfiIndex}
 use Rattle.framehop.specs.declared.cfi_index.DwarfCfiIndexError.{DwarfCfiIndexError}
 use Rattle.framehop.specs.declared.cfi_index.DwarfCfiIndexError.TheVariants.{OutOfMemory}
