@@ -2,8 +2,10 @@
 //! that they write, on any architecture and whatever modules are unwound by.
 #![tactic(auto)]
 
+mod alone;
 mod lines;
 mod turns;
 
+pub use alone::step_alone;
 pub use lines::ErrorName;
 pub use turns::{Written, add_cache, add_unwinder, clone_unwinder, load, stats, unload, walk};
