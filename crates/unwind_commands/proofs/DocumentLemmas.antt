@@ -2,5 +2,6 @@
 pub mod Known
 pub mod Loads
 pub mod Names
+pub mod Roads
 pub mod Steps
 pub mod Tasks

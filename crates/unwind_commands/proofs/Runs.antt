@@ -21,8 +21,9 @@ use Rattle.framehop_unwinder.specs.WalkViews.{walk_from}
 use Rattle.framehop_registers.specs.declared.error.Error.{Error}
 use Rattle.unwind_sessions.specs.Turns.{Progress, Turn, IsAt, ComesTo, writes, refuses, with_number, with_modules, modules_in, walk_histories, if_goes_on}
 use Rattle.unwind_commands.specs.declared.document.command.Command.{Command}
-use Rattle.unwind_commands.specs.Commands.{Task, Made, SectionData, make_unwinder, make_cache, clone_unwinder, load_module, unload_module, take_step, take_walk, show_counts, made_after, AreSound}
+use Rattle.unwind_commands.specs.Commands.{Task, Made, make_unwinder, make_cache, clone_unwinder, load_module, unload_module, take_step, take_walk, show_counts, take_roads, made_after, AreSound}
 use Rattle.unwind_commands.specs.CommandViews.{tasks_of, task_of}
+use Rattle.unwind_commands.specs.Sections.{DataForms}
 use Rattle.unwind_commands.specs.Text.{turn, lines_of, loaded_by, frame_at, words_of, made_in}
 
 -- the last of the commands that are kept in reverse is the next
@@ -105,7 +106,7 @@ walk_count m words loads cache (suc left) walk histories =
     answer_count made.answer (walk_histories m words loads cache left made.walk after) after (length histories) (walk_count m words loads cache left made.walk after ∙ counted) counted
 
 -- what there is after a command that isn't refused
-turn_counts : {Data Rule Registers : Type 0} (m : Meanings Data Rule Registers) (forms : RegisterForms Registers) (data_of : ℕ → List SectionData → Data) (p : Progress Data) (task : Task)
+turn_counts : {Data Rule Registers : Type 0} (m : Meanings Data Rule Registers) (forms : RegisterForms Registers) (data_of : DataForms Data) (p : Progress Data) (task : Task)
     → (turn m forms data_of p task).is_refused ≡ false → made_by (turn m forms data_of p task).progress ≡ made_after (made_by p) task
 turn_counts m forms data_of p make_unwinder carried = made_numbered (p.unwinders ++ loads_with [] p.next ∷ []) p (length p.unwinders + 1) (length-append p.unwinders (loads_with [] p.next ∷ [])) carried
 turn_counts m forms data_of p make_cache carried =
@@ -125,9 +126,10 @@ turn_counts m forms data_of p (take_walk w) carried =
     let part : ℕ → Made = λ k. record { unwinders = length p.unwinders; caches = k } in
     ap part (walk_count m (words_of w.stack) (unwinder_at p.unwinders w.unwinder) w.cache w.limit (walk_from w.pc (forms.stated w.registers)) p.histories)
 turn_counts m forms data_of p (show_counts cache) carried = refl
+turn_counts m forms data_of p (take_roads roads) carried = refl
 
 -- so what the next commands name is made
-pub sound_next : {Data Rule Registers : Type 0} (m : Meanings Data Rule Registers) (forms : RegisterForms Registers) (data_of : ℕ → List SectionData → Data) (p : Progress Data) (old new : State Data Rule) (task : Task) (tasks : List Task) (text : List ℕ) (refused : Bool)
+pub sound_next : {Data Rule Registers : Type 0} (m : Meanings Data Rule Registers) (forms : RegisterForms Registers) (data_of : DataForms Data) (p : Progress Data) (old new : State Data Rule) (task : Task) (tasks : List Task) (text : List ℕ) (refused : Bool)
     → IsAt p old → ComesTo (turn m forms data_of p task) text refused new → refused ≡ false → AreSound (made_in old) (task ∷ tasks) → AreSound (made_in new) tasks
 sound_next m forms data_of p old new task tasks text refused at comes carried sound =
     let t = turn m forms data_of p task in
@@ -135,17 +137,17 @@ sound_next m forms data_of p old new task tasks text refused at comes carried so
     subst (λ (x : Made). AreSound x tasks) (sym made) sound.1
 
 -- what is left to write once a command has written
-abbrev pub rest_of : {Data Rule Registers : Type 0} → Meanings Data Rule Registers → RegisterForms Registers → (ℕ → List SectionData → Data) → Turn Data → List Task → List ℕ
+abbrev pub rest_of : {Data Rule Registers : Type 0} → Meanings Data Rule Registers → RegisterForms Registers → DataForms Data → Turn Data → List Task → List ℕ
 rest_of m forms data_of t tasks = cond t.is_refused [] (lines_of m forms data_of t.progress tasks)
 
 -- a command has written its text
-written_text : {Data Rule Registers : Type 0} (m : Meanings Data Rule Registers) (forms : RegisterForms Registers) (data_of : ℕ → List SectionData → Data) (t : Turn Data) (tasks : List Task) (old mid new : Option (List ℕ)) (text all : List ℕ)
+written_text : {Data Rule Registers : Type 0} (m : Meanings Data Rule Registers) (forms : RegisterForms Registers) (data_of : DataForms Data) (t : Turn Data) (tasks : List Task) (old mid new : Option (List ℕ)) (text all : List ℕ)
     → text ≡ t.text → IsWritten old mid (t.text ++ rest_of m forms data_of t tasks) all → Appends mid new text → IsWritten old new (rest_of m forms data_of t tasks) all
 written_text m forms data_of t tasks old mid new text all says written added =
     written_more old mid new text (rest_of m forms data_of t tasks) all (subst (λ (xs : List ℕ). IsWritten old mid (xs ++ rest_of m forms data_of t tasks) all) (sym says) written) added
 
 -- a command that isn't refused has written, and the lines that are left are those of the commands after it
-pub written_next : {Data Rule Registers : Type 0} (m : Meanings Data Rule Registers) (forms : RegisterForms Registers) (data_of : ℕ → List SectionData → Data) (p : Progress Data) (task : Task) (tasks : List Task) (state : State Data Rule) (old mid new : Option (List ℕ)) (text all : List ℕ) (refused : Bool)
+pub written_next : {Data Rule Registers : Type 0} (m : Meanings Data Rule Registers) (forms : RegisterForms Registers) (data_of : DataForms Data) (p : Progress Data) (task : Task) (tasks : List Task) (state : State Data Rule) (old mid new : Option (List ℕ)) (text all : List ℕ) (refused : Bool)
     → ComesTo (turn m forms data_of p task) text refused state → refused ≡ false → IsWritten old mid (lines_of m forms data_of p (task ∷ tasks)) all → Appends mid new text
     → IsWritten old new (lines_of m forms data_of (turn m forms data_of p task).progress tasks) all
 written_next m forms data_of p task tasks state old mid new text all refused comes carried written added =
@@ -154,7 +156,7 @@ written_next m forms data_of p task tasks state old mid new text all refused com
     (written_text m forms data_of t tasks old mid new text all comes.text written added)
 
 -- a command that is refused has written, and all is written
-pub written_last : {Data Rule Registers : Type 0} (m : Meanings Data Rule Registers) (forms : RegisterForms Registers) (data_of : ℕ → List SectionData → Data) (p : Progress Data) (task : Task) (tasks : List Task) (state : State Data Rule) (old mid new : Option (List ℕ)) (text all : List ℕ) (refused : Bool)
+pub written_last : {Data Rule Registers : Type 0} (m : Meanings Data Rule Registers) (forms : RegisterForms Registers) (data_of : DataForms Data) (p : Progress Data) (task : Task) (tasks : List Task) (state : State Data Rule) (old mid new : Option (List ℕ)) (text all : List ℕ) (refused : Bool)
     → ComesTo (turn m forms data_of p task) text refused state → refused ≡ true → IsWritten old mid (lines_of m forms data_of p (task ∷ tasks)) all → Appends mid new text
     → Appends old new all
 written_last m forms data_of p task tasks state old mid new text all refused comes carried written added =
@@ -164,7 +166,7 @@ written_last m forms data_of p task tasks state old mid new text all refused com
     (written_text m forms data_of t tasks old mid new text all comes.text written added))
 
 -- a front of what a command writes is written
-pub begun_next : {Data Rule Registers : Type 0} (m : Meanings Data Rule Registers) (forms : RegisterForms Registers) (data_of : ℕ → List SectionData → Data) (p : Progress Data) (task : Task) (tasks : List Task) (state : State Data Rule) (old mid new : Option (List ℕ)) (text all : List ℕ) (refused : Bool)
+pub begun_next : {Data Rule Registers : Type 0} (m : Meanings Data Rule Registers) (forms : RegisterForms Registers) (data_of : DataForms Data) (p : Progress Data) (task : Task) (tasks : List Task) (state : State Data Rule) (old mid new : Option (List ℕ)) (text all : List ℕ) (refused : Bool)
     → ComesTo (turn m forms data_of p task) text refused state → IsWritten old mid (lines_of m forms data_of p (task ∷ tasks)) all → AppendsFront mid new text
     → AppendsFront old new all
 begun_next m forms data_of p task tasks state old mid new text all refused comes written added =

@@ -3,15 +3,17 @@ use Rattle.std.specs.Prelude.{List, map, option_map, string_bytes}
 use Rattle.unwind_commands.specs.declared.document.command.Command.{Command}
 use Rattle.unwind_commands.specs.declared.document.command.Command.TheVariants as commands
 use Rattle.unwind_commands.specs.declared.document.command.Load.{Load}
+use Rattle.unwind_commands.specs.declared.document.command.Roads.{Roads}
 use Rattle.unwind_commands.specs.declared.document.command.Section.{Section}
 use Rattle.unwind_commands.specs.declared.document.command.Stack.{Stack}
 use Rattle.unwind_commands.specs.declared.document.command.Step.{Step}
+use Rattle.unwind_commands.specs.declared.document.command.Tables.{Tables}
 use Rattle.unwind_commands.specs.declared.document.command.Unload.{Unload}
 use Rattle.unwind_commands.specs.declared.document.command.Walk.{Walk}
 use Rattle.unwind_commands.specs.declared.document.Document.{Document}
 use Rattle.unwind_commands.specs.declared.document.made.Made as memory
 use Rattle.unwind_commands.specs.Document.{Content}
-use Rattle.unwind_commands.specs.Commands.{SectionData, Loading, Unloading, StackWords, Stepping, Walking, Task, Made, make_unwinder, make_cache, clone_unwinder, load_module, unload_module, take_step, take_walk, show_counts}
+use Rattle.unwind_commands.specs.Commands.{SectionData, Loading, Unloading, StackWords, Stepping, Walking, TableData, RoadSteps, Task, Made, make_unwinder, make_cache, clone_unwinder, load_module, unload_module, take_step, take_walk, show_counts, take_roads}
 
 -- a section
 abbrev pub section_view : Section → SectionData
@@ -59,6 +61,26 @@ walk_view w = record {
   stack = words_view w.stack;
 }
 
+-- a section and its header
+abbrev pub tables_view : Tables → TableData
+tables_view t = record {
+  section = t.section.items;
+  section_start = t.section_start;
+  header = t.header.items;
+  header_start = t.header_start;
+  base_svma = t.base_svma;
+}
+
+-- steps by each road
+abbrev pub roads_view : Roads → RoadSteps
+roads_view r = record {
+  tables = tables_view r.tables;
+  kind = r.kind;
+  address = r.address;
+  registers = r.registers;
+  stack = words_view r.stack;
+}
+
 -- an unload
 abbrev pub unload_view : Unload → Unloading
 unload_view u = record { unwinder = u.unwinder; start = u.start }
@@ -73,6 +95,7 @@ task_of (commands.Unload u) = unload_module (unload_view u)
 task_of (commands.Step s) = take_step (step_view s)
 task_of (commands.Walk w) = take_walk (walk_view w)
 task_of (commands.Stats c) = show_counts c
+task_of (commands.Roads r) = take_roads (roads_view r)
 
 -- commands
 abbrev pub tasks_of : List Command → List Task

@@ -66,6 +66,22 @@ pub record Unloading : Type 0 where
   pub unwinder : ℕ
   pub start : ℕ
 
+-- a section of call frames and a header of it, each with its stated start, and the base from which stated addresses count
+pub record TableData : Type 0 where
+  pub section : List ℕ
+  pub section_start : ℕ
+  pub header : List ℕ
+  pub header_start : ℕ
+  pub base_svma : ℕ
+
+-- a step by each of the three roads to the entry for an address: over a module that has these tables, or the section alone
+pub record RoadSteps : Type 0 where
+  pub tables : TableData
+  pub kind : FrameKind
+  pub address : ℕ
+  pub registers : StatedRegisters
+  pub stack : StackWords
+
 -- a command
 pub data Task : Type 0 where
   make_unwinder : Task
@@ -76,6 +92,7 @@ pub data Task : Type 0 where
   take_step : Stepping → Task
   take_walk : Walking → Task
   show_counts : ℕ → Task
+  take_roads : RoadSteps → Task
 
 -- how many unwinders and caches earlier commands made
 pub record Made : Type 0 where
@@ -235,13 +252,55 @@ walk_in machine made d =
     ⊛ field (registers_in machine) (codes "regs") d ⊛ field stack_in (codes "stack") d
     else Err BadCommand
 
+-- ---- steps by each road
+
+-- the tables of these parts
+abbrev pub tables_of : List ℕ → ℕ → List ℕ → ℕ → ℕ → TableData
+tables_of section section_start header header_start base_svma = record {
+  section = section;
+  section_start = section_start;
+  header = header;
+  header_start = header_start;
+  base_svma = base_svma;
+}
+
+-- the fields of a section and its header
+abbrev pub tables_in : Data → Checked TableData
+tables_in d =
+    Ok tables_of ⊛ field bytes_value (codes "section") d ⊛ field address_value (codes "section_start") d
+    ⊛ field bytes_value (codes "header") d ⊛ field address_value (codes "header_start") d
+    ⊛ field address_value (codes "base_svma") d
+
+-- the fields of the steps by each road
+abbrev pub roads_names : List (List ℕ)
+roads_names =
+    codes "do" ∷ codes "section" ∷ codes "section_start" ∷ codes "header" ∷ codes "header_start" ∷ codes "base_svma"
+    ∷ codes "kind" ∷ codes "address" ∷ codes "regs" ∷ codes "stack" ∷ []
+
+-- the steps of these parts
+abbrev pub road_steps_of : TableData → FrameKind × ℕ → StatedRegisters → StackWords → RoadSteps
+road_steps_of tables frame regs stack = record {
+  tables = tables;
+  kind = frame.0;
+  address = frame.1;
+  registers = regs;
+  stack = stack;
+}
+
+-- a value that has to be the steps by each road
+abbrev pub roads_in : Architecture → Data → Checked RoadSteps
+roads_in machine d =
+    if has_only roads_names d
+    then Ok road_steps_of ⊛ tables_in d ⊛ frame_in d ⊛ field (registers_in machine) (codes "regs") d
+    ⊛ field stack_in (codes "stack") d
+    else Err BadCommand
+
 -- ---- loads
 
 -- the section names that are not taken yet
 abbrev pub refused_names : List (List ℕ)
 refused_names =
-    codes ".eh_frame_hdr" ∷ codes "__eh_frame_hdr" ∷ codes "__unwind_info" ∷ codes "__stubs" ∷ codes "__stub_helper"
-    ∷ codes ".pdata" ∷ codes ".rdata" ∷ codes ".xdata" ∷ []
+    codes "__unwind_info" ∷ codes "__stubs" ∷ codes "__stub_helper" ∷ codes ".pdata" ∷ codes ".rdata" ∷ codes ".xdata" ∷ []
 
 -- the text is one of them
 unfoldable pub is_refused : List ℕ → Bool
@@ -359,6 +418,7 @@ verb_of text =
     else if bytes_eq text (codes "step") then Some verb.Step
     else if bytes_eq text (codes "walk") then Some verb.Walk
     else if bytes_eq text (codes "stats") then Some verb.Stats
+    else if bytes_eq text (codes "roads") then Some verb.Roads
     else None
 
 -- a value that has to say so
@@ -377,6 +437,7 @@ task_in machine made d verb.Unload = Ok unload_module ⊛ unload_in made d
 task_in machine made d verb.Step = Ok take_step ⊛ step_in machine made d
 task_in machine made d verb.Walk = Ok take_walk ⊛ walk_in machine made d
 task_in machine made d verb.Stats = Ok show_counts ⊛ one_number made.caches (codes "cache") d
+task_in machine made d verb.Roads = Ok take_roads ⊛ roads_in machine d
 
 -- the task of a value that has to be a command
 abbrev pub command_fields : Architecture → Made → Data → Checked Task
@@ -410,6 +471,11 @@ pub record IsSoundWalk (made : Made) (walk : Walking) : Type 0 where
   pub cache : walk.cache < made.caches
   pub words : walk.stack.start + 8 * (length walk.stack.words - 1) < 2 ^ 64
 
+-- no return address is 0, and the last word of the stack has an address
+pub record AreSoundRoads (roads : RoadSteps) : Type 0 where
+  pub address : roads.kind ≡ Ra → roads.address ≢ 0
+  pub words : roads.stack.start + 8 * (length roads.stack.words - 1) < 2 ^ 64
+
 -- what a command names was made before it
 abbrev pub IsSound : Made → Task → Type 0
 IsSound made make_unwinder = Unit {0}
@@ -420,6 +486,7 @@ IsSound made (unload_module unload) = unload.unwinder < made.unwinders
 IsSound made (take_step step) = IsSoundStep made step
 IsSound made (take_walk walk) = IsSoundWalk made walk
 IsSound made (show_counts cache) = cache < made.caches
+IsSound made (take_roads roads) = AreSoundRoads roads
 
 -- each of the commands, one after the other
 abbrev pub AreSound : Made → List Task → Type 0

@@ -3,6 +3,7 @@ pub mod Commands
 pub mod Document
 pub mod Lines
 pub mod Registers
+pub mod Roads
 pub mod SectionViews
 pub mod Sections
 pub mod Text

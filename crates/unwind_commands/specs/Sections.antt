@@ -2,7 +2,7 @@
 use Rattle.std.specs.Prelude.{ℕ, List, [], ◌∷◌, Option, None, option_map, bytes_eq, if◌then◌else◌}
 use Rattle.std.specs.Option.{option_or}
 use Rattle.std.specs.declared.ops.Range.{Range}
-use Rattle.framehop.specs.UnwindData.{UnwindData, unwind_data_of}
+use Rattle.framehop.specs.UnwindData.{UnwindData, unwind_data_of, scanned_data_of}
 use Rattle.framehop_modules.specs.Sections.{Sections}
 use Rattle.unwind_commands.specs.declared.document.command.AddressRange.{AddressRange}
 use Rattle.unwind_commands.specs.Commands.{SectionData}
@@ -33,6 +33,15 @@ sections_stated base_svma sections = record {
   segment_data = λ name. None;
 }
 
--- what they give to unwind by
-abbrev pub data_stated : ℕ → List SectionData → UnwindData
-data_stated base_svma sections = unwind_data_of (sections_stated base_svma sections)
+-- What sections give to unwind by, whose stated addresses count from an address: where a module is loaded, and where each step reads
+-- its call frame information.
+pub record DataForms (Data : Type 0) : Type 0 where
+  pub loaded : ℕ → List SectionData → Data
+  pub scanned : ℕ → List SectionData → Data
+
+-- what they give by their names
+abbrev pub data_stated : DataForms UnwindData
+data_stated = record {
+  loaded = λ base_svma sections. unwind_data_of (sections_stated base_svma sections);
+  scanned = λ base_svma sections. scanned_data_of (sections_stated base_svma sections);
+}

@@ -1,5 +1,6 @@
--- What a run writes for a document: a line for each step, the lines of each walk and of each count, or one for the first fault.
-use Rattle.std.specs.Prelude.{ℕ, Bool, ◌-◌, ◌/◌, ◌%◌, List, [], ◌∷◌, ◌++◌, ◌&&◌, length, Option, Some, None, Result, Ok, Err, slice_get, ◌==◌, nat_le, if◌then◌else◌}
+-- What a run writes for a document: a line for each step, the lines of each walk, of each count and of the steps by each road, or one
+-- for the first fault.
+use Rattle.std.specs.Prelude.{ℕ, Bool, ◌-◌, ◌/◌, ◌%◌, List, [], ◌∷◌, ◌++◌, ◌&&◌, length, codes, Option, Some, None, Result, Ok, Err, slice_get, ◌==◌, nat_le, if◌then◌else◌}
 use Rattle.documents.specs.Faults.{fault_line}
 use Rattle.documents.specs.Lines.{line}
 use Rattle.documents.specs.declared.fault.Fault.{Fault}
@@ -24,7 +25,7 @@ use Rattle.framehop_rows.specs.RowAttempt.{RowAttempt}
 use Rattle.framehop_rows.specs.RowAttemptAarch64 as aarch64_row
 use Rattle.framehop_rows.specs.RowAttemptX86_64.{row_attempt}
 use Rattle.framehop.specs.UnwindData.{UnwindData, attempt, room_of}
-use Rattle.unwind_commands.specs.Sections.{data_stated}
+use Rattle.unwind_commands.specs.Sections.{DataForms, data_stated}
 use Rattle.framehop_unwinder.specs.Frames.{Frame, first_frame, later_frame}
 use Rattle.framehop_unwinder.specs.Judge.{judge}
 use Rattle.framehop_unwinder.specs.Modules.{Loaded}
@@ -36,11 +37,13 @@ use Rattle.unwind_commands.specs.declared.document.Architecture.{Architecture}
 use Rattle.unwind_commands.specs.declared.document.Architecture.TheVariants as arch
 use Rattle.unwind_commands.specs.declared.document.Policy.{Policy}
 use Rattle.unwind_commands.specs.declared.document.Policy.TheVariants.{May, Must}
-use Rattle.unwind_commands.specs.Commands.{Made, StackWords, SectionData, Loading, Stepping, Task, make_unwinder, make_cache, clone_unwinder, load_module, unload_module, take_step, take_walk, show_counts}
+use Rattle.unwind_commands.specs.declared.document.registers.StatedRegisters.{StatedRegisters}
+use Rattle.unwind_commands.specs.Commands.{Made, StackWords, Loading, RoadSteps, Task, make_unwinder, make_cache, clone_unwinder, load_module, unload_module, take_step, take_walk, show_counts, take_roads}
 use Rattle.unwind_commands.specs.Document.{Content, content_of}
 use Rattle.unwind_commands.specs.Lines.{outcome_line}
 use Rattle.unwind_commands.specs.Registers.{RegisterForms, register_forms, stated_aarch64, stated_x86_64, text_aarch64, text_x86_64}
-use Rattle.unwind_sessions.specs.Turns.{Progress, Turn, beginning, modules_in, turn_of_unwinder, turn_of_cache, turn_of_clone, turn_of_load, turn_of_unload, turn_of_step, turn_of_walk, turn_of_stats}
+use Rattle.unwind_commands.specs.Roads.{section_of, header_of, module_at}
+use Rattle.unwind_sessions.specs.Turns.{Progress, Turn, beginning, writes, modules_in, turn_of_unwinder, turn_of_cache, turn_of_clone, turn_of_load, turn_of_unload, turn_of_step, turn_of_walk, turn_of_stats}
 
 -- the words of a stack: one at each eighth byte from its start, as far as they go
 abbrev pub words_of : StackWords → Words
@@ -59,23 +62,38 @@ value_limit May = None
 value_limit Must = Some 64
 
 -- the module that a command loads, by what its sections and the address that they count from give to unwind by
-abbrev pub loaded_by : {Data : Type 0} → (ℕ → List SectionData → Data) → Loading → Loaded Data
+abbrev pub loaded_by : {Data : Type 0} → DataForms Data → Loading → Loaded Data
 loaded_by data_of l = record {
   name = l.name;
   start = l.start;
   end = l.end;
   base = l.base;
-  unwind_data = data_of l.base_svma l.sections;
+  unwind_data = data_of.loaded l.base_svma l.sections;
 }
 
--- the line of a step over modules: the judge's
-abbrev pub line_at : {Data Rule Registers : Type 0} → Meanings Data Rule Registers → RegisterForms Registers → List (Loaded Data) → Stepping → List ℕ
-line_at m forms modules s =
-    let registers = forms.stated s.registers in
-    outcome_line forms.text registers (judge m modules (frame_at s.kind s.address) registers (words_of s.stack))
+-- the line of a step over modules, from a frame with registers and a stack that are stated: the judge's
+abbrev pub line_at : {Data Rule Registers : Type 0} → Meanings Data Rule Registers → RegisterForms Registers → List (Loaded Data) → Frame
+    → StatedRegisters → StackWords → List ℕ
+line_at m forms modules frame stated stack =
+    let registers = forms.stated stated in
+    outcome_line forms.text registers (judge m modules frame registers (words_of stack))
+
+-- the line of the step by one road: over a module that has this to be unwound by
+abbrev pub road_line : {Data Rule Registers : Type 0} → Meanings Data Rule Registers → RegisterForms Registers → RoadSteps → Data → List ℕ
+road_line m forms r given =
+    line_at m forms (module_at r.tables.base_svma given ∷ []) (frame_at r.kind r.address) r.registers r.stack
+
+-- the lines of the steps by all three: by the header, by an index of the section, and by reading the section
+abbrev pub road_lines : {Data Rule Registers : Type 0} → Meanings Data Rule Registers → RegisterForms Registers → DataForms Data → RoadSteps → List ℕ
+road_lines m forms data_of r =
+    let base = r.tables.base_svma in
+    let section = section_of r.tables in
+    codes "header " ++ road_line m forms r (data_of.loaded base (section ∷ header_of r.tables ∷ []))
+    ++ codes "index " ++ road_line m forms r (data_of.loaded base (section ∷ []))
+    ++ codes "scan " ++ road_line m forms r (data_of.scanned base (section ∷ []))
 
 -- what a command comes to
-abbrev pub turn : {Data Rule Registers : Type 0} → Meanings Data Rule Registers → RegisterForms Registers → (ℕ → List SectionData → Data) → Progress Data → Task
+abbrev pub turn : {Data Rule Registers : Type 0} → Meanings Data Rule Registers → RegisterForms Registers → DataForms Data → Progress Data → Task
     → Turn Data
 turn m forms data_of progress make_unwinder = turn_of_unwinder progress
 turn m forms data_of progress make_cache = turn_of_cache progress
@@ -83,13 +101,15 @@ turn m forms data_of progress (clone_unwinder unwinder) = turn_of_clone unwinder
 turn m forms data_of progress (load_module l) = turn_of_load l.unwinder (loaded_by data_of l) progress
 turn m forms data_of progress (unload_module u) = turn_of_unload u.unwinder u.start progress
 turn m forms data_of progress (take_step s) =
-    turn_of_step m (line_at m forms (modules_in s.unwinder progress) s) (frame_at s.kind s.address) s.unwinder s.cache progress
+    let frame = frame_at s.kind s.address in
+    turn_of_step m (line_at m forms (modules_in s.unwinder progress) frame s.registers s.stack) frame s.unwinder s.cache progress
 turn m forms data_of progress (take_walk w) =
     turn_of_walk m (words_of w.stack) w.limit w.unwinder w.cache (walk_from w.pc (forms.stated w.registers)) progress
 turn m forms data_of progress (show_counts cache) = turn_of_stats cache progress
+turn m forms data_of progress (take_roads r) = writes (road_lines m forms data_of r) progress
 
 -- what commands write, one after another, up to one that is refused
-abbrev pub lines_of : {Data Rule Registers : Type 0} → Meanings Data Rule Registers → RegisterForms Registers → (ℕ → List SectionData → Data) → Progress Data
+abbrev pub lines_of : {Data Rule Registers : Type 0} → Meanings Data Rule Registers → RegisterForms Registers → DataForms Data → Progress Data
     → List Task → List ℕ
 lines_of m forms data_of progress [] = []
 lines_of m forms data_of progress (task ∷ tasks) =

@@ -12,11 +12,14 @@ mod command;
 mod load;
 mod made;
 mod registers;
+mod roads;
 mod step;
 mod walk;
 
 use command::command_in;
-pub use command::{AddressRange, Command, FrameKind, Load, Section, Stack, Step, Unload, Walk};
+pub use command::{
+    AddressRange, Command, FrameKind, Load, Roads, Section, Stack, Step, Tables, Unload, Walk,
+};
 use documents::address::address_of;
 use documents::check::{Checked, both, in_unit};
 use documents::field::has_only;

@@ -6,6 +6,7 @@ mod document;
 mod lines;
 mod perform;
 mod program;
+mod roads;
 mod sections;
 
 pub use documents::{Ending, RunError, Sink, Source, StreamError, Streamed};

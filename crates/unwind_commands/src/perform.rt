@@ -3,16 +3,20 @@ ghost use Rattle.std.specs.Prelude.{◌≡◌, ◌≢◌, ◌<◌, ℕ, List, If
 ghost use Rattle.framehop_registers.specs.Callback.{read_answer};
 ghost use Rattle.framehop_unwinder.specs.Attempt.{meanings};
 ghost use Rattle.framehop_unwinder.specs.Frames.{frame_of};
-ghost use Rattle.unwind_commands.specs.Commands.{IsSound, SectionData};
+ghost use Rattle.unwind_commands.specs.Commands.{IsSound};
 ghost use Rattle.unwind_commands.specs.Registers.{register_forms};
+ghost use Rattle.unwind_commands.specs.Sections.{DataForms};
 ghost use Rattle.unwind_commands.specs.CommandViews.{sections_view, task_of, words_view};
 ghost use Rattle.unwind_sessions.specs.Turns.{Progress, IsAt, ComesTo};
 ghost use Rattle.unwind_commands.specs.Text.{frame_at, made_in, turn, words_of};
 ghost use Rattle.unwind_commands.specs.declared.document.registers.StatedRegisters.{StatedRegisters};
 ghost use Rattle.unwind_commands.specs.declared.document.command.FrameKind.TheVariants.{Ra};
 
-use crate::document::{Command, FrameKind, Load, Section, Stack, StatedRegisters, Step, Walk};
+use crate::document::{
+    Command, FrameKind, Load, Roads, Section, Stack, StatedRegisters, Step, Walk,
+};
 use crate::lines::step_line;
+use crate::roads::road_lines;
 use framehop_rules::FrameAddress;
 use framehop_unwinder::{Module, Session, StackWalk, Unwinding};
 use std::alloc::{AllocError, Global};
@@ -25,7 +29,7 @@ pub(crate) trait DocumentModules: Unwinding {
 
     ghost shown: { Self.UnwindRegs → List ℕ };
 
-    ghost data_of: { ℕ → List SectionData → Self.UnwindData };
+    ghost data_of: { DataForms Self.UnwindData };
 
     /// What sections give to unwind by, whose stated addresses count from an address.
     fn unwind_data(
@@ -34,7 +38,11 @@ pub(crate) trait DocumentModules: Unwinding {
         sections: Vec<Section>,
     ) -> Result<Self::UnwindData, AllocError>
         ensures { IfOk result (λ unwind_data.
-            unwind_data ≡ data_of base_svma (sections_view sections.items)) };
+            unwind_data ≡ data_of.loaded base_svma (sections_view sections.items)) };
+
+    /// What they give to unwind by, where each step reads the call frame information.
+    fn scanned_data(base_svma: u64, sections: Vec<Section>) -> Self::UnwindData
+        ensures { result ≡ data_of.scanned base_svma (sections_view sections.items) };
 
     /// The registers that are stated.
     fn stated_registers(stated: StatedRegisters) -> Self::UnwindRegs
@@ -70,6 +78,7 @@ pub(crate) fn perform<A: DocumentModules>(
         Command::Step(step) => take_step(session, alloc, &step),
         Command::Walk(walk) => take_walk(session, alloc, &walk),
         Command::Stats(cache) => turns::stats(session, alloc, cache),
+        Command::Roads(roads) => take_roads(session, alloc, &roads),
     }
 }
 
@@ -155,8 +164,24 @@ fn take_walk<A: DocumentModules>(
     )
 }
 
+/// Makes a step by each road, and answers their lines. The session stays as it is.
+fn take_roads<A: DocumentModules>(
+    session: &mut Session<A>,
+    alloc: Global,
+    roads: &Roads,
+) -> Result<Written, AllocError>
+    requires { IsSound (made_in session.old) (task_of (Command.Roads roads.now)) }
+    ensures { let m = meanings A.UnwindRule.meaning A.UnwindRule.fallback A.attempt in
+        let forms = register_forms A.of_stated A.shown in
+        (progress : Progress A.UnwindData) → IsAt progress session.old
+        → IfOk result (λ written. ComesTo (turn m forms A.data_of progress (task_of (Command.Roads roads.now)))
+        (string_bytes written.text) written.is_refused session.new) }
+{
+    Ok(Written::lines(road_lines::<A>(alloc, roads)?))
+}
+
 /// The address of a frame, by its kind.
-fn frame_address(kind: FrameKind, address: u64) -> FrameAddress
+pub(crate) fn frame_address(kind: FrameKind, address: u64) -> FrameAddress
     requires { kind ≡ Ra → address ≢ 0 }
     ensures { frame_of result ≡ frame_at kind address }
 {
@@ -167,7 +192,7 @@ fn frame_address(kind: FrameKind, address: u64) -> FrameAddress
 }
 
 /// The word of a stack at an address, where there is one.
-fn word_at(stack: &Stack, address: u64) -> Result<u64, ()>
+pub(crate) fn word_at(stack: &Stack, address: u64) -> Result<u64, ()>
     ensures { result ≡ read_answer (words_of (words_view stack.now) address) }
 {
     let offset = address.checked_sub(stack.start).ok_or(())?;

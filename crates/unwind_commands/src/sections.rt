@@ -110,6 +110,11 @@ impl<A: DocumentArch, P: AllocationPolicy> DocumentModules for BySections<A, Vec
         ModuleUnwindData::new(alloc, &mut info)
     }
 
+    fn scanned_data(base_svma: u64, sections: Vec<Section>) -> ModuleUnwindData<Vec<u8>> {
+        let mut info = StatedSections::new(base_svma, sections);
+        ModuleUnwindData::scanning(&mut info)
+    }
+
     ghost of_stated = { A.of_stated };
 
     ghost shown = { A.shown };

@@ -14,7 +14,7 @@ use Rattle.documents.specs.Faults.{Checked, ◌⊛◌, both, ◌>>=◌}
 use Rattle.documents.specs.Json.{field, text_value, address_value, number_value, has_only}
 use Rattle.serde_json.specs.Find.{get}
 use Rattle.unwind_commands.specs.declared.document.Architecture.{Architecture}
-use Rattle.unwind_commands.specs.Commands.{Made, Task, make_unwinder, make_cache, clone_unwinder, load_module, unload_module, take_step, take_walk, show_counts, Stepping, Walking, Loading, Unloading, StackWords, IsSound, IsSoundStep, IsSoundWalk, AreSound, kind_in, words_in, registers_in, sections_in, made_number, one_number, stepping_of, walking_of, loading_of, unloading_of, limit_value, stack_names, step_names, walk_names, load_names, unload_names, number_below, frame_at, frame_in, stack_at, stack_in, step_in, walk_in, load_in, unload_in, verb_in, task_in, command_in, made_after}
+use Rattle.unwind_commands.specs.Commands.{Made, Task, make_unwinder, make_cache, clone_unwinder, load_module, unload_module, take_step, take_walk, show_counts, take_roads, Stepping, Walking, Loading, Unloading, RoadSteps, StackWords, IsSound, IsSoundStep, IsSoundWalk, AreSoundRoads, AreSound, kind_in, words_in, registers_in, sections_in, made_number, one_number, stepping_of, walking_of, loading_of, unloading_of, road_steps_of, limit_value, stack_names, step_names, walk_names, load_names, unload_names, roads_names, number_below, frame_at, frame_in, stack_at, stack_in, step_in, walk_in, load_in, unload_in, tables_in, roads_in, verb_in, task_in, command_in, made_after}
 use Rattle.documents.specs.Faults.{in_unit}
 use Rattle.unwind_commands.specs.Document.{with_task, commands_from}
 use Rattle.documents.proofs.Laws.{ok_is}
@@ -187,6 +187,19 @@ walk_sound machine made d walk is =
       words = stack_field_sound d l6.1 l6.3;
     })
 
+roads_sound : (machine : Architecture) (d : Data) (roads : RoadSteps) → roads_in machine d ≡ Ok roads → AreSoundRoads roads
+roads_sound machine d roads is =
+    let r = field (registers_in machine) (codes "regs") d in
+    let s = field stack_in (codes "stack") d in
+    let t = test_ok (has_only roads_names d) (Ok road_steps_of ⊛ tables_in d ⊛ frame_in d ⊛ r ⊛ s) BadCommand roads is in
+    let l4 = last_ok (Ok road_steps_of ⊛ tables_in d ⊛ frame_in d ⊛ r) s roads t.1 in
+    let l3 = last_ok (Ok road_steps_of ⊛ tables_in d ⊛ frame_in d) r l4.0 l4.2 in
+    let l2 = last_ok (Ok road_steps_of ⊛ tables_in d) (frame_in d) l3.0 l3.2 in
+    let l1 = last_ok (Ok road_steps_of) (tables_in d) l2.0 l2.2 in
+    let made_of : roads ≡ road_steps_of l1.1 l2.1 l3.1 l4.1 =
+    l4.4 ∙ ap (λ g. g l4.1) (l3.4 ∙ ap (λ g. g l3.1) (l2.4 ∙ ap (λ g. g l2.1) (l1.4 ∙ ap (λ g. g l1.1) (sym (ok_is road_steps_of l1.0 l1.2))))) in
+    subst AreSoundRoads (sym made_of) (record { address = frame_in_sound d l2.1 l2.3; words = stack_field_sound d l4.1 l4.3 })
+
 -- the number that a command has beside what it does
 one_sound : (count : ℕ) (name : List ℕ) (d : Data) (n : ℕ) → one_number count name d ≡ Ok n → n < count
 one_sound count name d n is =
@@ -216,6 +229,9 @@ task_sound machine made d verb.Walk task is =
 task_sound machine made d verb.Stats task is =
     let l = last_ok (Ok show_counts) (one_number made.caches (codes "cache") d) task is in
     subst (IsSound made) (sym (l.4 ∙ ap (λ g. g l.1) (sym (ok_is show_counts l.0 l.2)))) (one_sound made.caches (codes "cache") d l.1 l.3)
+task_sound machine made d verb.Roads task is =
+    let l = last_ok (Ok take_roads) (roads_in machine d) task is in
+    subst (IsSound made) (sym (l.4 ∙ ap (λ g. g l.1) (sym (ok_is take_roads l.0 l.2)))) (roads_sound machine d l.1 l.3)
 
 command_sound : (machine : Architecture) (made : Made) (d : Data) (task : Task) → command_in machine made d ≡ Ok task → IsSound made task
 command_sound machine made d task is =

@@ -10,6 +10,7 @@ use super::Architecture;
 use super::load::{load_in, unload_in};
 use super::made::{Made, made_number};
 use super::registers::StatedRegisters;
+use super::roads::roads_in;
 use super::step::step_in;
 use super::walk::walk_in;
 use documents::check::Checked;
@@ -38,6 +39,8 @@ pub enum Command {
     Walk(Walk),
     /// Shows the counts of the cache of this number.
     Stats(usize),
+    /// Makes a step by each road over a module of its own.
+    Roads(Roads),
 }
 
 /// A module for an unwinder.
@@ -120,6 +123,30 @@ pub struct Walk {
     pub stack: Stack,
 }
 
+/// A section of call frames, and a header of it.
+#[derive(Debug, Drop)]
+pub struct Tables {
+    pub section: Vec<u8>,
+    /// Where the section starts as the file states it.
+    pub section_start: u64,
+    pub header: Vec<u8>,
+    /// Where the header starts as the file states it.
+    pub header_start: u64,
+    /// The address that stated addresses count from, where the module starts.
+    pub base_svma: u64,
+}
+
+/// A step by each road to the entry for an address: by the header, by an index of the section, and by
+/// reading the section.
+#[derive(Debug, Drop)]
+pub struct Roads {
+    pub tables: Tables,
+    pub kind: FrameKind,
+    pub address: u64,
+    pub registers: StatedRegisters,
+    pub stack: Stack,
+}
+
 /// The readable words, eight bytes each, the first of them at the start.
 #[derive(Debug, Drop)]
 pub struct Stack {
@@ -138,6 +165,7 @@ pub(crate) enum Verb {
     Step,
     Walk,
     Stats,
+    Roads,
 }
 
 /// What a command does.
@@ -153,6 +181,7 @@ fn verb_field(object: &Value) -> Checked<Verb>
         "step" => Ok(Verb::Step),
         "walk" => Ok(Verb::Walk),
         "stats" => Ok(Verb::Stats),
+        "roads" => Ok(Verb::Roads),
         _ => Err(FaultName::BadCommand),
     }
 }
@@ -187,6 +216,7 @@ fn task_in(
         Verb::Step => Ok(Command::Step(step_in(alloc, arch, object, made)?)),
         Verb::Walk => Ok(Command::Walk(walk_in(alloc, arch, object, made)?)),
         Verb::Stats => Ok(Command::Stats(one_number(object, "cache", made.caches)?)),
+        Verb::Roads => Ok(Command::Roads(roads_in(alloc, arch, object)?)),
     }
 }
 

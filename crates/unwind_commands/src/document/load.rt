@@ -23,8 +23,6 @@ fn is_refused(name: &str) -> bool
     ensures { result ≡ is_refused name.now }
 {
     [
-        ".eh_frame_hdr",
-        "__eh_frame_hdr",
         "__unwind_info",
         "__stubs",
         "__stub_helper",

@@ -28,7 +28,7 @@ fn kind_field(object: &Value) -> Checked<FrameKind>
 }
 
 /// The address of the frame and how it is meant: no return address is 0.
-fn frame_in(object: &Value) -> Checked<(FrameKind, u64)>
+pub(crate) fn frame_in(object: &Value) -> Checked<(FrameKind, u64)>
     ensures { result ≡ frame_in (view object.now) }
 {
     let (kind, address) = both(kind_field(object), address_field(object, "address"))?;
