@@ -1,4 +1,5 @@
 pub mod DocumentLemmas
+pub mod OneModule
 pub mod RoadLines
 pub mod Runs
 pub mod SectionLists

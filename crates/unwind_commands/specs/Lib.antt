@@ -4,6 +4,7 @@ pub mod Document
 pub mod Lines
 pub mod Registers
 pub mod Roads
+pub mod RoadsAlike
 pub mod SectionViews
 pub mod Sections
 pub mod Text

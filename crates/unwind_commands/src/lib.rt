@@ -3,6 +3,7 @@
 
 mod arch;
 mod document;
+pub mod laws;
 mod lines;
 mod perform;
 mod program;
