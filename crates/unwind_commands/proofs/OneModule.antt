@@ -1,12 +1,12 @@
 -- What one module alone says of an address depends on what it has to be unwound by, where it contains the address, and on nothing
 -- else of that.
-use Rattle.std.proofs.Common.{◌≡◌, ℕ, ◌+◌, ◌-◌, ◌≤◌, ◌^◌, List, [], ◌∷◌, Bool, true, false, cond, Option, Some, None, refl, ◌∙◌, arith}
+use Rattle.std.proofs.Common.{◌≡◌, ℕ, ◌+◌, ◌-◌, ◌≤◌, ◌^◌, [], ◌∷◌, Bool, true, false, cond, Option, Some, None, refl, arith}
 use Rattle.std.specs.Prelude.{nat_le, nat_lt, option_and_then, ◌==◌, ◌&&◌, ◌||◌}
 use Rattle.std.proofs.lemmas.Bool.{leb-true}
 use Rattle.lists.specs.Last.{last_of}
 use Rattle.lists.specs.Greatest.{last_greatest}
 use Rattle.framehop_unwinder.specs.Attempt.{Attempt, Meanings, attempt_of, attempt_at}
-use Rattle.framehop_unwinder.specs.Modules.{Loaded, if_inside, is_inside, has_relative}
+use Rattle.framehop_unwinder.specs.Modules.{Loaded, if_inside}
 use Rattle.unwind_commands.specs.Roads.{address_behind, module_at}
 
 module _ {Data Rule Registers : Type 0} (m : Meanings Data Rule Registers) (base : ℕ) (one other : Data) (first : Bool) (a : ℕ) where
