@@ -1,4 +1,5 @@
-//! Times the making of a module with its index, and walks through its code, for comparing them with another program's.
+//! Times the making of a module, with its index or by a header in its place, and walks through its code, for comparing them
+//! with another program's.
 //!
 //! What stands on standard input is said at `read_work`. It prints how many frames the walks give, and with the argument
 //! `time` the least nanoseconds of all rounds: of a module, of all walks through one cache that has seen them before, and of

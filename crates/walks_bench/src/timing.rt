@@ -18,8 +18,28 @@ pub struct Times {
     pub with_making: Duration,
 }
 
-/// The module with the section that is timed, whose bytes are given.
-fn module_of(alloc: Global, work: &Work, section: Vec<u8>) -> Result<Module<Vec<u8>>> {
+/// The bytes of a section and of its header.
+#[derive(Drop)]
+struct Sections {
+    section: Vec<u8>,
+    header: Option<Vec<u8>>,
+}
+
+/// The bytes of the section that is timed, and of its header, for a module of their own.
+fn sections_of(alloc: Global, work: &Work) -> Result<Sections> {
+    let header = match &work.header {
+        Some(header) => Some(header.bytes.as_slice().to_vec(alloc)?),
+        None => None,
+    };
+    Ok(Sections {
+        section: work.section.as_slice().to_vec(alloc)?,
+        header,
+    })
+}
+
+/// The module with the section that is timed, and with its header, where it has one.
+fn module_of(alloc: Global, work: &Work, bytes: Sections) -> Result<Module<Vec<u8>>> {
+    let Sections { section, header } = bytes;
     let mut sections = ExplicitModuleSectionInfo {
         base_svma: 0,
         text_svma: Some(work.text..work.text),
@@ -30,8 +50,11 @@ fn module_of(alloc: Global, work: &Work, section: Vec<u8>) -> Result<Module<Vec<
         unwind_info: None,
         eh_frame_svma: Some(work.eh_frame..work.eh_frame),
         eh_frame: Some(section),
-        eh_frame_hdr_svma: None,
-        eh_frame_hdr: None,
+        eh_frame_hdr_svma: work
+            .header
+            .as_ref()
+            .map(|header| header.start..header.start),
+        eh_frame_hdr: header,
         debug_frame: None,
         text_segment_svma: None,
         text_segment: None,
@@ -45,7 +68,7 @@ fn module_of(alloc: Global, work: &Work, section: Vec<u8>) -> Result<Module<Vec<
 fn unwinder_of(alloc: Global, work: &Work) -> Result<UnwinderX86_64<Vec<u8>>> {
     let mut generations = Generations::new();
     let mut unwinder = UnwinderX86_64::new(alloc, &mut generations)?;
-    let module = module_of(alloc, work, work.section.as_slice().to_vec(alloc)?)?;
+    let module = module_of(alloc, work, sections_of(alloc, work)?)?;
     if unwinder.add_module(&mut generations, module).is_err() {
         bail!("the module was not loaded");
     }
@@ -124,9 +147,9 @@ pub fn time(clock: &impl Clock, alloc: Global, work: &Work) -> Result<Times> {
     let mut cache = cache(alloc)?;
     frames_of_each(&unwinder, &mut cache, &work.walks);
     for _ in 0..work.rounds {
-        let section = work.section.as_slice().to_vec(alloc)?;
+        let sections = sections_of(alloc, work)?;
         let start = Instant::now(clock)?;
-        let _module = module_of(alloc, work, section)?;
+        let _module = module_of(alloc, work, sections)?;
         times.module = times.module.min(start.elapsed(clock)?);
         let start = Instant::now(clock)?;
         frames_of_each(&unwinder, &mut cache, &work.walks);

@@ -32,6 +32,13 @@ pub struct Walk {
     pub stack: Stack,
 }
 
+/// A header of the section, and where it starts.
+#[derive(Drop)]
+pub struct Header {
+    pub start: u64,
+    pub bytes: Vec<u8>,
+}
+
 /// What is timed, and how often. The module's code begins at the base, which its sections call 0.
 #[derive(Drop)]
 pub struct Work {
@@ -41,13 +48,15 @@ pub struct Work {
     pub text: u64,
     pub eh_frame: u64,
     pub walks: Vec<Walk>,
+    pub header: Option<Header>,
     pub section: Vec<u8>,
 }
 
 /// Reads what is to be timed: the rounds, the module's base and its end, and the addresses of `.text` and `.eh_frame` as the
 /// module's sections have them; the number of walks, and of each the instruction pointer, the stack pointer, the frame
-/// pointer, the most frames, and its stack's start, number of words, and words; and then the bytes of `.eh_frame`. Rounds,
-/// counts and limits have four bytes, all else eight, the low byte first.
+/// pointer, the most frames, and its stack's start, number of words, and words; the address of `.eh_frame_hdr`, its number of
+/// bytes, 0 where there is none, and these; and then the bytes of `.eh_frame`. Rounds, counts and limits have four bytes, all
+/// else eight, the low byte first.
 pub fn read_work(alloc: Global, bytes: &[u8]) -> Result<Work> {
     let mut reader = EndianSlice::new(bytes, LittleEndian);
     let rounds = reader.read_u32()?;
@@ -60,6 +69,7 @@ pub fn read_work(alloc: Global, bytes: &[u8]) -> Result<Work> {
     for _ in 0..count {
         walks.push(read_walk(alloc, &mut reader)?)?;
     }
+    let header = read_header(alloc, &mut reader)?;
     let section = reader.slice().to_vec(alloc)?;
     Ok(Work {
         rounds,
@@ -68,8 +78,22 @@ pub fn read_work(alloc: Global, bytes: &[u8]) -> Result<Work> {
         text,
         eh_frame,
         walks,
+        header,
         section,
     })
+}
+
+fn read_header(
+    alloc: Global,
+    reader: &mut EndianSlice<'_, LittleEndian>,
+) -> Result<Option<Header>> {
+    let start = reader.read_u64()?;
+    let length = reader.read_u32()?;
+    if length == 0 {
+        return Ok(None);
+    }
+    let bytes = reader.split(length as usize)?.slice().to_vec(alloc)?;
+    Ok(Some(Header { start, bytes }))
 }
 
 fn read_walk(alloc: Global, reader: &mut EndianSlice<'_, LittleEndian>) -> Result<Walk> {
