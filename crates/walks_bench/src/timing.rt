@@ -135,10 +135,25 @@ fn fresh_walks(
     Ok((fresh, all.elapsed(clock)?))
 }
 
+/// The least time of making the module, as often as there are rounds, one directly after the other.
+fn making(clock: &impl Clock, alloc: Global, work: &Work) -> Result<Duration> {
+    let mut copies = Vec::new(alloc);
+    for _ in 0..work.rounds {
+        copies.push(sections_of(alloc, work)?)?;
+    }
+    let mut least = Duration::MAX;
+    for sections in copies {
+        let start = Instant::now(clock)?;
+        let _module = module_of(alloc, work, sections)?;
+        least = least.min(start.elapsed(clock)?);
+    }
+    Ok(least)
+}
+
 /// Makes the module and all walks as often as there are rounds.
 pub fn time(clock: &impl Clock, alloc: Global, work: &Work) -> Result<Times> {
     let mut times = Times {
-        module: Duration::MAX,
+        module: making(clock, alloc, work)?,
         warm: Duration::MAX,
         fresh: Duration::MAX,
         with_making: Duration::MAX,
@@ -147,10 +162,6 @@ pub fn time(clock: &impl Clock, alloc: Global, work: &Work) -> Result<Times> {
     let mut cache = cache(alloc)?;
     frames_of_each(&unwinder, &mut cache, &work.walks);
     for _ in 0..work.rounds {
-        let sections = sections_of(alloc, work)?;
-        let start = Instant::now(clock)?;
-        let _module = module_of(alloc, work, sections)?;
-        times.module = times.module.min(start.elapsed(clock)?);
         let start = Instant::now(clock)?;
         frames_of_each(&unwinder, &mut cache, &work.walks);
         times.warm = times.warm.min(start.elapsed(clock)?);
