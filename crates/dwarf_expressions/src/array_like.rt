@@ -2,7 +2,6 @@
 
 ghost use Rattle.std.specs.Prelude.{◌≡◌, ◌↔◌, ℕ, ◌+◌, ◌-◌, ◌<◌, List, [], ◌∷◌, ◌++◌, length, take, IfOk, IsOk, OnErr, OnOk, Option, Some, None, Bool, true, false, IsTrue, refl, slice_get, slice_set};
 ghost use Rattle.std.specs.Borrow.{LendsIf, sem};
-ghost use Rattle.std.specs.Box.{with_value};
 ghost use Rattle.std.specs.List.{IsItemAtMut, slice_index_or, swap_remove};
 ghost use Rattle.std.specs.Vec.{with_item as with_vec_item};
 ghost use Rattle.arrayvec.specs.ArrayVec.{with_item as with_array_item};
@@ -10,6 +9,7 @@ ghost use Rattle.dwarf_expressions.specs.Capacity.{IsWithin, Pushes};
 
 use arrayvec::ArrayVec;
 use std::alloc::{AllocError, Global};
+use std::marker::Model;
 
 /// Why an item wasn't put at the end of a list.
 #[derive(Debug, Clone, Copy, PartialEq, Eq)]
@@ -20,8 +20,8 @@ pub enum PushError {
     OutOfMemory,
 }
 
-/// A list that may have a capacity: a vector of a fixed size, the same in a box, or a vector that
-/// grows.
+/// A list that may have a capacity: a vector of a fixed size, one with room that it took before, or
+/// a vector that grows.
 pub trait ArrayLike: Drop {
     type Item: Drop;
 
@@ -134,58 +134,77 @@ impl<T: Default + Drop, const N: usize> ArrayLike for ArrayVec<T, N> {
     }
 }
 
-/// A vector of `N` places on the heap.
-impl<T: Default + Drop, const N: usize> ArrayLike for Box<ArrayVec<T, N>> {
+/// A vector with room on the heap for `N` items, which is taken when it is made, and isn't filled. No
+/// push takes memory.
+#[derive(Drop)]
+pub struct ReservedVec<T, const N: usize> {
+    list: Vec<T>,
+}
+
+impl<T, const N: usize> Model for ReservedVec<T, N> {
+    ghost use Rattle.std.specs.Prelude.{◌≤◌, length};
+    ghost use Rattle.std.specs.Vec.{vec_capacity};
+    ghost use Rattle.arrayvec.specs.ArrayVec.{ArrayVec as Items, array_vec_code};
+
+    ghost Value = { Items T };
+
+    ghost coded = { array_vec_code T.code };
+
+    ghost view = { λ v. record { items = v.list.items } };
+
+    ghost invariant = { λ v. (length v.list.items ≤ N) × (N ≤ vec_capacity v.list) };
+}
+
+impl<T: Drop, const N: usize> ArrayLike for ReservedVec<T, N> {
     type Item = T;
 
-    ghost items = { λ list. list.value.items };
+    ghost items = { λ list. list.items };
 
     ghost capacity = { Some N };
 
     ghost is_made_in_place = { false };
 
     fn new_in(alloc: Global) -> Result<Self, AllocError> {
-        Ok(Box::new(alloc, ArrayVec::new())?)
+        Ok(ReservedVec {
+            list: Vec::with_capacity(alloc, N)?,
+        })
     }
 
     fn as_slice(&self) -> &[T] {
-        let list = &**self;
-        ArrayVec::as_slice(list)
+        self.list.as_slice()
     }
 
     fn has_room_for(&self, more: usize) -> bool {
-        let list = &**self;
-        ArrayLike::has_room_for(list, more)
+        more <= N - self.list.len()
     }
 
     fn try_push(&mut self, item: T) -> Result<(), PushError> {
-        let list = &mut **self;
-        ArrayLike::try_push(list, item)
+        if self.list.len() < N {
+            self.list.push_reserved(item);
+            Ok(())
+        } else {
+            Err(PushError::CapacityFull)
+        }
     }
 
     fn pop(&mut self) -> Option<T> {
-        let list = &mut **self;
-        ArrayVec::pop(list)
+        self.list.pop()
     }
 
     fn swap_remove(&mut self, index: usize) -> T {
-        let list = &mut **self;
-        ArrayVec::swap_remove(list, index)
+        self.list.swap_remove(index)
     }
 
     fn clear(&mut self) {
-        let list = &mut **self;
-        ArrayVec::clear(list);
+        self.list.clear();
     }
 
-    ghost with_item = { λ list index item.
-        with_value list (with_array_item list.value index item) };
+    ghost with_item = { λ list index item. with_array_item list index item };
 
     ghost items_with = { λ list index item. refl };
 
     fn item_mut(&mut self, index: usize) -> Option<&mut T> {
-        let list = &mut **self;
-        ArrayVec::get_mut(list, index)
+        self.list.get_mut(index)
     }
 }
 

@@ -8,7 +8,7 @@ mod op;
 mod stack;
 mod value;
 
-pub use array_like::{ArrayLike, PushError};
+pub use array_like::{ArrayLike, PushError, ReservedVec};
 pub use evaluation::{Evaluation, EvaluationResult, EvaluationStorage, StoreOnHeap};
 pub use op::{Expression, Operation, OperationIter};
 pub use value::Value;

@@ -132,7 +132,8 @@ impl<L: ArrayLike<Item = u64>> ValueStack<L> {
     /// Puts a copy of the value at a depth on top.
     fn pick(&mut self, index: u8) -> Result<()>
         ensures size { self.new.address_size ≡ self.old.address_size }
-        ensures becomes { Becomes L.capacity (stack_with_copy index self.old.values) result self.new.values }
+        ensures becomes { Becomes L.capacity (stack_with_copy index self.old.values) result
+            self.new.values }
     {
         let value = self.get(usize::from(index))?;
         self.push(value)

@@ -8,7 +8,7 @@ use crate::rule_map::RegisterRuleMap;
 use crate::{Effect, RegisterRule, RuledRegister, UnwindTableRow};
 use arrayvec::ArrayVec;
 use dwarf_constants::{AArch64, Error, Register, Result};
-use dwarf_expressions::{ArrayLike, StoreOnHeap};
+use dwarf_expressions::{ArrayLike, ReservedVec, StoreOnHeap};
 use dwarf_readers::ReaderOffset;
 use std::alloc::{AllocError, Global};
 
@@ -38,7 +38,7 @@ impl<T: ReaderOffset> UnwindContextStorage<T> for StoreOnHeap {
 
     type Rules = ArrayVec<RuledRegister<RegisterRule<T>>, MAX_RULES>;
 
-    type Stack = Box<ArrayVec<HeapRow<T>, MAX_ROWS>>;
+    type Stack = ReservedVec<HeapRow<T>, MAX_ROWS>;
 
     ghost room = { lit≤ tt };
 }
@@ -65,7 +65,7 @@ impl<T: ReaderOffset> UnwindContext<T, StoreOnHeap> {
     /// A context with rows on the heap, before any instruction. No later call takes memory.
     pub fn new(alloc: Global) -> std::result::Result<Self, AllocError>
         ensures { IfOk result (λ context.
-            state_of ⟦<Box<ArrayVec<HeapRow<T>, MAX_ROWS>> as ArrayLike>⟧.items context
+            state_of ⟦<ReservedVec<HeapRow<T>, MAX_ROWS> as ArrayLike>⟧.items context
             ≡ first_state) }
     {
         UnwindContext::new_in(alloc)
@@ -301,7 +301,9 @@ fn negated<T: Copy>(rule: Option<RegisterRule<T>>) -> Result<RegisterRule<T>>
     }
 }
 
-// Sees that there is a row at this place to be written over.
+// Sees that there is a row at this place to be written over. A call of its own, so that what executes
+// instructions has no room for a row on its stack.
+#[inline(never)]
 fn make_room<
     T: ReaderOffset,
     Rules: ArrayLike<Item = RuledRegister<RegisterRule<T>>>,

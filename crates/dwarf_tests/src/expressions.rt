@@ -14,7 +14,7 @@ use dwarf_expressions::{Evaluation, EvaluationResult, EvaluationStorage, Express
 use dwarf_readers::Reader;
 use std::alloc::Global;
 use std::process::Abort;
-use stored::{Boxed, Fixed};
+use stored::{Fixed, Reserved};
 
 fn sized(address_size: u8) -> Encoding {
     Encoding {
@@ -54,7 +54,7 @@ impl<H: Abort> ReaderTest<H> for ValueTest {
     fn run<R: Reader>(&self, rt: &H, alloc: Global, reader: R) -> Outcome {
         let size = self.address_size;
         assert_eq!(rt; value_of::<R, Fixed>(alloc, reader, size), self.want);
-        assert_eq!(rt; value_of::<R, Boxed>(alloc, reader, size), self.want);
+        assert_eq!(rt; value_of::<R, Reserved>(alloc, reader, size), self.want);
         assert_eq!(rt; value_of::<R, StoreOnHeap>(alloc, reader, size), self.want);
         Ok(())
     }

@@ -38,7 +38,8 @@ pub(crate) fn lookup_address(
 /// there before.
 #[derive(Drop)]
 pub struct DwarfUnwindContext<P: AllocationPolicy> {
-    rows: UnwindContext<usize, P::GimliUnwindContextStorage>,
+    // on the heap, so that it isn't copied where the cache is handed on
+    rows: Box<UnwindContext<usize, P::GimliUnwindContextStorage>>,
     // where the values of an expression take memory, if they take some
     alloc: Global,
 }
@@ -46,7 +47,7 @@ pub struct DwarfUnwindContext<P: AllocationPolicy> {
 impl<P: AllocationPolicy> DwarfUnwindContext<P> {
     /// A place for the rows of any number of steps.
     pub fn new(alloc: Global) -> Result<Self, AllocError> {
-        let rows = UnwindContext::new_in(alloc)?;
+        let rows = Box::new(alloc, UnwindContext::new_in(alloc)?)?;
         Ok(DwarfUnwindContext { rows, alloc })
     }
 }
@@ -116,7 +117,7 @@ fn unwind_frame_by_fde<
         P.GimliEvaluationStorage.Stack.capacity }
 {
     let encoding = fde.cie().encoding();
-    let row = match fde.unwind_info_for_address(section, bases, &mut context.rows, address) {
+    let row = match fde.unwind_info_for_address(section, bases, &mut *context.rows, address) {
         Ok(row) => row,
         Err(_) => return Ok(UnwindResult::ExecRule(A::rule_if_uncovered_by_fde())),
     };
@@ -183,7 +184,8 @@ pub(crate) fn unwind_frame_by_road<
         P.GimliUnwindContextStorage.Stack.capacity in
         let s = frame_section (2 ^ 64) Section.kind (Section.size section.now)
         (R.stretch (Section.reader section.now)) bases.now in
-        let coverage = by_road limits (road_view road.now) bases.now s (Section.extensions section.now)
+        let coverage = by_road limits (road_view road.now) bases.now s
+        (Section.extensions section.now)
         base_svma relative_address in
         has_wanted result ≡ true → EvaluatesExpression A.MeetsExpression coverage }
     ensures memory { has_wanted result ≡ true

@@ -1,6 +1,6 @@
 //! The last operation that runs, and the last value that there is room for.
 
-use super::stored::{Boxed, Fixed};
+use super::stored::{Fixed, Reserved};
 use super::{ValueTest, sized, value_of};
 use crate::{Outcome, ReaderTest, over_each_reader};
 use dwarf_constants::{Error, Result};
@@ -74,7 +74,7 @@ struct CapacityTest {
 impl<H: Abort> ReaderTest<H> for CapacityTest {
     fn run<R: Reader>(&self, rt: &H, alloc: Global, reader: R) -> Outcome {
         assert_eq!(rt; value_of::<R, Fixed>(alloc, reader, 8), self.of_64);
-        assert_eq!(rt; value_of::<R, Boxed>(alloc, reader, 8), self.of_64);
+        assert_eq!(rt; value_of::<R, Reserved>(alloc, reader, 8), self.of_64);
         assert_eq!(rt; value_of::<R, StoreOnHeap>(alloc, reader, 8), self.growing);
         Ok(())
     }
