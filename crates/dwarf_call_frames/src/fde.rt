@@ -86,7 +86,8 @@ impl<'bases, Section: UnwindSection<R>, R: Reader> PartialFrameDescriptionEntry<
     >(&self, mut get_cie: F) -> Result<FrameDescriptionEntry<R>>
         requires { F.IsAlwaysCallable get_cie }
         ensures { (may_want : _) → ((s : _) (b : _) (o : Section.Offset) (r : _) (after : F)
-            → self.now.within ≡ section_data (Section.size s.now) (R.stretch (Section.reader s.now)) b.now
+            → self.now.within ≡ section_data (Section.size s.now)
+            (R.stretch (Section.reader s.now)) b.now
             → self.now.cie_offset ≡ Section.Offset.number o → F.step get_cie s b o r after
             → MayGive may_want (cie_view R.stretch R.Offset.value) r
             (cie_of R.Offset.limit Section.kind self.now))

@@ -47,7 +47,8 @@ impl<R: Reader> CommonInformationEntry<R> {
     ) -> CallFrameInstructionIter<'a, R>
     where
         R: 'a,
-        ensures { result ≡ instructions_of (conventions_in (frame_section R.Offset.limit Section.kind
+        ensures { result ≡ instructions_of
+            (conventions_in (frame_section R.Offset.limit Section.kind
             (Section.size section.now) (R.stretch (Section.reader section.now)) bases.now)
             (Section.extensions section.now) (cie_view R.stretch R.Offset.value self.now) func_base)
             (R.stretch input) }

@@ -180,7 +180,8 @@ pub trait UnwindSection<R: Reader>: Copy + Debug + _UnwindSectionPrivate<R> {
             → IsRowFor R.Offset.value
             (TakesNoMemory S.Rules.is_made_in_place limits × (may_want ≡ false))
             (section_row limits (frame_section R.Offset.limit Self.kind (Self.size self.now)
-            (R.stretch (Self.reader self.now)) bases.now) (Self.extensions self.now) address) result }
+            (R.stretch (Self.reader self.now)) bases.now) (Self.extensions self.now) address)
+            result }
     {
         let fde = self.fde_for_address(bases, address, get_cie)?;
         fde.unwind_info_for_address(self, bases, ctx, address)

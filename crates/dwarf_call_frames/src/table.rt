@@ -59,7 +59,8 @@ impl<'a, 'ctx, R: Reader, S: UnwindContextStorage<R::Offset>> UnwindTable<'a, 'c
             S.Stack.row S.Rules.ArrayLike R.stretch R.Offset.limit R.Offset.value S.Stack.items
             (limits_of S.Rules.capacity S.Stack.capacity) self.entry result) }
         ensures row { let limits = limits_of S.Rules.capacity S.Stack.capacity in
-            (left : Rows ℕ) → TableHasLeft R.stretch R.Offset.limit R.Offset.value S.Stack.items limits self.old left
+            (left : Rows ℕ) → TableHasLeft R.stretch R.Offset.limit R.Offset.value S.Stack.items
+            limits self.old left
             → NextIs R.Offset.value (TakesNoMemory S.Rules.is_made_in_place limits)
             left left.rows result }
     {

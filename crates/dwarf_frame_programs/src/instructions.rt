@@ -239,7 +239,8 @@ impl<'a, R: Reader> Coding<'a, R> {
     #[inline(always)]
     fn parse(&self, input: &mut R) -> Result<CallFrameInstruction<R::Offset>>
         ensures { ReadsAs (instruction_as R.Offset.value) result
-            (instruction_at (conventions_by R.stretch R.Offset.limit self.now) (R.stretch input.old))
+            (instruction_at (conventions_by R.stretch R.Offset.limit self.now)
+            (R.stretch input.old))
             (R.stretch input.new) }
     {
         let opcode = input.read_u8()?;
@@ -293,7 +294,8 @@ impl<'a, R: Reader> Coding<'a, R> {
     #[inline(always)]
     fn parse_cfa(&self, opcode: DwCfa, input: &mut R) -> Result<CallFrameInstruction<R::Offset>>
         ensures { ReadsAs (instruction_as R.Offset.value) result
-            (listed_at (all_but_locations (conventions_by R.stretch R.Offset.limit self.now)) opcode.0
+            (listed_at (all_but_locations (conventions_by R.stretch R.Offset.limit self.now))
+            opcode.0
             (R.stretch input.old)) (R.stretch input.new) }
     {
         let instruction = match opcode {
@@ -326,7 +328,8 @@ impl<'a, R: Reader> Coding<'a, R> {
     #[inline(always)]
     fn parse_rule(&self, opcode: DwCfa, input: &mut R) -> Result<CallFrameInstruction<R::Offset>>
         ensures { ReadsAs (instruction_as R.Offset.value) result
-            (listed_at (rules_and_others (conventions_by R.stretch R.Offset.limit self.now)) opcode.0
+            (listed_at (rules_and_others (conventions_by R.stretch R.Offset.limit self.now))
+            opcode.0
             (R.stretch input.old)) (R.stretch input.new) }
     {
         let instruction = match opcode {

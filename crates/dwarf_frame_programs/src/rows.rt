@@ -155,7 +155,8 @@ impl<'a, 'ctx, R: Reader, S: UnwindContextStorage<R::Offset>> ProgramRows<'a, 'c
         program: FrameProgram<'a, R>,
     ) -> Result<Self>
         ensures rows { let limits = limits_of S.Rules.capacity S.Stack.capacity in
-            IfOk result (λ rows. HasLeft R.stretch R.Offset.limit R.Offset.value S.Stack.items limits rows
+            IfOk result (λ rows. HasLeft R.stretch R.Offset.limit R.Offset.value S.Stack.items
+            limits rows
             (rows_of_program limits (program_of program.entry))) }
         ensures refused { let limits = limits_of S.Rules.capacity S.Stack.capacity in
             IfErr result (λ e. IsRefusal (TakesNoMemory S.Rules.is_made_in_place limits) e
@@ -183,7 +184,8 @@ impl<'a, 'ctx, R: Reader, S: UnwindContextStorage<R::Offset>> ProgramRows<'a, 'c
     /// left.
     pub fn advance(&mut self) -> Result<bool>
         ensures row { let limits = limits_of S.Rules.capacity S.Stack.capacity in
-            (left : Rows ℕ) → HasLeft R.stretch R.Offset.limit R.Offset.value S.Stack.items limits self.old left
+            (left : Rows ℕ) → HasLeft R.stretch R.Offset.limit R.Offset.value S.Stack.items limits
+            self.old left
             → Advances R.stretch R.Offset.limit R.Offset.value S.Stack.items limits
             (TakesNoMemory S.Rules.is_made_in_place limits) left left.rows result self.new }
         ensures falls { let limits = limits_of S.Rules.capacity S.Stack.capacity in
@@ -244,7 +246,8 @@ impl<'a, 'ctx, R: Reader, S: UnwindContextStorage<R::Offset>> ProgramRows<'a, 'c
             S.Stack.row S.Rules.ArrayLike R.stretch R.Offset.limit R.Offset.value S.Stack.items
             (limits_of S.Rules.capacity S.Stack.capacity) self.entry result) }
         ensures row { let limits = limits_of S.Rules.capacity S.Stack.capacity in
-            (left : Rows ℕ) → HasLeft R.stretch R.Offset.limit R.Offset.value S.Stack.items limits self.old left
+            (left : Rows ℕ) → HasLeft R.stretch R.Offset.limit R.Offset.value S.Stack.items limits
+            self.old left
             → NextIs R.Offset.value (TakesNoMemory S.Rules.is_made_in_place limits)
             left left.rows result }
     {

@@ -390,7 +390,8 @@ impl DwarfCfiIndex {
     /// starts above. Reads at most ceil(log2(n)) + 1 of the n starts.
     pub fn fde_offset_for_relative_address(&self, rel_lookup_address: u32) -> Option<u32>
         ensures { (base_svma : ℕ) (section : FrameSection) → IsIndexOf self.now base_svma section
-            → result ≡ option_map (λ fde. fde.head.offset) (indexed_entry base_svma rel_lookup_address section) }
+            → result ≡ option_map (λ fde. fde.head.offset)
+            (indexed_entry base_svma rel_lookup_address section) }
     {
         self.look_up(rel_lookup_address).fde_offset
     }
@@ -398,11 +399,15 @@ impl DwarfCfiIndex {
     /// As `fde_offset_for_relative_address`, with the number of starts that were read: of n at most
     /// ceil(log2(n)) + 1, and at least floor(log2(n + 1)).
     pub fn look_up(&self, rel_lookup_address: u32) -> LookUp
-        ensures found { (base_svma : ℕ) (section : FrameSection) → IsIndexOf self.now base_svma section
-            → result.fde_offset ≡ option_map (λ fde. fde.head.offset) (indexed_entry base_svma rel_lookup_address section) }
-        ensures few { (base_svma : ℕ) (section : FrameSection) → IsIndexOf self.now base_svma section
+        ensures found { (base_svma : ℕ) (section : FrameSection)
+            → IsIndexOf self.now base_svma section
+            → result.fde_offset ≡ option_map (λ fde. fde.head.offset)
+            (indexed_entry base_svma rel_lookup_address section) }
+        ensures few { (base_svma : ℕ) (section : FrameSection)
+            → IsIndexOf self.now base_svma section
             → (k : ℕ) → length (whole_fdes section) ≤ 2 ^ k → result.starts_read ≤ suc k }
-        ensures counted { (base_svma : ℕ) (section : FrameSection) → IsIndexOf self.now base_svma section
+        ensures counted { (base_svma : ℕ) (section : FrameSection)
+            → IsIndexOf self.now base_svma section
             → (k : ℕ) → 2 ^ k ≤ suc (length (whole_fdes section)) → k ≤ result.starts_read }
     {
         let halved = halve(&self.fdes, rel_lookup_address);

@@ -13,17 +13,20 @@ ghost use Rattle.framehop.specs.declared.roads.NoFde.TheVariants.{Uncovered};
 
 /// Under a truthful header an FDE that contains an address is what each road leads to.
 pub fn truthful_roads_lead_to_one_fde()
-    ensures by_header { (bases : BaseAddresses) (base relative : ℕ) (section header : List ℕ) (fde : Fde)
+    ensures by_header { (bases : BaseAddresses) (base relative : ℕ) (section header : List ℕ)
+        (fde : Fde)
         → AreTruthful bases base section header
         → let s = eh_frame_of bases section in
         Contains (whole_fdes s) fde → contains (base + relative) fde ≡ true
         → entry_by (ByHeader header) bases s base relative ≡ Ok fde }
-    ensures by_index { (bases : BaseAddresses) (base relative : ℕ) (section header : List ℕ) (fde : Fde)
+    ensures by_index { (bases : BaseAddresses) (base relative : ℕ) (section header : List ℕ)
+        (fde : Fde)
         → AreTruthful bases base section header
         → let s = eh_frame_of bases section in
         Contains (whole_fdes s) fde → contains (base + relative) fde ≡ true
         → entry_by ByIndex bases s base relative ≡ Ok fde }
-    ensures by_scan { (bases : BaseAddresses) (base relative : ℕ) (section header : List ℕ) (fde : Fde)
+    ensures by_scan { (bases : BaseAddresses) (base relative : ℕ) (section header : List ℕ)
+        (fde : Fde)
         → AreTruthful bases base section header
         → let s = eh_frame_of bases section in
         Contains (whole_fdes s) fde → contains (base + relative) fde ≡ true
@@ -34,14 +37,18 @@ pub fn truthful_roads_lead_to_one_fde()
 /// reading the section at each step, whatever else pointers count from in the other two: and with the
 /// coverage what is said of a frame there is the same, and so is the step.
 pub fn truthful_roads_cover_alike()
-    ensures by_index { (bases other : BaseAddresses) (base relative : ℕ) (section header : List ℕ) (fde : Fde)
+    ensures by_index { (bases other : BaseAddresses) (base relative : ℕ) (section header : List ℕ)
+        (fde : Fde)
         (room : Room) → AreTruthful bases base section header → other.eh_frame ≡ bases.eh_frame
-        → Contains (whole_fdes (eh_frame_of bases section)) fde → contains (base + relative) fde ≡ true
+        → Contains (whole_fdes (eh_frame_of bases section)) fde
+        → contains (base + relative) fde ≡ true
         → coverage_of room (indexed_data other base section) relative
         ≡ coverage_of room (headed_data bases base section header) relative }
-    ensures by_scan { (bases other : BaseAddresses) (base relative : ℕ) (section header : List ℕ) (fde : Fde)
+    ensures by_scan { (bases other : BaseAddresses) (base relative : ℕ) (section header : List ℕ)
+        (fde : Fde)
         (room : Room) → AreTruthful bases base section header → other.eh_frame ≡ bases.eh_frame
-        → Contains (whole_fdes (eh_frame_of bases section)) fde → contains (base + relative) fde ≡ true
+        → Contains (whole_fdes (eh_frame_of bases section)) fde
+        → contains (base + relative) fde ≡ true
         → coverage_of room (scanned_data other base section) relative
         ≡ coverage_of room (headed_data bases base section header) relative }
 {}
@@ -49,7 +56,8 @@ pub fn truthful_roads_cover_alike()
 /// From the lowest start on an address is covered alike by a truthful header and by an index, also where
 /// no FDE contains it.
 pub fn truthful_headers_cover_as_an_index()
-    ensures { (bases other : BaseAddresses) (base relative : ℕ) (section header : List ℕ) (fde : Fde)
+    ensures { (bases other : BaseAddresses) (base relative : ℕ) (section header : List ℕ)
+        (fde : Fde)
         (room : Room) → AreTruthful bases base section header → other.eh_frame ≡ bases.eh_frame
         → nearest_fde (base + relative) (whole_fdes (eh_frame_of bases section)) ≡ Some fde
         → coverage_of room (indexed_data other base section) relative

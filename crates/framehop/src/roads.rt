@@ -57,7 +57,8 @@ fn whole_fde<R: Reader, Section: UnwindSection<R>>(
         >
             ensures { MayGive false (cie_view R.stretch R.Offset.value) result (cie_from_offset
                 (frame_section R.Offset.limit Section.kind (Section.size section.now)
-                (R.stretch (Section.reader section.now)) bases.now) (Section.Offset.number offset)) }
+                (R.stretch (Section.reader section.now)) bases.now)
+                (Section.Offset.number offset)) }
         {
             let _held = held;
             section.cie_from_offset(bases, offset)
@@ -170,7 +171,8 @@ fn containing_fde<R: Reader, Section: UnwindSection<R>>(
         >
             ensures { MayGive false (cie_view R.stretch R.Offset.value) result (cie_from_offset
                 (frame_section R.Offset.limit Section.kind (Section.size section.now)
-                (R.stretch (Section.reader section.now)) bases.now) (Section.Offset.number offset)) }
+                (R.stretch (Section.reader section.now)) bases.now)
+                (Section.Offset.number offset)) }
         {
             let _held = held;
             section.cie_from_offset(bases, offset)

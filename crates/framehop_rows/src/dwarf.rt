@@ -92,7 +92,8 @@ pub trait DwarfUnwinding: Arch {
             result ≢ Err OutOfMemory → rule_answered result ≡ rule_of_row attempt }
         ensures keeps { KeepsUnlessDirect result regs.old regs.new }
         ensures valid { HasValidRule Self.UnwindRule.is_valid result }
-        ensures expression { result ≡ Err OutOfMemory → MeetsExpression (row_in R.Offset.value row.now) }
+        ensures expression { result ≡ Err OutOfMemory
+            → MeetsExpression (row_in R.Offset.value row.now) }
         ensures memory { result ≡ Err OutOfMemory
             → TakesMemory S.Stack.is_made_in_place S.Stack.capacity };
 

@@ -64,7 +64,8 @@ fn eval_expression<S: EvaluationStorage, R: Reader, G: DwarfUnwindRegs>(
     regs: &G,
 ) -> Result<Option<u64>, AllocError>
     requires { is_size encoding.address_size ≡ true }
-    ensures value { let p = program_of S.Stack.capacity encoding.address_size (R.stretch expression.0) in
+    ensures value { let p = program_of S.Stack.capacity encoding.address_size
+        (R.stretch expression.0) in
         IfOk result (λ value. value
         ≡ value_from p (G.value_of regs.now) (state_reached p (Ready first_machine))) }
     ensures memory { IfErr result (λ _. TakesMemory S.Stack.is_made_in_place S.Stack.capacity) }

@@ -71,11 +71,13 @@ pub fn equal_steps<A: Arch>()
 /// the order of their starts, as those of an unwinder are.
 pub fn modules_elsewhere_change_no_step<A: Unwinding>()
     ensures { (m : Meanings A.UnwindData A.UnwindRule A.UnwindRegs) (module_ : Loaded A.UnwindData)
-        (modules : List (Loaded A.UnwindData)) (frame : Frame) (registers : A.UnwindRegs) (words : Words)
+        (modules : List (Loaded A.UnwindData)) (frame : Frame) (registers : A.UnwindRegs)
+        (words : Words)
         → IsNonDecreasingBy (λ m. m.start) modules
         → IsNonDecreasingBy (λ m. m.start) (with_module (λ m. m.start) module_ modules)
         → All (StartsOutside module_) modules
-        → module_found (with_module (λ m. m.start) module_ modules) (lookup_address frame) ≢ Some module_
+        → module_found (with_module (λ m. m.start) module_ modules) (lookup_address frame)
+        ≢ Some module_
         → judge m (with_module (λ m. m.start) module_ modules) frame registers words
         ≡ judge m modules frame registers words }
 {}

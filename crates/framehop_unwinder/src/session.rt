@@ -114,7 +114,8 @@ impl<A: Unwinding> Session<A> {
             }) }
         ensures exhausted { 2 ^ 64 - 1 ≤ self.old.next
             → result ≡ Err AddUnwinderError.GenerationsExhausted }
-        ensures only { result ≡ Err AddUnwinderError.GenerationsExhausted → self.old.next ≡ 2 ^ 64 - 1 }
+        ensures only { result ≡ Err AddUnwinderError.GenerationsExhausted
+            → self.old.next ≡ 2 ^ 64 - 1 }
         ensures refused { OnErr result (self.new ≡ self.old) }
     {
         if self.generations.left() == 0 {
@@ -132,7 +133,8 @@ impl<A: Unwinding> Session<A> {
     pub fn clone_unwinder(&mut self, alloc: Global, unwinder: usize) -> Result<(), AllocError>
         requires { unwinder < length self.old.unwinders }
         ensures ok { let clone = unwinder_at self.old.unwinders unwinder in
-            OnOk result (self.new ≡ record self.old { unwinders = self.old.unwinders ++ clone ∷ [] }) }
+            OnOk result
+            (self.new ≡ record self.old { unwinders = self.old.unwinders ++ clone ∷ [] }) }
         ensures refused { OnErr result (self.new ≡ self.old) }
     {
         let clone = self.unwinders[unwinder].try_clone(alloc)?;
@@ -155,7 +157,8 @@ impl<A: Unwinding> Session<A> {
             }) }
         ensures exhausted { 2 ^ 64 - 1 ≤ self.old.next
             → result ≡ Err (LoadError.GenerationsExhausted «module») }
-        ensures only { IfErr result (λ error. is_exhausted error ≡ true → self.old.next ≡ 2 ^ 64 - 1) }
+        ensures only { IfErr result (λ error. is_exhausted error ≡ true
+            → self.old.next ≡ 2 ^ 64 - 1) }
         ensures returned { IfErr result (λ error. module_returned error ≡ «module») }
         ensures refused { OnErr result (self.new ≡ self.old) }
     {
@@ -176,7 +179,8 @@ impl<A: Unwinding> Session<A> {
               next = self.old.next + 1;
             }) }
         ensures exhausted { let modules = (unwinder_at self.old.unwinders unwinder).modules in
-            has_start (λ m. m.start) start modules ≡ true → 2 ^ 64 - 1 ≤ self.old.next → IsErr result }
+            has_start (λ m. m.start) start modules ≡ true → 2 ^ 64 - 1 ≤ self.old.next
+            → IsErr result }
         ensures only { OnErr result (self.old.next ≡ 2 ^ 64 - 1) }
         ensures refused { OnErr result (self.new ≡ self.old) }
     {
@@ -247,7 +251,8 @@ impl<A: Unwinding> Session<A> {
         ensures moved { let m = meanings A.UnwindRule.meaning A.UnwindRule.fallback A.attempt in
             let modules = (unwinder_at self.old.unwinders unwinder).modules in
             OverWords F.step read_stack.old read_stack.new (λ words. wants_memory result ≡ false
-            → move_made (frame_answer result) walk.new ≡ move (judge m modules) words (walk_of walk.old)) }
+            → move_made (frame_answer result) walk.new
+            ≡ move (judge m modules) words (walk_of walk.old)) }
         ensures wanting { wants_memory result ≡ true → walk.new ≡ walk.old }
         ensures unwinders { self.new.unwinders ≡ self.old.unwinders }
         ensures next { self.new.next ≡ self.old.next }

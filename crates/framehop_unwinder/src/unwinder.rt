@@ -36,16 +36,21 @@ impl<A: Unwinding> Model for UnwinderInternal<A> {
 
     ghost Value = { Loads (Loaded A.UnwindData) };
 
-    ghost view = { λ unwinder. record { modules = unwinder.modules.items; generation = unwinder.generation } };
+    ghost view = { λ unwinder. record {
+      modules = unwinder.modules.items;
+      generation = unwinder.generation;
+    } };
 
-    ghost invariant = { λ unwinder. IsNonDecreasingBy (λ module_. module_.start) unwinder.modules.items };
+    ghost invariant = { λ unwinder. IsNonDecreasingBy (λ module_. module_.start)
+        unwinder.modules.items };
 }
 
 /// The last of the modules that start at or below an address.
 fn nearest_module<D>(modules: &[Module<D>], address: u64) -> Option<&Module<D>>
     requires { IsNonDecreasingBy (λ module_. module_.start) modules.now }
     ensures none { IfNone result (nearest_module modules.now address ≡ None) }
-    ensures some { IfSome result (λ module_. nearest_module modules.now address ≡ Some module_.now) }
+    ensures some { IfSome result
+        (λ module_. nearest_module modules.now address ≡ Some module_.now) }
 {
     let index = modules
         .partition_point(|module| module.start() <= address)
@@ -85,7 +90,8 @@ fn last_with_start<D>(modules: &[Module<D>], start: u64) -> Option<usize>
     ensures inside { IfSome result (λ index. index < length modules.now) }
     ensures without { IfSome result (λ index. remove modules.now index
         ≡ without_module (λ m. m.start) start modules.now) }
-    ensures order { IfSome result (λ index. IsNonDecreasingBy (λ m. m.start) (remove modules.now index)) }
+    ensures order { IfSome result
+        (λ index. IsNonDecreasingBy (λ m. m.start) (remove modules.now index)) }
 {
     let index = modules
         .partition_point(|module| module.start() <= start)
@@ -155,7 +161,8 @@ impl<A: Unwinding> UnwinderInternal<A> {
         ensures taken { OnOk result (generations.new ≡ generations.old + 1) }
         ensures exhausted { 2 ^ 64 - 1 ≤ generations.old
             → result ≡ Err (LoadError.GenerationsExhausted «module») }
-        ensures only { IfErr result (λ error. is_exhausted error ≡ true → generations.old ≡ 2 ^ 64 - 1) }
+        ensures only { IfErr result (λ error. is_exhausted error ≡ true
+            → generations.old ≡ 2 ^ 64 - 1) }
         ensures returned { IfErr result (λ error. module_returned error ≡ «module») }
         ensures same { OnErr result (self.new ≡ self.old) }
         ensures untaken { OnErr result (generations.new ≡ generations.old) }

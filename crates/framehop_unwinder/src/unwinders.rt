@@ -56,7 +56,8 @@ pub trait Unwinder {
         ensures taken { OnOk result (generations.new ≡ generations.old + 1) }
         ensures exhausted { 2 ^ 64 - 1 ≤ generations.old
             → result ≡ Err (LoadError.GenerationsExhausted «module») }
-        ensures only { IfErr result (λ error. is_exhausted error ≡ true → generations.old ≡ 2 ^ 64 - 1) }
+        ensures only { IfErr result (λ error. is_exhausted error ≡ true
+            → generations.old ≡ 2 ^ 64 - 1) }
         ensures returned { IfErr result (λ error. module_returned error ≡ «module») }
         ensures same { OnErr result (self.new ≡ self.old) }
         ensures untaken { OnErr result (generations.new ≡ generations.old) };

@@ -32,7 +32,8 @@ pub fn later_steps_raise_sp()
 pub fn walks_end()
     ensures { (room : Room) (modules : List (Loaded UnwindData)) (words : Words) (pc count : ℕ)
         (registers : UnwindRegsAarch64)
-        → GivesFrames (judge (meanings_in room) modules) words Anything count (walk_from pc registers)
+        → GivesFrames (judge (meanings_in room) modules) words Anything count
+        (walk_from pc registers)
         → count ≤ 2 ^ 64 + 1 }
 {
     later_steps_raise_sp();

@@ -23,7 +23,8 @@ pub fn look_up_each(index: &DwarfCfiIndex, count: u32, apart: u32) -> Tally
         → result.found ≡ found_among count apart base_svma section }
     ensures few { (base_svma : ℕ) (section : FrameSection) → IsIndexOf index.now base_svma section
         → (k : ℕ) → length (whole_fdes section) ≤ 2 ^ k → result.most_starts_read ≤ suc k }
-    ensures counted { (base_svma : ℕ) (section : FrameSection) → IsIndexOf index.now base_svma section
+    ensures counted { (base_svma : ℕ) (section : FrameSection)
+        → IsIndexOf index.now base_svma section
         → 1 ≤ count → (k : ℕ) → 2 ^ k ≤ suc (length (whole_fdes section))
         → k ≤ result.most_starts_read }
 {

@@ -92,7 +92,8 @@ fn load_module<A: DocumentModules>(
     ensures { let m = meanings A.UnwindRule.meaning A.UnwindRule.fallback A.attempt in
         let forms = register_forms A.of_stated A.shown in
         (progress : Progress A.UnwindData) → IsAt progress session.old
-        → IfOk result (λ written. ComesTo (turn m forms A.data_of progress (task_of (Command.Load load)))
+        → IfOk result (λ written. ComesTo
+        (turn m forms A.data_of progress (task_of (Command.Load load)))
         (string_bytes written.text) written.is_refused session.new) }
 {
     let unwind_data = A::unwind_data(alloc, load.base_svma, load.sections)?;
@@ -111,7 +112,8 @@ fn take_step<A: DocumentModules>(
     ensures { let m = meanings A.UnwindRule.meaning A.UnwindRule.fallback A.attempt in
         let forms = register_forms A.of_stated A.shown in
         (progress : Progress A.UnwindData) → IsAt progress session.old
-        → IfOk result (λ written. ComesTo (turn m forms A.data_of progress (task_of (Command.Step step.now)))
+        → IfOk result (λ written. ComesTo
+        (turn m forms A.data_of progress (task_of (Command.Step step.now)))
         (string_bytes written.text) written.is_refused session.new) }
 {
     let address = frame_address(step.kind, step.address);
@@ -142,7 +144,8 @@ fn take_walk<A: DocumentModules>(
     ensures { let m = meanings A.UnwindRule.meaning A.UnwindRule.fallback A.attempt in
         let forms = register_forms A.of_stated A.shown in
         (progress : Progress A.UnwindData) → IsAt progress session.old
-        → IfOk result (λ written. ComesTo (turn m forms A.data_of progress (task_of (Command.Walk walk.now)))
+        → IfOk result (λ written. ComesTo
+        (turn m forms A.data_of progress (task_of (Command.Walk walk.now)))
         (string_bytes written.text) written.is_refused session.new) }
 {
     let regs = A::stated_registers(walk.registers);
@@ -174,7 +177,8 @@ fn take_roads<A: DocumentModules>(
     ensures { let m = meanings A.UnwindRule.meaning A.UnwindRule.fallback A.attempt in
         let forms = register_forms A.of_stated A.shown in
         (progress : Progress A.UnwindData) → IsAt progress session.old
-        → IfOk result (λ written. ComesTo (turn m forms A.data_of progress (task_of (Command.Roads roads.now)))
+        → IfOk result (λ written. ComesTo
+        (turn m forms A.data_of progress (task_of (Command.Roads roads.now)))
         (string_bytes written.text) written.is_refused session.new) }
 {
     Ok(Written::lines(road_lines::<A>(alloc, roads)?))

@@ -63,7 +63,8 @@ fn road_line<A: DocumentModules>(
     requires { roads.now.kind ≡ Ra → roads.now.address ≢ 0 }
     ensures { let m = meanings A.UnwindRule.meaning A.UnwindRule.fallback A.attempt in
         let forms = register_forms A.of_stated A.shown in
-        IfOk result (λ text. string_bytes text ≡ road_line m forms (roads_view roads.now) unwind_data) }
+        IfOk result (λ text. string_bytes text
+        ≡ road_line m forms (roads_view roads.now) unwind_data) }
 {
     let start = roads.tables.base_svma;
     let range = start..start.saturating_add(MODULE_LENGTH);
@@ -115,7 +116,8 @@ pub(crate) fn road_lines<A: DocumentModules>(
     requires { roads.now.kind ≡ Ra → roads.now.address ≢ 0 }
     ensures { let m = meanings A.UnwindRule.meaning A.UnwindRule.fallback A.attempt in
         let forms = register_forms A.of_stated A.shown in
-        IfOk result (λ text. string_bytes text ≡ road_lines m forms A.data_of (roads_view roads.now)) }
+        IfOk result (λ text. string_bytes text
+        ≡ road_lines m forms A.data_of (roads_view roads.now)) }
 {
     let tables = &roads.tables;
     let base_svma = tables.base_svma;

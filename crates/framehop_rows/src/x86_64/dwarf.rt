@@ -327,7 +327,8 @@ impl DwarfUnwinding for ArchX86_64 {
 /// CFA and columns give, so that a row that is translated needs no evaluation of its own. The
 /// function does nothing when the program runs.
 pub fn rule_answers_as_its_row()
-    ensures { (parts : Parts ℕ) (rule : UnwindRuleX86_64) (first : Bool) (registers : UnwindRegsX86_64)
+    ensures { (parts : Parts ℕ) (rule : UnwindRuleX86_64) (first : Bool)
+        (registers : UnwindRegsX86_64)
         (words : Words) (caller : Caller UnwindRegsX86_64)
         → scaled_rule parts ≡ Some rule
         → rule_meaning rule first registers words ≡ Answers caller
