@@ -1,13 +1,21 @@
 //! How long the making of a module and walks through its code take, by the clock of the machine.
 
+use crate::arch::TimedArch;
 use crate::work::{Walk, Work};
 use anyhow::{Result, bail};
-use framehop::x86_64::{CacheX86_64, UnwindRegsX86_64, UnwinderX86_64};
 use framehop::{
-    DwarfUnwindContext, ExplicitModuleSectionInfo, Generations, Module, ModuleUnwindData, Unwinder,
+    Arch, BySections, DwarfUnwindContext, ExplicitModuleSectionInfo, Generations,
+    MayAllocateDuringUnwind, Module, ModuleUnwindData, Unwinder,
 };
+use framehop_unwinder::{Cache, UnwinderInternal};
 use std::alloc::Global;
 use std::time::{Clock, Duration, Instant};
+
+/// An unwinder of an architecture, whose modules own their bytes.
+type TimedUnwinder<A> = UnwinderInternal<BySections<A, Vec<u8>, MayAllocateDuringUnwind>>;
+
+/// What its steps keep and reuse.
+type TimedCache<A> = Cache<<A as Arch>::UnwindRule, DwarfUnwindContext<MayAllocateDuringUnwind>>;
 
 /// The least times of all rounds.
 #[derive(Debug, Clone, Copy)]
@@ -65,9 +73,9 @@ fn module_of(alloc: Global, work: &Work, bytes: Sections) -> Result<Module<Vec<u
 }
 
 /// An unwinder with the module.
-fn unwinder_of(alloc: Global, work: &Work) -> Result<UnwinderX86_64<Vec<u8>>> {
+fn unwinder_of<A: TimedArch>(alloc: Global, work: &Work) -> Result<TimedUnwinder<A>> {
     let mut generations = Generations::new();
-    let mut unwinder = UnwinderX86_64::new(alloc, &mut generations)?;
+    let mut unwinder = UnwinderInternal::new(alloc, &mut generations)?;
     let module = module_of(alloc, work, sections_of(alloc, work)?)?;
     if unwinder.add_module(&mut generations, module).is_err() {
         bail!("the module was not loaded");
@@ -75,17 +83,17 @@ fn unwinder_of(alloc: Global, work: &Work) -> Result<UnwinderX86_64<Vec<u8>>> {
     Ok(unwinder)
 }
 
-fn cache(alloc: Global) -> Result<CacheX86_64> {
-    Ok(CacheX86_64::new(alloc, DwarfUnwindContext::new(alloc)?)?)
+fn cache<A: TimedArch>(alloc: Global) -> Result<TimedCache<A>> {
+    Ok(Cache::new(alloc, DwarfUnwindContext::new(alloc)?)?)
 }
 
 /// How many frames a walk gives.
-fn frames_of<U: Unwinder<UnwindRegs = UnwindRegsX86_64>>(
-    unwinder: &U,
-    cache: &mut U::Cache,
+fn frames_of<A: TimedArch>(
+    unwinder: &TimedUnwinder<A>,
+    cache: &mut TimedCache<A>,
     walk: &Walk,
 ) -> u32 {
-    let regs = UnwindRegsX86_64::new(walk.pc, walk.sp, walk.bp);
+    let regs = A::registers(walk.first);
     let mut read_stack = |at: u64| -> std::result::Result<u64, ()> { walk.stack.word(at) };
     let mut frames = unwinder.iter_frames(walk.pc, regs, cache, &mut read_stack);
     let mut count: u32 = 0;
@@ -99,9 +107,9 @@ fn frames_of<U: Unwinder<UnwindRegs = UnwindRegsX86_64>>(
 }
 
 /// How many frames all walks give through one cache.
-fn frames_of_each<U: Unwinder<UnwindRegs = UnwindRegsX86_64>>(
-    unwinder: &U,
-    cache: &mut U::Cache,
+fn frames_of_each<A: TimedArch>(
+    unwinder: &TimedUnwinder<A>,
+    cache: &mut TimedCache<A>,
     walks: &[Walk],
 ) -> u32 {
     let mut count: u32 = 0;
@@ -112,22 +120,23 @@ fn frames_of_each<U: Unwinder<UnwindRegs = UnwindRegsX86_64>>(
 }
 
 /// How many frames all walks give.
-pub fn frames_of_all(alloc: Global, work: &Work) -> Result<u32> {
-    let unwinder = unwinder_of(alloc, work)?;
-    Ok(frames_of_each(&unwinder, &mut cache(alloc)?, &work.walks))
+pub fn frames_of_all<A: TimedArch>(alloc: Global, work: &Work) -> Result<u32> {
+    let unwinder = unwinder_of::<A>(alloc, work)?;
+    let mut cache = cache::<A>(alloc)?;
+    Ok(frames_of_each(&unwinder, &mut cache, &work.walks))
 }
 
 /// How long all walks with a new cache each take, without and with the making of the caches.
-fn fresh_walks(
+fn fresh_walks<A: TimedArch>(
     clock: &impl Clock,
     alloc: Global,
-    unwinder: &UnwinderX86_64<Vec<u8>>,
+    unwinder: &TimedUnwinder<A>,
     walks: &[Walk],
 ) -> Result<(Duration, Duration)> {
     let mut fresh = Duration::ZERO;
     let all = Instant::now(clock)?;
     for walk in walks {
-        let mut cache = cache(alloc)?;
+        let mut cache = cache::<A>(alloc)?;
         let start = Instant::now(clock)?;
         frames_of(unwinder, &mut cache, walk);
         fresh = fresh.saturating_add(start.elapsed(clock)?);
@@ -151,15 +160,15 @@ fn making(clock: &impl Clock, alloc: Global, work: &Work) -> Result<Duration> {
 }
 
 /// Makes the module and all walks as often as there are rounds.
-pub fn time(clock: &impl Clock, alloc: Global, work: &Work) -> Result<Times> {
+pub fn time<A: TimedArch>(clock: &impl Clock, alloc: Global, work: &Work) -> Result<Times> {
     let mut times = Times {
         module: making(clock, alloc, work)?,
         warm: Duration::MAX,
         fresh: Duration::MAX,
         with_making: Duration::MAX,
     };
-    let unwinder = unwinder_of(alloc, work)?;
-    let mut cache = cache(alloc)?;
+    let unwinder = unwinder_of::<A>(alloc, work)?;
+    let mut cache = cache::<A>(alloc)?;
     frames_of_each(&unwinder, &mut cache, &work.walks);
     for _ in 0..work.rounds {
         let start = Instant::now(clock)?;

@@ -22,12 +22,22 @@ impl Stack {
     }
 }
 
+/// The registers of a first frame.
+#[derive(Debug, Clone, Copy)]
+pub struct FirstRegisters {
+    /// The instruction pointer on x86_64, the link register on aarch64.
+    pub code: u64,
+    pub sp: u64,
+    pub fp: u64,
+    /// The bits of a code address, on aarch64.
+    pub mask: u64,
+}
+
 /// A walk from a first frame, of at most so many frames.
 #[derive(Drop)]
 pub struct Walk {
     pub pc: u64,
-    pub sp: u64,
-    pub bp: u64,
+    pub first: FirstRegisters,
     pub limit: u32,
     pub stack: Stack,
 }
@@ -53,10 +63,10 @@ pub struct Work {
 }
 
 /// Reads what is to be timed: the rounds, the module's base and its end, and the addresses of `.text` and `.eh_frame` as the
-/// module's sections have them; the number of walks, and of each the instruction pointer, the stack pointer, the frame
-/// pointer, the most frames, and its stack's start, number of words, and words; the address of `.eh_frame_hdr`, its number of
-/// bytes, 0 where there is none, and these; and then the bytes of `.eh_frame`. Rounds, counts and limits have four bytes, all
-/// else eight, the low byte first.
+/// module's sections have them; the number of walks, and of each the instruction pointer, this again or on aarch64 the link
+/// register, the stack pointer, the frame pointer, the bits of a code address, the most frames, and its stack's start, number
+/// of words, and words; the address of `.eh_frame_hdr`, its number of bytes, 0 where there is none, and these; and then the
+/// bytes of `.eh_frame`. Rounds, counts and limits have four bytes, all else eight, the low byte first.
 pub fn read_work(alloc: Global, bytes: &[u8]) -> Result<Work> {
     let mut reader = EndianSlice::new(bytes, LittleEndian);
     let rounds = reader.read_u32()?;
@@ -99,10 +109,18 @@ fn read_header(
 fn read_walk(alloc: Global, reader: &mut EndianSlice<'_, LittleEndian>) -> Result<Walk> {
     Ok(Walk {
         pc: reader.read_u64()?,
-        sp: reader.read_u64()?,
-        bp: reader.read_u64()?,
+        first: read_registers(reader)?,
         limit: reader.read_u32()?,
         stack: read_stack(alloc, reader)?,
+    })
+}
+
+fn read_registers(reader: &mut EndianSlice<'_, LittleEndian>) -> Result<FirstRegisters> {
+    Ok(FirstRegisters {
+        code: reader.read_u64()?,
+        sp: reader.read_u64()?,
+        fp: reader.read_u64()?,
+        mask: reader.read_u64()?,
     })
 }
 
