@@ -1,1 +1,2 @@
 mod CommandTurns
+mod CommandProgress

@@ -5,6 +5,7 @@ ghost use Rattle.framehop_registers.specs.Callback.{Words, AnswersBy};
 ghost use Rattle.framehop_unwinder.specs.Attempt.{meanings};
 ghost use Rattle.framehop_commands.specs.Commands.{AreReplies, scene_after_all, Stepped, Moved, IsTurn, OfCallback, turn, turn_of_unwinder, turn_of_cache, turn_of_load, turn_of_unload, turn_of_clone, turn_of_step, turn_of_frame};
 ghost use Rattle.framehop_commands.specs.CommandViews.{reply_of, scene_of};
+ghost use Rattle.framehop_commands.specs.Progress.{Progress, IsAt, progress_of_unwinder, progress_of_cache, progress_of_load, progress_of_unload, progress_of_clone, progress_of_step, progress_of_frame, progress_after, progress_after_all};
 ghost use Rattle.framehop_unwinder.specs.Frames.{frame_of};
 ghost use Rattle.framehop_unwinder.specs.Trials.{wants_memory};
 ghost use Rattle.framehop_unwinder.specs.Walk.{Walk};
@@ -61,7 +62,8 @@ impl<R: Copy> Answer<R> {
     /// The answer of a step that leaves these registers.
     fn of_step(answer: Result<Option<u64>, Error>, regs: R) -> Self
         ensures wanted { wants_memory answer ≡ true → reply_of result ≡ None }
-        ensures answered { wants_memory answer ≡ false → reply_of result ≡ Some (Stepped answer regs) }
+        ensures answered { wants_memory answer ≡ false
+            → reply_of result ≡ Some (Stepped answer regs) }
     {
         match answer {
             Err(Error::OutOfMemory) => Answer::OutOfMemory,
@@ -83,8 +85,11 @@ impl<R: Copy> Answer<R> {
 }
 
 fn new_unwinder<A: Unwinding>(session: &mut Session<A>, alloc: Global) -> Answer<A::UnwindRegs>
-    ensures { (walks : List (Walk A.UnwindRegs)) → let scene = scene_of session.old walks in
-        IsTurn A.takes_memory scene (turn_of_unwinder scene) (reply_of result) (scene_of session.new walks) }
+    ensures turn { (walks : List (Walk A.UnwindRegs)) → let scene = scene_of session.old walks in
+        IsTurn A.takes_memory scene (turn_of_unwinder scene) (reply_of result)
+        (scene_of session.new walks) }
+    ensures progress { (progress : Progress A.UnwindData) → IsAt progress session.old
+        → IsAt (progress_of_unwinder (reply_of result) progress) session.new }
 {
     match session.add_unwinder(alloc) {
         Ok(()) => Answer::Added,
@@ -98,8 +103,11 @@ fn new_cache<A: Unwinding>(
     alloc: Global,
     unwind_context: A::UnwindContext,
 ) -> Answer<A::UnwindRegs>
-    ensures { (walks : List (Walk A.UnwindRegs)) → let scene = scene_of session.old walks in
-        IsTurn A.takes_memory scene (turn_of_cache scene) (reply_of result) (scene_of session.new walks) }
+    ensures turn { (walks : List (Walk A.UnwindRegs)) → let scene = scene_of session.old walks in
+        IsTurn A.takes_memory scene (turn_of_cache scene) (reply_of result)
+        (scene_of session.new walks) }
+    ensures progress { (progress : Progress A.UnwindData) → IsAt progress session.old
+        → IsAt (progress_of_cache (reply_of result) progress) session.new }
 {
     match session.add_cache(alloc, unwind_context) {
         Ok(()) => Answer::Added,
@@ -112,9 +120,11 @@ fn load<A: Unwinding>(
     unwinder: usize,
     module: Module<A::UnwindData>,
 ) -> Answer<A::UnwindRegs>
-    ensures { (walks : List (Walk A.UnwindRegs)) → let scene = scene_of session.old walks in
+    ensures turn { (walks : List (Walk A.UnwindRegs)) → let scene = scene_of session.old walks in
         IsTurn A.takes_memory scene (turn_of_load unwinder «module» scene) (reply_of result)
         (scene_of session.new walks) }
+    ensures progress { (progress : Progress A.UnwindData) → IsAt progress session.old
+        → IsAt (progress_of_load unwinder «module» (reply_of result) progress) session.new }
 {
     if unwinder >= session.unwinders() {
         return Answer::Unknown;
@@ -131,9 +141,11 @@ fn unload<A: Unwinding>(
     unwinder: usize,
     start: u64,
 ) -> Answer<A::UnwindRegs>
-    ensures { (walks : List (Walk A.UnwindRegs)) → let scene = scene_of session.old walks in
+    ensures turn { (walks : List (Walk A.UnwindRegs)) → let scene = scene_of session.old walks in
         IsTurn A.takes_memory scene (turn_of_unload unwinder start scene) (reply_of result)
         (scene_of session.new walks) }
+    ensures progress { (progress : Progress A.UnwindData) → IsAt progress session.old
+        → IsAt (progress_of_unload unwinder start (reply_of result) progress) session.new }
 {
     if unwinder >= session.unwinders() {
         return Answer::Unknown;
@@ -149,9 +161,11 @@ fn clone<A: Unwinding>(
     alloc: Global,
     unwinder: usize,
 ) -> Answer<A::UnwindRegs>
-    ensures { (walks : List (Walk A.UnwindRegs)) → let scene = scene_of session.old walks in
+    ensures turn { (walks : List (Walk A.UnwindRegs)) → let scene = scene_of session.old walks in
         IsTurn A.takes_memory scene (turn_of_clone unwinder scene) (reply_of result)
         (scene_of session.new walks) }
+    ensures progress { (progress : Progress A.UnwindData) → IsAt progress session.old
+        → IsAt (progress_of_clone unwinder (reply_of result) progress) session.new }
 {
     if unwinder >= session.unwinders() {
         return Answer::Unknown;
@@ -171,11 +185,15 @@ fn step<A: Unwinding, F: FnMut(u64) -> Result<u64, ()> + Drop>(
     read_stack: F,
 ) -> Answer<A::UnwindRegs>
     requires { F.IsAlwaysCallable read_stack }
-    ensures { (words : Words) → AnswersBy F.step read_stack words
+    ensures turn { (words : Words) → AnswersBy F.step read_stack words
         → (walks : List (Walk A.UnwindRegs)) → let scene = scene_of session.old walks in
         let m = meanings A.UnwindRule.meaning A.UnwindRule.fallback A.attempt in
-        IsTurn A.takes_memory scene (turn_of_step m unwinder cache (frame_of address) regs words scene)
-        (reply_of result) (scene_of session.new walks) }
+        let turn = turn_of_step m unwinder cache (frame_of address) regs words scene in
+        IsTurn A.takes_memory scene turn (reply_of result) (scene_of session.new walks) }
+    ensures progress { let m = meanings A.UnwindRule.meaning A.UnwindRule.fallback A.attempt in
+        (progress : Progress A.UnwindData) → IsAt progress session.old
+        → IsAt (progress_of_step m unwinder cache (frame_of address) (reply_of result) progress)
+        session.new }
 {
     if unwinder >= session.unwinders() || cache >= session.caches() {
         return Answer::Unknown;
@@ -204,11 +222,16 @@ fn next_frame<A: Unwinding, F: FnMut(u64) -> Result<u64, ()> + Drop>(
     read_stack: F,
 ) -> Answer<A::UnwindRegs>
     requires { F.IsAlwaysCallable read_stack }
-    ensures { (words : Words) → AnswersBy F.step read_stack words
+    ensures turn { (words : Words) → AnswersBy F.step read_stack words
         → let scene = scene_of session.old (map walk_of walks.old.items) in
         let m = meanings A.UnwindRule.meaning A.UnwindRule.fallback A.attempt in
         IsTurn A.takes_memory scene (turn_of_frame m unwinder cache walk words scene)
         (reply_of result) (scene_of session.new (map walk_of walks.new.items)) }
+    ensures progress { let m = meanings A.UnwindRule.meaning A.UnwindRule.fallback A.attempt in
+        let there = map walk_of walks.old.items in
+        (progress : Progress A.UnwindData) → IsAt progress session.old
+        → IsAt (progress_of_frame m there unwinder cache walk (reply_of result) progress)
+        session.new }
 {
     if unwinder >= session.unwinders() || cache >= session.caches() || walk >= walks.len() {
         return Answer::Unknown;
@@ -227,12 +250,16 @@ fn obey<A: Unwinding, F: FnMut(u64) -> Result<u64, ()> + Drop>(
     command: Command<A::UnwindData, A::UnwindContext, A::UnwindRegs, F>,
 ) -> Answer<A::UnwindRegs>
     requires { OfCallback F.IsAlwaysCallable command }
-    ensures { (words : F → Words)
+    ensures turn { (words : F → Words)
         → OfCallback (λ read_stack. AnswersBy F.step read_stack (words read_stack)) command
         → let scene = scene_of session.old (map walk_of walks.old.items) in
         let m = meanings A.UnwindRule.meaning A.UnwindRule.fallback A.attempt in
         IsTurn A.takes_memory scene (turn m words command scene) (reply_of result)
         (scene_of session.new (map walk_of walks.new.items)) }
+    ensures progress { let m = meanings A.UnwindRule.meaning A.UnwindRule.fallback A.attempt in
+        let there = map walk_of walks.old.items in
+        (progress : Progress A.UnwindData) → IsAt progress session.old
+        → IsAt (progress_after m there command (reply_of result) progress) session.new }
 {
     match command {
         Command::NewUnwinder => new_unwinder(session, alloc),
@@ -255,7 +282,8 @@ fn obey<A: Unwinding, F: FnMut(u64) -> Result<u64, ()> + Drop>(
 
 /// Does what the commands ask, one after the other, and answers each. Whatever was loaded, unloaded,
 /// cloned and walked before, and through whichever caches, each step and each move of a walk is
-/// answered as by a judge who remembers nothing, from the modules that are loaded then.
+/// answered as by a judge who remembers nothing, from the modules that are loaded then. Each looks up
+/// in the cache that its command names: there alone it is counted, and there alone a rule is kept.
 ///
 /// Where memory for the list of answers is refused, no command was taken, and nothing was done.
 pub fn perform<A: Unwinding, F: FnMut(u64) -> Result<u64, ()> + Drop>(
@@ -272,9 +300,18 @@ pub fn perform<A: Unwinding, F: FnMut(u64) -> Result<u64, ()> + Drop>(
         commands.old.items (map reply_of answers.items)) }
     ensures scene { let m = meanings A.UnwindRule.meaning A.UnwindRule.fallback A.attempt in
         (words : F → Words)
-        → All (OfCallback (λ read_stack. AnswersBy F.step read_stack (words read_stack))) commands.old.items
+        → All (OfCallback (λ read_stack. AnswersBy F.step read_stack (words read_stack)))
+        commands.old.items
         → IfOk result (λ answers. let after = scene_after_all m words (scene_of session.old [])
-        commands.old.items (map reply_of answers.items) in scene_of session.new after.walks ≡ after) }
+        commands.old.items (map reply_of answers.items) in
+        scene_of session.new after.walks ≡ after) }
+    ensures progress { let m = meanings A.UnwindRule.meaning A.UnwindRule.fallback A.attempt in
+        (words : F → Words)
+        → All (OfCallback (λ read_stack. AnswersBy F.step read_stack (words read_stack)))
+        commands.old.items
+        → (progress : Progress A.UnwindData) → IsAt progress session.old
+        → IfOk result (λ answers. IsAt (progress_after_all m words (scene_of session.old [])
+        commands.old.items (map reply_of answers.items) progress) session.new) }
     ensures performed { OnOk result (commands.new.items ≡ []) }
     ensures refused { OnErr result (session.new ≡ session.old) }
     ensures waiting { OnErr result (commands.new ≡ commands.old) }

@@ -1,5 +1,5 @@
 -- What a table says of relative addresses: the modules of the tests.
-use Rattle.std.specs.Prelude.{ℕ, ◌==◌, Bool, List, [], ◌∷◌, Option, Some, None, if◌then◌else◌}
+use Rattle.std.specs.Prelude.{ℕ, ◌==◌, List, [], ◌∷◌, Option, Some, None, if◌then◌else◌}
 use Rattle.framehop_unwinder.specs.Attempt.{Attempt, Says, Evaluates, SaysNothing}
 use Rattle.unwinder_tests.specs.declared.tables.Row.{Row}
 use Rattle.unwinder_tests.specs.declared.tables.Said.{Said}

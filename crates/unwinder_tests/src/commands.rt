@@ -4,7 +4,7 @@ ghost use Rattle.std.specs.List.{All};
 ghost use Rattle.framehop_commands.specs.Commands.{OfCallback};
 
 use crate::tables::{Row, Said, Tables};
-use crate::worked::{first, loaded, module, next_random, word_at};
+use crate::worked::{counts, first, loaded, module, next_random, word_at};
 use framehop_commands::{Answer, Command, perform};
 use framehop_registers::x86_64::UnwindRegsX86_64;
 use framehop_rules::x86_64::ArchX86_64;
@@ -250,7 +250,7 @@ fn draw<F: FnMut(u64) -> Result<u64, ()> + Drop>(
     Ok(Command::Step(unwinder, cache, address, regs, read_stack))
 }
 
-/// One of five commands, which have to be done in this order.
+/// One of fourteen commands, which have to be done in this order. Five of them are enough for a step.
 fn command_of<F: FnMut(u64) -> Result<u64, ()> + Drop>(
     number: u64,
     there: &Module<Vec<Row>>,
@@ -259,16 +259,37 @@ fn command_of<F: FnMut(u64) -> Result<u64, ()> + Drop>(
     requires { F.IsAlwaysCallable read_stack }
     ensures { IfOk result (OfCallback F.IsAlwaysCallable) }
 {
+    let regs = UnwindRegsX86_64::new(0x101000, 0x10, 0x20);
     match number {
         0 => Ok(Command::NewUnwinder),
-        1 => Ok(Command::NewCache(())),
+        1 | 5 => Ok(Command::NewCache(())),
         2 => Ok(Command::Load(0, there.try_clone()?)),
         3 => Ok(Command::Clone(0)),
-        _ => {
-            let regs = UnwindRegsX86_64::new(0x101000, 0x10, 0x20);
-            Ok(Command::Step(1, 0, first(0x101000), regs, read_stack))
-        }
+        4 => Ok(Command::Step(1, 0, first(0x101000), regs, read_stack)),
+        6 | 9 => Ok(Command::Step(0, 1, first(0x101000), regs, read_stack)),
+        7 => Ok(Command::Step(1, 1, first(0x101000), regs, read_stack)),
+        8 => Ok(Command::Unload(0, 0x100000)),
+        10 => Ok(Command::NewWalk(0x101000, regs)),
+        13 => Ok(Command::NextFrame(1, 1, 0, read_stack)),
+        _ => Ok(Command::NextFrame(1, 0, 0, read_stack)),
     }
+}
+
+/// All of these commands.
+fn commands_of<F: FnMut(u64) -> Result<u64, ()> + Copy>(
+    alloc: Global,
+    there: &Module<Vec<Row>>,
+    read_stack: F,
+) -> Result<VecDeque<Command<Vec<Row>, (), Regs, F>>, AllocError>
+    requires { F.IsAlwaysCallable read_stack }
+    ensures { IfOk result (λ commands. All (OfCallback F.IsAlwaysCallable) commands.items) }
+{
+    let mut commands = VecDeque::new(alloc);
+    for number in 0..14 {
+        let command = command_of(number, there, read_stack)?;
+        commands.push_back(command)?;
+    }
+    Ok(commands)
 }
 
 /// What one of these commands is answered.
@@ -341,6 +362,29 @@ fn refused_commands_do_nothing(rt: HostRuntime) -> Result<(), Fail> {
             }
         }
         assert_eq!(rt; shown, wanted);
+    }
+    Ok(())
+}
+
+/// Steps and moves through two caches in one list: each cache counts those that name it. The clone
+/// finds what the other unwinder had kept, and that one doesn't after an unload; the beginning of a
+/// walk looks nothing up.
+#[test]
+fn each_cache_counts_its_own_look_ups(rt: HostRuntime) -> Result<(), Fail> {
+    let alloc = rt.alloc();
+    let there = module(alloc, 0x100000, 0x102000, 0x1000, Said::StubRule)?;
+    let mut commands = commands_of(alloc, &there, |at: u64| word_at(at))?;
+    let mut session: Session<Toy> = Session::new(alloc, Generations::new());
+    let answers = perform(alloc, &mut session, &mut commands)?;
+    for answer in answers.iter() {
+        if as_shown(*answer) == REFUSED {
+            return Err(Fail::new("OutOfMemory"));
+        }
+    }
+    assert_eq!(rt; session.caches(), 2);
+    if session.caches() == 2 {
+        assert_eq!(rt; counts(session.stats(0)), (1, 1, 0, 0));
+        assert_eq!(rt; counts(session.stats(1)), (1, 2, 1, 0));
     }
     Ok(())
 }

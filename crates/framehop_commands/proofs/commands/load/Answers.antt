@@ -5,8 +5,8 @@ use Rattle.framehop_unwinder.specs.State.{State}
 use Rattle.framehop_commands.proofs.CommandTurns.{list-made, list-refused, list-exhausted, load-known, modules-set, modules-loaded, one-cause}
 use Rattle.framehop_commands.proofs.commands.load.Goals as goal
 
-pub returns-in-Ok : goal.returns-in-Ok
-returns-in-Ok g c =
+pub returns-in-Ok-clause-turn : goal.returns-in-Ok-clause-turn
+returns-in-Ok-clause-turn g c =
     let D = g.row.A-UnwindData.Denot in
     let R = g.row.A-UnwindRule.Denot in
     let s = c.args.session.now in
@@ -17,15 +17,15 @@ returns-in-Ok g c =
     (modules-set s.unwinders c.load.new.self.unwinders c.args.unwinder (modules-loaded s c.args.unwinder c.args.module) s.next (ap (λ (x : State D R). x.unwinders) e))
     (ap (λ (x : State D R). length x.caches) e) (ap (λ (x : State D R). x.next) e)
 
-pub returns-in-Err-GenerationsExhausted : goal.returns-in-Err-GenerationsExhausted
-returns-in-Err-GenerationsExhausted g c =
+pub returns-in-Err-GenerationsExhausted-clause-turn : goal.returns-in-Err-GenerationsExhausted-clause-turn
+returns-in-Err-GenerationsExhausted-clause-turn g c =
     let s = c.args.session.now in
     let less : c.args.unwinder < length s.unwinders = omega (arith, c.unwinders.ensures, c.if-unwinder-unwinders.false) in
     λ walks. list-exhausted g.A.Unwinding.takes_memory s c.load.new.self walks Added _ _ (load-known s walks c.args.unwinder c.args.module less)
     (c.in-Err-GenerationsExhausted.ensures.only (ap is_exhausted c.in-Err-GenerationsExhausted.field-0-is)) c.in-Err-GenerationsExhausted.ensures.refused
 
-pub returns : goal.returns
-returns g c =
+pub returns-clause-turn : goal.returns-clause-turn
+returns-clause-turn g c =
     let s = c.args.session.now in
     let less : c.args.unwinder < length s.unwinders = omega (arith, c.unwinders.ensures, c.if-unwinder-unwinders.false) in
     λ walks. list-refused g.A.Unwinding.takes_memory s c.load.new.self walks _ _ (load-known s walks c.args.unwinder c.args.module less)

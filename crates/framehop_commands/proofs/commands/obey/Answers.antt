@@ -2,23 +2,23 @@ use Rattle.std.proofs.Common.{map}
 use Rattle.framehop_unwinder.specs.WalkViews.{walk_of}
 use Rattle.framehop_commands.proofs.commands.obey.Goals as goal
 
-pub returns-in-NewUnwinder : goal.returns-in-NewUnwinder
-returns-in-NewUnwinder g c = λ words said. rw c.in-NewUnwinder.is (c.new_unwinder.ensures (map walk_of c.args.walks.now.items))
+pub returns-in-NewUnwinder-clause-turn : goal.returns-in-NewUnwinder-clause-turn
+returns-in-NewUnwinder-clause-turn g c = λ words said. rw c.in-NewUnwinder.is (c.new_unwinder.ensures.turn (map walk_of c.args.walks.now.items))
 
-pub returns-in-NewCache : goal.returns-in-NewCache
-returns-in-NewCache g c = λ words said. rw c.in-NewCache.is (c.new_cache.ensures (map walk_of c.args.walks.now.items))
+pub returns-in-NewCache-clause-turn : goal.returns-in-NewCache-clause-turn
+returns-in-NewCache-clause-turn g c = λ words said. rw c.in-NewCache.is (c.new_cache.ensures.turn (map walk_of c.args.walks.now.items))
 
-pub returns-in-Load : goal.returns-in-Load
-returns-in-Load g c = λ words said. rw c.in-Load.is (c.load.ensures (map walk_of c.args.walks.now.items))
+pub returns-in-Load-clause-turn : goal.returns-in-Load-clause-turn
+returns-in-Load-clause-turn g c = λ words said. rw c.in-Load.is (c.load.ensures.turn (map walk_of c.args.walks.now.items))
 
-pub returns-in-Unload : goal.returns-in-Unload
-returns-in-Unload g c = λ words said. rw c.in-Unload.is (c.unload.ensures (map walk_of c.args.walks.now.items))
+pub returns-in-Unload-clause-turn : goal.returns-in-Unload-clause-turn
+returns-in-Unload-clause-turn g c = λ words said. rw c.in-Unload.is (c.unload.ensures.turn (map walk_of c.args.walks.now.items))
 
-pub returns-in-Clone : goal.returns-in-Clone
-returns-in-Clone g c = λ words said. rw c.in-Clone.is (c.clone.ensures (map walk_of c.args.walks.now.items))
+pub returns-in-Clone-clause-turn : goal.returns-in-Clone-clause-turn
+returns-in-Clone-clause-turn g c = λ words said. rw c.in-Clone.is (c.clone.ensures.turn (map walk_of c.args.walks.now.items))
 
-pub returns-in-Step : goal.returns-in-Step
-returns-in-Step g c = λ words said. let mine = rw c.in-Step.is at said in rw c.in-Step.is (c.step.ensures (words c.in-Step.read_stack) mine (map walk_of c.args.walks.now.items))
+pub returns-in-Step-clause-turn : goal.returns-in-Step-clause-turn
+returns-in-Step-clause-turn g c = λ words said. let mine = rw c.in-Step.is at said in rw c.in-Step.is (c.step.ensures.turn (words c.in-Step.read_stack) mine (map walk_of c.args.walks.now.items))
 
-pub returns-in-NextFrame : goal.returns-in-NextFrame
-returns-in-NextFrame g c = λ words said. let mine = rw c.in-NextFrame.is at said in rw c.in-NextFrame.is (c.next_frame.ensures (words c.in-NextFrame.read_stack) mine)
+pub returns-in-NextFrame-clause-turn : goal.returns-in-NextFrame-clause-turn
+returns-in-NextFrame-clause-turn g c = λ words said. let mine = rw c.in-NextFrame.is at said in rw c.in-NextFrame.is (c.next_frame.ensures.turn (words c.in-NextFrame.read_stack) mine)

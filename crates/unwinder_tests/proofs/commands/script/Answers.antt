@@ -1,4 +1,3 @@
-use Rattle.std.proofs.Common.{◌∷◌}
 use Rattle.std.proofs.lemmas.List.Elements.{All-push}
 use Rattle.framehop_commands.specs.Commands.{OfCallback}
 use Rattle.unwinder_tests.proofs.commands.script.Goals as goal
