@@ -8,10 +8,10 @@ use Rattle.dwarf_frame_programs.specs.Programs.{Program, rows_of_program}
 use Rattle.dwarf_frame_rows.specs.Effects.{Limits}
 use Rattle.dwarf_call_frames.specs.Entries.{Fde, PartialFde}
 use Rattle.frame_tables.proofs.Appends.{then}
-use Rattle.frame_tables.specs.Entries.{Part, Setting, fde_front, fde_part, front_text, part_or_fault, part_with, table_text, whole_fde_part}
+use Rattle.frame_tables.specs.Entries.{Part, Setting, fde_front, fde_part, front_text, part_or_fault, part_with, whole_fde_part}
 use Rattle.frame_tables.specs.EntryWrites.{WritesPart}
 use Rattle.frame_tables.specs.Front.{Front}
-use Rattle.frame_tables.specs.Tables.{Table}
+use Rattle.table_texts.specs.Tables.{Table, table_text}
 
 -- the front of a line, by equal numbers
 pub same_front : (size size' offset offset' length length' : ℕ) (front : Front) → size ≡ size' → offset ≡ offset' → length ≡ length'

@@ -5,7 +5,7 @@ use Rattle.documents.specs.Decoded.{result_map}
 use Rattle.documents.proofs.Laws.{first-field, and-field, as_it_is}
 use Rattle.frame_tables.specs.Document.{stated_of}
 use Rattle.frame_tables.specs.declared.document.SectionName.{SectionName}
-use Rattle.frame_tables.specs.declared.names.Machine.{Machine}
+use Rattle.table_texts.specs.declared.names.Machine.{Machine}
 
 abbrev pub Bytes : Type 0
 Bytes = Vec ℕ Global

@@ -12,8 +12,8 @@ use Rattle.documents.specs.Json.{address_value, bytes_value, field, has_only, js
 use Rattle.dwarf_readers.specs.InitialLength.{is_size}
 use Rattle.frame_tables.specs.declared.document.SectionName.{SectionName}
 use Rattle.frame_tables.specs.declared.document.SectionName.TheVariants.{EhFrame, DebugFrame}
-use Rattle.frame_tables.specs.declared.names.Machine.{Machine}
-use Rattle.frame_tables.specs.declared.names.Machine.TheVariants.{X86_64, AArch64}
+use Rattle.table_texts.specs.declared.names.Machine.{Machine}
+use Rattle.table_texts.specs.declared.names.Machine.TheVariants.{X86_64, AArch64}
 
 -- a section: its name, its machine, if that is stated, where it starts, how many bytes an address has where no CIE says it, and its bytes
 pub record Stated : Type 0 where

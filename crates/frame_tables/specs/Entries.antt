@@ -14,11 +14,11 @@ use Rattle.dwarf_frame_sections.specs.Sections.{FrameSection}
 use Rattle.dwarf_call_frames.specs.Entries.{AnyEntry, Cie, Fde, Head, PartialFde, end_address, fde_of}
 use Rattle.dwarf_call_frames.specs.EntryPrograms.{cie_instructions, factors_of, fde_instructions, fde_program}
 use Rattle.dwarf_call_frames.specs.declared.entries.Entry.TheVariants as which
-use Rattle.frame_tables.specs.Cells.{hex_of}
-use Rattle.frame_tables.specs.Columns.{all_nops, columns_with}
+use Rattle.table_texts.specs.Cells.{hex_of}
+use Rattle.table_texts.specs.Columns.{all_nops, columns_with}
 use Rattle.frame_tables.specs.Front.{Front, augmentation_text, front_at}
-use Rattle.frame_tables.specs.Tables.{Table, heading_line, if_shown, row_lines}
-use Rattle.frame_tables.specs.declared.names.Machine.{Machine}
+use Rattle.table_texts.specs.Tables.{Table, table_text}
+use Rattle.table_texts.specs.declared.names.Machine.{Machine}
 
 -- a section, and how it is listed: whose instructions are read, whose names registers have, and what rows have room for
 pub record Setting : Type 0 where
@@ -69,10 +69,6 @@ table_of machine cie columns own = record {
   columns = columns_with columns own;
   is_shown = not (all_nops own);
 }
-
--- the lines of a table
-abbrev pub table_text : Table → Rows ℕ → List ℕ
-table_text table rows = if_shown table (heading_line table) ++ row_lines table rows.rows
 
 -- ---- common information entries
 

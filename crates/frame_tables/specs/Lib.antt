@@ -1,5 +1,3 @@
-pub mod Cells
-pub mod Columns
 pub mod Document
 pub mod DocumentViews
 pub mod Entries
@@ -7,7 +5,4 @@ pub mod EntryWrites
 pub mod Front
 pub mod FrontViews
 pub mod Listing
-pub mod Names
-pub mod TableViews
-pub mod Tables
 pub mod Text

@@ -16,8 +16,8 @@ use Rattle.frame_tables.specs.Entries.{Setting}
 use Rattle.frame_tables.specs.Listing.{Listing, listing_of}
 use Rattle.frame_tables.specs.declared.document.SectionName.{SectionName}
 use Rattle.frame_tables.specs.declared.document.SectionName.TheVariants.{EhFrame, DebugFrame}
-use Rattle.frame_tables.specs.declared.names.Machine.{Machine}
-use Rattle.frame_tables.specs.declared.names.Machine.TheVariants.{X86_64, AArch64}
+use Rattle.table_texts.specs.declared.names.Machine.{Machine}
+use Rattle.table_texts.specs.declared.names.Machine.TheVariants.{X86_64, AArch64}
 use Rattle.frame_tables.specs.declared.program.Ending.{Ending}
 use Rattle.frame_tables.specs.declared.program.Ending.TheVariants.{Listed, Faulty}
 

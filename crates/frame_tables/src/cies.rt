@@ -9,10 +9,8 @@ ghost use Rattle.frame_tables.specs.Entries.{cie_factors, cie_front, cie_line, c
 ghost use Rattle.frame_tables.specs.EntryWrites.{WritesPart, setting_with};
 ghost use Rattle.frame_tables.specs.FrontViews.{front_view};
 
-use crate::cells::{push_bytes, push_decimal, push_signed};
 use crate::front::{Front, augmentation_of, front_at};
-use crate::names::Machine;
-use crate::parts::{end_part, factors_of, push_fault, push_front, push_table, table_of};
+use crate::parts::{end_part, factors_of, push_fault, push_front, table_of};
 use dwarf_call_frames::{
     BaseAddresses, CallFrameInstructionIter, CommonInformationEntry, UnwindContext,
     UnwindContextStorage, UnwindSection,
@@ -22,6 +20,7 @@ use dwarf_frame_rows::{_UnwindSectionPrivate, PointerEncodingParameters};
 use dwarf_readers::{Reader, ReaderOffset};
 use std::alloc::{AllocError, Global};
 use std::collections::BTreeSet;
+use table_texts::{Machine, push_bytes, push_decimal, push_signed};
 
 /// No instructions.
 fn no_instructions<'a, R: Reader, Section: UnwindSection<R>>(
@@ -165,13 +164,7 @@ fn push_whole_cie<R: Reader, Section: UnwindSection<R>, S: UnwindContextStorage<
     push_cie_line(alloc, cie, front, augmentation, text)?;
     let none = BTreeSet::new(alloc);
     let table = table_of(alloc, machine, cie, none, cie.instructions(section, bases))?;
-    let refusal = push_table(
-        alloc,
-        &table,
-        context,
-        cie_program(section, bases, cie),
-        text,
-    )?;
+    let refusal = table.push(alloc, context, cie_program(section, bases, cie), text)?;
     end_part(alloc, refusal, cie.offset().into_u64(), front.end, text)
 }
 

@@ -8,7 +8,6 @@ ghost use Rattle.documents.specs.Json.{bytes_value, field, optional_value};
 ghost use Rattle.frame_tables.specs.Document.{fields_in, in_document, machine_named, machine_value, name_value, named, of_document, section_in, size_of_addresses, size_value, stated_in, stated_value};
 ghost use Rattle.frame_tables.specs.DocumentViews.{stated_view};
 
-use crate::names::Machine;
 use documents::check::{Checked, both, weighed};
 use documents::field::{address_field, has_only, needed, number_field, text_field, text_in};
 use documents::float::has_float;
@@ -16,6 +15,7 @@ use documents::json::{bytes_in, read};
 use documents::{DOCUMENT_LIMIT, Fault, FaultName, Refusal};
 use serde_json::Value;
 use std::alloc::Global;
+use table_texts::Machine;
 
 /// The sections that are listed.
 #[derive(Clone, Copy, Debug, PartialEq, Eq)]

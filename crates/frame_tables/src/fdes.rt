@@ -11,14 +11,10 @@ ghost use Rattle.dwarf_frame_sections.specs.Sections.{frame_section};
 ghost use Rattle.frame_tables.specs.Entries.{fde_front, fde_line, fde_places, fde_part, fde_table, part_or_fault, whole_fde_part};
 ghost use Rattle.frame_tables.specs.EntryWrites.{WritesPart, setting_with};
 ghost use Rattle.frame_tables.specs.FrontViews.{front_view};
-ghost use Rattle.frame_tables.specs.TableViews.{table_view};
+ghost use Rattle.table_texts.specs.TableViews.{table_view};
 
-use crate::cells::{push_bytes, push_hex};
-use crate::columns::add_columns;
 use crate::front::{Front, front_at};
-use crate::names::Machine;
-use crate::parts::{end_part, factors_of, push_fault, push_front, push_table, table_of};
-use crate::tables::Table;
+use crate::parts::{end_part, factors_of, push_fault, push_front, table_of};
 use dwarf_call_frames::{
     BaseAddresses, CommonInformationEntry, FrameDescriptionEntry, PartialFrameDescriptionEntry,
     UnwindContext, UnwindContextStorage, UnwindOffset, UnwindSection,
@@ -27,6 +23,7 @@ use dwarf_frame_programs::FrameProgram;
 use dwarf_readers::{Reader, ReaderOffset};
 use std::alloc::{AllocError, Global};
 use std::collections::BTreeSet;
+use table_texts::{Machine, Table, add_columns, push_bytes, push_hex};
 
 /// A program of an FDE: its CIE's instructions and its own.
 fn fde_program<'a, R: Reader, Section: UnwindSection<R>>(
@@ -177,13 +174,7 @@ fn push_whole_fde<R: Reader, Section: UnwindSection<R>, S: UnwindContextStorage<
 {
     push_fde_line(alloc, cie_offset, fde, front, text)?;
     let table = fde_table(alloc, section, bases, machine, fde)?;
-    let refusal = push_table(
-        alloc,
-        &table,
-        context,
-        fde_program(section, bases, fde),
-        text,
-    )?;
+    let refusal = table.push(alloc, context, fde_program(section, bases, fde), text)?;
     end_part(alloc, refusal, fde.offset().into_u64(), front.end, text)
 }
 

@@ -11,7 +11,6 @@ ghost use Rattle.frame_tables.specs.Listing.{listing_of};
 
 use crate::cies::push_cie;
 use crate::fdes::push_fde;
-use crate::names::Machine;
 use crate::parts::fault_text;
 use documents::{RunError, Sink, write_all};
 use dwarf_call_frames::{
@@ -21,6 +20,7 @@ use dwarf_constants::Error;
 use dwarf_frame_rows::_UnwindSectionPrivate;
 use dwarf_readers::Reader;
 use std::alloc::{AllocError, Global};
+use table_texts::Machine;
 
 /// Appends what is listed of an entry, and answers the place behind it, unless a fault ends the
 /// listing.

@@ -3,28 +3,19 @@ ghost use Rattle.std.specs.Prelude.{◌≡◌, ◌*◌, ◌++◌, IfOk, OnOk, Li
 ghost use Rattle.dwarf_readers.specs.Place.{Stretch};
 ghost use Rattle.dwarf_call_frames.specs.EntryViews.{cie_view};
 ghost use Rattle.dwarf_call_frames.specs.EntryPrograms.{factors_of};
-ghost use Rattle.dwarf_frame_programs.specs.ProgramRows.{program_of};
-ghost use Rattle.dwarf_frame_programs.specs.Programs.{rows_of_program};
-ghost use Rattle.dwarf_frame_rows.specs.Effects.{limits_of};
-ghost use Rattle.frame_tables.specs.Entries.{fault_text, front_text, id_digits, part_or_fault, part_with, table_of, table_text};
+ghost use Rattle.frame_tables.specs.Entries.{fault_text, front_text, id_digits, part_or_fault, part_with, table_of};
 ghost use Rattle.frame_tables.specs.EntryWrites.{WritesPart};
 ghost use Rattle.frame_tables.specs.FrontViews.{front_view};
-ghost use Rattle.frame_tables.specs.TableViews.{table_view};
+ghost use Rattle.table_texts.specs.TableViews.{table_view};
 
-use crate::cells::{push_bytes, push_hex};
-use crate::columns::add_columns;
 use crate::front::Front;
-use crate::names::Machine;
-use crate::tables::Table;
-use dwarf_call_frames::{
-    CallFrameInstructionIter, CieOffsetEncoding, CommonInformationEntry, UnwindContext,
-    UnwindContextStorage,
-};
+use dwarf_call_frames::{CallFrameInstructionIter, CieOffsetEncoding, CommonInformationEntry};
 use dwarf_constants::Error;
-use dwarf_frame_programs::{Factors, FrameProgram};
+use dwarf_frame_programs::Factors;
 use dwarf_readers::Reader;
 use std::alloc::{AllocError, Global};
 use std::collections::BTreeSet;
+use table_texts::{Machine, Table, add_columns, push_bytes, push_hex};
 
 /// The line of a fault: its name, and the place of the entry that has it.
 pub(crate) fn fault_text(alloc: Global, error: Error, place: u64) -> Result<String, AllocError>
@@ -115,25 +106,6 @@ pub(crate) fn table_of<'a, R: Reader>(
         columns: columns.into_iter().collect(alloc)?,
         is_shown: !nops,
     })
-}
-
-/// Appends a table with the rows of a program, up to its first refusal, which it answers.
-pub(crate) fn push_table<R: Reader, S: UnwindContextStorage<R::Offset>>(
-    alloc: Global,
-    table: &Table,
-    context: &mut UnwindContext<R::Offset, S>,
-    program: FrameProgram<'_, R>,
-    text: &mut Vec<u8>,
-) -> Result<Option<Error>, AllocError>
-    ensures refusal { let limits = limits_of S.Rules.capacity S.Stack.capacity in
-        IfOk result (λ refusal.
-        refusal ≡ (rows_of_program limits (program_of program.entry)).refusal) }
-    ensures lines { let limits = limits_of S.Rules.capacity S.Stack.capacity in
-        OnOk result (text.new.items ≡ text.old.items ++ table_text (table_view table.now)
-        (rows_of_program limits (program_of program.entry))) }
-{
-    table.push_headings(alloc, text)?;
-    table.push_rows(alloc, context, program, text)
 }
 
 /// What the operands of a CIE's and its FDEs' instructions are multiplied by.

@@ -9,13 +9,13 @@ ghost use Rattle.frame_tables.specs.Text.{bases_from, ending_by, ending_of, sett
 
 use crate::document::{SectionName, Stated, decode};
 use crate::listing::write_listing;
-use crate::names::Machine;
 use documents::{Refusal, RunError, Sink, Source, read_document, write_all};
 use dwarf_call_frames::{BaseAddresses, DebugFrame, EhFrame, UnwindContext};
 use dwarf_constants::Vendor;
 use dwarf_frame_rows::{SectionBaseAddresses, StoreOnHeap};
 use dwarf_readers::{EndianSlice, LittleEndian};
 use std::alloc::Global;
+use table_texts::Machine;
 
 /// How a run that wrote all its text ended.
 #[derive(Clone, Copy, Debug, PartialEq, Eq, Hash)]

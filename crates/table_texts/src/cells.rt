@@ -2,7 +2,7 @@
 //! part behind.
 ghost use Rattle.std.specs.Prelude.{◌≡◌, ◌++◌, IfOk, OnOk, decimal, replicate, string_bytes};
 ghost use Rattle.std.specs.Fmt.{signed_decimal};
-ghost use Rattle.frame_tables.specs.Cells.{cell_of, hex_of, with_sign};
+ghost use Rattle.table_texts.specs.Cells.{cell_of, hex_of, with_sign};
 
 use std::alloc::{AllocError, Global};
 
@@ -17,7 +17,7 @@ fn push_times(text: &mut Vec<u8>, byte: u8, count: usize) -> Result<(), AllocErr
 }
 
 /// Appends bytes as they are.
-pub(crate) fn push_bytes(text: &mut Vec<u8>, bytes: &[u8]) -> Result<(), AllocError>
+pub fn push_bytes(text: &mut Vec<u8>, bytes: &[u8]) -> Result<(), AllocError>
     ensures { OnOk result (text.new.items ≡ text.old.items ++ bytes.now) }
 {
     text.extend_from_slice(bytes)
@@ -33,7 +33,7 @@ pub(crate) fn push_cell(text: &mut Vec<u8>, width: usize, cell: &[u8]) -> Result
 }
 
 /// Appends a number in hexadecimal digits, with so many digits at least.
-pub(crate) fn push_hex(
+pub fn push_hex(
     alloc: Global,
     text: &mut Vec<u8>,
     width: usize,
@@ -47,7 +47,7 @@ pub(crate) fn push_hex(
 }
 
 /// Appends a number in decimal digits.
-pub(crate) fn push_decimal(alloc: Global, text: &mut Vec<u8>, number: u64) -> Result<(), AllocError>
+pub fn push_decimal(alloc: Global, text: &mut Vec<u8>, number: u64) -> Result<(), AllocError>
     ensures { OnOk result (text.new.items ≡ text.old.items ++ decimal number) }
 {
     let digits = format!(in alloc; "{number}")?;
@@ -55,7 +55,7 @@ pub(crate) fn push_decimal(alloc: Global, text: &mut Vec<u8>, number: u64) -> Re
 }
 
 /// Appends a number in decimal digits, with a minus where it is negative.
-pub(crate) fn push_signed(alloc: Global, text: &mut Vec<u8>, number: i64) -> Result<(), AllocError>
+pub fn push_signed(alloc: Global, text: &mut Vec<u8>, number: i64) -> Result<(), AllocError>
     ensures { OnOk result (text.new.items ≡ text.old.items ++ signed_decimal number) }
 {
     let digits = format!(in alloc; "{number}")?;

@@ -1,6 +1,6 @@
 use Rattle.std.proofs.Common.{◌≡◌, ◌&&◌, length}
-use Rattle.frame_tables.specs.Columns.{all_nops, columns_with}
-use Rattle.frame_tables.proofs.columns.add_columns.Given as goal
+use Rattle.table_texts.specs.Columns.{all_nops, columns_with}
+use Rattle.table_texts.proofs.columns.add_columns.Given as goal
 
 abbrev pub invariant-instructions : goal.invariant-instructions
 invariant-instructions g l = record {

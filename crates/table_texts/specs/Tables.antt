@@ -3,14 +3,15 @@ use Rattle.std.specs.Prelude.{ℕ, ◌*◌, ◌==◌, Bool, List, [], ◌++◌, 
 use Rattle.std.specs.FinMap.{get}
 use Rattle.std.specs.List.{flat_map}
 use Rattle.documents.specs.Lines.{line}
+use Rattle.dwarf_frame_programs.specs.Programs.{Rows}
 use Rattle.dwarf_frame_rows.specs.Row.{Row}
 use Rattle.dwarf_frame_rows.specs.declared.rules.CfaRule.{CfaRule}
 use Rattle.dwarf_frame_rows.specs.declared.rules.CfaRule.TheVariants as cfa
 use Rattle.dwarf_frame_rows.specs.declared.rules.RegisterRule.{RegisterRule}
 use Rattle.dwarf_frame_rows.specs.declared.rules.RegisterRule.TheVariants as rule
-use Rattle.frame_tables.specs.Cells.{cell_of, hex_of, with_sign}
-use Rattle.frame_tables.specs.Names.{register_in_full, register_name}
-use Rattle.frame_tables.specs.declared.names.Machine.{Machine}
+use Rattle.table_texts.specs.Cells.{cell_of, hex_of, with_sign}
+use Rattle.table_texts.specs.Names.{register_in_full, register_name}
+use Rattle.table_texts.specs.declared.names.Machine.{Machine}
 
 -- what the lines of one table have in common: whose names registers have, how many bytes an address has, which column is that of the
 -- return address, the columns, and whether the table is shown at all
@@ -75,3 +76,7 @@ if_shown table text = if table.is_shown then text else []
 -- the lines of rows
 abbrev pub row_lines : {T : Type 0} → Table → List (Row T) → List ℕ
 row_lines table rows = flat_map (λ row. if_shown table (row_line table row)) rows
+
+-- the lines of a table
+abbrev pub table_text : Table → Rows ℕ → List ℕ
+table_text table rows = if_shown table (heading_line table) ++ row_lines table rows.rows

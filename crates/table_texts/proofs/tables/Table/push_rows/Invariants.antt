@@ -2,9 +2,9 @@ use Rattle.std.proofs.Common.{◌≡◌, ◌++◌, ℕ}
 use Rattle.dwarf_frame_rows.specs.Effects.{limits_of}
 use Rattle.dwarf_frame_programs.specs.ProgramRows.{HasLeft, program_of, steps_left}
 use Rattle.dwarf_frame_programs.specs.Programs.{Rows, rows_of_program}
-use Rattle.frame_tables.specs.TableViews.{table_view}
-use Rattle.frame_tables.specs.Tables.{row_lines}
-use Rattle.frame_tables.proofs.tables.Table.push_rows.Given as goal
+use Rattle.table_texts.specs.TableViews.{table_view}
+use Rattle.table_texts.specs.Tables.{row_lines}
+use Rattle.table_texts.proofs.tables.Table.push_rows.Given as goal
 
 -- the lines so far and those of the rows that are left make the lines of all rows, and the refusal is the same
 abbrev pub invariant-rows : goal.invariant-rows

@@ -8,16 +8,16 @@ use Rattle.dwarf_frame_rows.specs.declared.rules.RegisterRule.{RegisterRule}
 use Rattle.dwarf_frame_rows.specs.declared.rules.RegisterRule.TheVariants as rule
 use Rattle.dwarf_frame_rows.specs.Effects.{Limits}
 use Rattle.dwarf_frame_rows.specs.Row.{Row, row_of}
-use Rattle.dwarf_frame_programs.proofs.Views.{get_as}
-use Rattle.dwarf_frame_programs.specs.ProgramRows.{Advances, behind_first, current_row, rows_state}
+use Rattle.dwarf_frame_programs.proofs.Laws.{rule_seen}
+use Rattle.dwarf_frame_programs.specs.ProgramRows.{Advances, HasLeft, behind_first, current_row, rows_state}
 use Rattle.dwarf_frame_programs.specs.Execution.{row_in}
 use Rattle.dwarf_frame_programs.specs.Programs.{Rows}
 use Rattle.dwarf_frame_programs.specs.StateViews.{cfa_as, row_as, rule_as}
 use Rattle.dwarf_frame_programs.specs.declared.rows.ProgramRows.{ProgramRows}
 use Rattle.dwarf_readers.specs.Place.{Stretch}
-use Rattle.frame_tables.specs.Cells.{hex_of}
-use Rattle.frame_tables.specs.Tables.{Table, cfa_text, found_in, found_text, if_shown, line_of_cells, row_line, row_lines, rule_text}
-use Rattle.frame_tables.specs.declared.names.Machine.{Machine}
+use Rattle.table_texts.specs.Cells.{hex_of}
+use Rattle.table_texts.specs.Tables.{Table, cfa_text, found_in, found_text, if_shown, line_of_cells, row_line, row_lines, rule_text}
+use Rattle.table_texts.specs.declared.names.Machine.{Machine}
 
 -- what is shown of a row doesn't tell where its expressions stand
 same_cfa : {T U : Type 0} (number : T → U) (machine : Option Machine) (r : CfaRule T) → cfa_text machine (cfa_as number r) ≡ cfa_text machine r
@@ -42,7 +42,7 @@ same_found number machine (Some r) = same_rule number machine r
 pub same_row_line : {T : Type 0} (number : T → ℕ) (table : Table) (row : Row T) → row_line table (row_as number row) ≡ row_line table row
 same_row_line number table row =
     let each : (register : ℕ) → found_in table (row_as number row) register ≡ found_in table row register =
-    λ register. ap (found_text table.machine) (get_as (rule_as number) row.rules register) ∙ same_found number table.machine (get row.rules register) in
+    λ register. ap (found_text table.machine) (rule_seen (rule_as number) row.rules register) ∙ same_found number table.machine (get row.rules register) in
     let all : found_in table (row_as number row) ≡ found_in table row = λ i register. each register i in
     ap (λ (text : List ℕ). line_of_cells table (hex_of (2 * table.address_size) row.start) text (found_in table (row_as number row))) (same_cfa number table.machine row.cfa)
     ∙ ap (λ (texts : ℕ → List ℕ). line_of_cells table (hex_of (2 * table.address_size) row.start) (cfa_text table.machine row.cfa) texts) all
@@ -53,6 +53,12 @@ module _ {R S E O L K : Type 0} (stretch : R → Stretch) (limit : ℕ) (number 
       → row_lines table all ≡ if_shown table (row_line table (rows_state number items limits u).row) ++ row_lines table (behind_first left all).rows
   given_lines table [] h = absurd h
   given_lines table (row ∷ others) h = ap (λ (r : Row ℕ). if_shown table (row_line table r) ++ row_lines table others) (sym h.0)
+
+  -- the others are left
+  pub given_left : (all : List (Row ℕ)) → Advances stretch limit number items limits Fixed left all (Ok true) u
+      → HasLeft stretch limit number items limits u (behind_first left all)
+  given_left [] h = absurd h
+  given_left (row ∷ others) h = h.1
 
   -- the refusal stays
   pub given_refusal : (all : List (Row ℕ)) → Advances stretch limit number items limits Fixed left all (Ok true) u → (behind_first left all).refusal ≡ left.refusal

@@ -1,6 +1,6 @@
 -- Tables as contracts see them.
-use Rattle.frame_tables.specs.Tables.{Table}
-use Rattle.frame_tables.specs.declared.tables.Table.{Table as Made}
+use Rattle.table_texts.specs.Tables.{Table}
+use Rattle.table_texts.specs.declared.tables.Table.{Table as Made}
 
 -- a table of the code
 abbrev pub table_view : Made → Table

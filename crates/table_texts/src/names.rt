@@ -1,12 +1,12 @@
 //! The names of registers.
 ghost use Rattle.std.specs.Prelude.{◌≡◌, IfOk, option_map, slice_get, string_bytes};
-ghost use Rattle.frame_tables.specs.Names.{aarch64_name, general_names, known_name, register_in_full, register_name, x86_64_name};
+ghost use Rattle.table_texts.specs.Names.{aarch64_name, general_names, known_name, register_in_full, register_name, x86_64_name};
 
 use std::alloc::{AllocError, Global};
 
 /// A machine, whose names for registers are shown.
 #[derive(Clone, Copy, Debug, PartialEq, Eq)]
-pub(crate) enum Machine {
+pub enum Machine {
     X86_64,
     AArch64,
 }

@@ -4,32 +4,33 @@ ghost use Rattle.dwarf_frame_programs.specs.ProgramRows.{program_of};
 ghost use Rattle.dwarf_frame_programs.specs.Programs.{rows_of_program};
 ghost use Rattle.dwarf_frame_rows.specs.Effects.{limits_of};
 ghost use Rattle.dwarf_frame_rows.specs.Row.{row_of};
-ghost use Rattle.frame_tables.specs.TableViews.{table_view};
-ghost use Rattle.frame_tables.specs.Tables.{cfa_text, column_cells, column_name, found_in, found_text, heading_line, if_shown, row_line, row_lines, rule_text};
+ghost use Rattle.table_texts.specs.TableViews.{table_view};
+ghost use Rattle.table_texts.specs.Tables.{cfa_text, column_cells, column_name, found_in, found_text, heading_line, if_shown, row_line, row_lines, rule_text, table_text};
 
 use crate::cells::{push_bytes, push_cell, push_hex, signed_text};
 use crate::names::{Machine, register_in_full, register_name};
-use dwarf_call_frames::{UnwindContext, UnwindContextStorage, UnwindTableRow};
 use dwarf_constants::{Error, Register};
 use dwarf_expressions::ArrayLike;
 use dwarf_frame_programs::{FrameProgram, ProgramRows};
-use dwarf_frame_rows::{CfaRule, RegisterRule, RuledRegister};
+use dwarf_frame_rows::{
+    CfaRule, RegisterRule, RuledRegister, UnwindContext, UnwindContextStorage, UnwindTableRow,
+};
 use dwarf_readers::{Reader, ReaderOffset};
 use std::alloc::{AllocError, Global};
 
 /// What the lines of one table have in common.
 #[derive(Drop)]
-pub(crate) struct Table {
+pub struct Table {
     /// Whose names registers have.
-    pub(crate) machine: Option<Machine>,
+    pub machine: Option<Machine>,
     /// The size of an address in bytes.
-    pub(crate) address_size: u8,
+    pub address_size: u8,
     /// The column of the return address.
-    pub(crate) return_address: Register,
+    pub return_address: Register,
     /// The registers that have a column, in ascending order.
-    pub(crate) columns: Vec<u16>,
+    pub columns: Vec<u16>,
     /// Whether the table is shown at all.
-    pub(crate) is_shown: bool,
+    pub is_shown: bool,
 }
 
 /// How the CFA is found.
@@ -124,7 +125,7 @@ impl Table {
     }
 
     /// Appends the line of headings, where the table is shown.
-    pub(crate) fn push_headings(&self, alloc: Global, text: &mut Vec<u8>) -> Result<(), AllocError>
+    fn push_headings(&self, alloc: Global, text: &mut Vec<u8>) -> Result<(), AllocError>
         ensures { OnOk result (text.new.items ≡ text.old.items
             ++ if_shown (table_view self.now) (heading_line (table_view self.now))) }
     {
@@ -178,9 +179,8 @@ impl Table {
         push_bytes(text, b"\n")
     }
 
-    /// Appends the lines of a program's rows, up to its first refusal, which it answers. What the
-    /// context held before counts for nothing.
-    pub(crate) fn push_rows<R: Reader, S: UnwindContextStorage<R::Offset>>(
+    /// Appends the lines of a program's rows, up to its first refusal, which it answers.
+    fn push_rows<R: Reader, S: UnwindContextStorage<R::Offset>>(
         &self,
         alloc: Global,
         context: &mut UnwindContext<R::Offset, S>,
@@ -208,6 +208,28 @@ impl Table {
                 self.push_row(alloc, row, text)?;
             }
         }
+    }
+
+    /// Appends the table with the rows of a program, up to its first refusal, which it answers.
+    ///
+    /// What the context held before counts for nothing. An `Err` is for want of memory, and may
+    /// leave a part of the table behind.
+    pub fn push<R: Reader, S: UnwindContextStorage<R::Offset>>(
+        &self,
+        alloc: Global,
+        context: &mut UnwindContext<R::Offset, S>,
+        program: FrameProgram<'_, R>,
+        text: &mut Vec<u8>,
+    ) -> Result<Option<Error>, AllocError>
+        ensures refusal { let limits = limits_of S.Rules.capacity S.Stack.capacity in
+            IfOk result (λ refusal.
+            refusal ≡ (rows_of_program limits (program_of program.entry)).refusal) }
+        ensures lines { let limits = limits_of S.Rules.capacity S.Stack.capacity in
+            OnOk result (text.new.items ≡ text.old.items ++ table_text (table_view self.now)
+            (rows_of_program limits (program_of program.entry))) }
+    {
+        self.push_headings(alloc, text)?;
+        self.push_rows(alloc, context, program, text)
     }
 }
 

@@ -1,7 +1,7 @@
 -- The names of registers, as readelf prints them.
 use Rattle.std.specs.Prelude.{ℕ, ◌-◌, ◌==◌, ◌&&◌, List, [], ◌∷◌, ◌++◌, codes, decimal, nat_le, nat_lt, slice_get, unwrap_or, Option, Some, None, if◌then◌else◌}
-use Rattle.frame_tables.specs.declared.names.Machine.{Machine}
-use Rattle.frame_tables.specs.declared.names.Machine.TheVariants.{X86_64, AArch64}
+use Rattle.table_texts.specs.declared.names.Machine.{Machine}
+use Rattle.table_texts.specs.declared.names.Machine.TheVariants.{X86_64, AArch64}
 
 -- a letter or more, and a number
 abbrev pub numbered : List ℕ → ℕ → List ℕ

@@ -1,8 +1,8 @@
 //! The columns of an entry's table.
 ghost use Rattle.std.specs.Prelude.{◌≡◌, IfOk, OnOk};
-ghost use Rattle.frame_tables.specs.Columns.{all_nops, columns_with, is_nop, register_named, with_column};
+ghost use Rattle.table_texts.specs.Columns.{all_nops, columns_with, is_nop, register_named, with_column};
 
-use dwarf_call_frames::{CallFrameInstruction, CallFrameInstructionIter};
+use dwarf_frame_programs::{CallFrameInstruction, CallFrameInstructionIter};
 use dwarf_readers::Reader;
 use std::alloc::AllocError;
 use std::collections::BTreeSet;
@@ -48,7 +48,7 @@ fn add_column(columns: &mut BTreeSet<u16>, register: Option<u16>) -> Result<(), 
 
 /// Adds the columns of the registers that instructions name, and answers whether all of them are
 /// padding. An instruction that is refused is none.
-pub(crate) fn add_columns<'a, R: Reader>(
+pub fn add_columns<'a, R: Reader>(
     columns: &mut BTreeSet<u16>,
     mut instructions: CallFrameInstructionIter<'a, R>,
 ) -> Result<bool, AllocError>

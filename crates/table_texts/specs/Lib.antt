@@ -1,0 +1,5 @@
+pub mod Cells
+pub mod Columns
+pub mod Names
+pub mod TableViews
+pub mod Tables
