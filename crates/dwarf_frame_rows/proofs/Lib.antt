@@ -1,2 +1,4 @@
 mod RuleMaps
 mod SameMaps
+pub mod Onward
+pub mod Laws

@@ -1,8 +1,9 @@
 //! Encoded pointers (LSB 5.0, 10.5).
-ghost use Rattle.std.specs.Prelude.{◌≡◌, ◌≤◌, ◌+◌, IsTrue, OnErr};
+ghost use Rattle.std.specs.Prelude.{◌≡◌, ◌≤◌, ◌+◌, ℕ, IsTrue, OnErr};
 ghost use Rattle.dwarf_readers.specs.InitialLength.{is_size, left_by};
-ghost use Rattle.dwarf_readers.specs.Place.{Reads, ReadsAs, byte_at};
-ghost use Rattle.dwarf_frame_rows.specs.EncodedPointer.{address_of, direct_address, encoding_at, in_address_size, is_encoding, left_by_plain_value, left_by_pointer, left_by_value, origin_of, origins_of, plain_value_at, pointer_at, pointer_of, taken_encoding, value_at};
+ghost use Rattle.dwarf_readers.specs.Onward.{ReadsOn};
+ghost use Rattle.dwarf_readers.specs.Place.{Reads, ReadsAs, Stretch, byte_at};
+ghost use Rattle.dwarf_frame_rows.specs.EncodedPointer.{Origins, address_of, direct_address, encoding_at, in_address_size, is_encoding, left_by_plain_value, left_by_pointer, left_by_value, origin_of, origins_of, plain_value_at, pointer_at, pointer_of, taken_encoding, value_at};
 
 use crate::SectionBaseAddresses;
 use dwarf_constants::constants::{
@@ -229,3 +230,14 @@ fn sum_in_address_size(base: u64, value: u64, address_size: u8) -> u64
         _ => sum,
     }
 }
+
+/// A law of encoded pointers: what is left behind one, or behind its encoding, doesn't begin before
+/// it. The function does nothing when the program runs.
+pub fn pointers_go_on()
+    ensures encoding { (s : Stretch) → ReadsOn s (encoding_at s) }
+    ensures value { (size format : ℕ) (s : Stretch) → ReadsOn s (value_at size format s) }
+    ensures pointer { (origins : Origins) (encoding : ℕ) (s : Stretch)
+        → ReadsOn s (pointer_at origins encoding s) }
+    ensures plain_value { (size encoding : ℕ) (s : Stretch)
+        → ReadsOn s (plain_value_at size encoding s) }
+{}

@@ -7,4 +7,5 @@ pub mod Spellings
 pub mod SignedSpellings
 pub mod Following
 pub mod Lengths
+pub mod Onward
 pub mod Laws

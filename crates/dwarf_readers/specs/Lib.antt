@@ -1,5 +1,6 @@
 pub mod Place
 pub mod Remainder
+pub mod Onward
 pub mod Leb128
 pub mod InitialLength
 pub mod Groups

@@ -1,5 +1,5 @@
 //! What reads leave: how many bytes each takes at least, so that items that are read one after the
-//! other come to an end.
+//! other come to an end, and that nothing begins before the read.
 
 ghost use Rattle.std.specs.Prelude.{◌≡◌, ◌≤◌, ◌+◌, ℕ, Bool, Option, Some, None, Result, Ok, Err, length, if◌then◌else◌};
 ghost use Rattle.std.specs.Int.{Width, byte_len};
@@ -9,6 +9,7 @@ ghost use Rattle.dwarf_constants.specs.declared.error.Error.{Error};
 ghost use Rattle.dwarf_readers.specs.InitialLength.{address_at, address_size_at, initial_length_at, sized_offset_at, word_at};
 ghost use Rattle.dwarf_readers.specs.Leb128.{behind_string, signed_at, string_of, unsigned_16_at, unsigned_32_at, unsigned_at};
 ghost use Rattle.dwarf_readers.specs.Place.{Stretch, ◌>>=◌ as ◌and_then◌, behind_at, byte_at, bytes_at, number_at, signed_byte_at, signed_number_at, split_at, string_at};
+ghost use Rattle.dwarf_readers.specs.Onward.{GoesOn, ReadsOn};
 ghost use Rattle.dwarf_readers.specs.Remainder.{IsShorter, LeavesLess, Passes, Takes, TakesItem, item_at, size_of};
 ghost use Rattle.lists.specs.Items.{Answer, Shrinks};
 
@@ -81,4 +82,40 @@ pub fn items_take<A>()
         → Takes n s (read s) → TakesItem n s (item_at read s) }
     ensures shrink { (step : Stretch → Answer Stretch A Error)
         → ((s : Stretch) → TakesItem 1 s (step s)) → Shrinks size_of step }
+{}
+
+/// What is left behind a number, a string or an address doesn't begin before it.
+pub fn reads_go_on()
+    ensures byte { (s : Stretch) → ReadsOn s (byte_at s) }
+    ensures number { (n : ℕ) (s : Stretch) → ReadsOn s (number_at n s) }
+    ensures signed_number { (w : Width) (s : Stretch) → ReadsOn s (signed_number_at w s) }
+    ensures split { (n : ℕ) (s : Stretch) → ReadsOn s (split_at n s) }
+    ensures unsigned { (s : Stretch) → ReadsOn s (unsigned_at s) }
+    ensures unsigned_16 { (s : Stretch) → ReadsOn s (unsigned_16_at s) }
+    ensures signed { (s : Stretch) → ReadsOn s (signed_at s) }
+    ensures string { (s : Stretch) → ReadsOn s (string_at s) }
+    ensures address_size { (s : Stretch) → ReadsOn s (address_size_at s) }
+    ensures address { (size : ℕ) (s : Stretch) → ReadsOn s (address_at size s) }
+{}
+
+/// Where what is left begins: behind one answer after another, behind either of two, and behind one
+/// that is known.
+pub fn answers_go_on<X, Y>()
+    ensures then_other { (rest : X → Stretch) (other : Y → Stretch) (place : ℕ)
+        (first : Result X Error) (next : X → Result Y Error) → GoesOn rest place first
+        → ((x : X) → place ≤ (rest x).place → GoesOn other place (next x))
+        → GoesOn other place (first and_then next) }
+    ensures behind_value { (other : Y → Stretch) (place : ℕ) (value : Result X Error)
+        (next : X → Result Y Error) → ((x : X) → GoesOn other place (next x))
+        → GoesOn other place (value and_then next) }
+    ensures either { (rest : X → Stretch) (place : ℕ) (test : Bool) (a b : Result X Error)
+        → GoesOn rest place a → GoesOn rest place b
+        → GoesOn rest place (if test then a else b) }
+    ensures ok { (rest : X → Stretch) (place : ℕ) (x : X)
+        → place ≤ (rest x).place → GoesOn rest place (Ok x) }
+    ensures err { (rest : X → Stretch) (place : ℕ) (e : Error) → GoesOn rest place (Err e) }
+    ensures from { (rest : X → Stretch) (place before : ℕ) (answer : Result X Error)
+        → GoesOn rest place answer → before ≤ place → GoesOn rest before answer }
+    ensures known { (rest : X → Stretch) (place : ℕ) (answer : Result X Error) (x : X)
+        → GoesOn rest place answer → answer ≡ Ok x → place ≤ (rest x).place }
 {}

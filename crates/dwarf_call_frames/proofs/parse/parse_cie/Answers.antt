@@ -1,5 +1,6 @@
 use Rattle.std.proofs.Common.{arith}
-use Rattle.dwarf_call_frames.proofs.Onward.{byte_on, onward, register_on, signed_on, sizes_on, string_on, unsigned_on}
+use Rattle.dwarf_readers.proofs.Laws.{byte_on, onward, signed_on, string_on, unsigned_on}
+use Rattle.dwarf_call_frames.proofs.Onward.{register_on, sizes_on}
 use Rattle.dwarf_call_frames.proofs.parse.parse_cie.Goals as goal
 
 pub parse_augmentation-requires : goal.parse_augmentation-requires

@@ -1,6 +1,8 @@
 use Rattle.std.proofs.Common.{arith}
 use Rattle.dwarf_frame_rows.specs.EncodedPointer.{origins_of}
-use Rattle.dwarf_call_frames.proofs.Onward.{encoding_on, omitted_on, onward}
+use Rattle.dwarf_readers.proofs.Laws.{onward}
+use Rattle.dwarf_frame_rows.proofs.Laws.{encoding_on}
+use Rattle.dwarf_call_frames.proofs.Onward.{omitted_on}
 use Rattle.dwarf_call_frames.proofs.augmentation.LettersRead.read_with_data.Goals as goal
 
 pub returns-in_ok-self-in-80-clause-placed : goal.returns-in_ok-self-in-80-clause-placed

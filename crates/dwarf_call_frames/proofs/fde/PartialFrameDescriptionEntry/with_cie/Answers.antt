@@ -1,6 +1,7 @@
 use Rattle.std.proofs.Common.{None, arith}
 use Rattle.dwarf_frame_rows.specs.EncodedPointer.{Origins}
-use Rattle.dwarf_call_frames.proofs.Onward.{addresses_on, onward}
+use Rattle.dwarf_readers.proofs.Laws.{onward}
+use Rattle.dwarf_call_frames.proofs.Onward.{addresses_on}
 use Rattle.dwarf_call_frames.proofs.fde.PartialFrameDescriptionEntry.with_cie.Goals as goal
 
 pub read_lsda-requires : goal.read_lsda-requires
