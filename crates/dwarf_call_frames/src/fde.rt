@@ -98,6 +98,16 @@ impl<'bases, Section: UnwindSection<R>, R: Reader> PartialFrameDescriptionEntry<
         self.with_cie(cie)
     }
 
+    /// The whole entry, as [`parse`](Self::parse) with `cie_from_offset`: with the CIE at its offset in
+    /// the section in which this entry was read.
+    #[inline(always)]
+    pub fn parse_by_offset(&self) -> Result<FrameDescriptionEntry<R>>
+        ensures { Gives (λ fde. fde) result (fde_of R.Offset.limit Section.kind self.now) }
+    {
+        let cie = self.section.cie_from_offset(self.bases, self.cie_offset)?;
+        self.with_cie(cie)
+    }
+
     /// The whole entry, once its CIE is read.
     #[inline(always)]
     pub(crate) fn with_cie(

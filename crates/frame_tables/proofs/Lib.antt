@@ -3,5 +3,4 @@ pub mod Entries
 pub mod Fields
 pub mod Listings
 pub mod WholeDocument
-pub mod WholeFdes
 pub mod Writes

@@ -1,10 +1,7 @@
 //! What a listing has of frame description entries.
-ghost use Rattle.std.specs.Prelude.{◌≡◌, ◌++◌, IfOk, OnOk, ℕ, false};
+ghost use Rattle.std.specs.Prelude.{◌≡◌, ◌++◌, IfOk, OnOk, ℕ};
 ghost use Rattle.dwarf_numbers.specs.Answers.{Gives};
-ghost use Rattle.dwarf_call_frames.specs.Entries.{cie_from_offset, fde_of};
 ghost use Rattle.dwarf_call_frames.specs.EntryPrograms.{fde_program};
-ghost use Rattle.dwarf_call_frames.specs.EntryViews.{cie_view};
-ghost use Rattle.dwarf_call_frames.specs.Memory.{MayGive};
 ghost use Rattle.dwarf_frame_programs.specs.ProgramRows.{program_of};
 ghost use Rattle.dwarf_frame_rows.specs.Effects.{Limits, limits_of};
 ghost use Rattle.dwarf_frame_sections.specs.Sections.{frame_section};
@@ -16,8 +13,8 @@ ghost use Rattle.table_texts.specs.TableViews.{table_view};
 use crate::front::{Front, front_at};
 use crate::parts::{end_part, factors_of, push_fault, push_front, table_of};
 use dwarf_call_frames::{
-    BaseAddresses, CommonInformationEntry, FrameDescriptionEntry, PartialFrameDescriptionEntry,
-    UnwindContext, UnwindContextStorage, UnwindOffset, UnwindSection,
+    BaseAddresses, FrameDescriptionEntry, PartialFrameDescriptionEntry, UnwindContext,
+    UnwindContextStorage, UnwindOffset, UnwindSection,
 };
 use dwarf_frame_programs::FrameProgram;
 use dwarf_readers::{Reader, ReaderOffset};
@@ -113,30 +110,6 @@ fn push_fde_line<R: Reader>(
     push_places(alloc, size, cie_offset, start, end, text)
 }
 
-/// The whole FDE, with its CIE.
-fn whole_fde<R: Reader, Section: UnwindSection<R>>(
-    section: &Section,
-    partial: &PartialFrameDescriptionEntry<'_, Section, R>,
-) -> dwarf_constants::Result<FrameDescriptionEntry<R>>
-    ensures { Gives (λ fde. fde) result (fde_of R.Offset.limit Section.kind partial.now) }
-{
-    // What is passed has to hold a value of each type that its result has.
-    let reader = *section.section();
-    let held = (reader, reader.endian(), partial.offset());
-    let get_cie =
-        move |section: &Section, bases: &BaseAddresses, offset: Section::Offset| -> dwarf_constants::Result<
-            CommonInformationEntry<R>,
-        >
-            ensures { MayGive false (cie_view R.stretch R.Offset.value) result (cie_from_offset
-                (frame_section R.Offset.limit Section.kind (Section.size section.now)
-                (R.stretch (Section.reader section.now)) bases.now) (Section.Offset.number offset)) }
-        {
-            let _held = held;
-            section.cie_from_offset(bases, offset)
-        };
-    partial.parse(get_cie)
-}
-
 /// The FDE with its CIE, and the front that stands at an offset.
 fn fde_front<R: Reader, Section: UnwindSection<R>>(
     section: &Section,
@@ -148,7 +121,7 @@ fn fde_front<R: Reader, Section: UnwindSection<R>>(
         (Section.size section.now) (R.stretch (Section.reader section.now)) bases.now)
         partial.now) }
 {
-    let fde = whole_fde(section, partial)?;
+    let fde = partial.parse_by_offset()?;
     let front = front_at(section, bases, partial.offset())?;
     Ok((fde, front))
 }

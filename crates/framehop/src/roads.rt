@@ -5,7 +5,7 @@ ghost use Rattle.std.specs.Result.{result_ok};
 ghost use Rattle.dwarf_numbers.specs.Answers.{Gives};
 ghost use Rattle.dwarf_frame_sections.specs.Sections.{frame_section};
 ghost use Rattle.dwarf_call_frames.specs.AddressLookups.{fde_for_address};
-ghost use Rattle.dwarf_call_frames.specs.Entries.{cie_from_offset, fde_from_offset, fde_of};
+ghost use Rattle.dwarf_call_frames.specs.Entries.{cie_from_offset, fde_from_offset};
 ghost use Rattle.dwarf_call_frames.specs.EntryViews.{cie_view};
 ghost use Rattle.dwarf_call_frames.specs.Memory.{MayGive};
 ghost use Rattle.framehop.specs.CfiIndexView.{IsIndexOf};
@@ -15,8 +15,7 @@ ghost use Rattle.framehop.specs.Roads.{entry_by, headed_entry, headed_offset, no
 
 use crate::cfi_index::DwarfCfiIndex;
 use dwarf_call_frames::{
-    BaseAddresses, CommonInformationEntry, FrameDescriptionEntry, PartialFrameDescriptionEntry,
-    UnwindSection,
+    BaseAddresses, CommonInformationEntry, FrameDescriptionEntry, UnwindSection,
 };
 use dwarf_frame_headers::{EhFrameHdr, EhHdrTable};
 use dwarf_read_core::{EndianSlice, Error, LittleEndian, Reader, ReaderOffset};
@@ -41,31 +40,6 @@ pub(crate) enum NoFde {
     Unknown,
 }
 
-/// An FDE with its CIE, which is read in the section in which the FDE was.
-fn whole_fde<R: Reader, Section: UnwindSection<R>>(
-    section: &Section,
-    partial: &PartialFrameDescriptionEntry<'_, Section, R>,
-) -> dwarf_read_core::Result<FrameDescriptionEntry<R>>
-    ensures { Gives (λ fde. fde) result (fde_of R.Offset.limit Section.kind partial.now) }
-{
-    // What is passed has to hold a value of each type that its result has.
-    let reader = *section.section();
-    let held = (reader, reader.endian(), partial.offset());
-    let get_cie =
-        move |section: &Section, bases: &BaseAddresses, offset: Section::Offset| -> dwarf_read_core::Result<
-            CommonInformationEntry<R>,
-        >
-            ensures { MayGive false (cie_view R.stretch R.Offset.value) result (cie_from_offset
-                (frame_section R.Offset.limit Section.kind (Section.size section.now)
-                (R.stretch (Section.reader section.now)) bases.now)
-                (Section.Offset.number offset)) }
-        {
-            let _held = held;
-            section.cie_from_offset(bases, offset)
-        };
-    partial.parse(get_cie)
-}
-
 /// An offset in a section.
 fn typed_offset<R: Reader, Section: UnwindSection<R>>(offset: u32) -> Section::Offset
     ensures { Section.Offset.number result ≡ offset }
@@ -85,7 +59,7 @@ fn fde_at<R: Reader, Section: UnwindSection<R>>(
 {
     let offset = typed_offset::<R, Section>(offset);
     let partial = section.partial_fde_from_offset(bases, offset)?;
-    whole_fde(section, &partial)
+    partial.parse_by_offset()
 }
 
 /// The FDE that a section's index has for an address relative to the base: of those with the greatest
