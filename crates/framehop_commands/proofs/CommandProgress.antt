@@ -10,7 +10,8 @@ use Rattle.framehop_unwinder.specs.Walk.{Walk, Place, Over}
 use Rattle.framehop_unwinder.specs.WalkViews.{walk_of, place_of}
 use Rattle.framehop_unwinder.specs.declared.iterator.StackWalk.{StackWalk}
 use Rattle.framehop_commands.specs.Commands.{Scene, Reply, IsTurn, turn}
-use Rattle.framehop_commands.specs.Progress.{Progress, IsAt, with_step, with_move, if_asked, place_in, progress_after, progress_after_all}
+use Rattle.framehop_unwinder.specs.Progress.{Progress, IsAt}
+use Rattle.framehop_commands.specs.Progress.{with_step, with_move, if_asked, place_in, progress_after, progress_after_all}
 use Rattle.framehop_commands.specs.declared.commands.Command.{Command}
 use Rattle.framehop_commands.proofs.CommandTurns.{get-map}
 

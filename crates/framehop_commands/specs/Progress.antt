@@ -1,34 +1,18 @@
 -- What commands come to beside their answers, one after the other: the generations of unwinders, and what is kept and counted in each
--- cache. There is no slot and no rule of a cache in it, but the keys that were kept.
-use Rattle.std.specs.Prelude.{ℕ, ◌≡◌, ◌+◌, List, [], ◌∷◌, ◌++◌, Bool, true, false, Option, Some, None, option_map, unwrap_or, slice_set, if◌then◌else◌}
+-- cache.
+use Rattle.std.specs.Prelude.{ℕ, ◌+◌, List, [], ◌∷◌, ◌++◌, Bool, true, false, Option, Some, None, option_map, unwrap_or, slice_set, if◌then◌else◌}
 use Rattle.std.specs.List.{slice_get}
 use Rattle.framehop_registers.specs.Callback.{Words}
 use Rattle.framehop_unwinder.specs.Attempt.{Meanings}
 use Rattle.framehop_unwinder.specs.Frames.{Frame, frame_of}
-use Rattle.framehop_unwinder.specs.History.{KeyHistory, HaveHistories, no_history}
+use Rattle.framehop_unwinder.specs.History.{no_history}
 use Rattle.framehop_unwinder.specs.Modules.{Loaded, Loads, with_module, without_module, has_start}
-use Rattle.framehop_unwinder.specs.State.{State, unwinder_at, loads_with, histories_after_step, histories_after_move}
+use Rattle.framehop_unwinder.specs.Progress.{Progress, modules_in}
+use Rattle.framehop_unwinder.specs.State.{unwinder_at, loads_with, histories_after_step, histories_after_move}
 use Rattle.framehop_unwinder.specs.Walk.{Walk, Place, Over}
 use Rattle.framehop_commands.specs.Commands.{Scene, Reply, Added, Removed, Unknown, Exhausted, Stepped, Moved, turn, scene_after}
 use Rattle.framehop_commands.specs.declared.commands.Command.{Command}
 use Rattle.framehop_commands.specs.declared.commands.Command.TheVariants.{NewUnwinder, NewCache, Load, Unload, Clone, Step, NewWalk, NextFrame}
-
--- How far commands have come: the unwinders with their modules and generations, the counter's next number, and for each cache the
--- keys that were kept in it, and its counts.
-pub record Progress (Data : Type 0) : Type 0 where
-  pub unwinders : List (Loads (Loaded Data))
-  pub next : ℕ
-  pub histories : List KeyHistory
-
--- A session that is so far: its unwinders and its counter, and caches that these histories have made.
-pub record IsAt {Data Rule : Type 0} (progress : Progress Data) (state : State Data Rule) : Type 0 where
-  pub unwinders : state.unwinders ≡ progress.unwinders
-  pub next : state.next ≡ progress.next
-  pub histories : HaveHistories progress.histories state.caches
-
--- the modules of an unwinder
-abbrev pub modules_in : {Data : Type 0} → ℕ → Progress Data → List (Loaded Data)
-modules_in unwinder progress = (unwinder_at progress.unwinders unwinder).modules
 
 -- these unwinders, one of which takes the counter's next number
 abbrev pub with_number : {Data : Type 0} → List (Loads (Loaded Data)) → Progress Data → Progress Data

@@ -7,6 +7,7 @@ pub mod Memory
 pub mod Modules
 pub mod ModuleViews
 pub mod ModulesApart
+pub mod Progress
 pub mod RulesKept
 pub mod State
 pub mod Trials

@@ -19,7 +19,8 @@ use Rattle.framehop_unwinder.specs.Walk.{Walk, Place, Starts, At, Over, move}
 use Rattle.framehop_registers.specs.Callback.{Words}
 use Rattle.framehop_unwinder.specs.WalkViews.{walk_from}
 use Rattle.framehop_registers.specs.declared.error.Error.{Error}
-use Rattle.unwind_sessions.specs.Turns.{Progress, Turn, IsAt, ComesTo, writes, refuses, with_number, with_modules, modules_in, walk_histories, if_goes_on}
+use Rattle.framehop_unwinder.specs.Progress.{Progress, IsAt, modules_in}
+use Rattle.unwind_sessions.specs.Turns.{Turn, ComesTo, writes, refuses, with_number, with_modules, walk_histories, if_goes_on}
 use Rattle.unwind_commands.specs.declared.document.command.Command.{Command}
 use Rattle.unwind_commands.specs.Commands.{Task, Made, make_unwinder, make_cache, clone_unwinder, load_module, unload_module, take_step, take_walk, show_counts, take_roads, made_after, AreSound}
 use Rattle.unwind_commands.specs.CommandViews.{tasks_of, task_of}

@@ -43,7 +43,8 @@ use Rattle.unwind_commands.specs.Document.{Content, content_of}
 use Rattle.unwind_commands.specs.Lines.{outcome_line}
 use Rattle.unwind_commands.specs.Registers.{RegisterForms, register_forms, stated_aarch64, stated_x86_64, text_aarch64, text_x86_64}
 use Rattle.unwind_commands.specs.Roads.{section_of, header_of, module_at}
-use Rattle.unwind_sessions.specs.Turns.{Progress, Turn, beginning, writes, modules_in, turn_of_unwinder, turn_of_cache, turn_of_clone, turn_of_load, turn_of_unload, turn_of_step, turn_of_walk, turn_of_stats}
+use Rattle.framehop_unwinder.specs.Progress.{Progress, modules_in}
+use Rattle.unwind_sessions.specs.Turns.{Turn, beginning, writes, turn_of_unwinder, turn_of_cache, turn_of_clone, turn_of_load, turn_of_unload, turn_of_step, turn_of_walk, turn_of_stats}
 
 -- the words of a stack: one at each eighth byte from its start, as far as they go
 abbrev pub words_of : StackWords → Words
@@ -127,9 +128,11 @@ abbrev pub sections_meanings : {Rule Registers : Type 0} → (Rule → Bool → 
 sections_meanings meaning fallback row_attempt uncovered limit =
     meanings meaning fallback (attempt (row_meanings row_attempt uncovered) (room_of (limits_of (Some 192) (Some 4)) limit))
 
+-- what steps on x86_64 go by
 abbrev pub meanings_x86_64 : Option ℕ → Meanings UnwindData UnwindRuleX86_64 UnwindRegsX86_64
 meanings_x86_64 limit = sections_meanings rule_meaning UseFramePointer row_attempt JustReturnIfFirstFrameOtherwiseFp limit
 
+-- what steps on aarch64 go by
 abbrev pub meanings_aarch64 : Option ℕ → Meanings UnwindData UnwindRuleAarch64 UnwindRegsAarch64
 meanings_aarch64 limit =
     sections_meanings aarch64.rule_meaning aarch64_rule.UseFramePointer aarch64_row.row_attempt

@@ -15,7 +15,8 @@ use Rattle.framehop_unwinder.specs.State.{State, unwinder_at, histories_after_mo
 use Rattle.framehop_unwinder.specs.Trials.{wants_memory}
 use Rattle.framehop_unwinder.specs.Walk.{Walk, Move, Judgment, move}
 use Rattle.unwind_sessions.specs.Lines.{frame_text}
-use Rattle.unwind_sessions.specs.Turns.{Progress, IsAt, ComesTo, modules_in, move_lines, walk_lines, if_goes_on, walk_histories, turn_of_walk}
+use Rattle.framehop_unwinder.specs.Progress.{Progress, IsAt, modules_in}
+use Rattle.unwind_sessions.specs.Turns.{ComesTo, move_lines, walk_lines, if_goes_on, walk_histories, turn_of_walk}
 
 -- What is written so far, and what the moves that are left write and leave, make what the whole walk writes and leaves.
 pub record SoFar {Data Rule Registers : Type 0} (m : Meanings Data Rule Registers) (words : Words) (limit unwinder cache : ℕ)

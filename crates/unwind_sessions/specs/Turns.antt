@@ -6,19 +6,13 @@ use Rattle.framehop_registers.specs.Callback.{Words}
 use Rattle.framehop_registers.specs.declared.error.Error.{Error}
 use Rattle.framehop_unwinder.specs.Attempt.{Meanings}
 use Rattle.framehop_unwinder.specs.Frames.{Frame}
-use Rattle.framehop_unwinder.specs.History.{KeyHistory, HaveHistories, history_at, no_history}
+use Rattle.framehop_unwinder.specs.History.{KeyHistory, history_at, no_history}
 use Rattle.framehop_unwinder.specs.Judge.{judge}
 use Rattle.framehop_unwinder.specs.Modules.{Loaded, Loads, with_module, without_module, has_start}
+use Rattle.framehop_unwinder.specs.Progress.{IsAt, Progress, modules_in}
 use Rattle.framehop_unwinder.specs.State.{State, unwinder_at, loads_with, histories_after_step, histories_after_move}
 use Rattle.framehop_unwinder.specs.Walk.{Walk, Judgment, move}
 use Rattle.unwind_sessions.specs.Lines.{counts_text, error_name, frame_text}
-
--- How far a run has come: the unwinders with their modules and generations, the counter's next number, and for each cache the
--- keys that were kept in it, and its counts.
-pub record Progress (Data : Type 0) : Type 0 where
-  pub unwinders : List (Loads (Loaded Data))
-  pub next : ℕ
-  pub histories : List KeyHistory
 
 -- nothing is made, and the counter gives this number first
 abbrev pub beginning : {Data : Type 0} → ℕ → Progress Data
@@ -52,10 +46,6 @@ with_number unwinders progress =
     if nat_lt progress.next (2 ^ 64 - 1)
     then writes [] (record { unwinders = unwinders; next = progress.next + 1; histories = progress.histories })
     else refuses progress
-
--- the modules of an unwinder
-abbrev pub modules_in : {Data : Type 0} → ℕ → Progress Data → List (Loaded Data)
-modules_in unwinder progress = (unwinder_at progress.unwinders unwinder).modules
 
 -- other modules in an unwinder, which takes the next number
 abbrev pub with_modules : {Data : Type 0} → ℕ → List (Loaded Data) → Progress Data → Turn Data
@@ -133,12 +123,6 @@ turn_of_walk m words limit unwinder cache walk progress =
     writes (walk_lines (judge m (modules_in unwinder progress)) words limit walk)
     (with_histories (walk_histories m words (unwinder_at progress.unwinders unwinder) cache limit walk progress.histories)
     progress)
-
--- A session that is so far: its unwinders and its counter, and caches that these histories have made.
-pub record IsAt {Data Rule : Type 0} (progress : Progress Data) (state : State Data Rule) : Type 0 where
-  pub unwinders : state.unwinders ≡ progress.unwinders
-  pub next : state.next ≡ progress.next
-  pub histories : HaveHistories progress.histories state.caches
 
 -- A command came to its turn: what it wrote, whether it was refused, and where the session is then.
 pub record ComesTo {Data Rule : Type 0} (turn : Turn Data) (written : List ℕ) (refused : Bool) (state : State Data Rule)

@@ -4,7 +4,8 @@ ghost use Rattle.documents.specs.Lines.{line};
 ghost use Rattle.framehop_registers.specs.Callback.{Words, AnswersBy};
 ghost use Rattle.framehop_unwinder.specs.Attempt.{meanings};
 ghost use Rattle.framehop_unwinder.specs.WalkViews.{walk_of};
-ghost use Rattle.unwind_sessions.specs.Turns.{Progress, IsAt, ComesTo, turn_of_unwinder, turn_of_cache, turn_of_clone, turn_of_load, turn_of_unload, turn_of_stats, turn_of_walk};
+ghost use Rattle.framehop_unwinder.specs.Progress.{Progress, IsAt};
+ghost use Rattle.unwind_sessions.specs.Turns.{ComesTo, turn_of_unwinder, turn_of_cache, turn_of_clone, turn_of_load, turn_of_unload, turn_of_stats, turn_of_walk};
 
 use crate::lines::{counts_line, frame_line, stop_line};
 use framehop_modules::LoadError;

@@ -5,7 +5,8 @@ use Rattle.framehop_unwinder.specs.Trials.{wants_memory}
 use Rattle.framehop_unwinder.specs.Walk.{Place}
 use Rattle.framehop_unwinder.specs.WalkViews.{walk_of, place_of, frame_answer}
 use Rattle.framehop_commands.specs.Commands.{Moved}
-use Rattle.framehop_commands.specs.Progress.{IsAt, place_in, with_move}
+use Rattle.framehop_unwinder.specs.Progress.{IsAt}
+use Rattle.framehop_commands.specs.Progress.{place_in, with_move}
 use Rattle.framehop_commands.proofs.CommandTurns.{frame-turn}
 use Rattle.framehop_commands.proofs.CommandProgress.{asked-at, move-at, place-there}
 use Rattle.framehop_commands.proofs.commands.next_frame.Goals as goal

@@ -6,7 +6,7 @@ use Rattle.framehop_unwinder.specs.Attempt.{meanings}
 use Rattle.framehop_commands.specs.Commands.{Reply, AreReplies, OfCallback, scene_after_all}
 use Rattle.framehop_commands.specs.CommandViews.{reply_of, scene_of}
 use Rattle.framehop_unwinder.specs.WalkViews.{walk_of}
-use Rattle.framehop_commands.specs.Progress.{Progress, IsAt}
+use Rattle.framehop_unwinder.specs.Progress.{Progress, IsAt}
 use Rattle.framehop_commands.proofs.CommandProgress.{SoFar}
 use Rattle.framehop_commands.proofs.commands.perform.Given as goal
 

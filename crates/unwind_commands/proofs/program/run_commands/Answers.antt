@@ -5,7 +5,8 @@ use Rattle.documents.specs.Stream.{IsWritten}
 use Rattle.framehop_unwinder.specs.Attempt.{meanings}
 use Rattle.framehop_unwinder.specs.State.{State, empty_state}
 use Rattle.framehop_unwinder.specs.History.{HaveHistories}
-use Rattle.unwind_sessions.specs.Turns.{ComesTo, IsAt, beginning}
+use Rattle.framehop_unwinder.specs.Progress.{IsAt}
+use Rattle.unwind_sessions.specs.Turns.{ComesTo, beginning}
 use Rattle.unwind_commands.specs.Commands.{Task, AreSound}
 use Rattle.unwind_commands.specs.Registers.{register_forms}
 use Rattle.unwind_commands.specs.CommandViews.{tasks_of, task_of}

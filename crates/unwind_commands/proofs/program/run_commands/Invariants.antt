@@ -1,7 +1,8 @@
 use Rattle.std.proofs.Common.{◌≡◌, reverse, false, vec_len}
 use Rattle.documents.specs.Stream.{IsWritten}
 use Rattle.framehop_unwinder.specs.Attempt.{meanings}
-use Rattle.unwind_sessions.specs.Turns.{Progress, IsAt, beginning}
+use Rattle.framehop_unwinder.specs.Progress.{Progress, IsAt}
+use Rattle.unwind_sessions.specs.Turns.{beginning}
 use Rattle.unwind_commands.specs.Commands.{AreSound}
 use Rattle.unwind_commands.specs.Registers.{register_forms}
 use Rattle.unwind_commands.specs.CommandViews.{tasks_of}

@@ -3,7 +3,7 @@ use Rattle.std.specs.Prelude.{string_bytes}
 use Rattle.framehop_registers.specs.Callback.{Words, AnswersBy}
 use Rattle.framehop_unwinder.specs.Attempt.{meanings}
 use Rattle.framehop_unwinder.specs.WalkViews.{walk_of}
-use Rattle.unwind_sessions.specs.Turns.{Progress, IsAt}
+use Rattle.framehop_unwinder.specs.Progress.{Progress, IsAt}
 use Rattle.unwind_sessions.proofs.Walks.{SoFar}
 use Rattle.unwind_sessions.proofs.turns.walk.Given as goal
 
