@@ -1,12 +1,9 @@
 -- How an address is covered, by what an index and an entry gave.
-use Rattle.std.proofs.Common.{◌≡◌, ℕ, ◌+◌, ◌^◌, ◌<◌, ◌≤◌, Bool, cond, true, false, List, Option, Some, None, Result, Ok, Err, refl, sym, ap, ◌∙◌, arith}
+use Rattle.std.proofs.Common.{◌≡◌, ℕ, ◌+◌, ◌^◌, Bool, cond, true, false, List, Option, Some, None, Ok, Err, refl, sym, ap, ◌∙◌}
 use Rattle.std.specs.Prelude.{nat_lt}
 use Rattle.std.specs.Option.{ForSome, ok_or}
-use Rattle.std.proofs.lemmas.Bool.{lt-ltb}
-use Rattle.std.proofs.lemmas.Bool.Decides.{nat_tests}
 use Rattle.dwarf_constants.specs.declared.common.Vendor.{Vendor}
 use Rattle.dwarf_constants.specs.declared.common.Vendor.TheVariants.{Default}
-use Rattle.dwarf_constants.specs.declared.error.Error.{Error}
 use Rattle.dwarf_readers.specs.Place.{Stretch, whole}
 use Rattle.dwarf_frame_rows.specs.Effects.{Limits}
 use Rattle.dwarf_frame_rows.specs.Row.{Row}
@@ -15,36 +12,16 @@ use Rattle.dwarf_frame_rows.specs.declared.base_addresses.BaseAddresses.{BaseAdd
 use Rattle.dwarf_frame_sections.specs.Sections.{FrameData, FrameSection, frame_section, plain_data}
 use Rattle.dwarf_call_frames.specs.Entries.{Fde}
 use Rattle.dwarf_call_frames.specs.EntryPrograms.{fde_row}
-use Rattle.framehop.specs.Coverage.{Covered, Uncovered, NoEntry, by_row, by_fde, by_entry, by_road}
+use Rattle.framehop.specs.Coverage.{Covered, NoEntry, by_row, by_fde, by_entry}
 use Rattle.framehop.specs.EntryFor.{has_index, indexed_entry}
 use Rattle.framehop.specs.Roads.{Road, ByIndex, entry_by}
-use Rattle.framehop.specs.declared.roads.NoFde.{NoFde}
 use Rattle.framehop.specs.declared.roads.NoFde.TheVariants.{Unknown}
 use Rattle.framehop.specs.UnwindData.{Room, coverage_in}
 
 module _ (limits : Limits) (section : FrameSection) (vendor : Vendor) (address : ℕ) (fde : Fde) where
-  -- the entry has a row, or none
+  -- the entry has a row
   pub covered-by : (size : ℕ) (row : Row ℕ) → size ≡ fde.cie.address_size → fde_row limits section vendor fde address ≡ Ok row → by_fde limits section vendor address fde ≡ Covered size section.within.bytes row
   covered-by size row sized is = ap (by_row fde.cie.address_size section.within.bytes) is ∙ ap (λ n. Covered n section.within.bytes row) (sym sized)
-
-  pub uncovered-by : (e : Error) → fde_row limits section vendor fde address ≡ Err e → by_fde limits section vendor address fde ≡ Uncovered
-  uncovered-by e is = ap (by_row fde.cie.address_size section.within.bytes) is
-
-module _ (limits : Limits) (road : Road) (bases : BaseAddresses) (section : FrameSection) (vendor : Vendor) (base relative : ℕ) where
-  -- what the road leads to for an address of 64 bits
-  pub led : (found : Result Fde NoFde) (address : ℕ) → found ≡ entry_by road bases section base relative → address ≡ base + relative → address < 2 ^ 64
-      → by_entry limits section vendor address found ≡ by_road limits road bases section vendor base relative
-  led found address is at fits =
-      let fits_sum : nat_lt (base + relative) (2 ^ 64) ≡ true = rw (← at) (lt-ltb address (2 ^ 64) fits) in
-      ap (λ a. by_entry limits section vendor a found) at ∙ ap (by_entry limits section vendor (base + relative)) is
-      ∙ sym (ap (λ b. cond b (by_entry limits section vendor (base + relative) (entry_by road bases section base relative)) NoEntry) fits_sum)
-
-  -- the address doesn't fit 64 bits
-  pub past : 2 ^ 64 ≤ base + relative → NoEntry ≡ by_road limits road bases section vendor base relative
-  past over = sym (ap (λ b. cond b (by_entry limits section vendor (base + relative) (entry_by road bases section base relative)) NoEntry) (test (base + relative) over))
-    where
-      test : (n : ℕ) → 2 ^ 64 ≤ n → nat_lt n (2 ^ 64) ≡ false
-      test n h = grind (arith, nat_tests)
 
 -- without an index there is no entry
 none-indexed : (base relative : ℕ) (section : FrameSection) → has_index base section ≡ false → indexed_entry base relative section ≡ None

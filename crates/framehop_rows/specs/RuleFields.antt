@@ -19,10 +19,11 @@ abbrev pub as_i16 : ℤ → Option ℤ
 as_i16 (pos n) = if nat_lt n (2 ^ 15) then Some (pos n) else None
 as_i16 (negsuc n) = if nat_lt n (2 ^ 15) then Some (negsuc n) else None
 
--- an offset in words, and one in words with a sign
+-- an offset in words, as a field without a sign has it
 abbrev pub words_of : ℤ → Option ℕ
 words_of offset = option_and_then as_u16 (eighth_of offset)
 
+-- .. with a sign
 abbrev pub signed_words_of : ℤ → Option ℤ
 signed_words_of offset = option_and_then as_i16 (eighth_of offset)
 

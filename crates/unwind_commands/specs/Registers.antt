@@ -19,6 +19,7 @@ register_forms stated text = record { stated = stated; text = text }
 
 -- ---- x86_64
 
+-- RIP, RSP and RBP as they are stated
 abbrev pub stated_x86_64 : StatedRegisters → UnwindRegsX86_64
 stated_x86_64 registers = new_registers registers.code registers.sp registers.fp
 
