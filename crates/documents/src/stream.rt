@@ -128,7 +128,8 @@ impl<T: Write> Sink for Streamed<T> {
 /// One read, again where a signal interrupted it.
 fn read_retrying<R: Read>(reader: &mut R, buffer: &mut [u8]) -> Result<usize, StreamError>
     ensures bound { ReadsAtMost result buffer.new }
-    ensures bytes { ReadConsumes (R.remaining reader.old) (R.remaining reader.new) result buffer.new }
+    ensures bytes { ReadConsumes (R.remaining reader.old) (R.remaining reader.new)
+        result buffer.new }
 {
     for _ in 0..u64::MAX {
         match reader.read(buffer) {

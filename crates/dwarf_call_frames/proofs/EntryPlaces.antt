@@ -16,7 +16,7 @@ use Rattle.dwarf_frame_rows.specs.SectionKind.{SectionKind}
 use Rattle.dwarf_frame_sections.specs.Sections.{FrameSection, origins_in}
 use Rattle.dwarf_call_frames.specs.declared.entries.Entry.TheVariants as which
 use Rattle.dwarf_call_frames.specs.Augmentations.{augmentation_at}
-use Rattle.dwarf_call_frames.specs.Entries.{AnyEntry, Cie, Fde, Head, PartialFde, address_encoding, addresses_at, cie_among, cie_at, cie_from_offset, entry_at, entry_within, fde_from_offset, fde_of, id_at, lsda_at, offset_in, partial_among, partial_at, partial_fde_from_offset, register_at, sizes_at}
+use Rattle.dwarf_call_frames.specs.Entries.{AnyEntry, Cie, Fde, Head, PartialFde, address_encoding, addresses_at, cie_among, cie_at, cie_from_offset, entry_at, entry_within, fde_from_offset, fde_of, id_at, lsda_at, offset_in, partial_among, partial_at, partial_fde_from_offset, return_register_at, sizes_at}
 use Rattle.dwarf_call_frames.specs.EntryLists.{entries_from, entries_of, entry_there, next_length, unless_ended}
 use Rattle.dwarf_call_frames.specs.SectionFdes.{IsOfSection, StandsAtItsOffset, StandsThere, fde_in, whole_fdes}
 use Rattle.dwarf_call_frames.proofs.Behind.{IsBehind, behind-both, behind-none, entry-left, left-known}
@@ -32,7 +32,7 @@ cie-head section head format s =
     each_value (sizes_at section.kind section.within.address_size version.0 text.1) (λ size.
     each_value (unsigned_at size.1) (λ code.
     each_value (signed_at code.1) (λ factor.
-    each_value (register_at version.0 factor.1) (λ register.
+    each_value (return_register_at version.0 factor.1) (λ register.
     each_value (augmentation_at section.limit (origins_in section.within size.0 None) text.0.bytes register.1) (λ augmentation.
     each_ok refl))))))))
 

@@ -6,7 +6,7 @@ use Rattle.dwarf_readers.specs.Place.{Stretch}
 use Rattle.dwarf_frame_rows.specs.EncodedPointer.{Origins}
 use Rattle.dwarf_frame_rows.specs.SectionKind.{SectionKind}
 use Rattle.dwarf_call_frames.specs.Augmentations.{pointer_unless_omitted}
-use Rattle.dwarf_call_frames.specs.Entries.{addresses_at, register_at, sizes_at}
+use Rattle.dwarf_call_frames.specs.Entries.{addresses_at, return_register_at, sizes_at}
 use Rattle.dwarf_readers.proofs.Laws.{address_on, address_size_on, byte_on, on_from, on_if, on_ok, on_then, on_value, unsigned_16_on}
 use Rattle.dwarf_frame_rows.proofs.Laws.{plain_value_on, pointer_on}
 
@@ -18,7 +18,7 @@ sizes_on kind size version s =
     on_if _ (on_then (address_size_on s) (λ size le. on_then (on_from (byte_on size.1) le) (λ segment less. on_value _ (λ _. on_ok less))))
     (on_ok (omega arith))
 
-pub register_on : (version : ℕ) (s : Stretch) → ReadsOn s (register_at version s)
+pub register_on : (version : ℕ) (s : Stretch) → ReadsOn s (return_register_at version s)
 register_on version s = on_if _ (byte_on s) (unsigned_16_on s)
 
 pub addresses_on : (origins : Origins) (encoding : Option DwEhPe) (s : Stretch) → ReadsOn s (addresses_at origins encoding s)

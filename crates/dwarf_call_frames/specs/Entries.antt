@@ -11,7 +11,7 @@ use Rattle.dwarf_readers.specs.InitialLength.{address_at, address_size_at, initi
 use Rattle.dwarf_readers.specs.Leb128.{signed_at, unsigned_16_at, unsigned_at}
 use Rattle.dwarf_numbers.specs.Offset.{offset_below}
 use Rattle.dwarf_readers.specs.Place.{Stretch, ◌>>=◌, behind_at, byte_at, number_at, requirement, split_at, string_at}
-use Rattle.dwarf_frame_rows.specs.EncodedPointer.{Origins, address_of, in_address_size, plain_value_at, pointer_at}
+use Rattle.dwarf_frame_rows.specs.EncodedPointer.{Origins, pointer_address, in_address_size, plain_value_at, pointer_at}
 use Rattle.dwarf_frame_rows.specs.SectionKind.{SectionKind}
 use Rattle.dwarf_frame_rows.specs.declared.pointer.Pointer.{Pointer}
 use Rattle.dwarf_frame_rows.specs.declared.section.CieOffsetEncoding.{CieOffsetEncoding}
@@ -80,8 +80,8 @@ sizes_at kind address_size version s =
     else Ok (address_size, s)
 
 -- the column of the return address: a byte in version 1
-abbrev pub register_at : ℕ → Stretch → Result (ℕ × Stretch) Error
-register_at version s = if version == 1 then byte_at s else unsigned_16_at s
+abbrev pub return_register_at : ℕ → Stretch → Result (ℕ × Stretch) Error
+return_register_at version s = if version == 1 then byte_at s else unsigned_16_at s
 
 -- a CIE's parts behind its id
 abbrev pub cie_at : FrameSection → Head → Format → Stretch → Result Cie Error
@@ -92,7 +92,7 @@ cie_at section head format s = do
   size ← sizes_at section.kind section.within.address_size version.0 text.1
   code ← unsigned_at size.1
   factor ← signed_at code.1
-  register ← register_at version.0 factor.1
+  register ← return_register_at version.0 factor.1
   augmentation ← augmentation_at section.limit (origins_in section.within size.0 None) text.0.bytes register.1
   Ok (record {
     head = head;
@@ -187,7 +187,7 @@ addresses_at origins None s = do
 addresses_at origins (Some encoding) s = do
   initial ← pointer_at origins encoding.0 s
   range ← plain_value_at origins.address_size encoding.0 initial.1
-  Ok ((address_of initial.0, range.0), range.1)
+  Ok ((pointer_address initial.0, range.0), range.1)
 
 -- where language-specific data stands, by the encoding that the CIE says for it
 abbrev pub lsda_within : Origins → Option DwEhPe → Stretch → Result (Option Pointer) Error

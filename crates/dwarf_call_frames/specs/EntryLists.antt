@@ -52,17 +52,17 @@ abbrev pub list_end : FrameSection → ListEnd
 list_end section = list_end_from section section.within.bytes
 
 -- what an iterator over entries has to come, and how that ends
-pub record Listing : Type 0 where
+pub record EntryList : Type 0 where
   pub entries : List (Result AnyEntry Error)
   pub end : ListEnd
 
 -- the listing of a stretch
-abbrev pub listing_from : FrameSection → Stretch → Listing
-listing_from section s = record { entries = entries_from section s; end = list_end_from section s }
+abbrev pub entry_list_from : FrameSection → Stretch → EntryList
+entry_list_from section s = record { entries = entries_from section s; end = list_end_from section s }
 
 -- the listing of a section
-abbrev pub listing_of : FrameSection → Listing
-listing_of section = listing_from section section.within.bytes
+abbrev pub entry_list_of : FrameSection → EntryList
+entry_list_of section = entry_list_from section section.within.bytes
 
 -- A call of next tells how the list ends: an entry leaves it open, and no entry says that no fault ends it.
 abbrev pub TellsEnd : {X : Type 0} → Result (Option X) Error → ListEnd → ListEnd → Type 0

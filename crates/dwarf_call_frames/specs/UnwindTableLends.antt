@@ -11,7 +11,7 @@ use Rattle.dwarf_frame_rows.specs.declared.rules.RegisterRule.{RegisterRule}
 use Rattle.dwarf_frame_rows.specs.declared.rules.RuledRegister.{RuledRegister}
 use Rattle.dwarf_frame_rows.specs.Effects.{Limits}
 use Rattle.dwarf_frame_programs.specs.Programs.{Rows}
-use Rattle.dwarf_frame_programs.specs.ProgramRows.{left_by, row_given}
+use Rattle.dwarf_frame_programs.specs.ProgramRows.{rows_left_by, row_given}
 use Rattle.dwarf_call_frames.specs.declared.table.UnwindTable.{UnwindTable}
 use Rattle.dwarf_call_frames.specs.contracts.table.UnwindTable.{the_row}
 use Rattle.dwarf_call_frames.specs.UnwindTables.{TableHasLeft, table_row}
@@ -22,4 +22,4 @@ module _ (R S E O L K : RattleType) (rules : Ghosts L.Denot (RuledRegister (Regi
   LeavesTable table result =
       let row = the_row (record { mir = named 0; lft = [] }) (record { mir = named 1; lft = [] }) R S E O L K rules in
       follows_so row row table.ghost_name none (λ _ _. ⊤)
-      (λ last. ((left : Rows ℕ) → TableHasLeft stretch limit number items limits table.now left → TableHasLeft stretch limit number items limits last (left_by left result)) × (table_row number items limits last ≡ row_given number ⊤ result))
+      (λ last. ((left : Rows ℕ) → TableHasLeft stretch limit number items limits table.now left → TableHasLeft stretch limit number items limits last (rows_left_by left result)) × (table_row number items limits last ≡ row_given number ⊤ result))

@@ -1,6 +1,6 @@
 //! Entries of either kind, and the iterator over those of a section.
 ghost use Rattle.std.specs.Prelude.{◌≡◌};
-ghost use Rattle.dwarf_call_frames.specs.EntryLists.{GivesEntry, TellsEnd, listing_of};
+ghost use Rattle.dwarf_call_frames.specs.EntryLists.{GivesEntry, TellsEnd, entry_list_of};
 ghost use Rattle.dwarf_call_frames.specs.EntryViews.{entry_view};
 ghost use Rattle.dwarf_call_frames.specs.Parts.{IsPart};
 ghost use Rattle.dwarf_frame_sections.specs.Sections.{frame_section};
@@ -37,13 +37,13 @@ pub struct CfiEntriesIter<'bases, Section: UnwindSection<R>, R: Reader> {
 }
 
 impl<'bases, Section: UnwindSection<R>, R: Reader> Model for CfiEntriesIter<'bases, Section, R> {
-    ghost use Rattle.dwarf_call_frames.specs.EntryLists.{Listing, listing_from};
+    ghost use Rattle.dwarf_call_frames.specs.EntryLists.{EntryList, entry_list_from};
     ghost use Rattle.dwarf_call_frames.specs.Parts.{IsPart};
     ghost use Rattle.dwarf_frame_sections.specs.Sections.{frame_section};
 
-    ghost Value = { Listing };
+    ghost Value = { EntryList };
 
-    ghost view = { λ i. listing_from (frame_section R.Offset.limit Section.kind
+    ghost view = { λ i. entry_list_from (frame_section R.Offset.limit Section.kind
         (Section.size i.section) (R.stretch (Section.reader i.section)) i.bases.now)
         (R.stretch i.input) };
 
@@ -55,7 +55,7 @@ impl<'bases, Section: UnwindSection<R>, R: Reader> CfiEntriesIter<'bases, Sectio
 
     // The entries of a section.
     pub(crate) fn new(section: &Section, bases: &'bases BaseAddresses) -> Self
-        ensures { result ≡ listing_of (frame_section R.Offset.limit Section.kind
+        ensures { result ≡ entry_list_of (frame_section R.Offset.limit Section.kind
             (Section.size section.now) (R.stretch (Section.reader section.now)) bases.now) }
     {
         CfiEntriesIter {

@@ -2,7 +2,7 @@
 ghost use Rattle.std.specs.Prelude.{◌≡◌, ◌≤◌, ◌-◌, option_map};
 ghost use Rattle.dwarf_numbers.specs.Answers.{Gives};
 ghost use Rattle.dwarf_readers.specs.Place.{Reads, ReadsAs};
-ghost use Rattle.dwarf_call_frames.specs.Entries.{cie_at, entry_at, entry_within, id_at, is_version, register_at, sizes_at};
+ghost use Rattle.dwarf_call_frames.specs.Entries.{cie_at, entry_at, entry_within, id_at, is_version, return_register_at, sizes_at};
 ghost use Rattle.dwarf_call_frames.specs.EntryViews.{cie_view, entry_view};
 ghost use Rattle.dwarf_call_frames.specs.HeadViews.{head_view};
 ghost use Rattle.dwarf_call_frames.specs.Parts.{IsPart};
@@ -175,7 +175,8 @@ fn read_sizes<Section: UnwindSection<R>, R: Reader>(
 // Reads the column of the return address.
 #[inline(always)]
 fn read_register<R: Reader>(version: u8, input: &mut R) -> Result<u16>
-    ensures { Reads result (register_at version (R.stretch input.old)) (R.stretch input.new) }
+    ensures { Reads result (return_register_at version (R.stretch input.old))
+        (R.stretch input.new) }
 {
     if version == 1 {
         Ok(u16::from(input.read_u8()?))

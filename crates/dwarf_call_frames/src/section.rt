@@ -6,7 +6,7 @@ ghost use Rattle.dwarf_frame_programs.specs.ProgramRows.{IsRowFor};
 ghost use Rattle.dwarf_numbers.specs.Answers.{Gives};
 ghost use Rattle.dwarf_call_frames.specs.AddressLookups.{fde_for_address, section_row};
 ghost use Rattle.dwarf_call_frames.specs.Entries.{cie_from_offset, fde_from_offset, partial_fde_from_offset};
-ghost use Rattle.dwarf_call_frames.specs.EntryLists.{listing_of};
+ghost use Rattle.dwarf_call_frames.specs.EntryLists.{entry_list_of};
 ghost use Rattle.dwarf_call_frames.specs.EntryViews.{cie_view};
 ghost use Rattle.dwarf_call_frames.specs.Memory.{MayGive};
 ghost use Rattle.dwarf_frame_sections.specs.Sections.{frame_section};
@@ -15,12 +15,13 @@ use crate::cie::CommonInformationEntry;
 use crate::entries::{CfiEntriesIter, CieOrFde};
 use crate::fde::{FrameDescriptionEntry, PartialFrameDescriptionEntry};
 use crate::parse::parse_entry;
-use dwarf_constants::{DebugFrameOffset, EhFrameOffset, Error, Result};
+use dwarf_constants::{Error, Result};
 use dwarf_frame_rows::{
     _UnwindSectionPrivate, BaseAddresses, UnwindContext, UnwindContextStorage, UnwindOffset,
     UnwindTableRow,
 };
 use dwarf_frame_sections::{DebugFrame, EhFrame};
+use dwarf_offsets::{DebugFrameOffset, EhFrameOffset};
 use dwarf_readers::{Reader, ReaderOffset};
 use std::fmt::Debug;
 
@@ -37,8 +38,8 @@ pub trait UnwindSection<R: Reader>: Copy + Debug + _UnwindSectionPrivate<R> {
     final fn entries<'bases>(&self, bases: &'bases BaseAddresses) -> CfiEntriesIter<'bases, Self, R>
     where
         Self: Sized,
-        ensures { result ≡ listing_of (frame_section R.Offset.limit Self.kind (Self.size self.now)
-            (R.stretch (Self.reader self.now)) bases.now) }
+        ensures { result ≡ entry_list_of (frame_section R.Offset.limit Self.kind
+            (Self.size self.now) (R.stretch (Self.reader self.now)) bases.now) }
     {
         CfiEntriesIter::new(self, bases)
     }

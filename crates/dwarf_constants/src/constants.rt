@@ -28,7 +28,6 @@ macro_rules! is_one_of {
 }
 
 mod form;
-mod plain;
 
 pub use form::{
     DW_FORM_GNU_addr_index, DW_FORM_GNU_ref_alt, DW_FORM_GNU_str_index, DW_FORM_GNU_strp_alt,
@@ -41,11 +40,6 @@ pub use form::{
     DW_FORM_sdata, DW_FORM_sec_offset, DW_FORM_string, DW_FORM_strp, DW_FORM_strp_sup,
     DW_FORM_strx, DW_FORM_strx1, DW_FORM_strx2, DW_FORM_strx3, DW_FORM_strx4, DW_FORM_udata,
     DwForm,
-};
-pub use plain::{
-    DwAccess, DwAddr, DwAte, DwCc, DwDefaulted, DwDs, DwDsc, DwEnd, DwId, DwIdx, DwInl, DwLang,
-    DwLle, DwLnct, DwLne, DwLns, DwMacinfo, DwMacro, DwOrd, DwRle, DwSect, DwSectV2, DwUt,
-    DwVirtuality, DwVis,
 };
 
 /// The opcode of a call frame instruction (DWARF 5, 7.24, table 7.29).

@@ -15,8 +15,8 @@ use Rattle.dwarf_readers.specs.Place.{Stretch, ◌>>=◌, behind, byte_at, ends_
 use Rattle.dwarf_expressions.specs.declared.op.Operation.{Operation}
 use Rattle.dwarf_expressions.specs.declared.op.Operation.TheVariants.{Address, UnsignedConstant, SignedConstant, Pick, Drop, Swap, Rot, Abs, Div, Mod, Neg, Not, PlusConstant, Bra, Skip, RegisterOffset, Nop}
 use Rattle.dwarf_expressions.specs.Effects.{Stack, stack_without_top, has_room, of_top, of_two, stack_with, rotated_stack, stack_after, swapped_stack, unless_zero, with_top, with_two, stack_within}
-use Rattle.dwarf_expressions.specs.Evaluation.{Machine, Program, State, Ready, Asking, Finished, Refused, state_behind, branch_of, machine_after, last_step, operation_step, operations_left, state_after, place_by, place_in, run, run_within, step}
-use Rattle.dwarf_expressions.specs.EvaluationViews.{IsReady, Stops, state_of, stopped_state}
+use Rattle.dwarf_expressions.specs.Evaluation.{Machine, Program, State, Ready, Asking, Finished, Refused, state_behind, branch_of, machine_after, last_step, operation_step, operations_left, state_by_operation, place_by, place_in, run, run_within, step}
+use Rattle.dwarf_expressions.specs.EvaluationViews.{IsReady, Stops, evaluation_state, stopped_state}
 use Rattle.dwarf_expressions.specs.declared.evaluation.EvaluationState.{EvaluationState}
 use Rattle.dwarf_expressions.specs.declared.evaluation.EvaluationState.TheVariants as state
 use Rattle.dwarf_expressions.specs.declared.machine.Stop.{Stop}
@@ -263,7 +263,7 @@ change_step p m left operation less =
     step_two (Ok values) h (Err e) k = λ is. k.never (ap (λ (x : Error). Err x) is)
     step_two (Err e) h place k = λ is. h.never (ap (λ (x : Error). Err x) is)
 
-perform_step : (p : Program) (m : Machine) (left : ℕ) (operation : Operation) → m.left < left → IsStep left (state_after p m operation)
+perform_step : (p : Program) (m : Machine) (left : ℕ) (operation : Operation) → m.left < left → IsStep left (state_by_operation p m operation)
 perform_step p m left (RegisterOffset register offset) less = less
 perform_step p m left operation less = change_step p m left operation less
 
@@ -324,7 +324,7 @@ refused_grows {A} capacity p m next e answer (inl stops) is memory =
 refused_grows capacity p m next e answer (inr grows) is memory = grows.0
 
 -- what is left of an evaluation that can go on is its machine's
-pub ready_left : (kept : EvaluationState) (m : Machine) → IsReady (state_of kept m) → operations_left (state_of kept m) ≡ m.left
+pub ready_left : (kept : EvaluationState) (m : Machine) → IsReady (evaluation_state kept m) → operations_left (evaluation_state kept m) ≡ m.left
 ready_left state.Ready m h = refl
 ready_left (state.Asking register offset) m h = absurd h
 ready_left (state.Finished value) m h = absurd h

@@ -6,7 +6,7 @@ use Rattle.dwarf_constants.specs.declared.error.Error.{Error}
 use Rattle.dwarf_constants.specs.declared.error.Error.TheVariants.{OutOfMemory, TooManyIterations}
 use Rattle.dwarf_readers.specs.Place.{Stretch, ◌>>=◌, behind}
 use Rattle.dwarf_expressions.specs.Effects.{stack_after, stack_within}
-use Rattle.dwarf_expressions.specs.Evaluation.{Asking, Finished, Machine, Program, Ready, Refused, State, branch_of, last_step, machine_after, operation_step, place_by, run, run_within, state_after, state_behind, step, top_of}
+use Rattle.dwarf_expressions.specs.Evaluation.{Asking, Finished, Machine, Program, Ready, Refused, State, branch_of, last_step, machine_after, operation_step, place_by, run, run_within, state_by_operation, state_behind, step, top_of}
 use Rattle.dwarf_expressions.specs.EvaluationViews.{Comes, Stops, stopped_state}
 use Rattle.dwarf_expressions.specs.Operations.{operation_at}
 use Rattle.dwarf_expressions.specs.declared.machine.Stop.{Stop}
@@ -25,7 +25,7 @@ changed_left p m next operation e =
     let (place, _, last) = came_from (place_by (length p.expression.bytes) m.place (branch_of operation m.stack)) (λ place. Ok (record { stack = stack; place = place; left = m.left })) next more in
     cc
 
-performed_left : (p : Program) (m next : Machine) (operation : Operation) → state_after p m operation ≡ Ok (Ready next) → next.left ≡ m.left
+performed_left : (p : Program) (m next : Machine) (operation : Operation) → state_by_operation p m operation ≡ Ok (Ready next) → next.left ≡ m.left
 performed_left p m next (RegisterOffset register offset) e = cc
 performed_left p m next operation e =
     let (other, is, last) = came_from (machine_after p m operation) (λ x. Ok (Ready x)) (Ready next) e in
@@ -39,7 +39,7 @@ done_left p m next e =
     (λ is. let f : Err TooManyIterations ≡ Ok (Ready next) = rw is at e in cc)
     (λ is.
     let some : suc (m.left - 1) ≡ m.left = grind arith in
-    let parts = λ (operation : Operation × Stretch). state_after p (record { stack = m.stack; place = operation.1.place - p.expression.place; left = m.left - 1 }) operation.0 in
+    let parts = λ (operation : Operation × Stretch). state_by_operation p (record { stack = m.stack; place = operation.1.place - p.expression.place; left = m.left - 1 }) operation.0 in
     let f : (operation_at p.address_size (behind m.place p.expression) >>= parts) ≡ Ok (Ready next) = rw is at e in
     let (operation, _, last) = came_from (operation_at p.address_size (behind m.place p.expression)) parts (Ready next) f in
     let left = performed_left p (record { stack = m.stack; place = operation.1.place - p.expression.place; left = m.left - 1 }) next operation.0 last in

@@ -78,9 +78,9 @@ machine_after p m operation = do
   Ok (record { stack = stack; place = place; left = m.left })
 
 -- what an operation comes to: it asks for a register, or the machine goes on
-abbrev pub state_after : Program → Machine → Operation → Result State Error
-state_after p m (RegisterOffset register offset) = Ok (Asking register offset m)
-state_after p m operation = do
+abbrev pub state_by_operation : Program → Machine → Operation → Result State Error
+state_by_operation p m (RegisterOffset register offset) = Ok (Asking register offset m)
+state_by_operation p m operation = do
   next ← machine_after p m operation
   Ok (Ready next)
 
@@ -101,7 +101,7 @@ operation_step p m =
     if m.left == 0 then Err TooManyIterations
     else (do
       operation ← operation_at p.address_size (behind m.place p.expression)
-      state_after p (record { stack = m.stack; place = operation.1.place - p.expression.place; left = m.left - 1 }) operation.0)
+      state_by_operation p (record { stack = m.stack; place = operation.1.place - p.expression.place; left = m.left - 1 }) operation.0)
 
 -- one step: an operation, or the end of the expression
 abbrev pub step : Program → Machine → Result State Error

@@ -15,11 +15,11 @@ pub record Course : Type 0 where
   pub machine : Machine
 
 -- the state that the code keeps, with its machine
-abbrev pub state_of : EvaluationState → Machine → State
-state_of kept.Ready m = Ready m
-state_of (kept.Asking register offset) m = Asking register offset m
-state_of (kept.Finished value) m = Finished value
-state_of (kept.Refused e) m = Refused e
+abbrev pub evaluation_state : EvaluationState → Machine → State
+evaluation_state kept.Ready m = Ready m
+evaluation_state (kept.Asking register offset) m = Asking register offset m
+evaluation_state (kept.Finished value) m = Finished value
+evaluation_state (kept.Refused e) m = Refused e
 
 -- What is left of an expression stands behind a place in it.
 pub record StandsAt (expression rest : Stretch) (place : ℕ) : Type 0 where

@@ -4,7 +4,7 @@ ghost use Rattle.std.specs.Prelude.{◌≡◌, ◌<◌, true, Err, IfOk, IfErr, 
 ghost use Rattle.dwarf_constants.specs.declared.error.Error.TheVariants.{OutOfMemory, UnsupportedAddressSize};
 ghost use Rattle.dwarf_readers.specs.InitialLength.{is_size};
 ghost use Rattle.dwarf_expressions.specs.Evaluation.{Answers, CanResume, ComesTo, IsNotMade, Progress, Ready, Refused, StaysStopped, WantsMemory, first_machine, operations_left, state_reached, state_reached_with, value_in};
-ghost use Rattle.dwarf_expressions.specs.EvaluationViews.{AddsOffset, IsReady, state_of};
+ghost use Rattle.dwarf_expressions.specs.EvaluationViews.{AddsOffset, IsReady, evaluation_state};
 ghost use Rattle.dwarf_expressions.specs.Values.{generic_of};
 ghost use Rattle.dwarf_constants.specs.declared.common.Register.{Register};
 ghost use Rattle.dwarf_constants.specs.declared.error.Error.{Error};
@@ -64,7 +64,7 @@ impl<R: Reader, S: EvaluationStorage> Model for Evaluation<R, S> {
 
     ghost view = { λ e. record {
       program = e.machine.program;
-      state = state_of e.state e.machine.machine;
+      state = evaluation_state e.state e.machine.machine;
     } };
 }
 

@@ -6,7 +6,7 @@ ghost use Rattle.dwarf_constants.specs.declared.error.Error.TheVariants.{OutOfMe
 ghost use Rattle.dwarf_readers.specs.InitialLength.{is_size};
 ghost use Rattle.dwarf_numbers.specs.Answers.{Gives};
 ghost use Rattle.dwarf_readers.specs.Place.{◌>>=◌ as ◌and_then◌, behind, end_of};
-ghost use Rattle.dwarf_expressions.specs.Evaluation.{IsNotMade, first_machine, machine_after, machine_with, operation_step, place_in, run, state_after, top_of};
+ghost use Rattle.dwarf_expressions.specs.Evaluation.{IsNotMade, first_machine, machine_after, machine_with, operation_step, place_in, run, state_by_operation, top_of};
 ghost use Rattle.dwarf_expressions.specs.EvaluationViews.{Changes, Comes, Course, StandsAt, Stops};
 
 use crate::array_like::ArrayLike;
@@ -155,7 +155,8 @@ impl<R: Reader, L: ArrayLike<Item = u64>> Machine<R, L> {
     fn perform(&mut self, operation: Operation) -> Result<Option<Stop>>
         ensures program { self.new.program ≡ self.old.program }
         ensures comes { Comes self.old.program.capacity
-            (state_after self.old.program self.old.machine operation) result self.new.machine }
+            (state_by_operation self.old.program self.old.machine operation)
+            result self.new.machine }
     {
         match operation {
             Operation::RegisterOffset { register, offset } => {

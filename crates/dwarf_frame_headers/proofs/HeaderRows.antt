@@ -8,7 +8,7 @@ use Rattle.dwarf_constants.specs.declared.error.Error.{Error}
 use Rattle.dwarf_readers.specs.Place.{Stretch, ◌>>=◌}
 use Rattle.dwarf_frame_rows.specs.EncodedPointer.{Origins}
 use Rattle.dwarf_frame_rows.specs.declared.pointer.Pointer.{Pointer}
-use Rattle.dwarf_frame_headers.specs.HeaderTable.{Table, behind_row, first_row, row_alone, row_at, rows_from, rows_of, without_first}
+use Rattle.dwarf_frame_headers.specs.HeaderTable.{Table, behind_row, first_table_row, row_alone, row_at, rows_from, rows_of, without_first}
 
 module _ (origins : Origins) (encoding : ℕ) (bytes : Stretch) where
   -- so many rows from the front on
@@ -22,7 +22,7 @@ module _ (origins : Origins) (encoding : ℕ) (bytes : Stretch) where
   one-row n (Ok row) = refl
   one-row n (Err e) = refl
 
-  rows-first-of : (n : ℕ) → YieldsFirst rows_of (Rows n) (result_transpose (first_row (Rows n))) (without_first (Rows n))
+  rows-first-of : (n : ℕ) → YieldsFirst rows_of (Rows n) (result_transpose (first_table_row (Rows n))) (without_first (Rows n))
   unfolding rows_of
   rows-first-of zero = (refl, refl)
   rows-first-of (suc n) =
@@ -31,5 +31,5 @@ module _ (origins : Origins) (encoding : ℕ) (bytes : Stretch) where
       rw (some, others) (one-row n (row_at origins encoding bytes))
 
 -- the first row is in front of the others
-pub rows-first : (t : Table) → YieldsFirst rows_of t (result_transpose (first_row t)) (without_first t)
+pub rows-first : (t : Table) → YieldsFirst rows_of t (result_transpose (first_table_row t)) (without_first t)
 rows-first t = rows-first-of t.origins t.encoding t.bytes t.count

@@ -17,14 +17,14 @@ use Rattle.dwarf_call_frames.specs.Entries.{Fde, contains, fde_from_offset}
 use Rattle.dwarf_call_frames.specs.EntryPrograms.{fde_row}
 use Rattle.dwarf_frame_headers.specs.Header.{Header, offset_of_pointer}
 use Rattle.dwarf_frame_headers.specs.HeaderEntries.{fde_by_header, row_by_header}
-use Rattle.dwarf_frame_headers.specs.HeaderTable.{header_row, table_of}
+use Rattle.dwarf_frame_headers.specs.HeaderTable.{header_row, header_table}
 
 -- an FDE, if it contains an address
 abbrev Containing : ℕ → Result Fde Error → Result Fde Error
 Containing address found = found >>= λ fde. requirement (contains address fde) NoUnwindInfoForAddress >>= λ _. Ok fde
 
 module _ (section : FrameSection) (bases : BaseAddresses) (header : Header) (address : ℕ) (pointer : Pointer) (offset : ℕ)
-    (row : Ok pointer ≡ header_row section.limit address (table_of bases.eh_frame_hdr header)) (place : offset_of_pointer section.limit header pointer ≡ Ok offset) where
+    (row : Ok pointer ≡ header_row section.limit address (header_table bases.eh_frame_hdr header)) (place : offset_of_pointer section.limit header pointer ≡ Ok offset) where
   named : fde_by_header section bases header address ≡ Containing address (fde_from_offset section offset)
   named =
       ap (λ (r : Result Pointer Error). r >>= λ p. offset_of_pointer section.limit header p >>= λ o. Containing address (fde_from_offset section o)) (sym row)

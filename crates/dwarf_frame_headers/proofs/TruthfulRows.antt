@@ -27,7 +27,7 @@ use Rattle.lists.proofs.Laws.{by_case, by_option, first_greatest-cons, last_of-c
 use Rattle.dwarf_frame_headers.specs.Halving.{halving, read_row, target_at_or_below, target_or_first}
 use Rattle.dwarf_frame_headers.specs.Header.{Header, offset_of_pointer}
 use Rattle.dwarf_frame_headers.specs.HeaderEntries.{named_offset}
-use Rattle.dwarf_frame_headers.specs.HeaderTable.{header_row, row_by_place, rows_by_place, table_of}
+use Rattle.dwarf_frame_headers.specs.HeaderTable.{header_row, row_by_place, rows_by_place, header_table}
 use Rattle.dwarf_frame_headers.specs.Truthful.{IsTruthful, nearest_fde, row_of_fde}
 use Rattle.dwarf_frame_headers.proofs.Increasing.{AllAbove, Increases, finds, increases}
 use Rattle.dwarf_frame_headers.proofs.RowsBetween.{length-between}
@@ -258,14 +258,14 @@ module _ (section : FrameSection) (bases : BaseAddresses) (header : Header) (t :
       (All-permutation (λ (other : Fde). starts_by address other ≡ true → other.initial_address ≤ fde.initial_address) all t.fdes t.are_all is.near)
 
   -- the row that halving finds
-  row-found : (address : ℕ) → header_row section.limit address (table_of bases.eh_frame_hdr header) ≡ target_at_or_below address (map (row_of_fde t.section_start) t.fdes)
+  row-found : (address : ℕ) → header_row section.limit address (header_table bases.eh_frame_hdr header) ≡ target_at_or_below address (map (row_of_fde t.section_start) t.fdes)
   row-found address =
-      ap (λ (r : Result ℕ Error). r >>= λ size. (halving address (rows_by_place section.limit size (table_of bases.eh_frame_hdr header))).reached) t.has_size
+      ap (λ (r : Result ℕ Error). r >>= λ size. (halving address (rows_by_place section.limit size (header_table bases.eh_frame_hdr header))).reached) t.has_size
       ∙ ap (λ rows. (halving address rows).reached) t.rows
       ∙ finds address (map (row_of_fde t.section_start) t.fdes) (subst IsStrictlyIncreasing (sym (starts-same t.section_start t.fdes)) t.increase)
 
   -- the offset by the pointer in its row
-  named-at : (address : ℕ) (fde : Fde) → Contains all fde → header_row section.limit address (table_of bases.eh_frame_hdr header) ≡ Ok (Direct (t.section_start + fde.head.offset)) → named_offset section.limit bases header address ≡ Ok fde.head.offset
+  named-at : (address : ℕ) (fde : Fde) → Contains all fde → header_row section.limit address (header_table bases.eh_frame_hdr header) ≡ Ok (Direct (t.section_start + fde.head.offset)) → named_offset section.limit bases header address ≡ Ok fde.head.offset
   named-at address fde there row = ap (λ (r : Result Pointer Error). r >>= λ p. offset_of_pointer section.limit header p) row ∙ place
     where
       has-offset : nat_lt fde.head.offset section.limit ≡ true
@@ -341,7 +341,7 @@ module _ (section : FrameSection) (bases : BaseAddresses) (header : Header) (t :
   -- a table has a row for each FDE
   pub has_rows : (fde : Fde) → Contains all fde → 0 < header.count
   has_rows fde there =
-      let table = table_of bases.eh_frame_hdr header in
+      let table = header_table bases.eh_frame_hdr header in
       let len = ap length t.rows ∙ length-rows t.fdes in
       let count = length-between (row_by_place section.limit t.size table) 0 table.count in
       some (Contains-permutation all t.fdes fde t.are_all there) (sym count ∙ len)
@@ -360,7 +360,7 @@ module _ (section : FrameSection) (bases : BaseAddresses) (header : Header) (t :
     where
       first : (fdes : List Fde) → t.fdes ≡ fdes → (fde : Fde) × (Contains all fde × ((address < fde.initial_address) × (named_offset section.limit bases header address ≡ Ok fde.head.offset)))
       first [] is =
-          let table = table_of bases.eh_frame_hdr header in
+          let table = header_table bases.eh_frame_hdr header in
           let len : length (rows_by_place section.limit t.size table) ≡ 0 = ap length (t.rows ∙ ap (λ (fdes : List Fde). map read_row (map (row_of_fde t.section_start) fdes)) is) in
           let count = length-between (row_by_place section.limit t.size table) 0 table.count in
           absurd (omega arith)

@@ -11,7 +11,7 @@ use Rattle.dwarf_frame_sections.specs.Sections.{FrameSection, eh_frame, frame_se
 use Rattle.dwarf_call_frames.specs.Entries.{Fde, contains, fde_from_offset}
 use Rattle.dwarf_call_frames.specs.EntryPrograms.{fde_row}
 use Rattle.dwarf_frame_headers.specs.Header.{Header, offset_of_pointer}
-use Rattle.dwarf_frame_headers.specs.HeaderTable.{header_row, table_of}
+use Rattle.dwarf_frame_headers.specs.HeaderTable.{header_row, header_table}
 
 -- the section `.eh_frame` of a header, with these bytes, the size of an address and the offsets below a limit
 abbrev pub section_of_header : ℕ → ℕ → Stretch → BaseAddresses → FrameSection
@@ -20,13 +20,13 @@ section_of_header limit address_size bytes bases = frame_section limit eh_frame 
 -- the offset of the FDE in the row for an address
 abbrev pub named_offset : (limit : ℕ) → BaseAddresses → Header → ℕ → Result ℕ Error
 named_offset limit bases header address = do
-  pointer ← header_row limit address (table_of bases.eh_frame_hdr header)
+  pointer ← header_row limit address (header_table bases.eh_frame_hdr header)
   offset_of_pointer limit header pointer
 
 -- the FDE in the row for an address, where it contains the address
 abbrev pub fde_by_header : FrameSection → BaseAddresses → Header → ℕ → Result Fde Error
 fde_by_header section bases header address = do
-  pointer ← header_row section.limit address (table_of bases.eh_frame_hdr header)
+  pointer ← header_row section.limit address (header_table bases.eh_frame_hdr header)
   offset ← offset_of_pointer section.limit header pointer
   fde ← fde_from_offset section offset
   _ ← requirement (contains address fde) NoUnwindInfoForAddress

@@ -21,8 +21,8 @@ pub record Table : Type 0 where
   pub bytes : Stretch
 
 -- the table of a header, where these addresses are known
-abbrev pub table_of : SectionBaseAddresses → Header → Table
-table_of bases header = record {
+abbrev pub header_table : SectionBaseAddresses → Header → Table
+header_table bases header = record {
   origins = origins_of_header bases header.section_place header.address_size;
   encoding = header.table_encoding;
   count = header.count;
@@ -30,8 +30,8 @@ table_of bases header = record {
 }
 
 -- a header with a table: one without rows is none
-abbrev pub table_in : Header → Option Header
-table_in header = if header.count == 0 then None else Some header
+abbrev pub header_with_table : Header → Option Header
+header_with_table header = if header.count == 0 then None else Some header
 
 -- ---- one row after the other
 
@@ -57,8 +57,8 @@ behind_row origins encoding s (Ok row) = row.1
 behind_row origins encoding s (Err e) = left_by_row origins encoding s
 
 -- the first row of a table, if there is one
-abbrev pub first_row : Table → Result (Option (Pointer × Pointer)) Error
-first_row t = if t.count == 0 then Ok None else (do
+abbrev pub first_table_row : Table → Result (Option (Pointer × Pointer)) Error
+first_table_row t = if t.count == 0 then Ok None else (do
   row ← row_at t.origins t.encoding t.bytes
   Ok (Some row.0))
 
@@ -113,7 +113,7 @@ without_rows limit n t = do
 abbrev pub nth_row : ℕ → ℕ → Table → Result (Option (Pointer × Pointer)) Error
 nth_row limit n t = do
   rest ← without_rows limit n t
-  first_row rest
+  first_table_row rest
 
 -- what is left behind the row of this index: nothing changes where the rows before it are not there
 abbrev pub left_by_nth : Table → Result Table Error → Table

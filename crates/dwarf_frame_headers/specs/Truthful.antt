@@ -13,7 +13,7 @@ use Rattle.dwarf_call_frames.specs.EntryLists.{entries_of}
 use Rattle.dwarf_call_frames.specs.SectionFdes.{whole_fdes}
 use Rattle.dwarf_frame_headers.specs.Halving.{read_row}
 use Rattle.dwarf_frame_headers.specs.Header.{Header}
-use Rattle.dwarf_frame_headers.specs.HeaderTable.{pointer_size, rows_by_place, table_of}
+use Rattle.dwarf_frame_headers.specs.HeaderTable.{pointer_size, rows_by_place, header_table}
 
 -- the row of an FDE: where its code starts, and where the FDE stands itself, in a section that starts at this address
 abbrev pub row_of_fde : (section_start : ℕ) → Fde → ℕ × Pointer
@@ -37,7 +37,7 @@ pub record IsTruthful (section : FrameSection) (bases : BaseAddresses) (header :
   -- the FDEs in the order of the table
   pub fdes : List Fde
   pub are_all : IsPermutation (whole_fdes section) fdes
-  pub rows : rows_by_place section.limit size (table_of bases.eh_frame_hdr header) ≡ map read_row (map (row_of_fde section_start) fdes)
+  pub rows : rows_by_place section.limit size (header_table bases.eh_frame_hdr header) ≡ map read_row (map (row_of_fde section_start) fdes)
   pub increase : IsStrictlyIncreasing (map (λ fde. fde.initial_address) fdes)
   pub apart : AreApart (whole_fdes section)
   pub have_offsets : AllPass (λ fde. nat_lt fde.head.offset section.limit) (whole_fdes section)

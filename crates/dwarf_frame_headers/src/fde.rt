@@ -13,7 +13,8 @@ use dwarf_call_frames::{
     BaseAddresses, CommonInformationEntry, EhFrame, FrameDescriptionEntry, UnwindContext,
     UnwindContextStorage, UnwindSection, UnwindTableRow,
 };
-use dwarf_constants::{EhFrameOffset, Error, Result};
+use dwarf_constants::{Error, Result};
+use dwarf_offsets::EhFrameOffset;
 use dwarf_readers::Reader;
 
 impl<'a, R: Reader> EhHdrTable<'a, R> {

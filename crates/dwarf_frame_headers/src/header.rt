@@ -5,7 +5,7 @@ ghost use Rattle.dwarf_numbers.specs.Answers.{Gives};
 ghost use Rattle.dwarf_readers.specs.EndianSlice.{stretch_of};
 ghost use Rattle.dwarf_readers.specs.Place.{Reads, whole};
 ghost use Rattle.dwarf_frame_headers.specs.Header.{count_at, header_at};
-ghost use Rattle.dwarf_frame_headers.specs.HeaderTable.{table_in};
+ghost use Rattle.dwarf_frame_headers.specs.HeaderTable.{header_with_table};
 
 use crate::table::EhHdrTable;
 use dwarf_constants::constants::DW_EH_PE_omit;
@@ -159,7 +159,7 @@ impl<R: Reader> ParsedEhFrameHdr<R> {
 
     /// The table, if there is one: a table without rows is none.
     pub fn table(&self) -> Option<EhHdrTable<'_, R>>
-        ensures { result ≡ table_in self.now }
+        ensures { result ≡ header_with_table self.now }
     {
         if self.fde_count == 0 {
             return None;

@@ -2,7 +2,7 @@
 ghost use Rattle.std.specs.Prelude.{◌≡◌, IfSome};
 ghost use Rattle.std.specs.Iterator.{UpTo, at_most};
 ghost use Rattle.std.specs.Iterator.SizeHint.{IsWithinCount};
-ghost use Rattle.dwarf_frame_headers.specs.HeaderTable.{first_row, left_by_nth, nth_row, table_of, without_first, without_rows};
+ghost use Rattle.dwarf_frame_headers.specs.HeaderTable.{first_table_row, left_by_nth, nth_row, header_table, without_first, without_rows};
 
 use crate::header::ParsedEhFrameHdr;
 use crate::rows::{pointer_size, skip_rows};
@@ -26,11 +26,11 @@ pub struct EhHdrTableIter<'a, 'bases, R: Reader> {
 
 impl<'a, 'bases, R: Reader> Model for EhHdrTableIter<'a, 'bases, R> {
     ghost use Rattle.std.specs.Prelude.{◌≤◌};
-    ghost use Rattle.dwarf_frame_headers.specs.HeaderTable.{Table, table_of};
+    ghost use Rattle.dwarf_frame_headers.specs.HeaderTable.{Table, header_table};
 
     ghost Value = { Table };
 
-    ghost view = { λ i. record (table_of i.bases.now.eh_frame_hdr i.hdr.now) {
+    ghost view = { λ i. record (header_table i.bases.now.eh_frame_hdr i.hdr.now) {
       count = i.remain;
       bytes = R.stretch i.table;
     } };
@@ -41,7 +41,7 @@ impl<'a, 'bases, R: Reader> Model for EhHdrTableIter<'a, 'bases, R> {
 impl<'a, 'bases, R: Reader> EhHdrTableIter<'a, 'bases, R> {
     // The rows of a table.
     pub(crate) fn new(hdr: &'a ParsedEhFrameHdr<R>, bases: &'bases BaseAddresses) -> Self
-        ensures { result ≡ table_of bases.now.eh_frame_hdr hdr.now }
+        ensures { result ≡ header_table bases.now.eh_frame_hdr hdr.now }
     {
         EhHdrTableIter {
             hdr,
@@ -53,7 +53,7 @@ impl<'a, 'bases, R: Reader> EhHdrTableIter<'a, 'bases, R> {
 
     /// The next row, or `None` behind the last.
     pub fn next(&mut self) -> Result<Option<(Pointer, Pointer)>>
-        ensures row { result ≡ first_row self.old }
+        ensures row { result ≡ first_table_row self.old }
         ensures left { self.new ≡ without_first self.old }
     {
         if self.remain == 0 {

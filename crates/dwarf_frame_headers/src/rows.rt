@@ -4,7 +4,7 @@ ghost use Rattle.dwarf_numbers.specs.Answers.{Gives};
 ghost use Rattle.dwarf_readers.specs.Place.{Moves, Reads};
 ghost use Rattle.dwarf_frame_rows.specs.EncodedPointer.{left_by_pointer, pointer_at};
 ghost use Rattle.dwarf_numbers.specs.Offset.{offset_below};
-ghost use Rattle.dwarf_frame_headers.specs.HeaderTable.{behind_rows, left_by_row, pointer_size, row_at, start_at, table_of, target_at};
+ghost use Rattle.dwarf_frame_headers.specs.HeaderTable.{behind_rows, left_by_row, pointer_size, row_at, start_at, header_table, target_at};
 
 use crate::header::ParsedEhFrameHdr;
 use dwarf_constants::constants::{
@@ -20,9 +20,9 @@ impl<R: Reader> ParsedEhFrameHdr<R> {
     #[inline(always)]
     pub(crate) fn parse_pointer(&self, bases: &BaseAddresses, input: &mut R) -> Result<Pointer>
         requires { self.now.section_place ≤ (R.stretch input.old).place }
-        ensures read { let table = table_of bases.now.eh_frame_hdr self.now in Reads result
+        ensures read { let table = header_table bases.now.eh_frame_hdr self.now in Reads result
             (pointer_at table.origins table.encoding (R.stretch input.old)) (R.stretch input.new) }
-        ensures refused { let table = table_of bases.now.eh_frame_hdr self.now in OnErr result
+        ensures refused { let table = header_table bases.now.eh_frame_hdr self.now in OnErr result
             (R.stretch input.new
             ≡ left_by_pointer table.origins table.encoding (R.stretch input.old)) }
     {
@@ -42,9 +42,9 @@ impl<R: Reader> ParsedEhFrameHdr<R> {
         input: &mut R,
     ) -> Result<(Pointer, Pointer)>
         requires { self.now.section_place ≤ (R.stretch input.old).place }
-        ensures read { let table = table_of bases.now.eh_frame_hdr self.now in Reads result
+        ensures read { let table = header_table bases.now.eh_frame_hdr self.now in Reads result
             (row_at table.origins table.encoding (R.stretch input.old)) (R.stretch input.new) }
-        ensures refused { let table = table_of bases.now.eh_frame_hdr self.now in OnErr result
+        ensures refused { let table = header_table bases.now.eh_frame_hdr self.now in OnErr result
             (R.stretch input.new
             ≡ left_by_row table.origins table.encoding (R.stretch input.old)) }
     {
@@ -56,7 +56,7 @@ impl<R: Reader> ParsedEhFrameHdr<R> {
     // The start in the row of this index, where pointers have this size in bytes.
     pub(crate) fn start_at(&self, size: u8, index: u64, bases: &BaseAddresses) -> Result<u64>
         ensures { result ≡ start_at R.Offset.limit size
-            (table_of bases.now.eh_frame_hdr self.now) index }
+            (header_table bases.now.eh_frame_hdr self.now) index }
     {
         let mut input = self.table;
         skip_rows(&mut input, size, index)?;
@@ -66,7 +66,7 @@ impl<R: Reader> ParsedEhFrameHdr<R> {
     // The pointer to an FDE in the row of this index, where pointers have this size in bytes.
     pub(crate) fn target_at(&self, size: u8, index: u64, bases: &BaseAddresses) -> Result<Pointer>
         ensures { result ≡ target_at R.Offset.limit size
-            (table_of bases.now.eh_frame_hdr self.now) index }
+            (header_table bases.now.eh_frame_hdr self.now) index }
     {
         let mut input = self.table;
         skip_rows(&mut input, size, index)?;

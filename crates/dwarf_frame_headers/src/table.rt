@@ -3,13 +3,14 @@ ghost use Rattle.std.specs.Prelude.{◌≡◌, ◌≤◌, ◌<◌, ◌+◌, ◌^
 ghost use Rattle.dwarf_numbers.specs.Answers.{Gives};
 ghost use Rattle.dwarf_frame_headers.specs.Halving.{halving};
 ghost use Rattle.dwarf_frame_headers.specs.Header.{offset_of_pointer};
-ghost use Rattle.dwarf_frame_headers.specs.HeaderTable.{header_row, rows_by_place, starts_read, table_of};
+ghost use Rattle.dwarf_frame_headers.specs.HeaderTable.{header_row, rows_by_place, starts_read, header_table};
 
 use crate::header::ParsedEhFrameHdr;
 use crate::iter::EhHdrTableIter;
 use crate::rows::pointer_size;
-use dwarf_constants::{EhFrameOffset, Error, Result};
+use dwarf_constants::{Error, Result};
 use dwarf_frame_rows::{BaseAddresses, Pointer};
+use dwarf_offsets::EhFrameOffset;
 use dwarf_readers::{Counted, Reader, ReaderOffset, Steps, count_steps};
 use std::cmp::Ordering;
 use std::marker::Model;
@@ -44,7 +45,7 @@ impl<'a, R: Reader> EhHdrTable<'a, R> {
 
     /// The rows in their order.
     pub fn iter<'bases>(&self, bases: &'bases BaseAddresses) -> EhHdrTableIter<'a, 'bases, R>
-        ensures { result ≡ table_of bases.now.eh_frame_hdr self.now }
+        ensures { result ≡ header_table bases.now.eh_frame_hdr self.now }
     {
         EhHdrTableIter::new(self.hdr, bases)
     }
@@ -57,7 +58,7 @@ impl<'a, R: Reader> EhHdrTable<'a, R> {
     /// `UnsupportedPointerEncoding` at a start that is an indirect pointer, and where the bytes end.
     pub fn lookup(&self, address: u64, bases: &BaseAddresses) -> Result<Pointer>
         ensures { result ≡ header_row R.Offset.limit address
-            (table_of bases.now.eh_frame_hdr self.now) }
+            (header_table bases.now.eh_frame_hdr self.now) }
     {
         count_steps(LookUp {
             table: self,
@@ -75,9 +76,9 @@ impl<'a, R: Reader> EhHdrTable<'a, R> {
         steps: &mut Steps<L>,
     ) -> Result<Pointer>
         ensures row { result ≡ header_row R.Offset.limit address
-            (table_of bases.now.eh_frame_hdr self.now) }
+            (header_table bases.now.eh_frame_hdr self.now) }
         ensures counted { steps.new ≡ steps.old + starts_read R.Offset.limit address
-            (table_of bases.now.eh_frame_hdr self.now) }
+            (header_table bases.now.eh_frame_hdr self.now) }
         ensures few { (k : ℕ) → self.now.count ≤ 2 ^ k → steps.new ≤ steps.old + k }
     {
         let hdr = self.hdr;
@@ -94,9 +95,9 @@ impl<'a, R: Reader> EhHdrTable<'a, R> {
         steps: &mut Steps<L>,
     ) -> Result<Pointer>
         ensures row { result ≡ (halving address (rows_by_place R.Offset.limit size
-            (table_of bases.now.eh_frame_hdr self.now))).reached }
-        ensures counted { steps.new ≡ steps.old + (halving address
-            (rows_by_place R.Offset.limit size (table_of bases.now.eh_frame_hdr self.now))).reads }
+            (header_table bases.now.eh_frame_hdr self.now))).reached }
+        ensures counted { steps.new ≡ steps.old + (halving address (rows_by_place R.Offset.limit size
+            (header_table bases.now.eh_frame_hdr self.now))).reads }
     {
         let hdr = self.hdr;
         let mut first = 0;
@@ -143,12 +144,12 @@ struct LookUp<'t, 'a, 'b, R: Reader> {
 
 impl<'t, 'a, 'b, R: Reader> Counted for LookUp<'t, 'a, 'b, R> {
     ghost use Rattle.std.specs.Prelude.{◌≡◌};
-    ghost use Rattle.dwarf_frame_headers.specs.HeaderTable.{header_row, table_of};
+    ghost use Rattle.dwarf_frame_headers.specs.HeaderTable.{header_row, header_table};
 
     type Answer = Result<Pointer>;
 
     ghost says = { λ c answer n. answer ≡ header_row R.Offset.limit c.address
-        (table_of c.bases.now.eh_frame_hdr c.table.now) };
+        (header_table c.bases.now.eh_frame_hdr c.table.now) };
 
     fn run<L: Ledger>(self, steps: &mut Steps<L>) -> Result<Pointer> {
         self.table.lookup_counted(self.address, self.bases, steps)

@@ -13,10 +13,10 @@ use Rattle.dwarf_frame_programs.specs.declared.effects.Factors.{Factors}
 use Rattle.dwarf_frame_programs.specs.declared.instructions.CallFrameInstruction.{CallFrameInstruction}
 use Rattle.dwarf_frame_programs.specs.declared.instructions.CallFrameInstruction.TheVariants as instruction
 use Rattle.dwarf_frame_programs.specs.Effects.{address_limit, effect_of}
-use Rattle.dwarf_frame_programs.specs.Execution.{Executes, Front, row_in, Moved, Ended, Faulty, IsRefusal, Runs, Starts, frame_in, front_from}
+use Rattle.dwarf_frame_programs.specs.Execution.{Executes, Front, row_in, Moved, Ended, Faulty, IsRefusal, Runs, Starts, instruction_frame, front_from}
 use Rattle.dwarf_frame_programs.specs.InstructionViews.{answer_as, instruction_as}
-use Rattle.dwarf_frame_programs.specs.Programs.{Frame, found_or, row_among, Instructions, Rows, Step, Moves, Writes, Refused, destination_of, past_from, past_left, refused_rows, no_rows, row_behind, row_with, rows_from, step_by, step_from, step_of, with_room, with_row, written}
-use Rattle.dwarf_frame_programs.specs.Parts.{parts_of}
+use Rattle.dwarf_frame_programs.specs.Programs.{Frame, found_or, row_among, Instructions, Rows, Step, Moves, Writes, Refused, destination_of, past_from, past_left, refused_rows, no_rows, row_behind, row_with, rows_from, step_by, step_from, step_of, with_room, row_before, written}
+use Rattle.dwarf_frame_programs.specs.Parts.{surviving_parts}
 use Rattle.dwarf_frame_programs.specs.ProgramRows.{Advances, GoesOn, HasLeft, LeftAt, NextIs, behind_first, instructions_left, rows_state}
 use Rattle.dwarf_frame_programs.specs.Refusals.{Known, needs}
 use Rattle.dwarf_frame_programs.specs.Survivors.{survivors}
@@ -112,7 +112,7 @@ step_by-written frame past Nothing still = refl
 
 module _ {T : Type 0} (number : T → ℕ) (Fixed : Type 0) (limits : Limits) (factors : Factors) (location : ℕ) (i : CallFrameInstruction T) (s : State T) (past : List (Effect ℕ)) (h : Stands (state_as number s) past) where
   abbrev at_state : Frame ℕ
-  at_state = frame_in limits factors (state_as number s)
+  at_state = instruction_frame limits factors (state_as number s)
 
   abbrev step : Step ℕ
   step = step_of at_state location past (instruction_as number i)
@@ -174,7 +174,7 @@ front-step frame location past i rest step is =
 -- how far instructions have been executed: what comes of them is what comes of those that are left
 pub record Reached (limits : Limits) (factors : Factors) (location : ℕ) (old now : State ℕ) (instructions left : Instructions ℕ) (before : List (Effect ℕ)) : Type 0 where
   pub past : List (Effect ℕ)
-  pub front : front_from (frame_in limits factors old) location before instructions ≡ front_from (frame_in limits factors old) location past left
+  pub front : front_from (instruction_frame limits factors old) location before instructions ≡ front_from (instruction_frame limits factors old) location past left
   pub stands : Stands now past
   pub known : now.initial_rules ≡ old.initial_rules
 
@@ -184,19 +184,19 @@ reached_first limits factors location old instructions before h = record { past 
 
 module _ (Fixed : Type 0) (limits : Limits) (factors : Factors) (location : ℕ) (old now : State ℕ) (instructions left : Instructions ℕ) (before : List (Effect ℕ)) (r : Reached limits factors location old now instructions left before) where
   abbrev at_first : Frame ℕ
-  at_first = frame_in limits factors old
+  at_first = instruction_frame limits factors old
 
-  same_frame : frame_in limits factors now ≡ at_first
+  same_frame : instruction_frame limits factors now ≡ at_first
   same_frame = ap (λ (known : Known ℕ). record { factors = factors; limits = limits; known = known }) r.known
 
   -- the front goes on with the step of the next instruction
-  front_goes : (i : CallFrameInstruction ℕ) (rest : Instructions ℕ) (step : Step ℕ) → left ≡ Ok i ∷ rest → step_of (frame_in limits factors now) location r.past i ≡ step
+  front_goes : (i : CallFrameInstruction ℕ) (rest : Instructions ℕ) (step : Step ℕ) → left ≡ Ok i ∷ rest → step_of (instruction_frame limits factors now) location r.past i ≡ step
       → front_from at_first location before instructions ≡ front_by at_first location r.past rest step
   front_goes i rest step is stepped =
       r.front ∙ ap (front_from at_first location r.past) is ∙ front-step at_first location r.past i rest step (ap (λ (f : Frame ℕ). step_of f location r.past i) (sym same_frame) ∙ stepped)
 
   pub reached_next : (i : CallFrameInstruction ℕ) (rest : Instructions ℕ) (new : State ℕ) → left ≡ Ok i ∷ rest
-      → Executes Fixed r.past now new (step_of (frame_in limits factors now) location r.past i) (Ok None) → Reached limits factors location old new instructions rest before
+      → Executes Fixed r.past now new (step_of (instruction_frame limits factors now) location r.past i) (Ok None) → Reached limits factors location old new instructions rest before
   unfolding front_by
   reached_next i rest new is executed = record {
     past = executed.0 ∷ r.past;
@@ -206,14 +206,14 @@ module _ (Fixed : Type 0) (limits : Limits) (factors : Factors) (location : ℕ)
   }
 
   pub runs_moved : (i : CallFrameInstruction ℕ) (rest : Instructions ℕ) (new : State ℕ) (next : ℕ) → left ≡ Ok i ∷ rest
-      → Executes Fixed r.past now new (step_of (frame_in limits factors now) location r.past i) (Ok (Some next))
+      → Executes Fixed r.past now new (step_of (instruction_frame limits factors now) location r.past i) (Ok (Some next))
       → Runs Fixed old new rest (front_from at_first location before instructions) (Ok (Some next))
   unfolding front_by
   runs_moved i rest new next is executed =
       (r.past, front_goes i rest (Moves next) is executed.0, subst (λ (s : State ℕ). Stands s r.past) (sym executed.1) r.stands, ap (λ (s : State ℕ). s.initial_rules) executed.1 ∙ r.known)
 
   pub runs_refused : (i : CallFrameInstruction ℕ) (rest : Instructions ℕ) (new : State ℕ) (e : Error) → left ≡ Ok i ∷ rest
-      → Executes Fixed r.past now new (step_of (frame_in limits factors now) location r.past i) (Err e)
+      → Executes Fixed r.past now new (step_of (instruction_frame limits factors now) location r.past i) (Err e)
       → Runs Fixed old new rest (front_from at_first location before instructions) (Err e)
   unfolding front_by
   runs_refused i rest new e is executed = λ told. front_goes i rest (Refused e) is (executed told)
@@ -245,8 +245,8 @@ past_front frame location past (Ok i ∷ rest) = go (step_of frame location past
     go (Refused e) others = refl
 
 rows_by : Frame ℕ → ℕ → ℕ → Front → Rows ℕ
-rows_by frame end start (Moved next past rest) = with_row (row_behind (unwrap_or frame.known empty) start next past) (rows_from frame end next past rest)
-rows_by frame end start (Ended past) = with_row (row_behind (unwrap_or frame.known empty) start end past) no_rows
+rows_by frame end start (Moved next past rest) = row_before (row_behind (unwrap_or frame.known empty) start next past) (rows_from frame end next past rest)
+rows_by frame end start (Ended past) = row_before (row_behind (unwrap_or frame.known empty) start end past) no_rows
 rows_by frame end start (Faulty e) = refused_rows e
 
 rows_front : (frame : Frame ℕ) (end start : ℕ) (past : List (Effect ℕ)) (instructions : Instructions ℕ) → rows_from frame end start past instructions ≡ rows_by frame end start (front_from frame start past instructions)
@@ -257,7 +257,7 @@ rows_front frame end start past (Ok i ∷ rest) = go (step_of frame start past i
   where
     go : (step : Step ℕ) → ((effect : Effect ℕ) → rows_from frame end start (effect ∷ past) rest ≡ rows_by frame end start (front_from frame start (effect ∷ past) rest))
         → elim step [
-          | Moves location ↦ with_row (row_behind (unwrap_or frame.known empty) start location past) (rows_from frame end location past rest)
+          | Moves location ↦ row_before (row_behind (unwrap_or frame.known empty) start location past) (rows_from frame end location past rest)
           | Writes effect ↦ rows_from frame end start (effect ∷ past) rest
           | Refused e ↦ refused_rows e
         ]
@@ -288,11 +288,11 @@ started_first number limits factors s instructions is = record {
 }
 
 module _ (Fixed : Type 0) (limits : Limits) (factors : Factors) (location : ℕ) (now new : State ℕ) (instructions left rest : Instructions ℕ) (s : Started limits factors location now instructions left) where
-  started_front : front_from (frame_in limits factors now) location s.past left ≡ front_from (first_frame limits factors) location s.past left
+  started_front : front_from (instruction_frame limits factors now) location s.past left ≡ front_from (first_frame limits factors) location s.past left
   started_front = ap (λ (known : Known ℕ). front_from (record { factors = factors; limits = limits; known = known }) location s.past left) s.known
 
   abbrev front : Front
-  front = front_from (frame_in limits factors now) location s.past left
+  front = front_from (instruction_frame limits factors now) location s.past left
 
   past_is : (f : Front) → front ≡ f → past_from (first_frame limits factors) 0 [] instructions ≡ past_by (first_frame limits factors) f
   past_is f is = s.same ∙ past_front (first_frame limits factors) location s.past left ∙ ap (past_by (first_frame limits factors)) (sym started_front ∙ is)
@@ -361,7 +361,7 @@ module _ {R S E O L K : Type 0} (stretch : R → Stretch) (limit : ℕ) (number 
   state = rows_state number items limits t
 
   abbrev whole_frame : Frame ℕ
-  whole_frame = frame_in limits t.factors state
+  whole_frame = instruction_frame limits t.factors state
 
   abbrev whole_front : Front
   whole_front = front_from whole_frame t.next_start_address goes.0 (instructions_left stretch limit t)
@@ -374,7 +374,7 @@ module _ {R S E O L K : Type 0} (stretch : R → Stretch) (limit : ℕ) (number 
       → (rows_state number items limits u).row ≡ row_behind (unwrap_or state.initial_rules empty) t.next_start_address end past
   row_is end past h known is =
       ap (λ (s : State ℕ). s.row) is
-      ∙ ap (row_with t.next_start_address end) (row_parts mid past h ∙ ap (λ (o : Known ℕ). parts_of (unwrap_or o empty) (survivors 0 past)) known)
+      ∙ ap (row_with t.next_start_address end) (row_parts mid past h ∙ ap (λ (o : Known ℕ). surviving_parts (unwrap_or o empty) (survivors 0 past)) known)
 
   bounded : (end : ℕ) (past : List (Effect ℕ)) → Stands mid past → rows_state number items limits u ≡ record mid { row = record mid.row { start = t.next_start_address; end = end } } → Stands (rows_state number items limits u) past
   bounded end past h is = subst (λ (s : State ℕ). Stands s past) (sym is) (record { count = h.count; parts = h.parts })
@@ -388,7 +388,7 @@ module _ {R S E O L K : Type 0} (stretch : R → Stretch) (limit : ℕ) (number 
   moved_on location rest ran is factors end next instructions going given =
       let others = rows_from whole_frame t.end_address location ran.0 rest in
       let known : (rows_state number items limits u).initial_rules ≡ state.initial_rules = ap (λ (s : State ℕ). s.initial_rules) is ∙ ran.3 in
-      let same : rows_from (frame_in limits u.factors (rows_state number items limits u)) u.end_address u.next_start_address ran.0 (instructions_left stretch limit u) ≡ others
+      let same : rows_from (instruction_frame limits u.factors (rows_state number items limits u)) u.end_address u.next_start_address ran.0 (instructions_left stretch limit u) ≡ others
       = λ i. rows_from (record { factors = factors i; limits = limits; known = known i }) (end i) (next i) ran.0 (instructions i) in
       let P : Bool → Type 0 = λ b. LeftAt stretch limit number items limits b u others in
       let Q : Rows ℕ → Type 0 = λ l. Advances stretch limit number items limits Fixed l l.rows (Ok true) u in

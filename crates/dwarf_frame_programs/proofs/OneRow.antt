@@ -14,7 +14,7 @@ use Rattle.dwarf_frame_programs.specs.declared.effects.Factors.{Factors}
 use Rattle.dwarf_frame_programs.specs.declared.instructions.CallFrameInstruction.{CallFrameInstruction}
 use Rattle.dwarf_frame_programs.specs.declared.instructions.CallFrameInstruction.TheVariants as instruction
 use Rattle.dwarf_frame_programs.specs.Effects.{address_limit, effect_of}
-use Rattle.dwarf_frame_programs.specs.Programs.{Frame, Instructions, Program, Rows, Step, Moves, Writes, Refused, past_left, refused_rows, row_behind, rows_behind, rows_from, rows_of_program, rules_left, step_by, step_from, step_of, with_row, written}
+use Rattle.dwarf_frame_programs.specs.Programs.{Frame, Instructions, Program, Rows, Step, Moves, Writes, Refused, past_left, refused_rows, row_behind, rows_behind, rows_from, rows_of_program, rules_left, step_by, step_from, step_of, row_before, written}
 use Rattle.dwarf_frame_programs.specs.Refusals.{needs}
 
 -- ---- moves go on
@@ -119,7 +119,7 @@ module _ {T : Type 0} (address : ℕ) where
   -- what a step makes of rows
   abbrev rows_by : Frame T → ℕ → ℕ → List (Effect T) → Instructions T → Step T → Rows T
   rows_by frame end start past rest step = elim step [
-    | Moves location ↦ with_row (row_behind (unwrap_or frame.known empty) start location past) (rows_from frame end location past rest)
+    | Moves location ↦ row_before (row_behind (unwrap_or frame.known empty) start location past) (rows_from frame end location past rest)
     | Writes effect ↦ rows_from frame end start (effect ∷ past) rest
     | Refused e ↦ refused_rows e
   ]

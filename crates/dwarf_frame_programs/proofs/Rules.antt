@@ -17,7 +17,7 @@ use Rattle.dwarf_frame_rows.specs.declared.effect.Effect.TheVariants.{Move, Cfa,
 use Rattle.dwarf_frame_rows.specs.declared.rules.RegisterRule.{RegisterRule}
 use Rattle.dwarf_frame_rows.specs.declared.rules.RegisterRule.TheVariants.{Constant}
 use Rattle.dwarf_frame_rows.specs.RuleMap.{RuleMap}
-use Rattle.dwarf_frame_programs.specs.Parts.{latest, rule_by, written_rule, sign_state, is_turn, turns, constant_of, turned, rule_of, ruled_register, with_rule, rules_at, rules_of}
+use Rattle.dwarf_frame_programs.specs.Parts.{latest, rule_by, written_rule, sign_state, is_turn, turns, constant_of, turned, rule_of, ruled_register, with_rule, rules_at, surviving_rules}
 
 -- ---- tests of numbers
 
@@ -163,7 +163,7 @@ unnamed initial (Restore ∷ past) q h = unnamed initial past q h
 unnamed initial (Nothing ∷ past) q h = unnamed initial past q h
 
 -- the map answers each register's rule
-pub get-rules_of : {T : Type 0} (initial : RuleMap (RegisterRule T)) (past : List (Effect T)) (q : ℕ) → get (rules_of initial past) q ≡ rule_of initial past q
+pub get-rules_of : {T : Type 0} (initial : RuleMap (RegisterRule T)) (past : List (Effect T)) (q : ℕ) → get (surviving_rules initial past) q ≡ rule_of initial past q
 get-rules_of initial past q =
     get-rules_at (rule_of initial past) (filter_map ruled_register past) q
     ∙ by_case (list_any (λ r. r == q) (filter_map ruled_register past))
@@ -171,19 +171,19 @@ get-rules_of initial past q =
     (λ is. rw is (sym (unnamed initial past q is)))
 
 -- a map that answers so is this map
-pub map_of_rules : {T : Type 0} (initial : RuleMap (RegisterRule T)) (past : List (Effect T)) (m : RuleMap (RegisterRule T)) → ((q : ℕ) → get m q ≡ rule_of initial past q) → m ≡ rules_of initial past
-map_of_rules initial past m is = same_map nat_cmp_total nat_cmp-IsAntisymmetric m (rules_of initial past) (λ q. is q ∙ sym (get-rules_of initial past q))
+pub map_of_rules : {T : Type 0} (initial : RuleMap (RegisterRule T)) (past : List (Effect T)) (m : RuleMap (RegisterRule T)) → ((q : ℕ) → get m q ≡ rule_of initial past q) → m ≡ surviving_rules initial past
+map_of_rules initial past m is = same_map nat_cmp_total nat_cmp-IsAntisymmetric m (surviving_rules initial past) (λ q. is q ∙ sym (get-rules_of initial past q))
 
 -- a rule that is set, or taken away
 pub set_rules : {T : Type 0} (initial : RuleMap (RegisterRule T)) (e : Effect T) (past : List (Effect T)) (m : RuleMap (RegisterRule T)) (register : ℕ) (rule : RegisterRule T)
-    → m ≡ rules_of initial past → ((q : ℕ) → rule_of initial (e ∷ past) q ≡ cond (register == q) (Some rule) (rule_of initial past q)) → insert m register rule ≡ rules_of initial (e ∷ past)
+    → m ≡ surviving_rules initial past → ((q : ℕ) → rule_of initial (e ∷ past) q ≡ cond (register == q) (Some rule) (rule_of initial past q)) → insert m register rule ≡ surviving_rules initial (e ∷ past)
 set_rules initial e past m register rule is written =
     map_of_rules initial (e ∷ past) (insert m register rule)
     (λ q. get-insert nat_cmp_total m register rule q ∙ ap (λ b. cond b (Some rule) (get m q)) (ties q register)
     ∙ ap (λ o. cond (register == q) (Some rule) o) (ap (λ n. get n q) is ∙ get-rules_of initial past q) ∙ sym (written q))
 
 pub removed_rules : {T : Type 0} (initial : RuleMap (RegisterRule T)) (e : Effect T) (past : List (Effect T)) (m : RuleMap (RegisterRule T)) (register : ℕ)
-    → m ≡ rules_of initial past → ((q : ℕ) → rule_of initial (e ∷ past) q ≡ cond (register == q) None (rule_of initial past q)) → remove m register ≡ rules_of initial (e ∷ past)
+    → m ≡ surviving_rules initial past → ((q : ℕ) → rule_of initial (e ∷ past) q ≡ cond (register == q) None (rule_of initial past q)) → remove m register ≡ surviving_rules initial (e ∷ past)
 removed_rules initial e past m register is written =
     map_of_rules initial (e ∷ past) (remove m register)
     (λ q. get-remove nat_cmp_total m register q ∙ ap (λ b. cond b None (get m q)) (ties q register)

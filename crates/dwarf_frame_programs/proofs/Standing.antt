@@ -17,7 +17,7 @@ use Rattle.dwarf_frame_rows.specs.CfaRules.{with_cfa_offset, with_cfa_register}
 use Rattle.dwarf_frame_rows.specs.Effects.{Limits, State, first_state, initial_rows, is_within, negated_rule, restored_state, ruled_state, state_after, state_by_rules, state_with_initial_rules, state_with_latest_of, with_cfa, with_row, with_rules}
 use Rattle.dwarf_frame_rows.specs.Row.{Row}
 use Rattle.dwarf_frame_rows.specs.RuleMap.{RuleMap}
-use Rattle.dwarf_frame_programs.specs.Parts.{Parts, cfa_expression, cfa_from, cfa_of, cfa_offset_by, cfa_register_by, latest, parts_of, rule_of, rules_of, sign_state, size_of}
+use Rattle.dwarf_frame_programs.specs.Parts.{Parts, cfa_expression, cfa_from, cfa_of, cfa_offset_by, cfa_register_by, latest, surviving_parts, rule_of, surviving_rules, sign_state, args_size}
 use Rattle.dwarf_frame_programs.specs.Programs.{destination_of, rules_left, with_room}
 use Rattle.dwarf_frame_programs.specs.Refusals.{Known, is_turnable, needs, needs_open_state, needs_room_for_rule}
 use Rattle.dwarf_frame_programs.specs.Standing.{AgreesWith, HaveParts, Stands, parts_in}
@@ -53,12 +53,12 @@ module _ {T : Type 0} (s : State T) (past : List (Effect T)) (h : Stands s past)
       go None = tt
 
   -- the row has the parts of what survives
-  pub row_parts : parts_in s.row ≡ parts_of initial_of current
+  pub row_parts : parts_in s.row ≡ surviving_parts initial_of current
   row_parts = (h.parts initial_of agrees).0
 
   -- another row in its place
   wrote : (e : Effect T) (row : Row T) → survivors 0 (e ∷ past) ≡ e ∷ current → ((n : ℕ) → survivors (suc n) (e ∷ past) ≡ survivors (suc n) past) → open_states (e ∷ past) ≡ open_states past
-      → ((initial : RuleMap (RegisterRule T)) → AgreesWith s.initial_rules initial → parts_in s.row ≡ parts_of initial current → parts_in row ≡ parts_of initial (e ∷ current))
+      → ((initial : RuleMap (RegisterRule T)) → AgreesWith s.initial_rules initial → parts_in s.row ≡ surviving_parts initial current → parts_in row ≡ surviving_parts initial (e ∷ current))
       → Stands (with_row row s) (e ∷ past)
   wrote e row now before opens parts = record {
     count = h.count ∙ sym opens;
@@ -66,7 +66,7 @@ module _ {T : Type 0} (s : State T) (past : List (Effect T)) (h : Stands s past)
         let held = h.parts initial known in
         let P : (ℕ → List (Effect T)) → Type 0 = λ pasts. HaveParts initial pasts s.remembered_rows in
         let earlier : (λ n. survivors (suc n) past) ≡ (λ n. survivors (suc n) (e ∷ past)) = λ i n. sym (before n) i in
-        (parts initial known held.0 ∙ ap (parts_of initial) (sym now), subst P earlier held.1);
+        (parts initial known held.0 ∙ ap (surviving_parts initial) (sym now), subst P earlier held.1);
   }
 
 -- parts that are equal one by one
@@ -81,7 +81,7 @@ cfa_whole (Expression expression) past = refl
 
 -- room for a rule is needed where there is one
 room_needed : {T : Type 0} (limits : Limits) (initial : RuleMap (RegisterRule T)) (register : ℕ) (past : List (Effect T)) → is_some (rule_of initial (survivors 0 past) register) ≡ true
-    → needs_room_for_rule limits initial register past ≡ requirement (is_within limits.rules (len (rules_of initial (survivors 0 past)))) TooManyRegisterRules
+    → needs_room_for_rule limits initial register past ≡ requirement (is_within limits.rules (len (surviving_rules initial (survivors 0 past)))) TooManyRegisterRules
 room_needed limits initial register past some = rw some refl
 
 room_free : {T : Type 0} (limits : Limits) (initial : RuleMap (RegisterRule T)) (register : ℕ) (past : List (Effect T)) → is_some (rule_of initial (survivors 0 past) register) ≡ false
@@ -153,7 +153,7 @@ module _ {T : Type 0} (limits : Limits) (s : State T) (past : List (Effect T)) (
 
   -- the state with a rule set
   set_stands : (e : Effect T) (register : ℕ) (v : RegisterRule T) → survivors 0 (e ∷ past) ≡ e ∷ current s past h → ((n : ℕ) → survivors (suc n) (e ∷ past) ≡ survivors (suc n) past) → open_states (e ∷ past) ≡ open_states past
-      → size_of (e ∷ current s past h) ≡ size_of (current s past h) → cfa_of (e ∷ current s past h) ≡ cfa_of (current s past h)
+      → args_size (e ∷ current s past h) ≡ args_size (current s past h) → cfa_of (e ∷ current s past h) ≡ cfa_of (current s past h)
       → ((initial : RuleMap (RegisterRule T)) → AgreesWith s.initial_rules initial → (q : ℕ) → rule_of initial (e ∷ current s past h) q ≡ cond (register == q) (Some v) (rule_of initial (current s past h) q))
       → Stands (with_rules (insert s.row.rules register v) s) (e ∷ past)
   set_stands e register v now before opens size cfa written =
@@ -161,7 +161,7 @@ module _ {T : Type 0} (limits : Limits) (s : State T) (past : List (Effect T)) (
       (λ initial known held. same_parts (ap (λ (p : Parts T). p.saved_args_size) held ∙ sym size) (ap (λ (p : Parts T). p.cfa) held ∙ sym cfa)
       (set_rules initial e (current s past h) s.row.rules register v (ap (λ (p : Parts T). p.rules) held) (written initial known)))
 
-  rules_held : s.row.rules ≡ rules_of (initial_of s past h) (current s past h)
+  rules_held : s.row.rules ≡ surviving_rules (initial_of s past h) (current s past h)
   rules_held = ap (λ (p : Parts T). p.rules) (row_parts s past h)
 
   rule_step : (register : Register) (v : RegisterRule T) → Comes s.initial_rules past (Rule register v) (state_after limits (Rule register v) s) (needs limits s.initial_rules past (Rule register v))
@@ -174,7 +174,7 @@ module _ {T : Type 0} (limits : Limits) (s : State T) (past : List (Effect T)) (
       let rules = set_rules initial e (current s past h) s.row.rules register.0 v rules_held (written initial) in
       let P : Result (Unit {0}) Error → Type 0 = λ need. Comes s.initial_rules past e (ruled_state limits register.0 v s) need in
       subst P (sym (room_needed limits initial register.0 (e ∷ past) some))
-      (tested s.initial_rules past e (is_within limits.rules (len (insert s.row.rules register.0 v))) (is_within limits.rules (len (rules_of initial (e ∷ current s past h)))) TooManyRegisterRules
+      (tested s.initial_rules past e (is_within limits.rules (len (insert s.row.rules register.0 v))) (is_within limits.rules (len (surviving_rules initial (e ∷ current s past h)))) TooManyRegisterRules
       (with_rules (insert s.row.rules register.0 v) s) (ap (λ m. is_within limits.rules (len m)) (sym rules)) refl
       (λ _. set_stands e register.0 v refl (λ n. refl) refl refl refl (λ i known. written i)))
 
@@ -190,7 +190,7 @@ module _ {T : Type 0} (limits : Limits) (s : State T) (past : List (Effect T)) (
     agreed : AgreesWith s.initial_rules rules
     agreed = let P : Known T → Type 0 = λ o. AgreesWith o rules in subst P (sym known) refl
 
-    restored_held : s.row.rules ≡ rules_of rules (current s past h)
+    restored_held : s.row.rules ≡ surviving_rules rules (current s past h)
     restored_held = ap (λ (p : Parts T). p.rules) ((h.parts rules agreed).0)
 
     restored_as : (o : Option (RegisterRule T)) → get rules register.0 ≡ o → (initial : RuleMap (RegisterRule T)) → initial ≡ rules → (q : ℕ)
@@ -207,7 +207,7 @@ module _ {T : Type 0} (limits : Limits) (s : State T) (past : List (Effect T)) (
         let P : Result (Unit {0}) Error → Type 0 = λ need. Comes s.initial_rules past restore (ruled_state limits register.0 v s) need in
         let made = set_rules rules restore (current s past h) s.row.rules register.0 v restored_held (restored_as (Some v) is rules refl) in
         subst P (sym (room_needed limits rules register.0 (restore ∷ past) (restored_here (Some v) is)))
-        (tested s.initial_rules past restore (is_within limits.rules (len (insert s.row.rules register.0 v))) (is_within limits.rules (len (rules_of rules (restore ∷ current s past h)))) TooManyRegisterRules
+        (tested s.initial_rules past restore (is_within limits.rules (len (insert s.row.rules register.0 v))) (is_within limits.rules (len (surviving_rules rules (restore ∷ current s past h)))) TooManyRegisterRules
         (with_rules (insert s.row.rules register.0 v) s) (ap (λ m. is_within limits.rules (len m)) (sym made)) refl
         (λ _. set_stands restore register.0 v refl (λ n. refl) refl refl refl (λ i agree. restored_as (Some v) is i (known_rules i agree))))
     restore_some None is = (
@@ -249,7 +249,7 @@ module _ {T : Type 0} (limits : Limits) (s : State T) (past : List (Effect T)) (
         let made = set_rules initial e (current s past h) s.row.rules sign_state v rules_held (written initial (agrees s past h)) in
         let P : Result (Unit {0}) Error → Type 0 = λ need. Comes s.initial_rules past e (ruled_state limits sign_state v s) need in
         subst P (sym (room_needed limits initial sign_state (e ∷ past) some))
-        (tested s.initial_rules past e (is_within limits.rules (len (insert s.row.rules sign_state v))) (is_within limits.rules (len (rules_of initial (e ∷ current s past h)))) TooManyRegisterRules
+        (tested s.initial_rules past e (is_within limits.rules (len (insert s.row.rules sign_state v))) (is_within limits.rules (len (surviving_rules initial (e ∷ current s past h)))) TooManyRegisterRules
         (with_rules (insert s.row.rules sign_state v) s) (ap (λ m. is_within limits.rules (len m)) (sym made)) refl
         (λ _. set_stands e sign_state v refl (λ n. refl) refl refl refl written))
 

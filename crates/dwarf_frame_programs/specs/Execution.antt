@@ -24,8 +24,8 @@ abbrev pub row_in : {T L : Type 0} → (T → ℕ) → UnwindTableRow T L → Ro
 row_in number row = row_as number (row_of row)
 
 -- what is the same for all instructions that are executed in a state
-abbrev pub frame_in : Limits → Factors → State ℕ → Frame ℕ
-frame_in limits factors s = record { factors = factors; limits = limits; known = s.initial_rules }
+abbrev pub instruction_frame : Limits → Factors → State ℕ → Frame ℕ
+instruction_frame limits factors s = record { factors = factors; limits = limits; known = s.initial_rules }
 
 -- A storage takes no memory: rules are made in place, and the lists have limits.
 pub record TakesNoMemory (made_in_place : Bool) (limits : Limits) : Type 0 where

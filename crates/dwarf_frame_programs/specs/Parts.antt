@@ -27,14 +27,14 @@ expression_of (Expression expression) = Some expression
 expression_of (RegisterAndOffset register offset) = None
 
 -- the register that the CFA counts from, where it counts from one
-abbrev pub register_of : {T : Type 0} → CfaRule T → Option Register
-register_of (Expression expression) = None
-register_of (RegisterAndOffset register offset) = Some register
+abbrev pub cfa_register : {T : Type 0} → CfaRule T → Option Register
+cfa_register (Expression expression) = None
+cfa_register (RegisterAndOffset register offset) = Some register
 
 -- the offset of the CFA from a register, where it counts from one
-abbrev pub offset_of : {T : Type 0} → CfaRule T → Option ℤ
-offset_of (Expression expression) = None
-offset_of (RegisterAndOffset register offset) = Some offset
+abbrev pub cfa_offset : {T : Type 0} → CfaRule T → Option ℤ
+cfa_offset (Expression expression) = None
+cfa_offset (RegisterAndOffset register offset) = Some offset
 
 -- the expression that an effect makes the CFA, or none where it makes it a register and an offset
 abbrev pub cfa_expression_by : {T : Type 0} → Effect T → Option (Option (UnwindExpression T))
@@ -43,13 +43,13 @@ cfa_expression_by _ = None
 
 -- the register that an effect makes the CFA count from
 abbrev pub cfa_register_by : {T : Type 0} → Effect T → Option Register
-cfa_register_by (Cfa rule) = register_of rule
+cfa_register_by (Cfa rule) = cfa_register rule
 cfa_register_by (CfaRegister register) = Some register
 cfa_register_by _ = None
 
 -- the offset that an effect puts the CFA at
 abbrev pub cfa_offset_by : {T : Type 0} → Effect T → Option ℤ
-cfa_offset_by (Cfa rule) = offset_of rule
+cfa_offset_by (Cfa rule) = cfa_offset rule
 cfa_offset_by (CfaOffset offset) = Some offset
 cfa_offset_by _ = None
 
@@ -74,8 +74,8 @@ size_by (ArgsSize size) = Some size
 size_by _ = None
 
 -- 0 before it is written
-abbrev pub size_of : {T : Type 0} → List (Effect T) → ℕ
-size_of past = unwrap_or (latest size_by past) 0
+abbrev pub args_size : {T : Type 0} → List (Effect T) → ℕ
+args_size past = unwrap_or (latest size_by past) 0
 
 -- ---- the rules of registers
 
@@ -137,8 +137,8 @@ rules_at rule [] = empty
 rules_at rule (register ∷ registers) = with_rule (rule register) register (rules_at rule registers)
 
 -- the rules of all registers, as a map
-abbrev pub rules_of : {T : Type 0} → RuleMap (RegisterRule T) → List (Effect T) → RuleMap (RegisterRule T)
-rules_of initial past = rules_at (rule_of initial past) (filter_map ruled_register past)
+abbrev pub surviving_rules : {T : Type 0} → RuleMap (RegisterRule T) → List (Effect T) → RuleMap (RegisterRule T)
+surviving_rules initial past = rules_at (rule_of initial past) (filter_map ruled_register past)
 
 -- ---- all parts
 
@@ -149,5 +149,5 @@ pub record Parts (T : Type 0) : Type 0 where
   pub rules : RuleMap (RegisterRule T)
 
 -- what has survived makes these parts
-abbrev pub parts_of : {T : Type 0} → RuleMap (RegisterRule T) → List (Effect T) → Parts T
-parts_of initial past = record { saved_args_size = size_of past; cfa = cfa_of past; rules = rules_of initial past }
+abbrev pub surviving_parts : {T : Type 0} → RuleMap (RegisterRule T) → List (Effect T) → Parts T
+surviving_parts initial past = record { saved_args_size = args_size past; cfa = cfa_of past; rules = surviving_rules initial past }

@@ -9,7 +9,7 @@ use Rattle.dwarf_frame_rows.specs.Effects.{Limits, State}
 use Rattle.dwarf_frame_rows.specs.Row.{Row}
 use Rattle.dwarf_frame_programs.specs.declared.rows.FrameProgram.{FrameProgram}
 use Rattle.dwarf_frame_programs.specs.declared.rows.ProgramRows.{ProgramRows}
-use Rattle.dwarf_frame_programs.specs.Execution.{IsRefusal, frame_in, row_in, state_in}
+use Rattle.dwarf_frame_programs.specs.Execution.{IsRefusal, instruction_frame, row_in, state_in}
 use Rattle.dwarf_frame_programs.specs.InstructionViews.{conventions_by}
 use Rattle.dwarf_frame_programs.specs.Instructions.{instructions_of}
 use Rattle.dwarf_frame_programs.specs.Programs.{Instructions, Program, Rows, no_rows, refused_rows, rows_from}
@@ -54,9 +54,9 @@ is_given (Ok given) = given
 is_given (Err e) = false
 
 -- what a call leaves of rows; behind an error none are left
-abbrev pub left_by : {A : Type 0} → Rows ℕ → Result A Error → Rows ℕ
-left_by left (Ok _) = behind_first left left.rows
-left_by left (Err _) = no_rows
+abbrev pub rows_left_by : {A : Type 0} → Rows ℕ → Result A Error → Rows ℕ
+rows_left_by left (Ok _) = behind_first left left.rows
+rows_left_by left (Err _) = no_rows
 
 module _ {R S E O L K : Type 0} (stretch : R → Stretch) (limit : ℕ) where
   -- the instructions that are left
@@ -80,7 +80,7 @@ module _ {R S E O L K : Type 0} (stretch : R → Stretch) (limit : ℕ) (number 
   -- these are left from the next start on, behind some past
   abbrev pub GoesOn : ProgramRows R S E O L K → Rows ℕ → Type 0
   GoesOn rows left = (past : List (Effect ℕ)) × Stands (rows_state number items limits rows) past
-      × (rows_from (frame_in limits rows.factors (rows_state number items limits rows)) rows.end_address rows.next_start_address past (instructions_left stretch limit rows) ≡ left)
+      × (rows_from (instruction_frame limits rows.factors (rows_state number items limits rows)) rows.end_address rows.next_start_address past (instructions_left stretch limit rows) ≡ left)
 
   abbrev pub LeftAt : Bool → ProgramRows R S E O L K → Rows ℕ → Type 0
   LeftAt true rows left = left ≡ no_rows

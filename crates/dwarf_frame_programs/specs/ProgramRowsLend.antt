@@ -13,7 +13,7 @@ use Rattle.dwarf_frame_rows.specs.Effects.{Limits}
 use Rattle.dwarf_frame_programs.specs.declared.rows.ProgramRows.{ProgramRows}
 use Rattle.dwarf_frame_programs.specs.contracts.rows.ProgramRows.{the_row}
 use Rattle.dwarf_frame_programs.specs.Programs.{Rows}
-use Rattle.dwarf_frame_programs.specs.ProgramRows.{HasLeft, current_row, left_by, row_given}
+use Rattle.dwarf_frame_programs.specs.ProgramRows.{HasLeft, current_row, rows_left_by, row_given}
 
 module _ (R S E O L K : RattleType) (rules : Ghosts L.Denot (RuledRegister (RegisterRule O.Denot))) (stretch : R.Denot → Stretch) (limit : ℕ) (number : O.Denot → ℕ) (items : K.Denot → List (UnwindTableRow O.Denot L.Denot)) (limits : Limits) where
   -- the rows behind the first are left, and the row that was given is the current one
@@ -21,4 +21,4 @@ module _ (R S E O L K : RattleType) (rules : Ghosts L.Denot (RuledRegister (Regi
   LeavesRows rows result =
       let row = the_row (record { mir = named 0; lft = [] }) (record { mir = named 1; lft = [] }) R S E O L K rules in
       follows_so row row rows.ghost_name none (λ _ _. ⊤)
-      (λ last. ((left : Rows ℕ) → HasLeft stretch limit number items limits rows.now left → HasLeft stretch limit number items limits last (left_by left result)) × (current_row number items limits last ≡ row_given number ⊤ result))
+      (λ last. ((left : Rows ℕ) → HasLeft stretch limit number items limits rows.now left → HasLeft stretch limit number items limits last (rows_left_by left result)) × (current_row number items limits last ≡ row_given number ⊤ result))

@@ -15,7 +15,7 @@ use Rattle.dwarf_frame_rows.specs.RuleMap.{RuleMap}
 use Rattle.dwarf_frame_programs.specs.declared.effects.Factors.{Factors}
 use Rattle.dwarf_frame_programs.specs.declared.instructions.CallFrameInstruction.{CallFrameInstruction}
 use Rattle.dwarf_frame_programs.specs.Effects.{effect_of}
-use Rattle.dwarf_frame_programs.specs.Parts.{Parts, parts_of, rules_of}
+use Rattle.dwarf_frame_programs.specs.Parts.{Parts, surviving_parts, surviving_rules}
 use Rattle.dwarf_frame_programs.specs.Refusals.{Known, needs, needs_room_for_rows, row_count}
 use Rattle.dwarf_frame_programs.specs.Survivors.{survivors}
 
@@ -84,7 +84,7 @@ past_from frame location past (Ok i ∷ rest) =
 
 -- the rules that a past leaves in the CIE
 abbrev pub rules_left : {T : Type 0} → List (Effect T) → RuleMap (RegisterRule T)
-rules_left past = rules_of empty (survivors 0 past)
+rules_left past = surviving_rules empty (survivors 0 past)
 
 -- the past of the CIE, where there is room for its rules beside the open states
 abbrev pub with_room : {T : Type 0} → Limits → List (Effect T) → Result (List (Effect T)) Error
@@ -112,8 +112,8 @@ abbrev pub no_rows : {T : Type 0} → Rows T
 no_rows = record { rows = []; refusal = None }
 
 -- a row and then others
-abbrev pub with_row : {T : Type 0} → Row T → Rows T → Rows T
-with_row row others = record { rows = row ∷ others.rows; refusal = others.refusal }
+abbrev pub row_before : {T : Type 0} → Row T → Rows T → Rows T
+row_before row others = record { rows = row ∷ others.rows; refusal = others.refusal }
 
 -- a row of these parts
 abbrev pub row_with : {T : Type 0} → ℕ → ℕ → Parts T → Row T
@@ -121,15 +121,15 @@ row_with start end parts = record { start = start; end = end; saved_args_size = 
 
 -- the row from a start to an end, behind a past
 abbrev pub row_behind : {T : Type 0} → RuleMap (RegisterRule T) → ℕ → ℕ → List (Effect T) → Row T
-row_behind initial start end past = row_with start end (parts_of initial (survivors 0 past))
+row_behind initial start end past = row_with start end (surviving_parts initial (survivors 0 past))
 
 -- the rows from a start on: each move ends one, and the end of the program ends the last at the end of the code
 abbrev pub rows_from : {T : Type 0} → Frame T → ℕ → ℕ → List (Effect T) → Instructions T → Rows T
-rows_from frame end start past [] = with_row (row_behind (unwrap_or frame.known empty) start end past) no_rows
+rows_from frame end start past [] = row_before (row_behind (unwrap_or frame.known empty) start end past) no_rows
 rows_from frame end start past (Err e ∷ rest) = refused_rows e
 rows_from frame end start past (Ok i ∷ rest) =
     elim (step_of frame start past i) [
-      | Moves location ↦ with_row (row_behind (unwrap_or frame.known empty) start location past) (rows_from frame end location past rest)
+      | Moves location ↦ row_before (row_behind (unwrap_or frame.known empty) start location past) (rows_from frame end location past rest)
       | Writes effect ↦ rows_from frame end start (effect ∷ past) rest
       | Refused e ↦ refused_rows e
     ]

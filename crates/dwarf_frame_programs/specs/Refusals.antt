@@ -10,7 +10,7 @@ use Rattle.dwarf_frame_rows.specs.declared.rules.RegisterRule.{RegisterRule}
 use Rattle.dwarf_frame_rows.specs.declared.rules.RegisterRule.TheVariants.{Constant}
 use Rattle.dwarf_frame_rows.specs.Effects.{Limits, initial_rows, is_within}
 use Rattle.dwarf_frame_rows.specs.RuleMap.{RuleMap}
-use Rattle.dwarf_frame_programs.specs.Parts.{cfa_expression, rule_of, rules_of, sign_state}
+use Rattle.dwarf_frame_programs.specs.Parts.{cfa_expression, rule_of, surviving_rules, sign_state}
 use Rattle.dwarf_frame_programs.specs.Survivors.{open_states, survivors}
 
 -- what the CIE's own instructions left, once they are done
@@ -25,7 +25,7 @@ needs_register_and_offset past = requirement (is_none (cfa_expression (survivors
 abbrev pub needs_room_for_rule : {T : Type 0} → Limits → RuleMap (RegisterRule T) → ℕ → List (Effect T) → Result (Unit {0}) Error
 needs_room_for_rule limits initial register past =
     if is_some (rule_of initial (survivors 0 past) register)
-    then requirement (is_within limits.rules (len (rules_of initial (survivors 0 past)))) TooManyRegisterRules else Ok tt
+    then requirement (is_within limits.rules (len (surviving_rules initial (survivors 0 past)))) TooManyRegisterRules else Ok tt
 
 -- a rule that can be turned: a constant, or none
 abbrev pub is_turnable : {T : Type 0} → Option (RegisterRule T) → Bool

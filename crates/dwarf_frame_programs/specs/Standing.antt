@@ -5,7 +5,7 @@ use Rattle.dwarf_frame_rows.specs.declared.rules.RegisterRule.{RegisterRule}
 use Rattle.dwarf_frame_rows.specs.Effects.{State}
 use Rattle.dwarf_frame_rows.specs.Row.{Row}
 use Rattle.dwarf_frame_rows.specs.RuleMap.{RuleMap}
-use Rattle.dwarf_frame_programs.specs.Parts.{Parts, parts_of}
+use Rattle.dwarf_frame_programs.specs.Parts.{Parts, surviving_parts}
 use Rattle.dwarf_frame_programs.specs.Refusals.{Known}
 use Rattle.dwarf_frame_programs.specs.Survivors.{open_states, survivors}
 
@@ -16,7 +16,7 @@ parts_in row = record { saved_args_size = row.saved_args_size; cfa = row.cfa; ru
 -- The nth of some rows has the parts of the nth of some pasts.
 abbrev pub HaveParts : {T : Type 0} → RuleMap (RegisterRule T) → (ℕ → List (Effect T)) → List (Row T) → Type 0
 HaveParts initial pasts [] = Unit {0}
-HaveParts initial pasts (row ∷ rows) = (parts_in row ≡ parts_of initial (pasts zero)) × HaveParts initial (λ n. pasts (suc n)) rows
+HaveParts initial pasts (row ∷ rows) = (parts_in row ≡ surviving_parts initial (pasts zero)) × HaveParts initial (λ n. pasts (suc n)) rows
 
 -- These are the rules that the CIE left, if it is done.
 abbrev pub AgreesWith : {T : Type 0} → Known T → RuleMap (RegisterRule T) → Type 0

@@ -2,7 +2,7 @@
 ghost use Rattle.std.specs.Prelude.{◌≡◌, ◌<◌, ℕ, List, length, IfErr, IfOk, OnSome, None, option_map, true};
 ghost use Rattle.dwarf_frame_rows.specs.Effects.{limits_of};
 ghost use Rattle.dwarf_frame_rows.specs.declared.effect.Effect.{Effect};
-ghost use Rattle.dwarf_frame_programs.specs.Execution.{Executes, Runs, Starts, TakesNoMemory, frame_in, front_from, state_in};
+ghost use Rattle.dwarf_frame_programs.specs.Execution.{Executes, Runs, Starts, TakesNoMemory, instruction_frame, front_from, state_in};
 ghost use Rattle.dwarf_frame_programs.specs.Instructions.{instructions_of};
 ghost use Rattle.dwarf_frame_programs.specs.InstructionViews.{conventions_by, instruction_as};
 ghost use Rattle.dwarf_frame_programs.specs.ProgramRows.{IsRowFor, program_of};
@@ -30,7 +30,7 @@ fn execute<T: ReaderOffset, S: UnwindContextStorage<T>>(
         (past : List (Effect ℕ)) → Stands old past
         → Executes (TakesNoMemory S.Rules.is_made_in_place limits) past
         old (state_in T.value S.Stack.items context.new)
-        (step_of (frame_in limits factors.now old) location past
+        (step_of (instruction_frame limits factors.now old) location past
         (instruction_as T.value instruction)) result }
 {
     let effect = factors.effect(location, instruction)?;
@@ -69,7 +69,7 @@ fn run<R: Reader, S: UnwindContextStorage<R::Offset>>(
         → Runs (TakesNoMemory S.Rules.is_made_in_place limits)
         old (state_in R.Offset.value S.Stack.items context.new)
         (instructions_of conventions (R.stretch input.new))
-        (front_from (frame_in limits factors.now old) location past
+        (front_from (instruction_frame limits factors.now old) location past
         (instructions_of conventions (R.stretch input.old))) result }
     ensures falls { let conventions = conventions_by R.stretch R.Offset.limit coding.now in
         IfOk result (λ next. OnSome next

@@ -130,9 +130,9 @@ abbrev pub left_by_pointer : Origins → ℕ → Stretch → Stretch
 left_by_pointer origins encoding s = if is_ok (origin_of origins encoding s.place) then left_by_value (format_of encoding) s else s
 
 -- the address of a pointer of either kind
-abbrev pub address_of : Pointer → ℕ
-address_of (Direct address) = address
-address_of (Indirect address) = address
+abbrev pub pointer_address : Pointer → ℕ
+pointer_address (Direct address) = address
+pointer_address (Indirect address) = address
 
 -- the address that is meant, where the pointer says it
 abbrev pub direct_address : Pointer → Result ℕ Error

@@ -3,7 +3,7 @@ ghost use Rattle.std.specs.Prelude.{◌≡◌, ◌≤◌, ◌+◌, ℕ, IsTrue, 
 ghost use Rattle.dwarf_readers.specs.InitialLength.{is_size, left_by};
 ghost use Rattle.dwarf_readers.specs.Onward.{ReadsOn};
 ghost use Rattle.dwarf_readers.specs.Place.{Reads, ReadsAs, Stretch, byte_at};
-ghost use Rattle.dwarf_frame_rows.specs.EncodedPointer.{Origins, address_of, direct_address, encoding_at, in_address_size, is_encoding, left_by_plain_value, left_by_pointer, left_by_value, origin_of, origins_of, plain_value_at, pointer_at, pointer_of, taken_encoding, value_at};
+ghost use Rattle.dwarf_frame_rows.specs.EncodedPointer.{Origins, pointer_address, direct_address, encoding_at, in_address_size, is_encoding, left_by_plain_value, left_by_pointer, left_by_value, origin_of, origins_of, plain_value_at, pointer_at, pointer_of, taken_encoding, value_at};
 
 use crate::SectionBaseAddresses;
 use dwarf_constants::constants::{
@@ -59,7 +59,7 @@ impl Pointer {
 
     /// The address of either kind of pointer.
     pub fn pointer(self) -> u64
-        ensures { result ≡ address_of self }
+        ensures { result ≡ pointer_address self }
     {
         match self {
             Pointer::Direct(address) => address,

@@ -1,7 +1,8 @@
 //! What the sections of call frames have in common, and what they differ in.
 ghost use Rattle.std.specs.Prelude.{◌≡◌, ℕ, option_map};
 
-use dwarf_constants::{DebugFrameOffset, EhFrameOffset, Format, Vendor};
+use dwarf_constants::{Format, Vendor};
+use dwarf_offsets::{DebugFrameOffset, EhFrameOffset};
 use dwarf_readers::{Reader, ReaderOffset};
 use std::fmt::Debug;
 

@@ -2,8 +2,9 @@
 use dwarf_call_frames::{
     BaseAddresses, EhFrame, FrameDescriptionEntry, UnwindContext, UnwindSection,
 };
-use dwarf_constants::{EhFrameOffset, Error, X86_64};
+use dwarf_constants::{Error, X86_64};
 use dwarf_frame_rows::{CfaRule, RegisterRule, StoreOnHeap};
+use dwarf_offsets::EhFrameOffset;
 use dwarf_readers::{EndianSlice, LittleEndian};
 use dwarf_tests::WORKED;
 use std::test::Fail;

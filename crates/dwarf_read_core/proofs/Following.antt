@@ -10,7 +10,7 @@ use Rattle.dwarf_constants.specs.declared.error.Error.TheVariants.{AbbreviationT
 use Rattle.dwarf_read_core.specs.AbbreviationTable.{Attribute, Declaration, attribute_at, attribute_of, attributes_at, attributes_within, children_at, children_of, declaration_of, next_declaration, next_of, table_at, table_in, table_of, tag_at, with_declaration}
 use Rattle.dwarf_read_core.specs.AddressSets.{next_address, next_set, set_at, set_behind}
 use Rattle.dwarf_read_core.specs.ClosedTables.{StaysIf, is_closed_at, is_closed_in, is_code_0}
-use Rattle.dwarf_read_core.specs.Sections.{address_in, entry_in, range_in, string_in, string_offset_in}
+use Rattle.dwarf_read_core.specs.Sections.{address_in, behind_entries, range_in, string_in, string_offset_in}
 use Rattle.dwarf_read_core.specs.MoreItems.{StaysNext}
 use Rattle.dwarf_read_core.proofs.Tables.{declarations_shrink}
 use Rattle.dwarf_readers.specs.Remainder.{item_at}
@@ -45,14 +45,14 @@ offset_behind : (offset : Result ℕ Error) (more : List ℕ) (section : Stretch
 offset_behind (Ok n) more section = behind_steady n more section
 offset_behind (Err e) more section = λ lasting. refl
 
-entry_steady : (limit base index size : ℕ) → IsSteadyMove (entry_in limit base index size)
+entry_steady : (limit base index size : ℕ) → IsSteadyMove (behind_entries limit base index size)
 entry_steady limit base index size = λ more section. offset_behind (offset_below limit (base + index * size)) more section
 
 pub string_offset_in_steady : (limit : ℕ) (format : Format) (base index : ℕ) → IsSteadySearch (string_offset_in limit format base index)
-string_offset_in_steady limit format base index = search_behind (entry_in limit base index (word_size format)) (word_at limit format) (entry_steady limit base index (word_size format)) (word_steady limit format)
+string_offset_in_steady limit format base index = search_behind (behind_entries limit base index (word_size format)) (word_at limit format) (entry_steady limit base index (word_size format)) (word_steady limit format)
 
 pub address_in_steady : (limit size base index : ℕ) → IsSteadySearch (address_in limit size base index)
-address_in_steady limit size base index = search_behind (entry_in limit base index size) (address_at size) (entry_steady limit base index size) (address_steady size)
+address_in_steady limit size base index = search_behind (behind_entries limit base index size) (address_at size) (entry_steady limit base index size) (address_steady size)
 
 -- sets of addresses
 pub set_steady : (limit offset : ℕ) → IsSteady (set_at limit offset)

@@ -135,9 +135,9 @@ declaration_for code [] = None
 declaration_for code (d ∷ ds) = if d.code == code then Some d else declaration_for code ds
 
 -- the place of a code's declaration among these, counted from 0
-abbrev pub place_of : ℕ → List Declaration → Option ℕ
-place_of code [] = None
-place_of code (d ∷ ds) = if d.code == code then Some 0 else option_map suc (place_of code ds)
+abbrev pub place_among : ℕ → List Declaration → Option ℕ
+place_among code [] = None
+place_among code (d ∷ ds) = if d.code == code then Some 0 else option_map suc (place_among code ds)
 
 -- this is one of the codes 1, 2, .., n
 abbrev pub is_among_first : ℕ → ℕ → Bool

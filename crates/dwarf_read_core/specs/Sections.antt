@@ -21,21 +21,21 @@ string_in offset section = do
   Ok string.0
 
 -- what is left behind the base and so many entries of this size, where that offset is below the limit
-abbrev pub entry_in : ℕ → ℕ → ℕ → ℕ → Stretch → Result Stretch Error
-entry_in limit base index size section = do
+abbrev pub behind_entries : ℕ → ℕ → ℕ → ℕ → Stretch → Result Stretch Error
+behind_entries limit base index size section = do
   offset ← offset_below limit (base + index * size)
   behind_at offset section
 
 -- the string offset of this index (DWARF 5, 7.26)
 abbrev pub string_offset_in : ℕ → Format → ℕ → ℕ → Stretch → Result ℕ Error
 string_offset_in limit format base index section = do
-  s ← entry_in limit base index (word_size format) section
+  s ← behind_entries limit base index (word_size format) section
   offset ← word_at limit format s
   Ok offset.0
 
 -- the address of this index (DWARF 5, 7.27)
 abbrev pub address_in : ℕ → ℕ → ℕ → ℕ → Stretch → Result ℕ Error
 address_in limit size base index section = do
-  s ← entry_in limit base index size section
+  s ← behind_entries limit base index size section
   address ← address_at size s
   Ok address.0

@@ -5,7 +5,7 @@ ghost use Rattle.std.specs.BTreeMap.{get};
 ghost use Rattle.std.specs.Ordering.{nat_cmp};
 ghost use Rattle.dwarf_constants.specs.declared.common.SectionId.TheVariants as id;
 ghost use Rattle.dwarf_constants.specs.declared.error.Error.TheVariants as error;
-ghost use Rattle.dwarf_read_core.specs.AbbreviationTable.{GivesOrMemory, attribute_at, attributes_at, children_at, declaration_of, declaration_for, has_code, is_among_first, next_declaration, place_of, table_at, table_in, tag_at, with_declaration};
+ghost use Rattle.dwarf_read_core.specs.AbbreviationTable.{GivesOrMemory, attribute_at, attributes_at, children_at, declaration_of, declaration_for, has_code, is_among_first, next_declaration, place_among, table_at, table_in, tag_at, with_declaration};
 ghost use Rattle.dwarf_read_core.specs.Abbreviations.{attribute, declaration};
 ghost use Rattle.dwarf_read_core.specs.Forms.{fixed_size, form_size};
 ghost use Rattle.dwarf_readers.specs.Place.{Reads, ReadsAs};
@@ -23,7 +23,8 @@ use dwarf_constants::constants::{
     DW_FORM_sec_offset, DW_FORM_strp, DW_FORM_strp_sup, DW_FORM_strx1, DW_FORM_strx2,
     DW_FORM_strx3, DW_FORM_strx4,
 };
-use dwarf_constants::{DebugAbbrevOffset, DwChildren, DwForm, Encoding, Error, Result, SectionId};
+use dwarf_constants::{DwChildren, DwForm, Encoding, Error, Result, SectionId};
+use dwarf_offsets::DebugAbbrevOffset;
 use dwarf_readers::{EndianSlice, Endianity, Reader};
 use std::alloc::Global;
 use std::collections::BTreeMap;
@@ -257,7 +258,7 @@ pub struct Abbreviations {
     dense: usize,
     // The places of the others, by their codes.
     sparse: BTreeMap<u64, usize>,
-    ghost places: { (code : ℕ) → place_of code (map declaration declarations.items)
+    ghost places: { (code : ℕ) → place_among code (map declaration declarations.items)
         ≡ (if is_among_first code dense then Some (code - 1) else get nat_cmp sparse code) },
 }
 
@@ -291,7 +292,7 @@ impl Abbreviations {
 
     // The place of the abbreviation of a code.
     fn place(&self, code: u64) -> Option<usize>
-        ensures { result ≡ place_of code (declarations self.now) }
+        ensures { result ≡ place_among code (declarations self.now) }
     {
         if 0 < code && code <= self.dense as u64 {
             return Some((code - 1) as usize);

@@ -7,9 +7,8 @@ ghost use Rattle.dwarf_readers.specs.Place.{Reads};
 
 use crate::section::Section;
 use crate::str::entry_offset;
-use dwarf_constants::{
-    DebugAddrBase, DebugAddrIndex, DebugAddrOffset, Encoding, Error, Result, SectionId,
-};
+use dwarf_constants::{Encoding, Error, Result, SectionId};
+use dwarf_offsets::{DebugAddrBase, DebugAddrIndex, DebugAddrOffset};
 use dwarf_readers::{Reader, ReaderOffset};
 use std::marker::Model;
 

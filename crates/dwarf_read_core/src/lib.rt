@@ -13,21 +13,26 @@ pub use abbrev::{
     AttributeSpecification, DebugAbbrev,
 };
 pub use addr::{AddrEntryIter, AddrHeader, AddrHeaderIter, DebugAddr};
+pub use dwarf_codes::{
+    DwAccess, DwAddr, DwAte, DwCc, DwDefaulted, DwDs, DwDsc, DwEnd, DwId, DwIdx, DwInl, DwLang,
+    DwLle, DwLnct, DwLne, DwLns, DwMacinfo, DwMacro, DwOrd, DwRle, DwSect, DwSectV2, DwUt,
+    DwVirtuality, DwVis,
+};
 pub use dwarf_constants::{
-    AArch64, DebugAbbrevOffset, DebugAddrBase, DebugAddrIndex, DebugAddrOffset, DebugArangesOffset,
+    AArch64, DebugTypeSignature, DwCfa, DwChildren, DwEhPe, DwForm, DwOp, DwarfFileType, DwoId,
+    Encoding, Error, Format, LineEncoding, ReaderOffsetId, Register, Result, SectionId, Vendor,
+    X86_64, constants,
+};
+pub use dwarf_offsets::{
+    DebugAbbrevOffset, DebugAddrBase, DebugAddrIndex, DebugAddrOffset, DebugArangesOffset,
     DebugFrameOffset, DebugInfoOffset, DebugLineOffset, DebugLineStrOffset, DebugLocListsBase,
     DebugLocListsIndex, DebugMacinfoOffset, DebugMacroOffset, DebugNamesOffset, DebugRngListsBase,
-    DebugRngListsIndex, DebugStrOffset, DebugStrOffsetsIndex, DebugTypeSignature, DebugTypesOffset,
-    DwAccess, DwAddr, DwAte, DwCc, DwCfa, DwChildren, DwDefaulted, DwDs, DwDsc, DwEhPe, DwEnd,
-    DwForm, DwId, DwIdx, DwInl, DwLang, DwLle, DwLnct, DwLne, DwLns, DwMacinfo, DwMacro, DwOp,
-    DwOrd, DwRle, DwSect, DwSectV2, DwUt, DwVirtuality, DwVis, DwarfFileType, DwoId, EhFrameOffset,
-    Encoding, Error, Format, LineEncoding, LocationListsOffset, RangeListsOffset,
-    RawRangeListsOffset, ReaderOffsetId, Register, Result, SectionId, UnitOffset,
-    UnitSectionOffset, Vendor, X86_64, constants,
+    DebugRngListsIndex, DebugStrOffset, DebugStrOffsetsIndex, DebugTypesOffset, EhFrameOffset,
+    LocationListsOffset, RangeListsOffset, RawRangeListsOffset, UnitOffset, UnitSectionOffset,
 };
 pub use dwarf_readers::{
     BigEndian, DebugStrOffsetsBase, EndianSlice, Endianity, LittleEndian, NativeEndian, Reader,
-    ReaderOffset, RunTimeEndian, Steps, leb128, read_u8_array,
+    ReaderOffset, RunTimeEndian, Steps, TwoPieces, leb128, read_u8_array,
 };
 pub use section::Section;
 pub use str::{DebugLineStr, DebugStr, DebugStrOffsets};

@@ -27,7 +27,8 @@ pub fn searches_stay()
 pub fn address_sets_stay()
     ensures set { (limit offset : ℕ) → IsSteady (set_at limit offset) }
     ensures next_set { (limit offset : ℕ) (more : List ℕ) (s : Stretch) → 0 < length s.bytes
-        → StaysNext more (next_set limit offset s) (next_set limit offset (extended_stretch more s)) }
+        → StaysNext more (next_set limit offset s)
+        (next_set limit offset (extended_stretch more s)) }
     ensures next_address { (size : ℕ) (more : List ℕ) (s : Stretch) → 0 < length s.bytes
         → StaysNext more (next_address size s) (next_address size (extended_stretch more s)) }
 {}

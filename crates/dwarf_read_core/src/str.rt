@@ -7,9 +7,8 @@ ghost use Rattle.dwarf_numbers.specs.Answers.{Gives};
 ghost use Rattle.dwarf_readers.specs.Place.{whole};
 
 use crate::section::Section;
-use dwarf_constants::{
-    DebugLineStrOffset, DebugStrOffset, DebugStrOffsetsIndex, Error, Format, Result, SectionId,
-};
+use dwarf_constants::{Error, Format, Result, SectionId};
+use dwarf_offsets::{DebugLineStrOffset, DebugStrOffset, DebugStrOffsetsIndex};
 use dwarf_readers::{DebugStrOffsetsBase, EndianSlice, Endianity, Reader, ReaderOffset};
 use std::marker::Model;
 
@@ -43,7 +42,8 @@ impl<R: Reader> DebugStr<R> {
 
     /// The string at an offset, without its zero byte.
     pub fn get_str(&self, offset: DebugStrOffset<R::Offset>) -> Result<R>
-        ensures { Gives R.stretch result (string_in (R.Offset.value offset.0) (R.stretch self.now)) }
+        ensures { Gives R.stretch result
+            (string_in (R.Offset.value offset.0) (R.stretch self.now)) }
     {
         let mut reader = self.section;
         reader.skip(offset.0)?;
@@ -119,7 +119,8 @@ impl<R: Reader> DebugLineStr<R> {
 
     /// The string at an offset, without its zero byte.
     pub fn get_str(&self, offset: DebugLineStrOffset<R::Offset>) -> Result<R>
-        ensures { Gives R.stretch result (string_in (R.Offset.value offset.0) (R.stretch (self.now))) }
+        ensures { Gives R.stretch result
+            (string_in (R.Offset.value offset.0) (R.stretch (self.now))) }
     {
         let mut reader = self.section;
         reader.skip(offset.0)?;

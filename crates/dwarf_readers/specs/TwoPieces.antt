@@ -4,12 +4,12 @@ use Rattle.dwarf_readers.specs.declared.two_pieces.TwoPieces.{TwoPieces}
 use Rattle.dwarf_readers.specs.Place.{Stretch}
 
 -- the bytes of the first piece, and behind them those of the second
-abbrev pub bytes_of : {E : Type 0} → TwoPieces E → List ℕ
-bytes_of s = s.first.now ++ s.second.now
+abbrev pub joined_bytes : {E : Type 0} → TwoPieces E → List ℕ
+joined_bytes s = s.first.now ++ s.second.now
 
 -- its bytes, its place and its byte order
 abbrev pub stretch_of : {E : Type 0} → (E → Bool) → TwoPieces E → Stretch
-stretch_of is_big s = record { bytes = bytes_of s; place = s.place; big = is_big s.endian }
+stretch_of is_big s = record { bytes = joined_bytes s; place = s.place; big = is_big s.endian }
 
 -- the joint: the place where the first piece ends and the second begins
 abbrev pub joint_of : {E : Type 0} → TwoPieces E → ℕ

@@ -43,7 +43,7 @@ impl<'a, E: Endianity> TwoPieces<'a, E> {
     ghost use Rattle.dwarf_constants.specs.declared.error.Error.TheVariants.{OutOfMemory};
     ghost use Rattle.dwarf_readers.specs.EndianSlice.{stretch_of as stretch_of_slice};
     ghost use Rattle.dwarf_readers.specs.Place.{whole, prefix, behind, count_before};
-    ghost use Rattle.dwarf_readers.specs.TwoPieces.{stretch_of, bytes_of, joint_of, CrossesJoint, KeepsJoint};
+    ghost use Rattle.dwarf_readers.specs.TwoPieces.{stretch_of, joined_bytes, joint_of, CrossesJoint, KeepsJoint};
 
     /// A section as a whole: its first byte is at place 0.
     pub fn new(first: &'a [u8], second: &'a [u8], endian: E) -> Self
@@ -62,7 +62,7 @@ impl<'a, E: Endianity> TwoPieces<'a, E> {
 
     // How many bytes are left.
     fn left(&self) -> usize
-        ensures { result ≡ length (bytes_of self.now) }
+        ensures { result ≡ length (joined_bytes self.now) }
     {
         self.first.len() + self.second.len()
     }
@@ -70,7 +70,7 @@ impl<'a, E: Endianity> TwoPieces<'a, E> {
     // The first `len` bytes.
     #[tactic(auto, using(crate::proofs::Pieces::take_pieces))]
     fn prefix(&self, len: usize) -> Self
-        requires { len ≤ length (bytes_of self.now) }
+        requires { len ≤ length (joined_bytes self.now) }
         ensures stretch { stretch_of E.is_big result ≡ prefix len (stretch_of E.is_big self.now) }
         ensures joint { KeepsJoint self.now result }
     {
@@ -85,7 +85,7 @@ impl<'a, E: Endianity> TwoPieces<'a, E> {
 
     // What is left behind the first `len` bytes.
     fn behind(&self, len: usize) -> Self
-        requires { len ≤ length (bytes_of self.now) }
+        requires { len ≤ length (joined_bytes self.now) }
         ensures stretch { stretch_of E.is_big result ≡ behind len (stretch_of E.is_big self.now) }
         ensures joint { KeepsJoint self.now result }
     {
@@ -101,7 +101,7 @@ impl<'a, E: Endianity> TwoPieces<'a, E> {
     // How many bytes stand before the first of this value, if there is one.
     #[tactic(auto, using(crate::proofs::Pieces::count_pieces, crate::proofs::Places::count_before_lt))]
     fn before(&self, byte: u8) -> Option<usize>
-        ensures { result ≡ count_before byte (bytes_of self.now) }
+        ensures { result ≡ count_before byte (joined_bytes self.now) }
     {
         match EndianSlice::new(self.first, self.endian).find(byte) {
             Some(len) => Some(len),
@@ -114,8 +114,8 @@ impl<'a, E: Endianity> TwoPieces<'a, E> {
 
     // Writes the bytes into `buf`.
     fn fill(&self, buf: &mut [u8])
-        requires { length buf.old ≡ length (bytes_of self.now) }
-        ensures { buf.new ≡ bytes_of self.now }
+        requires { length buf.old ≡ length (joined_bytes self.now) }
+        ensures { buf.new ≡ joined_bytes self.now }
     {
         let joint = self.first.len();
         buf[..joint].copy_from_slice(self.first);
@@ -139,7 +139,7 @@ impl<'a, E: Endianity> TwoPieces<'a, E> {
 
     // A copy of the bytes, in one piece.
     fn joined(&self, alloc: Global) -> Result<Vec<u8>>
-        ensures bytes { IfOk result (λ copy. copy.items ≡ bytes_of self.now) }
+        ensures bytes { IfOk result (λ copy. copy.items ≡ joined_bytes self.now) }
         ensures memory { IfErr result (λ e. e ≡ OutOfMemory) }
     {
         let mut bytes = Vec::with_capacity(alloc, self.left())?;
@@ -155,7 +155,7 @@ impl<'a, E: Endianity> Reader for TwoPieces<'a, E> {
     ghost use Rattle.std.specs.Str.{IsUtf8};
     ghost use Rattle.dwarf_constants.specs.declared.error.Error.TheVariants.{BadUtf8, OutOfMemory};
     ghost use Rattle.dwarf_readers.specs.Place.{Moves, ReadsAs, behind_at, prefix_at, split_at};
-    ghost use Rattle.dwarf_readers.specs.TwoPieces.{stretch_of, bytes_of, CrossesJoint, KeepsJoint};
+    ghost use Rattle.dwarf_readers.specs.TwoPieces.{stretch_of, joined_bytes, CrossesJoint, KeepsJoint};
 
     type Endian = E;
 
@@ -243,7 +243,7 @@ impl<'a, E: Endianity> Reader for TwoPieces<'a, E> {
 
     /// The bytes that are left. They are copied only where they lie on both sides of the joint.
     fn to_slice(&self, alloc: Global) -> Result<CowSlice<'_, u8, Global>>
-        ensures bytes { IfOk result (λ bytes. cow_slice_items bytes ≡ bytes_of self.now) }
+        ensures bytes { IfOk result (λ bytes. cow_slice_items bytes ≡ joined_bytes self.now) }
         ensures memory { IfErr result (λ e. e ≡ OutOfMemory) }
         ensures joint { OnErr result (CrossesJoint self.now) }
     {
@@ -256,10 +256,10 @@ impl<'a, E: Endianity> Reader for TwoPieces<'a, E> {
     /// The bytes that are left, as a text. They are copied only where they lie on both sides of the
     /// joint. Fails with `BadUtf8` where they are none.
     fn to_string(&self, alloc: Global) -> Result<CowStr<'_, Global>>
-        ensures text { IfOk result (λ text. cow_str_bytes text ≡ bytes_of self.now) }
-        ensures valid { IfOk result (λ text. IsUtf8 (bytes_of self.now)) }
+        ensures text { IfOk result (λ text. cow_str_bytes text ≡ joined_bytes self.now) }
+        ensures valid { IfOk result (λ text. IsUtf8 (joined_bytes self.now)) }
         ensures refused { IfErr result
-            (λ e. (e ≡ BadUtf8) × ¬ (IsUtf8 (bytes_of self.now)) ⊎ (e ≡ OutOfMemory)) }
+            (λ e. (e ≡ BadUtf8) × ¬ (IsUtf8 (joined_bytes self.now)) ⊎ (e ≡ OutOfMemory)) }
         ensures joint { IfErr result (λ e. e ≡ OutOfMemory → CrossesJoint self.now) }
     {
         if let Some(piece) = self.one_piece() {

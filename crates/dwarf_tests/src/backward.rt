@@ -52,7 +52,8 @@ impl<'a> Backward<'a> {
     // How many bytes are left behind the next `len`, if they are there.
     fn rest(&self, len: usize) -> Result<usize>
         ensures rest { IfOk result (λ rest. rest + len ≡ length self.now.stored.now) }
-        ensures refused { IfErr result (λ e. (length self.now.stored.now < len) × (e ≡ ends_at self.now.first)) }
+        ensures refused { IfErr result (λ e.
+            (length self.now.stored.now < len) × (e ≡ ends_at self.now.first)) }
     {
         if self.stored.len() < len {
             return Err(Error::UnexpectedEof(ReaderOffsetId(self.first)));
@@ -73,7 +74,11 @@ impl Reader for Backward<'_> {
 
     type Offset = u32;
 
-    ghost stretch = { λ s. record { bytes = reverse s.stored.now; place = s.first; big = ⟦<RunTimeEndian as Endianity>⟧.is_big s.endian } };
+    ghost stretch = { λ s. record {
+      bytes = reverse s.stored.now;
+      place = s.first;
+      big = ⟦<RunTimeEndian as Endianity>⟧.is_big s.endian;
+    } };
 
     fn endian(&self) -> RunTimeEndian {
         self.endian

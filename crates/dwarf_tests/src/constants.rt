@@ -2,9 +2,9 @@
 //! A row of names counts up from its first value, as the tables of the standard do; `-` is a gap.
 use dwarf_constants::constants::*;
 use dwarf_constants::{
-    AArch64, DebugFrameOffset, EhFrameOffset, Error, Format, LineEncoding, ReaderOffsetId,
-    Register, SectionId, X86_64,
+    AArch64, Error, Format, LineEncoding, ReaderOffsetId, Register, SectionId, X86_64,
 };
+use dwarf_offsets::{DebugFrameOffset, EhFrameOffset};
 use std::alloc::{AllocError, Global};
 use std::fmt;
 use std::process::Abort;

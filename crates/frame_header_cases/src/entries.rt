@@ -3,9 +3,9 @@
 use anyhow::Result;
 use dwarf_call_frames::{BaseAddresses, EhFrame, UnwindContext, UnwindSection};
 use dwarf_frame_headers::{EhFrameHdr, EhHdrTable};
+use dwarf_frame_row_tests::line_of;
 use dwarf_frame_rows::StoreOnHeap;
 use dwarf_readers::{EndianSlice, LittleEndian};
-use dwarf_tests::line_of;
 use std::alloc::Global;
 
 /// A header, the section of call frames that it is about, and addresses.

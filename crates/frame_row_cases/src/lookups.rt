@@ -5,8 +5,8 @@ use crate::entry::{bases, fde_for, row_for};
 use crate::readers::Shows;
 use anyhow::Result;
 use dwarf_call_frames::{DebugFrame, EhFrame, UnwindContext, UnwindContextStorage, UnwindSection};
+use dwarf_frame_row_tests::line_of;
 use dwarf_readers::{Reader, ReaderOffset};
-use dwarf_tests::line_of;
 use std::alloc::Global;
 
 /// Addresses that are looked up in a section.

@@ -9,8 +9,8 @@ use dwarf_call_frames::{
     UnwindSection, UnwindTable,
 };
 use dwarf_constants::Vendor;
+use dwarf_frame_row_tests::line_of;
 use dwarf_readers::{Reader, ReaderOffset};
-use dwarf_tests::line_of;
 use std::alloc::Global;
 
 /// The FDE at an offset, and addresses that it may have rows for.

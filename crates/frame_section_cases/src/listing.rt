@@ -7,8 +7,8 @@ use dwarf_call_frames::{
     UnwindOffset, UnwindSection, UnwindTable,
 };
 use dwarf_constants::Result as Answer;
+use dwarf_frame_row_tests::line_of;
 use dwarf_readers::{Reader, ReaderOffset};
-use dwarf_tests::line_of;
 use std::alloc::Global;
 
 // How many entries of a section, and rows of an entry, are shown at most.

@@ -61,8 +61,8 @@ front_text address_size head front =
 
 -- the table of an entry with a CIE: columns are named by both their instructions, and it is shown unless all of the entry's own are
 -- padding
-abbrev pub table_of : Option Machine → Cie → List ℕ → Instructions ℕ → Table
-table_of machine cie columns own = record {
+abbrev pub entry_table : Option Machine → Cie → List ℕ → Instructions ℕ → Table
+entry_table machine cie columns own = record {
   machine = machine;
   address_size = cie.address_size;
   return_address = cie.return_address_register.0;
@@ -88,7 +88,7 @@ cie_rows s cie = rows_of_program s.limits (cie_program s.section s.vendor cie)
 
 -- the table of a CIE
 abbrev pub cie_table : Setting → Cie → Table
-cie_table s cie = table_of s.machine cie [] (cie_instructions s.section s.vendor cie)
+cie_table s cie = entry_table s.machine cie [] (cie_instructions s.section s.vendor cie)
 
 -- the factors of a CIE, behind the text of its augmentation
 abbrev pub cie_factors : Cie → List ℕ
@@ -131,7 +131,7 @@ rows_of_fde s fde = rows_of_program s.limits (fde_program s.section s.vendor fde
 -- the table of an FDE
 abbrev pub fde_table : Setting → Fde → Table
 fde_table s fde =
-    table_of s.machine fde.cie (columns_with [] (cie_instructions s.section s.vendor fde.cie)) (fde_instructions s.section s.vendor fde)
+    entry_table s.machine fde.cie (columns_with [] (cie_instructions s.section s.vendor fde.cie)) (fde_instructions s.section s.vendor fde)
 
 -- where the CIE of an FDE stands, and its code, from its start to its end
 abbrev pub fde_places : ℕ → ℕ → ℕ → ℕ → List ℕ

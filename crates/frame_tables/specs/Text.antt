@@ -22,9 +22,9 @@ use Rattle.frame_tables.specs.declared.program.Ending.{Ending}
 use Rattle.frame_tables.specs.declared.program.Ending.TheVariants.{Listed, Faulty}
 
 -- the kind of a section
-abbrev pub kind_of : SectionName → SectionKind
-kind_of EhFrame = eh_frame
-kind_of DebugFrame = debug_frame
+abbrev pub section_kind : SectionName → SectionKind
+section_kind EhFrame = eh_frame
+section_kind DebugFrame = debug_frame
 
 -- the section's start is all that is known of the addresses that pointers count from
 abbrev pub no_bases : SectionBaseAddresses
@@ -42,7 +42,7 @@ vendor_of None = vendor.Default
 
 -- the section, as its entries are read: the low byte of a number comes first
 abbrev pub section_stated : Stated → FrameSection
-section_stated s = frame_section (2 ^ 64) (kind_of s.name) s.address_size (whole false s.bytes) (bases_from s.start)
+section_stated s = frame_section (2 ^ 64) (section_kind s.name) s.address_size (whole false s.bytes) (bases_from s.start)
 
 -- how it is listed: rows have room for the rules of 192 registers, and there is room for 4 rows
 abbrev pub setting_of : Stated → Setting

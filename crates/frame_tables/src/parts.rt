@@ -3,7 +3,7 @@ ghost use Rattle.std.specs.Prelude.{◌≡◌, ◌*◌, ◌++◌, IfOk, OnOk, Li
 ghost use Rattle.dwarf_readers.specs.Place.{Stretch};
 ghost use Rattle.dwarf_call_frames.specs.EntryViews.{cie_view};
 ghost use Rattle.dwarf_call_frames.specs.EntryPrograms.{factors_of};
-ghost use Rattle.frame_tables.specs.Entries.{fault_text, front_text, id_digits, part_or_fault, part_with, table_of};
+ghost use Rattle.frame_tables.specs.Entries.{fault_text, front_text, id_digits, part_or_fault, part_with, entry_table};
 ghost use Rattle.frame_tables.specs.EntryWrites.{WritesPart};
 ghost use Rattle.frame_tables.specs.FrontViews.{front_view};
 ghost use Rattle.table_texts.specs.TableViews.{table_view};
@@ -95,7 +95,7 @@ pub(crate) fn table_of<'a, R: Reader>(
     mut columns: BTreeSet<u16>,
     own: CallFrameInstructionIter<'a, R>,
 ) -> Result<Table, AllocError>
-    ensures { IfOk result (λ table. table_view table ≡ table_of machine
+    ensures { IfOk result (λ table. table_view table ≡ entry_table machine
         (cie_view R.stretch R.Offset.value cie.now) columns.keys own.entry) }
 {
     let nops = add_columns(&mut columns, own)?;

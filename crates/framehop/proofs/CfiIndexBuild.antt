@@ -21,7 +21,7 @@ use Rattle.dwarf_call_frames.specs.declared.entries.Entry.TheVariants as which
 use Rattle.framehop.specs.EntryFor.{indexed_among, fits_index, fde_fits, item_fits, has_index, indexed_entry}
 use Rattle.lists.specs.Greatest.{is_greatest, greater}
 use Rattle.lists.specs.Last.{last_of}
-use Rattle.framehop.specs.CfiIndex.{index_refusal, fde_error, item_error, first_value, index_error, index_entry, offset_in, Indexes}
+use Rattle.framehop.specs.CfiIndex.{index_refusal, fde_error, item_error, first_value, index_error, index_entry, offset_by_index, Indexes}
 use Rattle.lists.proofs.Laws.{by_case, by_option}
 use Rattle.framehop.proofs.EntryIndex.{later_of, find-has, indexed-cons}
 use Rattle.framehop.proofs.CfiIndexOrder.{none-passes, last-passes, none-higher, last-alike, find-back}
@@ -171,7 +171,7 @@ module _ (base : ℕ) (section : FrameSection) (ys : List IndexedFde) (has : has
       kept : List IndexedFde
       kept = map (index_entry base) (whole_fdes section)
 
-      by : (a : ℕ) (o : Option IndexedFde) → last_of (filter (λ y. nat_le y.start a) ys) ≡ o → offset_in ys a ≡ option_map (λ f. f.head.offset) (indexed_among (base + a) (whole_fdes section))
+      by : (a : ℕ) (o : Option IndexedFde) → last_of (filter (λ y. nat_le y.start a) ys) ≡ o → offset_by_index ys a ≡ option_map (λ f. f.head.offset) (indexed_among (base + a) (whole_fdes section))
       by a (Some x) e = ap (option_map (λ y. y.offset)) e ∙ found-some a x e
       by a None e = ap (option_map (λ y. y.offset)) e ∙ sym (ap (option_map (λ f. f.head.offset)) (found-none a e))
 

@@ -43,12 +43,12 @@ abbrev pub index_entry : ℕ → Fde → IndexedFde
 index_entry base fde = record { start = fde.initial_address - base; offset = fde.head.offset }
 
 -- the place of the last that starts at or below an address, of those that an index keeps
-abbrev pub offset_in : List IndexedFde → ℕ → Option ℕ
-offset_in kept relative = option_map (λ fde. fde.offset) (last_of (filter (λ fde. nat_le fde.start relative) kept))
+abbrev pub offset_by_index : List IndexedFde → ℕ → Option ℕ
+offset_by_index kept relative = option_map (λ fde. fde.offset) (last_of (filter (λ fde. nat_le fde.start relative) kept))
 
 -- these are an index of the section: it has one, each address finds its entry, and as many are kept as it has FDEs
 abbrev pub Indexes : List IndexedFde → ℕ → FrameSection → Type 0
 Indexes kept base section =
     (has_index base section ≡ true)
-    × ((relative : ℕ) → offset_in kept relative ≡ option_map (λ fde. fde.head.offset) (indexed_entry base relative section))
+    × ((relative : ℕ) → offset_by_index kept relative ≡ option_map (λ fde. fde.head.offset) (indexed_entry base relative section))
     × (length kept ≡ length (whole_fdes section))

@@ -12,7 +12,7 @@ use Rattle.dwarf_call_frames.specs.AddressLookups.{fde_for_address}
 use Rattle.dwarf_call_frames.specs.Entries.{Fde, fde_from_offset}
 use Rattle.dwarf_frame_headers.specs.Header.{Header, header_at}
 use Rattle.dwarf_frame_headers.specs.HeaderEntries.{named_offset}
-use Rattle.dwarf_frame_headers.specs.HeaderTable.{table_in}
+use Rattle.dwarf_frame_headers.specs.HeaderTable.{header_with_table}
 use Rattle.framehop.specs.EntryFor.{indexed_entry}
 use Rattle.framehop.specs.declared.roads.NoFde.{NoFde}
 use Rattle.framehop.specs.declared.roads.NoFde.TheVariants.{Uncovered, Unknown}
@@ -38,7 +38,7 @@ offset_in_table bases table address = do
 abbrev pub headed_offset : BaseAddresses → List ℕ → (address : ℕ) → Result ℕ Error
 headed_offset bases bytes address = do
   header ← header_of bases bytes
-  table ← ok_or (table_in header) NoUnwindInfoForAddress
+  table ← ok_or (header_with_table header) NoUnwindInfoForAddress
   offset_in_table bases table address
 
 -- the FDE that stands there

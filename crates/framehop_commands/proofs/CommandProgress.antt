@@ -11,12 +11,12 @@ use Rattle.framehop_unwinder.specs.WalkViews.{walk_of, place_of}
 use Rattle.framehop_unwinder.specs.declared.iterator.StackWalk.{StackWalk}
 use Rattle.framehop_commands.specs.Commands.{Scene, Reply, IsTurn, turn}
 use Rattle.framehop_unwinder.specs.Progress.{Progress, IsAt}
-use Rattle.framehop_commands.specs.Progress.{with_step, with_move, if_asked, place_in, progress_after, progress_after_all}
+use Rattle.framehop_commands.specs.Progress.{with_step, with_move, if_asked, walk_place, progress_after, progress_after_all}
 use Rattle.framehop_commands.specs.declared.commands.Command.{Command}
 use Rattle.framehop_commands.proofs.CommandTurns.{get-map}
 
 -- where a walk of a list is
-pub place-there : {Regs : Type 0} (walks : List (StackWalk Regs)) (w : ℕ) (there : StackWalk Regs) → w < length walks → there ≡ get_or walks w there → place_in (map walk_of walks) w ≡ place_of there.state
+pub place-there : {Regs : Type 0} (walks : List (StackWalk Regs)) (w : ℕ) (there : StackWalk Regs) → w < length walks → there ≡ get_or walks w there → walk_place (map walk_of walks) w ≡ place_of there.state
 place-there {Regs} walks w there here is =
     ap (λ (x : Option (Walk Regs)). unwrap_or (option_map (λ (walk : Walk Regs). walk.place) x) Over) (get-map walk_of walks w there here)
     ∙ ap (λ (x : StackWalk Regs). place_of x.state) (sym is)

@@ -85,14 +85,14 @@ abbrev pub progress_of_step : {Data Rule Registers : Type 0} → Meanings Data R
 progress_of_step m unwinder cache frame reply progress = if_asked reply (with_step m unwinder cache frame progress) progress
 
 -- where a walk of a list is
-abbrev pub place_in : {Registers : Type 0} → List (Walk Registers) → ℕ → Place
-place_in walks walk = unwrap_or (option_map (λ there. there.place) (slice_get walks walk)) Over
+abbrev pub walk_place : {Registers : Type 0} → List (Walk Registers) → ℕ → Place
+walk_place walks walk = unwrap_or (option_map (λ there. there.place) (slice_get walks walk)) Over
 
 -- a move from where the walk is, through the cache that is named
 abbrev pub progress_of_frame : {Data Rule Registers : Type 0} → Meanings Data Rule Registers → List (Walk Registers) → ℕ → ℕ → ℕ
     → Option (Reply Registers) → Progress Data → Progress Data
 progress_of_frame m walks unwinder cache walk reply progress =
-    if_asked reply (with_move m unwinder cache (place_in walks walk) progress) progress
+    if_asked reply (with_move m unwinder cache (walk_place walks walk) progress) progress
 
 -- how far a command with this reply comes, where there are these walks
 abbrev pub progress_after : {Data Rule Registers Context Callback : Type 0} → Meanings Data Rule Registers → List (Walk Registers)

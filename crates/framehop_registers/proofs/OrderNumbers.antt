@@ -8,11 +8,11 @@ use Rattle.std.proofs.lemmas.List.Quantifiers.{position-Some}
 use Rattle.std.proofs.lemmas.List.Sorted.{IsPermutation-refl, IsPermutation-cons, IsPermutation-trans, IsPermutation-append_right, All-permutation, Contains-permutation, length_permutation}
 use Rattle.std.proofs.lemmas.List.Sums.{position_or_len_is}
 use Rattle.std.proofs.lemmas.Nat.{div-mul-add, mod-mul-add, mod_below, div_below}
-use Rattle.framehop_registers.specs.PopLists.{callee_saved, place_of, left_behind, number_among, order_number, registers_with, pop_list, IsPopList, IsOrder, BeginsOrder}
+use Rattle.framehop_registers.specs.PopLists.{callee_saved, place_in_list, left_behind, number_among, order_number, registers_with, pop_list, IsPopList, IsOrder, BeginsOrder}
 use Rattle.framehop_registers.specs.Registers.{dwarf_number}
 use Rattle.framehop_registers.specs.declared.x86_64.unwindregs.Reg.{Reg}
 use Rattle.framehop_registers.specs.declared.x86_64.unwindregs.Reg.TheVariants.{RBX}
-use Rattle.framehop_registers.proofs.Orders.{IsDistinct, distinct-permutation, distinct-drop, distinct-front, distinct_from_pairs, pairs_from_distinct, callee_saved_distinct, permutation-taken_out, length-left_behind, at_place_of, place_of-distinct, contained_has_place}
+use Rattle.framehop_registers.proofs.Orders.{IsDistinct, distinct-permutation, distinct-drop, distinct-front, distinct_from_pairs, pairs_from_distinct, callee_saved_distinct, permutation-taken_out, length-left_behind, at_place_of, place_in_list-distinct, contained_has_place}
 
 -- how many orders so many registers have
 abbrev pub orders : ℕ → ℕ
@@ -42,18 +42,18 @@ pub pops_out_of : (registers : List Reg) → IsPopList registers → IsOutOf cal
 pops_out_of registers pops = record { among = pops.saved; distinct = distinct_from_pairs registers pops.distinct }
 
 pub first_has_place : (left : List Reg) (register : Reg) (more : List Reg) → IsOutOf left (register ∷ more)
-    → place_of register left < length left
+    → place_in_list register left < length left
 first_has_place left register more out = contained_has_place register left (All-head (λ r. Contains left r) register more out.among)
 
 -- the registers left, as the one at its place and those behind it
-pub permutation-place_of : (left : List Reg) (register : Reg) → place_of register left < length left
-    → IsPermutation left (register ∷ left_behind left (place_of register left))
+pub permutation-place_of : (left : List Reg) (register : Reg) → place_in_list register left < length left
+    → IsPermutation left (register ∷ left_behind left (place_in_list register left))
 permutation-place_of left register inside =
-    let P : Reg → Type 0 = λ r. IsPermutation left (r ∷ left_behind left (place_of register left)) in
-    subst P (at_place_of register left RBX inside) (permutation-taken_out left (place_of register left) RBX inside)
+    let P : Reg → Type 0 = λ r. IsPermutation left (r ∷ left_behind left (place_in_list register left)) in
+    subst P (at_place_of register left RBX inside) (permutation-taken_out left (place_in_list register left) RBX inside)
 
 pub others_out_of : (left : List Reg) (register : Reg) (more : List Reg) → IsOutOf left (register ∷ more)
-    → IsOutOf (left_behind left (place_of register left)) more
+    → IsOutOf (left_behind left (place_in_list register left)) more
 others_out_of left register more out =
     let inside = first_has_place left register more out in
     record {
@@ -70,7 +70,7 @@ others_out_of left register more out =
 pub number_among-below : (left registers : List Reg) → IsOutOf left registers → number_among left registers < orders (length left)
 number_among-below left [] out = orders_some (length left)
 number_among-below left (register ∷ more) out =
-    let place = place_of register left in
+    let place = place_in_list register left in
     let inside = first_has_place left register more out in
     let rest = number_among (left_behind left place) more in
     let below : rest < orders (length (left_behind left place)) = number_among-below (left_behind left place) more (others_out_of left register more out) in
@@ -82,7 +82,7 @@ number_among-below left (register ∷ more) out =
 pub length-out_of : (left registers : List Reg) → IsOutOf left registers → length registers ≤ length left
 length-out_of left [] out = omega arith
 length-out_of left (register ∷ more) out =
-    let place = place_of register left in
+    let place = place_in_list register left in
     let shorter = length-left_behind left place (first_has_place left register more out) in
     let others = length-out_of (left_behind left place) more (others_out_of left register more out) in
     omega arith
@@ -93,7 +93,7 @@ pub registers_with-number_among : (left registers : List Reg) → IsOutOf left r
 unfolding registers_with
 registers_with-number_among left [] out = refl
 registers_with-number_among left (register ∷ more) out =
-    let place = place_of register left in
+    let place = place_in_list register left in
     let n = length left in
     let rest = number_among (left_behind left place) more in
     let inside : place < n = first_has_place left register more out in
@@ -136,7 +136,7 @@ number_among-registers_with (suc n) left number size distinct below =
     let product : orders n * all ≡ orders (suc n) = ap (λ k. orders n * k) size ∙ mul_comm (orders n) (suc n) in
     let rest_below : number / all < orders n = div_below number all (orders n) (omega arith) (omega arith) in
     let rest = number_among-registers_with n (left_behind left place) (number / all) (omega arith) rest_distinct rest_below in
-    let own : place_of register left ≡ place = place_of-distinct left place RBX distinct inside in
+    let own : place_in_list register left ≡ place = place_in_list-distinct left place RBX distinct inside in
     let whole = mod-add-div number all in
     cc
 
@@ -194,7 +194,7 @@ pop_list-begins count number within below = record {
 
 -- the place of a register among those left, as a search finds it
 pub place_found : (left : List Reg) (register : Reg) (place : ℕ)
-    → position (λ other. dwarf_number other == dwarf_number register) left ≡ Some place → (place < length left) × (place ≡ place_of register left)
+    → position (λ other. dwarf_number other == dwarf_number register) left ≡ Some place → (place < length left) × (place ≡ place_in_list register left)
 place_found left register place found =
     let (inside, here, before) = position-Some (λ other. dwarf_number other == dwarf_number register) left place RBX found in
     (inside, sym (position_or_len_is (λ other. dwarf_number other == dwarf_number register) left place RBX (omega arith) before (λ _. here)))
@@ -202,9 +202,9 @@ place_found left register place found =
 pub place_missing : (left : List Reg) (register : Reg)
     → position (λ other. dwarf_number other == dwarf_number register) left ≡ None → Contains left register → ⊥
 place_missing left register missing there =
-    let found = cond-true (nat_lt (place_of register left) (length left)) (Some (place_of register left)) None
-    (lt-ltb (place_of register left) (length left) (contained_has_place register left there)) in
-    let never : None ≡ Some (place_of register left) = sym missing ∙ found in cc
+    let found = cond-true (nat_lt (place_in_list register left) (length left)) (Some (place_in_list register left)) None
+    (lt-ltb (place_in_list register left) (length left) (contained_has_place register left there)) in
+    let never : None ≡ Some (place_in_list register left) = sym missing ∙ found in cc
 
 -- one register more
 pub permutation-push : (all popped left : List Reg) (place : ℕ) (d : Reg) → place < length left → IsPermutation all (popped ++ left)
@@ -243,7 +243,7 @@ no_list registers popped left k register front moved inside is missing pops =
 
 -- the number so far, with one place more
 pub counted_more : (left registers : List Reg) (number weight total k place : ℕ) (register : Reg) → k < length registers
-    → register ≡ slice_index_or registers k register → place ≡ place_of register left
+    → register ≡ slice_index_or registers k register → place ≡ place_in_list register left
     → number + weight * number_among left (drop k registers) ≡ total
     → number + weight * place + weight * length left * number_among (left_behind left place) (drop (k + 1) registers) ≡ total
 counted_more left registers number weight total k place register inside is place_is so_far =

@@ -5,7 +5,7 @@ use Rattle.std.proofs.lemmas.List.{get_or_default, get_or_append_left, get_or-dr
 use Rattle.std.proofs.lemmas.List.Edits.{swapped_from_swap, length-swap, swap_is}
 use Rattle.std.proofs.lemmas.List.Sorted.{IsPermutation-keeps, IsPermutation-swap, length_permutation}
 use Rattle.std.proofs.lemmas.List.Sums.{position_or_len_is, passes_at_first, fails_before_first}
-use Rattle.framehop_registers.specs.PopLists.{callee_saved, place_of, left_behind}
+use Rattle.framehop_registers.specs.PopLists.{callee_saved, place_in_list, left_behind}
 use Rattle.framehop_registers.specs.Registers.{dwarf_number}
 use Rattle.framehop_registers.specs.declared.x86_64.unwindregs.Reg.{Reg}
 use Rattle.framehop_registers.specs.declared.x86_64.unwindregs.Reg.TheVariants.{RAX, RDX, RCX, RBX, RSI, RDI, RBP, RSP, R8, R9, R10, R11, R12, R13, R14, R15}
@@ -107,15 +107,15 @@ distinct-front xs ys distinct i j d i_in j_in e =
     let size = length-append xs ys in
     distinct i j d (omega arith) (omega arith) (get_or_append_left xs ys d i i_in ∙ e ∙ sym (get_or_append_left xs ys d j j_in))
 
-own_place : (i : ℕ) → i < 8 → place_of (slice_index_or callee_saved i RAX) callee_saved ≡ i
+own_place : (i : ℕ) → i < 8 → place_in_list (slice_index_or callee_saved i RAX) callee_saved ≡ i
 own_place i inside =
-    eqb-true (place_of (slice_index_or callee_saved i RAX) callee_saved) i
-    (agree_below_at (λ k. place_of (slice_index_or callee_saved k RAX) callee_saved == k) (λ _. true) 8 i refl inside)
+    eqb-true (place_in_list (slice_index_or callee_saved i RAX) callee_saved) i
+    (agree_below_at (λ k. place_in_list (slice_index_or callee_saved k RAX) callee_saved == k) (λ _. true) 8 i refl inside)
 
 pub callee_saved_distinct : IsDistinct callee_saved
 callee_saved_distinct i j d i_in j_in e =
     sym (own_place i i_in)
-    ∙ ap (λ r. place_of r callee_saved) (get_or_default callee_saved i RAX d i_in ∙ e ∙ get_or_default callee_saved j d RAX j_in)
+    ∙ ap (λ r. place_in_list r callee_saved) (get_or_default callee_saved i RAX d i_in ∙ e ∙ get_or_default callee_saved j d RAX j_in)
     ∙ own_place j j_in
 
 -- ---- what is left behind
@@ -139,32 +139,32 @@ length-left_behind left place inside =
 
 -- ---- places
 
-pub at_place_of : (register : Reg) (left : List Reg) (d : Reg) → place_of register left < length left
-    → slice_index_or left (place_of register left) d ≡ register
+pub at_place_of : (register : Reg) (left : List Reg) (d : Reg) → place_in_list register left < length left
+    → slice_index_or left (place_in_list register left) d ≡ register
 at_place_of register left d inside =
     tests_same _ _ (passes_at_first (λ other. dwarf_number other == dwarf_number register) left d inside)
 
-pub place_of-distinct : (left : List Reg) (place : ℕ) (d : Reg) → IsDistinct left → place < length left
-    → place_of (slice_index_or left place d) left ≡ place
-place_of-distinct left place d distinct inside =
+pub place_in_list-distinct : (left : List Reg) (place : ℕ) (d : Reg) → IsDistinct left → place < length left
+    → place_in_list (slice_index_or left place d) left ≡ place
+place_in_list-distinct left place d distinct inside =
     let register = slice_index_or left place d in
     position_or_len_is (λ other. dwarf_number other == dwarf_number register) left place d (omega arith)
     (λ k below. tests_other _ _ (λ e. let same : k ≡ place = distinct k place d (omega arith) inside e in absurd (omega arith)))
     (λ _. eq-eqb (dwarf_number register) (dwarf_number register) refl)
 
 -- a register of the list has a place in it
-pub contained_has_place : (register : Reg) (left : List Reg) → Contains left register → place_of register left < length left
+pub contained_has_place : (register : Reg) (left : List Reg) → Contains left register → place_in_list register left < length left
 contained_has_place register left (k, inside, is) =
     let fails = fails_before_first (λ other. dwarf_number other == dwarf_number register) left k register in
     let passes : (dwarf_number (slice_index_or left k register) == dwarf_number register) ≡ true = eq-eqb _ _ (ap dwarf_number is) in
-    elim (cases_lt k (place_of register left)) [
+    elim (cases_lt k (place_in_list register left)) [
       | inl before ↦ absurd (false≢true (sym (fails before) ∙ passes))
       | inr within ↦ omega arith
     ]
 
 -- a register without a place isn't in the list
-pub place_is_contained : (register : Reg) (left : List Reg) → place_of register left < length left → Contains left register
-place_is_contained register left inside = (place_of register left, inside, at_place_of register left register inside)
+pub place_is_contained : (register : Reg) (left : List Reg) → place_in_list register left < length left → Contains left register
+place_is_contained register left inside = (place_in_list register left, inside, at_place_of register left register inside)
 
 -- ---- an array of registers, of which those from a place on are left
 

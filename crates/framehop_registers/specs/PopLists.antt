@@ -16,8 +16,8 @@ pub record IsPopList (registers : List Reg) : Type 0 where
   pub distinct : AllPairs (λ earlier later. earlier ≢ later) registers
 
 -- The place of a register in a list, or the list's length where it isn't there.
-abbrev pub place_of : Reg → List Reg → ℕ
-place_of register registers = position_or_len (λ other. dwarf_number other == dwarf_number register) registers
+abbrev pub place_in_list : Reg → List Reg → ℕ
+place_in_list register registers = position_or_len (λ other. dwarf_number other == dwarf_number register) registers
 
 -- What is left behind the one at a place, once it and the first have changed places.
 abbrev pub left_behind : List Reg → ℕ → List Reg
@@ -28,7 +28,7 @@ left_behind left place = drop 1 (swap left 0 place)
 abbrev pub number_among : List Reg → List Reg → ℕ
 number_among left [] = 0
 number_among left (register ∷ more) =
-    let place = place_of register left in
+    let place = place_in_list register left in
     place + length left * number_among (left_behind left place) more
 
 -- The order number of a pop list.

@@ -8,7 +8,7 @@ use Rattle.framehop_registers.specs.declared.x86_64.unwindregs.UnwindRegsX86_64.
 use Rattle.framehop_rows.specs.declared.dwarf.DwarfUnwinderError.{DwarfUnwinderError}
 use Rattle.framehop_rows.specs.Columns.{Sources, cfa_by}
 use Rattle.framehop_rows.specs.DirectRow.{direct_return_address, direct_bp, direct_refusal, caller_unless, direct_by_return_address, direct_by_cfa, direct_by}
-use Rattle.framehop_rows.specs.RowSources.{word_below}
+use Rattle.framehop_rows.specs.RowSources.{word_below_cfa}
 use Rattle.framehop_rows.specs.declared.parts.Parts.{Parts}
 
 -- a word that was read is the word there
@@ -22,7 +22,7 @@ word_missed (Some found) is = cc
 word_missed None is = refl
 
 -- the word below a CFA of 8 at least
-pub below_is : (words : Words) (cfa at : ℕ) (r : Option ℕ) → 8 ≤ cfa → at ≡ cfa - 8 → r ≡ words at → r ≡ word_below words cfa
+pub below_is : (words : Words) (cfa at : ℕ) (r : Option ℕ) → 8 ≤ cfa → at ≡ cfa - 8 → r ≡ words at → r ≡ word_below_cfa words cfa
 below_is words cfa at r le is read = read ∙ ap words is ∙ ap (λ b. cond b None (words (cfa - 8))) (sym (le-ltb cfa 8 le))
 
 -- the answer of a row, from its CFA and its return address

@@ -7,7 +7,7 @@ use Rattle.dwarf_constants.specs.declared.error.Error.TheVariants.{OutOfMemory}
 use Rattle.dwarf_expressions.specs.Evaluation.{Answers, ComesTo, Program, State, Ready, Asking, Finished, Refused, operations_left, state_reached_with, value_in}
 use Rattle.dwarf_expressions.specs.declared.evaluation.EvaluationResult.{EvaluationResult}
 use Rattle.dwarf_expressions.specs.declared.evaluation.EvaluationResult.TheVariants.{Complete, RequiresRegister}
-use Rattle.framehop_rows.specs.ExpressionValue.{RegisterValues, value_within, value_from}
+use Rattle.framehop_rows.specs.ExpressionValue.{RegisterValues, value_within, value_by_requests}
 
 -- as many requests are left as there can be
 abbrev pub Suffices : ℕ → State → Type 0
@@ -26,7 +26,7 @@ abbrev pub LeadsOn : Program → RegisterValues → Option ℕ → State → Typ
 LeadsOn p registers value state = LeadsTo p registers value state ⊎ ((p.capacity ≡ None) × (state ≡ Refused OutOfMemory))
 
 -- it does at the start
-pub leads_from : (p : Program) (registers : RegisterValues) (expected state : State) → ComesTo p.capacity expected state → LeadsOn p registers (value_from p registers expected) state
+pub leads_from : (p : Program) (registers : RegisterValues) (expected state : State) → ComesTo p.capacity expected state → LeadsOn p registers (value_by_requests p registers expected) state
 leads_from p registers expected state (inl is) = inl (rw is (record { count = suc (operations_left expected); suffices = enough expected; is = refl }))
   where
     enough : (s : State) → Suffices (suc (operations_left s)) s

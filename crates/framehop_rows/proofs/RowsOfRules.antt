@@ -19,7 +19,7 @@ use Rattle.dwarf_frame_rows.specs.declared.rules.CfaRule.TheVariants.{RegisterAn
 use Rattle.dwarf_frame_rows.specs.declared.rules.RegisterRule.{RegisterRule}
 use Rattle.dwarf_frame_rows.specs.declared.rules.RegisterRule.TheVariants as rule
 use Rattle.framehop_rows.specs.Columns.{column_by}
-use Rattle.framehop_rows.specs.RowAnswer.{value_of, caller_at, row_answer}
+use Rattle.framehop_rows.specs.RowAnswer.{register_value, caller_at, row_answer}
 use Rattle.framehop_rows.specs.RowSources.{plus, whole_sources}
 use Rattle.framehop_rows.specs.RuleFields.{words_of, signed_words_of}
 use Rattle.framehop_rows.specs.ScaledRow.{scaled_rule, from_return_address, from_register, from_sp, from_bp, raised_sp}
@@ -35,7 +35,7 @@ answered (Some found) at loops to h = grind arith
 answered None at loops to h = cc
 
 -- the return address that is given is what the column at the CFA less 8 gives
-return-gives : (registers : UnwindRegsX86_64) (words : Words) (sp to : ℕ) → return_address registers words sp ≡ Answers to → column_by (whole_sources (value_of registers)) words sp (ip_of registers) (rule.Offset (negsuc 7)) ≡ Some to
+return-gives : (registers : UnwindRegsX86_64) (words : Words) (sp to : ℕ) → return_address registers words sp ≡ Answers to → column_by (whole_sources (register_value registers)) words sp (ip_of registers) (rule.Offset (negsuc 7)) ≡ Some to
 return-gives registers words sp to h =
     let f : ℕ → Outcome ℕ = λ at. and_then (word words at) (λ found. if found == 0 then Ends else if (sp == sp_of registers) && (found == ip_of registers) then Refuses DidNotAdvance else Answers found) in
     let (at, placed, read) = and_then-gives (address (pos sp -ℤ pos 8)) f to h in
@@ -44,7 +44,7 @@ return-gives registers words sp to h =
 
 -- the caller that is given is the row's at its CFA, where the row has the frame pointer that the rule moved to
 returned-gives : (registers : UnwindRegsX86_64) (words : Words) (cfa : CfaRule ℕ) (bp : Option (RegisterRule ℕ)) (sp new_bp : ℕ) (caller : Caller UnwindRegsX86_64)
-    → unwrap_or (option_and_then (column_by (whole_sources (value_of registers)) words sp (bp_of registers)) bp) (bp_of registers) ≡ new_bp
+    → unwrap_or (option_and_then (column_by (whole_sources (register_value registers)) words sp (bp_of registers)) bp) (bp_of registers) ≡ new_bp
     → returned_caller registers words (sp, new_bp) ≡ Answers caller
     → caller_at registers words (record { cfa = cfa; fp = bp; ra = Some (rule.Offset (negsuc 7)) }) sp ≡ Some caller
 returned-gives registers words cfa bp sp new_bp caller column h =
@@ -56,15 +56,15 @@ returned-gives registers words cfa bp sp new_bp caller column h =
 
 -- a row whose CFA counts from a register of this value
 pub row-gives : (registers : UnwindRegsX86_64) (words : Words) (register : Register) (offset : ℤ) (bp : Option (RegisterRule ℕ)) (base sp : ℕ) (caller : Caller UnwindRegsX86_64)
-    → value_of registers register ≡ Some base → plus base offset ≡ Some sp
+    → register_value registers register ≡ Some base → plus base offset ≡ Some sp
     → caller_at registers words (record { cfa = RegisterAndOffset register offset; fp = bp; ra = Some (rule.Offset (negsuc 7)) }) sp ≡ Some caller
     → row_answer registers words (record { cfa = RegisterAndOffset register offset; fp = bp; ra = Some (rule.Offset (negsuc 7)) }) ≡ Some caller
 row-gives registers words register offset bp base sp caller known placed at_cfa = rw (known, placed) at_cfa
 
-value-at-7 : (registers : UnwindRegsX86_64) (register : Register) → register.0 ≡ 7 → value_of registers register ≡ Some (sp_of registers)
+value-at-7 : (registers : UnwindRegsX86_64) (register : Register) → register.0 ≡ 7 → register_value registers register ≡ Some (sp_of registers)
 value-at-7 registers register is = rw is
 
-value-at-6 : (registers : UnwindRegsX86_64) (register : Register) → register.0 ≡ 6 → value_of registers register ≡ Some (bp_of registers)
+value-at-6 : (registers : UnwindRegsX86_64) (register : Register) → register.0 ≡ 6 → register_value registers register ≡ Some (bp_of registers)
 value-at-6 registers register is = rw is
 
 -- what a move gives is what is returned from
@@ -74,7 +74,7 @@ moved-back registers words moved to caller moves_to h = let e : to ≡ moved = c
 
 -- the column of RBP says that it stays
 abbrev Stays : UnwindRegsX86_64 → Words → Option (RegisterRule ℕ) → Type 0
-Stays registers words bp = (sp : ℕ) → unwrap_or (option_and_then (column_by (whole_sources (value_of registers)) words sp (bp_of registers)) bp) (bp_of registers) ≡ bp_of registers
+Stays registers words bp = (sp : ℕ) → unwrap_or (option_and_then (column_by (whole_sources (register_value registers)) words sp (bp_of registers)) bp) (bp_of registers) ≡ bp_of registers
 
 -- the stack pointer goes up, the frame pointer stays
 raised-gives : (registers : UnwindRegsX86_64) (words : Words) (register : Register) (offset : ℤ) (bp : Option (RegisterRule ℕ)) (x : ℕ) (caller : Caller UnwindRegsX86_64)

@@ -18,7 +18,7 @@ use Rattle.framehop_rules.specs.Outcome.{Outcome, Ends, Refuses, Answers, Caller
 use Rattle.framehop_rules.specs.RuleMeaningAarch64.{CallerFrame, raised_frame, stored_word, frame_with_stored_lr, stored_frame, if_chained, return_address, caller_registers, returned_caller, rule_meaning}
 use Rattle.framehop_rules.specs.declared.aarch64.unwind_rule.UnwindRuleAarch64.{UnwindRuleAarch64}
 use Rattle.framehop_rules.specs.declared.aarch64.unwind_rule.UnwindRuleAarch64.TheVariants.{OffsetSp, OffsetSpIfFirstFrameOtherwiseStackEndsHere, OffsetSpAndRestoreLr, OffsetSpAndRestoreFpAndLr, UseFramePointer, UseFramepointerWithOffsets}
-use Rattle.framehop_rows.specs.RowAnswerAarch64.{value_of, caller_with, given_or_kept, row_answer}
+use Rattle.framehop_rows.specs.RowAnswerAarch64.{register_value, caller_with, given_or_kept, row_answer}
 use Rattle.framehop_rows.specs.RowSources.{plus}
 use Rattle.framehop_rows.specs.RuleFields.{words_of, signed_words_of, pairs_of}
 use Rattle.framehop_rows.specs.ScaledRowAarch64.{saved_by, raised_sp, from_sp, followed_fp, from_fp, from_cfa, scaled_rule}
@@ -90,10 +90,10 @@ moved-back registers first moved to caller same h = let P : CallerFrame → Type
 
 -- ---- the law, for each form of a row
 
-value-at-31 : (registers : UnwindRegsAarch64) (register : Register) → register.0 ≡ 31 → value_of registers register ≡ Some (sp_of registers)
+value-at-31 : (registers : UnwindRegsAarch64) (register : Register) → register.0 ≡ 31 → register_value registers register ≡ Some (sp_of registers)
 value-at-31 registers register is = rw is
 
-value-at-29 : (registers : UnwindRegsAarch64) (register : Register) → register.0 ≡ 29 → value_of registers register ≡ Some (fp_of registers)
+value-at-29 : (registers : UnwindRegsAarch64) (register : Register) → register.0 ≡ 29 → register_value registers register ≡ Some (fp_of registers)
 value-at-29 registers register is = rw is
 
 -- the row of a CFA at an offset from a register
@@ -102,7 +102,7 @@ row_at register offset fp ra = record { cfa = RegisterAndOffset register offset;
 
 -- the caller of a row whose CFA counts from a register of this value
 frame-gives : (registers : UnwindRegsAarch64) (words : Words) (register : Register) (offset : ℤ) (fp ra : Option (RegisterRule ℕ)) (base lr sp new_fp : ℕ) (first : Bool) (caller : Caller UnwindRegsAarch64)
-    → value_of registers register ≡ Some base → plus base offset ≡ Some sp
+    → register_value registers register ≡ Some base → plus base offset ≡ Some sp
     → given_or_kept registers words sp (lr_of registers) ra ≡ lr → given_or_kept registers words sp (fp_of registers) fp ≡ new_fp
     → returned_caller registers first (lr, sp, new_fp) ≡ Answers caller
     → row_answer registers words (row_at register offset fp ra) ≡ Some caller
@@ -147,7 +147,7 @@ restored_lr-gives registers words register offset m fp ra x y first caller at_31
 
 -- both are restored, from this value of a register on
 stored-gives : (registers : UnwindRegsAarch64) (words : Words) (register : Register) (offset m n : ℤ) (fp ra : Option (RegisterRule ℕ)) (base bytes : ℕ) (y z : ℤ) (first : Bool) (frame : CallerFrame) (caller : Caller UnwindRegsAarch64)
-    → value_of registers register ≡ Some base → offset ≡ pos bytes → offset +ℤ m ≡ pos 8 *ℤ y → offset +ℤ n ≡ pos 8 *ℤ z
+    → register_value registers register ≡ Some base → offset ≡ pos bytes → offset +ℤ m ≡ pos 8 *ℤ y → offset +ℤ n ≡ pos 8 *ℤ z
     → saved_by fp ≡ Some (FromCfa m) → saved_by ra ≡ Some (FromCfa n)
     → stored_frame words base bytes y z ≡ Answers frame → returned_caller registers first frame ≡ Answers caller
     → row_answer registers words (row_at register offset fp ra) ≡ Some caller

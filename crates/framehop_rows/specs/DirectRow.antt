@@ -11,18 +11,18 @@ use Rattle.dwarf_frame_rows.specs.declared.rules.RegisterRule.{RegisterRule}
 use Rattle.framehop_rows.specs.declared.dwarf.DwarfUnwinderError.{DwarfUnwinderError}
 use Rattle.framehop_rows.specs.declared.dwarf.DwarfUnwinderError.TheVariants.{CouldNotRecoverCfa, CouldNotRecoverReturnAddress, DidNotAdvance, StackPointerMovedBackwards}
 use Rattle.framehop_rows.specs.Columns.{Sources, cfa_by, column_by}
-use Rattle.framehop_rows.specs.RowAnswer.{value_of}
-use Rattle.framehop_rows.specs.RowSources.{direct_sources, word_below}
+use Rattle.framehop_rows.specs.RowAnswer.{register_value}
+use Rattle.framehop_rows.specs.RowSources.{direct_sources, word_below_cfa}
 use Rattle.framehop_rows.specs.declared.parts.Parts.{Parts}
 
 -- what a row of a section is worked out by in a frame
 abbrev pub frame_sources : (limit : Option ℕ) → (address_size : ℕ) → Stretch → UnwindRegsX86_64 → Sources
-frame_sources limit address_size section registers = direct_sources limit address_size section (value_of registers)
+frame_sources limit address_size section registers = direct_sources limit address_size section (register_value registers)
 
 -- the return address: what its column gives, or else the word below the CFA
 abbrev pub direct_return_address : Sources → UnwindRegsX86_64 → Words → ℕ → Option (RegisterRule ℕ) → Option ℕ
 direct_return_address sources registers words cfa ra =
-    option_or (option_and_then (column_by sources words cfa (ip_of registers)) ra) (word_below words cfa)
+    option_or (option_and_then (column_by sources words cfa (ip_of registers)) ra) (word_below_cfa words cfa)
 
 -- the caller's RBP: what its column gives, or else this frame's
 abbrev pub direct_bp : Sources → UnwindRegsX86_64 → Words → ℕ → Option (RegisterRule ℕ) → ℕ

@@ -6,7 +6,7 @@ use Rattle.framehop_registers.specs.RegistersAarch64.{lr_of, sp_of, fp_of}
 use Rattle.framehop_registers.specs.declared.aarch64.unwindregs.UnwindRegsAarch64.{UnwindRegsAarch64}
 use Rattle.framehop_rules.specs.Outcome.{Caller}
 use Rattle.framehop_rows.specs.Columns.{Sources, cfa_by, column_by}
-use Rattle.framehop_rows.specs.RowAnswerAarch64.{value_of, caller_with}
+use Rattle.framehop_rows.specs.RowAnswerAarch64.{register_value, caller_with}
 use Rattle.framehop_rows.specs.RowSources.{direct_sources}
 use Rattle.framehop_rows.specs.declared.dwarf.DwarfUnwinderError.{DwarfUnwinderError}
 use Rattle.framehop_rows.specs.declared.dwarf.DwarfUnwinderError.TheVariants.{CouldNotRecoverCfa, CouldNotRecoverFramePointer, CouldNotRecoverReturnAddress, StackPointerMovedBackwards}
@@ -45,4 +45,4 @@ direct_by sources first registers words parts = direct_by_cfa sources first regi
 abbrev pub direct_answer : (limit : Option ℕ) → (address_size : ℕ) → Bool → UnwindRegsAarch64 → Words → Stretch → Parts ℕ
     → Result (Caller UnwindRegsAarch64) DwarfUnwinderError
 direct_answer limit address_size first registers words section parts =
-    direct_by (direct_sources limit address_size section (value_of registers)) first registers words parts
+    direct_by (direct_sources limit address_size section (register_value registers)) first registers words parts

@@ -21,17 +21,17 @@ value_within (suc n) p registers (Asking register offset m) =
     option_and_then (λ value. value_within n p registers (state_reached_with p value (Asking register offset m))) (registers register)
 
 -- the same with as many requests as there can be: each is an operation, and this one was
-abbrev pub value_from : Program → RegisterValues → State → Option ℕ
-value_from p registers state = value_within (suc (operations_left state)) p registers state
+abbrev pub value_by_requests : Program → RegisterValues → State → Option ℕ
+value_by_requests p registers state = value_within (suc (operations_left state)) p registers state
 
 -- an expression of these bytes, whose addresses have this size, with room for so many values, or for any number
-abbrev pub program_of : (limit : Option ℕ) → (address_size : ℕ) → Stretch → Program
-program_of limit address_size bytes = record { expression = bytes; address_size = address_size; capacity = limit }
+abbrev pub expression_program : (limit : Option ℕ) → (address_size : ℕ) → Stretch → Program
+expression_program limit address_size bytes = record { expression = bytes; address_size = address_size; capacity = limit }
 
 -- the value of an expression; bytes that aren't there have none, and addresses have 1, 2, 4 or 8 bytes
 abbrev pub expression_value : (limit : Option ℕ) → (address_size : ℕ) → RegisterValues → Result Stretch Error → Option ℕ
 expression_value limit address_size registers (Ok bytes) =
     if is_size address_size
-    then value_from (program_of limit address_size bytes) registers (state_reached (program_of limit address_size bytes) (Ready first_machine))
+    then value_by_requests (expression_program limit address_size bytes) registers (state_reached (expression_program limit address_size bytes) (Ready first_machine))
     else None
 expression_value limit address_size registers (Err e) = None

@@ -13,8 +13,8 @@ use Rattle.framehop_rows.specs.ScaledRow.{RBP, RSP, RA}
 use Rattle.framehop_rows.specs.declared.parts.Parts.{Parts}
 
 -- the value of a register that a step knows
-abbrev pub value_of : UnwindRegsX86_64 → Register → Option ℕ
-value_of registers register =
+abbrev pub register_value : UnwindRegsX86_64 → Register → Option ℕ
+register_value registers register =
     if register.0 == RA.0 then Some (ip_of registers)
     else if register.0 == RSP.0 then Some (sp_of registers)
     else if register.0 == RBP.0 then Some (bp_of registers)
@@ -25,15 +25,15 @@ abbrev pub caller_from : UnwindRegsX86_64 → Words → Option (RegisterRule ℕ
 caller_from registers words bp cfa return_address = record {
   return_address = return_address;
   registers = caller_registers registers return_address cfa
-      (unwrap_or (option_and_then (column_by (whole_sources (value_of registers)) words cfa (bp_of registers)) bp) (bp_of registers));
+      (unwrap_or (option_and_then (column_by (whole_sources (register_value registers)) words cfa (bp_of registers)) bp) (bp_of registers));
 }
 
 -- the caller at a CFA, where its return address can be read
 abbrev pub caller_at : UnwindRegsX86_64 → Words → Parts ℕ → ℕ → Option (Caller UnwindRegsX86_64)
 caller_at registers words parts cfa =
     option_map (caller_from registers words parts.fp cfa)
-    (option_and_then (column_by (whole_sources (value_of registers)) words cfa (ip_of registers)) parts.ra)
+    (option_and_then (column_by (whole_sources (register_value registers)) words cfa (ip_of registers)) parts.ra)
 
 -- the row's answer, where it has a CFA and a return address
 abbrev pub row_answer : UnwindRegsX86_64 → Words → Parts ℕ → Option (Caller UnwindRegsX86_64)
-row_answer registers words parts = option_and_then (caller_at registers words parts) (cfa_by (whole_sources (value_of registers)) parts.cfa)
+row_answer registers words parts = option_and_then (caller_at registers words parts) (cfa_by (whole_sources (register_value registers)) parts.cfa)

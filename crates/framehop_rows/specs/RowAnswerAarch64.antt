@@ -13,8 +13,8 @@ use Rattle.framehop_rows.specs.ScaledRowAarch64.{X29, X30, SP}
 use Rattle.framehop_rows.specs.declared.parts.Parts.{Parts}
 
 -- the value of a register that a step knows
-abbrev pub value_of : UnwindRegsAarch64 → Register → Option ℕ
-value_of registers register =
+abbrev pub register_value : UnwindRegsAarch64 → Register → Option ℕ
+register_value registers register =
     if register.0 == SP.0 then Some (sp_of registers)
     else if register.0 == X29.0 then Some (fp_of registers)
     else if register.0 == X30.0 then Some (lr_of registers)
@@ -30,7 +30,7 @@ caller_with registers lr sp fp = record {
 -- what a column gives at a CFA, or else what the register has
 abbrev pub given_or_kept : UnwindRegsAarch64 → Words → (cfa own : ℕ) → Option (RegisterRule ℕ) → ℕ
 given_or_kept registers words cfa own column =
-    unwrap_or (option_and_then (column_by (whole_sources (value_of registers)) words cfa own) column) own
+    unwrap_or (option_and_then (column_by (whole_sources (register_value registers)) words cfa own) column) own
 
 -- the caller at a CFA: the CFA is its stack pointer, and X29 and X30 are what their columns give, or stay
 abbrev pub caller_at : UnwindRegsAarch64 → Words → Parts ℕ → ℕ → Caller UnwindRegsAarch64
@@ -41,4 +41,4 @@ caller_at registers words parts cfa =
 -- the row's answer, where it has a CFA
 abbrev pub row_answer : UnwindRegsAarch64 → Words → Parts ℕ → Option (Caller UnwindRegsAarch64)
 row_answer registers words parts =
-    option_map (caller_at registers words parts) (cfa_by (whole_sources (value_of registers)) parts.cfa)
+    option_map (caller_at registers words parts) (cfa_by (whole_sources (register_value registers)) parts.cfa)

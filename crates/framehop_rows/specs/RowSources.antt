@@ -31,15 +31,15 @@ sum_of base offset = if nat_lt base (2 ^ 63) then in_half (pos base +ℤ offset)
 
 -- the value of an expression of a section, by the limit of an expression's values, the size of an address and the registers that
 -- have values
-abbrev pub value_in : (limit : Option ℕ) → (address_size : ℕ) → Stretch → RegisterValues → UnwindExpression ℕ → Option ℕ
-value_in limit address_size section registers expression =
+abbrev pub value_by_expression : (limit : Option ℕ) → (address_size : ℕ) → Stretch → RegisterValues → UnwindExpression ℕ → Option ℕ
+value_by_expression limit address_size section registers expression =
     expression_value limit address_size registers (expression_in section expression.offset expression.length)
 
 -- what a row of a section is worked out by
 abbrev pub direct_sources : (limit : Option ℕ) → (address_size : ℕ) → Stretch → RegisterValues → Sources
 direct_sources limit address_size section registers =
-    record { sum = sum_of; registers = registers; value = value_in limit address_size section registers }
+    record { sum = sum_of; registers = registers; value = value_by_expression limit address_size section registers }
 
 -- the word below a CFA
-abbrev pub word_below : Words → ℕ → Option ℕ
-word_below words cfa = if nat_lt cfa 8 then None else words (cfa - 8)
+abbrev pub word_below_cfa : Words → ℕ → Option ℕ
+word_below_cfa words cfa = if nat_lt cfa 8 then None else words (cfa - 8)

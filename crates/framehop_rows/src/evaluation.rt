@@ -8,8 +8,8 @@ ghost use Rattle.framehop_registers.specs.Callback.{OverWords};
 ghost use Rattle.dwarf_frame_programs.specs.InstructionViews.{expression_as};
 ghost use Rattle.dwarf_frame_programs.specs.StateViews.{cfa_as, rule_as};
 ghost use Rattle.framehop_rows.specs.Columns.{cfa_by, column_by, found_by, found_in};
-ghost use Rattle.framehop_rows.specs.RowSources.{direct_sources, sum_of, value_in, word_below};
-ghost use Rattle.framehop_rows.specs.ExpressionValue.{program_of, value_from};
+ghost use Rattle.framehop_rows.specs.RowSources.{direct_sources, sum_of, value_by_expression, word_below_cfa};
+ghost use Rattle.framehop_rows.specs.ExpressionValue.{expression_program, value_by_requests};
 ghost use Rattle.framehop_rows.specs.Memory.{IsColumnExpression, IsExpression, TakesMemory};
 
 use dwarf_constants::{Encoding, Error, Register};
@@ -21,11 +21,11 @@ use std::alloc::{AllocError, Global};
 /// The registers of a frame, by their DWARF numbers.
 pub trait DwarfUnwindRegs {
     /// The registers that have values.
-    ghost value_of: { Self → Register → Option ℕ };
+    ghost register_value: { Self → Register → Option ℕ };
 
     /// The value of a register, if it has one.
     fn get(&self, register: Register) -> Option<u64>
-        ensures { result ≡ value_of self.now register };
+        ensures { result ≡ register_value self.now register };
 }
 
 /// A base plus an offset in bytes. `None` where the base or the sum isn't from 0 to below 2^63.
@@ -64,10 +64,10 @@ fn eval_expression<S: EvaluationStorage, R: Reader, G: DwarfUnwindRegs>(
     regs: &G,
 ) -> Result<Option<u64>, AllocError>
     requires { is_size encoding.address_size ≡ true }
-    ensures value { let p = program_of S.Stack.capacity encoding.address_size
+    ensures value { let p = expression_program S.Stack.capacity encoding.address_size
         (R.stretch expression.0) in
         IfOk result (λ value. value
-        ≡ value_from p (G.value_of regs.now) (state_reached p (Ready first_machine))) }
+        ≡ value_by_requests p (G.register_value regs.now) (state_reached p (Ready first_machine))) }
     ensures memory { IfErr result (λ _. TakesMemory S.Stack.is_made_in_place S.Stack.capacity) }
 {
     let Ok(mut evaluation) = Evaluation::<R, S>::new_in(alloc, expression, encoding) else {
@@ -103,8 +103,8 @@ fn eval_expression_in<
     regs: &G,
 ) -> Result<Option<u64>, AllocError>
     ensures value { IfOk result (λ value. value
-        ≡ value_in S.Stack.capacity encoding.address_size
-        (R.stretch (Section.reader section.now)) (G.value_of regs.now)
+        ≡ value_by_expression S.Stack.capacity encoding.address_size
+        (R.stretch (Section.reader section.now)) (G.register_value regs.now)
         (expression_as R.Offset.value expression)) }
     ensures memory { IfErr result (λ _. TakesMemory S.Stack.is_made_in_place S.Stack.capacity) }
 {
@@ -119,7 +119,7 @@ fn eval_expression_in<
 
 /// A register's value plus an offset in bytes, where it has a value.
 fn offset_value<G: DwarfUnwindRegs>(register: Register, offset: i64, regs: &G) -> Option<u64>
-    ensures { result ≡ option_and_then (λ base. sum_of base offset) (G.value_of regs.now register) }
+    ensures { result ≡ option_and_then (λ base. sum_of base offset) (G.register_value regs.now register) }
 {
     offset_sum(regs.get(register)?, offset)
 }
@@ -140,7 +140,7 @@ pub(crate) fn eval_cfa_rule<
 ) -> Result<Option<u64>, AllocError>
     ensures value { IfOk result (λ cfa. cfa
         ≡ cfa_by (direct_sources S.Stack.capacity encoding.address_size
-        (R.stretch (Section.reader section.now)) (G.value_of regs.now))
+        (R.stretch (Section.reader section.now)) (G.register_value regs.now))
         (cfa_as R.Offset.value rule)) }
     ensures expression { IfErr result (λ _. IsExpression (cfa_as R.Offset.value rule)) }
     ensures memory { IfErr result (λ _. TakesMemory S.Stack.is_made_in_place S.Stack.capacity) }
@@ -180,7 +180,7 @@ fn find_column<
 ) -> Result<Option<Found>, AllocError>
     ensures value { IfOk result (λ found. found
         ≡ found_by (direct_sources S.Stack.capacity encoding.address_size
-        (R.stretch (Section.reader section.now)) (G.value_of regs.now)) cfa own
+        (R.stretch (Section.reader section.now)) (G.register_value regs.now)) cfa own
         (rule_as R.Offset.value rule)) }
     ensures expression { IfErr result (λ _.
         IsColumnExpression (Some (rule_as R.Offset.value rule))) }
@@ -245,7 +245,7 @@ pub(crate) fn eval_register_rule<
     ensures value { OverWords F.step read_stack.old read_stack.new (λ words.
         IfOk result (λ value. value
         ≡ option_and_then (column_by (direct_sources S.Stack.capacity encoding.address_size
-        (R.stretch (Section.reader section.now)) (G.value_of regs.now)) words cfa own)
+        (R.stretch (Section.reader section.now)) (G.register_value regs.now)) words cfa own)
         (option_map (rule_as R.Offset.value) rule))) }
     ensures expression { IfErr result (λ _.
         IsColumnExpression (option_map (rule_as R.Offset.value) rule)) }
@@ -268,7 +268,7 @@ pub(crate) fn read_below<F: FnMut(u64) -> Result<u64, ()>>(
     requires { F.IsAlwaysCallable read_stack.old }
     ensures callable { F.IsAlwaysCallable read_stack.new }
     ensures value { OverWords F.step read_stack.old read_stack.new (λ words.
-        result ≡ word_below words cfa) }
+        result ≡ word_below_cfa words cfa) }
 {
     let at = cfa.checked_sub(8)?;
     read_at(read_stack, at)

@@ -1,5 +1,4 @@
-//! Tests of the unwind rules, the unwinder, its index, and the program's run over a document, by
-//! public calls alone.
+//! Tests of the unwind rules, the unwinder and its index, by public calls alone.
 #![tactic(auto)]
 
 #[cfg(test)]
@@ -8,8 +7,6 @@ mod arch;
 mod cfi_index;
 #[cfg(test)]
 mod expressions;
-#[cfg(test)]
-mod limits;
 #[cfg(test)]
 mod pop_lists;
 #[cfg(test)]
@@ -22,7 +19,5 @@ mod rules_aarch64;
 mod sections;
 #[cfg(test)]
 mod steps;
-#[cfg(test)]
-mod streams;
 #[cfg(test)]
 mod worked;

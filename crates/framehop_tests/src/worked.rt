@@ -1,8 +1,4 @@
-//! A worked stack, and what a run over a document writes.
-use std::alloc::Global;
-use std::io::Read;
-use std::test::Fail;
-use unwind_commands::{Streamed, run};
+//! A worked stack.
 
 /// Sixteen words of a stack, at addresses 0, 8, .. 0x78: frames at 0x20 and 0x40, the last at 0x70.
 pub const WORDS: [u64; 16] = [
@@ -15,13 +11,4 @@ pub fn word_at(address: u64) -> Result<u64, ()> {
         return Err(());
     }
     WORDS.get((address / 8) as usize).copied().ok_or(())
-}
-
-/// What a run over a document writes, its exit status, and what is left of the document's source.
-pub fn answer_to<R: Read + Drop>(alloc: Global, document: R) -> Result<(String, u8, R), Fail> {
-    let mut source = Streamed::new(document);
-    let mut sink = Streamed::new(Vec::new(alloc));
-    let ending = run(alloc, &mut source, &mut sink)?;
-    let text = String::from_utf8(sink.into_inner())?;
-    Ok((text, ending.status(), source.into_inner()))
 }

@@ -1,8 +1,9 @@
 //! A walk over the frames of a stack.
-ghost use Rattle.std.specs.Prelude.{◌≡◌, false, true, IfErr};
+ghost use Rattle.std.specs.Prelude.{◌≡◌, ◌≢◌, false, true, Ok, Err, Some, None, IfErr, IfSome};
 ghost use Rattle.framehop_registers.specs.Callback.{OverWords};
+ghost use Rattle.framehop_unwinder.specs.Frames.{first_frame, frame_of, later_frame};
 ghost use Rattle.framehop_unwinder.specs.Trials.{wants_memory};
-ghost use Rattle.framehop_unwinder.specs.Walk.{Walk, move, Starts};
+ghost use Rattle.framehop_unwinder.specs.Walk.{At, Over, Starts, Walk, move};
 ghost use Rattle.framehop_unwinder.specs.WalkViews.{place_of, frame_answer};
 
 use crate::unwinders::Unwinder;
@@ -14,6 +15,41 @@ pub(crate) enum UnwindIteratorState {
     Initial(u64),
     Unwinding(FrameAddress),
     Done,
+}
+
+impl UnwindIteratorState {
+    /// Goes to the first frame, which is at the instruction pointer `pc`.
+    #[inline(always)]
+    pub(crate) fn begin(&mut self, pc: u64) -> FrameAddress
+        ensures first { frame_of result ≡ first_frame pc }
+        ensures place { place_of self.new ≡ At (first_frame pc) }
+    {
+        let first = FrameAddress::from_instruction_pointer(pc);
+        *self = UnwindIteratorState::Unwinding(first);
+        first
+    }
+
+    /// Goes to the frame of a step's return address, or to the end where the stack ends. It stays
+    /// where the return address is 0.
+    #[inline(always)]
+    pub(crate) fn go_on(&mut self, step: Option<u64>) -> Result<Option<FrameAddress>, Error>
+        ensures end { step ≡ None → (result ≡ Ok None) × (place_of self.new ≡ Over) }
+        ensures null { step ≡ Some 0
+            → (result ≡ Err Error.ReturnAddressIsNull) × (self.new ≡ self.old) }
+        ensures later { IfSome step (λ return_address. return_address ≢ 0
+            → (frame_answer result ≡ Ok (Some (later_frame return_address)))
+            × (place_of self.new ≡ At (later_frame return_address))) }
+    {
+        let Some(return_address) = step else {
+            *self = UnwindIteratorState::Done;
+            return Ok(None);
+        };
+        let Some(next) = FrameAddress::from_return_address(return_address) else {
+            return Err(Error::ReturnAddressIsNull);
+        };
+        *self = UnwindIteratorState::Unwinding(next);
+        Ok(Some(next))
+    }
 }
 
 /// The frames of a stack, one after the other.
@@ -73,26 +109,14 @@ impl<'u, 'c, 'r, U: Unwinder, F: FnMut(u64) -> Result<u64, ()>> UnwindIterator<'
         ensures same_stack { self.new.read_stack.ghost_name ≡ self.old.read_stack.ghost_name }
     {
         let address = match self.state {
-            UnwindIteratorState::Initial(pc) => {
-                let first = FrameAddress::from_instruction_pointer(pc);
-                self.state = UnwindIteratorState::Unwinding(first);
-                return Ok(Some(first));
-            }
+            UnwindIteratorState::Initial(pc) => return Ok(Some(self.state.begin(pc))),
             UnwindIteratorState::Unwinding(address) => address,
             UnwindIteratorState::Done => return Ok(None),
         };
-        let answer = self
+        let step = self
             .unwinder
             .unwind_frame(address, &mut self.regs, self.cache, self.read_stack)?;
-        let Some(return_address) = answer else {
-            self.state = UnwindIteratorState::Done;
-            return Ok(None);
-        };
-        let Some(next) = FrameAddress::from_return_address(return_address) else {
-            return Err(Error::ReturnAddressIsNull);
-        };
-        self.state = UnwindIteratorState::Unwinding(next);
-        Ok(Some(next))
+        self.state.go_on(step)
     }
 }
 

@@ -267,23 +267,11 @@ impl<A: Unwinding> Session<A> {
         ensures memory { A.takes_memory ≡ false → wants_memory result ≡ false }
     {
         let address = match walk.state {
-            UnwindIteratorState::Initial(pc) => {
-                let first = FrameAddress::from_instruction_pointer(pc);
-                walk.state = UnwindIteratorState::Unwinding(first);
-                return Ok(Some(first));
-            }
+            UnwindIteratorState::Initial(pc) => return Ok(Some(walk.state.begin(pc))),
             UnwindIteratorState::Unwinding(address) => address,
             UnwindIteratorState::Done => return Ok(None),
         };
-        let answer = self.step(unwinder, cache, address, &mut walk.regs, read_stack)?;
-        let Some(return_address) = answer else {
-            walk.state = UnwindIteratorState::Done;
-            return Ok(None);
-        };
-        let Some(next) = FrameAddress::from_return_address(return_address) else {
-            return Err(Error::ReturnAddressIsNull);
-        };
-        walk.state = UnwindIteratorState::Unwinding(next);
-        Ok(Some(next))
+        let step = self.step(unwinder, cache, address, &mut walk.regs, read_stack)?;
+        walk.state.go_on(step)
     }
 }

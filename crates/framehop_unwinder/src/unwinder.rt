@@ -196,8 +196,8 @@ impl<A: Unwinding> UnwinderInternal<A> {
             → OnOk result (self.new.generation ≡ generations.old) }
         ensures taken { has_start (λ m. m.start) module_avma_range_start self.old.modules ≡ true
             → OnOk result (generations.new ≡ generations.old + 1) }
-        ensures exhausted { has_start (λ m. m.start) module_avma_range_start self.old.modules ≡ true
-            → 2 ^ 64 - 1 ≤ generations.old → IsErr result }
+        ensures exhausted { has_start (λ m. m.start) module_avma_range_start self.old.modules
+            ≡ true → 2 ^ 64 - 1 ≤ generations.old → IsErr result }
         ensures refused { OnErr result (generations.old ≡ 2 ^ 64 - 1) }
         ensures same { OnErr result (self.new ≡ self.old) }
         ensures untaken { OnErr result (generations.new ≡ generations.old) }

@@ -15,7 +15,7 @@ use Rattle.framehop_registers.specs.RegistersAarch64.{lr_of, sp_of, fp_of}
 use Rattle.framehop_registers.specs.declared.aarch64.unwindregs.UnwindRegsAarch64.{UnwindRegsAarch64}
 use Rattle.framehop_rows.specs.Columns.{Sources, cfa_by, column_by}
 use Rattle.framehop_rows.specs.DirectRowAarch64.{restored, direct_by_fp, direct_by_cfa, direct_answer}
-use Rattle.framehop_rows.specs.RowAnswerAarch64.{value_of, caller_with}
+use Rattle.framehop_rows.specs.RowAnswerAarch64.{register_value, caller_with}
 use Rattle.framehop_rows.specs.RowAttempt.{attempt_by_row, said_or_given}
 use Rattle.framehop_rows.specs.RowAttemptAarch64.{row_attempt}
 use Rattle.framehop_rows.specs.RowParts.{parts_of}
@@ -53,13 +53,13 @@ sum-fits base offset a is = by (nat_lt base (2 ^ 63)) is
     by true is = half-fits (pos base +ℤ offset) a is
     by false is = cc
 
-cfa-fits : (limit : Option ℕ) (size : ℕ) (section : Stretch) (registers : UnwindRegsAarch64) (cfa : CfaRule ℕ) (a : ℕ) → cfa_by (direct_sources limit size section (value_of registers)) cfa ≡ Some a → a < 2 ^ 64
-cfa-fits limit size section registers (RegisterAndOffset register offset) a is = by (value_of registers register) is
+cfa-fits : (limit : Option ℕ) (size : ℕ) (section : Stretch) (registers : UnwindRegsAarch64) (cfa : CfaRule ℕ) (a : ℕ) → cfa_by (direct_sources limit size section (register_value registers)) cfa ≡ Some a → a < 2 ^ 64
+cfa-fits limit size section registers (RegisterAndOffset register offset) a is = by (register_value registers register) is
   where
     by : (o : Option ℕ) → option_and_then (λ base. sum_of base offset) o ≡ Some a → a < 2 ^ 64
     by (Some base) is = sum-fits base offset a is
     by None is = cc
-cfa-fits limit size section registers (Expression expression) a is = expression-fits limit size (value_of registers) (expression_in section expression.offset expression.length) a is
+cfa-fits limit size section registers (Expression expression) a is = expression-fits limit size (register_value registers) (expression_in section expression.offset expression.length) a is
 
 -- the caller that columns give has the CFA as its stack pointer
 by-columns : (registers : UnwindRegsAarch64) (cfa : ℕ) (lr fp : Option ℕ) (caller : Caller UnwindRegsAarch64) → direct_by_fp registers cfa lr fp ≡ Ok caller → cfa ≡ sp_of caller.registers
@@ -69,7 +69,7 @@ by-columns registers cfa (Some lr) (Some fp) caller is = let same : caller_with 
 
 module _ (limit : Option ℕ) (size : ℕ) (section : Stretch) (registers : UnwindRegsAarch64) (words : Words) (row : Row ℕ) (caller : Caller UnwindRegsAarch64) where
   abbrev sources : Sources
-  sources = direct_sources limit size section (value_of registers)
+  sources = direct_sources limit size section (register_value registers)
 
   by-cfa : (o : Option ℕ) → ((a : ℕ) → o ≡ Some a → a < 2 ^ 64) → direct_by_cfa sources false registers words (parts_of X29 X30 row) o ≡ Ok caller → IsRaised (sp_of registers) (sp_of caller.registers)
   by-cfa None fits is = cc

@@ -11,12 +11,12 @@ use Rattle.dwarf_constants.specs.declared.error.Error.TheVariants.{NotEnoughStac
 use Rattle.dwarf_readers.specs.InitialLength.{is_size}
 use Rattle.dwarf_readers.specs.Place.{Stretch, ◌>>=◌, behind, requirement}
 use Rattle.dwarf_expressions.specs.Effects.{Stack, stack_with, stack_without_top, swapped_stack, rotated_stack, with_top, with_two, of_top, of_two, stack_after, has_room, stack_within}
-use Rattle.dwarf_expressions.specs.Evaluation.{Machine, Program, State, Ready, Asking, Finished, Refused, state_behind, branch_of, place_by, machine_after, machine_with, state_after, last_step, operation_step, step, run_within, run, state_reached, state_reached_with, first_machine, operations_left}
+use Rattle.dwarf_expressions.specs.Evaluation.{Machine, Program, State, Ready, Asking, Finished, Refused, state_behind, branch_of, place_by, machine_after, machine_with, state_by_operation, last_step, operation_step, step, run_within, run, state_reached, state_reached_with, first_machine, operations_left}
 use Rattle.dwarf_expressions.specs.Operations.{operation_at}
 use Rattle.dwarf_expressions.specs.Values.{modulus, value_of}
 use Rattle.dwarf_expressions.specs.declared.op.Operation.{Operation}
 use Rattle.dwarf_expressions.specs.declared.op.Operation.TheVariants.{Address, UnsignedConstant, SignedConstant, Pick, Drop, Swap, Rot, Abs, Neg, Not, PlusConstant, Bra, Skip, RegisterOffset, Nop}
-use Rattle.framehop_rows.specs.ExpressionValue.{RegisterValues, value_within, value_from, program_of, expression_value}
+use Rattle.framehop_rows.specs.ExpressionValue.{RegisterValues, value_within, value_by_requests, expression_program, expression_value}
 
 -- ---- one value
 
@@ -151,7 +151,7 @@ module _ (p : Program) (sized : is_size p.address_size ≡ true) where
       by (Ok values) h (Err e) = tt
       by (Err e) h place = tt
 
-  performed : (m : Machine) (operation : Operation) → Small m.stack → SmallStep (state_after p m operation)
+  performed : (m : Machine) (operation : Operation) → Small m.stack → SmallStep (state_by_operation p m operation)
   performed m (RegisterOffset register offset) h = h
   performed m operation h = changed m operation h
 
@@ -207,8 +207,8 @@ pub expression-fits : (limit : Option ℕ) (size : ℕ) (registers : RegisterVal
 expression-fits limit size registers (Err e) value is = cc
 expression-fits limit size registers (Ok bytes) value is = by (is_size size) refl is
   where
-    by : (b : Bool) → is_size size ≡ b → (if b then value_from (program_of limit size bytes) registers (state_reached (program_of limit size bytes) (Ready first_machine)) else None) ≡ Some value → value < 2 ^ 64
+    by : (b : Bool) → is_size size ≡ b → (if b then value_by_requests (expression_program limit size bytes) registers (state_reached (expression_program limit size bytes) (Ready first_machine)) else None) ≡ Some value → value < 2 ^ 64
     by true sized is =
-        let p = program_of limit size bytes in
+        let p = expression_program limit size bytes in
         within-fits p sized (suc (operations_left (run p first_machine))) registers (run p first_machine) (ran p sized first_machine tt) value is
     by false sized is = cc

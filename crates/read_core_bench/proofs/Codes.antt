@@ -6,7 +6,7 @@ use Rattle.std.proofs.lemmas.List.Sums.{sum_by_push}
 use Rattle.dwarf_constants.specs.declared.error.Error.{Error}
 use Rattle.dwarf_read_core.specs.AbbreviationTable.{Declaration, table_in}
 use Rattle.dwarf_readers.specs.Place.{Stretch, ◌>>=◌, number_at}
-use Rattle.read_core_bench.specs.Codes.{declared_in, declared_up_to, tables_in, words_at}
+use Rattle.read_core_bench.specs.Codes.{declared_in, declared_up_to, tables_at_offsets, words_at}
 
 words_refused_here : (i : ℕ) (e : Error) (seen : List ℕ) (s t : Stretch) → words_at i s ≡ Ok (seen, t) → number_at 4 t ≡ Err e → words_at (suc i) s ≡ Err e
 words_refused_here i e seen s t before read = rw (before, read) refl
@@ -34,10 +34,10 @@ same_list (Ok xs) = refl
 same_list (Err e) = refl
 
 -- some tables are read, and then more
-tables_append : (offsets more : List ℕ) (section : Stretch) → tables_in (offsets ++ more) section ≡ (tables_in offsets section >>= λ before. tables_in more section >>= λ after. Ok (before ++ after))
-tables_append [] more section = same_list (tables_in more section)
+tables_append : (offsets more : List ℕ) (section : Stretch) → tables_at_offsets (offsets ++ more) section ≡ (tables_at_offsets offsets section >>= λ before. tables_at_offsets more section >>= λ after. Ok (before ++ after))
+tables_append [] more section = same_list (tables_at_offsets more section)
 tables_append (offset ∷ offsets) more section =
-    rw (tables_append offsets more section) (joined (table_in offset section) (tables_in offsets section) (tables_in more section))
+    rw (tables_append offsets more section) (joined (table_in offset section) (tables_at_offsets offsets section) (tables_at_offsets more section))
 
 one_more : {A : Type 0} → (f : A → ℕ) (before : Result (List A) Error) (x : A) (found : ℕ) → (before >>= λ xs. Ok (sum_by f xs % 2 ^ 64)) ≡ Ok found → ((before >>= λ xs. Ok (xs ++ x ∷ [])) >>= λ xs. Ok (sum_by f xs % 2 ^ 64)) ≡ Ok ((found + f x) % 2 ^ 64)
 one_more f (Err e) x found counted = cc
@@ -50,7 +50,7 @@ one_more f (Ok xs) x found counted =
 pub declared_more : (i codes found : ℕ) (offsets : List ℕ) (table : List Declaration) (section : Stretch) → i < length offsets → declared_in (take i offsets) codes section ≡ Ok found → table_in (get_or offsets i 0) section ≡ Ok table → declared_in (take (i + 1) offsets) codes section ≡ Ok ((found + declared_up_to codes table) % 2 ^ 64)
 declared_more i codes found offsets table section inside before here =
     rw (take_more offsets i 0 inside, tables_append (take i offsets) (get_or offsets i 0 ∷ []) section, here)
-    (one_more (declared_up_to codes) (tables_in (take i offsets) section) table found before)
+    (one_more (declared_up_to codes) (tables_at_offsets (take i offsets) section) table found before)
 
 none_more : {A : Type 0} → (f : List A → ℕ) (before : Result (List A) Error) (found : ℕ) (e : Error) → (before >>= λ xs. Ok (f xs)) ≡ Ok found → ((before >>= λ xs. Err e) >>= λ xs. Ok (f xs)) ≡ Err e
 none_more f (Err e') found e counted = cc
@@ -59,7 +59,7 @@ none_more f (Ok xs) found e counted = refl
 refused_behind : (before more : List ℕ) (offset codes found : ℕ) (e : Error) (section : Stretch) → declared_in before codes section ≡ Ok found → table_in offset section ≡ Err e → declared_in (before ++ offset ∷ more) codes section ≡ Err e
 refused_behind before more offset codes found e section counted here =
     rw (tables_append before (offset ∷ more) section, here)
-    (none_more (λ (tables : List (List Declaration)). sum_by (declared_up_to codes) tables % 2 ^ 64) (tables_in before section) found e counted)
+    (none_more (λ (tables : List (List Declaration)). sum_by (declared_up_to codes) tables % 2 ^ 64) (tables_at_offsets before section) found e counted)
 
 -- the next table is refused, and so are all
 pub declared_refused : (i codes found : ℕ) (offsets : List ℕ) (e : Error) (section : Stretch) → i < length offsets → declared_in (take i offsets) codes section ≡ Ok found → table_in (get_or offsets i 0) section ≡ Err e → declared_in offsets codes section ≡ Err e

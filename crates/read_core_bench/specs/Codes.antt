@@ -15,10 +15,10 @@ declared_up_to zero ds = 0
 declared_up_to (suc n) ds = declared_up_to n ds + (if is_some (declaration_for (suc n) ds) then 1 else 0)
 
 -- the tables at these offsets, or the first fault in their order
-abbrev pub tables_in : List ℕ → Stretch → Result (List (List Declaration)) Error
-tables_in [] section = Ok []
-tables_in (offset ∷ offsets) section = table_in offset section >>= λ table. tables_in offsets section >>= λ tables. Ok (table ∷ tables)
+abbrev pub tables_at_offsets : List ℕ → Stretch → Result (List (List Declaration)) Error
+tables_at_offsets [] section = Ok []
+tables_at_offsets (offset ∷ offsets) section = table_in offset section >>= λ table. tables_at_offsets offsets section >>= λ tables. Ok (table ∷ tables)
 
 -- how many of these codes the tables at these offsets declare, over all of them, modulo 2^64
 abbrev pub declared_in : List ℕ → ℕ → Stretch → Result ℕ Error
-declared_in offsets codes section = tables_in offsets section >>= λ tables. Ok (sum_by (declared_up_to codes) tables % 2 ^ 64)
+declared_in offsets codes section = tables_at_offsets offsets section >>= λ tables. Ok (sum_by (declared_up_to codes) tables % 2 ^ 64)

@@ -1,4 +1,3 @@
-pub mod DocumentLemmas
 pub mod OneModule
 pub mod RoadLines
 pub mod Runs

@@ -20,10 +20,10 @@ use Rattle.framehop_registers.specs.Callback.{Words}
 use Rattle.framehop_unwinder.specs.WalkViews.{walk_from}
 use Rattle.framehop_registers.specs.declared.error.Error.{Error}
 use Rattle.framehop_unwinder.specs.Progress.{Progress, IsAt, modules_in}
-use Rattle.unwind_sessions.specs.Turns.{Turn, ComesTo, writes, refuses, with_number, with_modules, walk_histories, if_goes_on}
-use Rattle.unwind_commands.specs.declared.document.command.Command.{Command}
-use Rattle.unwind_commands.specs.Commands.{Task, Made, make_unwinder, make_cache, clone_unwinder, load_module, unload_module, take_step, take_walk, show_counts, take_roads, made_after, AreSound}
-use Rattle.unwind_commands.specs.CommandViews.{tasks_of, task_of}
+use Rattle.unwind_sessions.specs.Turns.{Turn, ComesTo, writes, refuses, turn_with_number, turn_with_modules, walk_histories, if_goes_on}
+use Rattle.unwind_documents.specs.declared.command.Command.{Command}
+use Rattle.unwind_documents.specs.Commands.{Task, Made, make_unwinder, make_cache, clone_unwinder, load_module, unload_module, take_step, take_walk, show_counts, take_roads, made_after, AreSound}
+use Rattle.unwind_documents.specs.CommandViews.{tasks_of, task_of}
 use Rattle.unwind_commands.specs.Sections.{DataForms}
 use Rattle.unwind_commands.specs.Text.{turn, lines_of, loaded_by, frame_at, words_of, made_in}
 
@@ -76,7 +76,7 @@ either_turn false A B made first second carried = second
 
 -- unwinders of which one takes a number
 made_numbered : {Data : Type 0} (us : List (Loads (Loaded Data))) (p : Progress Data) (n : ℕ) → length us ≡ n
-    → (with_number us p).is_refused ≡ false → made_by (with_number us p).progress ≡ record { unwinders = n; caches = length p.histories }
+    → (turn_with_number us p).is_refused ≡ false → made_by (turn_with_number us p).progress ≡ record { unwinders = n; caches = length p.histories }
 made_numbered us p n len carried =
     unless_refused (nat_lt p.next (2 ^ 64 - 1)) (writes [] (record { unwinders = us; next = p.next + 1; histories = p.histories })) (refuses p)
     (record { unwinders = n; caches = length p.histories })
@@ -118,7 +118,7 @@ turn_counts m forms data_of p (load_module l) carried =
     made_numbered (slice_set p.unwinders l.unwinder (loads_with (with_module (λ x. x.start) (loaded_by data_of l) (modules_in l.unwinder p)) p.next)) p (length p.unwinders) (simp length-set) carried
 turn_counts m forms data_of p (unload_module u) carried =
     let less = without_module (λ x. x.start) u.start (modules_in u.unwinder p) in
-    either_turn (has_start (λ x. x.start) u.start (modules_in u.unwinder p)) (with_modules u.unwinder less p) (writes [] p) (made_by p)
+    either_turn (has_start (λ x. x.start) u.start (modules_in u.unwinder p)) (turn_with_modules u.unwinder less p) (writes [] p) (made_by p)
     (made_numbered (slice_set p.unwinders u.unwinder (loads_with less p.next)) p (length p.unwinders) (simp length-set)) refl carried
 turn_counts m forms data_of p (take_step s) carried =
     let part : ℕ → Made = λ k. record { unwinders = length p.unwinders; caches = k } in

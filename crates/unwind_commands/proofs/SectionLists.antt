@@ -5,9 +5,9 @@ use Rattle.std.specs.List.{slice_index_or}
 use Rattle.std.specs.Option.{option_or}
 use Rattle.std.proofs.lemmas.Slice.Eq.{bytes_eq-Decides}
 use Rattle.framehop_modules.specs.Sections.{bare_name, may_be_one, SectionLeft}
-use Rattle.unwind_commands.specs.CommandViews.{section_view, sections_view}
-use Rattle.unwind_commands.specs.Sections.{data_named, range_named, range_of, sections_stated}
-use Rattle.unwind_commands.specs.declared.document.command.Section.{Section}
+use Rattle.unwind_documents.specs.CommandViews.{section_view, sections_view}
+use Rattle.unwind_commands.specs.Sections.{first_data_named, range_named, range_of, sections_stated}
+use Rattle.unwind_documents.specs.declared.command.Section.{Section}
 
 -- names that may not be those of one section differ
 names_differ : (name other : List ℕ) (same : Bool) → bytes_eq name other ≡ same → may_be_one name other ≡ false → bytes_eq name other ≡ false
@@ -31,11 +31,11 @@ ranges_kept name (x ∷ ss) (suc i) s d named ranged =
 -- nor the data under another name
 data_kept : (name : List ℕ) (ss : List Section) (i : ℕ) (s d : Section)
     → s.name ≡ (slice_index_or ss i d).name → bytes_eq (string_bytes s.name) name ≡ false
-    → data_named name (sections_view (slice_set ss i s)) ≡ data_named name (sections_view ss)
+    → first_data_named name (sections_view (slice_set ss i s)) ≡ first_data_named name (sections_view ss)
 data_kept name [] i s d named other = refl
 data_kept name (x ∷ ss) zero s d named other =
-    ap (λ b. option_or (cond b (section_view s).bytes None) (data_named name (sections_view ss))) other
-    ∙ sym (ap (λ b. option_or (cond b (section_view x).bytes None) (data_named name (sections_view ss)))
+    ap (λ b. option_or (cond b (section_view s).bytes None) (first_data_named name (sections_view ss))) other
+    ∙ sym (ap (λ b. option_or (cond b (section_view x).bytes None) (first_data_named name (sections_view ss)))
     (ap (λ n. bytes_eq (string_bytes n) name) (sym named) ∙ other))
 data_kept name (x ∷ ss) (suc i) s d named other =
     ap (λ found. option_or (cond (bytes_eq (string_bytes x.name) name) (section_view x).bytes None) found)

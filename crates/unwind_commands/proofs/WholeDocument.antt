@@ -3,7 +3,7 @@ use Rattle.std.proofs.Common.{◌≡◌, ℕ, ◌<◌, List, length, Option, Som
 use Rattle.std.specs.Prelude.{IfSome}
 use Rattle.std.proofs.lemmas.Bool.{lt-ltb}
 use Rattle.documents.specs.declared.fault.FaultName.TheVariants.{TooLong}
-use Rattle.unwind_commands.specs.Document.{content_of}
+use Rattle.unwind_documents.specs.Document.{content_of}
 use Rattle.documents.specs.declared.transfer.TheConstants.{DOCUMENT_LIMIT}
 use Rattle.documents.proofs.Laws.{front_says}
 use Rattle.documents.specs.Stream.{part_read}

@@ -1,6 +1,3 @@
-pub mod CommandViews
-pub mod Commands
-pub mod Document
 pub mod Lines
 pub mod Registers
 pub mod Roads

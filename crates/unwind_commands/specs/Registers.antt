@@ -6,7 +6,7 @@ use Rattle.framehop_registers.specs.RegistersAarch64 as aarch64
 use Rattle.framehop_registers.specs.declared.aarch64.unwindregs.PtrAuthMask.{PtrAuthMask}
 use Rattle.framehop_registers.specs.declared.aarch64.unwindregs.UnwindRegsAarch64.{UnwindRegsAarch64}
 use Rattle.framehop_registers.specs.declared.x86_64.unwindregs.UnwindRegsX86_64.{UnwindRegsX86_64}
-use Rattle.unwind_commands.specs.declared.document.registers.StatedRegisters.{StatedRegisters}
+use Rattle.unwind_documents.specs.declared.registers.StatedRegisters.{StatedRegisters}
 
 -- The registers that are stated as those of an architecture, and the text of these.
 pub record RegisterForms (Registers : Type 0) : Type 0 where

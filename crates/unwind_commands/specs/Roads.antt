@@ -1,7 +1,7 @@
 -- The module over which a step is made by each road, and its sections.
 use Rattle.std.specs.Prelude.{ℕ, ◌+◌, ◌-◌, ◌^◌, min, List, [], length, codes, Some}
 use Rattle.framehop_unwinder.specs.Modules.{Loaded}
-use Rattle.unwind_commands.specs.Commands.{SectionData, TableData}
+use Rattle.unwind_documents.specs.Commands.{SectionData, TableData}
 
 -- so many addresses behind one, or the last
 abbrev pub address_behind : ℕ → ℕ → ℕ
@@ -16,12 +16,12 @@ section_at name start bytes = record {
 }
 
 -- the section of call frames
-abbrev pub section_of : TableData → SectionData
-section_of t = section_at (codes ".eh_frame") t.section_start t.section
+abbrev pub stated_section : TableData → SectionData
+stated_section t = section_at (codes ".eh_frame") t.section_start t.section
 
 -- its header
-abbrev pub header_of : TableData → SectionData
-header_of t = section_at (codes ".eh_frame_hdr") t.header_start t.header
+abbrev pub stated_header : TableData → SectionData
+stated_header t = section_at (codes ".eh_frame_hdr") t.header_start t.header
 
 -- the module at the base: 2^32 addresses, as far as there are so many
 abbrev pub module_at : {Data : Type 0} → ℕ → Data → Loaded Data

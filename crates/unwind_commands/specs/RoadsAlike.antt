@@ -8,13 +8,13 @@ use Rattle.framehop.specs.FrameSections.{eh_frame_of}
 use Rattle.framehop.specs.TruthfulRoads.{AreTruthful}
 use Rattle.framehop.specs.UnwindData.{bases_of}
 use Rattle.framehop_modules.specs.Chosen.{base_svmas}
-use Rattle.unwind_commands.specs.Commands.{TableData}
-use Rattle.unwind_commands.specs.Roads.{section_of, header_of}
+use Rattle.unwind_documents.specs.Commands.{TableData}
+use Rattle.unwind_commands.specs.Roads.{stated_section, stated_header}
 use Rattle.unwind_commands.specs.Sections.{sections_stated}
 
 -- the addresses that pointers count from in a module with both tables
 abbrev pub bases_in : TableData → BaseAddresses
-bases_in t = bases_of (base_svmas (sections_stated t.base_svma (section_of t ∷ header_of t ∷ [])))
+bases_in t = bases_of (base_svmas (sections_stated t.base_svma (stated_section t ∷ stated_header t ∷ [])))
 
 -- The header is truthful, and one of the section's FDEs contains an address.
 pub record Covers (t : TableData) (address : ℕ) : Type 0 where

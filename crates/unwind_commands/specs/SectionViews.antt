@@ -1,6 +1,6 @@
 -- What contracts see of the sections of a load.
 use Rattle.framehop_modules.specs.Sections.{Sections}
-use Rattle.unwind_commands.specs.CommandViews.{sections_view}
+use Rattle.unwind_documents.specs.CommandViews.{sections_view}
 use Rattle.unwind_commands.specs.Sections.{sections_stated}
 use Rattle.unwind_commands.specs.declared.sections.StatedSections.{StatedSections}
 

@@ -4,8 +4,8 @@ use Rattle.std.specs.Option.{option_or}
 use Rattle.std.specs.declared.ops.Range.{Range}
 use Rattle.framehop.specs.UnwindData.{UnwindData, unwind_data_of, scanned_data_of}
 use Rattle.framehop_modules.specs.Sections.{Sections}
-use Rattle.unwind_commands.specs.declared.document.command.AddressRange.{AddressRange}
-use Rattle.unwind_commands.specs.Commands.{SectionData}
+use Rattle.unwind_documents.specs.declared.command.AddressRange.{AddressRange}
+use Rattle.unwind_documents.specs.Commands.{SectionData}
 
 -- where a section lies, as a range of numbers
 abbrev pub range_of : AddressRange → Range ℕ
@@ -18,17 +18,17 @@ range_named name (section ∷ sections) =
     option_or (if bytes_eq section.name name then option_map range_of section.range else None) (range_named name sections)
 
 -- the data of the first section of this name that has some
-abbrev pub data_named : List ℕ → List SectionData → Option (List ℕ)
-data_named name [] = None
-data_named name (section ∷ sections) =
-    option_or (if bytes_eq section.name name then section.bytes else None) (data_named name sections)
+abbrev pub first_data_named : List ℕ → List SectionData → Option (List ℕ)
+first_data_named name [] = None
+first_data_named name (section ∷ sections) =
+    option_or (if bytes_eq section.name name then section.bytes else None) (first_data_named name sections)
 
 -- sections by their names, whose stated addresses count from an address. There are no segments
 abbrev pub sections_stated : ℕ → List SectionData → Sections
 sections_stated base_svma sections = record {
   base_svma = base_svma;
   section_range = λ name. range_named name sections;
-  section_data = λ name. data_named name sections;
+  section_data = λ name. first_data_named name sections;
   segment_range = λ name. None;
   segment_data = λ name. None;
 }

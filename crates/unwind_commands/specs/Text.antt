@@ -31,18 +31,18 @@ use Rattle.framehop_unwinder.specs.Judge.{judge}
 use Rattle.framehop_unwinder.specs.Modules.{Loaded}
 use Rattle.framehop_unwinder.specs.State.{State}
 use Rattle.framehop_unwinder.specs.WalkViews.{walk_from}
-use Rattle.unwind_commands.specs.declared.document.command.FrameKind.{FrameKind}
-use Rattle.unwind_commands.specs.declared.document.command.FrameKind.TheVariants.{Ip, Ra}
-use Rattle.unwind_commands.specs.declared.document.Architecture.{Architecture}
-use Rattle.unwind_commands.specs.declared.document.Architecture.TheVariants as arch
-use Rattle.unwind_commands.specs.declared.document.Policy.{Policy}
-use Rattle.unwind_commands.specs.declared.document.Policy.TheVariants.{May, Must}
-use Rattle.unwind_commands.specs.declared.document.registers.StatedRegisters.{StatedRegisters}
-use Rattle.unwind_commands.specs.Commands.{Made, StackWords, Loading, RoadSteps, Task, make_unwinder, make_cache, clone_unwinder, load_module, unload_module, take_step, take_walk, show_counts, take_roads}
-use Rattle.unwind_commands.specs.Document.{Content, content_of}
+use Rattle.unwind_documents.specs.declared.command.FrameKind.{FrameKind}
+use Rattle.unwind_documents.specs.declared.command.FrameKind.TheVariants.{Ip, Ra}
+use Rattle.unwind_documents.specs.declared.document.Architecture.{Architecture}
+use Rattle.unwind_documents.specs.declared.document.Architecture.TheVariants as arch
+use Rattle.unwind_documents.specs.declared.document.Policy.{Policy}
+use Rattle.unwind_documents.specs.declared.document.Policy.TheVariants.{May, Must}
+use Rattle.unwind_documents.specs.declared.registers.StatedRegisters.{StatedRegisters}
+use Rattle.unwind_documents.specs.Commands.{Made, StackWords, Loading, RoadSteps, Task, make_unwinder, make_cache, clone_unwinder, load_module, unload_module, take_step, take_walk, show_counts, take_roads}
+use Rattle.unwind_documents.specs.Document.{Content, content_of}
 use Rattle.unwind_commands.specs.Lines.{outcome_line}
 use Rattle.unwind_commands.specs.Registers.{RegisterForms, register_forms, stated_aarch64, stated_x86_64, text_aarch64, text_x86_64}
-use Rattle.unwind_commands.specs.Roads.{section_of, header_of, module_at}
+use Rattle.unwind_commands.specs.Roads.{stated_section, stated_header, module_at}
 use Rattle.framehop_unwinder.specs.Progress.{Progress, modules_in}
 use Rattle.unwind_sessions.specs.Turns.{Turn, beginning, writes, turn_of_unwinder, turn_of_cache, turn_of_clone, turn_of_load, turn_of_unload, turn_of_step, turn_of_walk, turn_of_stats}
 
@@ -88,8 +88,8 @@ road_line m forms r given =
 abbrev pub road_lines : {Data Rule Registers : Type 0} → Meanings Data Rule Registers → RegisterForms Registers → DataForms Data → RoadSteps → List ℕ
 road_lines m forms data_of r =
     let base = r.tables.base_svma in
-    let section = section_of r.tables in
-    codes "header " ++ road_line m forms r (data_of.loaded base (section ∷ header_of r.tables ∷ []))
+    let section = stated_section r.tables in
+    codes "header " ++ road_line m forms r (data_of.loaded base (section ∷ stated_header r.tables ∷ []))
     ++ codes "index " ++ road_line m forms r (data_of.loaded base (section ∷ []))
     ++ codes "scan " ++ road_line m forms r (data_of.scanned base (section ∷ []))
 

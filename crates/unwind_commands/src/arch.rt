@@ -1,13 +1,13 @@
 //! The architectures of documents.
 ghost use Rattle.std.specs.Prelude.{◌≡◌, ℕ, List, Some, IfOk, string_bytes};
-ghost use Rattle.unwind_commands.specs.declared.document.registers.StatedRegisters.{StatedRegisters};
+ghost use Rattle.unwind_documents.specs.declared.registers.StatedRegisters.{StatedRegisters};
 
-use crate::document::StatedRegisters;
 use framehop::DwarfUnwinding;
 use framehop_rules::aarch64::{ArchAarch64, PtrAuthMask, UnwindRegsAarch64};
 use framehop_rules::x86_64::{ArchX86_64, UnwindRegsX86_64};
 use std::alloc::{AllocError, Global};
 use std::fmt;
+use unwind_documents::StatedRegisters;
 
 /// An architecture, by how documents state its registers and how these are written.
 pub(crate) trait DocumentArch: DwarfUnwinding {

@@ -1,9 +1,9 @@
 //! A law of the steps by each road. It does nothing when the program runs.
 ghost use Rattle.std.specs.Prelude.{◌≡◌, ℕ, Option, [], ◌∷◌};
 ghost use Rattle.framehop_unwinder.specs.Frames.{lookup_address};
-ghost use Rattle.unwind_commands.specs.Commands.{RoadSteps};
+ghost use Rattle.unwind_documents.specs.Commands.{RoadSteps};
 ghost use Rattle.unwind_commands.specs.Registers.{RegisterForms};
-ghost use Rattle.unwind_commands.specs.Roads.{section_of};
+ghost use Rattle.unwind_commands.specs.Roads.{stated_section};
 ghost use Rattle.unwind_commands.specs.RoadsAlike.{Covers, named_alike};
 ghost use Rattle.unwind_commands.specs.Sections.{data_stated};
 ghost use Rattle.unwind_commands.specs.Text.{frame_at, road_line, road_lines, sections_meanings};
@@ -19,7 +19,7 @@ pub fn truthful_roads_write_alike<A: DwarfUnwinding>()
         → let m = sections_meanings A.UnwindRule.meaning A.UnwindRule.fallback
         A.row_attempt A.uncovered limit in
         road_lines m forms data_stated r ≡ named_alike (road_line m forms r
-        (data_stated.scanned r.tables.base_svma (section_of r.tables ∷ []))) }
+        (data_stated.scanned r.tables.base_svma (stated_section r.tables ∷ []))) }
 {
     truthful_roads_cover_alike();
 }

@@ -2,7 +2,6 @@
 #![tactic(auto)]
 
 mod arch;
-mod document;
 pub mod laws;
 mod lines;
 mod perform;

@@ -3,24 +3,24 @@ ghost use Rattle.std.specs.Prelude.{◌≡◌, ◌≢◌, ◌<◌, ℕ, List, If
 ghost use Rattle.framehop_registers.specs.Callback.{read_answer};
 ghost use Rattle.framehop_unwinder.specs.Attempt.{meanings};
 ghost use Rattle.framehop_unwinder.specs.Frames.{frame_of};
-ghost use Rattle.unwind_commands.specs.Commands.{IsSound};
+ghost use Rattle.unwind_documents.specs.Commands.{IsSound};
 ghost use Rattle.unwind_commands.specs.Registers.{register_forms};
 ghost use Rattle.unwind_commands.specs.Sections.{DataForms};
-ghost use Rattle.unwind_commands.specs.CommandViews.{sections_view, task_of, words_view};
+ghost use Rattle.unwind_documents.specs.CommandViews.{sections_view, task_of, words_view};
 ghost use Rattle.framehop_unwinder.specs.Progress.{Progress, IsAt};
 ghost use Rattle.unwind_sessions.specs.Turns.{ComesTo};
 ghost use Rattle.unwind_commands.specs.Text.{frame_at, made_in, turn, words_of};
-ghost use Rattle.unwind_commands.specs.declared.document.registers.StatedRegisters.{StatedRegisters};
-ghost use Rattle.unwind_commands.specs.declared.document.command.FrameKind.TheVariants.{Ra};
+ghost use Rattle.unwind_documents.specs.declared.registers.StatedRegisters.{StatedRegisters};
+ghost use Rattle.unwind_documents.specs.declared.command.FrameKind.TheVariants.{Ra};
 
-use crate::document::{
-    Command, FrameKind, Load, Roads, Section, Stack, StatedRegisters, Step, Walk,
-};
 use crate::lines::step_line;
 use crate::roads::road_lines;
 use framehop_rules::FrameAddress;
 use framehop_unwinder::{Module, Session, StackWalk, Unwinding};
 use std::alloc::{AllocError, Global};
+use unwind_documents::{
+    Command, FrameKind, Load, Roads, Section, Stack, StatedRegisters, Step, Walk,
+};
 use unwind_sessions as turns;
 use unwind_sessions::Written;
 

@@ -4,15 +4,14 @@ ghost use Rattle.std.specs.Io.KnownBytes.{Appends};
 ghost use Rattle.documents.specs.Stream.{AppendsFront};
 ghost use Rattle.framehop_unwinder.specs.Attempt.{meanings};
 ghost use Rattle.unwind_sessions.specs.Turns.{beginning};
-ghost use Rattle.unwind_commands.specs.Commands.{AreSound};
-ghost use Rattle.unwind_commands.specs.Document.{nothing_made};
-ghost use Rattle.unwind_commands.specs.CommandViews.{content_view, tasks_of};
+ghost use Rattle.unwind_documents.specs.Commands.{AreSound};
+ghost use Rattle.unwind_documents.specs.Document.{nothing_made};
+ghost use Rattle.unwind_documents.specs.CommandViews.{content_view, tasks_of};
 ghost use Rattle.unwind_commands.specs.Registers.{register_forms};
 ghost use Rattle.unwind_commands.specs.Sections.{data_stated};
 ghost use Rattle.unwind_commands.specs.Text.{text_of, ending_of, content_lines, lines_of, sections_meanings, value_limit};
 
 use crate::arch::DocumentArch;
-use crate::document::{Architecture, Command, Document, Policy, decode};
 use crate::perform::{DocumentModules, perform};
 use documents::{Ending, Refusal, RunError, Sink, Source, read_document, write_all};
 use framehop::{BySections, MayAllocateDuringUnwind, MustNotAllocateDuringUnwind};
@@ -21,6 +20,7 @@ use framehop_rules::aarch64::ArchAarch64;
 use framehop_rules::x86_64::ArchX86_64;
 use framehop_unwinder::Session;
 use std::alloc::Global;
+use unwind_documents::{Architecture, Command, Document, Policy, decode};
 
 /// Modules of an architecture by the bytes of their sections, under a policy.
 type Modules<A, P> = BySections<A, Vec<u8>, P>;

@@ -3,17 +3,17 @@ ghost use Rattle.std.specs.Prelude.{◌≡◌, ◌≢◌, ◌+◌, ◌∷◌, �
 ghost use Rattle.framehop_registers.specs.Callback.{read_answer};
 ghost use Rattle.framehop_unwinder.specs.Attempt.{meanings};
 ghost use Rattle.unwind_commands.specs.Registers.{register_forms};
-ghost use Rattle.unwind_commands.specs.CommandViews.{roads_view, section_view, sections_view, tables_view, words_view};
-ghost use Rattle.unwind_commands.specs.Roads.{address_behind, header_of, section_at, section_of};
+ghost use Rattle.unwind_documents.specs.CommandViews.{roads_view, section_view, sections_view, tables_view, words_view};
+ghost use Rattle.unwind_commands.specs.Roads.{address_behind, stated_header, section_at, stated_section};
 ghost use Rattle.unwind_commands.specs.Text.{road_line, road_lines, words_of};
-ghost use Rattle.unwind_commands.specs.declared.document.command.FrameKind.TheVariants.{Ra};
+ghost use Rattle.unwind_documents.specs.declared.command.FrameKind.TheVariants.{Ra};
 
-use crate::document::{AddressRange, Roads, Section, Tables};
 use crate::lines::step_line;
 use crate::perform::{DocumentModules, frame_address, word_at};
 use framehop_unwinder::Module;
 use std::alloc::{AllocError, Global};
 use std::fmt;
+use unwind_documents::{AddressRange, Roads, Section, Tables};
 use unwind_sessions::step_alone;
 
 /// How many addresses the module has, as far as there are so many.
@@ -35,7 +35,7 @@ fn section_at(alloc: Global, name: &str, start: u64, bytes: &Vec<u8>) -> Result<
 /// The section of call frames alone.
 fn section_alone(alloc: Global, tables: &Tables) -> Result<Vec<Section>, AllocError>
     ensures { IfOk result (λ sections.
-        sections_view sections.items ≡ section_of (tables_view tables.now) ∷ []) }
+        sections_view sections.items ≡ stated_section (tables_view tables.now) ∷ []) }
 {
     let section = section_at(alloc, ".eh_frame", tables.section_start, &tables.section)?;
     let mut sections = Vec::new(alloc);
@@ -46,7 +46,7 @@ fn section_alone(alloc: Global, tables: &Tables) -> Result<Vec<Section>, AllocEr
 /// The section of call frames with its header.
 fn section_with_header(alloc: Global, tables: &Tables) -> Result<Vec<Section>, AllocError>
     ensures { IfOk result (λ sections. let tables = tables_view tables.now in
-        sections_view sections.items ≡ section_of tables ∷ header_of tables ∷ []) }
+        sections_view sections.items ≡ stated_section tables ∷ stated_header tables ∷ []) }
 {
     let mut sections = section_alone(alloc, tables)?;
     let header = section_at(alloc, ".eh_frame_hdr", tables.header_start, &tables.header)?;

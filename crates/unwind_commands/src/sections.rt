@@ -1,17 +1,17 @@
 //! The sections of a load, as a module is made of them.
 ghost use Rattle.std.specs.Prelude.{◌≡◌, ◌<◌, None, IsSome, IfSome, IfNone, length};
 ghost use Rattle.std.specs.List.{slice_index_or};
-ghost use Rattle.unwind_commands.specs.CommandViews.{section_view, sections_view};
-ghost use Rattle.unwind_commands.specs.Sections.{data_named, range_named};
-ghost use Rattle.unwind_commands.specs.declared.document.command.Section.{Section};
+ghost use Rattle.unwind_documents.specs.CommandViews.{section_view, sections_view};
+ghost use Rattle.unwind_commands.specs.Sections.{first_data_named, range_named};
+ghost use Rattle.unwind_documents.specs.declared.command.Section.{Section};
 
 use crate::arch::DocumentArch;
-use crate::document::{Section, StatedRegisters};
 use crate::perform::DocumentModules;
 use framehop::{AllocationPolicy, BySections, DwarfUnwindContext, ModuleUnwindData};
 use framehop_modules::ModuleSectionInfo;
 use std::alloc::{AllocError, Global};
 use std::ops::Range;
+use unwind_documents::{Section, StatedRegisters};
 
 /// The sections of a load, whose stated addresses count from an address.
 #[derive(Debug, Drop)]
@@ -41,11 +41,11 @@ fn place_of(sections: &[Section], name: &[u8]) -> Option<usize>
     ensures named { IfSome result (λ i. (d : Section)
         → (section_view (slice_index_or sections.now i d)).name ≡ name.now) }
     ensures data_ { IfSome result (λ i. (d : Section)
-        → data_named name.now (sections_view sections.now)
+        → first_data_named name.now (sections_view sections.now)
         ≡ (section_view (slice_index_or sections.now i d)).bytes) }
     ensures has_data { IfSome result (λ _.
-        IsSome (data_named name.now (sections_view sections.now))) }
-    ensures none { IfNone result (data_named name.now (sections_view sections.now) ≡ None) }
+        IsSome (first_data_named name.now (sections_view sections.now))) }
+    ensures none { IfNone result (first_data_named name.now (sections_view sections.now) ≡ None) }
 {
     for (i, section) in sections.iter().enumerate() {
         if section.name.as_bytes() == name && section.bytes.is_some() {

@@ -41,20 +41,20 @@ abbrev pub with_unwinders : {Data : Type 0} → List (Loads (Loaded Data)) → P
 with_unwinders unwinders progress = record { unwinders = unwinders; next = progress.next; histories = progress.histories }
 
 -- these unwinders, one of which takes the counter's next number: all below 2^64 - 1 are given
-abbrev pub with_number : {Data : Type 0} → List (Loads (Loaded Data)) → Progress Data → Turn Data
-with_number unwinders progress =
+abbrev pub turn_with_number : {Data : Type 0} → List (Loads (Loaded Data)) → Progress Data → Turn Data
+turn_with_number unwinders progress =
     if nat_lt progress.next (2 ^ 64 - 1)
     then writes [] (record { unwinders = unwinders; next = progress.next + 1; histories = progress.histories })
     else refuses progress
 
 -- other modules in an unwinder, which takes the next number
-abbrev pub with_modules : {Data : Type 0} → ℕ → List (Loaded Data) → Progress Data → Turn Data
-with_modules unwinder modules progress =
-    with_number (slice_set progress.unwinders unwinder (loads_with modules progress.next)) progress
+abbrev pub turn_with_modules : {Data : Type 0} → ℕ → List (Loaded Data) → Progress Data → Turn Data
+turn_with_modules unwinder modules progress =
+    turn_with_number (slice_set progress.unwinders unwinder (loads_with modules progress.next)) progress
 
 -- a new unwinder, without a module
 abbrev pub turn_of_unwinder : {Data : Type 0} → Progress Data → Turn Data
-turn_of_unwinder progress = with_number (progress.unwinders ++ loads_with [] progress.next ∷ []) progress
+turn_of_unwinder progress = turn_with_number (progress.unwinders ++ loads_with [] progress.next ∷ []) progress
 
 -- a new cache, in which no key was kept
 abbrev pub turn_of_cache : {Data : Type 0} → Progress Data → Turn Data
@@ -68,13 +68,13 @@ turn_of_clone unwinder progress =
 -- a module more in an unwinder
 abbrev pub turn_of_load : {Data : Type 0} → ℕ → Loaded Data → Progress Data → Turn Data
 turn_of_load unwinder module_ progress =
-    with_modules unwinder (with_module (λ m. m.start) module_ (modules_in unwinder progress)) progress
+    turn_with_modules unwinder (with_module (λ m. m.start) module_ (modules_in unwinder progress)) progress
 
 -- the last of the modules that start there less, if one does
 abbrev pub turn_of_unload : {Data : Type 0} → ℕ → ℕ → Progress Data → Turn Data
 turn_of_unload unwinder start progress =
     if has_start (λ m. m.start) start (modules_in unwinder progress)
-    then with_modules unwinder (without_module (λ m. m.start) start (modules_in unwinder progress)) progress
+    then turn_with_modules unwinder (without_module (λ m. m.start) start (modules_in unwinder progress)) progress
     else writes [] progress
 
 -- the counts of a cache

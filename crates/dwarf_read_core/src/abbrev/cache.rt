@@ -4,7 +4,7 @@ ghost use Rattle.std.specs.Prelude.{◌≡◌, ℕ, ◌==◌, ◌⊎◌, List, i
 ghost use Rattle.std.specs.BTreeSet.{contains};
 ghost use Rattle.std.specs.Iterator.{Drains, IsFinite, YieldsThen};
 ghost use Rattle.std.specs.Ordering.{nat_cmp};
-ghost use Rattle.dwarf_constants.specs.declared.common.DebugAbbrevOffset.{DebugAbbrevOffset};
+ghost use Rattle.dwarf_offsets.specs.declared.DebugAbbrevOffset.{DebugAbbrevOffset};
 ghost use Rattle.dwarf_constants.specs.declared.error.Error.TheVariants as error;
 ghost use Rattle.dwarf_read_core.specs.AbbreviationTable.{GivesOrMemory, table_in};
 ghost use Rattle.dwarf_read_core.specs.AbbreviationsCache.{KeepsSame, cached_answer, is_kept, kept_answer, populated_answer, table_answer};
@@ -12,7 +12,8 @@ ghost use Rattle.dwarf_read_core.specs.declared.abbrev.cache.AbbreviationsCacheS
 ghost use Rattle.dwarf_read_core.specs.DebugAbbrev.{declarations};
 
 use super::{Abbreviations, DebugAbbrev};
-use dwarf_constants::{DebugAbbrevOffset, Error, Result};
+use dwarf_constants::{Error, Result};
+use dwarf_offsets::DebugAbbrevOffset;
 use dwarf_readers::{Reader, ReaderOffset};
 use std::alloc::Global;
 use std::collections::{BTreeMap, BTreeSet};

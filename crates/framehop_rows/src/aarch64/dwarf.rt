@@ -8,7 +8,7 @@ ghost use Rattle.framehop_rules.specs.RuleMeaningAarch64.{rule_meaning, caller_r
 ghost use Rattle.framehop_rows.specs.DirectRowAarch64.{direct_answer, restored};
 ghost use Rattle.framehop_rows.specs.DirectViewsAarch64.{caller_shown};
 ghost use Rattle.framehop_rows.specs.Memory.{HasExpressionPart, TakesMemory};
-ghost use Rattle.framehop_rows.specs.RowAnswerAarch64.{row_answer, value_of};
+ghost use Rattle.framehop_rows.specs.RowAnswerAarch64.{row_answer, register_value};
 ghost use Rattle.framehop_rows.specs.RowParts.{parts_as};
 ghost use Rattle.framehop_rows.specs.ScaledRowAarch64.{saved_by, raised_sp, restored_lr, restored_both, from_sp, restored_from_fp, followed_fp, from_fp, scaled_rule};
 ghost use Rattle.framehop_rows.specs.declared.dwarf.DwarfUnwinderError.TheVariants.{OutOfMemory};
@@ -31,7 +31,7 @@ use std::alloc::Global;
 
 /// SP, X29 and X30 (DWARF for the Arm 64-bit Architecture, 4.1).
 impl DwarfUnwindRegs for UnwindRegsAarch64 {
-    ghost value_of = { value_of };
+    ghost register_value = { register_value };
 
     fn get(&self, register: Register) -> Option<u64> {
         match register {

@@ -8,7 +8,7 @@ ghost use Rattle.framehop_rows.specs.Memory.{HasExpressionPart, IsColumnExpressi
 ghost use Rattle.dwarf_frame_programs.specs.StateViews.{rule_as};
 ghost use Rattle.framehop_rules.specs.Outcome.{Answers, Caller};
 ghost use Rattle.framehop_rules.specs.RuleMeaning.{rule_meaning, IsValid};
-ghost use Rattle.framehop_rows.specs.RowAnswer.{row_answer, value_of};
+ghost use Rattle.framehop_rows.specs.RowAnswer.{row_answer, register_value};
 ghost use Rattle.framehop_rows.specs.declared.dwarf.DwarfUnwinderError.TheVariants.{OutOfMemory};
 ghost use Rattle.framehop_rows.specs.RowParts.{parts_as};
 ghost use Rattle.framehop_rows.specs.ScaledRow.{raised_sp, restored_bp, from_sp, from_bp, scaled_rule};
@@ -31,7 +31,7 @@ use std::alloc::{AllocError, Global};
 
 /// RSP, RBP, and RIP by the return address's column (System V ABI for AMD64, figure 3.36).
 impl DwarfUnwindRegs for UnwindRegsX86_64 {
-    ghost value_of = { value_of };
+    ghost register_value = { register_value };
 
     fn get(&self, register: Register) -> Option<u64> {
         match register {

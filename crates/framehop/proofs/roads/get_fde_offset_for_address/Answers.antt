@@ -7,7 +7,7 @@ use Rattle.dwarf_numbers.specs.Answers.{Gives}
 use Rattle.dwarf_readers.specs.Place.{Stretch, ◌>>=◌}
 use Rattle.dwarf_frame_rows.specs.declared.base_addresses.BaseAddresses.{BaseAddresses}
 use Rattle.dwarf_frame_headers.specs.Header.{Header, header_at}
-use Rattle.dwarf_frame_headers.specs.HeaderTable.{table_in}
+use Rattle.dwarf_frame_headers.specs.HeaderTable.{header_with_table}
 use Rattle.framehop.specs.Roads.{headed_offset, header_of, offset_in_table}
 use Rattle.framehop.proofs.roads.get_fde_offset_for_address.Goals as goal
 
@@ -15,9 +15,9 @@ use Rattle.framehop.proofs.roads.get_fde_offset_for_address.Goals as goal
 parsed : (read : Result Header Error) (said : Result Header Error) (header : Header) → Gives (λ header. header) read said → read ≡ Ok header → said ≡ Ok header
 parsed read said header gives is = subst (λ (r : Result Header Error). Gives (λ header. header) r said) is gives
 
-by-table : (bases : BaseAddresses) (bytes : List ℕ) (address : ℕ) (header table : Header) → header_of bases bytes ≡ Ok header → table_in header ≡ Some table → offset_in_table bases table address ≡ headed_offset bases bytes address
+by-table : (bases : BaseAddresses) (bytes : List ℕ) (address : ℕ) (header table : Header) → header_of bases bytes ≡ Ok header → header_with_table header ≡ Some table → offset_in_table bases table address ≡ headed_offset bases bytes address
 by-table bases bytes address header table parses has =
-    sym (ap (λ (r : Result Header Error). r >>= λ h. ok_or (table_in h) NoUnwindInfoForAddress >>= λ t. offset_in_table bases t address) parses
+    sym (ap (λ (r : Result Header Error). r >>= λ h. ok_or (header_with_table h) NoUnwindInfoForAddress >>= λ t. offset_in_table bases t address) parses
     ∙ ap (λ (o : Option Header). ok_or o NoUnwindInfoForAddress >>= λ t. offset_in_table bases t address) has)
 
 pub returns : goal.returns

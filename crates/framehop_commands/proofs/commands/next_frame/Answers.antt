@@ -6,7 +6,7 @@ use Rattle.framehop_unwinder.specs.Walk.{Place}
 use Rattle.framehop_unwinder.specs.WalkViews.{walk_of, place_of, frame_answer}
 use Rattle.framehop_commands.specs.Commands.{Moved}
 use Rattle.framehop_unwinder.specs.Progress.{IsAt}
-use Rattle.framehop_commands.specs.Progress.{place_in, with_move}
+use Rattle.framehop_commands.specs.Progress.{walk_place, with_move}
 use Rattle.framehop_commands.proofs.CommandTurns.{frame-turn}
 use Rattle.framehop_commands.proofs.CommandProgress.{asked-at, move-at, place-there}
 use Rattle.framehop_commands.proofs.commands.next_frame.Goals as goal
@@ -32,7 +32,7 @@ returns-clause-progress g c =
     let walk = c.index_mut-walk.result.now in
     let next = c.next_frame-answer.new.walk in
     let here : c.args.walk < length c.args.walks.now.items = omega (arith, c.len.ensures, c.if-walk-len.false) in
-    let place = place_in (map walk_of c.args.walks.now.items) c.args.walk in
+    let place = walk_place (map walk_of c.args.walks.now.items) c.args.walk in
     λ progress at. asked-at wanted (reply_of c.of_move.result) (Moved (frame_answer c.next_frame-answer.result) (walk_of next).registers) (with_move m c.args.unwinder c.args.cache place progress) progress after
     c.of_move.ensures.wanted (λ no. rw (c.regs.ensures) at (c.of_move.ensures.answered no)) refl
     (subst (λ (p : Place). IsAt (with_move m c.args.unwinder c.args.cache p progress wanted) after) (sym (place-there c.args.walks.now.items c.args.walk walk here c.index_mut-walk.ensures.value))

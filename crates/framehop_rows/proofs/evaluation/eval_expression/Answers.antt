@@ -1,7 +1,7 @@
 use Rattle.std.proofs.Common.{◌≡◌, Ok, subst, sym, ap, ◌∙◌}
 use Rattle.dwarf_expressions.specs.Evaluation.{ComesTo, Program, Ready, first_machine, state_reached, state_reached_with}
 use Rattle.dwarf_expressions.specs.declared.evaluation.EvaluationResult.TheVariants.{RequiresRegister}
-use Rattle.framehop_rows.specs.ExpressionValue.{program_of, value_from}
+use Rattle.framehop_rows.specs.ExpressionValue.{expression_program, value_by_requests}
 use Rattle.framehop_rows.proofs.Evaluations.{fewer_requests, grows, leads_on}
 use Rattle.framehop_rows.proofs.evaluation.eval_expression.Goals as goal
 
@@ -14,8 +14,8 @@ requests-smaller g c =
 pub requests-preserved : goal.requests-preserved
 requests-preserved g c =
     let limit = g.S.Stack.ArrayLike.capacity in
-    let p = program_of limit c.args.encoding.address_size (g.R.Reader.stretch c.args.expression.0) in
-    let registers = g.G.DwarfUnwindRegs.value_of c.args.regs.now in
+    let p = expression_program limit c.args.encoding.address_size (g.R.Reader.stretch c.args.expression.0) in
+    let registers = g.G.DwarfUnwindRegs.register_value c.args.regs.now in
     let s = c.requests.evaluation.state in
     let t = c.resume_with_register-answer.new.self.state in
     let register = c.in-Ok-RequiresRegister.register in
@@ -31,6 +31,6 @@ requests-preserved g c =
           ∙ grows c.requests.evaluation.program.capacity s register c.requests.answer c.requests.invariant.answers asks (c.resume_with_register-answer.ensures.memory h);
       leads =
           leads_on s t register c.in-Some.value c.requests.answer c.resume_with_register-answer.result c.requests.invariant.answers asks c.resume_with_register-answer.ensures.answer
-          c.resume_with_register-answer.ensures.fewer p registers (value_from p registers (state_reached p (Ready first_machine))) c.requests.invariant.leads
+          c.resume_with_register-answer.ensures.fewer p registers (value_by_requests p registers (state_reached p (Ready first_machine))) c.requests.invariant.leads
           (sym c.get.ensures ∙ c.in-Some.is) (subst Reached c.requests.invariant.program c.resume_with_register-answer.ensures.state);
     }

@@ -9,7 +9,7 @@ use Rattle.framehop_unwinder.specs.Attempt.{Attempt}
 use Rattle.framehop_unwinder.specs.Frames.{lookup_address}
 use Rattle.framehop_unwinder.specs.Judge.{by_attempt}
 use Rattle.unwind_commands.specs.Lines.{outcome_line}
-use Rattle.unwind_commands.specs.Roads.{section_of, header_of}
+use Rattle.unwind_commands.specs.Roads.{stated_section, stated_header}
 use Rattle.unwind_commands.specs.RoadsAlike.{bases_in}
 use Rattle.unwind_commands.specs.Sections.{data_stated, sections_stated}
 use Rattle.unwind_commands.specs.Text.{frame_at, road_line, sections_meanings, words_of}
@@ -25,9 +25,9 @@ returns g c limit forms r covers =
     let base = t.base_svma in
     let frame = frame_at r.kind r.address in
     let registers = forms.stated r.registers in
-    let alone = section_of t ∷ [] in
+    let alone = stated_section t ∷ [] in
     let other = bases_of (base_svmas (sections_stated base alone)) in
-    let headed = data_stated.loaded base (section_of t ∷ header_of t ∷ []) in
+    let headed = data_stated.loaded base (stated_section t ∷ stated_header t ∷ []) in
     let indexed = data_stated.loaded base alone in
     let scanned = data_stated.scanned base alone in
     let contained : (relative : ℕ) → base + relative ≡ lookup_address frame → contains (base + relative) covers.fde ≡ true =

@@ -6,7 +6,7 @@ use Rattle.framehop_unwinder.specs.History.{HaveHistories}
 use Rattle.framehop_unwinder.specs.Modules.{Loaded, Loads}
 use Rattle.framehop_unwinder.specs.State.{unwinder_at, histories_after_step}
 use Rattle.framehop_unwinder.specs.Progress.{modules_in}
-use Rattle.unwind_commands.specs.CommandViews.{words_view}
+use Rattle.unwind_documents.specs.CommandViews.{words_view}
 use Rattle.unwind_commands.specs.Text.{frame_at, words_of}
 use Rattle.unwind_commands.proofs.StepLines.{line_judged, not_wanted}
 use Rattle.unwind_commands.proofs.StillCallback.{answers_always}

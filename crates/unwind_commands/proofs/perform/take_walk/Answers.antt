@@ -4,7 +4,7 @@ use Rattle.framehop_unwinder.specs.Attempt.{meanings}
 use Rattle.framehop_unwinder.specs.Walk.{Walk}
 use Rattle.framehop_unwinder.specs.WalkViews.{walk_from}
 use Rattle.unwind_sessions.specs.Turns.{ComesTo, turn_of_walk}
-use Rattle.unwind_commands.specs.CommandViews.{words_view}
+use Rattle.unwind_documents.specs.CommandViews.{words_view}
 use Rattle.unwind_commands.specs.Text.{words_of}
 use Rattle.unwind_commands.proofs.StillCallback.{answers_always}
 use Rattle.unwind_commands.proofs.perform.take_walk.Goals as goal

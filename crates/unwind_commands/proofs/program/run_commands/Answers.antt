@@ -7,9 +7,9 @@ use Rattle.framehop_unwinder.specs.State.{State, empty_state}
 use Rattle.framehop_unwinder.specs.History.{HaveHistories}
 use Rattle.framehop_unwinder.specs.Progress.{IsAt}
 use Rattle.unwind_sessions.specs.Turns.{ComesTo, beginning}
-use Rattle.unwind_commands.specs.Commands.{Task, AreSound}
+use Rattle.unwind_documents.specs.Commands.{Task, AreSound}
 use Rattle.unwind_commands.specs.Registers.{register_forms}
-use Rattle.unwind_commands.specs.CommandViews.{tasks_of, task_of}
+use Rattle.unwind_documents.specs.CommandViews.{tasks_of, task_of}
 use Rattle.unwind_commands.specs.Text.{lines_of, made_in, turn}
 use Rattle.unwind_commands.proofs.Runs.{begun_next, next_task, not_failed, on_err, sound_next, written_last, written_next}
 use Rattle.unwind_commands.proofs.program.run_commands.Goals as goal

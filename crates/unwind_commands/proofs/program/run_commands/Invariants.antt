@@ -3,9 +3,9 @@ use Rattle.documents.specs.Stream.{IsWritten}
 use Rattle.framehop_unwinder.specs.Attempt.{meanings}
 use Rattle.framehop_unwinder.specs.Progress.{Progress, IsAt}
 use Rattle.unwind_sessions.specs.Turns.{beginning}
-use Rattle.unwind_commands.specs.Commands.{AreSound}
+use Rattle.unwind_documents.specs.Commands.{AreSound}
 use Rattle.unwind_commands.specs.Registers.{register_forms}
-use Rattle.unwind_commands.specs.CommandViews.{tasks_of}
+use Rattle.unwind_documents.specs.CommandViews.{tasks_of}
 use Rattle.unwind_commands.specs.Text.{lines_of, made_in}
 use Rattle.unwind_commands.proofs.program.run_commands.Given as goal
 

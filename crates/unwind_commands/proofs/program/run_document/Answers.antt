@@ -1,9 +1,9 @@
 use Rattle.std.proofs.Common.{sym, subst}
 use Rattle.std.specs.Prelude.{OnErr}
 use Rattle.documents.specs.Stream.{AppendsFront}
-use Rattle.unwind_commands.specs.CommandViews.{tasks_of}
+use Rattle.unwind_documents.specs.CommandViews.{tasks_of}
 use Rattle.unwind_commands.specs.Text.{lines_on, value_limit}
-use Rattle.unwind_commands.specs.declared.document.Architecture.{Architecture}
+use Rattle.unwind_documents.specs.declared.document.Architecture.{Architecture}
 use Rattle.unwind_commands.proofs.program.run_document.Goals as goal
 
 pub returns-in-X86_64-clause-begun : goal.returns-in-X86_64-clause-begun

@@ -3,10 +3,10 @@ use Rattle.std.specs.Prelude.{OnErr}
 use Rattle.documents.specs.Stream.{AppendsFront}
 use Rattle.unwind_sessions.specs.Turns.{beginning}
 use Rattle.unwind_commands.specs.Registers.{register_forms}
-use Rattle.unwind_commands.specs.CommandViews.{tasks_of}
+use Rattle.unwind_documents.specs.CommandViews.{tasks_of}
 use Rattle.unwind_commands.specs.Sections.{data_stated}
 use Rattle.unwind_commands.specs.Text.{lines_of, sections_meanings, value_limit}
-use Rattle.unwind_commands.specs.declared.document.Policy.{Policy}
+use Rattle.unwind_documents.specs.declared.document.Policy.{Policy}
 use Rattle.unwind_commands.proofs.program.run_on.Goals as goal
 
 pub returns-in-May-clause-begun : goal.returns-in-May-clause-begun

@@ -2,7 +2,7 @@ use Rattle.std.proofs.Common.{◌≡◌, ◌^◌, [], ◌∷◌, rules, sym, ap,
 use Rattle.framehop_unwinder.specs.Attempt.{meanings}
 use Rattle.framehop_unwinder.specs.Frames.{frame_of}
 use Rattle.framehop_unwinder.specs.Modules.{Loaded}
-use Rattle.unwind_commands.specs.CommandViews.{words_view}
+use Rattle.unwind_documents.specs.CommandViews.{words_view}
 use Rattle.unwind_commands.specs.Roads.{address_behind, module_at}
 use Rattle.unwind_commands.specs.Text.{frame_at, words_of}
 use Rattle.unwind_commands.proofs.RoadLines.{if_ok_both, same_module}

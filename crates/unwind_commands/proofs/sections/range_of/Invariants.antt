@@ -1,5 +1,5 @@
 use Rattle.std.proofs.Common.{◌≡◌, drop}
-use Rattle.unwind_commands.specs.CommandViews.{sections_view}
+use Rattle.unwind_documents.specs.CommandViews.{sections_view}
 use Rattle.unwind_commands.specs.Sections.{range_named}
 use Rattle.unwind_commands.proofs.sections.range_of.Given as goal
 

@@ -3,7 +3,7 @@ use Rattle.std.specs.BTreeMap.{get}
 use Rattle.std.specs.Ordering.{nat_cmp}
 use Rattle.std.proofs.lemmas.List.{length-map, map_push}
 use Rattle.std.proofs.lemmas.Bool.Decides.{nat_tests}
-use Rattle.dwarf_read_core.specs.AbbreviationTable.{place_of}
+use Rattle.dwarf_read_core.specs.AbbreviationTable.{place_among}
 use Rattle.dwarf_read_core.specs.Abbreviations.{declaration}
 use Rattle.dwarf_read_core.proofs.Places.{no_place, stand_apart, stand_in_order}
 use Rattle.dwarf_read_core.proofs.abbrev.Abbreviations.insert.Goals as goal
@@ -14,7 +14,7 @@ invariant_of-result c =
     let items = c.args.self.declarations.items in
     let pushed : c.push.new.self.items ≡ items ++ c.args.abbreviation ∷ [] = c.in_ok-push.ensures.items in
     let seen : map declaration c.push.new.self.items ≡ map declaration items ++ declaration c.args.abbreviation ∷ [] = ap (map declaration) pushed ∙ map_push declaration items c.args.abbreviation in
-    let fresh : place_of c.args.abbreviation.code (map declaration items) ≡ None = no_place c.args.abbreviation.code (map declaration items) (sym c.has.ensures ∙ c.if-has.false) in
+    let fresh : place_among c.args.abbreviation.code (map declaration items) ≡ None = no_place c.args.abbreviation.code (map declaration items) (sym c.has.ensures ∙ c.if-has.false) in
     let place : c.len-place.result ≡ length (map declaration items) = omega (arith, length-map items declaration) in
     record {
       places = λ code. rw seen (elim c.if-dense-place.branch [

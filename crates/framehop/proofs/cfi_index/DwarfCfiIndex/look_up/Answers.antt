@@ -3,7 +3,7 @@ use Rattle.std.proofs.Common.{arith, ◌≡◌, ◌-◌, ◌<◌, suc, length, L
 use Rattle.std.specs.Prelude.{nat_le, option_map}
 use Rattle.std.proofs.lemmas.Bool.Decides.{nat_tests}
 use Rattle.framehop.specs.declared.cfi_index.IndexedFde.{IndexedFde}
-use Rattle.framehop.specs.CfiIndex.{offset_in}
+use Rattle.framehop.specs.CfiIndex.{offset_by_index}
 use Rattle.framehop.proofs.CfiIndexOrder.{last-at, last-none}
 use Rattle.framehop.proofs.cfi_index.DwarfCfiIndex.look_up.Goals as goal
 
@@ -28,7 +28,7 @@ returns-in_default-clause-found c base listing is =
     (λ k d h. let below = c.halve-halved.ensures.partition.0 k d (omega arith) (omega arith) in grind (arith, nat_tests))
     (λ k d h l. let above = c.halve-halved.ensures.partition.1 k d (omega arith) l in grind (arith, nat_tests)) in
     let at : c.index.result.now ≡ get_or xs i c.index.result.now = rw c.deref.ensures.value c.index.ensures in
-    let same : offset_in c.args.self.now.fdes.items c.args.rel_lookup_address ≡ Some c.index.result.now.offset
+    let same : offset_by_index c.args.self.now.fdes.items c.args.rel_lookup_address ≡ Some c.index.result.now.offset
     = rw (← c.deref.ensures.value) (ap (option_map (λ m. m.offset)) (found ∙ ap (λ m. Some m) (sym at))) in
     sym same ∙ is.1 c.args.rel_lookup_address
 

@@ -1,6 +1,6 @@
 use Rattle.std.proofs.Common.{◌≡◌, ◌==◌, ◌++◌, [], ◌∷◌, List, Option, SomeIff, IsPermutation, ℕ, ◌+◌, ◌*◌, ◌<◌, ◌≤◌, length, take, drop, slice_index_or, Some, None, position, ap, sym, ◌∙◌, arith, rules, subst}
 use Rattle.std.proofs.lemmas.List.{take_all, drop_all, take_more}
-use Rattle.framehop_registers.specs.PopLists.{callee_saved, place_of, left_behind, number_among, order_number, pop_list, IsPopList}
+use Rattle.framehop_registers.specs.PopLists.{callee_saved, place_in_list, left_behind, number_among, order_number, pop_list, IsPopList}
 use Rattle.framehop_registers.specs.Registers.{dwarf_number}
 use Rattle.framehop_registers.specs.declared.x86_64.unwindregs.Reg.{Reg}
 use Rattle.framehop_registers.specs.declared.x86_64.unwindregs.Reg.TheVariants.{RBX}
@@ -60,7 +60,7 @@ record Chosen (registers left : List Reg) (place k : ℕ) : Type 0 where
   register : Reg
   inside : k < length registers
   there : register ≡ slice_index_or registers k register
-  place_is : place ≡ place_of register left
+  place_is : place ≡ place_in_list register left
   stands : slice_index_or left place RBX ≡ register
 
 chosen : (registers left : List Reg) (place k : ℕ) (found : Option ℕ) {register : Reg} → k < length registers
@@ -68,7 +68,7 @@ chosen : (registers left : List Reg) (place k : ℕ) (found : Option ℕ) {regis
     → register ≡ slice_index_or registers k register → Chosen registers left place k
 chosen registers left place k found {register} in_list looked is there =
     let (inside, own) = place_found left register place (sym looked ∙ is) in
-    let within : place_of register left < length left = omega arith in
+    let within : place_in_list register left < length left = omega arith in
     record {
       register = register;
       inside = in_list;

@@ -5,7 +5,7 @@ use Rattle.framehop_registers.specs.RegistersAarch64.{lr_of, fp_of}
 use Rattle.framehop_registers.proofs.Laws.{over_none, over_weaker, over_both}
 use Rattle.framehop_rows.specs.Columns.{Sources, cfa_by, column_by}
 use Rattle.framehop_rows.specs.DirectRowAarch64.{restored}
-use Rattle.framehop_rows.specs.RowAnswerAarch64.{value_of}
+use Rattle.framehop_rows.specs.RowAnswerAarch64.{register_value}
 use Rattle.framehop_rows.specs.RowParts.{parts_as}
 use Rattle.framehop_rows.specs.RowSources.{direct_sources}
 use Rattle.framehop_rows.proofs.DirectRowsAarch64.{refused-is, answer-is}
@@ -18,7 +18,7 @@ returns-then-is_refused-clause-caller g c =
     let registers = c.args.regs.now in
     let parts = parts_as number c.args.parts.now in
     let first = c.args.is_first_frame in
-    let sources : Sources = direct_sources g.S.Stack.ArrayLike.capacity c.args.encoding.address_size (g.R.Reader.stretch (g.Section._UnwindSectionPrivate.reader c.args.section.now)) (value_of registers) in
+    let sources : Sources = direct_sources g.S.Stack.ArrayLike.capacity c.args.encoding.address_size (g.R.Reader.stretch (g.Section._UnwindSectionPrivate.reader c.args.section.now)) (register_value registers) in
     let cfa : ℕ = c.in-Some.cfa in
     let cfa_is : Some cfa ≡ cfa_by sources parts.cfa = sym c.in-Some.is ∙ c.in_ok-cfa.ensures.value in
     over_none (λ words _. refused-is sources first registers words parts cfa cfa_is (sym c.if-is_refused.true ∙ c.is_refused.ensures))
@@ -30,7 +30,7 @@ returns-in_default-restored-clause-caller g c =
     let registers = c.args.regs.now in
     let parts = parts_as number c.args.parts.now in
     let first = c.args.is_first_frame in
-    let sources : Sources = direct_sources g.S.Stack.ArrayLike.capacity c.args.encoding.address_size (g.R.Reader.stretch (g.Section._UnwindSectionPrivate.reader c.args.section.now)) (value_of registers) in
+    let sources : Sources = direct_sources g.S.Stack.ArrayLike.capacity c.args.encoding.address_size (g.R.Reader.stretch (g.Section._UnwindSectionPrivate.reader c.args.section.now)) (register_value registers) in
     let cfa : ℕ = c.in-Some.cfa in
     let cfa_is : Some cfa ≡ cfa_by sources parts.cfa = sym c.in-Some.is ∙ c.in_ok-cfa.ensures.value in
     over_weaker c.in_ok-stored_fp.ensures.value (λ words fp _.
@@ -51,7 +51,7 @@ returns-in_default-restored-2-clause-caller g c =
     let registers = c.args.regs.now in
     let parts = parts_as number c.args.parts.now in
     let first = c.args.is_first_frame in
-    let sources : Sources = direct_sources g.S.Stack.ArrayLike.capacity c.args.encoding.address_size (g.R.Reader.stretch (g.Section._UnwindSectionPrivate.reader c.args.section.now)) (value_of registers) in
+    let sources : Sources = direct_sources g.S.Stack.ArrayLike.capacity c.args.encoding.address_size (g.R.Reader.stretch (g.Section._UnwindSectionPrivate.reader c.args.section.now)) (register_value registers) in
     let cfa : ℕ = c.in-Some.cfa in
     let cfa_is : Some cfa ≡ cfa_by sources parts.cfa = sym c.in-Some.is ∙ c.in_ok-cfa.ensures.value in
     over_both c.in_ok-stored_fp.ensures.value c.in_ok-stored_lr.ensures.value (λ words fp lr _.
@@ -67,7 +67,7 @@ returns-clause-caller g c =
     let registers = c.args.regs.now in
     let parts = parts_as number c.args.parts.now in
     let first = c.args.is_first_frame in
-    let sources : Sources = direct_sources g.S.Stack.ArrayLike.capacity c.args.encoding.address_size (g.R.Reader.stretch (g.Section._UnwindSectionPrivate.reader c.args.section.now)) (value_of registers) in
+    let sources : Sources = direct_sources g.S.Stack.ArrayLike.capacity c.args.encoding.address_size (g.R.Reader.stretch (g.Section._UnwindSectionPrivate.reader c.args.section.now)) (register_value registers) in
     let cfa : ℕ = c.in-Some.cfa in
     let cfa_is : Some cfa ≡ cfa_by sources parts.cfa = sym c.in-Some.is ∙ c.in_ok-cfa.ensures.value in
     over_both c.in_ok-stored_fp.ensures.value c.in_ok-stored_lr.ensures.value (λ words fp lr _.

@@ -1,7 +1,7 @@
 use Rattle.std.proofs.Common.{◌≡◌, ◌∙◌, ap}
 use Rattle.std.proofs.lemmas.Result.{IfOk-weaker}
 use Rattle.framehop.specs.UnwindData.{UnwindData, unwind_data_of}
-use Rattle.unwind_commands.specs.CommandViews.{sections_view}
+use Rattle.unwind_documents.specs.CommandViews.{sections_view}
 use Rattle.unwind_commands.specs.SectionViews.{stated}
 use Rattle.unwind_commands.specs.Sections.{data_stated}
 use Rattle.unwind_commands.proofs.sections.BySectionsVecU8DocumentModules.unwind_data.Goals as goal

@@ -1,0 +1,9 @@
+//! Tests of the program's run over documents: at the limits, and over streams that fail, stop short or are interrupted.
+#![tactic(auto)]
+
+#[cfg(test)]
+mod limits;
+#[cfg(test)]
+mod runs;
+#[cfg(test)]
+mod streams;

@@ -1,0 +1,6 @@
+pub mod Known
+pub mod Loads
+pub mod Names
+pub mod RoadFields
+pub mod Steps
+pub mod Tasks

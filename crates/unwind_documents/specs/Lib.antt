@@ -1,0 +1,3 @@
+pub mod CommandViews
+pub mod Commands
+pub mod Document

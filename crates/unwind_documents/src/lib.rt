@@ -1,0 +1,17 @@
+//! A document of commands for the unwinder: a text of JSON in, typed commands or the first fault out.
+#![tactic(auto)]
+
+mod command;
+mod document;
+mod load;
+mod made;
+mod registers;
+mod roads;
+mod step;
+mod walk;
+
+pub use command::{
+    AddressRange, Command, FrameKind, Load, Roads, Section, Stack, Step, Tables, Unload, Walk,
+};
+pub use document::{Architecture, COMMAND_LIMIT, Document, Policy, WALK_LIMIT, decode};
+pub use registers::StatedRegisters;
