@@ -5,7 +5,7 @@ use dwarf_call_frames::{Augmentation, Pointer};
 use dwarf_constants::{DwEhPe, Error, ReaderOffsetId};
 
 // The section starts at 0x10000, the code at 0x20000, and the global offset table at 0x30000.
-pub const CASES: &[Listed] = &[
+pub static CASES: &[Listed] = &[
     // .eh_frame, version 0
     Listed {
         which: Which::EhFrame,

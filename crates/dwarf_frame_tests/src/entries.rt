@@ -2,7 +2,10 @@
 use super::augmentations::CASES;
 use super::listed::{Listed, Seen, Which};
 use super::real_sections::SECTIONS;
-use dwarf_call_frames::{Augmentation, BaseAddresses, DebugFrame, EhFrame, UnwindSection};
+use dwarf_call_frames::{
+    _UnwindSectionPrivate, Augmentation, BaseAddresses, DebugFrame, EhFrame, FrameDescriptionEntry,
+    UnwindSection,
+};
 use dwarf_constants::{DwEhPe, Error, ReaderOffsetId};
 use dwarf_offsets::{DebugFrameOffset, EhFrameOffset};
 use dwarf_readers::{Reader, ReaderOffset, RunTimeEndian};
@@ -11,7 +14,7 @@ use std::alloc::Global;
 use std::process::Abort;
 
 // Sections and their entries, as the standards say them.
-const WORKED: &[Listed] = &[
+static WORKED: &[Listed] = &[
     // An entry of each kind, and a length of 0.
     Listed {
         which: Which::EhFrame,
@@ -184,7 +187,7 @@ impl<H: Abort> ReaderTest<H> for CutFde {
         let bases = BaseAddresses::default();
         let first = DebugFrameOffset(R::Offset::from_u8(0));
         let cie = section.cie_from_offset(&bases, first);
-        assert_eq!(rt; cie.err(), Some(Error::NotCieId(0)));
+        assert!(rt; cie.err() == Some(Error::NotCieId(0)));
         Ok(())
     }
 }
@@ -203,6 +206,41 @@ fn worked_sections(rt: HostRuntime) -> Outcome {
     Ok(())
 }
 
+// An offset, and why there is no CIE at it, or no FDE.
+static NO_CIES: [(u8, Error); 3] = [
+    (0x14, Error::NotCieId(0x14)),
+    (0x34, Error::NoEntryAtGivenOffset),
+    (0x39, Error::UnexpectedEof(ReaderOffsetId(0))),
+];
+
+static NO_FDES: [(u8, Error); 2] = [
+    (0, Error::NotCiePointer(0)),
+    (0x34, Error::NoEntryAtGivenOffset),
+];
+
+// The whole FDE at 0x14, with its CIE.
+fn worked_fde<R: Reader>(
+    section: &EhFrame<R>,
+    bases: &BaseAddresses,
+) -> Result<FrameDescriptionEntry<R>, Error> {
+    let offset = EhFrameOffset(R::Offset::from_u8(0x14));
+    let partial = section.partial_fde_from_offset(bases, offset)?;
+    let endian = section.section().endian();
+    partial.parse(move |s, b, o| {
+        let _endian = endian;
+        s.cie_from_offset(b, o)
+    })
+}
+
+// Whether the FDE covers these addresses, first and last of its code, and none beside them.
+fn covers<R: Reader>(fde: &FrameDescriptionEntry<R>, first: u64, last: u64) -> bool {
+    fde.initial_address() == first
+        && fde.contains(first)
+        && fde.contains(last)
+        && !fde.contains(first.wrapping_sub(1))
+        && !fde.contains(last.wrapping_add(1))
+}
+
 // A section with a CIE at 0, an FDE at 0x14 and a length of 0 at 0x34.
 #[derive(Drop)]
 struct Offsets;
@@ -213,32 +251,31 @@ impl<H: Abort> ReaderTest<H> for Offsets {
         let bases = BaseAddresses::default();
         let at = |offset: u8| EhFrameOffset(R::Offset::from_u8(offset));
         let cie = section.cie_from_offset(&bases, at(0))?;
-        assert_eq!(rt; cie.offset().into_u64(), 0);
-        let fde = section.partial_fde_from_offset(&bases, at(0x14))?;
-        assert_eq!(rt; fde.offset().into_u64(), 0x14);
-        assert_eq!(rt; fde.entry_len().into_u64(), 0x1c);
-        let endian = reader.endian();
-        let whole = fde.parse(move |s, b, o| {
-            let _endian = endian;
-            s.cie_from_offset(b, o)
-        })?;
-        assert_eq!(rt; whole.initial_address(), 0x1000);
-        assert_eq!(rt; whole.end_address(), 0x1010);
-        assert_eq!(rt; whole.contains(0x0fff), false);
-        assert_eq!(rt; whole.contains(0x1000), true);
-        assert_eq!(rt; whole.contains(0x100f), true);
-        assert_eq!(rt; whole.contains(0x1010), false);
-        assert_eq!(rt; whole.cie().version(), 1);
-        let cie = section.cie_from_offset(&bases, at(0x14));
-        assert_eq!(rt; cie.err(), Some(Error::NotCieId(0x14)));
-        let fde = section.partial_fde_from_offset(&bases, at(0));
-        assert_eq!(rt; fde.err(), Some(Error::NotCiePointer(0)));
-        let cie = section.cie_from_offset(&bases, at(0x34));
-        assert_eq!(rt; cie.err(), Some(Error::NoEntryAtGivenOffset));
-        let fde = section.partial_fde_from_offset(&bases, at(0x34));
-        assert_eq!(rt; fde.err(), Some(Error::NoEntryAtGivenOffset));
-        let cie = section.cie_from_offset(&bases, at(0x39));
-        assert_eq!(rt; cie.err(), Some(Error::UnexpectedEof(ReaderOffsetId(0))));
+        assert!(rt; cie.offset().into_u64() == 0);
+        for (offset, error) in &NO_CIES {
+            let cie = section.cie_from_offset(&bases, at(*offset));
+            assert!(rt; cie.err() == Some(*error), "{offset}");
+        }
+        for (offset, error) in &NO_FDES {
+            let fde = section.partial_fde_from_offset(&bases, at(*offset));
+            assert!(rt; fde.err() == Some(*error), "{offset}");
+        }
+        Ok(())
+    }
+}
+
+// The same section: its FDE.
+#[derive(Drop)]
+struct WorkedFde;
+
+impl<H: Abort> ReaderTest<H> for WorkedFde {
+    fn run<R: Reader>(&self, rt: &H, _alloc: Global, reader: R) -> Outcome {
+        let fde = worked_fde(&EhFrame::from(reader), &BaseAddresses::default())?;
+        assert!(rt; fde.offset().into_u64() == 0x14);
+        assert!(rt; fde.entry_len().into_u64() == 0x1c);
+        assert!(rt; fde.end_address() == 0x1010);
+        assert!(rt; covers(&fde, 0x1000, 0x100f));
+        assert!(rt; fde.cie().version() == 1);
         Ok(())
     }
 }
@@ -246,7 +283,8 @@ impl<H: Abort> ReaderTest<H> for Offsets {
 #[test]
 fn entries_at_offsets(rt: HostRuntime) -> Outcome {
     let bytes = WORKED[0].bytes;
-    over_each_reader(&rt, rt.alloc(), &Offsets, bytes, RunTimeEndian::Little)
+    over_each_reader(&rt, rt.alloc(), &Offsets, bytes, RunTimeEndian::Little)?;
+    over_each_reader(&rt, rt.alloc(), &WorkedFde, bytes, RunTimeEndian::Little)
 }
 
 #[test]

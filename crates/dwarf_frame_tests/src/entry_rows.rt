@@ -1,12 +1,11 @@
 //! The rows of a function that pushes and sets a frame pointer, by its entry.
-use dwarf_call_frames::{
-    BaseAddresses, EhFrame, FrameDescriptionEntry, UnwindContext, UnwindSection,
-};
-use dwarf_constants::{Error, X86_64};
-use dwarf_frame_rows::{CfaRule, RegisterRule, StoreOnHeap};
+use dwarf_call_frames::{BaseAddresses, EhFrame, UnwindContext, UnwindSection};
+use dwarf_frame_row_tests::line_of;
+use dwarf_frame_rows::StoreOnHeap;
 use dwarf_offsets::EhFrameOffset;
 use dwarf_readers::{EndianSlice, LittleEndian};
 use dwarf_tests::WORKED;
+use std::alloc::Global;
 use std::test::Fail;
 
 // The worked section with DW_CFA_restore in the CIE, where nothing is there to restore.
@@ -23,37 +22,39 @@ fn section_of(bytes: &[u8]) -> (EhFrame<Slice<'_>>, BaseAddresses) {
     (EhFrame::new(bytes, LittleEndian), BaseAddresses::default())
 }
 
-// The FDE of such a section, behind its CIE.
-fn fde_of<'a>(
-    section: &EhFrame<Slice<'a>>,
-    bases: &BaseAddresses,
-) -> Result<FrameDescriptionEntry<Slice<'a>>, Error> {
-    section.fde_from_offset(bases, EhFrameOffset(20), UnwindSection::cie_from_offset)
+// The row for an address that such a section has by its FDE, or the refusal, as a line of text.
+fn line_at(
+    alloc: Global,
+    bytes: &[u8],
+    context: &mut UnwindContext<usize, StoreOnHeap>,
+    address: u64,
+) -> Result<String, Fail> {
+    let (section, bases) = section_of(bytes);
+    let fde = section.fde_from_offset(&bases, EhFrameOffset(20), UnwindSection::cie_from_offset)?;
+    let line = match fde.unwind_info_for_address(&section, &bases, context, address) {
+        Ok(row) => line_of(alloc, row)?,
+        Err(error) => format!(in alloc; "{error:?}")?,
+    };
+    Ok(line)
 }
+
+// In the worked section: an address, and the row for it. RSP is register 7, RBP 6, and the return address 16.
+static LINES: [(u64, &str); 7] = [
+    (0x0fff, "NoUnwindInfoForAddress"),
+    (0x1000, "1000..1001 r7,8 16=c-8"),
+    (0x1001, "1001..1004 r7,16 6=c-16 16=c-8"),
+    (0x1003, "1001..1004 r7,16 6=c-16 16=c-8"),
+    (0x1004, "1004..1010 r6,16 6=c-16 16=c-8"),
+    (0x100f, "1004..1010 r6,16 6=c-16 16=c-8"),
+    (0x1010, "NoUnwindInfoForAddress"),
+];
 
 #[test]
 fn rows_for_addresses(rt: HostRuntime) -> Result<(), Fail> {
     let mut context: UnwindContext<usize, StoreOnHeap> = UnwindContext::new(rt.alloc())?;
-    let (section, bases) = section_of(&WORKED);
-    let fde = fde_of(&section, &bases)?;
-    let stored = Some(RegisterRule::Offset(-16));
-    for (address, bounds, register, offset, rbp) in [
-        (0x1000, (0x1000, 0x1001), X86_64::RSP, 8, None),
-        (0x1001, (0x1001, 0x1004), X86_64::RSP, 16, stored),
-        (0x1003, (0x1001, 0x1004), X86_64::RSP, 16, stored),
-        (0x1004, (0x1004, 0x1010), X86_64::RBP, 16, stored),
-        (0x100f, (0x1004, 0x1010), X86_64::RBP, 16, stored),
-    ] {
-        let row = fde.unwind_info_for_address(&section, &bases, &mut context, address)?;
-        assert_eq!(rt; (row.start_address(), row.end_address()), bounds);
-        assert_eq!(rt; *row.cfa(), CfaRule::RegisterAndOffset { register, offset });
-        assert_eq!(rt; row.register(X86_64::RBP), rbp);
-        assert_eq!(rt; row.register(X86_64::RA), Some(RegisterRule::Offset(-8)));
-        assert_eq!(rt; row.register(X86_64::RSP), None);
-    }
-    for address in [0xfff, 0x1010] {
-        let row = fde.unwind_info_for_address(&section, &bases, &mut context, address);
-        assert_eq!(rt; row.err(), Some(Error::NoUnwindInfoForAddress));
+    for (address, wanted) in &LINES {
+        let line = line_at(rt.alloc(), &WORKED, &mut context, *address)?;
+        assert!(rt; line.as_str() == *wanted, "{address:x}: {line}");
     }
     Ok(())
 }
@@ -61,14 +62,9 @@ fn rows_for_addresses(rt: HostRuntime) -> Result<(), Fail> {
 #[test]
 fn a_context_after_a_refusal(rt: HostRuntime) -> Result<(), Fail> {
     let mut context: UnwindContext<usize, StoreOnHeap> = UnwindContext::new(rt.alloc())?;
-    let (section, bases) = section_of(&REFUSED);
-    let refused = fde_of(&section, &bases)?;
-    let row = refused.unwind_info_for_address(&section, &bases, &mut context, 0x1004);
-    assert_eq!(rt; row.err(), Some(Error::CfiInstructionInInvalidContext));
-    let (section, bases) = section_of(&WORKED);
-    let fde = fde_of(&section, &bases)?;
-    let row = fde.unwind_info_for_address(&section, &bases, &mut context, 0x1000)?;
-    assert_eq!(rt; row.start_address(), 0x1000);
-    assert_eq!(rt; row.register(X86_64::RBP), None);
+    let refused = line_at(rt.alloc(), &REFUSED, &mut context, 0x1004)?;
+    assert!(rt; refused.as_str() == "CfiInstructionInInvalidContext");
+    let line = line_at(rt.alloc(), &WORKED, &mut context, 0x1000)?;
+    assert!(rt; line.as_str() == "1000..1001 r7,8 16=c-8");
     Ok(())
 }

@@ -137,12 +137,12 @@ fn compare<R: Reader, Section: UnwindSection<R>>(
     let mut entries = section.entries(&bases);
     for want in listed.entries {
         let seen = next_seen(section, &bases, &mut entries);
-        assert_eq!(rt; seen, Ok(Some(*want)));
+        assert!(rt; seen == Ok(Some(*want)));
     }
     let end = next_seen(section, &bases, &mut entries);
-    assert_eq!(rt; end, listed.end.map_or(Ok(None), Err));
+    assert!(rt; end == listed.end.map_or(Ok(None), Err));
     let behind = next_seen(section, &bases, &mut entries);
-    assert_eq!(rt; behind, Ok(None));
+    assert!(rt; behind == Ok(None));
 }
 
 impl<H: Abort> ReaderTest<H> for Listed {

@@ -4,7 +4,7 @@ use super::listed::{Listed, Seen, Which};
 use dwarf_call_frames::{Augmentation, Pointer};
 use dwarf_constants::DwEhPe;
 
-pub const SECTIONS: &[Listed] = &[
+pub static SECTIONS: &[Listed] = &[
     // exceptions by g++
     Listed {
         which: Which::EhFrame,

@@ -34,18 +34,18 @@ struct TwoAttributes;
 impl<H: Abort> ReaderTest<H> for TwoAttributes {
     fn run<R: Reader>(&self, rt: &H, alloc: Global, reader: R) -> Outcome {
         let found = table(alloc, reader)?;
-        assert_eq!(rt; found.get(0).is_none(), true);
-        assert_eq!(rt; found.get(2).is_none(), true);
+        assert!(rt; found.get(0).is_none());
+        assert!(rt; found.get(2).is_none());
         let unit = found.get(1).ok_or("code 1")?;
-        assert_eq!(rt; unit.code(), 1);
-        assert_eq!(rt; unit.tag(), 0x11);
-        assert_eq!(rt; unit.has_children(), true);
+        assert!(rt; unit.code() == 1);
+        assert!(rt; unit.tag() == 0x11);
+        assert!(rt; unit.has_children());
         let attributes = unit.attributes();
-        assert_eq!(rt; attributes.len(), 2);
-        assert_eq!(rt; attributes[0].name(), 0x25);
-        assert_eq!(rt; attributes[0].form(), DwForm(0x0e));
-        assert_eq!(rt; attributes[1].name(), 0x13);
-        assert_eq!(rt; attributes[1].form(), DwForm(0x05));
+        assert!(rt; attributes.len() == 2);
+        assert!(rt; attributes[0].name() == 0x25);
+        assert!(rt; attributes[0].form() == DwForm(0x0e));
+        assert!(rt; attributes[1].name() == 0x13);
+        assert!(rt; attributes[1].form() == DwForm(0x05));
         Ok(())
     }
 }
@@ -63,10 +63,10 @@ impl<H: Abort> ReaderTest<H> for ValueOfAttribute {
     fn run<R: Reader>(&self, rt: &H, alloc: Global, reader: R) -> Outcome {
         let found = table(alloc, reader)?;
         let unit = found.get(1).ok_or("code 1")?;
-        assert_eq!(rt; unit.has_children(), false);
+        assert!(rt; !unit.has_children());
         let attributes = unit.attributes();
-        assert_eq!(rt; attributes.len(), 1);
-        assert_eq!(rt; attributes[0].implicit_const_value(), Some(-1));
+        assert!(rt; attributes.len() == 1);
+        assert!(rt; attributes[0].implicit_const_value() == Some(-1));
         Ok(())
     }
 }
@@ -83,7 +83,7 @@ struct Fault(Error);
 
 impl<H: Abort> ReaderTest<H> for Fault {
     fn run<R: Reader>(&self, rt: &H, alloc: Global, reader: R) -> Outcome {
-        assert_eq!(rt; table(alloc, reader).err(), Some(self.0));
+        assert!(rt; table(alloc, reader).err() == Some(self.0));
         Ok(())
     }
 }
@@ -116,14 +116,11 @@ impl<H: Abort> ReaderTest<H> for StringTest {
     fn run<R: Reader>(&self, rt: &H, alloc: Global, reader: R) -> Outcome {
         let section = DebugStr::from(reader);
         let string = section.get_str(DebugStrOffset(ReaderOffset::from_u8(3)))?;
-        assert_eq!(rt; string.to_string(alloc)?.as_str(), "c");
-        assert_eq!(rt; string.offset_id(), ReaderOffsetId(3));
+        assert!(rt; string.to_string(alloc)?.as_str() == "c");
+        assert!(rt; string.offset_id() == ReaderOffsetId(3));
         for (offset, place) in [(5, 5), (6, 0)] {
             let string = section.get_str(DebugStrOffset(ReaderOffset::from_u8(offset)));
-            assert_eq!(rt;
-                string.err(),
-                Some(Error::UnexpectedEof(ReaderOffsetId(place)))
-            );
+            assert!(rt; string.err() == Some(Error::UnexpectedEof(ReaderOffsetId(place))));
         }
         Ok(())
     }
@@ -139,7 +136,7 @@ impl<H: Abort> ReaderTest<H> for StringOffsetTest {
             DebugStrOffsetsBase(ReaderOffset::from_u8(8)),
             DebugStrOffsetsIndex(ReaderOffset::from_u8(1)),
         )?;
-        assert_eq!(rt; offset.0.into_u64(), 2);
+        assert!(rt; offset.0.into_u64() == 2);
         Ok(())
     }
 }
@@ -159,18 +156,18 @@ impl<H: Abort> ReaderTest<H> for AddressTest {
         let section = DebugAddr::from(reader);
         let base = DebugAddrBase(ReaderOffset::from_u8(8));
         let index = DebugAddrIndex(ReaderOffset::from_u8(1));
-        assert_eq!(rt; section.get_address(4, base, index)?, 0x22);
+        assert!(rt; section.get_address(4, base, index)? == 0x22);
         let mut headers = section.headers();
         let header = headers.next()?.ok_or("a set")?;
-        assert_eq!(rt; header.offset().0.into_u64(), 0);
-        assert_eq!(rt; header.length().into_u64(), 12);
-        assert_eq!(rt; header.encoding().address_size, 4);
+        assert!(rt; header.offset().0.into_u64() == 0);
+        assert!(rt; header.length().into_u64() == 12);
+        assert!(rt; header.encoding().address_size == 4);
         let mut entries = header.entries();
-        assert_eq!(rt; entries.next()?, Some(0x11));
-        assert_eq!(rt; entries.next()?, Some(0x22));
-        assert_eq!(rt; entries.next()?, None);
-        assert_eq!(rt; headers.next()?.is_none(), true);
-        assert_eq!(rt; Section::reader(&section).len().into_u64(), 16);
+        assert!(rt; entries.next()? == Some(0x11));
+        assert!(rt; entries.next()? == Some(0x22));
+        assert!(rt; entries.next()? == None);
+        assert!(rt; headers.next()?.is_none());
+        assert!(rt; Section::reader(&section).len().into_u64() == 16);
         Ok(())
     }
 }
@@ -191,11 +188,11 @@ fn sizes_of_forms(rt: HostRuntime) {
         version: 2,
     };
     let address = AttributeSpecification::new(3, DwForm(0x01), None);
-    assert_eq!(rt; address.size(encoding), Some(8));
+    assert!(rt; address.size(encoding) == Some(8));
     let string = AttributeSpecification::new(3, DwForm(0x0e), None);
-    assert_eq!(rt; string.size(encoding), Some(4));
+    assert!(rt; string.size(encoding) == Some(4));
     let entry = AttributeSpecification::new(3, DwForm(0x10), None);
-    assert_eq!(rt; entry.size(encoding), Some(8));
+    assert!(rt; entry.size(encoding) == Some(8));
     let block = AttributeSpecification::new(3, DwForm(0x0a), None);
-    assert_eq!(rt; block.size(encoding), None);
+    assert!(rt; block.size(encoding) == None);
 }

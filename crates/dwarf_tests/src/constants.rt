@@ -40,7 +40,7 @@ fn check_names<F: Fn(u16, &str) -> bool>(
             named = named.wrapping_add(1);
         }
     }
-    assert_eq!(rt; named, count);
+    assert!(rt; named == count);
 }
 
 // Whether a constant of one byte has a name behind this prefix.
@@ -123,7 +123,7 @@ fn operations_of_literals_and_registers_are_numbered(rt: HostRuntime) -> Result<
         for (first, family) in [(0x30, "lit"), (0x70, "breg")] {
             let name = format!(in rt.alloc(); "DW_OP_{family}{n}")?;
             let found = DwOp(first + n).static_string();
-            assert_eq!(rt; found.unwrap_or("-"), name.as_str());
+            assert!(rt; found.unwrap_or("-") == name.as_str());
         }
     }
     Ok(())
@@ -152,15 +152,15 @@ fn pointer_encodings_are_numbered_as_in_the_standard(rt: HostRuntime) {
 #[test]
 fn pointer_encodings_are_taken_apart(rt: HostRuntime) {
     let encoding = DW_EH_PE_indirect | DW_EH_PE_pcrel | DW_EH_PE_sdata4;
-    assert_eq!(rt; encoding, DwEhPe(0x9b));
-    assert_eq!(rt; encoding.format(), DW_EH_PE_sdata4);
-    assert_eq!(rt; encoding.application(), DW_EH_PE_pcrel);
+    assert!(rt; encoding == DwEhPe(0x9b));
+    assert!(rt; encoding.format() == DW_EH_PE_sdata4);
+    assert!(rt; encoding.application() == DW_EH_PE_pcrel);
     assert!(rt; encoding.is_indirect());
     assert!(rt; !DwEhPe(0x1b).is_indirect());
     assert!(rt; DW_EH_PE_omit.is_absent());
     assert!(rt; !encoding.is_absent());
     let valid = (0..=255u8).filter(|value| DwEhPe(*value).is_valid_encoding());
-    assert_eq!(rt; valid.count(), 9 * 6 * 2 + 1);
+    assert!(rt; valid.count() == 9 * 6 * 2 + 1);
     for refused in [0x05, 0x08, 0x0d, 0x0f, 0x60, 0x6b, 0x75, 0xe0, 0xef, 0xf0] {
         assert!(rt; !DwEhPe(refused).is_valid_encoding(), "at {refused:#x}");
     }
@@ -172,7 +172,7 @@ fn assert_shows<T: fmt::Display + Drop>(
     value: T,
     text: &str,
 ) -> Result<(), AllocError> {
-    assert_eq!(rt; value.to_string(alloc)?.as_str(), text);
+    assert!(rt; value.to_string(alloc)?.as_str() == text);
     Ok(())
 }
 
@@ -191,199 +191,188 @@ fn constants_are_printed(rt: HostRuntime) -> Result<(), Fail> {
     Ok(())
 }
 
+static ERRORS: [(Error, &str); 42] = [
+    (Error::UnexpectedEof(ReaderOffsetId(3)), "UnexpectedEof"),
+    (Error::BadUnsignedLeb128, "BadUnsignedLeb128"),
+    (Error::BadSignedLeb128, "BadSignedLeb128"),
+    (Error::UnknownReservedLength, "UnknownReservedLength"),
+    (Error::UnsupportedAddressSize(3), "UnsupportedAddressSize"),
+    (Error::UnsupportedOffsetSize(3), "UnsupportedOffsetSize"),
+    (Error::UnsupportedSegmentSize, "UnsupportedSegmentSize"),
+    (Error::UnsupportedOffset, "UnsupportedOffset"),
+    (Error::OffsetOutOfBounds, "OffsetOutOfBounds"),
+    (Error::UnknownVersion(3), "UnknownVersion"),
+    (Error::BadUtf8, "BadUtf8"),
+    (Error::AbbreviationTagZero, "AbbreviationTagZero"),
+    (
+        Error::InvalidAbbreviationChildren(DwChildren(3)),
+        "InvalidAbbreviationChildren",
+    ),
+    (Error::AttributeNameZero, "AttributeNameZero"),
+    (Error::AttributeFormZero, "AttributeFormZero"),
+    (
+        Error::DuplicateAbbreviationCode(3),
+        "DuplicateAbbreviationCode",
+    ),
+    (
+        Error::UnknownPointerEncoding(DwEhPe(3)),
+        "UnknownPointerEncoding",
+    ),
+    (
+        Error::UnsupportedPointerEncoding,
+        "UnsupportedPointerEncoding",
+    ),
+    (
+        Error::CannotParseOmitPointerEncoding,
+        "CannotParseOmitPointerEncoding",
+    ),
+    (
+        Error::PcRelativePointerButSectionBaseIsUndefined,
+        "PcRelativePointerButSectionBaseIsUndefined",
+    ),
+    (
+        Error::TextRelativePointerButTextBaseIsUndefined,
+        "TextRelativePointerButTextBaseIsUndefined",
+    ),
+    (
+        Error::DataRelativePointerButDataBaseIsUndefined,
+        "DataRelativePointerButDataBaseIsUndefined",
+    ),
+    (
+        Error::FuncRelativePointerInBadContext,
+        "FuncRelativePointerInBadContext",
+    ),
+    (Error::NotCieId(3), "NotCieId"),
+    (Error::NotCiePointer(3), "NotCiePointer"),
+    (Error::UnknownAugmentation, "UnknownAugmentation"),
+    (Error::NoEntryAtGivenOffset, "NoEntryAtGivenOffset"),
+    (Error::NoUnwindInfoForAddress, "NoUnwindInfoForAddress"),
+    (
+        Error::UnknownCallFrameInstruction(DwCfa(3)),
+        "UnknownCallFrameInstruction",
+    ),
+    (
+        Error::CfiInstructionInInvalidContext,
+        "CfiInstructionInInvalidContext",
+    ),
+    (Error::InvalidCfiSetLoc(3), "InvalidCfiSetLoc"),
+    (Error::AddressOverflow, "AddressOverflow"),
+    (Error::PopWithEmptyStack, "PopWithEmptyStack"),
+    (Error::StackFull, "StackFull"),
+    (Error::TooManyRegisterRules, "TooManyRegisterRules"),
+    (
+        Error::VariableLengthSearchTable,
+        "VariableLengthSearchTable",
+    ),
+    (Error::UnsupportedEvaluation, "UnsupportedEvaluation"),
+    (Error::NotEnoughStackItems, "NotEnoughStackItems"),
+    (Error::DivisionByZero, "DivisionByZero"),
+    (Error::BadBranchTarget(3), "BadBranchTarget"),
+    (Error::TooManyIterations, "TooManyIterations"),
+    (Error::OutOfMemory, "OutOfMemory"),
+];
+
 #[test]
 fn errors_are_printed_by_name(rt: HostRuntime) -> Result<(), Fail> {
-    for (error, name) in [
-        (Error::UnexpectedEof(ReaderOffsetId(3)), "UnexpectedEof"),
-        (Error::BadUnsignedLeb128, "BadUnsignedLeb128"),
-        (Error::BadSignedLeb128, "BadSignedLeb128"),
-        (Error::UnknownReservedLength, "UnknownReservedLength"),
-        (Error::UnsupportedAddressSize(3), "UnsupportedAddressSize"),
-        (Error::UnsupportedOffsetSize(3), "UnsupportedOffsetSize"),
-        (Error::UnsupportedSegmentSize, "UnsupportedSegmentSize"),
-        (Error::UnsupportedOffset, "UnsupportedOffset"),
-        (Error::OffsetOutOfBounds, "OffsetOutOfBounds"),
-        (Error::UnknownVersion(3), "UnknownVersion"),
-        (Error::BadUtf8, "BadUtf8"),
-        (Error::AbbreviationTagZero, "AbbreviationTagZero"),
-        (
-            Error::InvalidAbbreviationChildren(DwChildren(3)),
-            "InvalidAbbreviationChildren",
-        ),
-        (Error::AttributeNameZero, "AttributeNameZero"),
-        (Error::AttributeFormZero, "AttributeFormZero"),
-        (
-            Error::DuplicateAbbreviationCode(3),
-            "DuplicateAbbreviationCode",
-        ),
-        (
-            Error::UnknownPointerEncoding(DwEhPe(3)),
-            "UnknownPointerEncoding",
-        ),
-        (
-            Error::UnsupportedPointerEncoding,
-            "UnsupportedPointerEncoding",
-        ),
-        (
-            Error::CannotParseOmitPointerEncoding,
-            "CannotParseOmitPointerEncoding",
-        ),
-        (
-            Error::PcRelativePointerButSectionBaseIsUndefined,
-            "PcRelativePointerButSectionBaseIsUndefined",
-        ),
-        (
-            Error::TextRelativePointerButTextBaseIsUndefined,
-            "TextRelativePointerButTextBaseIsUndefined",
-        ),
-        (
-            Error::DataRelativePointerButDataBaseIsUndefined,
-            "DataRelativePointerButDataBaseIsUndefined",
-        ),
-        (
-            Error::FuncRelativePointerInBadContext,
-            "FuncRelativePointerInBadContext",
-        ),
-        (Error::NotCieId(3), "NotCieId"),
-        (Error::NotCiePointer(3), "NotCiePointer"),
-        (Error::UnknownAugmentation, "UnknownAugmentation"),
-        (Error::NoEntryAtGivenOffset, "NoEntryAtGivenOffset"),
-        (Error::NoUnwindInfoForAddress, "NoUnwindInfoForAddress"),
-        (
-            Error::UnknownCallFrameInstruction(DwCfa(3)),
-            "UnknownCallFrameInstruction",
-        ),
-        (
-            Error::CfiInstructionInInvalidContext,
-            "CfiInstructionInInvalidContext",
-        ),
-        (Error::InvalidCfiSetLoc(3), "InvalidCfiSetLoc"),
-        (Error::AddressOverflow, "AddressOverflow"),
-        (Error::PopWithEmptyStack, "PopWithEmptyStack"),
-        (Error::StackFull, "StackFull"),
-        (Error::TooManyRegisterRules, "TooManyRegisterRules"),
-        (
-            Error::VariableLengthSearchTable,
-            "VariableLengthSearchTable",
-        ),
-        (Error::UnsupportedEvaluation, "UnsupportedEvaluation"),
-        (Error::NotEnoughStackItems, "NotEnoughStackItems"),
-        (Error::DivisionByZero, "DivisionByZero"),
-        (Error::BadBranchTarget(3), "BadBranchTarget"),
-        (Error::TooManyIterations, "TooManyIterations"),
-        (Error::OutOfMemory, "OutOfMemory"),
-    ] {
-        assert_shows(&rt, rt.alloc(), error, name)?;
+    for (error, name) in &ERRORS {
+        assert_shows(&rt, rt.alloc(), *error, name)?;
     }
     Ok(())
 }
 
+static SECTIONS: [(SectionId, &str, &str); 25] = [
+    (SectionId::DebugAbbrev, ".debug_abbrev", ".debug_abbrev.dwo"),
+    (SectionId::DebugAddr, ".debug_addr", "-"),
+    (SectionId::DebugAranges, ".debug_aranges", "-"),
+    (
+        SectionId::DebugCuIndex,
+        ".debug_cu_index",
+        ".debug_cu_index",
+    ),
+    (SectionId::DebugFrame, ".debug_frame", "-"),
+    (SectionId::EhFrame, ".eh_frame", "-"),
+    (SectionId::EhFrameHdr, ".eh_frame_hdr", "-"),
+    (SectionId::DebugGnuPubNames, ".debug_gnu_pubnames", "-"),
+    (SectionId::DebugGnuPubTypes, ".debug_gnu_pubtypes", "-"),
+    (SectionId::DebugInfo, ".debug_info", ".debug_info.dwo"),
+    (SectionId::DebugLine, ".debug_line", ".debug_line.dwo"),
+    (SectionId::DebugLineStr, ".debug_line_str", "-"),
+    (SectionId::DebugLoc, ".debug_loc", ".debug_loc.dwo"),
+    (
+        SectionId::DebugLocLists,
+        ".debug_loclists",
+        ".debug_loclists.dwo",
+    ),
+    (
+        SectionId::DebugMacinfo,
+        ".debug_macinfo",
+        ".debug_macinfo.dwo",
+    ),
+    (SectionId::DebugMacro, ".debug_macro", ".debug_macro.dwo"),
+    (SectionId::DebugNames, ".debug_names", "-"),
+    (SectionId::DebugPubNames, ".debug_pubnames", "-"),
+    (SectionId::DebugPubTypes, ".debug_pubtypes", "-"),
+    (SectionId::DebugRanges, ".debug_ranges", "-"),
+    (
+        SectionId::DebugRngLists,
+        ".debug_rnglists",
+        ".debug_rnglists.dwo",
+    ),
+    (SectionId::DebugStr, ".debug_str", ".debug_str.dwo"),
+    (
+        SectionId::DebugStrOffsets,
+        ".debug_str_offsets",
+        ".debug_str_offsets.dwo",
+    ),
+    (
+        SectionId::DebugTuIndex,
+        ".debug_tu_index",
+        ".debug_tu_index",
+    ),
+    (SectionId::DebugTypes, ".debug_types", ".debug_types.dwo"),
+];
+
 #[test]
 fn sections_have_their_names(rt: HostRuntime) {
-    for (section, name, dwo_name) in [
-        (SectionId::DebugAbbrev, ".debug_abbrev", ".debug_abbrev.dwo"),
-        (SectionId::DebugAddr, ".debug_addr", "-"),
-        (SectionId::DebugAranges, ".debug_aranges", "-"),
-        (
-            SectionId::DebugCuIndex,
-            ".debug_cu_index",
-            ".debug_cu_index",
-        ),
-        (SectionId::DebugFrame, ".debug_frame", "-"),
-        (SectionId::EhFrame, ".eh_frame", "-"),
-        (SectionId::EhFrameHdr, ".eh_frame_hdr", "-"),
-        (SectionId::DebugGnuPubNames, ".debug_gnu_pubnames", "-"),
-        (SectionId::DebugGnuPubTypes, ".debug_gnu_pubtypes", "-"),
-        (SectionId::DebugInfo, ".debug_info", ".debug_info.dwo"),
-        (SectionId::DebugLine, ".debug_line", ".debug_line.dwo"),
-        (SectionId::DebugLineStr, ".debug_line_str", "-"),
-        (SectionId::DebugLoc, ".debug_loc", ".debug_loc.dwo"),
-        (
-            SectionId::DebugLocLists,
-            ".debug_loclists",
-            ".debug_loclists.dwo",
-        ),
-        (
-            SectionId::DebugMacinfo,
-            ".debug_macinfo",
-            ".debug_macinfo.dwo",
-        ),
-        (SectionId::DebugMacro, ".debug_macro", ".debug_macro.dwo"),
-        (SectionId::DebugNames, ".debug_names", "-"),
-        (SectionId::DebugPubNames, ".debug_pubnames", "-"),
-        (SectionId::DebugPubTypes, ".debug_pubtypes", "-"),
-        (SectionId::DebugRanges, ".debug_ranges", "-"),
-        (
-            SectionId::DebugRngLists,
-            ".debug_rnglists",
-            ".debug_rnglists.dwo",
-        ),
-        (SectionId::DebugStr, ".debug_str", ".debug_str.dwo"),
-        (
-            SectionId::DebugStrOffsets,
-            ".debug_str_offsets",
-            ".debug_str_offsets.dwo",
-        ),
-        (
-            SectionId::DebugTuIndex,
-            ".debug_tu_index",
-            ".debug_tu_index",
-        ),
-        (SectionId::DebugTypes, ".debug_types", ".debug_types.dwo"),
-    ] {
-        assert_eq!(rt; section.name(), name);
-        assert_eq!(rt; section.dwo_name().unwrap_or("-"), dwo_name);
-        assert_eq!(rt;
-            section.is_string(),
-            name == ".debug_str" || name == ".debug_line_str"
-        );
+    for (section, name, dwo_name) in &SECTIONS {
+        assert!(rt; section.name() == *name);
+        assert!(rt; section.dwo_name().unwrap_or("-") == *dwo_name);
+        assert!(rt; section.is_string() == (*name == ".debug_str" || *name == ".debug_line_str"));
     }
 }
 
 /// System V ABI for AMD64, figure 3.36; DWARF for the Arm 64-bit Architecture, 4.1.
 #[test]
 fn registers_are_numbered_as_in_the_abis(rt: HostRuntime) {
-    assert_eq!(rt;
-        [X86_64::RBP, X86_64::RSP, X86_64::RA],
-        [Register(6), Register(7), Register(16)]
-    );
-    assert_eq!(rt; [AArch64::X29, AArch64::X30], [Register(29), Register(30)]);
-    assert_eq!(rt;
-        [AArch64::SP, AArch64::RA_SIGN_STATE],
-        [Register(31), Register(34)]
-    );
+    assert!(rt; [X86_64::RBP, X86_64::RSP, X86_64::RA] == [Register(6), Register(7), Register(16)]);
+    assert!(rt; [AArch64::X29, AArch64::X30] == [Register(29), Register(30)]);
+    assert!(rt; [AArch64::SP, AArch64::RA_SIGN_STATE] == [Register(31), Register(34)]);
 }
 
 #[test]
 fn encodings_have_sizes_and_defaults(rt: HostRuntime) {
-    assert_eq!(rt;
+    assert!(rt;
         (
             Format::Dwarf32.initial_length_size(),
             Format::Dwarf32.word_size()
-        ),
-        (4, 4)
+        ) == (4, 4)
     );
-    assert_eq!(rt;
+    assert!(rt;
         (
             Format::Dwarf64.initial_length_size(),
             Format::Dwarf64.word_size()
-        ),
-        (12, 8)
+        ) == (12, 8)
     );
     let line = LineEncoding::default();
-    assert_eq!(rt;
+    assert!(rt;
         (
             line.minimum_instruction_length,
             line.maximum_operations_per_instruction
-        ),
-        (1, 1)
+        ) == (1, 1)
     );
-    assert_eq!(rt;
-        (line.default_is_stmt, line.line_base, line.line_range),
-        (true, -5, 14)
-    );
-    assert_eq!(rt; DebugFrameOffset::from(0x10u32), DebugFrameOffset(0x10));
-    assert_eq!(rt; EhFrameOffset::from(0x10usize), EhFrameOffset(0x10));
+    assert!(rt; (line.default_is_stmt, line.line_base, line.line_range) == (true, -5, 14));
+    assert!(rt; DebugFrameOffset::from(0x10u32) == DebugFrameOffset(0x10));
+    assert!(rt; EhFrameOffset::from(0x10usize) == EhFrameOffset(0x10));
 }
 
 #[test]

@@ -2,11 +2,12 @@
 
 use anyhow::Result;
 use dwarf_call_frames::{BaseAddresses, EhFrame, UnwindContext, UnwindSection};
+use dwarf_constants::Result as Answer;
 use dwarf_frame_headers::{EhFrameHdr, EhHdrTable};
 use dwarf_frame_row_tests::line_of;
 use dwarf_frame_rows::StoreOnHeap;
 use dwarf_readers::{EndianSlice, LittleEndian};
-use std::alloc::Global;
+use std::alloc::{AllocError, Global};
 
 /// A header, the section of call frames that it is about, and addresses.
 #[derive(Drop)]
@@ -20,43 +21,38 @@ pub struct Entries {
 
 type Slice<'a> = EndianSlice<'a, LittleEndian>;
 
-// The offset of the FDE for an address, or the refusal.
-fn show_entry<'a>(
+// The offset of the FDE for an address.
+fn offset_for<'a>(
     table: &EhHdrTable<'_, Slice<'a>>,
     frame: &EhFrame<Slice<'a>>,
     bases: &BaseAddresses,
     address: u64,
-    shown: &mut String,
-) -> Result<()> {
-    match table.fde_for_address(frame, bases, address, UnwindSection::cie_from_offset) {
-        Ok(fde) => write!(shown, "  {address:x}: {:x}", fde.offset())?,
-        Err(error) => write!(shown, "  {address:x}: {error:?}")?,
-    }
-    Ok(())
+) -> Answer<usize> {
+    let fde = table.fde_for_address(frame, bases, address, UnwindSection::cie_from_offset)?;
+    Ok(fde.offset())
 }
 
 // The row for an address, or the refusal.
-fn show_row<'a>(
+fn row_for<'a>(
     alloc: Global,
     table: &EhHdrTable<'_, Slice<'a>>,
     frame: &EhFrame<Slice<'a>>,
     bases: &BaseAddresses,
     context: &mut UnwindContext<usize, StoreOnHeap>,
     address: u64,
-    shown: &mut String,
-) -> Result<()> {
-    match table.unwind_info_for_address(
-        frame,
-        bases,
-        context,
-        address,
-        UnwindSection::cie_from_offset,
-    ) {
-        Ok(row) => {
-            let line = line_of(alloc, row)?;
-            write!(shown, ", {line}\n")?;
-        }
-        Err(error) => write!(shown, ", {error:?}\n")?,
+) -> Result<String, AllocError> {
+    let cie = UnwindSection::cie_from_offset;
+    match table.unwind_info_for_address(frame, bases, context, address, cie) {
+        Ok(row) => line_of(alloc, row),
+        Err(error) => Ok(format!(in alloc; "{error:?}")?),
+    }
+}
+
+// An address, and how it is answered.
+fn show_address(shown: &mut String, address: u64, offset: Answer<usize>, row: &str) -> Result<()> {
+    match offset {
+        Ok(offset) => write!(shown, "  {address:x}: {offset:x}, {row}\n")?,
+        Err(error) => write!(shown, "  {address:x}: {error:?}, {row}\n")?,
     }
     Ok(())
 }
@@ -72,16 +68,9 @@ pub fn show_entries(alloc: Global, entries: &Entries) -> Result<String> {
     let mut shown = String::new(alloc);
     if let Some(table) = header.table() {
         for address in &entries.addresses {
-            show_entry(&table, &frame, &bases, *address, &mut shown)?;
-            show_row(
-                alloc,
-                &table,
-                &frame,
-                &bases,
-                &mut context,
-                *address,
-                &mut shown,
-            )?;
+            let offset = offset_for(&table, &frame, &bases, *address);
+            let row = row_for(alloc, &table, &frame, &bases, &mut context, *address)?;
+            show_address(&mut shown, *address, offset, row.as_str())?;
         }
     }
     Ok(shown)

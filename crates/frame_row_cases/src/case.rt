@@ -2,10 +2,10 @@
 
 use crate::lookups::Lookups;
 use crate::programs::Program;
-use crate::readers::over_readers;
+use crate::readers::{Shows, over_readers};
 use crate::storages::{Growing, One, Small};
 use anyhow::{Context, Result};
-use dwarf_call_frames::UnwindContext;
+use dwarf_call_frames::{UnwindContext, UnwindContextStorage};
 use dwarf_constants::Vendor;
 use dwarf_frame_rows::StoreOnHeap;
 use std::alloc::Global;
@@ -26,6 +26,17 @@ pub struct Case {
     // The offset of the FDE whose rows are shown; without one, what the section has for addresses is.
     fde: Option<u8>,
     addresses: Vec<u64>,
+}
+
+// What is shown by contexts of a storage, for both sizes of offsets.
+fn in_storage<S: UnwindContextStorage<usize>, Short: UnwindContextStorage<u32>>(
+    alloc: Global,
+    test: &impl Shows,
+    bytes: &[u8],
+) -> Result<String> {
+    let mut context: UnwindContext<usize, S> = UnwindContext::new_in(alloc)?;
+    let mut short: UnwindContext<u32, Short> = UnwindContext::new_in(alloc)?;
+    over_readers(alloc, test, bytes, &mut context, &mut short)
 }
 
 impl Case {
@@ -75,18 +86,11 @@ impl Case {
             offset,
             addresses: &self.addresses,
         };
-        let mut context: UnwindContext<usize, Growing> = UnwindContext::new_in(alloc)?;
-        let mut short: UnwindContext<u32, Growing> = UnwindContext::new_in(alloc)?;
-        let growing = over_readers(alloc, &program, &self.bytes, &mut context, &mut short)?;
-        let mut context: UnwindContext<usize, StoreOnHeap> = UnwindContext::new(alloc)?;
-        let mut short: UnwindContext<u32, StoreOnHeap> = UnwindContext::new(alloc)?;
-        let heap = over_readers(alloc, &program, &self.bytes, &mut context, &mut short)?;
-        let mut context: UnwindContext<usize, Small> = UnwindContext::new_in(alloc)?;
-        let mut short: UnwindContext<u32, Small> = UnwindContext::new_in(alloc)?;
-        let small = over_readers(alloc, &program, &self.bytes, &mut context, &mut short)?;
-        let mut context: UnwindContext<usize, One> = UnwindContext::new_in(alloc)?;
-        let mut short: UnwindContext<u32, One> = UnwindContext::new_in(alloc)?;
-        let one = over_readers(alloc, &program, &self.bytes, &mut context, &mut short)?;
+        let bytes = self.bytes.as_slice();
+        let growing = in_storage::<Growing, Growing>(alloc, &program, bytes)?;
+        let heap = in_storage::<StoreOnHeap, StoreOnHeap>(alloc, &program, bytes)?;
+        let small = in_storage::<Small, Small>(alloc, &program, bytes)?;
+        let one = in_storage::<One, One>(alloc, &program, bytes)?;
         Ok(format!(in alloc; "growing\n{growing}on the heap\n{heap}small\n{small}one\n{one}")?)
     }
 
@@ -96,8 +100,6 @@ impl Case {
             which: self.which,
             addresses: &self.addresses,
         };
-        let mut context: UnwindContext<usize, StoreOnHeap> = UnwindContext::new(alloc)?;
-        let mut short: UnwindContext<u32, StoreOnHeap> = UnwindContext::new(alloc)?;
-        over_readers(alloc, &lookups, &self.bytes, &mut context, &mut short)
+        in_storage::<StoreOnHeap, StoreOnHeap>(alloc, &lookups, &self.bytes)
     }
 }

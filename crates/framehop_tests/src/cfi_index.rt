@@ -121,7 +121,7 @@ fn differing(rt: &HostRuntime, count: u64) -> Result<u64, Fail> {
 #[test]
 fn look_ups_are_those_of_a_plain_pass(rt: HostRuntime) -> Result<(), Fail> {
     for count in [1, 2, 3, 4, 5, 1_000] {
-        assert_eq!(rt; differing(&rt, count)?, 0, "of {count}");
+        assert!(rt; differing(&rt, count)? == 0, "of {count}");
     }
     Ok(())
 }
@@ -130,9 +130,9 @@ fn look_ups_are_those_of_a_plain_pass(rt: HostRuntime) -> Result<(), Fail> {
 fn the_first_of_equal_starts_is_found(rt: HostRuntime) -> Result<(), Fail> {
     let bytes = section_of(rt.alloc(), &[BASE + 32, BASE + 16, BASE + 16])?;
     let index = index_of(rt.alloc(), &bytes, BASE)?;
-    assert_eq!(rt; index.fde_offset_for_relative_address(15), None);
-    assert_eq!(rt; index.fde_offset_for_relative_address(16), Some(44));
-    assert_eq!(rt; index.fde_offset_for_relative_address(32), Some(20));
+    assert!(rt; index.fde_offset_for_relative_address(15) == None);
+    assert!(rt; index.fde_offset_for_relative_address(16) == Some(44));
+    assert!(rt; index.fde_offset_for_relative_address(32) == Some(20));
     Ok(())
 }
 
@@ -149,37 +149,41 @@ fn most_reads(alloc: Global, count: u32) -> Result<u32, Fail> {
     Ok(most)
 }
 
+static READS: [(u32, u32); 7] = [
+    (1, 1),
+    (2, 2),
+    (3, 3),
+    (4, 3),
+    (5, 4),
+    (1_000, 11),
+    (4_096, 13),
+];
+
 /// The logarithm of the number of starts by 2, rounded up, and one more.
 #[test]
 fn a_look_up_reads_few_starts(rt: HostRuntime) -> Result<(), Fail> {
-    for (count, most) in [
-        (1, 1),
-        (2, 2),
-        (3, 3),
-        (4, 3),
-        (5, 4),
-        (1_000, 11),
-        (4_096, 13),
-    ] {
-        assert_eq!(rt; most_reads(rt.alloc(), count)?, most, "of {count} starts");
+    for &(count, most) in &READS {
+        assert!(rt; most_reads(rt.alloc(), count)? == most, "of {count} starts");
     }
     Ok(())
 }
 
+static NAMES: [(DwarfCfiIndexError, &str); 3] = [
+    (
+        DwarfCfiIndexError::Gimli(Error::NoUnwindInfoForAddress),
+        "Gimli",
+    ),
+    (
+        DwarfCfiIndexError::CouldNotSubtractBaseAddress,
+        "CouldNotSubtractBaseAddress",
+    ),
+    (DwarfCfiIndexError::OutOfMemory, "OutOfMemory"),
+];
+
 #[test]
 fn an_error_is_printed_by_its_name(rt: HostRuntime) -> Result<(), Fail> {
-    for (error, name) in [
-        (
-            DwarfCfiIndexError::Gimli(Error::NoUnwindInfoForAddress),
-            "Gimli",
-        ),
-        (
-            DwarfCfiIndexError::CouldNotSubtractBaseAddress,
-            "CouldNotSubtractBaseAddress",
-        ),
-        (DwarfCfiIndexError::OutOfMemory, "OutOfMemory"),
-    ] {
-        assert_eq!(rt; error.to_string(rt.alloc())?.as_str(), name);
+    for &(error, name) in &NAMES {
+        assert!(rt; error.to_string(rt.alloc())?.as_str() == name);
     }
     Ok(())
 }

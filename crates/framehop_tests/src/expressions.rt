@@ -48,71 +48,53 @@ fn each_place_of_a_plt_entry(rt: HostRuntime) -> Result<(), Fail> {
             BY_CFA
         };
         let may = step::<MayAllocateDuringUnwind>(&rt, &section, frame)?;
-        assert_eq!(rt; may, caller, "at {place}");
+        assert!(rt; may == caller, "at {place}");
         let must = step::<MustNotAllocateDuringUnwind>(&rt, &section, frame)?;
-        assert_eq!(rt; must, caller, "at {place} without memory");
+        assert!(rt; must == caller, "at {place} without memory");
     }
     Ok(())
 }
 
+static VALUES: [(&str, &[u8], (Option<u64>, Registers)); 13] = [
+    ("RSP + 8", &[0x77, 8], BY_CFA),
+    ("RBP - 8", &[0x76, 0x78], BY_CFA),
+    ("RIP by its column", &[0x80, 0x98, 0xe0, 0xbf, 0x7f], BY_CFA),
+    ("RSP by bregx", &[0x92, 7, 8], BY_CFA),
+    (
+        "RSP down to a multiple of 16, and 8",
+        &[0x77, 8, 9, 0xf0, 0x1a, 0x23, 8],
+        BY_CFA,
+    ),
+    ("two registers", &[0x77, 0x68, 0x76, 0, 0x22], BY_CFA),
+    (
+        "a register that no step knows",
+        &[0x70, 0x18],
+        BY_FRAME_POINTER,
+    ),
+    (
+        "one that is asked for second",
+        &[0x77, 8, 0x73, 0, 0x22],
+        BY_FRAME_POINTER,
+    ),
+    ("the word at RBP - 8", &[0x76, 0x78, 6], BY_FRAME_POINTER),
+    ("a quotient by 0", &[0x77, 8, 0x30, 0x1b], BY_FRAME_POINTER),
+    ("no operation", &[], BY_FRAME_POINTER),
+    ("a branch to itself", &[0x2f, 0xfd, 0xff], BY_FRAME_POINTER),
+    (
+        "RSP without end",
+        &[0x77, 0, 0x13, 0x2f, 0xfa, 0xff],
+        BY_FRAME_POINTER,
+    ),
+];
+
 #[test]
 fn values_of_the_cfa(rt: HostRuntime) -> Result<(), Fail> {
-    for (what, expression, caller) in [
-        ("RSP + 8", [0x77, 8].as_slice(), BY_CFA),
-        ("RBP - 8", [0x76, 0x78].as_slice(), BY_CFA),
-        (
-            "RIP by its column",
-            [0x80, 0x98, 0xe0, 0xbf, 0x7f].as_slice(),
-            BY_CFA,
-        ),
-        ("RSP by bregx", [0x92, 7, 8].as_slice(), BY_CFA),
-        (
-            "RSP down to a multiple of 16, and 8",
-            [0x77, 8, 9, 0xf0, 0x1a, 0x23, 8].as_slice(),
-            BY_CFA,
-        ),
-        (
-            "two registers",
-            [0x77, 0x68, 0x76, 0, 0x22].as_slice(),
-            BY_CFA,
-        ),
-        (
-            "a register that no step knows",
-            [0x70, 0x18].as_slice(),
-            BY_FRAME_POINTER,
-        ),
-        (
-            "one that is asked for second",
-            [0x77, 8, 0x73, 0, 0x22].as_slice(),
-            BY_FRAME_POINTER,
-        ),
-        (
-            "the word at RBP - 8",
-            [0x76, 0x78, 6].as_slice(),
-            BY_FRAME_POINTER,
-        ),
-        (
-            "a quotient by 0",
-            [0x77, 8, 0x30, 0x1b].as_slice(),
-            BY_FRAME_POINTER,
-        ),
-        ("no operation", [].as_slice(), BY_FRAME_POINTER),
-        (
-            "a branch to itself",
-            [0x2f, 0xfd, 0xff].as_slice(),
-            BY_FRAME_POINTER,
-        ),
-        (
-            "RSP without end",
-            [0x77, 0, 0x13, 0x2f, 0xfa, 0xff].as_slice(),
-            BY_FRAME_POINTER,
-        ),
-    ] {
+    for &(what, expression, caller) in &VALUES {
         let section = section_of(rt.alloc(), expression)?;
         let may = step::<MayAllocateDuringUnwind>(&rt, &section, FRAME)?;
-        assert_eq!(rt; may, caller, "{what}");
+        assert!(rt; may == caller, "{what}");
         let must = step::<MustNotAllocateDuringUnwind>(&rt, &section, FRAME)?;
-        assert_eq!(rt; must, caller, "{what}, without memory");
+        assert!(rt; must == caller, "{what}, without memory");
     }
     Ok(())
 }
@@ -125,9 +107,12 @@ fn room_for_values(rt: HostRuntime) -> Result<(), Fail> {
         expression.extend_from_slice(&[8, 0x18])?;
         let section = section_of(rt.alloc(), &expression)?;
         let may = step::<MayAllocateDuringUnwind>(&rt, &section, FRAME)?;
-        assert_eq!(rt; may, BY_CFA, "over {below} values");
+        assert!(rt; may == BY_CFA, "over {below} values");
         let must = step::<MustNotAllocateDuringUnwind>(&rt, &section, FRAME)?;
-        assert_eq!(rt; must, without_memory, "over {below} values, without memory");
+        assert!(rt;
+            must == without_memory,
+            "over {below} values, without memory"
+        );
     }
     Ok(())
 }
@@ -142,23 +127,25 @@ fn room_for_operations(rt: HostRuntime) -> Result<(), Fail> {
         ])?;
         let section = section_of(rt.alloc(), &expression)?;
         let may = step::<MayAllocateDuringUnwind>(&rt, &section, FRAME)?;
-        assert_eq!(rt; may, caller, "with {more} more");
+        assert!(rt; may == caller, "with {more} more");
         let must = step::<MustNotAllocateDuringUnwind>(&rt, &section, FRAME)?;
-        assert_eq!(rt; must, caller, "with {more} more, without memory");
+        assert!(rt; must == caller, "with {more} more, without memory");
     }
     Ok(())
 }
 
+static REGISTERS: [(Register, Option<u64>); 5] = [
+    (Register(16), Some(1)),
+    (Register(7), Some(2)),
+    (Register(6), Some(3)),
+    (Register(0), None),
+    (Register(17), None),
+];
+
 #[test]
 fn registers_by_their_numbers(rt: HostRuntime) {
     let regs = UnwindRegsX86_64::new(1, 2, 3);
-    for (register, value) in [
-        (Register(16), Some(1)),
-        (Register(7), Some(2)),
-        (Register(6), Some(3)),
-        (Register(0), None),
-        (Register(17), None),
-    ] {
-        assert_eq!(rt; DwarfUnwindRegs::get(&regs, register), value);
+    for &(register, value) in &REGISTERS {
+        assert!(rt; DwarfUnwindRegs::get(&regs, register) == value);
     }
 }

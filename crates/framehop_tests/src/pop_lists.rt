@@ -8,6 +8,10 @@ use std::alloc::{AllocError, Global};
 use std::process::Abort;
 use std::test::Fail;
 
+const LAST: u64 = u64::MAX - 7;
+
+const RBP: OffsetOrPop = OffsetOrPop::Pop(Reg::RBP);
+
 /// The callee-saved registers, in another order than that in which lists are numbered.
 const SAVED: [Reg; 8] = [
     Reg::R15,
@@ -19,6 +23,17 @@ const SAVED: [Reg; 8] = [
     Reg::R14,
     Reg::RDI,
 ];
+
+// The rule that pops a list from so many words above SP on.
+macro_rules! pops {
+    ($words:expr, ($count:expr, $number:expr)) => {
+        UnwindRuleX86_64::OffsetSpAndPopRegisters {
+            sp_offset_by_8: $words,
+            register_count: $count,
+            encoded_registers_to_pop: $number,
+        }
+    };
+}
 
 /// So many of these registers, each at most once: another list for each number.
 fn list_at(alloc: Global, count: usize, mut number: usize) -> Result<Vec<Reg>, AllocError> {
@@ -47,7 +62,7 @@ fn numbers_every_list(rt: HostRuntime) -> Result<(), Fail> {
             let Some((length, number)) = encode(list.as_slice()) else {
                 panic!(rt; "{list:?} has a number");
             };
-            assert_eq!(rt; length, count, "{list:?}");
+            assert!(rt; length == count, "{list:?}");
             let place = usize::from(number);
             assert!(rt; place < seen.len() && !seen[place], "{number} comes twice");
             seen[place] = true;
@@ -60,41 +75,47 @@ fn numbers_every_list(rt: HostRuntime) -> Result<(), Fail> {
         }
         of_length = of_length.wrapping_mul(8u32.wrapping_sub(u32::from(count)));
     }
-    assert_eq!(rt; lists, 109601);
+    assert!(rt; lists == 109601);
     Ok(())
 }
 
+static NUMBERED: [(&[Reg], (u8, u16)); 6] = [
+    (&[], (0, 0)),
+    (&[Reg::RBP], (1, 1)),
+    (&[Reg::R15, Reg::RBX], (2, 55)),
+    (&[Reg::RBX, Reg::RBP, Reg::R12], (3, 112)),
+    (
+        &[
+            Reg::RBX,
+            Reg::RBP,
+            Reg::RDI,
+            Reg::RSI,
+            Reg::R12,
+            Reg::R13,
+            Reg::R14,
+            Reg::R15,
+        ],
+        (8, 0),
+    ),
+    (
+        &[
+            Reg::R15,
+            Reg::RBX,
+            Reg::RBP,
+            Reg::RDI,
+            Reg::RSI,
+            Reg::R12,
+            Reg::R13,
+            Reg::R14,
+        ],
+        (8, 40319),
+    ),
+];
+
 #[test]
 fn numbers_lists(rt: HostRuntime) {
-    let eight = [
-        Reg::RBX,
-        Reg::RBP,
-        Reg::RDI,
-        Reg::RSI,
-        Reg::R12,
-        Reg::R13,
-        Reg::R14,
-        Reg::R15,
-    ];
-    let last = [
-        Reg::R15,
-        Reg::RBX,
-        Reg::RBP,
-        Reg::RDI,
-        Reg::RSI,
-        Reg::R12,
-        Reg::R13,
-        Reg::R14,
-    ];
-    for (list, pops) in [
-        ([].as_slice(), (0, 0)),
-        ([Reg::RBP].as_slice(), (1, 1)),
-        ([Reg::R15, Reg::RBX].as_slice(), (2, 55)),
-        ([Reg::RBX, Reg::RBP, Reg::R12].as_slice(), (3, 112)),
-        (eight.as_slice(), (8, 0)),
-        (last.as_slice(), (8, 40319)),
-    ] {
-        assert_eq!(rt; encode(list), Some(pops), "{list:?}");
+    for &(list, pops) in &NUMBERED {
+        assert!(rt; encode(list) == Some(pops), "{list:?}");
     }
     let decoded = decode(2, 55);
     assert!(rt;
@@ -103,38 +124,33 @@ fn numbers_lists(rt: HostRuntime) {
     );
 }
 
+static REFUSED: [&[Reg]; 5] = [
+    &[Reg::RAX],
+    &[Reg::RSP],
+    &[Reg::RBX, Reg::R11],
+    &[Reg::RSI, Reg::RSI],
+    &[Reg::R12, Reg::RBX, Reg::R12],
+];
+
 #[test]
 fn refuses_lists(rt: HostRuntime) {
-    for list in [
-        [Reg::RAX].as_slice(),
-        [Reg::RSP].as_slice(),
-        [Reg::RBX, Reg::R11].as_slice(),
-        [Reg::RSI, Reg::RSI].as_slice(),
-        [Reg::R12, Reg::RBX, Reg::R12].as_slice(),
-    ] {
-        assert_eq!(rt; encode(list), None, "{list:?}");
+    for &list in &REFUSED {
+        assert!(rt; encode(list) == None, "{list:?}");
     }
 }
 
-/// The rule that pops a list from so many words above SP on.
-fn pops(words: u16, (count, number): (u8, u16)) -> UnwindRuleX86_64 {
-    UnwindRuleX86_64::OffsetSpAndPopRegisters {
-        sp_offset_by_8: words,
-        register_count: count,
-        encoded_registers_to_pop: number,
-    }
-}
+static VALID: [(UnwindRuleX86_64, bool); 5] = [
+    (pops!(u16::MAX, (0, 0)), true),
+    (pops!(0, (8, 40319)), true),
+    (pops!(0, (8, 40320)), false),
+    (pops!(0, (9, 0)), false),
+    (UnwindRuleX86_64::EndOfStack, true),
+];
 
 #[test]
 fn knows_valid_rules(rt: HostRuntime) {
-    for (rule, is_valid) in [
-        (pops(u16::MAX, (0, 0)), true),
-        (pops(0, (8, 40319)), true),
-        (pops(0, (8, 40320)), false),
-        (pops(0, (9, 0)), false),
-        (UnwindRuleX86_64::EndOfStack, true),
-    ] {
-        assert_eq!(rt; rule.is_valid(), is_valid, "{rule:?}");
+    for &(rule, is_valid) in &VALID {
+        assert!(rt; rule.is_valid() == is_valid, "{rule:?}");
     }
 }
 
@@ -163,41 +179,36 @@ fn assert_pops(
     let mut regs = full_registers(sp);
     let mut read_stack = |address: u64| if is_all_ones { Ok(1) } else { word_at(address) };
     assert!(rt; rule.is_valid(), "{rule:?}");
-    assert_eq!(rt;
-        rule.exec(true, &mut regs, &mut read_stack),
-        answer,
+    assert!(rt;
+        rule.exec(true, &mut regs, &mut read_stack) == answer,
         "{rule:?} at {sp:x}"
     );
     assert!(rt; regs == after, "{rule:?} at {sp:x} leaves {regs:?}");
 }
 
+static POPPED: [(UnwindRuleX86_64, u64, &[(Reg, u64)], u64, u64); 4] = [
+    (pops!(1, (0, 0)), 0x8, &[], 0x100300, 0x18),
+    (pops!(0, (1, 1)), 0x20, &[(Reg::RBP, 0x40)], 0x100200, 0x30),
+    (
+        pops!(0, (2, 55)),
+        0x0,
+        &[(Reg::R15, 1), (Reg::RBX, 2)],
+        0x100300,
+        0x18,
+    ),
+    (
+        pops!(1, (3, 112)),
+        0x28,
+        &[(Reg::RBX, 5), (Reg::RBP, 6), (Reg::R12, 0x70)],
+        0x100100,
+        0x50,
+    ),
+];
+
 /// Each register takes its word, the return address stands above them, all others stay.
 #[test]
 fn pops_registers(rt: HostRuntime) {
-    for (rule, sp, values, return_address, new_sp) in [
-        (pops(1, (0, 0)), 0x8, [].as_slice(), 0x100300, 0x18),
-        (
-            pops(0, (1, 1)),
-            0x20,
-            [(Reg::RBP, 0x40)].as_slice(),
-            0x100200,
-            0x30,
-        ),
-        (
-            pops(0, (2, 55)),
-            0x0,
-            [(Reg::R15, 1), (Reg::RBX, 2)].as_slice(),
-            0x100300,
-            0x18,
-        ),
-        (
-            pops(1, (3, 112)),
-            0x28,
-            [(Reg::RBX, 5), (Reg::RBP, 6), (Reg::R12, 0x70)].as_slice(),
-            0x100100,
-            0x50,
-        ),
-    ] {
+    for &(rule, sp, values, return_address, new_sp) in &POPPED {
         let mut after = full_registers(new_sp);
         after.set_ip(return_address);
         for &(reg, value) in values {
@@ -207,40 +218,46 @@ fn pops_registers(rt: HostRuntime) {
     }
 }
 
+static KEPT: [(UnwindRuleX86_64, u64, bool, Result<Option<u64>, Error>); 8] = [
+    (pops!(1, (2, 55)), 0x58, false, Ok(None)),
+    (
+        pops!(0, (3, 112)),
+        0x68,
+        false,
+        Err(Error::CouldNotReadStack(0x80)),
+    ),
+    (
+        pops!(1, (3, 112)),
+        0x68,
+        false,
+        Err(Error::CouldNotReadStack(0x80)),
+    ),
+    (pops!(1, (0, 0)), LAST, true, Err(Error::IntegerOverflow)),
+    (
+        pops!(0, (1, 1)),
+        LAST,
+        false,
+        Err(Error::CouldNotReadStack(LAST)),
+    ),
+    (pops!(0, (1, 1)), LAST, true, Err(Error::IntegerOverflow)),
+    (
+        pops!(0, (1, 1)),
+        LAST - 8,
+        true,
+        Err(Error::IntegerOverflow),
+    ),
+    (
+        pops!(0, (2, 55)),
+        LAST - 16,
+        true,
+        Err(Error::IntegerOverflow),
+    ),
+];
+
 /// Where no caller is answered all registers stay, those too that were read by then.
 #[test]
 fn keeps_registers_that_it_popped(rt: HostRuntime) {
-    let last = u64::MAX - 7;
-    for (rule, sp, is_all_ones, answer) in [
-        (pops(1, (2, 55)), 0x58, false, Ok(None)),
-        (
-            pops(0, (3, 112)),
-            0x68,
-            false,
-            Err(Error::CouldNotReadStack(0x80)),
-        ),
-        (
-            pops(1, (3, 112)),
-            0x68,
-            false,
-            Err(Error::CouldNotReadStack(0x80)),
-        ),
-        (pops(1, (0, 0)), last, true, Err(Error::IntegerOverflow)),
-        (
-            pops(0, (1, 1)),
-            last,
-            false,
-            Err(Error::CouldNotReadStack(last)),
-        ),
-        (pops(0, (1, 1)), last, true, Err(Error::IntegerOverflow)),
-        (pops(0, (1, 1)), last - 8, true, Err(Error::IntegerOverflow)),
-        (
-            pops(0, (2, 55)),
-            last - 16,
-            true,
-            Err(Error::IntegerOverflow),
-        ),
-    ] {
+    for &(rule, sp, is_all_ones, answer) in &KEPT {
         assert_pops(&rt, rule, sp, is_all_ones, answer, full_registers(sp));
     }
 }
@@ -261,54 +278,46 @@ impl From<Started> for OffsetOrPop {
     }
 }
 
+static SEQUENCES: [(&[OffsetOrPop], Option<UnwindRuleX86_64>); 12] = [
+    (&[], Some(UnwindRuleX86_64::JustReturn)),
+    (
+        &[OffsetOrPop::OffsetBy8(0)],
+        Some(UnwindRuleX86_64::JustReturn),
+    ),
+    (&[OffsetOrPop::OffsetBy8(3)], Some(pops!(3, (0, 0)))),
+    (&[OffsetOrPop::OffsetBy8(0), RBP], Some(pops!(0, (1, 1)))),
+    (
+        &[OffsetOrPop::Pop(Reg::R15), OffsetOrPop::Pop(Reg::RBX)],
+        Some(pops!(0, (2, 55))),
+    ),
+    (&[RBP, OffsetOrPop::OffsetBy8(1)], None),
+    (
+        &[OffsetOrPop::OffsetBy8(0), OffsetOrPop::OffsetBy8(1)],
+        None,
+    ),
+    (&[OffsetOrPop::None], None),
+    (&[RBP, OffsetOrPop::None], None),
+    (&[OffsetOrPop::Pop(Reg::RAX)], None),
+    (&[RBP, RBP], None),
+    (&[RBP; 9], None),
+];
+
 #[test]
 fn has_rules_for_sequences(rt: HostRuntime) {
-    let rbp = OffsetOrPop::Pop(Reg::RBP);
-    for (operations, rule) in [
-        ([].as_slice(), Some(UnwindRuleX86_64::JustReturn)),
-        (
-            [OffsetOrPop::OffsetBy8(0)].as_slice(),
-            Some(UnwindRuleX86_64::JustReturn),
-        ),
-        (
-            [OffsetOrPop::OffsetBy8(3)].as_slice(),
-            Some(pops(3, (0, 0))),
-        ),
-        (
-            [OffsetOrPop::OffsetBy8(0), rbp].as_slice(),
-            Some(pops(0, (1, 1))),
-        ),
-        (
-            [OffsetOrPop::Pop(Reg::R15), OffsetOrPop::Pop(Reg::RBX)].as_slice(),
-            Some(pops(0, (2, 55))),
-        ),
-        ([rbp, OffsetOrPop::OffsetBy8(1)].as_slice(), None),
-        (
-            [OffsetOrPop::OffsetBy8(0), OffsetOrPop::OffsetBy8(1)].as_slice(),
-            None,
-        ),
-        ([OffsetOrPop::None].as_slice(), None),
-        ([rbp, OffsetOrPop::None].as_slice(), None),
-        ([OffsetOrPop::Pop(Reg::RAX)].as_slice(), None),
-        ([rbp, rbp].as_slice(), None),
-        ([rbp; 9].as_slice(), None),
-    ] {
+    for &(operations, rule) in &SEQUENCES {
         let found = UnwindRuleX86_64::for_sequence_of_offset_or_pop(operations.iter().copied());
-        assert_eq!(rt; found, rule, "{operations:?}");
+        assert!(rt; found == rule, "{operations:?}");
     }
     let started = [Started::Lowered(2), Started::Pushed(Reg::RBP)];
-    assert_eq!(rt;
-        UnwindRuleX86_64::for_sequence_of_offset_or_pop(started.iter().copied()),
-        Some(pops(2, (1, 1)))
+    assert!(rt;
+        UnwindRuleX86_64::for_sequence_of_offset_or_pop(started.iter().copied())
+            == Some(pops!(2, (1, 1)))
     );
 }
 
 #[test]
 fn prints_lists(rt: HostRuntime) -> Result<(), Fail> {
     let decoded = decode(2, 55);
-    assert_eq!(rt;
-        format!(in rt.alloc(); "{decoded:?}")?.as_str(),
-        "[R15, RBX]"
-    );
+    assert!(rt; format!(in rt.alloc(); "{decoded:?}")?.as_str() == "[R15, RBX]");
     Ok(())
 }

@@ -81,10 +81,10 @@ fn rows_of_eh_frame_are_kept_as_rules(rt: HostRuntime) -> Result<(), Fail> {
         let answer = (Some(caller.0), caller, true);
         let sections = eh_frame(&WORKED);
         let may = step_twice::<MayAllocateDuringUnwind>(rt.alloc(), sections, frame)?;
-        assert_eq!(rt; may, answer);
+        assert!(rt; may == answer);
         let sections = eh_frame(&WORKED);
         let must = step_twice::<MustNotAllocateDuringUnwind>(rt.alloc(), sections, frame)?;
-        assert_eq!(rt; must, answer);
+        assert!(rt; must == answer);
     }
     Ok(())
 }
@@ -95,7 +95,7 @@ fn a_section_without_an_index_says_nothing(rt: HostRuntime) -> Result<(), Fail> 
     let sections = eh_frame(&WORKED[..30]);
     let frame = (0x101000, 0x10, 0x20);
     let answer = step_twice::<MustNotAllocateDuringUnwind>(rt.alloc(), sections, frame)?;
-    assert_eq!(rt; answer, (Some(0x100200), (0x100200, 0x30, 0x40), true));
+    assert!(rt; answer == (Some(0x100200), (0x100200, 0x30, 0x40), true));
     Ok(())
 }
 
@@ -106,9 +106,9 @@ fn expressions_of_debug_frame_have_their_address_size(rt: HostRuntime) -> Result
     let frame = (0x101000, 0x1_0000_0010, 0x20);
     let caller = (0x100300, 0x18, 0x20);
     let may = step_twice::<MayAllocateDuringUnwind>(rt.alloc(), debug_frame(), frame)?;
-    assert_eq!(rt; may, (Some(0x100300), caller, false));
+    assert!(rt; may == (Some(0x100300), caller, false));
     let must = step_twice::<MustNotAllocateDuringUnwind>(rt.alloc(), debug_frame(), frame)?;
-    assert_eq!(rt; must, (Some(0x100300), caller, false));
+    assert!(rt; must == (Some(0x100300), caller, false));
     Ok(())
 }
 
@@ -119,6 +119,6 @@ fn eh_frame_goes_before_debug_frame(rt: HostRuntime) -> Result<(), Fail> {
     sections.debug_frame = Some(NARROW.as_slice());
     let frame = (0x101000, 0x10, 0x20);
     let answer = step_twice::<MayAllocateDuringUnwind>(rt.alloc(), sections, frame)?;
-    assert_eq!(rt; answer, (Some(0x100300), (0x100300, 0x18, 0x20), true));
+    assert!(rt; answer == (Some(0x100300), (0x100300, 0x18, 0x20), true));
     Ok(())
 }

@@ -94,8 +94,8 @@ fn a_row_gives_the_caller(rt: HostRuntime) -> Result<(), Fail> {
         ),
     ] {
         let (return_address, registers) = step::<MayAllocateDuringUnwind>(&rt, section, frame)?;
-        assert_eq!(rt; return_address, Some(caller.0), "{place}");
-        assert_eq!(rt; registers, caller, "{place}");
+        assert!(rt; return_address == Some(caller.0), "{place}");
+        assert!(rt; registers == caller, "{place}");
     }
     Ok(())
 }
@@ -104,9 +104,9 @@ fn a_row_gives_the_caller(rt: HostRuntime) -> Result<(), Fail> {
 fn a_module_tells_its_place(rt: HostRuntime) -> Result<(), Fail> {
     let module = module_with(rt.alloc(), &WORKED)?;
     let range = module.avma_range();
-    assert_eq!(rt;
-        (module.name(), range.start, range.end, module.base_avma()),
-        ("m", 0x100000, 0x102000, 0x100000)
+    assert!(rt;
+        (module.name(), range.start, range.end, module.base_avma())
+            == ("m", 0x100000, 0x102000, 0x100000)
     );
     Ok(())
 }

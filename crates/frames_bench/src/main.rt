@@ -8,9 +8,11 @@
 mod passes;
 
 use anyhow::Result;
-use dwarf_call_frames::{BaseAddresses, EhFrame, UnwindContext};
+use dwarf_call_frames::{
+    BaseAddresses, EhFrame, UnwindContext, UnwindContextStorage, UnwindSection,
+};
 use dwarf_frame_rows::StoreOnHeap;
-use dwarf_readers::{EndianSlice, LittleEndian};
+use dwarf_readers::{LittleEndian, Reader};
 use passes::{Tally, keep_fdes, list_entries, list_fdes, list_rows};
 use std::env;
 use std::io::Read;
@@ -26,28 +28,33 @@ fn main(rt: HostRuntime) -> Result<()> {
         Some(count) => count.parse()?,
         None => 0,
     };
-    print_passes(&rt, input.as_slice(), rounds)
+    let section = EhFrame::new(input.as_slice(), LittleEndian);
+    let mut context: UnwindContext<usize, StoreOnHeap> = UnwindContext::new(rt.alloc())?;
+    print_passes(&rt, &section, &mut context, rounds)
 }
 
 /// Makes each pass, so many times again, and prints what came of it.
-fn print_passes(rt: &HostRuntime, bytes: &[u8], rounds: u32) -> Result<()> {
-    let section = EhFrame::new(bytes, LittleEndian);
+fn print_passes<R: Reader, Section: UnwindSection<R>, S: UnwindContextStorage<R::Offset>>(
+    rt: &HostRuntime,
+    section: &Section,
+    context: &mut UnwindContext<R::Offset, S>,
+    rounds: u32,
+) -> Result<()> {
     let bases = BaseAddresses::default().set_eh_frame(START);
-    let mut context: UnwindContext<usize, StoreOnHeap> = UnwindContext::new(rt.alloc())?;
-    let kept = keep_fdes(rt.alloc(), &section, &bases)?;
-    let mut entries = list_entries(&section, &bases)?;
-    let mut fdes = list_fdes(&section, &bases)?;
-    let mut rows = list_rows(&section, &bases, kept.as_slice(), &mut context)?;
+    let kept = keep_fdes(rt.alloc(), section, &bases)?;
+    let mut entries = list_entries(section, &bases)?;
+    let mut fdes = list_fdes(section, &bases)?;
+    let mut rows = list_rows(section, &bases, kept.as_slice(), context)?;
     let mut least = [Duration::MAX; 3];
     for _ in 0..rounds {
         let start = Instant::now(rt)?;
-        entries = list_entries(&section, &bases)?;
+        entries = list_entries(section, &bases)?;
         least[0] = least[0].min(start.elapsed(rt)?);
         let start = Instant::now(rt)?;
-        fdes = list_fdes(&section, &bases)?;
+        fdes = list_fdes(section, &bases)?;
         least[1] = least[1].min(start.elapsed(rt)?);
         let start = Instant::now(rt)?;
-        rows = list_rows(&section, &bases, kept.as_slice(), &mut context)?;
+        rows = list_rows(section, &bases, kept.as_slice(), context)?;
         least[2] = least[2].min(start.elapsed(rt)?);
     }
     print_pass(rt, "entries", entries, least[0], rounds)?;

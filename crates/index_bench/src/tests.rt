@@ -37,12 +37,12 @@ fn all_but_the_first_address_are_found(rt: HostRuntime) -> Result<(), Fail> {
         (8, 9, 8, 4),
         (1_000, 1_001, 1_000, 11),
     ] {
-        assert_eq!(rt;
-            tally_of(rt.alloc(), fdes, count)?,
-            Tally {
-                found,
-                most_starts_read
-            },
+        assert!(rt;
+            tally_of(rt.alloc(), fdes, count)?
+                == Tally {
+                    found,
+                    most_starts_read
+                },
             "of {fdes} FDEs"
         );
     }

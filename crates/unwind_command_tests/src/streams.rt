@@ -154,10 +154,9 @@ fn reads_in_pieces(rt: HostRuntime) -> Result<(), Fail> {
     for step in [1, 3, 7, length - 1, length, length + 1] {
         let mut source = source_in_steps(step, 2_000);
         let mut sink = sink_in_steps(rt.alloc(), 1_000, 2);
-        assert_eq!(rt; run(rt.alloc(), &mut source, &mut sink)?.status(), 0);
-        assert_eq!(rt;
-            sink.written.as_slice(),
-            ANSWERS.as_bytes(),
+        assert!(rt; run(rt.alloc(), &mut source, &mut sink)?.status() == 0);
+        assert!(rt;
+            sink.written.as_slice() == ANSWERS.as_bytes(),
             "in steps of {step}"
         );
         assert!(rt; !source.failed());
@@ -172,12 +171,9 @@ fn each_read_fails_in_turn(rt: HostRuntime) -> Result<(), Fail> {
         let mut source = source_in_steps(100, calls);
         let mut sink = sink_in_steps(rt.alloc(), 1_000, 2);
         let ending = run(rt.alloc(), &mut source, &mut sink);
-        assert_eq!(rt; ending.err(), Some(RunError::Read), "after {calls} reads");
+        assert!(rt; ending.err() == Some(RunError::Read), "after {calls} reads");
         assert!(rt; source.failed());
-        assert_eq!(rt;
-            source.rest.len(),
-            DOCUMENT.len().saturating_sub(100 * calls)
-        );
+        assert!(rt; source.rest.len() == DOCUMENT.len().saturating_sub(100 * calls));
         assert!(rt; sink.written.is_empty());
         assert!(rt; !sink.failed());
     }
@@ -189,10 +185,9 @@ fn writes_in_pieces(rt: HostRuntime) -> Result<(), Fail> {
     for step in [1, 3, 7, 41, 42, 43] {
         let mut source = source_in_steps(1_000, 10);
         let mut sink = sink_in_steps(rt.alloc(), step, 100);
-        assert_eq!(rt; run(rt.alloc(), &mut source, &mut sink)?.status(), 0);
-        assert_eq!(rt;
-            sink.written.as_slice(),
-            ANSWERS.as_bytes(),
+        assert!(rt; run(rt.alloc(), &mut source, &mut sink)?.status() == 0);
+        assert!(rt;
+            sink.written.as_slice() == ANSWERS.as_bytes(),
             "in steps of {step}"
         );
         assert!(rt; !sink.failed());
@@ -207,9 +202,12 @@ fn each_write_fails_in_turn(rt: HostRuntime) -> Result<(), Fail> {
         let mut source = source_in_steps(1_000, 10);
         let mut sink = sink_in_steps(rt.alloc(), 7, calls);
         let ending = run(rt.alloc(), &mut source, &mut sink);
-        assert_eq!(rt; ending.err(), Some(RunError::Write), "after {calls} writes");
+        assert!(rt;
+            ending.err() == Some(RunError::Write),
+            "after {calls} writes"
+        );
         assert!(rt; sink.failed());
-        assert_eq!(rt; sink.written.as_slice(), &ANSWERS.as_bytes()[..7 * calls]);
+        assert!(rt; sink.written.as_slice() == &ANSWERS.as_bytes()[..7 * calls]);
         assert!(rt; !source.failed());
     }
     Ok(())
@@ -237,12 +235,12 @@ fn interrupted_reads_are_made_again(rt: HostRuntime) -> Result<(), Fail> {
         calls_left: 2,
     });
     let mut sink = sink_in_steps(rt.alloc(), 1_000, 2);
-    assert_eq!(rt; run(rt.alloc(), &mut source, &mut sink)?.status(), 0);
-    assert_eq!(rt; sink.written.as_slice(), ANSWERS.as_bytes());
+    assert!(rt; run(rt.alloc(), &mut source, &mut sink)?.status() == 0);
+    assert!(rt; sink.written.as_slice() == ANSWERS.as_bytes());
     let again = run(rt.alloc(), &mut source, &mut sink);
-    assert_eq!(rt; again.err(), Some(RunError::Read));
+    assert!(rt; again.err() == Some(RunError::Read));
     assert!(rt; source.failed());
-    assert_eq!(rt; sink.written.as_slice(), ANSWERS.as_bytes());
+    assert!(rt; sink.written.as_slice() == ANSWERS.as_bytes());
     Ok(())
 }
 
@@ -253,15 +251,12 @@ fn interrupted_writes_are_made_again(rt: HostRuntime) -> Result<(), Fail> {
         is_quiet: false,
         calls_left: 2,
     });
-    assert_eq!(rt;
-        run(rt.alloc(), &mut source_in_steps(1_000, 10), &mut sink)?.status(),
-        0
-    );
+    assert!(rt; run(rt.alloc(), &mut source_in_steps(1_000, 10), &mut sink)?.status() == 0);
     let again = run(rt.alloc(), &mut source_in_steps(1_000, 10), &mut sink);
-    assert_eq!(rt; again.err(), Some(RunError::Write));
+    assert!(rt; again.err() == Some(RunError::Write));
     assert!(rt; sink.failed());
     let written = sink.into_inner().inner;
-    assert_eq!(rt; written.as_slice(), ANSWERS.as_bytes());
+    assert!(rt; written.as_slice() == ANSWERS.as_bytes());
     Ok(())
 }
 
@@ -272,9 +267,9 @@ fn a_writer_that_takes_nothing_fails(rt: HostRuntime) -> Result<(), Fail> {
         br#"{"arch":"x86_64","policy":"may","commands":[{"do":"cache"}]}"#.as_slice(),
     );
     let mut sink = Streamed::new(Full);
-    assert_eq!(rt; run(rt.alloc(), &mut empty, &mut sink)?.status(), 0);
+    assert!(rt; run(rt.alloc(), &mut empty, &mut sink)?.status() == 0);
     let ending = run(rt.alloc(), &mut source_in_steps(1_000, 10), &mut sink);
-    assert_eq!(rt; ending.err(), Some(RunError::Write));
+    assert!(rt; ending.err() == Some(RunError::Write));
     assert!(rt; sink.failed());
     Ok(())
 }
@@ -286,11 +281,8 @@ fn errors_say_what_failed(rt: HostRuntime) -> Result<(), Fail> {
         (RunError::Write, "an answer couldn't be written"),
         (RunError::OutOfMemory, "out of memory"),
     ] {
-        assert_eq!(rt; error.to_string(rt.alloc())?.as_str(), text);
+        assert!(rt; error.to_string(rt.alloc())?.as_str() == text);
     }
-    assert_eq!(rt;
-        StreamError.to_string(rt.alloc())?.as_str(),
-        "a stream failed"
-    );
+    assert!(rt; StreamError.to_string(rt.alloc())?.as_str() == "a stream failed");
     Ok(())
 }

@@ -92,9 +92,8 @@ fn walks_end_and_stop(rt: HostRuntime) -> Result<(), Fail> {
     ] {
         let mut session = session_from(rt.alloc(), 0)?;
         let written = walk_text(&mut session, rt.alloc(), limit, words)?;
-        assert_eq!(rt;
-            written.as_str(),
-            text,
+        assert!(rt;
+            written.as_str() == text,
             "of {limit} frames over {words} words"
         );
     }
@@ -114,22 +113,16 @@ fn counts_go_on(rt: HostRuntime) -> Result<(), Fail> {
     ] {
         let _frames = walk_text(&mut session, rt.alloc(), limit, 16)?;
         let written = stats_text(&mut session, rt.alloc())?;
-        assert_eq!(rt; written.as_str(), counts, "behind {limit} frames");
+        assert!(rt; written.as_str() == counts, "behind {limit} frames");
     }
     if session.unwinders() == 1 {
         let written = load(&mut session, rt.alloc(), 0, module(rt.alloc())?)?;
-        assert_eq!(rt; written.text.as_str(), "");
+        assert!(rt; written.text.as_str() == "");
     }
     let frames = walk_text(&mut session, rt.alloc(), 2, 16)?;
-    assert_eq!(rt;
-        frames.as_str(),
-        "frame ip 0x101002\nframe ra 0x100300\nlimit\n"
-    );
+    assert!(rt; frames.as_str() == "frame ip 0x101002\nframe ra 0x100300\nlimit\n");
     let written = stats_text(&mut session, rt.alloc())?;
-    assert_eq!(rt;
-        written.as_str(),
-        "stats hits 4 empty 3 modules 1 addresses 0\n"
-    );
+    assert!(rt; written.as_str() == "stats hits 4 empty 3 modules 1 addresses 0\n");
     Ok(())
 }
 
@@ -156,12 +149,12 @@ fn refused_without_a_number(rt: HostRuntime) -> Result<(), Fail> {
     if session.unwinders() == 1 {
         let written = unload(&mut session, rt.alloc(), 0, 0x100001)?;
         assert!(rt; !written.is_refused);
-        assert_eq!(rt; written.text.as_str(), "");
+        assert!(rt; written.text.as_str() == "");
     }
     if session.unwinders() == 1 {
         let written = clone_unwinder(&mut session, rt.alloc(), 0)?;
         assert!(rt; !written.is_refused);
     }
-    assert_eq!(rt; session.unwinders(), 2);
+    assert!(rt; session.unwinders() == 2);
     Ok(())
 }

@@ -354,14 +354,11 @@ fn refused_commands_do_nothing(rt: HostRuntime) -> Result<(), Fail> {
                     shown = answer;
                 }
                 if shown == REFUSED {
-                    assert_eq!(rt;
-                        (session.unwinders(), session.caches()),
-                        (unwinders, caches)
-                    );
+                    assert!(rt; (session.unwinders(), session.caches()) == (unwinders, caches));
                 }
             }
         }
-        assert_eq!(rt; shown, wanted);
+        assert!(rt; shown == wanted);
     }
     Ok(())
 }
@@ -381,10 +378,10 @@ fn each_cache_counts_its_own_look_ups(rt: HostRuntime) -> Result<(), Fail> {
             return Err(Fail::new("OutOfMemory"));
         }
     }
-    assert_eq!(rt; session.caches(), 2);
+    assert!(rt; session.caches() == 2);
     if session.caches() == 2 {
-        assert_eq!(rt; counts(session.stats(0)), (1, 1, 0, 0));
-        assert_eq!(rt; counts(session.stats(1)), (1, 2, 1, 0));
+        assert!(rt; counts(session.stats(0)) == (1, 1, 0, 0));
+        assert!(rt; counts(session.stats(1)) == (1, 2, 1, 0));
     }
     Ok(())
 }
@@ -396,14 +393,14 @@ fn commands_are_answered_as_without_caches(rt: HostRuntime) -> Result<(), Fail> 
     let (mut commands, wanted) = script(alloc, 3000, |at: u64| word_at(at))?;
     let mut session: Session<Toy> = Session::new(alloc, Generations::new());
     let answers = perform(alloc, &mut session, &mut commands)?;
-    assert_eq!(rt; answers.len(), 3000);
+    assert!(rt; answers.len() == 3000);
     for (answer, wanted) in answers.iter().zip(&wanted) {
         let wanted = match *wanted {
             Shown::Stepped(Err(Error::OutOfMemory), _, _) => REFUSED,
             Shown::Moved(Err(Error::OutOfMemory), _, _) => REFUSED,
             wanted => wanted,
         };
-        assert_eq!(rt; as_shown(*answer), wanted);
+        assert!(rt; as_shown(*answer) == wanted);
     }
     Ok(())
 }

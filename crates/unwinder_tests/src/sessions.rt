@@ -79,15 +79,9 @@ fn a_second_step_hits(rt: HostRuntime) -> Result<(), Fail> {
     let alloc = rt.alloc();
     let mut session = session_of(alloc, 1, 1)?;
     load(alloc, &mut session, 0, Said::StubRule)?;
-    assert_eq!(rt;
-        step(&mut session, 0, 0, first(0x101000), 0x10, 0x20),
-        Some(J)
-    );
-    assert_eq!(rt;
-        step(&mut session, 0, 0, first(0x101000), 0x10, 0x20),
-        Some(J)
-    );
-    assert_eq!(rt; stats(&session, 0), Some((1, 1, 0, 0)));
+    assert!(rt; step(&mut session, 0, 0, first(0x101000), 0x10, 0x20) == Some(J));
+    assert!(rt; step(&mut session, 0, 0, first(0x101000), 0x10, 0x20) == Some(J));
+    assert!(rt; stats(&session, 0) == Some((1, 1, 0, 0)));
     Ok(())
 }
 
@@ -98,10 +92,7 @@ fn a_rule_of_unloaded_modules_is_not_found(rt: HostRuntime) -> Result<(), Fail> 
     let alloc = rt.alloc();
     let mut session = session_of(alloc, 1, 1)?;
     load(alloc, &mut session, 0, Said::NoCaller)?;
-    assert_eq!(rt;
-        step(&mut session, 0, 0, first(0x101001), 0x10, 0x20),
-        Some(K)
-    );
+    assert!(rt; step(&mut session, 0, 0, first(0x101001), 0x10, 0x20) == Some(K));
     if session.unwinders() == 1 {
         assert!(rt; session.unload(0, 0x100000).is_ok());
     }
@@ -109,11 +100,8 @@ fn a_rule_of_unloaded_modules_is_not_found(rt: HostRuntime) -> Result<(), Fail> 
     if session.unwinders() == 1 {
         loaded(session.load(0, there))?;
     }
-    assert_eq!(rt;
-        step(&mut session, 0, 0, first(0x101001), 0x10, 0x20),
-        Some(J)
-    );
-    assert_eq!(rt; stats(&session, 0), Some((0, 1, 1, 0)));
+    assert!(rt; step(&mut session, 0, 0, first(0x101001), 0x10, 0x20) == Some(J));
+    assert!(rt; stats(&session, 0) == Some((0, 1, 1, 0)));
     Ok(())
 }
 
@@ -127,12 +115,9 @@ fn what_a_frame_decides_is_not_kept(rt: HostRuntime) -> Result<(), Fail> {
         let mut session = session_of(alloc, 1, 1)?;
         load(alloc, &mut session, 0, said)?;
         for _ in 0..2 {
-            assert_eq!(rt;
-                step(&mut session, 0, 0, first(0x101000), 0x10, 0x20),
-                Some(stepped)
-            );
+            assert!(rt; step(&mut session, 0, 0, first(0x101000), 0x10, 0x20) == Some(stepped));
         }
-        assert_eq!(rt; stats(&session, 0), Some((0, 2, 0, 0)));
+        assert!(rt; stats(&session, 0) == Some((0, 2, 0, 0)));
     }
     Ok(())
 }
@@ -146,13 +131,10 @@ fn kinds_of_frames_have_keys_of_their_own(rt: HostRuntime) -> Result<(), Fail> {
     let Some(later) = FrameAddress::from_return_address(0x101001) else {
         return Err(Fail::new("no frame"));
     };
-    assert_eq!(rt;
-        step(&mut session, 0, 0, first(0x101000), 0x10, 0x20),
-        Some(J)
-    );
-    assert_eq!(rt; step(&mut session, 0, 0, later, 0x10, 0x20), Some(J));
-    assert_eq!(rt; step(&mut session, 0, 0, later, 0x10, 0x20), Some(J));
-    assert_eq!(rt; stats(&session, 0), Some((1, 1, 0, 1)));
+    assert!(rt; step(&mut session, 0, 0, first(0x101000), 0x10, 0x20) == Some(J));
+    assert!(rt; step(&mut session, 0, 0, later, 0x10, 0x20) == Some(J));
+    assert!(rt; step(&mut session, 0, 0, later, 0x10, 0x20) == Some(J));
+    assert!(rt; stats(&session, 0) == Some((1, 1, 0, 1)));
     Ok(())
 }
 
@@ -165,26 +147,14 @@ fn clones_share_what_was_kept(rt: HostRuntime) -> Result<(), Fail> {
     if session.unwinders() == 1 {
         session.clone_unwinder(alloc, 0)?;
     }
-    assert_eq!(rt;
-        step(&mut session, 0, 0, first(0x101000), 0x10, 0x20),
-        Some(J)
-    );
-    assert_eq!(rt;
-        step(&mut session, 1, 0, first(0x101000), 0x10, 0x20),
-        Some(J)
-    );
+    assert!(rt; step(&mut session, 0, 0, first(0x101000), 0x10, 0x20) == Some(J));
+    assert!(rt; step(&mut session, 1, 0, first(0x101000), 0x10, 0x20) == Some(J));
     if session.unwinders() == 2 {
         assert!(rt; session.unload(1, 0x100000).is_ok());
     }
-    assert_eq!(rt;
-        step(&mut session, 1, 0, first(0x101000), 0x10, 0x20),
-        Some(K)
-    );
-    assert_eq!(rt;
-        step(&mut session, 0, 0, first(0x101000), 0x10, 0x20),
-        Some(J)
-    );
-    assert_eq!(rt; stats(&session, 0), Some((1, 1, 2, 0)));
+    assert!(rt; step(&mut session, 1, 0, first(0x101000), 0x10, 0x20) == Some(K));
+    assert!(rt; step(&mut session, 0, 0, first(0x101000), 0x10, 0x20) == Some(J));
+    assert!(rt; stats(&session, 0) == Some((1, 1, 2, 0)));
     Ok(())
 }
 
@@ -193,24 +163,24 @@ fn clones_share_what_was_kept(rt: HostRuntime) -> Result<(), Fail> {
 fn generations_come_to_an_end(rt: HostRuntime) -> Result<(), Fail> {
     let alloc = rt.alloc();
     let mut generations = Generations::starting_at(u64::MAX - 1);
-    assert_eq!(rt; generations.left(), 1);
+    assert!(rt; generations.left() == 1);
     let Ok(mut unwinder) = UnwinderInternal::<Toy>::new(alloc, &mut generations) else {
         return Err(Fail::new("no unwinder"));
     };
-    assert_eq!(rt; generations.left(), 0);
+    assert!(rt; generations.left() == 0);
     let refused = module(alloc, 0x100000, 0x102000, 0x1000, Said::StubRule)?;
     match unwinder.add_module(&mut generations, refused) {
         Err(LoadError::GenerationsExhausted(module)) => {
-            assert_eq!(rt; module.base_avma(), 0x100000);
-            assert_eq!(rt; module.avma_range().end, 0x102000);
-            assert_eq!(rt; module.name(), "m");
+            assert!(rt; module.base_avma() == 0x100000);
+            assert!(rt; module.avma_range().end == 0x102000);
+            assert!(rt; module.name() == "m");
         }
         _ => return Err(Fail::new("not refused")),
     }
-    assert_eq!(rt; unwinder.max_known_code_address(), 0);
-    assert_eq!(rt; unwinder.remove_module(&mut generations, 0x100000), Ok(()));
+    assert!(rt; unwinder.max_known_code_address() == 0);
+    assert!(rt; unwinder.remove_module(&mut generations, 0x100000) == Ok(()));
     assert!(rt; UnwinderInternal::<Toy>::new(alloc, &mut generations).is_err());
-    assert_eq!(rt; generations.try_take(), Err(GenerationsExhausted));
+    assert!(rt; generations.try_take() == Err(GenerationsExhausted));
     Ok(())
 }
 
@@ -229,22 +199,13 @@ fn equal_starts_and_ends(rt: HostRuntime) -> Result<(), Fail> {
             loaded(session.load(0, module))?;
         }
     }
-    assert_eq!(rt;
-        step(&mut session, 0, 0, first(0x100000), 0x10, 0x20),
-        Some(J)
-    );
-    assert_eq!(rt;
-        step(&mut session, 0, 0, first(0x100001), 0x10, 0x20),
-        Some(K)
-    );
+    assert!(rt; step(&mut session, 0, 0, first(0x100000), 0x10, 0x20) == Some(J));
+    assert!(rt; step(&mut session, 0, 0, first(0x100001), 0x10, 0x20) == Some(K));
     if session.unwinders() == 1 {
         assert!(rt; session.unload(0, 0x100000).is_ok());
     }
-    assert_eq!(rt;
-        step(&mut session, 0, 0, first(0x100000), 0x10, 0x20),
-        Some(K)
-    );
-    assert_eq!(rt; stats(&session, 0), Some((0, 2, 1, 0)));
+    assert!(rt; step(&mut session, 0, 0, first(0x100000), 0x10, 0x20) == Some(K));
+    assert!(rt; stats(&session, 0) == Some((0, 2, 1, 0)));
     Ok(())
 }
 
@@ -307,7 +268,7 @@ fn shared_caches_answer_as_new_ones(rt: HostRuntime) -> Result<(), Fail> {
                 sp,
                 bp,
             );
-            assert_eq!(rt; stepped, Some((wanted, regs.sp(), regs.bp())));
+            assert!(rt; stepped == Some((wanted, regs.sp(), regs.bp())));
         }
     }
     Ok(())

@@ -27,21 +27,21 @@ fn walks_to_the_end(rt: HostRuntime) -> Result<(), Fail> {
     };
     let there = module(alloc, 0x100000, 0x102000, 0x1000, Said::StubRule)?;
     loaded(unwinder.add_module(&mut generations, there))?;
-    assert_eq!(rt; unwinder.max_known_code_address(), 0x102000);
+    assert!(rt; unwinder.max_known_code_address() == 0x102000);
     let mut cache = Cache::new(alloc, ())?;
     for _ in 0..2 {
         let mut read_stack = |at: u64| word_at(at);
         let regs = UnwindRegsX86_64::new(0x101000, 0x10, 0x20);
         let mut frames = unwinder.iter_frames(0x101000, regs, &mut cache, &mut read_stack);
-        assert_eq!(rt; frames.next(), Ok(Some(first(0x101000))));
-        assert_eq!(rt; frames.next(), Ok(later(0x100300)));
-        assert_eq!(rt; frames.next(), Ok(later(0x100200)));
-        assert_eq!(rt; frames.next(), Ok(later(0x100100)));
-        assert_eq!(rt; frames.next(), Ok(None));
-        assert_eq!(rt; frames.next(), Ok(None));
+        assert!(rt; frames.next() == Ok(Some(first(0x101000))));
+        assert!(rt; frames.next() == Ok(later(0x100300)));
+        assert!(rt; frames.next() == Ok(later(0x100200)));
+        assert!(rt; frames.next() == Ok(later(0x100100)));
+        assert!(rt; frames.next() == Ok(None));
+        assert!(rt; frames.next() == Ok(None));
     }
-    assert_eq!(rt; cache.stats().hits(), 4);
-    assert_eq!(rt; cache.stats().misses(), 4);
+    assert!(rt; cache.stats().hits() == 4);
+    assert!(rt; cache.stats().misses() == 4);
     Ok(())
 }
 
@@ -64,8 +64,8 @@ fn walks_by_moves_of_a_session(rt: HostRuntime) -> Result<(), Fail> {
     ] {
         if session.unwinders() == 1 && session.caches() == 1 {
             let answer = session.next_frame(0, 0, &mut walk, &mut read_stack);
-            assert_eq!(rt; answer, Ok(frame));
-            assert_eq!(rt; walk.regs().sp(), sp);
+            assert!(rt; answer == Ok(frame));
+            assert!(rt; walk.regs().sp() == sp);
         }
     }
     let mut walk = StackWalk::new(0x101000, UnwindRegsX86_64::new(0x101000, 0x10, 0x1000));
@@ -75,10 +75,7 @@ fn walks_by_moves_of_a_session(rt: HostRuntime) -> Result<(), Fail> {
         Err(Error::CouldNotReadStack(0x1000)),
     ] {
         if session.unwinders() == 1 && session.caches() == 1 {
-            assert_eq!(rt;
-                session.next_frame(0, 0, &mut walk, &mut read_stack),
-                answer
-            );
+            assert!(rt; session.next_frame(0, 0, &mut walk, &mut read_stack) == answer);
         }
     }
     Ok(())
@@ -99,9 +96,9 @@ fn return_addresses_of_0_are_refused(rt: HostRuntime) -> Result<(), Fail> {
     let mut read_stack = |at: u64| word_at(at);
     let regs = UnwindRegsX86_64::new(0x101000, 0x10, 0x20);
     let mut frames = unwinder.iter_frames(0x101000, regs, &mut cache, &mut read_stack);
-    assert_eq!(rt; frames.next(), Ok(Some(first(0x101000))));
-    assert_eq!(rt; frames.next(), Err(Error::ReturnAddressIsNull));
-    assert_eq!(rt; frames.next(), Err(Error::ReturnAddressIsNull));
+    assert!(rt; frames.next() == Ok(Some(first(0x101000))));
+    assert!(rt; frames.next() == Err(Error::ReturnAddressIsNull));
+    assert!(rt; frames.next() == Err(Error::ReturnAddressIsNull));
     Ok(())
 }
 
@@ -120,10 +117,10 @@ fn walks_on_aarch64(rt: HostRuntime) -> Result<(), Fail> {
     let mut read_stack = |at: u64| word_at(at);
     let regs = UnwindRegsAarch64::new(0x100300, 0x10, 0x20);
     let mut frames = unwinder.iter_frames(0x101000, regs, &mut cache, &mut read_stack);
-    assert_eq!(rt; frames.next(), Ok(Some(first(0x101000))));
-    assert_eq!(rt; frames.next(), Ok(later(0x100300)));
-    assert_eq!(rt; frames.next(), Ok(later(0x100200)));
-    assert_eq!(rt; frames.next(), Ok(later(0x100100)));
-    assert_eq!(rt; frames.next(), Ok(None));
+    assert!(rt; frames.next() == Ok(Some(first(0x101000))));
+    assert!(rt; frames.next() == Ok(later(0x100300)));
+    assert!(rt; frames.next() == Ok(later(0x100200)));
+    assert!(rt; frames.next() == Ok(later(0x100100)));
+    assert!(rt; frames.next() == Ok(None));
     Ok(())
 }

@@ -38,26 +38,27 @@ impl<H: Abort> ReaderTest<H> for RefusalTest {
             sized(8),
         )?;
         for _ in 0..3 {
-            assert_eq!(rt; evaluation.evaluate(), Err(self.0));
-            assert_eq!(rt; evaluation.value_result(), None);
+            assert!(rt; evaluation.evaluate() == Err(self.0));
+            assert!(rt; evaluation.value_result() == None);
         }
         if evaluation.evaluate().is_err() {
             let answer = evaluation.resume_with_register(Value::Generic(1));
-            assert_eq!(rt; answer, Err(self.0));
+            assert!(rt; answer == Err(self.0));
         }
         Ok(())
     }
 }
 
+static REFUSALS: [(&[u8], Error); 4] = [
+    (b"\x2f\xfd\xff", Error::TooManyIterations),
+    (b"\x31\x30\x1d", Error::DivisionByZero),
+    (b"\x31\x13\x13", Error::NotEnoughStackItems),
+    (b"\x31\x2f\xff\x7f", Error::BadBranchTarget(0x8003)),
+];
+
 #[test]
 fn a_refusal_stays(rt: HostRuntime) -> Outcome {
-    let rows: [(&[u8], Error); 4] = [
-        (b"\x2f\xfd\xff", Error::TooManyIterations),
-        (b"\x31\x30\x1d", Error::DivisionByZero),
-        (b"\x31\x13\x13", Error::NotEnoughStackItems),
-        (b"\x31\x2f\xff\x7f", Error::BadBranchTarget(0x8003)),
-    ];
-    for (bytes, error) in rows {
+    for &(bytes, error) in &REFUSALS {
         let test = RefusalTest(error);
         over_each_reader(&rt, rt.alloc(), &test, bytes, RunTimeEndian::Little)?;
     }
@@ -73,9 +74,9 @@ struct CapacityTest {
 
 impl<H: Abort> ReaderTest<H> for CapacityTest {
     fn run<R: Reader>(&self, rt: &H, alloc: Global, reader: R) -> Outcome {
-        assert_eq!(rt; value_of::<R, Fixed>(alloc, reader, 8), self.of_64);
-        assert_eq!(rt; value_of::<R, Reserved>(alloc, reader, 8), self.of_64);
-        assert_eq!(rt; value_of::<R, StoreOnHeap>(alloc, reader, 8), self.growing);
+        assert!(rt; value_of::<R, Fixed>(alloc, reader, 8) == self.of_64);
+        assert!(rt; value_of::<R, Reserved>(alloc, reader, 8) == self.of_64);
+        assert!(rt; value_of::<R, StoreOnHeap>(alloc, reader, 8) == self.growing);
         Ok(())
     }
 }
@@ -111,12 +112,12 @@ fn want_of_memory_stays(rt: HostRuntime) -> Outcome {
     );
     let mut evaluation = made?;
     if evaluation.evaluate().is_ok() {
-        assert_eq!(rt; evaluation.value_result(), Some(0));
+        assert!(rt; evaluation.value_result() == Some(0));
         return Ok(());
     }
     for _ in 0..3 {
-        assert_eq!(rt; evaluation.evaluate(), Err(Error::OutOfMemory));
-        assert_eq!(rt; evaluation.value_result(), None);
+        assert!(rt; evaluation.evaluate() == Err(Error::OutOfMemory));
+        assert!(rt; evaluation.value_result() == None);
     }
     Ok(())
 }

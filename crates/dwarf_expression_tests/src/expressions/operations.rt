@@ -19,13 +19,13 @@ impl<H: Abort> ReaderTest<H> for OperationsTest<'_> {
     fn run<R: Reader>(&self, rt: &H, _alloc: Global, reader: R) -> Outcome {
         let mut operations = Expression(reader).operations(sized(8));
         for operation in self.operations {
-            assert_eq!(rt; operations.next(), Ok(Some(*operation)));
+            assert!(rt; operations.next() == Ok(Some(*operation)));
         }
         if let Some(fault) = self.fault {
-            assert_eq!(rt; operations.next(), Err(fault));
+            assert!(rt; operations.next() == Err(fault));
         }
-        assert_eq!(rt; operations.next(), Ok(None));
-        assert_eq!(rt; operations.next(), Ok(None));
+        assert!(rt; operations.next() == Ok(None));
+        assert!(rt; operations.next() == Ok(None));
         Ok(())
     }
 }
@@ -60,6 +60,35 @@ fn operations_in_the_order_of_their_bytes(rt: HostRuntime) -> Outcome {
 }
 
 // Table 7.9 of DWARF 5: the operations without operands, by their opcodes.
+static WITHOUT_OPERANDS: [Operation; 26] = [
+    Operation::Pick { index: 0 },
+    Operation::Drop,
+    Operation::Pick { index: 1 },
+    Operation::Swap,
+    Operation::Rot,
+    Operation::Abs,
+    Operation::And,
+    Operation::Div,
+    Operation::Minus,
+    Operation::Mod,
+    Operation::Mul,
+    Operation::Neg,
+    Operation::Not,
+    Operation::Or,
+    Operation::Plus,
+    Operation::Shl,
+    Operation::Shr,
+    Operation::Shra,
+    Operation::Xor,
+    Operation::Eq,
+    Operation::Ge,
+    Operation::Gt,
+    Operation::Le,
+    Operation::Lt,
+    Operation::Ne,
+    Operation::Nop,
+];
+
 #[test]
 fn operations_without_operands(rt: HostRuntime) -> Outcome {
     let bytes = [
@@ -67,40 +96,39 @@ fn operations_without_operands(rt: HostRuntime) -> Outcome {
         0x24, 0x25, 0x26, 0x27, 0x29, 0x2a, 0x2b, 0x2c, 0x2d, 0x2e, 0x96,
     ];
     let test = OperationsTest {
-        operations: &[
-            Operation::Pick { index: 0 },
-            Operation::Drop,
-            Operation::Pick { index: 1 },
-            Operation::Swap,
-            Operation::Rot,
-            Operation::Abs,
-            Operation::And,
-            Operation::Div,
-            Operation::Minus,
-            Operation::Mod,
-            Operation::Mul,
-            Operation::Neg,
-            Operation::Not,
-            Operation::Or,
-            Operation::Plus,
-            Operation::Shl,
-            Operation::Shr,
-            Operation::Shra,
-            Operation::Xor,
-            Operation::Eq,
-            Operation::Ge,
-            Operation::Gt,
-            Operation::Le,
-            Operation::Lt,
-            Operation::Ne,
-            Operation::Nop,
-        ],
+        operations: &WITHOUT_OPERANDS,
         fault: None,
     };
     over_each_reader(&rt, rt.alloc(), &test, &bytes, RunTimeEndian::Little)
 }
 
 // .. those with operands, first and last of a row of opcodes.
+static WITH_OPERANDS: [Operation; 12] = [
+    Operation::Address {
+        address: 0x0807_0605_0403_0201,
+    },
+    Operation::UnsignedConstant { value: 0 },
+    Operation::UnsignedConstant { value: 31 },
+    Operation::UnsignedConstant { value: 128 },
+    Operation::SignedConstant { value: -1 },
+    Operation::Pick { index: 2 },
+    Operation::PlusConstant { value: 129 },
+    Operation::Bra { target: -3 },
+    Operation::Skip { target: 256 },
+    Operation::RegisterOffset {
+        register: Register(0),
+        offset: -1,
+    },
+    Operation::RegisterOffset {
+        register: Register(31),
+        offset: 1,
+    },
+    Operation::RegisterOffset {
+        register: Register(144),
+        offset: -8,
+    },
+];
+
 #[test]
 fn operations_with_operands(rt: HostRuntime) -> Outcome {
     let bytes = [
@@ -109,31 +137,7 @@ fn operations_with_operands(rt: HostRuntime) -> Outcome {
         0x78,
     ];
     let test = OperationsTest {
-        operations: &[
-            Operation::Address {
-                address: 0x0807_0605_0403_0201,
-            },
-            Operation::UnsignedConstant { value: 0 },
-            Operation::UnsignedConstant { value: 31 },
-            Operation::UnsignedConstant { value: 128 },
-            Operation::SignedConstant { value: -1 },
-            Operation::Pick { index: 2 },
-            Operation::PlusConstant { value: 129 },
-            Operation::Bra { target: -3 },
-            Operation::Skip { target: 256 },
-            Operation::RegisterOffset {
-                register: Register(0),
-                offset: -1,
-            },
-            Operation::RegisterOffset {
-                register: Register(31),
-                offset: 1,
-            },
-            Operation::RegisterOffset {
-                register: Register(144),
-                offset: -8,
-            },
-        ],
+        operations: &WITH_OPERANDS,
         fault: None,
     };
     over_each_reader(&rt, rt.alloc(), &test, &bytes, RunTimeEndian::Little)
@@ -162,42 +166,36 @@ fn other_opcodes(rt: HostRuntime) -> Outcome {
     Ok(())
 }
 
+static TEXTS: [(Operation, &str); 4] = [
+    (Operation::Rot, "Rot"),
+    (Operation::Pick { index: 1 }, "Pick { index: 1 }"),
+    (
+        Operation::SignedConstant { value: -1 },
+        "SignedConstant { value: -1 }",
+    ),
+    (
+        Operation::RegisterOffset {
+            register: Register(7),
+            offset: 8,
+        },
+        "RegisterOffset { register: Register(7), offset: 8 }",
+    ),
+];
+
 #[test]
 fn texts(rt: HostRuntime) -> Outcome {
     let alloc = rt.alloc();
-    let operations = [
-        (Operation::Rot, "Rot"),
-        (Operation::Pick { index: 1 }, "Pick { index: 1 }"),
-        (
-            Operation::SignedConstant { value: -1 },
-            "SignedConstant { value: -1 }",
-        ),
-        (
-            Operation::RegisterOffset {
-                register: Register(7),
-                offset: 8,
-            },
-            "RegisterOffset { register: Register(7), offset: 8 }",
-        ),
-    ];
-    for (operation, text) in operations {
-        assert_eq!(rt; format!(in alloc; "{operation:?}")?.as_str(), text);
+    for &(operation, text) in &TEXTS {
+        assert!(rt; format!(in alloc; "{operation:?}")?.as_str() == text);
     }
     let answer = EvaluationResult::RequiresRegister {
         register: Register(16),
     };
-    assert_eq!(rt;
-        format!(in alloc; "{answer:?}")?.as_str(),
-        "RequiresRegister { register: Register(16) }"
+    assert!(rt;
+        format!(in alloc; "{answer:?}")?.as_str() == "RequiresRegister { register: Register(16) }"
     );
-    assert_eq!(rt;
-        format!(in alloc; "{:?}", Value::Generic(5))?.as_str(),
-        "Generic(5)"
-    );
-    assert_eq!(rt;
-        format!(in alloc; "{:?}", PushError::CapacityFull)?.as_str(),
-        "CapacityFull"
-    );
+    assert!(rt; format!(in alloc; "{:?}", Value::Generic(5))?.as_str() == "Generic(5)");
+    assert!(rt; format!(in alloc; "{:?}", PushError::CapacityFull)?.as_str() == "CapacityFull");
     let expression = Expression(EndianSlice::new(&[0x31], LittleEndian));
     let text = format!(in alloc; "{expression:?}")?;
     assert!(rt; text.as_str().starts_with("Expression("));

@@ -51,7 +51,7 @@ struct RegistersTest {
 impl<H: Abort> ReaderTest<H> for RegistersTest {
     fn run<R: Reader>(&self, rt: &H, alloc: Global, reader: R) -> Outcome {
         let value = value_with_registers(alloc, reader, self.registers);
-        assert_eq!(rt; value, self.want);
+        assert!(rt; value == self.want);
         Ok(())
     }
 }
@@ -75,6 +75,16 @@ fn places_of_a_plt_entry(rt: HostRuntime) -> Outcome {
     Ok(())
 }
 
+static BUILT: [(&[u8], Result<u64>); 5] = [
+    // __restore_rt of libc: where the return address and R8 are, and its CFA, which is read.
+    (b"\x77\xa8\x01", Ok(0x70a8)),
+    (b"\x77\x28", Ok(0x7028)),
+    (b"\x77\xa0\x01\x06", Err(Error::UnsupportedEvaluation)),
+    // A realigned stack: where RBP is, and the place of the CFA.
+    (b"\x76\x00", Ok(0x7100)),
+    (b"\x76\x78", Ok(0x70f8)),
+];
+
 #[test]
 fn expressions_of_libc_and_gcc(rt: HostRuntime) -> Outcome {
     let registers = Registers {
@@ -82,16 +92,7 @@ fn expressions_of_libc_and_gcc(rt: HostRuntime) -> Outcome {
         bp: 0x7100,
         ip: 0x1020,
     };
-    let rows: [(&[u8], Result<u64>); 5] = [
-        // __restore_rt of libc: where the return address and R8 are, and its CFA, which is read.
-        (b"\x77\xa8\x01", Ok(0x70a8)),
-        (b"\x77\x28", Ok(0x7028)),
-        (b"\x77\xa0\x01\x06", Err(Error::UnsupportedEvaluation)),
-        // A realigned stack: where RBP is, and the place of the CFA.
-        (b"\x76\x00", Ok(0x7100)),
-        (b"\x76\x78", Ok(0x70f8)),
-    ];
-    for (bytes, want) in rows {
+    for &(bytes, want) in &BUILT {
         let test = RegistersTest { registers, want };
         over_each_reader(&rt, rt.alloc(), &test, bytes, RunTimeEndian::Little)?;
     }
@@ -113,29 +114,31 @@ impl<H: Abort> ReaderTest<H> for AskingTest {
         let asked = Ok(EvaluationResult::RequiresRegister {
             register: Register(7),
         });
-        assert_eq!(rt; evaluation.evaluate(), asked);
-        assert_eq!(rt; evaluation.value_result(), None);
+        assert!(rt; evaluation.evaluate() == asked);
+        assert!(rt; evaluation.value_result() == None);
         let again = evaluation.evaluate();
-        assert_eq!(rt; again, asked);
+        assert!(rt; again == asked);
         if let Ok(EvaluationResult::RequiresRegister { .. }) = again {
             let answer = evaluation.resume_with_register(Value::Generic(self.value));
-            assert_eq!(rt; answer, Ok(EvaluationResult::Complete));
+            assert!(rt; answer == Ok(EvaluationResult::Complete));
         }
-        assert_eq!(rt; evaluation.value_result(), Some(self.want));
+        assert!(rt; evaluation.value_result() == Some(self.want));
         Ok(())
     }
 }
 
+// The size of an address, what register 7 has, and the sum.
+static ASKED: [(u8, u64, u64); 5] = [
+    (8, 0x10, 0x18),
+    (8, u64::MAX, 7),
+    (4, 0xffff_fffe, 6),
+    (4, 0x1_0000_0000, 8),
+    (1, 0xff, 7),
+];
+
 #[test]
 fn a_register_is_asked_for(rt: HostRuntime) -> Outcome {
-    let rows = [
-        (8, 0x10, 0x18),
-        (8, u64::MAX, 7),
-        (4, 0xffff_fffe, 6),
-        (4, 0x1_0000_0000, 8),
-        (1, 0xff, 7),
-    ];
-    for (address_size, value, want) in rows {
+    for &(address_size, value, want) in &ASKED {
         let test = AskingTest {
             address_size,
             value,

@@ -7,28 +7,29 @@ use dwarf_expressions::{Evaluation, EvaluationResult, Expression, StoreOnHeap};
 use dwarf_readers::{EndianSlice, LittleEndian, RunTimeEndian};
 use dwarf_tests::{Outcome, over_each_reader};
 
+static VALUES: [(&[u8], Result<u64>); 17] = [
+    (b"\x31\x32\x22", Ok(3)),
+    (b"\x33\x31\x1c", Ok(2)),
+    (b"\x31\x32\x33\x17", Ok(2)),
+    (b"\x31\x32\x33\x17\x13", Ok(1)),
+    (b"\x31\x32\x33\x17\x13\x13", Ok(3)),
+    (b"\x09\xf9\x32\x1b", Ok(0xffff_ffff_ffff_fffd)),
+    (b"\x31\x08\x40\x24", Ok(0)),
+    (b"\x31\x30\x1b", Err(Error::DivisionByZero)),
+    (b"", Err(Error::NotEnoughStackItems)),
+    (b"\x12", Err(Error::NotEnoughStackItems)),
+    (b"\x06", Err(Error::UnsupportedEvaluation)),
+    (b"\x31\x2f\x00\x00", Ok(1)),
+    (b"\x31\x2f\x01\x00", Err(Error::BadBranchTarget(5))),
+    (b"\x2f\xfc\xff", Err(Error::BadBranchTarget(u64::MAX))),
+    (b"\x33\x30\x28\x01\x00\x31", Ok(1)),
+    (b"\x33\x31\x28\x01\x00\x31", Ok(3)),
+    (b"\x08", Err(Error::UnexpectedEof(ReaderOffsetId(1)))),
+];
+
 #[test]
 fn worked_values(rt: HostRuntime) -> Outcome {
-    let rows: [(&[u8], Result<u64>); 17] = [
-        (b"\x31\x32\x22", Ok(3)),
-        (b"\x33\x31\x1c", Ok(2)),
-        (b"\x31\x32\x33\x17", Ok(2)),
-        (b"\x31\x32\x33\x17\x13", Ok(1)),
-        (b"\x31\x32\x33\x17\x13\x13", Ok(3)),
-        (b"\x09\xf9\x32\x1b", Ok(0xffff_ffff_ffff_fffd)),
-        (b"\x31\x08\x40\x24", Ok(0)),
-        (b"\x31\x30\x1b", Err(Error::DivisionByZero)),
-        (b"", Err(Error::NotEnoughStackItems)),
-        (b"\x12", Err(Error::NotEnoughStackItems)),
-        (b"\x06", Err(Error::UnsupportedEvaluation)),
-        (b"\x31\x2f\x00\x00", Ok(1)),
-        (b"\x31\x2f\x01\x00", Err(Error::BadBranchTarget(5))),
-        (b"\x2f\xfc\xff", Err(Error::BadBranchTarget(u64::MAX))),
-        (b"\x33\x30\x28\x01\x00\x31", Ok(1)),
-        (b"\x33\x31\x28\x01\x00\x31", Ok(3)),
-        (b"\x08", Err(Error::UnexpectedEof(ReaderOffsetId(1)))),
-    ];
-    for (bytes, want) in rows {
+    for &(bytes, want) in &VALUES {
         let test = ValueTest {
             address_size: 8,
             want,
@@ -66,11 +67,11 @@ fn sizes_of_addresses(rt: HostRuntime) -> Outcome {
 fn an_expression_within_a_section(rt: HostRuntime) -> Outcome {
     let branch = EndianSlice::new_at(&[0x31, 0x2f, 1, 0], LittleEndian, 0x1000);
     let taken = value_of::<EndianSlice<'_, LittleEndian>, Fixed>(rt.alloc(), branch, 8);
-    assert_eq!(rt; taken, Err(Error::BadBranchTarget(5)));
+    assert!(rt; taken == Err(Error::BadBranchTarget(5)));
     let cut = EndianSlice::new_at(&[0x31, 0x0a, 1], LittleEndian, 0x1000);
     let read = value_of::<EndianSlice<'_, LittleEndian>, Fixed>(rt.alloc(), cut, 8);
     let eof = Error::UnexpectedEof(ReaderOffsetId(0x1002));
-    assert_eq!(rt; read, Err(eof));
+    assert!(rt; read == Err(eof));
     Ok(())
 }
 
@@ -82,10 +83,10 @@ fn a_value_stays(rt: HostRuntime) -> Outcome {
         Expression(reader),
         sized(8),
     )?;
-    assert_eq!(rt; evaluation.value_result(), None);
+    assert!(rt; evaluation.value_result() == None);
     for _ in 0..3 {
-        assert_eq!(rt; evaluation.evaluate(), Ok(EvaluationResult::Complete));
-        assert_eq!(rt; evaluation.value_result(), Some(5));
+        assert!(rt; evaluation.evaluate() == Ok(EvaluationResult::Complete));
+        assert!(rt; evaluation.value_result() == Some(5));
     }
     Ok(())
 }

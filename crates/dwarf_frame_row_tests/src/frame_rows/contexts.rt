@@ -2,6 +2,7 @@
 
 ghost use Rattle.std.proofs.Common.{lit≤};
 
+use crate::line_of;
 use arrayvec::ArrayVec;
 use dwarf_constants::{AArch64, Error, Register};
 use dwarf_frame_rows::{
@@ -36,16 +37,20 @@ impl<T: ReaderOffset> UnwindContextStorage<T> for Growing {
     ghost room = { tt };
 }
 
-// The effects that a program of several parts has, one after the other, up to the first refusal.
-fn run<T: ReaderOffset, S: UnwindContextStorage<T>>(
-    context: &mut UnwindContext<T, S>,
-    effects: &[Effect<T>],
-) -> Result<(), Error> {
-    for effect in effects {
-        context.apply(*effect)?;
-    }
-    Ok(())
+// What a program does to its context, beside the effects of its instructions.
+#[derive(Debug, Clone, Copy)]
+enum Step {
+    Clear,
+    /// Keeps the rules of the CIE.
+    Save,
+    Bounds(u64, u64),
+    /// Rules for the first registers of this number.
+    Rules(u16),
+    By(Effect<u64>),
 }
+
+// A step, and the row behind it as a line of text, or why the step is refused.
+type Row = (Step, &'static str);
 
 // Rules for the first registers of this number.
 fn rule<T: ReaderOffset, S: UnwindContextStorage<T>>(
@@ -58,99 +63,120 @@ fn rule<T: ReaderOffset, S: UnwindContextStorage<T>>(
     Ok(())
 }
 
-// What a program that writes every part, remembers and restores leaves.
-fn parts<S: UnwindContextStorage<u64>>(
-    rt: &impl Abort,
+fn take<S: UnwindContextStorage<u64>>(
     context: &mut UnwindContext<u64, S>,
+    step: Step,
 ) -> Result<(), Error> {
-    let expression = UnwindExpression {
-        offset: 5,
-        length: 2,
-    };
-    context.clear();
-    rule(context, 1)?;
-    context.save_initial_rules()?;
-    context.set_bounds(0x10, 0x20);
-    run(
-        context,
-        &[
-            Effect::Cfa(CfaRule::RegisterAndOffset {
-                register: Register(7),
-                offset: 8,
-            }),
-            Effect::ArgsSize(3),
-            Effect::Remember,
-            Effect::CfaRegister(Register(6)),
-            Effect::CfaOffset(-16),
-            Effect::Rule(Register(0), RegisterRule::ValExpression(expression)),
-            Effect::ArgsSize(4),
-            Effect::Move(0x18),
-            Effect::Nothing,
-        ],
-    )?;
-    context.set_bounds(0x18, 0x30);
-    let row = context.row();
-    assert_eq!(rt;
-        *row.cfa(),
-        CfaRule::RegisterAndOffset {
-            register: Register(6),
-            offset: -16
-        }
-    );
-    assert_eq!(rt;
-        row.register(Register(0)),
-        Some(RegisterRule::ValExpression(expression))
-    );
-    assert_eq!(rt; row.register(Register(1)), None);
-    assert_eq!(rt; row.saved_args_size(), 4);
-    assert!(rt; row.contains(0x18) && row.contains(0x2f) && !row.contains(0x30));
-    run(context, &[Effect::Restore])?;
-    let row = context.row();
-    assert_eq!(rt; row.start_address(), 0x18);
-    assert_eq!(rt; row.end_address(), 0x30);
-    assert_eq!(rt; row.saved_args_size(), 3);
-    assert_eq!(rt; row.register(Register(0)), Some(RegisterRule::Offset(8)));
-    assert_eq!(rt;
-        *row.cfa(),
-        CfaRule::RegisterAndOffset {
-            register: Register(7),
-            offset: 8
-        }
-    );
-    assert_eq!(rt;
-        context.apply(Effect::Restore),
-        Err(Error::PopWithEmptyStack)
-    );
-    run(
-        context,
-        &[
-            Effect::Cfa(CfaRule::Expression(expression)),
-            Effect::Rule(Register(0), RegisterRule::SameValue),
-            Effect::RestoreRule(Register(0)),
-            Effect::RestoreRule(Register(9)),
-        ],
-    )?;
-    assert_eq!(rt;
-        context.row().register(Register(0)),
-        Some(RegisterRule::Offset(8))
-    );
-    assert_eq!(rt;
-        context.apply(Effect::CfaOffset(1)),
-        Err(Error::CfiInstructionInInvalidContext)
-    );
-    assert_eq!(rt;
-        context.apply(Effect::CfaRegister(Register(1))),
-        Err(Error::CfiInstructionInInvalidContext)
-    );
+    match step {
+        Step::Clear => context.clear(),
+        Step::Save => return context.save_initial_rules(),
+        Step::Bounds(start, end) => context.set_bounds(start, end),
+        Step::Rules(registers) => return rule(context, registers),
+        Step::By(effect) => return context.apply(effect),
+    }
     Ok(())
 }
 
+// Takes the steps with a new context, and wants the line of each.
+fn follow<S: UnwindContextStorage<u64>>(
+    rt: &impl Abort,
+    alloc: Global,
+    rows: &[Row],
+) -> Result<(), Fail> {
+    let mut context: UnwindContext<u64, S> = UnwindContext::new_in(alloc)?;
+    for (step, wanted) in rows {
+        let line = match take(&mut context, *step) {
+            Ok(()) => line_of(alloc, context.row())?,
+            Err(error) => format!(in alloc; "{error:?}")?,
+        };
+        assert!(rt; line.as_str() == *wanted, "{step:?}: {line}");
+    }
+    Ok(())
+}
+
+const EXPRESSION: UnwindExpression<u64> = UnwindExpression {
+    offset: 5,
+    length: 2,
+};
+
+// A program that writes every part, remembers and restores.
+static PARTS: [Row; 22] = [
+    (Step::Clear, "0..0 r0,0"),
+    (Step::Rules(1), "0..0 r0,0 0=c8"),
+    (Step::Save, "0..0 r0,0 0=c8"),
+    (Step::Bounds(0x10, 0x20), "10..20 r0,0 0=c8"),
+    (
+        Step::By(Effect::Cfa(CfaRule::RegisterAndOffset {
+            register: Register(7),
+            offset: 8,
+        })),
+        "10..20 r7,8 0=c8",
+    ),
+    (Step::By(Effect::ArgsSize(3)), "10..20 r7,8 0=c8 args=3"),
+    (Step::By(Effect::Remember), "10..20 r7,8 0=c8 args=3"),
+    (
+        Step::By(Effect::CfaRegister(Register(6))),
+        "10..20 r6,8 0=c8 args=3",
+    ),
+    (
+        Step::By(Effect::CfaOffset(-16)),
+        "10..20 r6,-16 0=c8 args=3",
+    ),
+    (
+        Step::By(Effect::Rule(Register(0), RegisterRule::ValExpression(EXPRESSION))),
+        "10..20 r6,-16 0=vexp@5,2 args=3",
+    ),
+    (
+        Step::By(Effect::ArgsSize(4)),
+        "10..20 r6,-16 0=vexp@5,2 args=4",
+    ),
+    (
+        Step::By(Effect::Move(0x18)),
+        "10..20 r6,-16 0=vexp@5,2 args=4",
+    ),
+    (Step::By(Effect::Nothing), "10..20 r6,-16 0=vexp@5,2 args=4"),
+    (Step::Bounds(0x18, 0x30), "18..30 r6,-16 0=vexp@5,2 args=4"),
+    (Step::By(Effect::Restore), "18..30 r7,8 0=c8 args=3"),
+    (Step::By(Effect::Restore), "PopWithEmptyStack"),
+    (
+        Step::By(Effect::Cfa(CfaRule::Expression(EXPRESSION))),
+        "18..30 exp@5,2 0=c8 args=3",
+    ),
+    (
+        Step::By(Effect::Rule(Register(0), RegisterRule::SameValue)),
+        "18..30 exp@5,2 0=s args=3",
+    ),
+    (
+        Step::By(Effect::RestoreRule(Register(0))),
+        "18..30 exp@5,2 0=c8 args=3",
+    ),
+    (
+        Step::By(Effect::RestoreRule(Register(9))),
+        "18..30 exp@5,2 0=c8 args=3",
+    ),
+    (
+        Step::By(Effect::CfaOffset(1)),
+        "CfiInstructionInInvalidContext",
+    ),
+    (
+        Step::By(Effect::CfaRegister(Register(1))),
+        "CfiInstructionInInvalidContext",
+    ),
+];
+
 #[test]
 fn parts_of_a_row(rt: HostRuntime) -> Result<(), Fail> {
-    let mut heap = UnwindContext::new(rt.alloc())?;
-    parts(&rt, &mut heap)?;
-    let mut growing: UnwindContext<u64, Growing> = UnwindContext::new_in(rt.alloc())?;
-    parts(&rt, &mut growing)?;
+    follow::<StoreOnHeap>(&rt, rt.alloc(), &PARTS)?;
+    follow::<Growing>(&rt, rt.alloc(), &PARTS)
+}
+
+#[test]
+fn addresses_of_a_row(rt: HostRuntime) -> Result<(), Fail> {
+    let mut context: UnwindContext<u64, One> = UnwindContext::new_in(rt.alloc())?;
+    context.set_bounds(0x18, 0x30);
+    let row = context.row();
+    assert!(rt; row.contains(0x18) && row.contains(0x2f));
+    assert!(rt; !row.contains(0x17) && !row.contains(0x30));
     Ok(())
 }
 
@@ -159,159 +185,139 @@ fn room_for_192_rules(rt: HostRuntime) -> Result<(), Fail> {
     let mut context: UnwindContext<u64, StoreOnHeap> = UnwindContext::new(rt.alloc())?;
     rule(&mut context, 192)?;
     let more = Effect::Rule(Register(192), RegisterRule::Undefined);
-    assert_eq!(rt; context.apply(more), Err(Error::TooManyRegisterRules));
-    assert_eq!(rt; context.row().register(Register(192)), None);
-    assert_eq!(rt; context.row().registers().count(), 192);
-    context.apply(Effect::Rule(Register(191), RegisterRule::Undefined))?;
-    assert_eq!(rt;
-        context.row().register(Register(191)),
-        Some(RegisterRule::Undefined)
-    );
-    context.clear();
-    assert_eq!(rt; context.row().registers().count(), 0);
+    assert!(rt; context.apply(more) == Err(Error::TooManyRegisterRules));
+    assert!(rt; context.row().registers().count() == 192);
     Ok(())
 }
 
-// How often a row can be remembered behind a CIE of so many rules.
-fn remembered(context: &mut UnwindContext<u64, StoreOnHeap>, rules: u16) -> Result<u16, Error> {
-    context.clear();
-    rule(context, rules)?;
-    context.save_initial_rules()?;
-    for times in 0..9 {
-        match context.apply(Effect::Remember) {
-            Ok(()) => {}
-            Err(Error::StackFull) => return Ok(times),
-            Err(error) => return Err(error),
-        }
-    }
-    Ok(9)
-}
+// Rows are remembered behind no rules of a CIE, one, and two, which take room of their own.
+static REMEMBERED: [Row; 18] = [
+    (Step::Save, "0..0 r0,0"),
+    (Step::By(Effect::Remember), "0..0 r0,0"),
+    (Step::By(Effect::Remember), "0..0 r0,0"),
+    (Step::By(Effect::Remember), "0..0 r0,0"),
+    (Step::By(Effect::Remember), "StackFull"),
+    (Step::Clear, "0..0 r0,0"),
+    (Step::Rules(2), "0..0 r0,0 0=c8 1=c8"),
+    (Step::Save, "0..0 r0,0 0=c8 1=c8"),
+    (Step::By(Effect::Remember), "0..0 r0,0 0=c8 1=c8"),
+    (Step::By(Effect::Remember), "0..0 r0,0 0=c8 1=c8"),
+    (Step::By(Effect::Remember), "StackFull"),
+    (Step::Clear, "0..0 r0,0"),
+    (Step::Rules(1), "0..0 r0,0 0=c8"),
+    (Step::Save, "0..0 r0,0 0=c8"),
+    (Step::By(Effect::Remember), "0..0 r0,0 0=c8"),
+    (Step::By(Effect::Remember), "0..0 r0,0 0=c8"),
+    (Step::By(Effect::Remember), "0..0 r0,0 0=c8"),
+    (Step::By(Effect::Remember), "StackFull"),
+];
 
 #[test]
 fn room_for_4_rows(rt: HostRuntime) -> Result<(), Fail> {
-    let mut context = UnwindContext::new(rt.alloc())?;
-    assert_eq!(rt; remembered(&mut context, 0)?, 3);
-    assert_eq!(rt; remembered(&mut context, 2)?, 2);
-    assert_eq!(rt; remembered(&mut context, 1)?, 3);
-    Ok(())
+    follow::<StoreOnHeap>(&rt, rt.alloc(), &REMEMBERED)
 }
+
+static FULL: [Row; 6] = [
+    (Step::Rules(1), "0..0 r0,0 0=c8"),
+    (
+        Step::By(Effect::Rule(Register(0), RegisterRule::Undefined)),
+        "0..0 r0,0 0=u",
+    ),
+    (Step::Save, "0..0 r0,0 0=u"),
+    (Step::Rules(2), "TooManyRegisterRules"),
+    (Step::By(Effect::Remember), "StackFull"),
+    (Step::By(Effect::Restore), "PopWithEmptyStack"),
+];
 
 #[test]
 fn room_for_one_row_and_one_rule(rt: HostRuntime) -> Result<(), Fail> {
-    let mut context: UnwindContext<u64, One> = UnwindContext::new_in(rt.alloc())?;
-    rule(&mut context, 1)?;
-    context.save_initial_rules()?;
-    assert_eq!(rt; rule(&mut context, 2), Err(Error::TooManyRegisterRules));
-    assert_eq!(rt; context.apply(Effect::Remember), Err(Error::StackFull));
-    assert_eq!(rt;
-        context.apply(Effect::Restore),
-        Err(Error::PopWithEmptyStack)
-    );
-    Ok(())
+    follow::<One>(&rt, rt.alloc(), &FULL)
 }
 
+// The sign state of a return address has the column 34.
+static SIGN_STATES: [Row; 6] = [
+    (Step::By(Effect::NegateRaState), "0..0 r0,0 34=k1"),
+    (Step::By(Effect::NegateRaState), "0..0 r0,0 34=k0"),
+    (Step::By(Effect::NegateRaState), "0..0 r0,0 34=k1"),
+    (
+        Step::By(Effect::Rule(AArch64::RA_SIGN_STATE, RegisterRule::Undefined)),
+        "0..0 r0,0 34=u",
+    ),
+    (
+        Step::By(Effect::NegateRaState),
+        "CfiInstructionInInvalidContext",
+    ),
+    (
+        Step::By(Effect::RestoreRule(Register(1))),
+        "CfiInstructionInInvalidContext",
+    ),
+];
+
 #[test]
-fn sign_state(rt: HostRuntime) -> Result<(), Fail> {
-    let mut context: UnwindContext<u64, StoreOnHeap> = UnwindContext::new(rt.alloc())?;
-    for state in [1, 0, 1] {
-        context.apply(Effect::NegateRaState)?;
-        let rule = context.row().register(AArch64::RA_SIGN_STATE);
-        assert_eq!(rt; rule, Some(RegisterRule::Constant(state)));
-    }
-    context.apply(Effect::Rule(AArch64::RA_SIGN_STATE, RegisterRule::Undefined))?;
-    assert_eq!(rt;
-        context.apply(Effect::NegateRaState),
-        Err(Error::CfiInstructionInInvalidContext)
-    );
-    assert_eq!(rt;
-        context.apply(Effect::RestoreRule(Register(1))),
-        Err(Error::CfiInstructionInInvalidContext)
-    );
-    Ok(())
+fn sign_states(rt: HostRuntime) -> Result<(), Fail> {
+    follow::<StoreOnHeap>(&rt, rt.alloc(), &SIGN_STATES)
 }
+
+// A context is as a new one once it is cleared, behind a program that filled it too.
+static CLEARED: [Row; 9] = [
+    (Step::Rules(2), "0..0 r0,0 0=c8 1=c8"),
+    (Step::Save, "0..0 r0,0 0=c8 1=c8"),
+    (Step::By(Effect::Remember), "0..0 r0,0 0=c8 1=c8"),
+    (Step::By(Effect::ArgsSize(1)), "0..0 r0,0 0=c8 1=c8 args=1"),
+    (Step::By(Effect::Remember), "0..0 r0,0 0=c8 1=c8 args=1"),
+    (Step::By(Effect::Remember), "StackFull"),
+    (Step::Clear, "0..0 r0,0"),
+    (Step::By(Effect::Restore), "PopWithEmptyStack"),
+    (
+        Step::By(Effect::RestoreRule(Register(0))),
+        "CfiInstructionInInvalidContext",
+    ),
+];
 
 #[test]
 fn a_cleared_context_is_a_new_one(rt: HostRuntime) -> Result<(), Fail> {
-    let mut context: UnwindContext<u64, StoreOnHeap> = UnwindContext::new(rt.alloc())?;
-    rule(&mut context, 5)?;
-    context.save_initial_rules()?;
-    run(
-        &mut context,
-        &[Effect::Remember, Effect::ArgsSize(1), Effect::Remember],
-    )?;
-    assert_eq!(rt; context.apply(Effect::Remember), Err(Error::StackFull));
-    context.clear();
-    let row = context.row();
-    assert_eq!(rt; *row.cfa(), CfaRule::default());
-    assert_eq!(rt; row.register(Register(0)), None);
-    assert_eq!(rt; row.saved_args_size(), 0);
-    assert_eq!(rt;
-        context.apply(Effect::Restore),
-        Err(Error::PopWithEmptyStack)
-    );
-    assert_eq!(rt;
-        context.apply(Effect::RestoreRule(Register(0))),
-        Err(Error::CfiInstructionInInvalidContext)
-    );
-    Ok(())
+    follow::<StoreOnHeap>(&rt, rt.alloc(), &CLEARED)
 }
 
-#[test]
-fn texts(rt: HostRuntime) -> Result<(), Fail> {
-    let mut context: UnwindContext<u64, One> = UnwindContext::new_in(rt.alloc())?;
-    context.apply(Effect::Rule(Register(6), RegisterRule::Offset(-16)))?;
-    let text = format!(in rt.alloc(); "{:?}", context.row())?;
-    assert_eq!(rt;
-        text.as_str(),
-        "UnwindTableRow { start_address: 0, end_address: 0, saved_args_size: 0, \
-         cfa: RegisterAndOffset { register: Register(0), offset: 0 }, registers: \
-         RegisterRuleMap { rules: [RuledRegister { register: Register(6), rule: Offset(-16) }], .. } }"
-    );
-    Ok(())
-}
-
-// A CIE with one rule, and a program that restores its register and another one.
-fn restored(context: &mut UnwindContext<u64, StoreOnHeap>) -> Result<(), Error> {
-    context.clear();
-    rule(context, 1)?;
-    context.save_initial_rules()?;
-    run(
-        context,
-        &[
-            Effect::Rule(Register(0), RegisterRule::SameValue),
-            Effect::Rule(Register(1), RegisterRule::SameValue),
-            Effect::RestoreRule(Register(0)),
-            Effect::RestoreRule(Register(1)),
-        ],
-    )
-}
+// A program that is refused, and one of another CIE, which restores a register with a rule there and one without.
+static TWO_CIES: [Row; 14] = [
+    (Step::Rules(3), "0..0 r0,0 0=c8 1=c8 2=c8"),
+    (Step::Save, "0..0 r0,0 0=c8 1=c8 2=c8"),
+    (
+        Step::By(Effect::ArgsSize(5)),
+        "0..0 r0,0 0=c8 1=c8 2=c8 args=5",
+    ),
+    (
+        Step::By(Effect::Remember),
+        "0..0 r0,0 0=c8 1=c8 2=c8 args=5",
+    ),
+    (
+        Step::By(Effect::CfaOffset(24)),
+        "0..0 r0,24 0=c8 1=c8 2=c8 args=5",
+    ),
+    (Step::By(Effect::Restore), "0..0 r0,0 0=c8 1=c8 2=c8 args=5"),
+    (Step::By(Effect::Restore), "PopWithEmptyStack"),
+    (Step::Clear, "0..0 r0,0"),
+    (Step::Rules(1), "0..0 r0,0 0=c8"),
+    (Step::Save, "0..0 r0,0 0=c8"),
+    (
+        Step::By(Effect::Rule(Register(0), RegisterRule::SameValue)),
+        "0..0 r0,0 0=s",
+    ),
+    (
+        Step::By(Effect::Rule(Register(1), RegisterRule::SameValue)),
+        "0..0 r0,0 0=s 1=s",
+    ),
+    (
+        Step::By(Effect::RestoreRule(Register(0))),
+        "0..0 r0,0 0=c8 1=s",
+    ),
+    (Step::By(Effect::RestoreRule(Register(1))), "0..0 r0,0 0=c8"),
+];
 
 #[test]
 fn a_program_behind_a_refused_one_of_another_cie(rt: HostRuntime) -> Result<(), Fail> {
-    let mut context: UnwindContext<u64, StoreOnHeap> = UnwindContext::new(rt.alloc())?;
-    rule(&mut context, 3)?;
-    context.save_initial_rules()?;
-    let refused = run(
-        &mut context,
-        &[
-            Effect::ArgsSize(5),
-            Effect::Remember,
-            Effect::CfaOffset(24),
-            Effect::Restore,
-            Effect::Restore,
-        ],
-    );
-    assert_eq!(rt; refused, Err(Error::PopWithEmptyStack));
-    restored(&mut context)?;
-    let mut new: UnwindContext<u64, StoreOnHeap> = UnwindContext::new(rt.alloc())?;
-    restored(&mut new)?;
-    assert_eq!(rt; context.row() == new.row(), true);
-    assert_eq!(rt; context.row().register(Register(1)), None);
-    assert_eq!(rt;
-        context.row().register(Register(0)),
-        Some(RegisterRule::Offset(8))
-    );
-    Ok(())
+    follow::<StoreOnHeap>(&rt, rt.alloc(), &TWO_CIES)
 }
 
 // Rules for so many registers, and a row remembered behind each. Where memory is wanted, nothing is
@@ -324,11 +330,11 @@ fn rules_and_rows(
     for register in 0..registers {
         let effect = Effect::Rule(Register(register), RegisterRule::Offset(8));
         if let Err(error) = context.apply(effect) {
-            assert_eq!(rt; error, Error::OutOfMemory);
+            assert!(rt; error == Error::OutOfMemory);
             return (register, register);
         }
         if let Err(error) = context.apply(Effect::Remember) {
-            assert_eq!(rt; error, Error::OutOfMemory);
+            assert!(rt; error == Error::OutOfMemory);
             return (register + 1, register);
         }
     }
@@ -339,50 +345,44 @@ fn rules_and_rows(
 fn want_of_memory_changes_nothing(rt: HostRuntime) -> Result<(), Fail> {
     let mut context: UnwindContext<u64, Growing> = UnwindContext::new_in(rt.alloc())?;
     let (rules, rows) = rules_and_rows(&rt, &mut context, 20);
-    assert_eq!(rt; context.row().registers().count(), usize::from(rules));
-    assert_eq!(rt; context.row().register(Register(rules)), None);
+    assert!(rt; context.row().registers().count() == usize::from(rules));
+    assert!(rt; context.row().register(Register(rules)) == None);
     for _ in 0..rows {
         context.apply(Effect::Restore)?;
     }
-    assert_eq!(rt;
-        context.apply(Effect::Restore),
-        Err(Error::PopWithEmptyStack)
-    );
+    assert!(rt; context.apply(Effect::Restore) == Err(Error::PopWithEmptyStack));
     Ok(())
 }
 
 // Wants the text of a value.
 fn shows<T: Debug>(rt: &impl Abort, alloc: Global, value: &T, want: &str) -> Result<(), Fail> {
     let text = format!(in alloc; "{value:?}")?;
-    assert_eq!(rt; text.as_str(), want);
+    assert!(rt; text.as_str() == want);
     Ok(())
 }
 
+static RULES: [(RegisterRule<u64>, &str); 9] = [
+    (RegisterRule::Undefined, "Undefined"),
+    (RegisterRule::SameValue, "SameValue"),
+    (RegisterRule::Offset(-8), "Offset(-8)"),
+    (RegisterRule::ValOffset(16), "ValOffset(16)"),
+    (RegisterRule::Register(Register(3)), "Register(Register(3))"),
+    (
+        RegisterRule::Expression(EXPRESSION),
+        "Expression(UnwindExpression { offset: 5, length: 2 })",
+    ),
+    (
+        RegisterRule::ValExpression(EXPRESSION),
+        "ValExpression(UnwindExpression { offset: 5, length: 2 })",
+    ),
+    (RegisterRule::Architectural, "Architectural"),
+    (RegisterRule::Constant(1), "Constant(1)"),
+];
+
 #[test]
 fn texts_of_rules(rt: HostRuntime) -> Result<(), Fail> {
-    let expression: UnwindExpression<u64> = UnwindExpression {
-        offset: 5,
-        length: 2,
-    };
-    let rows = [
-        (RegisterRule::Undefined, "Undefined"),
-        (RegisterRule::SameValue, "SameValue"),
-        (RegisterRule::Offset(-8), "Offset(-8)"),
-        (RegisterRule::ValOffset(16), "ValOffset(16)"),
-        (RegisterRule::Register(Register(3)), "Register(Register(3))"),
-        (
-            RegisterRule::Expression(expression),
-            "Expression(UnwindExpression { offset: 5, length: 2 })",
-        ),
-        (
-            RegisterRule::ValExpression(expression),
-            "ValExpression(UnwindExpression { offset: 5, length: 2 })",
-        ),
-        (RegisterRule::Architectural, "Architectural"),
-        (RegisterRule::Constant(1), "Constant(1)"),
-    ];
-    for (rule, want) in rows {
-        shows(&rt, rt.alloc(), &rule, want)?;
+    for (rule, want) in &RULES {
+        shows(&rt, rt.alloc(), rule, want)?;
     }
     let cfa: CfaRule<u64> = CfaRule::default();
     shows(
@@ -394,8 +394,22 @@ fn texts_of_rules(rt: HostRuntime) -> Result<(), Fail> {
     shows(
         &rt,
         rt.alloc(),
-        &Effect::Rule(Register(2), RegisterRule::Expression(expression)),
+        &Effect::Rule(Register(2), RegisterRule::Expression(EXPRESSION)),
         "Rule(Register(2), Expression(UnwindExpression { offset: 5, length: 2 }))",
+    )
+}
+
+#[test]
+fn texts_of_rows(rt: HostRuntime) -> Result<(), Fail> {
+    let mut context: UnwindContext<u64, One> = UnwindContext::new_in(rt.alloc())?;
+    context.apply(Effect::Rule(Register(6), RegisterRule::Offset(-16)))?;
+    shows(
+        &rt,
+        rt.alloc(),
+        context.row(),
+        "UnwindTableRow { start_address: 0, end_address: 0, saved_args_size: 0, \
+         cfa: RegisterAndOffset { register: Register(0), offset: 0 }, registers: \
+         RegisterRuleMap { rules: [RuledRegister { register: Register(6), rule: Offset(-16) }], .. } }",
     )
 }
 
@@ -419,10 +433,12 @@ fn rows_are_equal_as_maps(rt: HostRuntime) -> Result<(), Fail> {
     let mut other: UnwindContext<u64, StoreOnHeap> = UnwindContext::new(rt.alloc())?;
     let first = Effect::Rule(Register(1), RegisterRule::Offset(8));
     let second = Effect::Rule(Register(2), RegisterRule::SameValue);
-    run(&mut one, &[first, second])?;
-    run(&mut other, &[second, first])?;
-    assert_eq!(rt; one.row() == other.row(), true);
+    one.apply(first)?;
+    one.apply(second)?;
+    other.apply(second)?;
+    other.apply(first)?;
+    assert!(rt; one.row() == other.row());
     other.apply(Effect::Rule(Register(3), RegisterRule::Undefined))?;
-    assert_eq!(rt; one.row() == other.row(), false);
+    assert!(rt; one.row() != other.row());
     Ok(())
 }

@@ -66,45 +66,55 @@ impl<R: Reader> _UnwindSectionPrivate<R> for Frames<R> {
 
 const SECTION: [u8; 6] = [0x10, 0x11, 0x12, 0x13, 0x14, 0x15];
 
-/// Expressions by their offset and length: the first and the last byte that they have, or the place
-/// at which the section has too few.
+// An expression's offset and length, and its bytes, or the place at which the section has too few.
+static EXPRESSIONS: [(u8, u8, Result<&[u8], u64>); 12] = [
+    (0, 6, Ok(&[0x10, 0x11, 0x12, 0x13, 0x14, 0x15])),
+    (0, 0, Ok(&[])),
+    (0, 1, Ok(&[0x10])),
+    (1, 4, Ok(&[0x11, 0x12, 0x13, 0x14])),
+    (3, 3, Ok(&[0x13, 0x14, 0x15])),
+    (5, 1, Ok(&[0x15])),
+    (6, 0, Ok(&[])),
+    (0, 7, Err(0)),
+    (4, 3, Err(4)),
+    (6, 1, Err(6)),
+    (7, 0, Err(0)),
+    (255, 255, Err(0)),
+];
+
+// Whether the bytes are the ones that are wanted, at this place.
+fn is_wanted<R: Reader>(
+    alloc: Global,
+    found: Result<Expression<R>, Error>,
+    place: u8,
+    wanted: Result<&[u8], u64>,
+) -> Result<bool, Error> {
+    match (found, wanted) {
+        (Ok(Expression(bytes)), Ok(wanted)) => {
+            let place = ReaderOffsetId(u64::from(place));
+            Ok(bytes.offset_id() == place && bytes.to_slice(alloc)?.as_slice() == wanted)
+        }
+        (Err(error), Err(end)) => Ok(error == Error::UnexpectedEof(ReaderOffsetId(end))),
+        _ => Ok(false),
+    }
+}
+
 #[derive(Clone, Copy)]
 struct PlaceTest;
 
 impl<H: Abort> ReaderTest<H> for PlaceTest {
     fn run<R: Reader>(&self, rt: &H, alloc: Global, reader: R) -> Outcome {
         let frames = Frames(reader);
-        for (offset, length, wanted) in [
-            (0, 6, Ok([0x10, 0x11, 0x12, 0x13, 0x14, 0x15].as_slice())),
-            (0, 0, Ok(&[])),
-            (0, 1, Ok(&[0x10])),
-            (1, 4, Ok(&[0x11, 0x12, 0x13, 0x14])),
-            (3, 3, Ok(&[0x13, 0x14, 0x15])),
-            (5, 1, Ok(&[0x15])),
-            (6, 0, Ok(&[])),
-            (0, 7, Err(0)),
-            (4, 3, Err(4)),
-            (6, 1, Err(6)),
-            (7, 0, Err(0)),
-            (255, 255, Err(0)),
-        ] {
+        for (offset, length, wanted) in &EXPRESSIONS {
             let expression = UnwindExpression {
-                offset: R::Offset::from_u8(offset),
-                length: R::Offset::from_u8(length),
+                offset: R::Offset::from_u8(*offset),
+                length: R::Offset::from_u8(*length),
             };
-            match expression.get(&frames) {
-                Ok(Expression(bytes)) => {
-                    let place = ReaderOffsetId(u64::from(offset));
-                    assert_eq!(rt; bytes.offset_id(), place, "{offset} {length}");
-                    let bytes = bytes.to_slice(alloc)?;
-                    assert_eq!(rt; Ok(bytes.as_slice()), wanted, "{offset} {length}");
-                }
-                Err(error) => {
-                    let place = wanted.err().unwrap_or(99);
-                    let ends = Error::UnexpectedEof(ReaderOffsetId(place));
-                    assert_eq!(rt; error, ends, "{offset} {length}");
-                }
-            }
+            let found = expression.get(&frames);
+            assert!(rt;
+                is_wanted(alloc, found, *offset, *wanted)?,
+                "{offset} {length}"
+            );
         }
         Ok(())
     }

@@ -108,7 +108,7 @@ fn compare<R: Reader>(
             };
             let mut input = pointer;
             let found = parse_encoded_pointer(encoding, &parameters, &mut input);
-            assert_eq!(rt; found, answer(wanted, encoding), "{byte} {subset}");
+            assert!(rt; found == answer(wanted, encoding), "{byte} {subset}");
         }
     }
 }
@@ -162,16 +162,16 @@ impl<H: Abort> ReaderTest<H> for PointerTest {
         };
         let mut input = reader;
         let encoding = parse_pointer_encoding(&mut input)?;
-        assert_eq!(rt; encoding, DwEhPe(0x1b));
+        assert!(rt; encoding == DwEhPe(0x1b));
         let mut value = input;
         let pointer = parse_encoded_pointer(encoding, &parameters, &mut input)?;
-        assert_eq!(rt; pointer.direct(), Ok(0xff1));
+        assert!(rt; pointer.direct() == Ok(0xff1));
         let unknown = Err(Error::UnknownPointerEncoding(DwEhPe(5)));
-        assert_eq!(rt; parse_pointer_encoding(&mut input), unknown);
-        assert_eq!(rt; input.offset_id(), ReaderOffsetId(6));
+        assert!(rt; parse_pointer_encoding(&mut input) == unknown);
+        assert!(rt; input.offset_id() == ReaderOffsetId(6));
         let short = parse_encoded_value(DwEhPe(0x9a), 8, &mut value)?;
-        assert_eq!(rt; short, 0xffff_ffff_ffff_fff0);
-        assert_eq!(rt; value.offset_id(), ReaderOffsetId(3));
+        assert!(rt; short == 0xffff_ffff_ffff_fff0);
+        assert!(rt; value.offset_id() == ReaderOffsetId(3));
         Ok(())
     }
 }
@@ -199,10 +199,10 @@ fn bases_and_kinds_of_pointers(rt: HostRuntime) {
         text: Some(0x3000),
         data_base: Some(0x4000),
     };
-    assert_eq!(rt; bases.eh_frame_hdr, header);
-    assert_eq!(rt; bases.eh_frame, frames);
+    assert!(rt; bases.eh_frame_hdr == header);
+    assert!(rt; bases.eh_frame == frames);
     let indirect = Pointer::Indirect(7);
-    assert_eq!(rt; indirect.direct(), Err(Error::UnsupportedPointerEncoding));
-    assert_eq!(rt; indirect.pointer(), 7);
-    assert_eq!(rt; Pointer::default(), Pointer::Direct(0));
+    assert!(rt; indirect.direct() == Err(Error::UnsupportedPointerEncoding));
+    assert!(rt; indirect.pointer() == 7);
+    assert!(rt; Pointer::default() == Pointer::Direct(0));
 }

@@ -60,9 +60,9 @@ impl<H: Abort> ReaderTest<H> for EmptyCache {
     fn run<R: Reader>(&self, rt: &H, alloc: Global, reader: R) -> Outcome {
         let (section, _none) = sections(reader);
         let cache = AbbreviationsCache::new(alloc);
-        assert_eq!(rt; tag(&cache, &section, 0), Ok(Some(0x11)));
-        assert_eq!(rt; tag(&cache, &section, 6), Ok(Some(0x2e)));
-        assert_eq!(rt; tag(&cache, &section, 12), Err(Error::AbbreviationTagZero));
+        assert!(rt; tag(&cache, &section, 0) == Ok(Some(0x11)));
+        assert!(rt; tag(&cache, &section, 6) == Ok(Some(0x2e)));
+        assert!(rt; tag(&cache, &section, 12) == Err(Error::AbbreviationTagZero));
         Ok(())
     }
 }
@@ -81,8 +81,8 @@ impl<H: Abort> ReaderTest<H> for TableSet {
         let mut cache = AbbreviationsCache::new(alloc);
         let other = other_table(alloc, &[0x01, 0x34, 0, 0, 0, 0])?;
         cache.set(DebugAbbrevOffset(6usize), other)?;
-        assert_eq!(rt; tag(&cache, &section, 0)?, Some(0x11));
-        assert_eq!(rt; tag(&cache, &section, 6)?, Some(0x34));
+        assert!(rt; tag(&cache, &section, 0)? == Some(0x11));
+        assert!(rt; tag(&cache, &section, 6)? == Some(0x34));
         Ok(())
     }
 }
@@ -108,13 +108,13 @@ impl<H: Abort> ReaderTest<H> for AllOffsets {
             &[Ok(6), Ok(12), Ok(0), Ok(6)],
         )?;
         for section in [&section, &none] {
-            assert_eq!(rt; tag(&cache, section, 0), Ok(Some(0x11)));
-            assert_eq!(rt; tag(&cache, section, 6), Ok(Some(0x2e)));
-            assert_eq!(rt; tag(&cache, section, 12), Err(Error::AbbreviationTagZero));
+            assert!(rt; tag(&cache, section, 0) == Ok(Some(0x11)));
+            assert!(rt; tag(&cache, section, 6) == Ok(Some(0x2e)));
+            assert!(rt; tag(&cache, section, 12) == Err(Error::AbbreviationTagZero));
         }
         populate(alloc, &mut cache, all, &section, &[Ok(0)])?;
-        assert_eq!(rt; tag(&cache, &none, 0), Ok(Some(0x11)));
-        assert_eq!(rt; tag(&cache, &none, 6).is_err(), true);
+        assert!(rt; tag(&cache, &none, 0) == Ok(Some(0x11)));
+        assert!(rt; tag(&cache, &none, 6).is_err());
         Ok(())
     }
 }
@@ -134,10 +134,10 @@ impl<H: Abort> ReaderTest<H> for OffsetsThatComeTwice {
         let duplicates = AbbreviationsCacheStrategy::Duplicates;
         let offsets = [Ok(12), Ok(6), Ok(0), Ok(12), Ok(0), Ok(0)];
         populate(alloc, &mut cache, duplicates, &section, &offsets)?;
-        assert_eq!(rt; tag(&cache, &none, 0), Ok(Some(0x11)));
-        assert_eq!(rt; tag(&cache, &none, 6).is_err(), true);
-        assert_eq!(rt; tag(&cache, &none, 12), Err(Error::AbbreviationTagZero));
-        assert_eq!(rt; tag(&cache, &section, 6), Ok(Some(0x2e)));
+        assert!(rt; tag(&cache, &none, 0) == Ok(Some(0x11)));
+        assert!(rt; tag(&cache, &none, 6).is_err());
+        assert!(rt; tag(&cache, &none, 12) == Err(Error::AbbreviationTagZero));
+        assert!(rt; tag(&cache, &section, 6) == Ok(Some(0x2e)));
         Ok(())
     }
 }
@@ -158,10 +158,10 @@ impl<H: Abort> ReaderTest<H> for ErrorOfTheIterator {
         populate(alloc, &mut cache, all, &section, &[Ok(6)])?;
         let offsets = [Ok(0), Err(Error::BadUtf8), Ok(12), Err(Error::OutOfMemory)];
         let answer = populate(alloc, &mut cache, all, &section, &offsets);
-        assert_eq!(rt; answer, Err(Error::BadUtf8));
-        assert_eq!(rt; tag(&cache, &section, 0), Ok(Some(0x11)));
-        assert_eq!(rt; tag(&cache, &none, 0), Ok(None));
-        assert_eq!(rt; tag(&cache, &none, 6), Ok(Some(0x2e)));
+        assert!(rt; answer == Err(Error::BadUtf8));
+        assert!(rt; tag(&cache, &section, 0) == Ok(Some(0x11)));
+        assert!(rt; tag(&cache, &none, 0) == Ok(None));
+        assert!(rt; tag(&cache, &none, 6) == Ok(Some(0x2e)));
         Ok(())
     }
 }
@@ -186,11 +186,11 @@ impl<H: Abort> ReaderTest<H> for CodesInAnyOrder {
         let tags: [(u64, u16); 5] = [(1, 0x11), (2, 0x2e), (3, 0x05), (4, 0x24), (9, 0x34)];
         for (code, tag) in tags.iter() {
             let abbreviation = found.get(*code).ok_or("a code")?;
-            assert_eq!(rt; abbreviation.code(), *code);
-            assert_eq!(rt; abbreviation.tag(), *tag);
+            assert!(rt; abbreviation.code() == *code);
+            assert!(rt; abbreviation.tag() == *tag);
         }
         for code in [0, 5, 8, 10].iter() {
-            assert_eq!(rt; found.get(*code).is_none(), true);
+            assert!(rt; found.get(*code).is_none());
         }
         Ok(())
     }
@@ -248,15 +248,15 @@ impl<H: Abort> ReaderTest<H> for SharedTable {
         )?;
         let shared = cache.get(&section, DebugAbbrevOffset(ReaderOffset::from_u8(0)))?;
         let unit = shared.get(1).ok_or("code 1")?;
-        assert_eq!(rt; unit.attributes().len(), 2);
+        assert!(rt; unit.attributes().len() == 2);
         let empty = cache.get(&section, DebugAbbrevOffset(ReaderOffset::from_u8(9)))?;
-        assert_eq!(rt; empty.get(1).is_none(), true);
+        assert!(rt; empty.get(1).is_none());
         let other = other_table(alloc, &[0x01, 0x11, 0x00, 0x25, 0x21, 0x7f, 0, 0])?;
         cache.set(DebugAbbrevOffset(9usize), other)?;
         let found = cache.get(&section, DebugAbbrevOffset(ReaderOffset::from_u8(9)))?;
         let unit = found.get(1).ok_or("code 1")?;
         let attribute = unit.attributes().first().ok_or("an attribute")?;
-        assert_eq!(rt; attribute.implicit_const_value(), Some(-1));
+        assert!(rt; attribute.implicit_const_value() == Some(-1));
         Ok(())
     }
 }

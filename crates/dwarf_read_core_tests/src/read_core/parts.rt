@@ -21,15 +21,15 @@ impl<H: Abort> ReaderTest<H> for PartTest {
         })?;
         let part = section.dwp_range(1, 3)?;
         let reader = Section::reader(&part);
-        assert_eq!(rt; reader.len().into_u64(), 3);
-        assert_eq!(rt; reader.offset_id(), ReaderOffsetId(1));
+        assert!(rt; reader.len().into_u64() == 3);
+        assert!(rt; reader.offset_id() == ReaderOffsetId(1));
         let found = part.lookup_offset_id(ReaderOffsetId(4));
         let found = found.map(|(id, offset)| (id, offset.into_u64()));
-        assert_eq!(rt; found, Some((SectionId::DebugStr, 3)));
-        assert_eq!(rt; part.lookup_offset_id(ReaderOffsetId(5)).is_none(), true);
+        assert!(rt; found == Some((SectionId::DebugStr, 3)));
+        assert!(rt; part.lookup_offset_id(ReaderOffsetId(5)).is_none());
         for (offset, size, place) in [(6, 0, 0), (2, 4, 2)] {
             let refused = section.dwp_range(offset, size).map(|_| ()).err();
-            assert_eq!(rt; refused, Some(Error::UnexpectedEof(ReaderOffsetId(place))));
+            assert!(rt; refused == Some(Error::UnexpectedEof(ReaderOffsetId(place))));
         }
         Ok(())
     }

@@ -39,10 +39,10 @@ fn check_table(rt: &impl Abort, alloc: Global, table: &Abbreviations, lines: &[&
     for (i, expected) in lines.iter().enumerate() {
         let declaration = table.get(i as u64 + 1).ok_or("a declaration")?;
         let line = line_of(alloc, declaration)?;
-        assert_eq!(rt; line.as_str(), *expected);
+        assert!(rt; line.as_str() == *expected);
     }
-    assert_eq!(rt; table.get(0).is_none(), true);
-    assert_eq!(rt; table.get(lines.len() as u64 + 1).is_none(), true);
+    assert!(rt; table.get(0).is_none());
+    assert!(rt; table.get(lines.len() as u64 + 1).is_none());
     Ok(())
 }
 
@@ -70,7 +70,7 @@ impl<H: Abort> ReaderTest<H> for Strings<'_> {
         let section = DebugStr::from(reader);
         for (offset, expected) in self.0.iter() {
             let string = section.get_str(DebugStrOffset(ReaderOffset::from_u64(*offset)?))?;
-            assert_eq!(rt; string.to_string(alloc)?.as_str(), *expected);
+            assert!(rt; string.to_string(alloc)?.as_str() == *expected);
         }
         Ok(())
     }
@@ -85,7 +85,7 @@ impl<H: Abort> ReaderTest<H> for LineStrings<'_> {
         let section = DebugLineStr::from(reader);
         for (offset, expected) in self.0.iter() {
             let string = section.get_str(DebugLineStrOffset(ReaderOffset::from_u64(*offset)?))?;
-            assert_eq!(rt; string.to_string(alloc)?.as_str(), *expected);
+            assert!(rt; string.to_string(alloc)?.as_str() == *expected);
         }
         Ok(())
     }
@@ -105,7 +105,7 @@ impl<H: Abort> ReaderTest<H> for StringOffsets<'_> {
         for (i, expected) in self.offsets.iter().enumerate() {
             let index = DebugStrOffsetsIndex(ReaderOffset::from_u64(i as u64)?);
             let offset = section.get_str_offset(Format::Dwarf32, base, index)?;
-            assert_eq!(rt; offset.0.into_u64(), *expected);
+            assert!(rt; offset.0.into_u64() == *expected);
         }
         Ok(())
     }
@@ -115,9 +115,9 @@ impl<H: Abort> ReaderTest<H> for StringOffsets<'_> {
 fn check_set<R: Reader>(rt: &impl Abort, set: &AddrHeader<R>, addresses: &[u64]) -> Outcome {
     let mut expected = addresses.iter();
     for address in set.entries() {
-        assert_eq!(rt; Some(address?), expected.next().copied());
+        assert!(rt; Some(address?) == expected.next().copied());
     }
-    assert_eq!(rt; expected.next().is_none(), true);
+    assert!(rt; expected.next().is_none());
     Ok(())
 }
 
@@ -130,10 +130,10 @@ impl<H: Abort> ReaderTest<H> for AddressSets<'_> {
         let mut sets = DebugAddr::from(reader).headers();
         for (length, addresses) in self.0.iter() {
             let set = Iterator::next(&mut sets).ok_or("a set")??;
-            assert_eq!(rt; set.length().into_u64(), *length);
+            assert!(rt; set.length().into_u64() == *length);
             check_set(rt, &set, addresses)?;
         }
-        assert_eq!(rt; Iterator::next(&mut sets).is_none(), true);
+        assert!(rt; Iterator::next(&mut sets).is_none());
         Ok(())
     }
 }
@@ -151,7 +151,7 @@ impl<H: Abort> ReaderTest<H> for Addresses<'_> {
         let base = DebugAddrBase(ReaderOffset::from_u64(self.base)?);
         for (i, expected) in self.addresses.iter().enumerate() {
             let index = DebugAddrIndex(ReaderOffset::from_u64(i as u64)?);
-            assert_eq!(rt; section.get_address(8, base, index)?, *expected);
+            assert!(rt; section.get_address(8, base, index)? == *expected);
         }
         Ok(())
     }

@@ -44,7 +44,7 @@ fn slices_are_equal_by_bytes_and_order(rt: HostRuntime) {
         (EndianSlice::new_at(&[], little, 100), false),
     ];
     for (other, equal) in others {
-        assert_eq!(rt; are_alike(&slice, &other), equal);
+        assert!(rt; are_alike(&slice, &other) == equal);
         assert!(rt; !equal || hash_of(&slice) == hash_of(&other));
     }
 }

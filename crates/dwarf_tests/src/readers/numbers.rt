@@ -1,343 +1,323 @@
 //! Numbers of every length that matters, and reads that lack bytes, over every kind of reader.
 
-use super::eof;
+use super::questions::{Fixed, Leb128, Plain, Question, Script, Sized, Want, ask};
 use crate::{Outcome, ReaderTest, over_each_reader};
-use dwarf_constants::{Error, Format, Result};
-use dwarf_readers::{Reader, ReaderOffset, RunTimeEndian, leb128, read_u8_array};
+use dwarf_constants::{Error, Format, ReaderOffsetId, Result};
+use dwarf_readers::{Reader, ReaderOffset, RunTimeEndian};
 use std::alloc::Global;
-use std::fmt::Debug;
 use std::process::Abort;
 
-// The bytes of a number, what is read from them, and the place behind the read.
-type Row<'a, T> = (&'a [u8], Result<T>, u64);
-
-// What a read of a number of variable length answers.
+// What a read of a number comes to.
 #[derive(Clone, Copy)]
-pub enum Answer {
-    Unsigned(Result<u64>),
-    Signed(Result<i64>),
-    Of16Bits(Result<u16>),
-    Of32Bits(Result<u32>),
-    Skipped(Result<()>),
+enum Read<T> {
+    Is(T),
+    // The bytes end behind the place where the reader stays.
+    Ends,
+    TooLarge,
 }
 
-// What a read at the start answers, and the place behind it.
-#[derive(Drop)]
-pub struct NumberTest {
-    pub answer: Answer,
-    pub place: u64,
-}
+use Read::{Ends, Is, TooLarge};
 
-impl<H: Abort> ReaderTest<H> for NumberTest {
-    fn run<R: Reader>(&self, rt: &H, _alloc: Global, reader: R) -> Outcome {
-        let mut reader = reader;
-        match self.answer {
-            Answer::Unsigned(want) => {
-                assert_eq!(rt; leb128::read::unsigned(&mut reader), want);
-            }
-            Answer::Signed(want) => assert_eq!(rt; leb128::read::signed(&mut reader), want),
-            Answer::Of16Bits(want) => assert_eq!(rt; leb128::read::u16(&mut reader), want),
-            Answer::Of32Bits(want) => assert_eq!(rt; reader.read_uleb128_u32(), want),
-            Answer::Skipped(want) => assert_eq!(rt; leb128::read::skip(&mut reader), want),
+impl<T: Copy> Read<T> {
+    // The answer at a place, where a number that is too large has this refusal.
+    fn answer(self, place: u64, too_large: Error) -> Result<T> {
+        match self {
+            Is(value) => Ok(value),
+            Ends => Err(Error::UnexpectedEof(ReaderOffsetId(place))),
+            TooLarge => Err(too_large),
         }
-        assert_eq!(rt; reader.offset_id().0, self.place);
-        Ok(())
     }
 }
 
+// The bytes of a number, what is read from them, and the place behind the read.
+type Row<T> = (&'static [u8], Read<T>, u64);
+
 // The standard's examples (DWARF 5, 7.6), numbers at the edges of 1, 2, 3, 9 and 10 bytes, bytes that end too early,
 // and numbers that do not fit.
+static UNSIGNED: [Row<u64>; 25] = [
+    (b"", Ends, 0),
+    (b"\x00", Is(0), 1),
+    (b"\x02", Is(2), 1),
+    (b"\x7f", Is(127), 1),
+    (b"\x80", Ends, 1),
+    (b"\x80\x01", Is(128), 2),
+    (b"\x81\x01", Is(129), 2),
+    (b"\xb9\x64", Is(12_857), 2),
+    (b"\x80\x80", Ends, 2),
+    (b"\x80\x80\x00", Is(0), 3),
+    (b"\xff\xff\x03", Is(65_535), 3),
+    (b"\xff\xff\x7f\x01", Is(2_097_151), 3),
+    (b"\x80\x80\x80", Ends, 3),
+    (b"\x80\x80\x80\x80\x80\x80\x80\x80", Ends, 8),
+    (
+        b"\xff\xff\xff\xff\xff\xff\xff\xff\x7f",
+        Is(0x7fff_ffff_ffff_ffff),
+        9,
+    ),
+    (b"\x80\x80\x80\x80\x80\x80\x80\x80\x80", Ends, 9),
+    (b"\x80\x80\x80\x80\x80\x80\x80\x80\x80\x00", Is(0), 10),
+    (
+        b"\x80\x80\x80\x80\x80\x80\x80\x80\x80\x01",
+        Is(0x8000_0000_0000_0000),
+        10,
+    ),
+    (
+        b"\xff\xff\xff\xff\xff\xff\xff\xff\xff\x01",
+        Is(u64::MAX),
+        10,
+    ),
+    (b"\x80\x80\x80\x80\x80\x80\x80\x80\x80\x02", TooLarge, 10),
+    (b"\xff\xff\xff\xff\xff\xff\xff\xff\xff\x02", TooLarge, 10),
+    (b"\xff\xff\xff\xff\xff\xff\xff\xff\xff\x7f", TooLarge, 10),
+    (b"\x80\x80\x80\x80\x80\x80\x80\x80\x80\x80", TooLarge, 10),
+    (
+        b"\x80\x80\x80\x80\x80\x80\x80\x80\x80\x80\x00",
+        TooLarge,
+        10,
+    ),
+    (
+        b"\xff\xff\xff\xff\xff\xff\xff\xff\xff\x81\x00",
+        TooLarge,
+        10,
+    ),
+];
+
+static SIGNED: [Row<i64>; 29] = [
+    (b"", Ends, 0),
+    (b"\x02", Is(2), 1),
+    (b"\x7e", Is(-2), 1),
+    (b"\x3f", Is(63), 1),
+    (b"\x40", Is(-64), 1),
+    (b"\x80", Ends, 1),
+    (b"\xff\x00", Is(127), 2),
+    (b"\x81\x7f", Is(-127), 2),
+    (b"\x80\x01", Is(128), 2),
+    (b"\x80\x7f", Is(-128), 2),
+    (b"\x81\x01", Is(129), 2),
+    (b"\xff\x7e", Is(-129), 2),
+    (b"\x80\x80", Ends, 2),
+    (b"\xff\xff\x3f", Is(1_048_575), 3),
+    (b"\x80\x80\x40", Is(-1_048_576), 3),
+    (b"\xff\xff\xff", Ends, 3),
+    (
+        b"\xff\xff\xff\xff\xff\xff\xff\xff\x3f",
+        Is(0x3fff_ffff_ffff_ffff),
+        9,
+    ),
+    (
+        b"\x80\x80\x80\x80\x80\x80\x80\x80\x40",
+        Is(-0x4000_0000_0000_0000),
+        9,
+    ),
+    (b"\xff\xff\xff\xff\xff\xff\xff\xff\xff", Ends, 9),
+    (
+        b"\xff\xff\xff\xff\xff\xff\xff\xff\xff\x00",
+        Is(i64::MAX),
+        10,
+    ),
+    (b"\xff\xff\xff\xff\xff\xff\xff\xff\xff\x7f", Is(-1), 10),
+    (
+        b"\x80\x80\x80\x80\x80\x80\x80\x80\x80\x7f",
+        Is(i64::MIN),
+        10,
+    ),
+    (b"\x80\x80\x80\x80\x80\x80\x80\x80\x80\x00", Is(0), 10),
+    (b"\x80\x80\x80\x80\x80\x80\x80\x80\x80\x01", TooLarge, 10),
+    (b"\xff\xff\xff\xff\xff\xff\xff\xff\xff\x7e", TooLarge, 10),
+    (b"\xff\xff\xff\xff\xff\xff\xff\xff\xff\x40", TooLarge, 10),
+    (b"\xff\xff\xff\xff\xff\xff\xff\xff\xff\xff", TooLarge, 10),
+    (
+        b"\xff\xff\xff\xff\xff\xff\xff\xff\xff\xff\x7f",
+        TooLarge,
+        10,
+    ),
+    (
+        b"\x80\x80\x80\x80\x80\x80\x80\x80\x80\x80\x00",
+        TooLarge,
+        10,
+    ),
+];
+
+static OF_16_BITS: [Row<u64>; 13] = [
+    (b"", Ends, 0),
+    (b"\x7f", Is(127), 1),
+    (b"\x80", Ends, 1),
+    (b"\xb9\x64", Is(12_857), 2),
+    (b"\xff\x7f", Is(16_383), 2),
+    (b"\x80\x80", Ends, 2),
+    (b"\x80\x80\x00", Is(0), 3),
+    (b"\x80\x80\x01", Is(16_384), 3),
+    (b"\xff\xff\x03", Is(65_535), 3),
+    (b"\x80\x80\x04", TooLarge, 3),
+    (b"\x80\x80\x80", TooLarge, 3),
+    (b"\x80\x80\x80\x00", TooLarge, 3),
+    (b"\x80\x80\x80\x80\x80\x80\x80\x80\x80\x80\x00", TooLarge, 3),
+];
+
+static OF_32_BITS: [Row<u64>; 13] = [
+    (b"", Ends, 0),
+    (b"\x7f", Is(127), 1),
+    (b"\x80", Ends, 1),
+    (b"\xff\xff\x7f", Is(2_097_151), 3),
+    (b"\x80\x80\x80\x80", Ends, 4),
+    (b"\xff\xff\xff\xff\x0f", Is(0xffff_ffff), 5),
+    (b"\x80\x80\x80\x80\x10", TooLarge, 5),
+    (b"\xff\xff\xff\xff\xff\xff\xff\xff\x7f", TooLarge, 9),
+    (b"\x80\x80\x80\x80\x80\x80\x80\x80\x80", Ends, 9),
+    (b"\xff\x80\x80\x80\x80\x80\x80\x80\x80\x00", Is(127), 10),
+    (b"\x80\x80\x80\x80\x80\x80\x80\x80\x80\x01", TooLarge, 10),
+    (b"\x80\x80\x80\x80\x80\x80\x80\x80\x80\x02", TooLarge, 10),
+    (
+        b"\x80\x80\x80\x80\x80\x80\x80\x80\x80\x80\x00",
+        TooLarge,
+        10,
+    ),
+];
+
+static SKIPPED: [Row<()>; 11] = [
+    (b"", Ends, 0),
+    (b"\x7f\x7f", Is(()), 1),
+    (b"\x80", Ends, 1),
+    (b"\x80\x80\x00\x00", Is(()), 3),
+    (b"\xff\xff\xff", Ends, 3),
+    (b"\xff\xff\xff\xff\xff\xff\xff\xff\x7f", Is(()), 9),
+    (b"\x80\x80\x80\x80\x80\x80\x80\x80\x80", Ends, 9),
+    (b"\xff\xff\xff\xff\xff\xff\xff\xff\xff\x7f", Is(()), 10),
+    (b"\x80\x80\x80\x80\x80\x80\x80\x80\x80\x80", Ends, 10),
+    (b"\x80\x80\x80\x80\x80\x80\x80\x80\x80\x80\x01", Is(()), 11),
+    (b"\xff\xff\xff\xff\xff\xff\xff\xff\xff\xff\xff", Ends, 11),
+];
+
+/// Wants an answer of every kind of reader over these bytes, and the place behind it.
+pub fn reads(
+    rt: &impl Abort,
+    alloc: Global,
+    bytes: &[u8],
+    asked: Leb128,
+    answer: Plain,
+    place: u64,
+) -> Outcome {
+    let step = (Question::Leb128(asked), Want::Plain(answer), place);
+    over_each_reader(rt, alloc, &Script(&[step]), bytes, RunTimeEndian::Little)
+}
+
 #[test]
 fn unsigned(rt: HostRuntime) -> Outcome {
-    let bad = Err(Error::BadUnsignedLeb128);
-    let rows: [Row<'_, u64>; 25] = [
-        (b"", eof(0), 0),
-        (b"\x00", Ok(0), 1),
-        (b"\x02", Ok(2), 1),
-        (b"\x7f", Ok(127), 1),
-        (b"\x80", eof(1), 1),
-        (b"\x80\x01", Ok(128), 2),
-        (b"\x81\x01", Ok(129), 2),
-        (b"\xb9\x64", Ok(12_857), 2),
-        (b"\x80\x80", eof(2), 2),
-        (b"\x80\x80\x00", Ok(0), 3),
-        (b"\xff\xff\x03", Ok(65_535), 3),
-        (b"\xff\xff\x7f\x01", Ok(2_097_151), 3),
-        (b"\x80\x80\x80", eof(3), 3),
-        (b"\x80\x80\x80\x80\x80\x80\x80\x80", eof(8), 8),
-        (
-            b"\xff\xff\xff\xff\xff\xff\xff\xff\x7f",
-            Ok(0x7fff_ffff_ffff_ffff),
-            9,
-        ),
-        (b"\x80\x80\x80\x80\x80\x80\x80\x80\x80", eof(9), 9),
-        (b"\x80\x80\x80\x80\x80\x80\x80\x80\x80\x00", Ok(0), 10),
-        (
-            b"\x80\x80\x80\x80\x80\x80\x80\x80\x80\x01",
-            Ok(0x8000_0000_0000_0000),
-            10,
-        ),
-        (
-            b"\xff\xff\xff\xff\xff\xff\xff\xff\xff\x01",
-            Ok(u64::MAX),
-            10,
-        ),
-        (b"\x80\x80\x80\x80\x80\x80\x80\x80\x80\x02", bad, 10),
-        (b"\xff\xff\xff\xff\xff\xff\xff\xff\xff\x02", bad, 10),
-        (b"\xff\xff\xff\xff\xff\xff\xff\xff\xff\x7f", bad, 10),
-        (b"\x80\x80\x80\x80\x80\x80\x80\x80\x80\x80", bad, 10),
-        (b"\x80\x80\x80\x80\x80\x80\x80\x80\x80\x80\x00", bad, 10),
-        (b"\xff\xff\xff\xff\xff\xff\xff\xff\xff\x81\x00", bad, 10),
-    ];
-    for (bytes, answer, place) in rows {
-        let test = NumberTest {
-            answer: Answer::Unsigned(answer),
-            place,
-        };
-        over_each_reader(&rt, rt.alloc(), &test, bytes, RunTimeEndian::Little)?;
+    for (bytes, read, place) in &UNSIGNED {
+        let answer = Plain::Unsigned(read.answer(*place, Error::BadUnsignedLeb128));
+        for asked in [Leb128::Unsigned, Leb128::FreeUnsigned] {
+            reads(&rt, rt.alloc(), bytes, asked, answer, *place)?;
+        }
     }
     Ok(())
 }
 
 #[test]
 fn signed(rt: HostRuntime) -> Outcome {
-    let bad = Err(Error::BadSignedLeb128);
-    let rows: [Row<'_, i64>; 29] = [
-        (b"", eof(0), 0),
-        (b"\x02", Ok(2), 1),
-        (b"\x7e", Ok(-2), 1),
-        (b"\x3f", Ok(63), 1),
-        (b"\x40", Ok(-64), 1),
-        (b"\x80", eof(1), 1),
-        (b"\xff\x00", Ok(127), 2),
-        (b"\x81\x7f", Ok(-127), 2),
-        (b"\x80\x01", Ok(128), 2),
-        (b"\x80\x7f", Ok(-128), 2),
-        (b"\x81\x01", Ok(129), 2),
-        (b"\xff\x7e", Ok(-129), 2),
-        (b"\x80\x80", eof(2), 2),
-        (b"\xff\xff\x3f", Ok(1_048_575), 3),
-        (b"\x80\x80\x40", Ok(-1_048_576), 3),
-        (b"\xff\xff\xff", eof(3), 3),
-        (
-            b"\xff\xff\xff\xff\xff\xff\xff\xff\x3f",
-            Ok(0x3fff_ffff_ffff_ffff),
-            9,
-        ),
-        (
-            b"\x80\x80\x80\x80\x80\x80\x80\x80\x40",
-            Ok(-0x4000_0000_0000_0000),
-            9,
-        ),
-        (b"\xff\xff\xff\xff\xff\xff\xff\xff\xff", eof(9), 9),
-        (
-            b"\xff\xff\xff\xff\xff\xff\xff\xff\xff\x00",
-            Ok(i64::MAX),
-            10,
-        ),
-        (b"\xff\xff\xff\xff\xff\xff\xff\xff\xff\x7f", Ok(-1), 10),
-        (
-            b"\x80\x80\x80\x80\x80\x80\x80\x80\x80\x7f",
-            Ok(i64::MIN),
-            10,
-        ),
-        (b"\x80\x80\x80\x80\x80\x80\x80\x80\x80\x00", Ok(0), 10),
-        (b"\x80\x80\x80\x80\x80\x80\x80\x80\x80\x01", bad, 10),
-        (b"\xff\xff\xff\xff\xff\xff\xff\xff\xff\x7e", bad, 10),
-        (b"\xff\xff\xff\xff\xff\xff\xff\xff\xff\x40", bad, 10),
-        (b"\xff\xff\xff\xff\xff\xff\xff\xff\xff\xff", bad, 10),
-        (b"\xff\xff\xff\xff\xff\xff\xff\xff\xff\xff\x7f", bad, 10),
-        (b"\x80\x80\x80\x80\x80\x80\x80\x80\x80\x80\x00", bad, 10),
-    ];
-    for (bytes, answer, place) in rows {
-        let test = NumberTest {
-            answer: Answer::Signed(answer),
-            place,
-        };
-        over_each_reader(&rt, rt.alloc(), &test, bytes, RunTimeEndian::Little)?;
+    for (bytes, read, place) in &SIGNED {
+        let answer = Plain::Signed(read.answer(*place, Error::BadSignedLeb128));
+        for asked in [Leb128::Signed, Leb128::FreeSigned] {
+            reads(&rt, rt.alloc(), bytes, asked, answer, *place)?;
+        }
     }
     Ok(())
 }
 
 #[test]
 fn of_16_bits(rt: HostRuntime) -> Outcome {
-    let bad = Err(Error::BadUnsignedLeb128);
-    let rows: [Row<'_, u16>; 13] = [
-        (b"", eof(0), 0),
-        (b"\x7f", Ok(127), 1),
-        (b"\x80", eof(1), 1),
-        (b"\xb9\x64", Ok(12_857), 2),
-        (b"\xff\x7f", Ok(16_383), 2),
-        (b"\x80\x80", eof(2), 2),
-        (b"\x80\x80\x00", Ok(0), 3),
-        (b"\x80\x80\x01", Ok(16_384), 3),
-        (b"\xff\xff\x03", Ok(65_535), 3),
-        (b"\x80\x80\x04", bad, 3),
-        (b"\x80\x80\x80", bad, 3),
-        (b"\x80\x80\x80\x00", bad, 3),
-        (b"\x80\x80\x80\x80\x80\x80\x80\x80\x80\x80\x00", bad, 3),
-    ];
-    for (bytes, answer, place) in rows {
-        let test = NumberTest {
-            answer: Answer::Of16Bits(answer),
-            place,
-        };
-        over_each_reader(&rt, rt.alloc(), &test, bytes, RunTimeEndian::Little)?;
+    for (bytes, read, place) in &OF_16_BITS {
+        let answer = Plain::Unsigned(read.answer(*place, Error::BadUnsignedLeb128));
+        for asked in [Leb128::Of16Bits, Leb128::FreeOf16Bits] {
+            reads(&rt, rt.alloc(), bytes, asked, answer, *place)?;
+        }
     }
     Ok(())
 }
 
 #[test]
 fn of_32_bits(rt: HostRuntime) -> Outcome {
-    let bad = Err(Error::BadUnsignedLeb128);
-    let rows: [Row<'_, u32>; 13] = [
-        (b"", eof(0), 0),
-        (b"\x7f", Ok(127), 1),
-        (b"\x80", eof(1), 1),
-        (b"\xff\xff\x7f", Ok(2_097_151), 3),
-        (b"\x80\x80\x80\x80", eof(4), 4),
-        (b"\xff\xff\xff\xff\x0f", Ok(u32::MAX), 5),
-        (b"\x80\x80\x80\x80\x10", bad, 5),
-        (b"\xff\xff\xff\xff\xff\xff\xff\xff\x7f", bad, 9),
-        (b"\x80\x80\x80\x80\x80\x80\x80\x80\x80", eof(9), 9),
-        (b"\xff\x80\x80\x80\x80\x80\x80\x80\x80\x00", Ok(127), 10),
-        (b"\x80\x80\x80\x80\x80\x80\x80\x80\x80\x01", bad, 10),
-        (b"\x80\x80\x80\x80\x80\x80\x80\x80\x80\x02", bad, 10),
-        (b"\x80\x80\x80\x80\x80\x80\x80\x80\x80\x80\x00", bad, 10),
-    ];
-    for (bytes, answer, place) in rows {
-        let test = NumberTest {
-            answer: Answer::Of32Bits(answer),
-            place,
-        };
-        over_each_reader(&rt, rt.alloc(), &test, bytes, RunTimeEndian::Little)?;
+    for (bytes, read, place) in &OF_32_BITS {
+        let answer = Plain::Unsigned(read.answer(*place, Error::BadUnsignedLeb128));
+        reads(&rt, rt.alloc(), bytes, Leb128::Of32Bits, answer, *place)?;
     }
     Ok(())
 }
 
 #[test]
 fn skipped(rt: HostRuntime) -> Outcome {
-    let rows: [Row<'_, ()>; 11] = [
-        (b"", eof(0), 0),
-        (b"\x7f\x7f", Ok(()), 1),
-        (b"\x80", eof(1), 1),
-        (b"\x80\x80\x00\x00", Ok(()), 3),
-        (b"\xff\xff\xff", eof(3), 3),
-        (b"\xff\xff\xff\xff\xff\xff\xff\xff\x7f", Ok(()), 9),
-        (b"\x80\x80\x80\x80\x80\x80\x80\x80\x80", eof(9), 9),
-        (b"\xff\xff\xff\xff\xff\xff\xff\xff\xff\x7f", Ok(()), 10),
-        (b"\x80\x80\x80\x80\x80\x80\x80\x80\x80\x80", eof(10), 10),
-        (b"\x80\x80\x80\x80\x80\x80\x80\x80\x80\x80\x01", Ok(()), 11),
-        (b"\xff\xff\xff\xff\xff\xff\xff\xff\xff\xff\xff", eof(11), 11),
-    ];
-    for (bytes, answer, place) in rows {
-        let test = NumberTest {
-            answer: Answer::Skipped(answer),
-            place,
-        };
-        over_each_reader(&rt, rt.alloc(), &test, bytes, RunTimeEndian::Little)?;
+    for (bytes, read, place) in &SKIPPED {
+        let answer = Plain::Done(read.answer(*place, Error::BadUnsignedLeb128));
+        for asked in [Leb128::Skip, Leb128::FreeSkip] {
+            reads(&rt, rt.alloc(), bytes, asked, answer, *place)?;
+        }
     }
     Ok(())
 }
 
-// Wants the refusal of a read that lacks bytes, and the reader as it was.
-fn refused<R: Reader>(rt: &impl Abort, fault: Option<Error>, reader: &R, whole: &R) {
-    assert_eq!(rt; fault, Some(Error::UnexpectedEof(whole.offset_id())));
-    assert_eq!(rt; reader.offset_id(), whole.offset_id());
-    assert_eq!(rt; reader.len(), whole.len());
+// Reads, and how many bytes each needs.
+static READS: [(Question, usize); 34] = [
+    (Question::Fixed(Fixed::U8), 1),
+    (Question::Fixed(Fixed::I8), 1),
+    (Question::Fixed(Fixed::U16), 2),
+    (Question::Fixed(Fixed::I16), 2),
+    (Question::Fixed(Fixed::Array), 3),
+    (Question::Fixed(Fixed::U32), 4),
+    (Question::Fixed(Fixed::I32), 4),
+    (Question::Fixed(Fixed::U64), 8),
+    (Question::Fixed(Fixed::I64), 8),
+    (Question::Fixed(Fixed::U128), 16),
+    (Question::Sized(Sized::Uint(1)), 1),
+    (Question::Sized(Sized::Uint(2)), 2),
+    (Question::Sized(Sized::Uint(3)), 3),
+    (Question::Sized(Sized::Uint(4)), 4),
+    (Question::Sized(Sized::Uint(5)), 5),
+    (Question::Sized(Sized::Uint(6)), 6),
+    (Question::Sized(Sized::Uint(7)), 7),
+    (Question::Sized(Sized::Uint(8)), 8),
+    (Question::Sized(Sized::AddressSize), 1),
+    (Question::Sized(Sized::Address(1)), 1),
+    (Question::Sized(Sized::Address(2)), 2),
+    (Question::Sized(Sized::Address(4)), 4),
+    (Question::Sized(Sized::Address(8)), 8),
+    (Question::Sized(Sized::SizedOffset(1)), 1),
+    (Question::Sized(Sized::SizedOffset(2)), 2),
+    (Question::Sized(Sized::SizedOffset(4)), 4),
+    (Question::Sized(Sized::SizedOffset(8)), 8),
+    (Question::Sized(Sized::Word(Format::Dwarf32)), 4),
+    (Question::Sized(Sized::Word(Format::Dwarf64)), 8),
+    (Question::Sized(Sized::Length(Format::Dwarf32)), 4),
+    (Question::Sized(Sized::Length(Format::Dwarf64)), 8),
+    (Question::Sized(Sized::Offset(Format::Dwarf32)), 4),
+    (Question::Sized(Sized::Offset(Format::Dwarf64)), 8),
+    (Question::Sized(Sized::InitialLength), 4),
+];
+
+/// Where a reader begins and ends.
+pub fn places<R: Reader>(reader: &R) -> (u64, u64) {
+    let start = reader.offset_id().0;
+    (start, start.saturating_add(reader.len().into_u64()))
 }
 
-// Reads with a copy of a reader that lacks bytes.
-macro_rules! short {
-    ($rt:ident, $whole:ident, |$reader:ident| $answer:expr) => {{
-        let mut reader = $whole;
-        let answer = {
-            let $reader = &mut reader;
-            $answer
-        };
-        refused($rt, answer.err(), &reader, &$whole);
-    }};
-}
-
-fn short_of_2<R: Reader>(rt: &impl Abort, whole: R) {
-    short!(rt, whole, |r| r.read_u16());
-    short!(rt, whole, |r| r.read_i16());
-    short!(rt, whole, |r| r.read_uint(2));
-    short!(rt, whole, |r| r.read_address(2));
-    short!(rt, whole, |r| r.read_sized_offset(2));
-}
-
-fn short_of_1<R: Reader>(rt: &impl Abort, whole: R) {
-    short!(rt, whole, |r| r.read_u8());
-    short!(rt, whole, |r| r.read_i8());
-    short!(rt, whole, |r| r.read_uint(1));
-    short!(rt, whole, |r| r.read_address_size());
-    short!(rt, whole, |r| r.read_address(1));
-    short!(rt, whole, |r| r.read_sized_offset(1));
-}
-
-fn short_of_4<R: Reader>(rt: &impl Abort, whole: R) {
-    short!(rt, whole, |r| r.read_u32());
-    short!(rt, whole, |r| r.read_i32());
-    short!(rt, whole, |r| r.read_uint(4));
-    short!(rt, whole, |r| r.read_address(4));
-    short!(rt, whole, |r| r.read_sized_offset(4));
-    short!(rt, whole, |r| r.read_word(Format::Dwarf32));
-    short!(rt, whole, |r| r.read_length(Format::Dwarf32));
-    short!(rt, whole, |r| r.read_offset(Format::Dwarf32));
-    short!(rt, whole, |r| r.read_initial_length());
-}
-
-fn short_of_8<R: Reader>(rt: &impl Abort, whole: R) {
-    short!(rt, whole, |r| r.read_u64());
-    short!(rt, whole, |r| r.read_i64());
-    short!(rt, whole, |r| r.read_uint(8));
-    short!(rt, whole, |r| r.read_address(8));
-    short!(rt, whole, |r| r.read_sized_offset(8));
-    short!(rt, whole, |r| r.read_word(Format::Dwarf64));
-    short!(rt, whole, |r| r.read_length(Format::Dwarf64));
-    short!(rt, whole, |r| r.read_offset(Format::Dwarf64));
-}
-
-fn short_of_others<R: Reader>(rt: &impl Abort, whole: R, left: usize) {
-    for n in [3, 5, 6, 7] {
-        if left < n {
-            short!(rt, whole, |r| r.read_uint(n));
-        }
-    }
-    if left < 3 {
-        short!(rt, whole, |r| read_u8_array::<3, _>(r));
-    }
-    short!(rt, whole, |r| r.read_u128());
-}
-
-fn short_reads<R: Reader>(rt: &impl Abort, whole: R, left: usize) {
-    if left < 1 {
-        short_of_1(rt, whole);
-    }
-    if left < 2 {
-        short_of_2(rt, whole);
-    }
-    if left < 4 {
-        short_of_4(rt, whole);
-    }
-    if left < 8 {
-        short_of_8(rt, whole);
-    }
-    short_of_others(rt, whole, left);
-}
-
-// Reads with so many bytes left behind the first seven.
+// Reads that need more bytes than are left behind the first seven.
 #[derive(Drop)]
-struct ShortReadTest {
+struct ShortReads {
     left: usize,
 }
 
-impl<H: Abort> ReaderTest<H> for ShortReadTest {
-    fn run<R: Reader>(&self, rt: &H, _alloc: Global, reader: R) -> Outcome {
-        let mut reader = reader;
-        reader.skip(ReaderOffset::from_u8(7))?;
-        short_reads(rt, reader, self.left);
+impl<H: Abort> ReaderTest<H> for ShortReads {
+    // Wants the refusal of each, and the reader as it was.
+    fn run<R: Reader>(&self, rt: &H, alloc: Global, reader: R) -> Outcome {
+        let mut whole = reader;
+        whole.skip(ReaderOffset::from_u8(7))?;
+        for (question, needed) in &READS {
+            if self.left < *needed {
+                let mut reader = whole;
+                let fault = ask(alloc, &mut reader, *question).fault();
+                let ends = Error::UnexpectedEof(whole.offset_id());
+                assert!(rt; fault == Some(ends), "{question:?}");
+                assert!(rt; places(&reader) == places(&whole), "{question:?}");
+            }
+        }
         Ok(())
     }
 }
@@ -346,7 +326,7 @@ impl<H: Abort> ReaderTest<H> for ShortReadTest {
 fn reads_that_lack_bytes(rt: HostRuntime) -> Outcome {
     let bytes = [0xff; 22];
     for left in 0..16 {
-        let test = ShortReadTest { left };
+        let test = ShortReads { left };
         for endian in [RunTimeEndian::Little, RunTimeEndian::Big] {
             over_each_reader(&rt, rt.alloc(), &test, &bytes[..7 + left], endian)?;
         }

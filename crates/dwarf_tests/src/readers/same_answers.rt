@@ -1,165 +1,110 @@
 //! Every kind of reader over the same bytes, beside one in one piece.
 
+use super::numbers::places;
+use super::questions::{Fixed, Leb128, Move, Question, Search, Sized, Text, ask};
 use crate::{Outcome, ReaderTest, over_each_reader};
-use dwarf_constants::{Error, Format, ReaderOffsetId, Result};
-use dwarf_readers::{
-    EndianSlice, Endianity, Reader, ReaderOffset, RunTimeEndian, leb128, read_u8_array,
-};
+use dwarf_constants::Format;
+use dwarf_readers::{EndianSlice, Reader, ReaderOffset, RunTimeEndian};
 use std::alloc::Global;
-use std::borrow::CowStr;
-use std::fmt::Debug;
 use std::process::Abort;
 
-// An offset as one of 32 bits, or that it is too large for one.
-fn narrow<O: ReaderOffset>(offset: Result<O>) -> Result<u32> {
-    u32::from_u64(offset?.into_u64())
-}
+static QUESTIONS: [Question; 79] = [
+    Question::Move(Move::Empty),
+    Question::Move(Move::Truncate(0)),
+    Question::Move(Move::Truncate(1)),
+    Question::Move(Move::Truncate(5)),
+    Question::Move(Move::Truncate(21)),
+    Question::Move(Move::Truncate(22)),
+    Question::Move(Move::Skip(0)),
+    Question::Move(Move::Skip(1)),
+    Question::Move(Move::Skip(5)),
+    Question::Move(Move::Skip(21)),
+    Question::Move(Move::Skip(22)),
+    Question::Text(Text::Split(0)),
+    Question::Text(Text::Split(1)),
+    Question::Text(Text::Split(5)),
+    Question::Text(Text::Split(21)),
+    Question::Text(Text::Split(22)),
+    Question::Search(Search::IsBigEndian),
+    Question::Search(Search::IsEmpty),
+    Question::Search(Search::Place(0)),
+    Question::Search(Search::Place(1)),
+    Question::Search(Search::Place(4)),
+    Question::Search(Search::Place(20)),
+    Question::Search(Search::Place(21)),
+    Question::Search(Search::Place(22)),
+    Question::Search(Search::Behind),
+    Question::Search(Search::Byte(0)),
+    Question::Search(Search::Byte(0x61)),
+    Question::Search(Search::Byte(0xee)),
+    Question::Text(Text::Bytes),
+    Question::Text(Text::Terminated),
+    Question::Text(Text::Strict),
+    Question::Text(Text::Lossy),
+    Question::Fixed(Fixed::U8),
+    Question::Fixed(Fixed::I8),
+    Question::Fixed(Fixed::U16),
+    Question::Fixed(Fixed::I16),
+    Question::Fixed(Fixed::U32),
+    Question::Fixed(Fixed::I32),
+    Question::Fixed(Fixed::U64),
+    Question::Fixed(Fixed::I64),
+    Question::Fixed(Fixed::U128),
+    Question::Fixed(Fixed::Array),
+    Question::Sized(Sized::Uint(1)),
+    Question::Sized(Sized::Uint(2)),
+    Question::Sized(Sized::Uint(3)),
+    Question::Sized(Sized::Uint(4)),
+    Question::Sized(Sized::Uint(5)),
+    Question::Sized(Sized::Uint(6)),
+    Question::Sized(Sized::Uint(7)),
+    Question::Sized(Sized::Uint(8)),
+    Question::Sized(Sized::AddressSize),
+    Question::Sized(Sized::Address(0)),
+    Question::Sized(Sized::Address(1)),
+    Question::Sized(Sized::Address(2)),
+    Question::Sized(Sized::Address(3)),
+    Question::Sized(Sized::Address(4)),
+    Question::Sized(Sized::Address(8)),
+    Question::Sized(Sized::SizedOffset(0)),
+    Question::Sized(Sized::SizedOffset(1)),
+    Question::Sized(Sized::SizedOffset(2)),
+    Question::Sized(Sized::SizedOffset(3)),
+    Question::Sized(Sized::SizedOffset(4)),
+    Question::Sized(Sized::SizedOffset(8)),
+    Question::Sized(Sized::Word(Format::Dwarf32)),
+    Question::Sized(Sized::Word(Format::Dwarf64)),
+    Question::Sized(Sized::Length(Format::Dwarf32)),
+    Question::Sized(Sized::Length(Format::Dwarf64)),
+    Question::Sized(Sized::Offset(Format::Dwarf32)),
+    Question::Sized(Sized::Offset(Format::Dwarf64)),
+    Question::Sized(Sized::InitialLength),
+    Question::Leb128(Leb128::Skip),
+    Question::Leb128(Leb128::Unsigned),
+    Question::Leb128(Leb128::Of32Bits),
+    Question::Leb128(Leb128::Of16Bits),
+    Question::Leb128(Leb128::Signed),
+    Question::Leb128(Leb128::FreeSkip),
+    Question::Leb128(Leb128::FreeUnsigned),
+    Question::Leb128(Leb128::FreeOf16Bits),
+    Question::Leb128(Leb128::FreeSigned),
+];
 
-// The bytes of a part and its place.
-fn part<R: Reader>(alloc: Global, part: Result<R>) -> Result<(Vec<u8>, ReaderOffsetId)> {
-    let part = part?;
-    let mut bytes = Vec::new(alloc);
-    match bytes.extend_from_slice(&part.to_slice(alloc)?) {
-        Ok(()) => Ok((bytes, part.offset_id())),
-        Err(_) => Err(Error::OutOfMemory),
-    }
-}
-
-// How far the reader is behind itself after three bytes.
-fn behind<R: Reader>(r: &R) -> Result<u64> {
-    let mut later = *r;
-    later.skip(ReaderOffset::from_u8(3))?;
-    Ok(later.offset_from(r).into_u64())
-}
-
-// A text's bytes.
-fn text(alloc: Global, text: Result<CowStr<'_, Global>>) -> Result<String> {
-    match String::from_str(alloc, &text?) {
-        Ok(text) => Ok(text),
-        Err(_) => Err(Error::OutOfMemory),
-    }
-}
-
-// An initial length, as a number of 32 bits.
-fn length<R: Reader>(r: &mut R) -> Result<(u32, Format)> {
-    let (length, format) = r.read_initial_length()?;
-    Ok((u32::from_u64(length.into_u64())?, format))
-}
-
-// Wants one answer of both readers, and one place behind it.
-fn agree<T: PartialEq + Debug + Drop, A: Reader, B: Reader>(
+// Asks both readers the same, each as a copy of its own: wants one answer, and one place and length behind it.
+fn agree<A: Reader, B: Reader>(
     rt: &impl Abort,
-    answers: (T, T),
+    alloc: Global,
     one: &A,
     two: &B,
+    question: Question,
 ) {
-    assert_eq!(rt; answers.0, answers.1);
-    assert_eq!(rt; one.offset_id(), two.offset_id());
-    assert_eq!(rt; one.len().into_u64(), two.len().into_u64());
-}
-
-// Asks both readers the same, each as a copy of its own.
-macro_rules! same {
-    ($rt:ident, $one:ident, $two:ident, |$reader:ident| $answer:expr) => {{
-        let mut first = *$one;
-        let mut second = *$two;
-        let first_answer = {
-            let $reader = &mut first;
-            $answer
-        };
-        let second_answer = {
-            let $reader = &mut second;
-            $answer
-        };
-        agree($rt, (first_answer, second_answer), &first, &second);
-    }};
-}
-
-fn same_moves<A: Reader, B: Reader>(rt: &impl Abort, alloc: Global, one: &A, two: &B) {
-    same!(rt, one, two, |r| r.endian().is_big_endian());
-    same!(rt, one, two, |r| r.is_empty());
-    same!(rt, one, two, |r| r.empty());
-    for len in [0, 1, 5, 21, 22] {
-        same!(rt, one, two, |r| r.truncate(ReaderOffset::from_u8(len)));
-        same!(rt, one, two, |r| r.skip(ReaderOffset::from_u8(len)));
-        same!(
-            rt,
-            one,
-            two,
-            |r| part(alloc, r.split(ReaderOffset::from_u8(len)))
-        );
-    }
-}
-
-fn same_searches<A: Reader, B: Reader>(rt: &impl Abort, alloc: Global, one: &A, two: &B) {
-    for place in [0, 1, 4, 20, 21, 22] {
-        same!(
-            rt,
-            one,
-            two,
-            |r| r
-                .lookup_offset_id(ReaderOffsetId(place))
-                .map(|o| o.into_u64())
-        );
-    }
-    same!(rt, one, two, |r| behind(r));
-    for byte in [0, 0x61, 0xee] {
-        same!(rt, one, two, |r| narrow(r.find(byte)));
-    }
-    same!(
-        rt,
-        one,
-        two,
-        |r| part(alloc, r.read_null_terminated_slice())
+    let (mut one, mut two) = (*one, *two);
+    let (first, second) = (
+        ask(alloc, &mut one, question),
+        ask(alloc, &mut two, question),
     );
-    same!(rt, one, two, |r| part(alloc, Ok(*r)));
-}
-
-fn same_texts<A: Reader, B: Reader>(rt: &impl Abort, alloc: Global, one: &A, two: &B) {
-    same!(rt, one, two, |r| text(alloc, r.to_string(alloc)));
-    same!(rt, one, two, |r| text(alloc, r.to_string_lossy(alloc)));
-}
-
-fn same_numbers<A: Reader, B: Reader>(rt: &impl Abort, one: &A, two: &B) {
-    same!(rt, one, two, |r| r.read_u8());
-    same!(rt, one, two, |r| r.read_i8());
-    same!(rt, one, two, |r| r.read_u16());
-    same!(rt, one, two, |r| r.read_i16());
-    same!(rt, one, two, |r| r.read_u32());
-    same!(rt, one, two, |r| r.read_i32());
-    same!(rt, one, two, |r| r.read_u64());
-    same!(rt, one, two, |r| r.read_i64());
-    same!(rt, one, two, |r| r.read_u128());
-    for n in 1..9 {
-        same!(rt, one, two, |r| r.read_uint(n));
-    }
-}
-
-fn same_sized<A: Reader, B: Reader>(rt: &impl Abort, one: &A, two: &B) {
-    same!(rt, one, two, |r| r.read_address_size());
-    for size in [0, 1, 2, 3, 4, 8] {
-        same!(rt, one, two, |r| r.read_address(size));
-        same!(rt, one, two, |r| narrow(r.read_sized_offset(size)));
-    }
-    for format in [Format::Dwarf32, Format::Dwarf64] {
-        same!(rt, one, two, |r| narrow(r.read_word(format)));
-        same!(rt, one, two, |r| narrow(r.read_length(format)));
-        same!(rt, one, two, |r| narrow(r.read_offset(format)));
-    }
-    same!(rt, one, two, |r| length(r));
-}
-
-fn same_leb128<A: Reader, B: Reader>(rt: &impl Abort, one: &A, two: &B) {
-    same!(rt, one, two, |r| r.skip_leb128());
-    same!(rt, one, two, |r| r.read_uleb128());
-    same!(rt, one, two, |r| r.read_uleb128_u32());
-    same!(rt, one, two, |r| r.read_uleb128_u16());
-    same!(rt, one, two, |r| r.read_sleb128());
-    same!(rt, one, two, |r| read_u8_array::<3, _>(r));
-    same!(rt, one, two, |r| leb128::read::skip(r));
-    same!(rt, one, two, |r| leb128::read::unsigned(r));
-    same!(rt, one, two, |r| leb128::read::u16(r));
-    same!(rt, one, two, |r| leb128::read::signed(r));
+    assert!(rt; first == second, "{question:?}: {first:?}, {second:?}");
+    assert!(rt; places(&one) == places(&two), "{question:?}");
 }
 
 // The bytes of the reader, and their order.
@@ -177,12 +122,9 @@ impl<H: Abort> ReaderTest<H> for SameAnswers<'_> {
             one.skip(start)?;
             let mut two = reader;
             two.skip(ReaderOffset::from_u64(start as u64)?)?;
-            same_moves(rt, alloc, &one, &two);
-            same_searches(rt, alloc, &one, &two);
-            same_texts(rt, alloc, &one, &two);
-            same_numbers(rt, &one, &two);
-            same_sized(rt, &one, &two);
-            same_leb128(rt, &one, &two);
+            for question in &QUESTIONS {
+                agree(rt, alloc, &one, &two, *question);
+            }
         }
         Ok(())
     }

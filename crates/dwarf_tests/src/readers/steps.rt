@@ -25,6 +25,6 @@ impl Counted for TwoSteps {
 
 #[test]
 fn a_count_takes_no_bytes(rt: HostRuntime) {
-    assert_eq!(rt; count_steps(TwoSteps), 2);
-    assert_eq!(rt; size_of::<Steps<Brand>>(), 0);
+    assert!(rt; count_steps(TwoSteps) == 2);
+    assert!(rt; (size_of::<Steps<Brand>>()) == 0);
 }
