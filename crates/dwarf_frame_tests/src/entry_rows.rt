@@ -1,9 +1,10 @@
 //! The rows of a function that pushes and sets a frame pointer, by its entry.
-use dwarf_call_frames::{BaseAddresses, EhFrame, UnwindContext, UnwindSection};
+use super::listed::fde_at;
+use dwarf_call_frames::{BaseAddresses, EhFrame, UnwindContext, UnwindContextStorage};
 use dwarf_frame_row_tests::line_of;
 use dwarf_frame_rows::StoreOnHeap;
 use dwarf_offsets::EhFrameOffset;
-use dwarf_readers::{EndianSlice, LittleEndian};
+use dwarf_readers::{LittleEndian, Reader, ReaderOffset};
 use dwarf_tests::WORKED;
 use std::alloc::Global;
 use std::test::Fail;
@@ -15,27 +16,30 @@ const REFUSED: [u8; 56] = [
     0x43, 0x0d, 6, 0, 0, 0, 0,
 ];
 
-type Slice<'a> = EndianSlice<'a, LittleEndian>;
-
-// A section, with no addresses that pointers count from.
-fn section_of(bytes: &[u8]) -> (EhFrame<Slice<'_>>, BaseAddresses) {
-    (EhFrame::new(bytes, LittleEndian), BaseAddresses::default())
+// The row for an address that a section has by its FDE at 20, or the refusal, as a line of text.
+fn line_in<R: Reader, S: UnwindContextStorage<R::Offset>>(
+    alloc: Global,
+    section: &EhFrame<R>,
+    context: &mut UnwindContext<R::Offset, S>,
+    address: u64,
+) -> Result<String, Fail> {
+    let bases = BaseAddresses::default();
+    let fde = fde_at(section, &bases, EhFrameOffset(R::Offset::from_u8(20)))?;
+    let line = match fde.unwind_info_for_address(section, &bases, context, address) {
+        Ok(row) => line_of(alloc, row)?,
+        Err(error) => format!(in alloc; "{error:?}")?,
+    };
+    Ok(line)
 }
 
-// The row for an address that such a section has by its FDE, or the refusal, as a line of text.
+// .. of a section with these bytes.
 fn line_at(
     alloc: Global,
     bytes: &[u8],
     context: &mut UnwindContext<usize, StoreOnHeap>,
     address: u64,
 ) -> Result<String, Fail> {
-    let (section, bases) = section_of(bytes);
-    let fde = section.fde_from_offset(&bases, EhFrameOffset(20), UnwindSection::cie_from_offset)?;
-    let line = match fde.unwind_info_for_address(&section, &bases, context, address) {
-        Ok(row) => line_of(alloc, row)?,
-        Err(error) => format!(in alloc; "{error:?}")?,
-    };
-    Ok(line)
+    line_in(alloc, &EhFrame::new(bytes, LittleEndian), context, address)
 }
 
 // In the worked section: an address, and the row for it. RSP is register 7, RBP 6, and the return address 16.

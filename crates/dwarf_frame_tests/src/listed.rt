@@ -71,8 +71,8 @@ struct Of<R: Reader> {
     reader: R,
 }
 
-// The FDE at an offset, with its CIE.
-fn fde_at<R: Reader, Section: UnwindSection<R>>(
+/// The FDE at an offset, with its CIE.
+pub fn fde_at<R: Reader, Section: UnwindSection<R>>(
     section: &Section,
     bases: &BaseAddresses,
     offset: Section::Offset,

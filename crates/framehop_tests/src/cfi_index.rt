@@ -1,15 +1,12 @@
 //! Look-ups of an index, compared with a pass over the whole section.
-use dwarf_call_frames::{BaseAddresses, EhFrame, Entry, FrameDescriptionEntry, UnwindSection};
-use dwarf_read_core::{EndianSlice, Error, LittleEndian};
+use dwarf_call_frames::{
+    _UnwindSectionPrivate, BaseAddresses, EhFrame, Entry, FrameDescriptionEntry,
+    PartialFrameDescriptionEntry, UnwindSection,
+};
+use dwarf_read_core::{Error, LittleEndian, Reader, ReaderOffset};
 use framehop::{DwarfCfiIndex, DwarfCfiIndexError};
 use std::alloc::Global;
 use std::test::Fail;
-
-/// A section with its bytes in place.
-type Section<'a> = EhFrame<EndianSlice<'a, LittleEndian>>;
-
-/// An FDE of one.
-type Fde<'a> = FrameDescriptionEntry<EndianSlice<'a, LittleEndian>>;
 
 const BASE: u64 = 0x40_0000;
 
@@ -45,7 +42,7 @@ fn scrambled(alloc: Global, count: u64) -> Result<Vec<u64>, Fail> {
 #[derive(Debug, Clone, Copy)]
 struct Placed {
     start: u64,
-    offset: usize,
+    offset: u64,
 }
 
 /// The later start of two entries at or below an address, or the earlier entry where they are equal.
@@ -59,18 +56,30 @@ fn nearer(nearest: Option<Placed>, fde: Placed, address: u64) -> Option<Placed> 
     }
 }
 
+/// An FDE with its CIE.
+fn fde_of<R: Reader>(
+    section: &EhFrame<R>,
+    partial: &PartialFrameDescriptionEntry<'_, EhFrame<R>, R>,
+) -> Result<FrameDescriptionEntry<R>, Error> {
+    let endian = section.section().endian();
+    partial.parse(move |s, b, o| {
+        let _endian = endian;
+        s.cie_from_offset(b, o)
+    })
+}
+
 /// The FDEs of a section, in their order.
-fn fdes_of(alloc: Global, section: &Section<'_>) -> Result<Vec<Placed>, Fail> {
+fn fdes_of<R: Reader>(alloc: Global, section: &EhFrame<R>) -> Result<Vec<Placed>, Fail> {
     let mut fdes = Vec::new(alloc);
     let bases = BaseAddresses::default();
     let mut entries = section.entries(&bases);
     for _ in 0..u64::MAX {
         match entries.next()? {
             Some(Entry::Fde(partial)) => {
-                let fde: Fde<'_> = partial.parse(UnwindSection::cie_from_offset)?;
+                let fde = fde_of(section, &partial)?;
                 fdes.push(Placed {
                     start: fde.initial_address(),
-                    offset: fde.offset(),
+                    offset: fde.offset().into_u64(),
                 })?;
             }
             Some(Entry::Cie(_)) => {}
@@ -81,7 +90,7 @@ fn fdes_of(alloc: Global, section: &Section<'_>) -> Result<Vec<Placed>, Fail> {
 }
 
 /// Where the entry for an address stands, by one pass over the section's FDEs.
-fn plain_pass(fdes: &[Placed], address: u64) -> Option<usize> {
+fn plain_pass(fdes: &[Placed], address: u64) -> Option<u64> {
     let mut nearest = None;
     for fde in fdes {
         nearest = nearer(nearest, *fde, address);
@@ -110,7 +119,7 @@ fn differing(rt: &HostRuntime, count: u64) -> Result<u64, Fail> {
         for relative in first..first.saturating_add(3) {
             let found = index.fde_offset_for_relative_address(relative);
             let wanted = plain_pass(&fdes, BASE.wrapping_add(u64::from(relative)));
-            if found.map(|offset| offset as usize) != wanted {
+            if found.map(u64::from) != wanted {
                 differing = differing.wrapping_add(1);
             }
         }

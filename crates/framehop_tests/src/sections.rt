@@ -4,10 +4,10 @@ use dwarf_tests::WORKED;
 use framehop::x86_64::{ArchX86_64, UnwindRegsX86_64};
 use framehop::{
     AllocationPolicy, BySections, DwarfUnwindContext, FrameAddress, MayAllocateDuringUnwind,
-    ModuleUnwindData, MustNotAllocateDuringUnwind,
+    Module, ModuleUnwindData, MustNotAllocateDuringUnwind,
 };
 use framehop_modules::ExplicitModuleSectionInfo;
-use framehop_unwinder::{Generations, Module, Session};
+use framehop_unwinder::{Generations, Session};
 use std::alloc::Global;
 use std::test::Fail;
 
@@ -23,29 +23,41 @@ type Sections<'a> = ExplicitModuleSectionInfo<&'a [u8]>;
 /// The registers ip, sp and bp.
 type Registers = (u64, u64, u64);
 
+/// A module with these sections.
+fn module_of<'a>(alloc: Global, mut sections: Sections<'a>) -> Result<Module<&'a [u8]>, Fail> {
+    let name = String::from_str(alloc, "m")?;
+    let unwind_data = ModuleUnwindData::new(alloc, &mut sections)?;
+    Ok(Module::new(alloc, name, 0x100000..0x102000, 0x100000, unwind_data)?)
+}
+
+/// A session of one unwinder, one cache and one module with these sections.
+fn session_of<'a, P: AllocationPolicy>(
+    alloc: Global,
+    sections: Sections<'a>,
+) -> Result<Session<BySections<ArchX86_64, &'a [u8], P>>, Fail> {
+    let module = module_of(alloc, sections)?;
+    let context = DwarfUnwindContext::new(alloc)?;
+    let mut session = Session::new(alloc, Generations::new());
+    session.add_cache(alloc, context)?;
+    if session.add_unwinder(alloc).is_err() || session.unwinders() == 0 {
+        return Err(Fail::new("no unwinder"));
+    }
+    if session.load(0, module).is_err() {
+        return Err(Fail::new("not loaded"));
+    }
+    Ok(session)
+}
+
 /// What two equal steps in a module with these sections answer, the registers that the last of them
 /// leaves, and whether it found its rule in the cache.
 fn step_twice<'a, P: AllocationPolicy>(
     alloc: Global,
-    mut sections: Sections<'a>,
+    sections: Sections<'a>,
     (ip, sp, bp): Registers,
 ) -> Result<(Option<u64>, Registers, bool), Fail> {
-    let mut session: Session<BySections<ArchX86_64, &'a [u8], P>> = Session::new(
-        alloc,
-        Generations::new(),
-    );
-    if session.add_unwinder(alloc).is_err() {
-        return Err(Fail::new("no unwinder"));
-    }
-    session.add_cache(alloc, DwarfUnwindContext::new(alloc)?)?;
-    let name = String::from_str(alloc, "m")?;
-    let unwind_data = ModuleUnwindData::new(alloc, &mut sections)?;
-    let module = Module::new(alloc, name, 0x100000..0x102000, 0x100000, unwind_data)?;
+    let mut session = session_of::<P>(alloc, sections)?;
     if session.unwinders() == 0 || session.caches() == 0 {
         return Err(Fail::new("nothing was made"));
-    }
-    if session.load(0, module).is_err() {
-        return Err(Fail::new("not loaded"));
     }
     let address = FrameAddress::from_instruction_pointer(ip);
     let mut read = word_at;

@@ -4,8 +4,8 @@
 use crate::section::{Base, Cfa, Column, Row, with_row};
 use framehop::aarch64::{ArchAarch64, PtrAuthMask, UnwindRegsAarch64};
 use framehop::{
-    BySections, DwarfUnwindContext, ExplicitModuleSectionInfo, FrameAddress, Generations, Module,
-    ModuleUnwindData, MustNotAllocateDuringUnwind,
+    AllocationPolicy, BySections, DwarfUnwindContext, ExplicitModuleSectionInfo, FrameAddress,
+    Generations, Module, ModuleUnwindData, MustNotAllocateDuringUnwind,
 };
 use framehop_unwinder::Session;
 use std::alloc::Global;
@@ -31,36 +31,58 @@ type Stepped = (Option<u64>, (u64, u64, u64), bool);
 /// Two equal steps in a module with a row, from a first or a later frame, by what the last gives.
 fn step(alloc: Global, row: &Row, is_first: bool) -> Result<Stepped, Fail> {
     let bytes = with_row(alloc, row)?;
-    step_in(alloc, bytes.as_slice(), is_first)
+    step_in::<MustNotAllocateDuringUnwind>(alloc, bytes.as_slice(), is_first)
 }
 
-/// Two equal steps in a module with this section.
-fn step_in<'a>(alloc: Global, section: &'a [u8], is_first: bool) -> Result<Stepped, Fail> {
-    let mut session: Session<BySections<ArchAarch64, &'a [u8], MustNotAllocateDuringUnwind>> =
-        Session::new(alloc, Generations::new());
-    if session.add_unwinder(alloc).is_err() {
-        return Err(Fail::new("no unwinder"));
-    }
-    session.add_cache(alloc, DwarfUnwindContext::new(alloc)?)?;
+/// A module with this section.
+fn module_of<'a>(alloc: Global, section: &'a [u8]) -> Result<Module<&'a [u8]>, Fail> {
     let mut sections = ExplicitModuleSectionInfo::default();
     sections.eh_frame = Some(section);
     let name = String::from_str(alloc, "m")?;
     let unwind_data = ModuleUnwindData::new(alloc, &mut sections)?;
-    let module = Module::new(alloc, name, 0x0..0x2000, 0x0, unwind_data)?;
-    if session.unwinders() == 0 || session.caches() == 0 {
-        return Err(Fail::new("nothing was made"));
+    Ok(Module::new(alloc, name, 0x0..0x2000, 0x0, unwind_data)?)
+}
+
+/// A session of one unwinder, one cache and one module with this section.
+fn session_of<'a, P: AllocationPolicy>(
+    alloc: Global,
+    section: &'a [u8],
+) -> Result<Session<BySections<ArchAarch64, &'a [u8], P>>, Fail> {
+    let module = module_of(alloc, section)?;
+    let context = DwarfUnwindContext::new(alloc)?;
+    let mut session = Session::new(alloc, Generations::new());
+    session.add_cache(alloc, context)?;
+    if session.add_unwinder(alloc).is_err() || session.unwinders() == 0 {
+        return Err(Fail::new("no unwinder"));
     }
     if session.load(0, module).is_err() {
         return Err(Fail::new("not loaded"));
     }
-    let Some(later) = FrameAddress::from_return_address(0x1005) else {
-        return Err(Fail::new("a return address of 0"));
-    };
-    let address = if is_first {
-        FrameAddress::from_instruction_pointer(0x1004)
-    } else {
-        later
-    };
+    Ok(session)
+}
+
+/// A first or a later frame, in the code that the section is about.
+fn frame(is_first: bool) -> Result<FrameAddress, Fail> {
+    if is_first {
+        return Ok(FrameAddress::from_instruction_pointer(0x1004));
+    }
+    match FrameAddress::from_return_address(0x1005) {
+        Some(later) => Ok(later),
+        None => Err(Fail::new("a return address of 0")),
+    }
+}
+
+/// Two equal steps in a module with this section.
+fn step_in<'a, P: AllocationPolicy>(
+    alloc: Global,
+    section: &'a [u8],
+    is_first: bool,
+) -> Result<Stepped, Fail> {
+    let mut session = session_of::<P>(alloc, section)?;
+    if session.unwinders() == 0 || session.caches() == 0 {
+        return Err(Fail::new("nothing was made"));
+    }
+    let address = frame(is_first)?;
     let mask = PtrAuthMask::new_24_40();
     let mut read = word_at;
     let mut regs = UnwindRegsAarch64::new_with_ptr_auth_mask(mask, 0x1234, SP, FP);

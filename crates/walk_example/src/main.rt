@@ -16,22 +16,40 @@ use std::alloc::Global;
 const MOST_FRAMES: usize = 128;
 
 fn main(rt: HostRuntime) -> Result<()> {
-    let mut generations = Generations::new();
-    let mut unwinder: UnwinderX86_64<Vec<u8>> = UnwinderX86_64::new(rt.alloc(), &mut generations)?;
-    let library = library(rt.alloc())?;
-    if unwinder.add_module(&mut generations, library).is_err() {
-        bail!("the module can't be loaded");
-    }
+    let unwinder = unwinder_of_process(rt.alloc())?;
     let mut cache: CacheX86_64 = CacheX86_64::new(
         rt.alloc(),
         DwarfUnwindContext::new(rt.alloc())?,
     )?;
+    print_samples(&rt, &unwinder, &mut cache)?;
+    println!(rt; "{} rules found in the cache", cache.stats().hits())?;
+    Ok(())
+}
+
+/// An unwinder that knows the modules of the process.
+fn unwinder_of_process(alloc: Global) -> Result<UnwinderX86_64<Vec<u8>>> {
+    let mut generations = Generations::new();
+    let mut unwinder = UnwinderX86_64::new(alloc, &mut generations)?;
+    if unwinder
+        .add_module(&mut generations, library(alloc)?)
+        .is_err()
+    {
+        bail!("the module can't be loaded");
+    }
+    Ok(unwinder)
+}
+
+/// Prints the code addresses of each sample's frames.
+fn print_samples<U: Unwinder<UnwindRegs = UnwindRegsX86_64>>(
+    rt: &HostRuntime,
+    unwinder: &U,
+    cache: &mut U::Cache,
+) -> Result<()> {
     for sample in &SAMPLES {
-        for address in code_addresses(rt.alloc(), &unwinder, &mut cache, sample)? {
+        for address in code_addresses(rt.alloc(), unwinder, cache, sample)? {
             println!(rt; "{address:#x}")?;
         }
     }
-    println!(rt; "{} rules found in the cache", cache.stats().hits())?;
     Ok(())
 }
 
