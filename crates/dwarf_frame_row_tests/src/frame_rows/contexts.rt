@@ -217,7 +217,7 @@ fn room_for_4_rows(rt: HostRuntime) -> Result<(), Fail> {
     follow::<StoreOnHeap>(&rt, rt.alloc(), &REMEMBERED)
 }
 
-static FULL: [Row; 6] = [
+static FULL: [Row; 7] = [
     (Step::Rules(1), "0..0 r0,0 0=c8"),
     (
         Step::By(Effect::Rule(Register(0), RegisterRule::Undefined)),
@@ -225,6 +225,7 @@ static FULL: [Row; 6] = [
     ),
     (Step::Save, "0..0 r0,0 0=u"),
     (Step::Rules(2), "TooManyRegisterRules"),
+    (Step::By(Effect::Nothing), "0..0 r0,0 0=c8"),
     (Step::By(Effect::Remember), "StackFull"),
     (Step::By(Effect::Restore), "PopWithEmptyStack"),
 ];
