@@ -61,9 +61,9 @@ form_names =
     (0x1f02, codes "DW_FORM_GNU_str_index") ∷ (0x1f20, codes "DW_FORM_GNU_ref_alt") ∷
     (0x1f21, codes "DW_FORM_GNU_strp_alt") ∷ []
 
--- operations on the numbers of an expression, its stack and registers (DWARF 5, 7.7.1, table 7.9)
-abbrev pub operation_names : List (ℕ × List ℕ)
-operation_names =
+-- operations whose opcode holds no number (DWARF 5, 7.7.1, table 7.9)
+abbrev pub plain_operation_names : List (ℕ × List ℕ)
+plain_operation_names =
     (0x03, codes "DW_OP_addr") ∷ (0x08, codes "DW_OP_const1u") ∷ (0x09, codes "DW_OP_const1s") ∷
     (0x0a, codes "DW_OP_const2u") ∷ (0x0b, codes "DW_OP_const2s") ∷ (0x0c, codes "DW_OP_const4u") ∷
     (0x0d, codes "DW_OP_const4s") ∷ (0x0e, codes "DW_OP_const8u") ∷ (0x0f, codes "DW_OP_const8s") ∷
@@ -77,17 +77,26 @@ operation_names =
     (0x26, codes "DW_OP_shra") ∷ (0x27, codes "DW_OP_xor") ∷ (0x28, codes "DW_OP_bra") ∷
     (0x29, codes "DW_OP_eq") ∷ (0x2a, codes "DW_OP_ge") ∷ (0x2b, codes "DW_OP_gt") ∷
     (0x2c, codes "DW_OP_le") ∷ (0x2d, codes "DW_OP_lt") ∷ (0x2e, codes "DW_OP_ne") ∷
-    (0x2f, codes "DW_OP_skip") ∷ (0x30, codes "DW_OP_lit0") ∷ (0x31, codes "DW_OP_lit1") ∷
-    (0x32, codes "DW_OP_lit2") ∷ (0x33, codes "DW_OP_lit3") ∷ (0x34, codes "DW_OP_lit4") ∷
-    (0x35, codes "DW_OP_lit5") ∷ (0x36, codes "DW_OP_lit6") ∷ (0x37, codes "DW_OP_lit7") ∷
-    (0x38, codes "DW_OP_lit8") ∷ (0x39, codes "DW_OP_lit9") ∷ (0x3a, codes "DW_OP_lit10") ∷
-    (0x3b, codes "DW_OP_lit11") ∷ (0x3c, codes "DW_OP_lit12") ∷ (0x3d, codes "DW_OP_lit13") ∷
-    (0x3e, codes "DW_OP_lit14") ∷ (0x3f, codes "DW_OP_lit15") ∷ (0x40, codes "DW_OP_lit16") ∷
-    (0x41, codes "DW_OP_lit17") ∷ (0x42, codes "DW_OP_lit18") ∷ (0x43, codes "DW_OP_lit19") ∷
-    (0x44, codes "DW_OP_lit20") ∷ (0x45, codes "DW_OP_lit21") ∷ (0x46, codes "DW_OP_lit22") ∷
-    (0x47, codes "DW_OP_lit23") ∷ (0x48, codes "DW_OP_lit24") ∷ (0x49, codes "DW_OP_lit25") ∷
-    (0x4a, codes "DW_OP_lit26") ∷ (0x4b, codes "DW_OP_lit27") ∷ (0x4c, codes "DW_OP_lit28") ∷
-    (0x4d, codes "DW_OP_lit29") ∷ (0x4e, codes "DW_OP_lit30") ∷ (0x4f, codes "DW_OP_lit31") ∷
+    (0x2f, codes "DW_OP_skip") ∷ (0x92, codes "DW_OP_bregx") ∷ (0x96, codes "DW_OP_nop") ∷ []
+
+-- operations whose opcode holds a number below 32, from 0x30 on
+abbrev pub literal_names : List (ℕ × List ℕ)
+literal_names =
+    (0x30, codes "DW_OP_lit0") ∷ (0x31, codes "DW_OP_lit1") ∷ (0x32, codes "DW_OP_lit2") ∷
+    (0x33, codes "DW_OP_lit3") ∷ (0x34, codes "DW_OP_lit4") ∷ (0x35, codes "DW_OP_lit5") ∷
+    (0x36, codes "DW_OP_lit6") ∷ (0x37, codes "DW_OP_lit7") ∷ (0x38, codes "DW_OP_lit8") ∷
+    (0x39, codes "DW_OP_lit9") ∷ (0x3a, codes "DW_OP_lit10") ∷ (0x3b, codes "DW_OP_lit11") ∷
+    (0x3c, codes "DW_OP_lit12") ∷ (0x3d, codes "DW_OP_lit13") ∷ (0x3e, codes "DW_OP_lit14") ∷
+    (0x3f, codes "DW_OP_lit15") ∷ (0x40, codes "DW_OP_lit16") ∷ (0x41, codes "DW_OP_lit17") ∷
+    (0x42, codes "DW_OP_lit18") ∷ (0x43, codes "DW_OP_lit19") ∷ (0x44, codes "DW_OP_lit20") ∷
+    (0x45, codes "DW_OP_lit21") ∷ (0x46, codes "DW_OP_lit22") ∷ (0x47, codes "DW_OP_lit23") ∷
+    (0x48, codes "DW_OP_lit24") ∷ (0x49, codes "DW_OP_lit25") ∷ (0x4a, codes "DW_OP_lit26") ∷
+    (0x4b, codes "DW_OP_lit27") ∷ (0x4c, codes "DW_OP_lit28") ∷ (0x4d, codes "DW_OP_lit29") ∷
+    (0x4e, codes "DW_OP_lit30") ∷ (0x4f, codes "DW_OP_lit31") ∷ []
+
+-- operations whose opcode holds a register below 32, from 0x70 on
+abbrev pub register_offset_names : List (ℕ × List ℕ)
+register_offset_names =
     (0x70, codes "DW_OP_breg0") ∷ (0x71, codes "DW_OP_breg1") ∷ (0x72, codes "DW_OP_breg2") ∷
     (0x73, codes "DW_OP_breg3") ∷ (0x74, codes "DW_OP_breg4") ∷ (0x75, codes "DW_OP_breg5") ∷
     (0x76, codes "DW_OP_breg6") ∷ (0x77, codes "DW_OP_breg7") ∷ (0x78, codes "DW_OP_breg8") ∷
@@ -98,8 +107,11 @@ operation_names =
     (0x85, codes "DW_OP_breg21") ∷ (0x86, codes "DW_OP_breg22") ∷ (0x87, codes "DW_OP_breg23") ∷
     (0x88, codes "DW_OP_breg24") ∷ (0x89, codes "DW_OP_breg25") ∷ (0x8a, codes "DW_OP_breg26") ∷
     (0x8b, codes "DW_OP_breg27") ∷ (0x8c, codes "DW_OP_breg28") ∷ (0x8d, codes "DW_OP_breg29") ∷
-    (0x8e, codes "DW_OP_breg30") ∷ (0x8f, codes "DW_OP_breg31") ∷ (0x92, codes "DW_OP_bregx") ∷
-    (0x96, codes "DW_OP_nop") ∷ []
+    (0x8e, codes "DW_OP_breg30") ∷ (0x8f, codes "DW_OP_breg31") ∷ []
+
+-- operations on the numbers of an expression, its stack and registers (DWARF 5, 7.7.1, table 7.9)
+abbrev pub operation_names : List (ℕ × List ℕ)
+operation_names = plain_operation_names ++ literal_names ++ register_offset_names
 
 -- encodings of pointers (LSB 5.0, 10.5): formats, applications, the indirect bit, and none
 abbrev pub pointer_names : List (ℕ × List ℕ)

@@ -1,7 +1,7 @@
 //! The constants of DWARF 5, section 7, and of the call frames of the LSB.
 ghost use Rattle.std.specs.Prelude.{◌≡◌, ◌↔◌, ◌==◌, IsTrue, IsBitSet, Contains, Some, bit_or, option_map, codes};
 ghost use Rattle.std.specs.List.{list_any};
-ghost use Rattle.dwarf_constants.specs.Names.{name_in, shown_code, cfa_names, children_names, operation_names, pointer_names};
+ghost use Rattle.dwarf_constants.specs.Names.{name_in, shown_code, cfa_names, children_names, operation_names, plain_operation_names, literal_names, register_offset_names, pointer_names};
 ghost use Rattle.dwarf_constants.specs.Pointer.{format_of, application_of, formats, applications, valid_encodings};
 
 use std::fmt;
@@ -386,24 +386,50 @@ impl DwOp {
     pub fn static_string(&self) -> Option<&'static str>
         ensures { option_map (λ s. s.now) result ≡ name_in operation_names self.now.0 }
     {
-        name_of!(*self;
+        self.plain_string()
+            .or(self.literal_string())
+            .or(self.register_string())
+    }
+
+    // The name of an operation whose opcode holds no number.
+    fn plain_string(self) -> Option<&'static str>
+        ensures { option_map (λ s. s.now) result ≡ name_in plain_operation_names self.0 }
+    {
+        name_of!(self;
             DW_OP_addr, DW_OP_const1u, DW_OP_const1s, DW_OP_const2u, DW_OP_const2s, DW_OP_const4u,
             DW_OP_const4s, DW_OP_const8u, DW_OP_const8s, DW_OP_constu, DW_OP_consts, DW_OP_dup,
             DW_OP_drop, DW_OP_over, DW_OP_pick, DW_OP_swap, DW_OP_rot, DW_OP_abs, DW_OP_and,
             DW_OP_div, DW_OP_minus, DW_OP_mod, DW_OP_mul, DW_OP_neg, DW_OP_not, DW_OP_or,
             DW_OP_plus, DW_OP_plus_uconst, DW_OP_shl, DW_OP_shr, DW_OP_shra, DW_OP_xor, DW_OP_bra,
-            DW_OP_eq, DW_OP_ge, DW_OP_gt, DW_OP_le, DW_OP_lt, DW_OP_ne, DW_OP_skip, DW_OP_lit0,
-            DW_OP_lit1, DW_OP_lit2, DW_OP_lit3, DW_OP_lit4, DW_OP_lit5, DW_OP_lit6, DW_OP_lit7,
-            DW_OP_lit8, DW_OP_lit9, DW_OP_lit10, DW_OP_lit11, DW_OP_lit12, DW_OP_lit13, DW_OP_lit14,
-            DW_OP_lit15, DW_OP_lit16, DW_OP_lit17, DW_OP_lit18, DW_OP_lit19, DW_OP_lit20,
-            DW_OP_lit21, DW_OP_lit22, DW_OP_lit23, DW_OP_lit24, DW_OP_lit25, DW_OP_lit26,
-            DW_OP_lit27, DW_OP_lit28, DW_OP_lit29, DW_OP_lit30, DW_OP_lit31, DW_OP_breg0,
-            DW_OP_breg1, DW_OP_breg2, DW_OP_breg3, DW_OP_breg4, DW_OP_breg5, DW_OP_breg6,
-            DW_OP_breg7, DW_OP_breg8, DW_OP_breg9, DW_OP_breg10, DW_OP_breg11, DW_OP_breg12,
-            DW_OP_breg13, DW_OP_breg14, DW_OP_breg15, DW_OP_breg16, DW_OP_breg17, DW_OP_breg18,
-            DW_OP_breg19, DW_OP_breg20, DW_OP_breg21, DW_OP_breg22, DW_OP_breg23, DW_OP_breg24,
-            DW_OP_breg25, DW_OP_breg26, DW_OP_breg27, DW_OP_breg28, DW_OP_breg29, DW_OP_breg30,
-            DW_OP_breg31, DW_OP_bregx, DW_OP_nop,
+            DW_OP_eq, DW_OP_ge, DW_OP_gt, DW_OP_le, DW_OP_lt, DW_OP_ne, DW_OP_skip, DW_OP_bregx,
+            DW_OP_nop,
+        )
+    }
+
+    // The name of `DW_OP_lit0` to `DW_OP_lit31`.
+    fn literal_string(self) -> Option<&'static str>
+        ensures { option_map (λ s. s.now) result ≡ name_in literal_names self.0 }
+    {
+        name_of!(self;
+            DW_OP_lit0, DW_OP_lit1, DW_OP_lit2, DW_OP_lit3, DW_OP_lit4, DW_OP_lit5, DW_OP_lit6,
+            DW_OP_lit7, DW_OP_lit8, DW_OP_lit9, DW_OP_lit10, DW_OP_lit11, DW_OP_lit12, DW_OP_lit13,
+            DW_OP_lit14, DW_OP_lit15, DW_OP_lit16, DW_OP_lit17, DW_OP_lit18, DW_OP_lit19,
+            DW_OP_lit20, DW_OP_lit21, DW_OP_lit22, DW_OP_lit23, DW_OP_lit24, DW_OP_lit25,
+            DW_OP_lit26, DW_OP_lit27, DW_OP_lit28, DW_OP_lit29, DW_OP_lit30, DW_OP_lit31,
+        )
+    }
+
+    // The name of `DW_OP_breg0` to `DW_OP_breg31`.
+    fn register_string(self) -> Option<&'static str>
+        ensures { option_map (λ s. s.now) result ≡ name_in register_offset_names self.0 }
+    {
+        name_of!(self;
+            DW_OP_breg0, DW_OP_breg1, DW_OP_breg2, DW_OP_breg3, DW_OP_breg4, DW_OP_breg5,
+            DW_OP_breg6, DW_OP_breg7, DW_OP_breg8, DW_OP_breg9, DW_OP_breg10, DW_OP_breg11,
+            DW_OP_breg12, DW_OP_breg13, DW_OP_breg14, DW_OP_breg15, DW_OP_breg16, DW_OP_breg17,
+            DW_OP_breg18, DW_OP_breg19, DW_OP_breg20, DW_OP_breg21, DW_OP_breg22, DW_OP_breg23,
+            DW_OP_breg24, DW_OP_breg25, DW_OP_breg26, DW_OP_breg27, DW_OP_breg28, DW_OP_breg29,
+            DW_OP_breg30, DW_OP_breg31,
         )
     }
 }

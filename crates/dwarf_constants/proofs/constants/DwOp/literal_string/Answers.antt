@@ -1,0 +1,7 @@
+use Rattle.std.proofs.Common.{rules}
+use Rattle.dwarf_constants.specs.Names.{literal_names}
+use Rattle.dwarf_constants.proofs.NamesLemmas.{no_name}
+use Rattle.dwarf_constants.proofs.constants.DwOp.literal_string.Goals as goal
+
+pub returns-in_default : goal.returns-in_default
+returns-in_default c = no_name literal_names c.args.self.0 (search rules)
