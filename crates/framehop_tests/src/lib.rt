@@ -10,6 +10,8 @@ mod expressions;
 #[cfg(test)]
 mod pop_lists;
 #[cfg(test)]
+mod row_edges;
+#[cfg(test)]
 mod rule_cache;
 #[cfg(test)]
 mod rules;
@@ -17,6 +19,8 @@ mod rules;
 mod rules_aarch64;
 #[cfg(test)]
 mod sections;
+#[cfg(test)]
+mod sessions;
 #[cfg(test)]
 mod steps;
 #[cfg(test)]

@@ -1,13 +1,12 @@
 //! Steps in modules that are unwound by their sections, with a session's caches, on the worked stack.
+use crate::sessions::{Sections, Stepped, module_of, step_twice};
 use crate::worked::word_at;
 use dwarf_tests::WORKED;
 use framehop::x86_64::{ArchX86_64, UnwindRegsX86_64};
 use framehop::{
     AllocationPolicy, BySections, DwarfUnwindContext, FrameAddress, MayAllocateDuringUnwind,
-    Module, ModuleUnwindData, MustNotAllocateDuringUnwind,
+    MustNotAllocateDuringUnwind,
 };
-use framehop_modules::ExplicitModuleSectionInfo;
-use framehop_unwinder::{Generations, Session};
 use std::alloc::Global;
 use std::test::Fail;
 
@@ -18,54 +17,23 @@ static NARROW: [u8; 40] = [
     0, 0, 0, 0, 0, 0, 0, 0x10, 0, 0, 0x10, 0, 0, 0, 0x0f, 2, 0x77, 8,
 ];
 
-type Sections<'a> = ExplicitModuleSectionInfo<&'a [u8]>;
-
 /// The registers ip, sp and bp.
 type Registers = (u64, u64, u64);
 
-/// A module with these sections.
-fn module_of<'a>(alloc: Global, mut sections: Sections<'a>) -> Result<Module<&'a [u8]>, Fail> {
-    let name = String::from_str(alloc, "m")?;
-    let unwind_data = ModuleUnwindData::new(alloc, &mut sections)?;
-    Ok(Module::new(alloc, name, 0x100000..0x102000, 0x100000, unwind_data)?)
-}
-
-/// A session of one unwinder, one cache and one module with these sections.
-fn session_of<'a, P: AllocationPolicy>(
-    alloc: Global,
-    sections: Sections<'a>,
-) -> Result<Session<BySections<ArchX86_64, &'a [u8], P>>, Fail> {
-    let module = module_of(alloc, sections)?;
-    let context = DwarfUnwindContext::new(alloc)?;
-    let mut session = Session::new(alloc, Generations::new());
-    session.add_cache(alloc, context)?;
-    if session.add_unwinder(alloc).is_err() || session.unwinders() == 0 {
-        return Err(Fail::new("no unwinder"));
-    }
-    if session.load(0, module).is_err() {
-        return Err(Fail::new("not loaded"));
-    }
-    Ok(session)
-}
-
 /// What two equal steps in a module with these sections answer, the registers that the last of them
 /// leaves, and whether it found its rule in the cache.
-fn step_twice<'a, P: AllocationPolicy>(
+fn step_in<'a, P: AllocationPolicy>(
     alloc: Global,
     sections: Sections<'a>,
     (ip, sp, bp): Registers,
-) -> Result<(Option<u64>, Registers, bool), Fail> {
-    let mut session = session_of::<P>(alloc, sections)?;
-    if session.unwinders() == 0 || session.caches() == 0 {
-        return Err(Fail::new("nothing was made"));
-    }
+) -> Result<Stepped<Registers>, Fail> {
+    let module = module_of(alloc, sections, 0x100000..0x102000)?;
+    let context = DwarfUnwindContext::new(alloc)?;
     let address = FrameAddress::from_instruction_pointer(ip);
-    let mut read = word_at;
-    let mut regs = UnwindRegsX86_64::new(ip, sp, bp);
-    session.step(0, 0, address, &mut regs, &mut read)?;
-    let mut regs = UnwindRegsX86_64::new(ip, sp, bp);
-    let return_address = session.step(0, 0, address, &mut regs, &mut read)?;
-    let is_hit = session.stats(0).hit_count == 1;
+    let regs = UnwindRegsX86_64::new(ip, sp, bp);
+    let (return_address, regs, is_hit) = step_twice::<BySections<ArchX86_64, &'a [u8], P>, _>(
+        alloc, module, context, address, regs, word_at,
+    )?;
     Ok((return_address, (regs.ip(), regs.sp(), regs.bp()), is_hit))
 }
 
@@ -92,10 +60,10 @@ fn rows_of_eh_frame_are_kept_as_rules(rt: HostRuntime) -> Result<(), Fail> {
     ] {
         let answer = (Some(caller.0), caller, true);
         let sections = eh_frame(&WORKED);
-        let may = step_twice::<MayAllocateDuringUnwind>(rt.alloc(), sections, frame)?;
+        let may = step_in::<MayAllocateDuringUnwind>(rt.alloc(), sections, frame)?;
         assert!(rt; may == answer);
         let sections = eh_frame(&WORKED);
-        let must = step_twice::<MustNotAllocateDuringUnwind>(rt.alloc(), sections, frame)?;
+        let must = step_in::<MustNotAllocateDuringUnwind>(rt.alloc(), sections, frame)?;
         assert!(rt; must == answer);
     }
     Ok(())
@@ -106,7 +74,7 @@ fn rows_of_eh_frame_are_kept_as_rules(rt: HostRuntime) -> Result<(), Fail> {
 fn a_section_without_an_index_says_nothing(rt: HostRuntime) -> Result<(), Fail> {
     let sections = eh_frame(&WORKED[..30]);
     let frame = (0x101000, 0x10, 0x20);
-    let answer = step_twice::<MustNotAllocateDuringUnwind>(rt.alloc(), sections, frame)?;
+    let answer = step_in::<MustNotAllocateDuringUnwind>(rt.alloc(), sections, frame)?;
     assert!(rt; answer == (Some(0x100200), (0x100200, 0x30, 0x40), true));
     Ok(())
 }
@@ -117,9 +85,9 @@ fn a_section_without_an_index_says_nothing(rt: HostRuntime) -> Result<(), Fail> 
 fn expressions_of_debug_frame_have_their_address_size(rt: HostRuntime) -> Result<(), Fail> {
     let frame = (0x101000, 0x1_0000_0010, 0x20);
     let caller = (0x100300, 0x18, 0x20);
-    let may = step_twice::<MayAllocateDuringUnwind>(rt.alloc(), debug_frame(), frame)?;
+    let may = step_in::<MayAllocateDuringUnwind>(rt.alloc(), debug_frame(), frame)?;
     assert!(rt; may == (Some(0x100300), caller, false));
-    let must = step_twice::<MustNotAllocateDuringUnwind>(rt.alloc(), debug_frame(), frame)?;
+    let must = step_in::<MustNotAllocateDuringUnwind>(rt.alloc(), debug_frame(), frame)?;
     assert!(rt; must == (Some(0x100300), caller, false));
     Ok(())
 }
@@ -130,7 +98,7 @@ fn eh_frame_goes_before_debug_frame(rt: HostRuntime) -> Result<(), Fail> {
     let mut sections = eh_frame(&WORKED);
     sections.debug_frame = Some(NARROW.as_slice());
     let frame = (0x101000, 0x10, 0x20);
-    let answer = step_twice::<MayAllocateDuringUnwind>(rt.alloc(), sections, frame)?;
+    let answer = step_in::<MayAllocateDuringUnwind>(rt.alloc(), sections, frame)?;
     assert!(rt; answer == (Some(0x100300), (0x100300, 0x18, 0x20), true));
     Ok(())
 }

@@ -1,13 +1,14 @@
 //! Rows of aarch64 at the edges of what unwind rules say, each beside the same row with its CFA as an
 //! expression, which no rule says.
 
-use crate::section::{Base, Cfa, Column, Row, with_row};
+mod section;
+
+use crate::sessions::{Sections, Stepped, module_of, step_twice};
 use framehop::aarch64::{ArchAarch64, PtrAuthMask, UnwindRegsAarch64};
 use framehop::{
-    AllocationPolicy, BySections, DwarfUnwindContext, ExplicitModuleSectionInfo, FrameAddress,
-    Generations, Module, ModuleUnwindData, MustNotAllocateDuringUnwind,
+    AllocationPolicy, BySections, DwarfUnwindContext, FrameAddress, MustNotAllocateDuringUnwind,
 };
-use framehop_unwinder::Session;
+use section::{Base, Cfa, Column, Row, with_row};
 use std::alloc::Global;
 use std::test::Fail;
 
@@ -25,40 +26,10 @@ fn word_at(address: u64) -> Result<u64, ()> {
     Ok(address.wrapping_add(0x2b00_0000_0100_0000))
 }
 
-/// What a step answers, the registers that it leaves, and whether its rule was found again.
-type Stepped = (Option<u64>, (u64, u64, u64), bool);
-
 /// Two equal steps in a module with a row, from a first or a later frame, by what the last gives.
-fn step(alloc: Global, row: &Row, is_first: bool) -> Result<Stepped, Fail> {
+fn step(alloc: Global, row: &Row, is_first: bool) -> Result<Stepped<(u64, u64, u64)>, Fail> {
     let bytes = with_row(alloc, row)?;
     step_in::<MustNotAllocateDuringUnwind>(alloc, bytes.as_slice(), is_first)
-}
-
-/// A module with this section.
-fn module_of<'a>(alloc: Global, section: &'a [u8]) -> Result<Module<&'a [u8]>, Fail> {
-    let mut sections = ExplicitModuleSectionInfo::default();
-    sections.eh_frame = Some(section);
-    let name = String::from_str(alloc, "m")?;
-    let unwind_data = ModuleUnwindData::new(alloc, &mut sections)?;
-    Ok(Module::new(alloc, name, 0x0..0x2000, 0x0, unwind_data)?)
-}
-
-/// A session of one unwinder, one cache and one module with this section.
-fn session_of<'a, P: AllocationPolicy>(
-    alloc: Global,
-    section: &'a [u8],
-) -> Result<Session<BySections<ArchAarch64, &'a [u8], P>>, Fail> {
-    let module = module_of(alloc, section)?;
-    let context = DwarfUnwindContext::new(alloc)?;
-    let mut session = Session::new(alloc, Generations::new());
-    session.add_cache(alloc, context)?;
-    if session.add_unwinder(alloc).is_err() || session.unwinders() == 0 {
-        return Err(Fail::new("no unwinder"));
-    }
-    if session.load(0, module).is_err() {
-        return Err(Fail::new("not loaded"));
-    }
-    Ok(session)
 }
 
 /// A first or a later frame, in the code that the section is about.
@@ -77,19 +48,16 @@ fn step_in<'a, P: AllocationPolicy>(
     alloc: Global,
     section: &'a [u8],
     is_first: bool,
-) -> Result<Stepped, Fail> {
-    let mut session = session_of::<P>(alloc, section)?;
-    if session.unwinders() == 0 || session.caches() == 0 {
-        return Err(Fail::new("nothing was made"));
-    }
+) -> Result<Stepped<(u64, u64, u64)>, Fail> {
+    let mut sections = Sections::default();
+    sections.eh_frame = Some(section);
+    let module = module_of(alloc, sections, 0x0..0x2000)?;
+    let context = DwarfUnwindContext::new(alloc)?;
     let address = frame(is_first)?;
-    let mask = PtrAuthMask::new_24_40();
-    let mut read = word_at;
-    let mut regs = UnwindRegsAarch64::new_with_ptr_auth_mask(mask, 0x1234, SP, FP);
-    session.step(0, 0, address, &mut regs, &mut read)?;
-    let mut regs = UnwindRegsAarch64::new_with_ptr_auth_mask(mask, 0x1234, SP, FP);
-    let return_address = session.step(0, 0, address, &mut regs, &mut read)?;
-    let is_hit = session.stats(0).hit_count == 1;
+    let regs = UnwindRegsAarch64::new_with_ptr_auth_mask(PtrAuthMask::new_24_40(), 0x1234, SP, FP);
+    let (return_address, regs, is_hit) = step_twice::<BySections<ArchAarch64, &'a [u8], P>, _>(
+        alloc, module, context, address, regs, word_at,
+    )?;
     Ok((return_address, (regs.lr(), regs.sp(), regs.fp()), is_hit))
 }
 
