@@ -1,6 +1,7 @@
 mod Elsewhere
 mod Histories
 mod KeyLists
+mod Loads
 mod ModulesInOrder
 mod Slots
 mod Sound
