@@ -5,20 +5,20 @@ ghost use Rattle.framehop_registers.specs.Callback.{OverWords};
 ghost use Rattle.framehop_rules.specs.Outcome.{IsStep};
 ghost use Rattle.framehop_rules.specs.Slots.{key_of, counts_after};
 ghost use Rattle.framehop_modules.specs.LoadErrors.{module_returned, is_exhausted};
-ghost use Rattle.framehop_unwinder.specs.Attempt.{meanings, attempt_at};
+ghost use Rattle.framehop_unwinder.specs.Attempt.{Attempt, meanings, attempt_at};
 ghost use Rattle.framehop_unwinder.specs.CacheViews.{rules_of};
 ghost use Rattle.framehop_unwinder.specs.Frames.{frame_of};
-ghost use Rattle.framehop_unwinder.specs.Judge.{judge, judge_at};
+ghost use Rattle.framehop_unwinder.specs.Judge.{by_attempt, judge, judge_at};
 ghost use Rattle.framehop_unwinder.specs.Memory.{AsksMemory, AsksMemoryAt};
 ghost use Rattle.framehop_unwinder.specs.Modules.{Loaded, nearest_module, module_found, with_module, without_module, has_start, last_end};
-ghost use Rattle.framehop_unwinder.specs.RulesKept.{Fits, rule_kept, key_for, finding_in, slots_after};
+ghost use Rattle.framehop_unwinder.specs.RulesKept.{Fits, rule_kept, key_for, finding_in, slots_after, with_any};
 ghost use Rattle.framehop_unwinder.specs.Trials.{trial, has_wanted, rule_of_result, HasValidRule, KeepsUnlessDirect, wants_memory, IsOfStep};
 
 use crate::cache::Cache;
 use crate::module::Module;
 use crate::unwinding::{UnwindFailure, UnwindResult, Unwinding};
 use framehop_modules::{Generations, GenerationsExhausted, LoadError};
-use framehop_rules::{CacheResult, Error, FrameAddress, UnwindRule};
+use framehop_rules::{CacheHandle, CacheResult, Error, FrameAddress, RuleCache, UnwindRule};
 use std::alloc::{AllocError, Global};
 use std::marker::Model;
 
@@ -112,6 +112,60 @@ fn clones_of<D: Drop>(alloc: Global, modules: &[Module<D>]) -> Result<Vec<Module
         clones.push(module.try_clone()?)?;
     }
     Ok(clones)
+}
+
+/// Keeps the rule that a module's answer gives to be kept, if it gives one.
+#[inline(always)]
+fn keep<R: UnwindRule>(
+    cache: &mut RuleCache<R>,
+    handle: CacheHandle,
+    answer: Result<UnwindResult<R>, UnwindFailure>,
+)
+    requires { HasValidRule R.is_valid answer }
+    ensures slots { cache.new.slots
+        ≡ with_any cache.old.slots handle (rule_of_result R.fallback answer) }
+    ensures counts { cache.new.counts ≡ cache.old.counts }
+{
+    match answer {
+        Ok(UnwindResult::ExecRule(rule)) => cache.insert(handle, rule),
+        Err(UnwindFailure::OfModule) => cache.insert(handle, R::fallback_rule()),
+        Ok(UnwindResult::Uncacheable(_)) => {}
+        Err(UnwindFailure::OfFrame | UnwindFailure::OutOfMemory) => {}
+    }
+}
+
+/// Makes the step that a module's answer comes to.
+#[inline(always)]
+#[tactic(auto, using(crate::proofs::Steps::rules_want_none))]
+fn execute<A: Unwinding, F: FnMut(u64) -> Result<u64, ()>>(
+    answer: Result<UnwindResult<A::UnwindRule>, UnwindFailure>,
+    is_first_frame: bool,
+    regs: &mut A::UnwindRegs,
+    read_stack: &mut F,
+) -> Result<Option<u64>, Error>
+    requires valid { HasValidRule A.UnwindRule.is_valid answer }
+    requires callable { F.IsAlwaysCallable read_stack.old }
+    ensures callable { F.IsAlwaysCallable read_stack.new }
+    ensures step { let m = meanings A.UnwindRule.meaning A.UnwindRule.fallback A.attempt in
+        OverWords F.step read_stack.old read_stack.new (λ words. (before : A.UnwindRegs)
+        → (attempt : Attempt A.UnwindRule A.UnwindRegs) → has_wanted answer ≡ false
+        → (answer, regs.old) ≡ trial before words attempt
+        → IsStep result before regs.new (by_attempt m is_first_frame before words attempt)) }
+    ensures none_keeps { (before : A.UnwindRegs) → KeepsUnlessDirect answer before regs.old
+        → result ≡ Ok None → regs.new ≡ before }
+    ensures error_keeps { (before : A.UnwindRegs) → KeepsUnlessDirect answer before regs.old
+        → OnErr result (regs.new ≡ before) }
+    ensures refusals { IfErr result IsOfStep }
+    ensures wanted { wants_memory result ≡ has_wanted answer }
+{
+    match answer {
+        Ok(UnwindResult::ExecRule(rule)) => rule.exec(is_first_frame, regs, read_stack),
+        Ok(UnwindResult::Uncacheable(return_address)) => Ok(Some(return_address)),
+        Err(UnwindFailure::OfModule | UnwindFailure::OfFrame) => {
+            A::UnwindRule::fallback_rule().exec(is_first_frame, regs, read_stack)
+        }
+        Err(UnwindFailure::OutOfMemory) => Err(Error::OutOfMemory),
+    }
 }
 
 impl<A: Unwinding> UnwinderInternal<A> {
@@ -305,22 +359,9 @@ impl<A: Unwinding> UnwinderInternal<A> {
             CacheResult::Miss(handle) => handle,
         };
         let unwind_context = &mut cache.unwind_context;
-        match self.attempt(address, is_first_frame, regs, unwind_context, read_stack) {
-            Ok(UnwindResult::ExecRule(rule)) => {
-                cache.rule_cache.insert(handle, rule);
-                rule.exec(is_first_frame, regs, read_stack)
-            }
-            Ok(UnwindResult::Uncacheable(return_address)) => Ok(Some(return_address)),
-            Err(UnwindFailure::OfModule) => {
-                let rule = A::UnwindRule::fallback_rule();
-                cache.rule_cache.insert(handle, rule);
-                rule.exec(is_first_frame, regs, read_stack)
-            }
-            Err(UnwindFailure::OfFrame) => {
-                A::UnwindRule::fallback_rule().exec(is_first_frame, regs, read_stack)
-            }
-            Err(UnwindFailure::OutOfMemory) => Err(Error::OutOfMemory),
-        }
+        let answer = self.attempt(address, is_first_frame, regs, unwind_context, read_stack);
+        keep(&mut cache.rule_cache, handle, answer);
+        execute::<A, F>(answer, is_first_frame, regs, read_stack)
     }
 
     /// Makes the step from a frame with these registers: answers the return address and leaves the
