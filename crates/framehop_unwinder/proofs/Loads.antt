@@ -12,7 +12,7 @@ holding loads next caches = record { unwinders = loads; next = next; caches = ca
 
 module _ {D R : Type 0} (loads : List (Loads (Loaded D))) (next : ℕ) (caches : List (Kept R)) (s : State D R) (is : holding loads next caches ≡ s)
     (i : ℕ) (within : i < length s.unwinders) (old : Loads (Loaded D)) (read : old ≡ get_or loads i old) where
-  pub there : i < length loads
+  there : i < length loads
   there = subst (λ (x : State D R). i < length x.unwinders) (sym is) within
 
   -- the unwinder that was read is the session's

@@ -14,6 +14,7 @@ use Rattle.framehop_unwinder.specs.RulesKept.{key_for, rule_kept}
 use Rattle.framehop_unwinder.specs.State.{State, unwinder_at, cache_at, histories_after_step, slots_of_all}
 use Rattle.framehop_unwinder.specs.Trials.{wants_memory}
 use Rattle.framehop_unwinder.proofs.Histories.{stands_after, step-have}
+use Rattle.framehop_unwinder.proofs.Loads.{read-is}
 use Rattle.framehop_unwinder.proofs.Sound.{sound_step_of, fits_at, kept-is}
 use Rattle.framehop_unwinder.proofs.session.Session.step.Goals as goal
 
@@ -50,9 +51,7 @@ returns-clause-step g c =
     ∙ ap (λ k. k.slots) (sym (get_or-map rules_of items c.args.cache read (rules_of read) kept))
     ∙ sym (get_or-map (λ k. k.slots) caches c.args.cache (rules_of read) (rules_of read).slots kept_rules) in
     let fits = fits_at m c.self.inside.generations loads (slots_of_all caches) c.args.unwinder c.args.cache c.index.result.now (rules_of read).slots there kept_slots c.index.ensures cached c.self.invariant in
-    let none : Loads (Loaded g.row.A-UnwindData.Denot) = record { modules = []; generation = 0 } in
-    let is : c.index.result.now ≡ unwinder_at c.args.self.now.unwinders c.args.unwinder =
-    c.index.ensures ∙ get_or_default loads c.args.unwinder c.index.result.now none there ∙ ap (λ (s : State g.row.A-UnwindData.Denot g.row.A-UnwindRule.Denot). unwinder_at s.unwinders c.args.unwinder) c.self.view_is in
+    let is = read-is loads c.self.inside.generations caches c.args.self.now c.self.view_is c.args.unwinder c.requires.unwinder c.index.result.now c.index.ensures in
     record {
       said = λ words answers wanted.
           subst (λ (u : Loads (Loaded g.row.A-UnwindData.Denot)). IsStep c.unwind_frame.result c.args.regs.now c.unwind_frame.new.regs (judge m u.modules (frame_of c.args.address) c.args.regs.now words)) is
@@ -76,17 +75,13 @@ returns-clause-histories g c =
     let loads = c.self.inside.unwinders.items in
     let items = c.self.inside.caches.items in
     let caches = map rules_of items in
-    let there : c.args.unwinder < length loads = omega (arith, ap (λ (s : State D R). length s.unwinders) c.self.view_is) in
     let kept : c.args.cache < length items = omega (arith, length-map items rules_of, ap (λ (s : State D R). length s.caches) c.self.view_is) in
-    let within : c.args.cache < length c.args.self.now.caches = omega arith in
     let read = c.index_mut-cache.result.now in
     let empty : Kept R = record { slots = []; counts = no_counts } in
-    let none : Loads (Loaded D) = record { modules = []; generation = 0 } in
     let u = c.index.result.now in
     let w = wants_memory c.unwind_frame.result in
     let stands : Loads (Loaded D) → Kept R → Kept R = λ x k. stands_after w (rule_kept m x.modules) (key_for (frame_of c.args.address) x.generation) k in
-    let mine : u ≡ unwinder_at c.args.self.now.unwinders c.args.unwinder =
-    c.index.ensures ∙ get_or_default loads c.args.unwinder u none there ∙ ap (λ (s : State D R). unwinder_at s.unwinders c.args.unwinder) c.self.view_is in
+    let mine = read-is loads c.self.inside.generations caches c.args.self.now c.self.view_is c.args.unwinder c.requires.unwinder u c.index.ensures in
     let theirs : rules_of read ≡ cache_at c.args.self.now.caches c.args.cache =
     ap rules_of c.index_mut-cache.ensures.value ∙ sym (get_or-map rules_of items c.args.cache read empty kept) ∙ ap (λ (s : State D R). cache_at s.caches c.args.cache) c.self.view_is in
     let mine_now = unwinder_at c.args.self.now.unwinders c.args.unwinder in
@@ -96,14 +91,12 @@ returns-clause-histories g c =
     ∙ ap (stands mine_now) theirs)
     ∙ ap (λ (s : State D R). slice_set s.caches c.args.cache (stands mine_now (cache_at c.args.self.now.caches c.args.cache))) c.self.view_is in
     λ histories have. subst (HaveHistories (histories_after_step m w (frame_of c.args.address) mine_now c.args.cache histories)) (sym made)
-    (step-have w (rule_kept m mine_now.modules) (key_for (frame_of c.args.address) mine_now.generation) histories c.args.self.now.caches c.args.cache empty within have)
+    (step-have w (rule_kept m mine_now.modules) (key_for (frame_of c.args.address) mine_now.generation) histories c.args.self.now.caches c.args.cache empty c.requires.cache have)
 
 -- the module that is found wants memory
 pub returns-clause-asked : goal.returns-clause-asked
 returns-clause-asked g c wanted =
     let loads = c.self.inside.unwinders.items in
-    let there : c.args.unwinder < length loads = omega (arith, ap (λ (s : State g.row.A-UnwindData.Denot g.row.A-UnwindRule.Denot). length s.unwinders) c.self.view_is) in
-    let none : Loads (Loaded g.row.A-UnwindData.Denot) = record { modules = []; generation = 0 } in
-    let is : c.index.result.now ≡ unwinder_at c.args.self.now.unwinders c.args.unwinder =
-    c.index.ensures ∙ get_or_default loads c.args.unwinder c.index.result.now none there ∙ ap (λ (s : State g.row.A-UnwindData.Denot g.row.A-UnwindRule.Denot). unwinder_at s.unwinders c.args.unwinder) c.self.view_is in
+    let caches = map rules_of c.self.inside.caches.items in
+    let is = read-is loads c.self.inside.generations caches c.args.self.now c.self.view_is c.args.unwinder c.requires.unwinder c.index.result.now c.index.ensures in
     subst (λ (u : Loads (Loaded g.row.A-UnwindData.Denot)). AsksMemory g.A.Unwinding.asks_memory u.modules (frame_of c.args.address)) is (c.unwind_frame.ensures.asked wanted)
