@@ -1,2 +1,3 @@
 mod CommandTurns
+mod CommandLists
 mod CommandProgress
