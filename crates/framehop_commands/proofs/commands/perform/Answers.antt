@@ -1,4 +1,5 @@
-use Rattle.std.proofs.Common.{◌≡◌, ◌∷◌, [], map, length, ap, arith, rules}
+use Rattle.std.proofs.Common.{◌≡◌, ◌∷◌, [], map, length, ap, arith, rules, refl}
+use Rattle.std.proofs.lemmas.Result.{err_from_is_err_and}
 use Rattle.framehop_registers.specs.Callback.{AnswersBy}
 use Rattle.framehop_unwinder.specs.Attempt.{meanings}
 use Rattle.framehop_unwinder.specs.WalkViews.{walk_of}
@@ -52,3 +53,22 @@ returns-clause-progress g c =
     let l = c.loop-command in
     let none : l.commands.items ≡ [] = search rules in
     all-come g.A.Unwinding.takes_memory m (AnswersBy (goal.F-step g)) c.args.session.now c.args.commands.now.items l.session (map walk_of l.walks.items) l.commands.items (map reply_of l.answers.items) none l.invariant.under_way
+
+-- memory for the list of answers is refused
+pub returns-in_err-answers-clause-answers : goal.returns-in_err-answers-clause-answers
+returns-in_err-answers-clause-answers g c = λ words said. rw (err_from_is_err_and c.from_residual.result c.from_residual.ensures.1).1 tt
+
+pub returns-in_err-answers-clause-scene : goal.returns-in_err-answers-clause-scene
+returns-in_err-answers-clause-scene g c = λ words said. rw (err_from_is_err_and c.from_residual.result c.from_residual.ensures.1).1 tt
+
+pub returns-in_err-answers-clause-progress : goal.returns-in_err-answers-clause-progress
+returns-in_err-answers-clause-progress g c = λ words said begun at. rw (err_from_is_err_and c.from_residual.result c.from_residual.ensures.1).1 tt
+
+pub returns-in_err-answers-clause-performed : goal.returns-in_err-answers-clause-performed
+returns-in_err-answers-clause-performed g c = rw (err_from_is_err_and c.from_residual.result c.from_residual.ensures.1).1 tt
+
+pub returns-in_err-answers-clause-refused : goal.returns-in_err-answers-clause-refused
+returns-in_err-answers-clause-refused g c = rw (err_from_is_err_and c.from_residual.result c.from_residual.ensures.1).1 refl
+
+pub returns-in_err-answers-clause-waiting : goal.returns-in_err-answers-clause-waiting
+returns-in_err-answers-clause-waiting g c = rw (err_from_is_err_and c.from_residual.result c.from_residual.ensures.1).1 refl
