@@ -1,5 +1,6 @@
 -- Walks, move by move: what is written so far, and what the moves that are left write.
-use Rattle.std.proofs.Common.{◌≡◌, ◌≢◌, ℕ, zero, suc, List, [], ◌++◌, Bool, false, Option, Some, Result, Ok, Err, refl, sym, ap, subst, ◌∙◌, append_assoc}
+use Rattle.std.proofs.Common.{◌≡◌, ◌≢◌, ℕ, zero, suc, List, [], ◌++◌, Bool, true, false, cond, Option, Result, Err, refl, sym, ap, subst, ◌∙◌, append_assoc}
+use Rattle.std.proofs.lemmas.List.{append-nil}
 use Rattle.std.specs.Prelude.{codes}
 use Rattle.documents.specs.Lines.{line}
 use Rattle.framehop_registers.specs.Callback.{Words}
@@ -14,9 +15,8 @@ use Rattle.framehop_unwinder.specs.Modules.{Loaded, Loads}
 use Rattle.framehop_unwinder.specs.State.{State, unwinder_at, histories_after_move}
 use Rattle.framehop_unwinder.specs.Trials.{wants_memory}
 use Rattle.framehop_unwinder.specs.Walk.{Walk, Move, Judgment, move}
-use Rattle.unwind_sessions.specs.Lines.{frame_text}
 use Rattle.framehop_unwinder.specs.Progress.{Progress, IsAt, modules_in}
-use Rattle.unwind_sessions.specs.Turns.{ComesTo, move_lines, walk_lines, if_goes_on, walk_histories, turn_of_walk}
+use Rattle.unwind_sessions.specs.Turns.{ComesTo, move_line, move_lines, gives_frame, walk_lines, if_goes_on, walk_histories, turn_of_walk}
 
 -- What is written so far, and what the moves that are left write and leave, make what the whole walk writes and leaves.
 pub record SoFar {Data Rule Registers : Type 0} (m : Meanings Data Rule Registers) (words : Words) (limit unwinder cache : ℕ)
@@ -49,60 +49,71 @@ step_histories : {Data Rule Registers : Type 0} (m : Meanings Data Rule Register
 step_histories m words loads cache left walk histories made is =
     ap (λ x. if_goes_on x.answer (walk_histories m words loads cache left x.walk (histories_after_move m false walk.place loads cache histories)) (histories_after_move m false walk.place loads cache histories)) (sym is)
 
--- a frame more
-pub goes_on : {Data Rule Registers : Type 0} (m : Meanings Data Rule Registers) (words : Words) (limit unwinder cache : ℕ) (first : Walk Registers) (progress : Progress Data)
-    (before left : ℕ) (now next : Walk Registers) (text more : List ℕ) (old new : State Data Rule) (frame : Frame)
-    → before ≡ suc left → SoFar m words limit unwinder cache first progress before now text old
-    → old.unwinders ≡ progress.unwinders
-    → record { answer = Ok (Some frame); walk = next } ≡ move (judge m (unwinder_at old.unwinders unwinder).modules) words now
-    → ((histories : List KeyHistory) → HaveHistories histories old.caches → HaveHistories (histories_after_move m false now.place (unwinder_at old.unwinders unwinder) cache histories) new.caches)
-    → more ≡ text ++ line (frame_text frame)
-    → SoFar m words limit unwinder cache first progress left next more new
-goes_on {Data} m words limit unwinder cache first progress before left now next text more old new frame one_more so_far_before same moved keeps added =
-    let j = judge m (modules_in unwinder progress) in
-    let loads = unwinder_at progress.unwinders unwinder in
-    let so_far = subst (λ (n : ℕ). SoFar m words limit unwinder cache first progress n now text old) one_more so_far_before in
-    let is = subst (λ (us : List (Loads (Loaded Data))). record { answer = Ok (Some frame); walk = next } ≡ move (judge m (unwinder_at us unwinder).modules) words now) same moved in
-    let kept = subst (λ (us : List (Loads (Loaded Data))). (histories : List KeyHistory) → HaveHistories histories old.caches → HaveHistories (histories_after_move m false now.place (unwinder_at us unwinder) cache histories) new.caches) same keeps in
-    record {
-      histories = histories_after_move m false now.place loads cache so_far.histories;
-      have = kept so_far.histories so_far.have;
-      lines =
-          ap (λ (xs : List ℕ). xs ++ walk_lines j words left next) added
-          ∙ append_assoc text (line (frame_text frame)) (walk_lines j words left next)
-          ∙ ap (λ (xs : List ℕ). text ++ xs) (sym (step_lines j words left now (record { answer = Ok (Some frame); walk = next }) is))
-          ∙ so_far.lines;
-      after = sym (step_histories m words loads cache left now so_far.histories (record { answer = Ok (Some frame); walk = next }) is) ∙ so_far.after;
-    }
+-- What is written and left once a move was made, and what follows where it gave a frame, make what the whole walk writes and leaves.
+pub record AfterMove {Data Rule Registers : Type 0} (m : Meanings Data Rule Registers) (words : Words) (limit unwinder cache : ℕ)
+    (first : Walk Registers) (progress : Progress Data) (left : ℕ) (next : Walk Registers) (given : Bool) (text : List ℕ) (state : State Data Rule) : Type 0 where
+  pub histories : List KeyHistory
+  pub have : HaveHistories histories state.caches
+  pub lines : text ++ cond given (walk_lines (judge m (modules_in unwinder progress)) words left next) [] ≡ walk_lines (judge m (modules_in unwinder progress)) words limit first
+  pub after : cond given (walk_histories m words (unwinder_at progress.unwinders unwinder) cache left next histories) histories
+      ≡ walk_histories m words (unwinder_at progress.unwinders unwinder) cache limit first progress.histories
 
--- a move that gives no frame ends the walk
-pub stops : {Data Rule Registers : Type 0} (m : Meanings Data Rule Registers) (words : Words) (limit unwinder cache : ℕ) (first : Walk Registers) (progress : Progress Data)
-    (before left : ℕ) (now next : Walk Registers) (text more last : List ℕ) (start old new : State Data Rule) (answer : Result (Option Frame) Error) (refused : Bool)
+-- a move more, whose line is written
+pub after_move : {Data Rule Registers : Type 0} (m : Meanings Data Rule Registers) (words : Words) (limit unwinder cache : ℕ) (first : Walk Registers) (progress : Progress Data)
+    (before left : ℕ) (now next : Walk Registers) (text more : List ℕ) (old new : State Data Rule) (answer : Result (Option Frame) Error) (given wanted : Bool)
     → before ≡ suc left → SoFar m words limit unwinder cache first progress before now text old
     → old.unwinders ≡ progress.unwinders
     → record { answer = answer; walk = next } ≡ move (judge m (unwinder_at old.unwinders unwinder).modules) words now
-    → ((A : List ℕ) → move_lines answer A ≡ last) → ((A B : List KeyHistory) → if_goes_on answer A B ≡ B)
-    → ((histories : List KeyHistory) → HaveHistories histories old.caches → HaveHistories (histories_after_move m false now.place (unwinder_at old.unwinders unwinder) cache histories) new.caches)
-    → more ≡ text ++ last → refused ≡ false → IsAt progress start → new.unwinders ≡ start.unwinders → new.next ≡ start.next
-    → ComesTo (turn_of_walk m words limit unwinder cache first progress) more refused new
-stops {Data} {Rule} {Registers} m words limit unwinder cache first progress before left now next text more last start old new answer refused one_more so_far_before same moved says ends keeps added carried at unwinders next_is =
+    → wanted ≡ false
+    → ((histories : List KeyHistory) → HaveHistories histories old.caches → HaveHistories (histories_after_move m wanted now.place (unwinder_at old.unwinders unwinder) cache histories) new.caches)
+    → more ≡ text ++ move_line answer → given ≡ gives_frame answer
+    → AfterMove m words limit unwinder cache first progress left next given more new
+after_move {Data} m words limit unwinder cache first progress before left now next text more old new answer given wanted one_more so_far_before same moved unwanted keeps added gave =
     let j = judge m (modules_in unwinder progress) in
     let loads = unwinder_at progress.unwinders unwinder in
+    let made : Move _ = record { answer = answer; walk = next } in
     let so_far = subst (λ (n : ℕ). SoFar m words limit unwinder cache first progress n now text old) one_more so_far_before in
     let is = subst (λ (us : List (Loads (Loaded Data))). record { answer = answer; walk = next } ≡ move (judge m (unwinder_at us unwinder).modules) words now) same moved in
-    let kept = subst (λ (us : List (Loads (Loaded Data))). (histories : List KeyHistory) → HaveHistories histories old.caches → HaveHistories (histories_after_move m false now.place (unwinder_at us unwinder) cache histories) new.caches) same keeps in
-    let made : Move Registers = record { answer = answer; walk = next } in
+    let kept = subst (λ (us : List (Loads (Loaded Data))). HaveHistories (histories_after_move m false now.place (unwinder_at us unwinder) cache so_far.histories) new.caches) same
+    (subst (λ (b : Bool). HaveHistories (histories_after_move m b now.place (unwinder_at old.unwinders unwinder) cache so_far.histories) new.caches) unwanted (keeps so_far.histories so_far.have)) in
     let after = histories_after_move m false now.place loads cache so_far.histories in
-    let whole : after ≡ walk_histories m words loads cache limit first progress.histories =
-    sym (ends (walk_histories m words loads cache left next after) after) ∙ sym (step_histories m words loads cache left now so_far.histories made is) ∙ so_far.after in
+    let rest = cond (gives_frame answer) (walk_lines j words left next) [] in
+    subst (λ (b : Bool). AfterMove m words limit unwinder cache first progress left next b more new) (sym gave)
+    (record {
+      histories = after;
+      have = kept;
+      lines =
+          ap (λ (xs : List ℕ). xs ++ rest) added
+          ∙ append_assoc text (move_line answer) rest
+          ∙ ap (λ (xs : List ℕ). text ++ xs) (sym (step_lines j words left now made is))
+          ∙ so_far.lines;
+      after = sym (step_histories m words loads cache left now so_far.histories made is) ∙ so_far.after;
+    })
+
+-- a frame more
+pub goes_on : {Data Rule Registers : Type 0} (m : Meanings Data Rule Registers) (words : Words) (limit unwinder cache : ℕ) (first : Walk Registers) (progress : Progress Data)
+    (left : ℕ) (next : Walk Registers) (given : Bool) (text : List ℕ) (state : State Data Rule)
+    → AfterMove m words limit unwinder cache first progress left next given text state → given ≡ true
+    → SoFar m words limit unwinder cache first progress left next text state
+goes_on m words limit unwinder cache first progress left next given text state moved gave =
+    let so_far = subst (λ (b : Bool). AfterMove m words limit unwinder cache first progress left next b text state) gave moved in
+    record { histories = so_far.histories; have = so_far.have; lines = so_far.lines; after = so_far.after }
+
+-- a move that gives no frame ends the walk
+pub stops : {Data Rule Registers : Type 0} (m : Meanings Data Rule Registers) (words : Words) (limit unwinder cache : ℕ) (first : Walk Registers) (progress : Progress Data)
+    (left : ℕ) (next : Walk Registers) (given : Bool) (text more : List ℕ) (start state : State Data Rule) (refused : Bool)
+    → AfterMove m words limit unwinder cache first progress left next given text state → given ≡ false
+    → more ≡ text → refused ≡ false → IsAt progress start → state.unwinders ≡ start.unwinders → state.next ≡ start.next
+    → ComesTo (turn_of_walk m words limit unwinder cache first progress) more refused state
+stops m words limit unwinder cache first progress left next given text more start state refused moved gave same carried at unwinders next_is =
+    let so_far = subst (λ (b : Bool). AfterMove m words limit unwinder cache first progress left next b text state) gave moved in
     record {
-      text =
-          added ∙ ap (λ (xs : List ℕ). text ++ xs) (sym (says (walk_lines j words left next)) ∙ sym (step_lines j words left now made is)) ∙ so_far.lines;
+      text = same ∙ sym (append-nil text) ∙ so_far.lines;
       is_refused = carried;
       progress = record {
         unwinders = unwinders ∙ at.unwinders;
         next = next_is ∙ at.next;
-        histories = subst (λ (h : List KeyHistory). HaveHistories h new.caches) whole (kept so_far.histories so_far.have);
+        histories = subst (λ (h : List KeyHistory). HaveHistories h state.caches) so_far.after so_far.have;
       };
     }
 

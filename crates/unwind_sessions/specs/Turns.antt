@@ -88,11 +88,21 @@ turn_of_step m text frame unwinder cache progress =
     let loads = unwinder_at progress.unwinders unwinder in
     writes text (with_histories (histories_after_step m false frame loads cache progress.histories) progress)
 
--- what a move of a walk writes, before what follows where it gives a frame
+-- whether a move of a walk gives a frame
+abbrev pub gives_frame : Result (Option Frame) Error → Bool
+gives_frame (Ok (Some frame)) = true
+gives_frame (Ok None) = false
+gives_frame (Err error) = false
+
+-- the line of a move: its frame, the end of the stack, or why it stops
+abbrev pub move_line : Result (Option Frame) Error → List ℕ
+move_line (Ok (Some frame)) = line (frame_text frame)
+move_line (Ok None) = line (codes "end")
+move_line (Err error) = line (codes "stop " ++ error_name error)
+
+-- what a move writes, before what follows where it gives a frame
 abbrev pub move_lines : Result (Option Frame) Error → List ℕ → List ℕ
-move_lines (Ok (Some frame)) more = line (frame_text frame) ++ more
-move_lines (Ok None) more = line (codes "end")
-move_lines (Err error) more = line (codes "stop " ++ error_name error)
+move_lines answer more = move_line answer ++ (if gives_frame answer then more else [])
 
 -- the lines of the frames of a walk, and how it ends: at the stack's end, at a refusal, or at the limit
 abbrev pub walk_lines : {Registers : Type 0} → Judgment Registers → Words → ℕ → Walk Registers → List ℕ
@@ -102,9 +112,7 @@ walk_lines judgment words (suc left) walk =
 
 -- what follows where a move gives a frame, and else what is so far
 abbrev pub if_goes_on : {A : Type 0} → Result (Option Frame) Error → A → A → A
-if_goes_on (Ok (Some frame)) more so_far = more
-if_goes_on (Ok None) more so_far = so_far
-if_goes_on (Err error) more so_far = so_far
+if_goes_on answer more so_far = if gives_frame answer then more else so_far
 
 -- the histories of caches after a walk through one of them
 abbrev pub walk_histories : {Data Rule Registers : Type 0} → Meanings Data Rule Registers → Words → Loads (Loaded Data) → ℕ → ℕ

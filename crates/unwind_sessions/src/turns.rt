@@ -1,15 +1,16 @@
 //! What commands come to in a session, on any architecture.
-ghost use Rattle.std.specs.Prelude.{◌≡◌, ◌<◌, [], false, true, length, codes, IfOk, string_bytes};
+ghost use Rattle.std.specs.Prelude.{◌≡◌, ◌<◌, ◌++◌, [], false, true, length, codes, IfOk, OnOk, string_bytes};
 ghost use Rattle.documents.specs.Lines.{line};
 ghost use Rattle.framehop_registers.specs.Callback.{Words, AnswersBy};
 ghost use Rattle.framehop_unwinder.specs.Attempt.{meanings};
-ghost use Rattle.framehop_unwinder.specs.WalkViews.{walk_of};
+ghost use Rattle.framehop_unwinder.specs.Trials.{wants_memory};
+ghost use Rattle.framehop_unwinder.specs.WalkViews.{frame_answer, walk_of};
 ghost use Rattle.framehop_unwinder.specs.Progress.{Progress, IsAt};
-ghost use Rattle.unwind_sessions.specs.Turns.{ComesTo, turn_of_unwinder, turn_of_cache, turn_of_clone, turn_of_load, turn_of_unload, turn_of_stats, turn_of_walk};
+ghost use Rattle.unwind_sessions.specs.Turns.{ComesTo, gives_frame, move_line, turn_of_unwinder, turn_of_cache, turn_of_clone, turn_of_load, turn_of_unload, turn_of_stats, turn_of_walk};
 
 use crate::lines::{counts_line, frame_line, stop_line};
 use framehop_modules::LoadError;
-use framehop_rules::Error;
+use framehop_rules::{Error, FrameAddress};
 use framehop_unwinder::{AddUnwinderError, Module, Session, StackWalk, Unwinding};
 use std::alloc::{AllocError, Global};
 
@@ -150,6 +151,34 @@ pub fn stats<A: Unwinding>(
     Ok(Written::lines(line))
 }
 
+/// Appends the line of a move of a walk, and answers whether the move gave a frame. Where memory was
+/// wanted for it there is none: memory is wanted here too.
+fn push_move(
+    alloc: Global,
+    answer: Result<Option<FrameAddress>, Error>,
+    text: &mut String,
+) -> Result<bool, AllocError>
+    ensures frame { IfOk result (λ given. given ≡ gives_frame (frame_answer answer)) }
+    ensures line { OnOk result (string_bytes text.new
+        ≡ string_bytes text.old ++ move_line (frame_answer answer)) }
+    ensures memory { OnOk result (wants_memory answer ≡ false) }
+{
+    match answer {
+        Ok(Some(frame)) => {
+            text.push_str(frame_line(alloc, frame)?.as_str())?;
+            Ok(true)
+        }
+        Ok(None) => {
+            text.push_str("end\n")?;
+            Ok(false)
+        }
+        Err(error) => {
+            text.push_str(stop_line(alloc, error)?.as_str())?;
+            Ok(false)
+        }
+    }
+}
+
 /// Walks over the frames of an unwinder with a cache, up to a limit, and answers a line for each
 /// and one for how the walk ends.
 pub fn walk<A: Unwinding, F: FnMut(u64) -> Result<u64, ()>>(
@@ -173,20 +202,9 @@ pub fn walk<A: Unwinding, F: FnMut(u64) -> Result<u64, ()>>(
 {
     let mut text = String::new(alloc);
     for _ in 0..limit {
-        match session.next_frame(unwinder, cache, walk, read_stack) {
-            Ok(Some(frame)) => {
-                let line = frame_line(alloc, frame)?;
-                text.push_str(line.as_str())?;
-            }
-            Ok(None) => {
-                text.push_str("end\n")?;
-                return Ok(Written::lines(text));
-            }
-            Err(error) => {
-                let line = stop_line(alloc, error)?;
-                text.push_str(line.as_str())?;
-                return Ok(Written::lines(text));
-            }
+        let answer = session.next_frame(unwinder, cache, walk, read_stack);
+        if !push_move(alloc, answer, &mut text)? {
+            return Ok(Written::lines(text));
         }
     }
     text.push_str("limit\n")?;
