@@ -1,6 +1,9 @@
 -- The lines of rows.
-use Rattle.std.proofs.Common.{◌≡◌, ℕ, ◌*◌, List, [], ◌∷◌, ◌++◌, append_assoc, Bool, true, false, Option, Some, None, Ok, cond, option_map, refl, sym, ap, ◌∙◌}
+use Rattle.std.proofs.Common.{◌≡◌, ◌≢◌, ℕ, ◌*◌, List, [], ◌∷◌, ◌++◌, append_assoc, Bool, true, false, Option, Some, None, Result, Ok, Err, IfErr, OnOk, cond, option_map, refl, sym, ap, subst, ◌∙◌, inr}
+use Rattle.dwarf_constants.specs.declared.error.Error.{Error}
+use Rattle.dwarf_constants.specs.declared.error.Error.TheVariants.{OutOfMemory}
 use Rattle.std.specs.FinMap.{get}
+use Rattle.std.specs.declared.alloc.AllocError.{AllocError}
 use Rattle.dwarf_frame_rows.specs.declared.row.UnwindTableRow.{UnwindTableRow}
 use Rattle.dwarf_frame_rows.specs.declared.rules.CfaRule.{CfaRule}
 use Rattle.dwarf_frame_rows.specs.declared.rules.CfaRule.TheVariants as cfa
@@ -11,12 +14,13 @@ use Rattle.dwarf_frame_rows.specs.Row.{Row, row_of}
 use Rattle.dwarf_frame_programs.proofs.Laws.{rule_seen}
 use Rattle.dwarf_frame_programs.specs.ProgramRows.{Advances, HasLeft, behind_first, current_row, rows_state}
 use Rattle.dwarf_frame_programs.specs.Execution.{row_in}
-use Rattle.dwarf_frame_programs.specs.Programs.{Rows}
+use Rattle.dwarf_frame_programs.specs.Programs.{Rows, refused_rows}
 use Rattle.dwarf_frame_programs.specs.StateViews.{cfa_as, row_as, rule_as}
 use Rattle.dwarf_frame_programs.specs.declared.rows.ProgramRows.{ProgramRows}
 use Rattle.dwarf_readers.specs.Place.{Stretch}
 use Rattle.table_texts.specs.Cells.{hex_of}
-use Rattle.table_texts.specs.Tables.{Table, cfa_text, found_in, found_text, if_shown, line_of_cells, row_line, row_lines, rule_text}
+use Rattle.table_texts.specs.TableViews.{ShowsNext}
+use Rattle.table_texts.specs.Tables.{Table, cfa_text, found_in, found_text, if_shown, line_if_given, line_of_cells, row_line, row_lines, rule_text}
 use Rattle.table_texts.specs.declared.names.Machine.{Machine}
 
 -- what is shown of a row doesn't tell where its expressions stand
@@ -39,7 +43,7 @@ same_found : {T U : Type 0} (number : T → U) (machine : Option Machine) (o : O
 same_found number machine None = refl
 same_found number machine (Some r) = same_rule number machine r
 
-pub same_row_line : {T : Type 0} (number : T → ℕ) (table : Table) (row : Row T) → row_line table (row_as number row) ≡ row_line table row
+same_row_line : {T : Type 0} (number : T → ℕ) (table : Table) (row : Row T) → row_line table (row_as number row) ≡ row_line table row
 same_row_line number table row =
     let each : (register : ℕ) → found_in table (row_as number row) register ≡ found_in table row register =
     λ register. ap (found_text table.machine) (rule_seen (rule_as number) row.rules register) ∙ same_found number table.machine (get row.rules register) in
@@ -47,53 +51,69 @@ same_row_line number table row =
     ap (λ (text : List ℕ). line_of_cells table (hex_of (2 * table.address_size) row.start) text (found_in table (row_as number row))) (same_cfa number table.machine row.cfa)
     ∙ ap (λ (texts : ℕ → List ℕ). line_of_cells table (hex_of (2 * table.address_size) row.start) (cfa_text table.machine row.cfa) texts) all
 
-module _ {R S E O L K : Type 0} (stretch : R → Stretch) (limit : ℕ) (number : O → ℕ) (items : K → List (UnwindTableRow O L)) (limits : Limits) (Fixed : Type 0) (u : ProgramRows R S E O L K) (left : Rows ℕ) where
-  -- the lines of the row that was given and of those that are left behind it
-  pub given_lines : (table : Table) (all : List (Row ℕ)) → Advances stretch limit number items limits Fixed left all (Ok true) u
-      → row_lines table all ≡ if_shown table (row_line table (rows_state number items limits u).row) ++ row_lines table (behind_first left all).rows
-  given_lines table [] h = absurd h
-  given_lines table (row ∷ others) h = ap (λ (r : Row ℕ). if_shown table (row_line table r) ++ row_lines table others) (sym h.0)
+-- a line more, and the others with their refusal
+pub goes_on : (IsLeft : Rows ℕ → Type 0) (table : Table) (left all : Rows ℕ) (answer : Result Bool Error) (text new whole : List ℕ)
+    → ShowsNext IsLeft table left text new answer → answer ≡ Ok true → left.refusal ≡ all.refusal → text ++ row_lines table left.rows ≡ whole
+    → (others : Rows ℕ) × IsLeft others × (others.refusal ≡ all.refusal) × (new ++ row_lines table others.rows ≡ whole)
+goes_on IsLeft table left all answer text new whole shown given refusal lines =
+    let more = subst (λ (r : Result Bool Error). ShowsNext IsLeft table left text new r) given shown in
+    (more.0, more.1, more.2 ∙ refusal, more.3 ∙ lines)
 
-  -- the others are left
-  pub given_left : (all : List (Row ℕ)) → Advances stretch limit number items limits Fixed left all (Ok true) u
-      → HasLeft stretch limit number items limits u (behind_first left all)
-  given_left [] h = absurd h
-  given_left (row ∷ others) h = h.1
+-- the line of the row that is current, as it lies in memory
+pub same_if_given : {O L : Type 0} (number : O → ℕ) (table : Table) (row : UnwindTableRow O L) (given : Option (Row ℕ)) (answer : Result (Unit {0}) AllocError) (text new : List ℕ)
+    → Some (row_in number row) ≡ given → OnOk answer (new ≡ text ++ if_shown table (row_line table (row_of row)))
+    → OnOk answer (new ≡ text ++ line_if_given table given)
+same_if_given number table row given (Err e) text new is added = tt
+same_if_given number table row given (Ok done) text new is added =
+    added
+    ∙ ap (λ (l : List ℕ). text ++ if_shown table l) (sym (same_row_line number table (row_of row)))
+    ∙ ap (λ (o : Option (Row ℕ)). text ++ line_if_given table o) is
 
-  -- the refusal stays
-  pub given_refusal : (all : List (Row ℕ)) → Advances stretch limit number items limits Fixed left all (Ok true) u → (behind_first left all).refusal ≡ left.refusal
-  given_refusal [] h = absurd h
-  given_refusal (row ∷ others) h = refl
+module _ {R S E O L K : Type 0} (stretch : R → Stretch) (limit : ℕ) (number : O → ℕ) (items : K → List (UnwindTableRow O L)) (limits : Limits) (Fixed : Type 0) (u : ProgramRows R S E O L K) where
+  -- the line of a row that is given now
+  line_there : (table : Table) (row : Row ℕ) → (rows_state number items limits u).row ≡ row → u.has_row ≡ true
+      → line_if_given table (current_row number items limits u) ≡ if_shown table (row_line table row)
+  line_there table row same there =
+      ap (λ (b : Bool). line_if_given table (cond b (Some (rows_state number items limits u).row) None)) there
+      ∙ ap (λ (r : Row ℕ). if_shown table (row_line table r)) same
 
-  -- the row is the current one
-  pub given_current : (all : List (Row ℕ)) → Advances stretch limit number items limits Fixed left all (Ok true) u → u.has_row ≡ true
-  given_current [] h = absurd h
-  given_current (row ∷ others) h = h.2
+  -- where no row is given, no line is
+  no_line : (table : Table) (text new : List ℕ) → u.has_row ≡ false → new ≡ text ++ line_if_given table (current_row number items limits u)
+      → new ≡ text ++ []
+  no_line table text new none added =
+      added ∙ ap (λ (b : Bool). text ++ line_if_given table (cond b (Some (rows_state number items limits u).row) None)) none
 
-  -- at the end no line is left, and no refusal
-  pub no_lines : (table : Table) (all : List (Row ℕ)) → Advances stretch limit number items limits Fixed left all (Ok false) u → row_lines table all ≡ []
-  no_lines table [] h = refl
-  no_lines table (row ∷ others) h = absurd h
+  -- a refusal leaves no line
+  none_next : (table : Table) (left : Rows ℕ) (all : List (Row ℕ)) (e : Error) (text new : List ℕ) → left ≡ refused_rows e → u.has_row ≡ false → left.rows ≡ all
+      → new ≡ text ++ line_if_given table (current_row number items limits u) → (left.refusal ≡ Some e) × (new ≡ text ++ row_lines table all)
+  none_next table left all e text new refused none same added =
+      let rows : [] ≡ all = ap (λ (l : Rows ℕ). l.rows) (sym refused) ∙ same in (
+        ap (λ (l : Rows ℕ). l.refusal) refused,
+        no_line table text new none added ∙ ap (λ (rs : List (Row ℕ)). text ++ row_lines table rs) rows,
+      )
 
-  pub no_refusal : (all : List (Row ℕ)) → Advances stretch limit number items limits Fixed left all (Ok false) u → left.refusal ≡ None
-  no_refusal [] h = h.0
-  no_refusal (row ∷ others) h = absurd h
+  -- the line of the next row is there, or all lines are
+  shows : (table : Table) (left : Rows ℕ) (all : List (Row ℕ)) (answer : Result Bool Error) (text new : List ℕ)
+      → Advances stretch limit number items limits Fixed left all answer u → left.rows ≡ all → IfErr answer (λ e. e ≢ OutOfMemory)
+      → new ≡ text ++ line_if_given table (current_row number items limits u)
+      → ShowsNext (HasLeft stretch limit number items limits u) table (record { rows = all; refusal = left.refusal }) text new answer
+  shows table left [] (Ok true) text new advanced same wanted added = absurd advanced
+  shows table left (row ∷ others) (Ok true) text new advanced same wanted added = (
+    behind_first left (row ∷ others),
+    advanced.1,
+    refl,
+    ap (λ (t : List ℕ). t ++ row_lines table others) (added ∙ ap (λ (l : List ℕ). text ++ l) (line_there table row advanced.0 advanced.2))
+        ∙ append_assoc text (if_shown table (row_line table row)) (row_lines table others),
+  )
+  shows table left [] (Ok false) text new advanced same wanted added = (advanced.0, no_line table text new advanced.2 added)
+  shows table left (row ∷ others) (Ok false) text new advanced same wanted added = absurd advanced
+  shows table left [] (Err e) text new advanced same wanted added = none_next table left [] e text new (advanced.0 (inr wanted)) advanced.2 same added
+  shows table left (row ∷ others) (Err e) text new advanced same wanted added = none_next table left (row ∷ others) e text new (advanced.0 (inr wanted)) advanced.2 same added
 
-  -- its lines were written, and those that are left are to come
-  pub more_lines : (table : Table) (all : List (Row ℕ)) (row : UnwindTableRow O L) (text new whole : List ℕ)
-      → Advances stretch limit number items limits Fixed left all (Ok true) u
-      → Some (row_in number row) ≡ current_row number items limits u
-      → new ≡ text ++ if_shown table (row_line table (row_of row))
-      → text ++ row_lines table all ≡ whole
-      → new ++ row_lines table (behind_first left all).rows ≡ whole
-  more_lines table all row text new whole advanced current written lines =
-      let now = (rows_state number items limits u).row in
-      let there : Some (row_in number row) ≡ Some now = current ∙ ap (λ (b : Bool). cond b (Some now) None) (given_current all advanced) in
-      let same : row_in number row ≡ now = cc in
-      let shown : row_line table (row_of row) ≡ row_line table now = sym (same_row_line number table (row_of row)) ∙ ap (λ (r : Row ℕ). row_line table r) same in
-      let rest = row_lines table (behind_first left all).rows in
-      ap (λ (t : List ℕ). t ++ rest) written
-      ∙ append_assoc text (if_shown table (row_line table (row_of row))) rest
-      ∙ ap (λ (l : List ℕ). text ++ (if_shown table l ++ rest)) shown
-      ∙ ap (λ (l : List ℕ). text ++ l) (sym (given_lines table all advanced))
-      ∙ lines
+  pub shows_next : (table : Table) (left : Rows ℕ) (all : List (Row ℕ)) (answer given : Result Bool Error) (text new : List ℕ)
+      → Advances stretch limit number items limits Fixed left all answer u → given ≡ answer → left.rows ≡ all → IfErr answer (λ e. e ≢ OutOfMemory)
+      → new ≡ text ++ line_if_given table (current_row number items limits u)
+      → ShowsNext (HasLeft stretch limit number items limits u) table (record { rows = all; refusal = left.refusal }) text new given
+  shows_next table left all answer given text new advanced is same wanted added =
+      subst (λ (r : Result Bool Error). ShowsNext (HasLeft stretch limit number items limits u) table (record { rows = all; refusal = left.refusal }) text new r) (sym is)
+      (shows table left all answer text new advanced same wanted added)

@@ -73,6 +73,11 @@ row_line table row =
 abbrev pub if_shown : Table → List ℕ → List ℕ
 if_shown table text = if table.is_shown then text else []
 
+-- the same of a row that may not be given
+abbrev pub line_if_given : {T : Type 0} → Table → Option (Row T) → List ℕ
+line_if_given table None = []
+line_if_given table (Some row) = if_shown table (row_line table row)
+
 -- the lines of rows
 abbrev pub row_lines : {T : Type 0} → Table → List (Row T) → List ℕ
 row_lines table rows = flat_map (λ row. if_shown table (row_line table row)) rows

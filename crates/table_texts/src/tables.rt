@@ -1,11 +1,12 @@
 //! The table of an entry: a line of headings, and one for each row.
-ghost use Rattle.std.specs.Prelude.{◌≡◌, ◌≢◌, ◌*◌, ◌++◌, IfErr, IfOk, OnOk, string_bytes};
-ghost use Rattle.dwarf_frame_programs.specs.ProgramRows.{program_of};
-ghost use Rattle.dwarf_frame_programs.specs.Programs.{rows_of_program};
+ghost use Rattle.std.specs.Prelude.{◌≡◌, ◌≢◌, ◌<◌, ◌*◌, ◌++◌, ℕ, IfErr, IfOk, OnOk, string_bytes};
+ghost use Rattle.std.specs.Bool.{OnTrue};
+ghost use Rattle.dwarf_frame_programs.specs.ProgramRows.{HasLeft, current_row, program_of, steps_left};
+ghost use Rattle.dwarf_frame_programs.specs.Programs.{Rows, rows_of_program};
 ghost use Rattle.dwarf_frame_rows.specs.Effects.{limits_of};
 ghost use Rattle.dwarf_frame_rows.specs.Row.{row_of};
-ghost use Rattle.table_texts.specs.TableViews.{table_view};
-ghost use Rattle.table_texts.specs.Tables.{cfa_text, column_cells, column_name, found_in, found_text, heading_line, if_shown, row_line, row_lines, rule_text, table_text};
+ghost use Rattle.table_texts.specs.TableViews.{ShowsNext, table_view};
+ghost use Rattle.table_texts.specs.Tables.{cfa_text, column_cells, column_name, found_in, found_text, heading_line, if_shown, line_if_given, row_line, row_lines, rule_text, table_text};
 
 use crate::cells::{push_bytes, push_cell, push_hex, signed_text};
 use crate::names::{Machine, register_in_full, register_name};
@@ -179,6 +180,46 @@ impl Table {
         push_bytes(text, b"\n")
     }
 
+    /// Appends the line of the row that was given last, if the last call gave one.
+    fn push_current<R: Reader, S: UnwindContextStorage<R::Offset>>(
+        &self,
+        alloc: Global,
+        rows: &ProgramRows<'_, '_, R, S>,
+        text: &mut Vec<u8>,
+    ) -> Result<(), AllocError>
+        ensures { let limits = limits_of S.Rules.capacity S.Stack.capacity in
+            OnOk result (text.new.items ≡ text.old.items ++ line_if_given (table_view self.now)
+            (current_row R.Offset.value S.Stack.items limits rows.now)) }
+    {
+        match rows.current_row() {
+            Some(row) => self.push_row(alloc, row, text),
+            None => Ok(()),
+        }
+    }
+
+    /// Appends the line of the next row, and answers whether there is one, or the refusal.
+    fn push_next<R: Reader, S: UnwindContextStorage<R::Offset>>(
+        &self,
+        alloc: Global,
+        rows: &mut ProgramRows<'_, '_, R, S>,
+        text: &mut Vec<u8>,
+    ) -> Result<dwarf_constants::Result<bool>, AllocError>
+        ensures next { let limits = limits_of S.Rules.capacity S.Stack.capacity in
+            (left : Rows ℕ) → HasLeft R.stretch R.Offset.limit R.Offset.value S.Stack.items limits
+            rows.old left
+            → IfOk result (ShowsNext
+            (HasLeft R.stretch R.Offset.limit R.Offset.value S.Stack.items limits rows.new)
+            (table_view self.now) left text.old.items text.new.items) }
+        ensures falls { IfOk result (λ answer. IfOk answer (λ more. OnTrue more
+            (steps_left R.stretch R.Offset.limit rows.new
+            < steps_left R.stretch R.Offset.limit rows.old))) }
+        ensures same_reference { rows.new.context.ghost_name ≡ rows.old.context.ghost_name }
+    {
+        let answer = wanted(rows.advance())?;
+        self.push_current(alloc, rows, text)?;
+        Ok(answer)
+    }
+
     /// Appends the lines of a program's rows, up to its first refusal, which it answers.
     fn push_rows<R: Reader, S: UnwindContextStorage<R::Offset>>(
         &self,
@@ -199,13 +240,10 @@ impl Table {
             Err(refusal) => return Ok(Some(refusal)),
         };
         'rows: loop {
-            match wanted(rows.advance())? {
+            match self.push_next(alloc, &mut rows, text)? {
                 Ok(true) => {}
                 Ok(false) => return Ok(None),
                 Err(refusal) => return Ok(Some(refusal)),
-            }
-            if let Some(row) = rows.current_row() {
-                self.push_row(alloc, row, text)?;
             }
         }
     }
