@@ -16,17 +16,21 @@ pub record AddressSet : Type 0 where
   pub encoding : Encoding
   pub addresses : Stretch
 
--- what stands in a set behind its length
-abbrev pub set_behind : ℕ → ℕ → Format → Stretch → Result AddressSet Error
-set_behind offset length format s = do
+-- how the addresses of a set of this format are encoded
+abbrev pub set_encoding_at : Format → Stretch → Result (Encoding × Stretch) Error
+set_encoding_at format s = do
   version ← number_at 2 s
   _ ← requirement (version.0 == 5) (UnknownVersion version.0)
   size ← address_size_at version.1
   segment ← byte_at size.1
   _ ← requirement (segment.0 == 0) UnsupportedSegmentSize
-  let encoding : Encoding =
-      record { address_size = size.0; format = format; version = version.0 }
-  Ok (record { offset = offset; length = length; encoding = encoding; addresses = segment.1 })
+  Ok (record { address_size = size.0; format = format; version = version.0 }, segment.1)
+
+-- what stands in a set behind its length
+abbrev pub set_behind : ℕ → ℕ → Format → Stretch → Result AddressSet Error
+set_behind offset length format s = do
+  encoding ← set_encoding_at format s
+  Ok (record { offset = offset; length = length; encoding = encoding.0; addresses = encoding.1 })
 
 -- the set at this offset, and what is left behind it
 abbrev pub set_at : ℕ → ℕ → Stretch → Result (AddressSet × Stretch) Error

@@ -3,11 +3,12 @@
 ghost use Rattle.std.specs.Prelude.{◌≡◌, ◌<◌, ◌+◌, ◌≤◌, length, Some, None, Ok, Err, OnOk};
 ghost use Rattle.dwarf_constants.specs.declared.common.SectionId.TheVariants as id;
 ghost use Rattle.dwarf_numbers.specs.Answers.{Gives};
+ghost use Rattle.dwarf_read_core.specs.AddressSets.{set_encoding_at};
 ghost use Rattle.dwarf_readers.specs.Place.{Reads};
 
 use crate::section::Section;
 use crate::str::entry_offset;
-use dwarf_constants::{Encoding, Error, Result, SectionId};
+use dwarf_constants::{Encoding, Error, Format, Result, SectionId};
 use dwarf_offsets::{DebugAddrBase, DebugAddrIndex, DebugAddrOffset};
 use dwarf_readers::{Reader, ReaderOffset};
 use std::marker::Model;
@@ -170,6 +171,27 @@ fn offset_behind<O: ReaderOffset>(offset: O, before: O, after: O) -> O
     }
 }
 
+// Reads how the addresses of a set are encoded, in a set of this format.
+#[inline(always)]
+fn read_encoding<R: Reader>(input: &mut R, format: Format) -> Result<Encoding>
+    ensures { Reads result (set_encoding_at format (R.stretch input.old)) (R.stretch input.new) }
+{
+    let version = input.read_u16()?;
+    if version != 5 {
+        return Err(Error::UnknownVersion(u64::from(version)));
+    }
+    let address_size = input.read_address_size()?;
+    let segment_size = input.read_u8()?;
+    if segment_size != 0 {
+        return Err(Error::UnsupportedSegmentSize);
+    }
+    Ok(Encoding {
+        address_size,
+        format,
+        version,
+    })
+}
+
 /// A set of addresses.
 #[derive(Debug, Drop)]
 pub struct AddrHeader<R: Reader> {
@@ -206,20 +228,7 @@ impl<R: Reader> AddrHeader<R> {
     {
         let (length, format) = input.read_initial_length()?;
         let mut entries = input.split(length)?;
-        let version = entries.read_u16()?;
-        if version != 5 {
-            return Err(Error::UnknownVersion(u64::from(version)));
-        }
-        let address_size = entries.read_address_size()?;
-        let segment_size = entries.read_u8()?;
-        if segment_size != 0 {
-            return Err(Error::UnsupportedSegmentSize);
-        }
-        let encoding = Encoding {
-            address_size,
-            format,
-            version,
-        };
+        let encoding = read_encoding(&mut entries, format)?;
         Ok(AddrHeader {
             offset,
             encoding,
