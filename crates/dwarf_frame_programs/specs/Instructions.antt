@@ -106,20 +106,29 @@ cfa_definitions conventions =
     ∷ (DW_CFA_def_cfa_expression, one (expression_at conventions) DefCfaExpression)
     ∷ []
 
--- how a register is found (6.4.2.3)
-abbrev pub register_rules : Conventions → List (DwCfa × Operands)
-register_rules conventions =
+-- how a register is found: not, or by an offset from the CFA (6.4.2.3)
+abbrev pub offset_rules : List (DwCfa × Operands)
+offset_rules =
     (DW_CFA_undefined, one register_at Undefined)
     ∷ (DW_CFA_same_value, one register_at SameValue)
     ∷ (DW_CFA_offset_extended, two register_at unsigned_at Offset)
     ∷ (DW_CFA_offset_extended_sf, two register_at signed_at OffsetExtendedSf)
     ∷ (DW_CFA_val_offset, two register_at unsigned_at ValOffset)
     ∷ (DW_CFA_val_offset_sf, two register_at signed_at ValOffsetSf)
-    ∷ (DW_CFA_register, two register_at register_at InRegister)
+    ∷ []
+
+-- in another register, by an expression, or as the CIE says
+abbrev pub other_rules : Conventions → List (DwCfa × Operands)
+other_rules conventions =
+    (DW_CFA_register, two register_at register_at InRegister)
     ∷ (DW_CFA_expression, two register_at (expression_at conventions) Expression)
     ∷ (DW_CFA_val_expression, two register_at (expression_at conventions) ValExpression)
     ∷ (DW_CFA_restore_extended, one register_at Restore)
     ∷ []
+
+-- all ways to find a register
+abbrev pub register_rules : Conventions → List (DwCfa × Operands)
+register_rules conventions = offset_rules ++ other_rules conventions
 
 -- those of a vendor alone
 abbrev pub vendors : Vendor → List (DwCfa × Operands)
@@ -148,6 +157,10 @@ known_or_refused opcode None s = Err (UnknownCallFrameInstruction (record { 0 = 
 -- the instruction that a table has for an opcode
 abbrev pub listed_at : List (DwCfa × Operands) → ℕ → Operands
 listed_at rows opcode = known_or_refused opcode (look_up opcode rows)
+
+-- the tables behind that of the offsets from the CFA
+abbrev pub other_rules_and_others : Conventions → List (DwCfa × Operands)
+other_rules_and_others conventions = other_rules conventions ++ others conventions
 
 -- the tables behind that of the locations, and behind that of the CFA
 abbrev pub rules_and_others : Conventions → List (DwCfa × Operands)

@@ -2,7 +2,7 @@
 ghost use Rattle.std.specs.Prelude.{◌≡◌};
 ghost use Rattle.lists.specs.Items.{GivesNext};
 ghost use Rattle.dwarf_readers.specs.Place.{Reads, ReadsAs};
-ghost use Rattle.dwarf_frame_programs.specs.Instructions.{all_but_locations, expression_at, instruction_at, instructions_of, listed_at, location_at, others, register_at, rules_and_others, told_by_all_bits};
+ghost use Rattle.dwarf_frame_programs.specs.Instructions.{all_but_locations, expression_at, instruction_at, instructions_of, listed_at, location_at, other_rules_and_others, others, register_at, rules_and_others, told_by_all_bits};
 ghost use Rattle.dwarf_frame_programs.specs.InstructionViews.{conventions_by, conventions_of, expression_as, instruction_as};
 
 use dwarf_constants::constants::{
@@ -355,6 +355,24 @@ impl<'a, R: Reader> Coding<'a, R> {
                 register: parse_register(input)?,
                 factored_offset: input.read_sleb128()?,
             },
+            _ => return self.parse_other_rule(opcode, input),
+        };
+        Ok(instruction)
+    }
+
+    // The same of how a register is found, but not by an offset from the CFA, or another.
+    #[inline(always)]
+    fn parse_other_rule(
+        &self,
+        opcode: DwCfa,
+        input: &mut R,
+    ) -> Result<CallFrameInstruction<R::Offset>>
+        ensures { ReadsAs (instruction_as R.Offset.value) result
+            (listed_at (other_rules_and_others
+            (conventions_by R.stretch R.Offset.limit self.now)) opcode.0
+            (R.stretch input.old)) (R.stretch input.new) }
+    {
+        let instruction = match opcode {
             DW_CFA_register => CallFrameInstruction::Register {
                 dest_register: parse_register(input)?,
                 src_register: parse_register(input)?,
