@@ -1,4 +1,5 @@
 mod RuleMaps
 mod SameMaps
+mod SavedRows
 pub mod Onward
 pub mod Laws
