@@ -3,7 +3,8 @@ use Rattle.std.proofs.Common.{◌≡◌, ℕ, zero, suc, ◌+◌, ◌-◌, ◌/�
 use Rattle.std.specs.Prelude.{◌==◌, nat_lt}
 use Rattle.std.proofs.lemmas.Bool.Decides.{nat_tests}
 use Rattle.dwarf_constants.specs.declared.error.Error.{Error}
-use Rattle.dwarf_frame_headers.specs.Halving.{Halving, TableRow, behind_start, ended_at, first_start, first_target, halving}
+use Rattle.dwarf_frame_rows.specs.declared.pointer.Pointer.{Pointer}
+use Rattle.dwarf_frame_headers.specs.Halving.{ComesTo, Halving, TableRow, behind_start, ended_at, first_start, first_target, halving}
 use Rattle.dwarf_frame_headers.specs.HeaderTable.{rows_between}
 use Rattle.dwarf_frame_headers.proofs.Halves.{Onwards, halving-more, halving-one}
 use Rattle.dwarf_frame_headers.proofs.RowsBetween.{drop-between, length-between, take-between}
@@ -79,3 +80,48 @@ module _ (row : ℕ → TableRow) (address first count : ℕ) where
       let few : length (rows_between row first count) ≤ 1 = omega (arith, length-between row first count) in
       let ended = target-of-first first count (omega arith) in
       halving-one address (rows_between row first count) few ∙ rw ended refl
+
+-- ---- a look-up, half by half
+
+-- so many rows from one on are left: halving them comes to what halving all does, behind the starts that were read
+pub record Left (row : ℕ → TableRow) (address total first count before now : ℕ) : Type 0 where
+  pub some : 0 < count
+  pub within : first + count ≤ total
+  pub reached : (halving address (rows_between row 0 total)).reached ≡ (halving address (rows_between row first count)).reached
+  pub counted : before + (halving address (rows_between row 0 total)).reads ≡ now + (halving address (rows_between row first count)).reads
+
+module _ (row : ℕ → TableRow) (address total first count before now : ℕ) (left : Left row address total first count before now) where
+  ended : (halved : Halving) (answer : Result Pointer Error) (after : ℕ) → halving address (rows_between row first count) ≡ halved → answer ≡ halved.reached → after ≡ now + halved.reads
+      → ComesTo (halving address (rows_between row 0 total)) answer before after
+  ended halved answer after all is counted = record {
+    row = is ∙ sym (ap (λ h. h.reached) all) ∙ sym left.reached;
+    counted = omega (arith, counted, ap (λ h. h.reads) all, left.counted);
+  }
+
+  gone-on : (next n : ℕ) → halving address (rows_between row first count) ≡ one-more (halving address (rows_between row next n)) → 0 < n → next + n ≤ first + count
+      → (after : ℕ) → after ≡ now + 1 → Left row address total next n before after
+  gone-on next n all some within after ticked = record {
+    some = some;
+    within = omega (arith, within, left.within);
+    reached = left.reached ∙ ap (λ h. h.reached) all;
+    counted = omega (arith, ticked, ap (λ h. h.reads) all, left.counted);
+  }
+
+  -- the pivot's start was read
+  module _ (after : ℕ) (ticked : after ≡ now + 1) (more : 1 < count) where
+    pub ended-refused : (e : Error) (answer : Result Pointer Error) → Err e ≡ (row (first + count / 2)).start → answer ≡ Err e → ComesTo (halving address (rows_between row 0 total)) answer before after
+    ended-refused e answer start is = ended (record { reached = Err e; reads = 1 }) answer after (halved-refused row address first count e more (sym start)) is ticked
+
+    module _ (start : ℕ) (is : Ok start ≡ (row (first + count / 2)).start) where
+      pub ended-at-pivot : (answer : Result Pointer Error) → start ≡ address → answer ≡ (row (first + count / 2)).target → ComesTo (halving address (rows_between row 0 total)) answer before after
+      ended-at-pivot answer at target = ended (record { reached = (row (first + count / 2)).target; reads = 1 }) answer after (halved-at row address first count start more (sym is) at) target ticked
+
+      pub left-below : start < address → Left row address total (first + count / 2) (count - count / 2) before after
+      left-below below = gone-on (first + count / 2) (count - count / 2) (halved-below row address first count start more (sym is) below) (omega (arith, more)) (omega (arith, more)) after ticked
+
+      pub left-above : address < start → Left row address total first (count / 2) before after
+      left-above above = gone-on first (count / 2) (halved-above row address first count start more (sym is) above) (omega (arith, more)) (omega (arith, more)) after ticked
+
+  -- one row is left
+  pub ended-one : count ≤ 1 → (answer : Result Pointer Error) → answer ≡ (row first).target → ComesTo (halving address (rows_between row 0 total)) answer before now
+  ended-one few answer is = ended (record { reached = (row first).target; reads = 0 }) answer now (halved-one row address first count (omega (arith, left.some, few))) is (omega arith)

@@ -1,5 +1,5 @@
 -- The row of a table that halving reaches, and the one that it reaches where the starts increase.
-use Rattle.std.specs.Prelude.{◌≡◌, ℕ, zero, suc, ◌/◌, ◌==◌, List, [], ◌∷◌, length, take, drop, map, Option, Some, None, Result, Ok, Err, nat_lt, nat_le, if◌then◌else◌}
+use Rattle.std.specs.Prelude.{◌≡◌, ℕ, zero, suc, ◌+◌, ◌/◌, ◌==◌, List, [], ◌∷◌, length, take, drop, map, Option, Some, None, Result, Ok, Err, nat_lt, nat_le, if◌then◌else◌}
 use Rattle.std.specs.List.{filter}
 use Rattle.std.specs.List.Sorted.{IsStrictlyIncreasing}
 use Rattle.dwarf_constants.specs.declared.error.Error.{Error}
@@ -51,6 +51,11 @@ halving_within (suc n) address rows =
 -- all halves of some rows
 unfoldable pub halving : ℕ → List TableRow → Halving
 halving address rows = halving_within (length rows) address rows
+
+-- A look-up answered what halving comes to, and counted the starts that it read.
+pub record ComesTo (halved : Halving) (answer : Result Pointer Error) (before after : ℕ) : Type 0 where
+  pub row : answer ≡ halved.reached
+  pub counted : after ≡ before + halved.reads
 
 -- ---- rows whose starts increase
 

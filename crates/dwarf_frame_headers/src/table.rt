@@ -1,7 +1,7 @@
 //! The table, and look-ups in it.
 ghost use Rattle.std.specs.Prelude.{◌≡◌, ◌≤◌, ◌<◌, ◌+◌, ◌^◌, ℕ};
 ghost use Rattle.dwarf_numbers.specs.Answers.{Gives};
-ghost use Rattle.dwarf_frame_headers.specs.Halving.{halving};
+ghost use Rattle.dwarf_frame_headers.specs.Halving.{ComesTo, halving};
 ghost use Rattle.dwarf_frame_headers.specs.Header.{offset_of_pointer};
 ghost use Rattle.dwarf_frame_headers.specs.HeaderTable.{header_row, rows_by_place, starts_read, header_table};
 
@@ -94,10 +94,8 @@ impl<'a, R: Reader> EhHdrTable<'a, R> {
         bases: &BaseAddresses,
         steps: &mut Steps<L>,
     ) -> Result<Pointer>
-        ensures row { result ≡ (halving address (rows_by_place R.Offset.limit size
-            (header_table bases.now.eh_frame_hdr self.now))).reached }
-        ensures counted { steps.new ≡ steps.old + (halving address (rows_by_place R.Offset.limit size
-            (header_table bases.now.eh_frame_hdr self.now))).reads }
+        ensures { ComesTo (halving address (rows_by_place R.Offset.limit size
+            (header_table bases.now.eh_frame_hdr self.now))) result steps.old steps.new }
     {
         let hdr = self.hdr;
         let mut first = 0;
