@@ -1,10 +1,9 @@
 -- Laws of checks, of lists that are checked, and of lines that are written. Each is the contract of a function of `decoding` or `writing`.
-use Rattle.std.proofs.Common.{◌≡◌, ℕ, suc, ◌+◌, ◌<◌, List, [], ◌∷◌, ◌++◌, length, get_or, take, drop, Option, Some, None, Result, Ok, Err, inl, inr, refl, sym, ap, subst, ◌∙◌, arith, append_assoc, add-one}
+use Rattle.std.proofs.Common.{◌≡◌, ℕ, suc, ◌+◌, ◌<◌, List, [], ◌∷◌, ◌++◌, length, get_or, take, drop, Option, Some, None, Result, Ok, Err, refl, sym, ap, subst, ◌∙◌, arith, append_assoc, add-one}
 use Rattle.std.specs.Prelude.{IsErrAnd}
 use Rattle.std.specs.Io.KnownBytes.{Appends}
 use Rattle.std.proofs.Math.Seq.{drop-cons, take-append_seam}
-use Rattle.std.proofs.lemmas.List.{append-nil, take-append-drop, length-take, take_all}
-use Rattle.std.proofs.lemmas.Bool.{cases_lt}
+use Rattle.std.proofs.lemmas.List.{append-nil, take-append-drop}
 use Rattle.std.proofs.lemmas.Bool.Decides.{nat_tests}
 use Rattle.serde_json.specs.Data.{Data}
 use Rattle.serde_json.specs.View.{view, items_view}
@@ -12,12 +11,11 @@ use Rattle.serde_json.specs.declared.value.Value.{Value}
 use Rattle.documents.specs.declared.fault.FaultName.{FaultName}
 use Rattle.documents.specs.declared.fault.Refusal.{Refusal}
 use Rattle.documents.specs.declared.fault.Refusal.TheVariants as refusal
-use Rattle.documents.specs.declared.transfer.TheConstants.{DOCUMENT_LIMIT}
 use Rattle.documents.specs.Decoded.{Decodes, result_map}
 use Rattle.documents.specs.Elements.{so_far, joined, first}
 use Rattle.documents.specs.Faults.{Checked, first_fault, with_fault, unit_answer, weighed, ◌⊛◌, both, in_unit}
 use Rattle.documents.specs.Json.{list_of}
-use Rattle.documents.specs.Stream.{AppendsFront, IsWritten, part_read}
+use Rattle.documents.specs.Stream.{AppendsFront, IsWritten}
 
 -- two checks of values in memory are the checks of what the values show
 pub both-views : {A B C D : Type 0} (f : A → C) (g : B → D) (a : Checked A) (b : Checked B)
@@ -200,14 +198,3 @@ begun_line old mid new line left all written (count, added) =
 -- nothing is a front of anything
 pub begun_none : (old : Option (List ℕ)) (all : List ℕ) → AppendsFront old old all
 begun_none old all = written_front old old all all (written_none old all)
-
--- ---- a front that says what the whole does
-
--- of what one byte past the limit decides, the front that is read says what the whole does
-pub front_says : {A : Type 0} (says : List ℕ → A) (refused : A) → ((bytes : List ℕ) → DOCUMENT_LIMIT < length bytes → says bytes ≡ refused)
-    → (all : List ℕ) → says (part_read all) ≡ says all
-unfolding part_read
-front_says says refused long all = elim (cases_lt DOCUMENT_LIMIT (length all)) [
-  | inl more ↦ long (take (DOCUMENT_LIMIT + 1) all) (omega (arith, length-take (DOCUMENT_LIMIT + 1) all)) ∙ sym (long all more)
-  | inr short ↦ ap says (take_all (DOCUMENT_LIMIT + 1) all (omega arith))
-]

@@ -1,4 +1,5 @@
 mod Digits
 pub mod Laws
 mod Members
+mod Runs
 mod Texts

@@ -9,12 +9,14 @@ mod fault;
 pub mod field;
 pub mod float;
 pub mod json;
+mod program;
 mod status;
 mod stream;
 mod transfer;
 pub mod writing;
 
 pub use fault::{Fault, FaultName, Refusal};
+pub use program::Program;
 pub use status::{Ending, RunError};
 pub use stream::{Sink, Source, StreamError, Streamed};
 pub use transfer::{DOCUMENT_LIMIT, read_document, write_all};

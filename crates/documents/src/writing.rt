@@ -1,9 +1,7 @@
-//! Laws of documents that are read in part, and of lines that are written one after the other. The functions do nothing when
-//! the program runs.
-ghost use Rattle.std.specs.Prelude.{◌≡◌, ◌<◌, ℕ, List, [], ◌++◌, Option, length};
+//! Laws of lines that are written one after the other. The function does nothing when the program runs.
+ghost use Rattle.std.specs.Prelude.{ℕ, List, [], ◌++◌, Option};
 ghost use Rattle.std.specs.Io.KnownBytes.{Appends};
-ghost use Rattle.documents.specs.Stream.{AppendsFront, IsWritten, part_read};
-ghost use Rattle.documents.specs.declared.transfer.TheConstants.{DOCUMENT_LIMIT};
+ghost use Rattle.documents.specs.Stream.{AppendsFront, IsWritten};
 
 /// Lines are written one after the other: nothing, one more, a front of one, and all.
 pub fn lines_by_parts()
@@ -18,12 +16,4 @@ pub fn lines_by_parts()
         → IsWritten old new left all → AppendsFront old new all }
     ensures all { (old new : Option (List ℕ)) (all : List ℕ)
         → IsWritten old new [] all → Appends old new all }
-{}
-
-/// Where all documents past the limit come to one thing, the part that is read of a document says
-/// what all of it does.
-pub fn parts_say_the_whole<A>()
-    ensures { (says : List ℕ → A) (refused : A)
-        → ((bytes : List ℕ) → DOCUMENT_LIMIT < length bytes → says bytes ≡ refused)
-        → (all : List ℕ) → says (part_read all) ≡ says all }
 {}

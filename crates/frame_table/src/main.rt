@@ -5,14 +5,14 @@
 //! fault, and 1 where standard input or output failed or memory ran out.
 #![tactic(auto)]
 
-use frame_tables::{Streamed, run};
+use frame_tables::{FrameTables, Program, Streamed};
 use std::io;
 use std::process::ExitCode;
 
 fn main(rt: HostRuntime) -> ExitCode {
     let mut source = Streamed::new(rt.reader());
     let mut sink = Streamed::new(io::writer(&rt));
-    match run(rt.alloc(), &mut source, &mut sink) {
+    match FrameTables::run(rt.alloc(), &mut source, &mut sink) {
         Ok(ending) => ExitCode::from(ending.status()),
         Err(_) => ExitCode::FAILURE,
     }

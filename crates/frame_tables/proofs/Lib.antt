@@ -2,5 +2,4 @@ pub mod Appends
 pub mod Entries
 pub mod Fields
 pub mod Listings
-pub mod WholeDocument
 pub mod Writes

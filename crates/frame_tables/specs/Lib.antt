@@ -6,3 +6,4 @@ pub mod Front
 pub mod FrontViews
 pub mod Listing
 pub mod Text
+pub mod TooLong

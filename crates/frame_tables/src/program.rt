@@ -9,7 +9,7 @@ ghost use Rattle.frame_tables.specs.Text.{bases_from, ending_by, ending_of, sett
 
 use crate::document::{SectionName, Stated, decode};
 use crate::listing::write_listing;
-use documents::{Refusal, RunError, Sink, Source, read_document, write_all};
+use documents::{Program, Refusal, RunError, Sink, write_all};
 use dwarf_call_frames::{BaseAddresses, DebugFrame, EhFrame, UnwindContext};
 use dwarf_constants::Vendor;
 use dwarf_frame_rows::{SectionBaseAddresses, StoreOnHeap};
@@ -39,34 +39,6 @@ impl Ending {
     }
 }
 
-/// Reads a document, and writes the listing of its section, or a line for the document's fault.
-///
-/// A run that stops before its end has written a front of the whole text, and nothing where
-/// the document couldn't be read.
-pub fn run<R: Source, W: Sink>(
-    alloc: Global,
-    reader: &mut R,
-    writer: &mut W,
-) -> Result<Ending, RunError>
-    requires reader { R.has_failed reader.old ≡ false }
-    requires writer { W.has_failed writer.old ≡ false }
-
-    ensures text { OnOk result (IfSome (R.remaining reader.old) (λ document.
-        Appends (W.contents writer.old) (W.contents writer.new) (text_of document))) }
-    ensures ending { IfOk result (λ ending.
-        IfSome (R.remaining reader.old) (λ document. ending ≡ ending_of document)) }
-
-    ensures read { IsErrOf result RunError.Read ↔ IsTrue (R.has_failed reader.new) }
-    ensures write { IsErrOf result RunError.Write ↔ IsTrue (W.has_failed writer.new) }
-    ensures begun { OnErr result (IfSome (R.remaining reader.old) (λ document.
-        AppendsFront (W.contents writer.old) (W.contents writer.new) (text_of document))) }
-    ensures unwritten { IsErrOf result RunError.Read
-        → W.contents writer.new ≡ W.contents writer.old }
-{
-    let document = read_document(alloc, reader)?;
-    answer(alloc, document.as_slice(), writer)
-}
-
 /// How a run ends that wrote a whole listing, or one that ends at a fault.
 fn ending_by(is_whole: bool) -> Ending
     ensures { result ≡ ending_by is_whole }
@@ -78,26 +50,31 @@ fn ending_by(is_whole: bool) -> Ending
     }
 }
 
-/// Writes what a document's bytes ask for.
-fn answer<W: Sink>(alloc: Global, document: &[u8], writer: &mut W) -> Result<Ending, RunError>
-    requires { W.has_failed writer.old ≡ false }
-    ensures text { OnOk result (Appends (W.contents writer.old) (W.contents writer.new)
-        (text_of document.now)) }
-    ensures ending { IfOk result (λ ending. ending ≡ ending_of document.now) }
-    ensures write { IsErrOf result RunError.Write ↔ IsTrue (W.has_failed writer.new) }
-    ensures no_read { IfErr result (λ error. error ≢ RunError.Read) }
-    ensures begun { OnErr result (AppendsFront (W.contents writer.old) (W.contents writer.new)
-        (text_of document.now)) }
-{
-    match decode(alloc, document) {
-        Ok(stated) => Ok(ending_by(list(alloc, &stated, writer)?)),
-        Err(Refusal::Fault(fault)) => {
-            let line = format!(in alloc; "{fault}\n")?;
-            write_all(writer, line.as_bytes())?;
-            Ok(Ending::Faulty)
+/// The program that lists the section of a document.
+pub struct FrameTables;
+
+impl Program for FrameTables {
+    ghost use Rattle.frame_tables.specs.TooLong.{too_long};
+
+    type Ending = Ending;
+
+    ghost text_of = { text_of };
+
+    ghost ending_of = { ending_of };
+
+    fn answer<W: Sink>(alloc: Global, document: &[u8], writer: &mut W) -> Result<Ending, RunError> {
+        match decode(alloc, document) {
+            Ok(stated) => Ok(ending_by(list(alloc, &stated, writer)?)),
+            Err(Refusal::Fault(fault)) => {
+                let line = format!(in alloc; "{fault}\n")?;
+                write_all(writer, line.as_bytes())?;
+                Ok(Ending::Faulty)
+            }
+            Err(Refusal::OutOfMemory) => Err(RunError::OutOfMemory),
         }
-        Err(Refusal::OutOfMemory) => Err(RunError::OutOfMemory),
     }
+
+    ghost too_long = { too_long };
 }
 
 /// Whose instructions are read.

@@ -5,7 +5,7 @@ use std::alloc::Global;
 use std::io;
 use std::io::{Read, Write};
 use std::test::Fail;
-use unwind_commands::{RunError, Sink, Source, StreamError, Streamed, run};
+use unwind_commands::{Program, RunError, Sink, Source, StreamError, Streamed, UnwindCommands};
 
 /// Gives at most `step` bytes at a call, and fails at each call once `calls_left` have been made.
 #[derive(Drop)]
@@ -154,7 +154,7 @@ fn reads_in_pieces(rt: HostRuntime) -> Result<(), Fail> {
     for step in [1, 3, 7, length - 1, length, length + 1] {
         let mut source = source_in_steps(step, 2_000);
         let mut sink = sink_in_steps(rt.alloc(), 1_000, 2);
-        assert!(rt; run(rt.alloc(), &mut source, &mut sink)?.status() == 0);
+        assert!(rt; UnwindCommands::run(rt.alloc(), &mut source, &mut sink)?.status() == 0);
         assert!(rt;
             sink.written.as_slice() == ANSWERS.as_bytes(),
             "in steps of {step}"
@@ -170,7 +170,7 @@ fn each_read_fails_in_turn(rt: HostRuntime) -> Result<(), Fail> {
     for calls in 0..=DOCUMENT.len().div_ceil(100) {
         let mut source = source_in_steps(100, calls);
         let mut sink = sink_in_steps(rt.alloc(), 1_000, 2);
-        let ending = run(rt.alloc(), &mut source, &mut sink);
+        let ending = UnwindCommands::run(rt.alloc(), &mut source, &mut sink);
         assert!(rt; ending.err() == Some(RunError::Read), "after {calls} reads");
         assert!(rt; source.failed());
         assert!(rt; source.rest.len() == DOCUMENT.len().saturating_sub(100 * calls));
@@ -185,7 +185,7 @@ fn writes_in_pieces(rt: HostRuntime) -> Result<(), Fail> {
     for step in [1, 3, 7, 41, 42, 43] {
         let mut source = source_in_steps(1_000, 10);
         let mut sink = sink_in_steps(rt.alloc(), step, 100);
-        assert!(rt; run(rt.alloc(), &mut source, &mut sink)?.status() == 0);
+        assert!(rt; UnwindCommands::run(rt.alloc(), &mut source, &mut sink)?.status() == 0);
         assert!(rt;
             sink.written.as_slice() == ANSWERS.as_bytes(),
             "in steps of {step}"
@@ -201,7 +201,7 @@ fn each_write_fails_in_turn(rt: HostRuntime) -> Result<(), Fail> {
     for calls in 0..12 {
         let mut source = source_in_steps(1_000, 10);
         let mut sink = sink_in_steps(rt.alloc(), 7, calls);
-        let ending = run(rt.alloc(), &mut source, &mut sink);
+        let ending = UnwindCommands::run(rt.alloc(), &mut source, &mut sink);
         assert!(rt;
             ending.err() == Some(RunError::Write),
             "after {calls} writes"
@@ -235,9 +235,9 @@ fn interrupted_reads_are_made_again(rt: HostRuntime) -> Result<(), Fail> {
         calls_left: 2,
     });
     let mut sink = sink_in_steps(rt.alloc(), 1_000, 2);
-    assert!(rt; run(rt.alloc(), &mut source, &mut sink)?.status() == 0);
+    assert!(rt; UnwindCommands::run(rt.alloc(), &mut source, &mut sink)?.status() == 0);
     assert!(rt; sink.written.as_slice() == ANSWERS.as_bytes());
-    let again = run(rt.alloc(), &mut source, &mut sink);
+    let again = UnwindCommands::run(rt.alloc(), &mut source, &mut sink);
     assert!(rt; again.err() == Some(RunError::Read));
     assert!(rt; source.failed());
     assert!(rt; sink.written.as_slice() == ANSWERS.as_bytes());
@@ -251,8 +251,10 @@ fn interrupted_writes_are_made_again(rt: HostRuntime) -> Result<(), Fail> {
         is_quiet: false,
         calls_left: 2,
     });
-    assert!(rt; run(rt.alloc(), &mut source_in_steps(1_000, 10), &mut sink)?.status() == 0);
-    let again = run(rt.alloc(), &mut source_in_steps(1_000, 10), &mut sink);
+    assert!(rt;
+        UnwindCommands::run(rt.alloc(), &mut source_in_steps(1_000, 10), &mut sink)?.status() == 0
+    );
+    let again = UnwindCommands::run(rt.alloc(), &mut source_in_steps(1_000, 10), &mut sink);
     assert!(rt; again.err() == Some(RunError::Write));
     assert!(rt; sink.failed());
     let written = sink.into_inner().inner;
@@ -267,8 +269,8 @@ fn a_writer_that_takes_nothing_fails(rt: HostRuntime) -> Result<(), Fail> {
         br#"{"arch":"x86_64","policy":"may","commands":[{"do":"cache"}]}"#.as_slice(),
     );
     let mut sink = Streamed::new(Full);
-    assert!(rt; run(rt.alloc(), &mut empty, &mut sink)?.status() == 0);
-    let ending = run(rt.alloc(), &mut source_in_steps(1_000, 10), &mut sink);
+    assert!(rt; UnwindCommands::run(rt.alloc(), &mut empty, &mut sink)?.status() == 0);
+    let ending = UnwindCommands::run(rt.alloc(), &mut source_in_steps(1_000, 10), &mut sink);
     assert!(rt; ending.err() == Some(RunError::Write));
     assert!(rt; sink.failed());
     Ok(())

@@ -4,4 +4,3 @@ pub mod Runs
 pub mod SectionLists
 pub mod StepLines
 pub mod StillCallback
-pub mod WholeDocument

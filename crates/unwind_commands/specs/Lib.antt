@@ -5,3 +5,4 @@ pub mod RoadsAlike
 pub mod SectionViews
 pub mod Sections
 pub mod Text
+pub mod TooLong

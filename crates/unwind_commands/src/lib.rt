@@ -9,5 +9,5 @@ mod program;
 mod roads;
 mod sections;
 
-pub use documents::{Ending, RunError, Sink, Source, StreamError, Streamed};
-pub use program::run;
+pub use documents::{Ending, Program, RunError, Sink, Source, StreamError, Streamed};
+pub use program::UnwindCommands;

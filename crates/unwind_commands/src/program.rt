@@ -13,7 +13,7 @@ ghost use Rattle.unwind_commands.specs.Text.{text_of, ending_of, content_lines, 
 
 use crate::arch::DocumentArch;
 use crate::perform::{DocumentModules, perform};
-use documents::{Ending, Refusal, RunError, Sink, Source, read_document, write_all};
+use documents::{Ending, Program, Refusal, RunError, Sink, write_all};
 use framehop::{BySections, MayAllocateDuringUnwind, MustNotAllocateDuringUnwind};
 use framehop_modules::Generations;
 use framehop_rules::aarch64::ArchAarch64;
@@ -25,57 +25,34 @@ use unwind_documents::{Architecture, Command, Document, Policy, decode};
 /// Modules of an architecture by the bytes of their sections, under a policy.
 type Modules<A, P> = BySections<A, Vec<u8>, P>;
 
-/// Reads a document, and writes what its commands ask for, or a line for its first fault.
-///
-/// A run that stops before its end has written a front of the whole text, and nothing where
-/// the document couldn't be read.
-pub fn run<R: Source, W: Sink>(
-    alloc: Global,
-    reader: &mut R,
-    writer: &mut W,
-) -> Result<Ending, RunError>
-    requires reader { R.has_failed reader.old ≡ false }
-    requires writer { W.has_failed writer.old ≡ false }
+/// The program that carries out the commands of a document.
+pub struct UnwindCommands;
 
-    ensures text { OnOk result (IfSome (R.remaining reader.old) (λ document.
-        Appends (W.contents writer.old) (W.contents writer.new) (text_of document))) }
-    ensures ending { IfOk result (λ ending.
-        IfSome (R.remaining reader.old) (λ document. ending ≡ ending_of document)) }
+impl Program for UnwindCommands {
+    ghost use Rattle.unwind_commands.specs.TooLong.{too_long};
 
-    ensures read { IsErrOf result RunError.Read ↔ IsTrue (R.has_failed reader.new) }
-    ensures write { IsErrOf result RunError.Write ↔ IsTrue (W.has_failed writer.new) }
-    ensures begun { OnErr result (IfSome (R.remaining reader.old) (λ document.
-        AppendsFront (W.contents writer.old) (W.contents writer.new) (text_of document))) }
-    ensures unwritten { IsErrOf result RunError.Read
-        → W.contents writer.new ≡ W.contents writer.old }
-{
-    let document = read_document(alloc, reader)?;
-    answer(alloc, document.as_slice(), writer)
-}
+    type Ending = Ending;
 
-/// Writes what a document's bytes ask for.
-fn answer<W: Sink>(alloc: Global, document: &[u8], writer: &mut W) -> Result<Ending, RunError>
-    requires { W.has_failed writer.old ≡ false }
-    ensures text { OnOk result (Appends (W.contents writer.old) (W.contents writer.new)
-        (text_of document.now)) }
-    ensures ending { IfOk result (λ ending. ending ≡ ending_of document.now) }
-    ensures write { IsErrOf result RunError.Write ↔ IsTrue (W.has_failed writer.new) }
-    ensures no_read { IfErr result (λ error. error ≢ RunError.Read) }
-    ensures begun { OnErr result (AppendsFront (W.contents writer.old) (W.contents writer.new)
-        (text_of document.now)) }
-{
-    match decode(alloc, document) {
-        Ok(document) => {
-            run_document(alloc, document, writer)?;
-            Ok(Ending::Completed)
+    ghost text_of = { text_of };
+
+    ghost ending_of = { ending_of };
+
+    fn answer<W: Sink>(alloc: Global, document: &[u8], writer: &mut W) -> Result<Ending, RunError> {
+        match decode(alloc, document) {
+            Ok(document) => {
+                run_document(alloc, document, writer)?;
+                Ok(Ending::Completed)
+            }
+            Err(Refusal::Fault(fault)) => {
+                let line = format!(in alloc; "{fault}\n")?;
+                write_all(writer, line.as_bytes())?;
+                Ok(Ending::Faulted)
+            }
+            Err(Refusal::OutOfMemory) => Err(RunError::OutOfMemory),
         }
-        Err(Refusal::Fault(fault)) => {
-            let line = format!(in alloc; "{fault}\n")?;
-            write_all(writer, line.as_bytes())?;
-            Ok(Ending::Faulted)
-        }
-        Err(Refusal::OutOfMemory) => Err(RunError::OutOfMemory),
     }
+
+    ghost too_long = { too_long };
 }
 
 /// Carries out a document's commands under its policy.

@@ -9,7 +9,7 @@ ghost use Rattle.unwind_rows.specs.Wanted.{document_of, is_wanted, number_field,
 use anyhow::{Context, Result};
 use serde_json::Value;
 use std::alloc::Global;
-use unwind_commands::{Streamed, run};
+use unwind_commands::{Program, Streamed, UnwindCommands};
 
 /// A row of the data.
 #[derive(Drop)]
@@ -51,7 +51,7 @@ impl Row {
     {
         let mut source = Streamed::new(self.text("text").unwrap_or("").as_bytes());
         let mut sink = Streamed::new(Vec::new(alloc));
-        let status = run(alloc, &mut source, &mut sink)?.status();
+        let status = UnwindCommands::run(alloc, &mut source, &mut sink)?.status();
         Ok(Answer {
             bytes: sink.into_inner(),
             status,

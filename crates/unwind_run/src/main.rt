@@ -6,12 +6,12 @@
 
 use std::io;
 use std::process::ExitCode;
-use unwind_commands::{Streamed, run};
+use unwind_commands::{Program, Streamed, UnwindCommands};
 
 fn main(rt: HostRuntime) -> ExitCode {
     let mut source = Streamed::new(rt.reader());
     let mut sink = Streamed::new(io::writer(&rt));
-    match run(rt.alloc(), &mut source, &mut sink) {
+    match UnwindCommands::run(rt.alloc(), &mut source, &mut sink) {
         Ok(ending) => ExitCode::from(ending.status()),
         Err(_) => ExitCode::FAILURE,
     }

@@ -1,7 +1,7 @@
-use Rattle.unwind_commands.specs.Text.{text_of}
+use Rattle.frame_tables.specs.Text.{text_of}
 use Rattle.documents.proofs.Laws.{begun_none}
-use Rattle.unwind_commands.proofs.Runs.{on_err}
-use Rattle.unwind_commands.proofs.program.answer.Goals as goal
+use Rattle.frame_tables.proofs.Writes.{on_err}
+use Rattle.frame_tables.proofs.program.FrameTablesProgram.answer.Goals as goal
 
 pub returns-in_err-line-in-Err-Fault-clause-begun : goal.returns-in_err-line-in-Err-Fault-clause-begun
 returns-in_err-line-in-Err-Fault-clause-begun g c =
