@@ -9,13 +9,14 @@ use dwarf_offsets::{
     DebugAbbrevOffset, DebugAddrBase, DebugAddrIndex, DebugStrOffset, DebugStrOffsetsIndex,
 };
 use dwarf_read_core::{
-    Abbreviations, AttributeSpecification, DebugAbbrev, DebugAddr, DebugStr, DebugStrOffsets,
-    Section,
+    Abbreviations, AddrHeader, AttributeSpecification, DebugAbbrev, DebugAddr, DebugStr,
+    DebugStrOffsets, Section,
 };
 use dwarf_readers::{DebugStrOffsetsBase, Reader, ReaderOffset, RunTimeEndian};
 use dwarf_tests::{Outcome, ReaderTest, over_each_reader};
 use std::alloc::Global;
 use std::process::Abort;
+use std::test::Fail;
 
 // Runs a test over each reader of some bytes, whose numbers are little-endian.
 fn run<H, T: ReaderTest<H>>(rt: &H, alloc: Global, test: &T, bytes: &[u8]) -> Outcome {
@@ -28,24 +29,35 @@ fn table<R: Reader>(alloc: Global, reader: R) -> Result<Abbreviations, Error> {
     section.abbreviations(alloc, DebugAbbrevOffset(ReaderOffset::from_u8(0)))
 }
 
+// The declaration of code 1 in a table.
+#[derive(Drop)]
+struct CodeAndTag;
+
+impl<H: Abort> ReaderTest<H> for CodeAndTag {
+    fn run<R: Reader>(&self, rt: &H, alloc: Global, reader: R) -> Outcome {
+        let found = table(alloc, reader)?;
+        assert!(rt; found.get(0).is_none() && found.get(2).is_none());
+        let unit = found.get(1).ok_or("code 1")?;
+        assert!(rt; unit.code() == 1);
+        assert!(rt; unit.tag() == 0x11);
+        assert!(rt; unit.has_children());
+        Ok(())
+    }
+}
+
+// The names and the forms of its attributes.
 #[derive(Drop)]
 struct TwoAttributes;
 
 impl<H: Abort> ReaderTest<H> for TwoAttributes {
     fn run<R: Reader>(&self, rt: &H, alloc: Global, reader: R) -> Outcome {
         let found = table(alloc, reader)?;
-        assert!(rt; found.get(0).is_none());
-        assert!(rt; found.get(2).is_none());
-        let unit = found.get(1).ok_or("code 1")?;
-        assert!(rt; unit.code() == 1);
-        assert!(rt; unit.tag() == 0x11);
-        assert!(rt; unit.has_children());
-        let attributes = unit.attributes();
-        assert!(rt; attributes.len() == 2);
-        assert!(rt; attributes[0].name() == 0x25);
-        assert!(rt; attributes[0].form() == DwForm(0x0e));
-        assert!(rt; attributes[1].name() == 0x13);
-        assert!(rt; attributes[1].form() == DwForm(0x05));
+        let mut attributes = found.get(1).ok_or("code 1")?.attributes().iter();
+        for (name, form) in [(0x25, 0x0e), (0x13, 0x05)] {
+            let attribute = attributes.next().ok_or("an attribute")?;
+            assert!(rt; attribute.name() == name && attribute.form() == DwForm(form));
+        }
+        assert!(rt; attributes.next().is_none());
         Ok(())
     }
 }
@@ -53,6 +65,7 @@ impl<H: Abort> ReaderTest<H> for TwoAttributes {
 #[test]
 fn abbreviations(rt: HostRuntime) -> Outcome {
     let bytes = [0x01, 0x11, 0x01, 0x25, 0x0e, 0x13, 0x05, 0, 0, 0];
+    run(&rt, rt.alloc(), &CodeAndTag, &bytes)?;
     run(&rt, rt.alloc(), &TwoAttributes, &bytes)
 }
 
@@ -148,26 +161,53 @@ fn strings(rt: HostRuntime) -> Outcome {
     run(&rt, rt.alloc(), &StringOffsetTest, &words)
 }
 
-#[derive(Drop)]
-struct AddressTest;
+// The first set of a section of addresses.
+fn first_set<R: Reader>(reader: R) -> Result<AddrHeader<R>, Fail> {
+    let section = DebugAddr::from(reader);
+    Ok(section.headers().next()?.ok_or("a set")?)
+}
 
-impl<H: Abort> ReaderTest<H> for AddressTest {
+// An address by its index.
+#[derive(Drop)]
+struct AddressOfIndex;
+
+impl<H: Abort> ReaderTest<H> for AddressOfIndex {
     fn run<R: Reader>(&self, rt: &H, _alloc: Global, reader: R) -> Outcome {
         let section = DebugAddr::from(reader);
         let base = DebugAddrBase(ReaderOffset::from_u8(8));
         let index = DebugAddrIndex(ReaderOffset::from_u8(1));
         assert!(rt; section.get_address(4, base, index)? == 0x22);
-        let mut headers = section.headers();
-        let header = headers.next()?.ok_or("a set")?;
+        assert!(rt; Section::reader(&section).len().into_u64() == 16);
+        Ok(())
+    }
+}
+
+// The one set of the section, by its fields.
+#[derive(Drop)]
+struct FieldsOfSet;
+
+impl<H: Abort> ReaderTest<H> for FieldsOfSet {
+    fn run<R: Reader>(&self, rt: &H, _alloc: Global, reader: R) -> Outcome {
+        let header = first_set(reader)?;
         assert!(rt; header.offset().0.into_u64() == 0);
         assert!(rt; header.length().into_u64() == 12);
         assert!(rt; header.encoding().address_size == 4);
-        let mut entries = header.entries();
-        assert!(rt; entries.next()? == Some(0x11));
-        assert!(rt; entries.next()? == Some(0x22));
-        assert!(rt; entries.next()? == None);
-        assert!(rt; headers.next()?.is_none());
-        assert!(rt; Section::reader(&section).len().into_u64() == 16);
+        Ok(())
+    }
+}
+
+// The addresses of the set, and that no other set follows.
+#[derive(Drop)]
+struct AddressesOfSet;
+
+impl<H: Abort> ReaderTest<H> for AddressesOfSet {
+    fn run<R: Reader>(&self, rt: &H, _alloc: Global, reader: R) -> Outcome {
+        let mut entries = first_set(reader)?.entries();
+        for address in [Some(0x11), Some(0x22), None] {
+            assert!(rt; entries.next()? == address);
+        }
+        let mut headers = DebugAddr::from(reader).headers();
+        assert!(rt; headers.next()?.is_some() && headers.next()?.is_none());
         Ok(())
     }
 }
@@ -177,7 +217,9 @@ fn addresses(rt: HostRuntime) -> Outcome {
     let set = [
         0x0c, 0, 0, 0, 0x05, 0, 0x04, 0, 0x11, 0, 0, 0, 0x22, 0, 0, 0,
     ];
-    run(&rt, rt.alloc(), &AddressTest, &set)
+    run(&rt, rt.alloc(), &AddressOfIndex, &set)?;
+    run(&rt, rt.alloc(), &FieldsOfSet, &set)?;
+    run(&rt, rt.alloc(), &AddressesOfSet, &set)
 }
 
 #[test]
