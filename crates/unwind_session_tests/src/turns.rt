@@ -100,8 +100,31 @@ fn walks_end_and_stop(rt: HostRuntime) -> Result<(), Fail> {
     Ok(())
 }
 
-/// Each frame but the last that is written makes a step, and so does the end. A load takes a new
-/// number, so that the rules that were kept before count as those of other modules.
+/// Loads the module into the first unwinder, if there is one, and answers what that writes.
+fn load_first(session: &mut Session<Toy>, alloc: Global) -> Result<Written, Fail> {
+    if session.unwinders() == 0 {
+        return Err(Fail::new("no unwinder"));
+    }
+    Ok(load(session, alloc, 0, module(alloc)?)?)
+}
+
+/// What an unload from the first unwinder writes, if there is one.
+fn unload_first(session: &mut Session<Toy>, alloc: Global, start: u64) -> Result<Written, Fail> {
+    if session.unwinders() == 0 {
+        return Err(Fail::new("no unwinder"));
+    }
+    Ok(unload(session, alloc, 0, start)?)
+}
+
+/// What a clone of the first unwinder writes, if there is one.
+fn clone_first(session: &mut Session<Toy>, alloc: Global) -> Result<Written, Fail> {
+    if session.unwinders() == 0 {
+        return Err(Fail::new("no unwinder"));
+    }
+    Ok(clone_unwinder(session, alloc, 0)?)
+}
+
+/// Each frame but the last that is written makes a step, and so does the end.
 #[test]
 fn counts_go_on(rt: HostRuntime) -> Result<(), Fail> {
     let mut session = session_from(rt.alloc(), 7)?;
@@ -115,14 +138,19 @@ fn counts_go_on(rt: HostRuntime) -> Result<(), Fail> {
         let written = stats_text(&mut session, rt.alloc())?;
         assert!(rt; written.as_str() == counts, "behind {limit} frames");
     }
-    if session.unwinders() == 1 {
-        let written = load(&mut session, rt.alloc(), 0, module(rt.alloc())?)?;
-        assert!(rt; written.text.as_str() == "");
-    }
+    Ok(())
+}
+
+/// A load takes a new number, so that the rules that were kept before count as those of other modules.
+#[test]
+fn a_load_takes_a_new_number(rt: HostRuntime) -> Result<(), Fail> {
+    let mut session = session_from(rt.alloc(), 7)?;
+    let _frames = walk_text(&mut session, rt.alloc(), 2, 16)?;
+    assert!(rt; load_first(&mut session, rt.alloc())?.text.as_str() == "");
     let frames = walk_text(&mut session, rt.alloc(), 2, 16)?;
     assert!(rt; frames.as_str() == "frame ip 0x101002\nframe ra 0x100300\nlimit\n");
     let written = stats_text(&mut session, rt.alloc())?;
-    assert!(rt; written.as_str() == "stats hits 4 empty 3 modules 1 addresses 0\n");
+    assert!(rt; written.as_str() == "stats hits 0 empty 1 modules 1 addresses 0\n");
     Ok(())
 }
 
@@ -131,30 +159,32 @@ fn is_refused(written: Written) -> bool {
     written.is_refused && written.text.as_str() == "refused GenerationsExhausted\n"
 }
 
-/// The last number that the counter gives is 2^64 - 2.
+/// A session whose counter has given its last number, 2^64 - 2, to a load.
+fn session_without_numbers(alloc: Global) -> Result<Session<Toy>, Fail> {
+    let mut session = session_from(alloc, u64::MAX - 2)?;
+    if load_first(&mut session, alloc)?.is_refused {
+        return Err(Fail::new("refused with a number left"));
+    }
+    Ok(session)
+}
+
+/// What takes a number is refused where none is left.
 #[test]
 fn refused_without_a_number(rt: HostRuntime) -> Result<(), Fail> {
-    let mut session = session_from(rt.alloc(), u64::MAX - 2)?;
-    if session.unwinders() == 1 {
-        let written = load(&mut session, rt.alloc(), 0, module(rt.alloc())?)?;
-        assert!(rt; !written.is_refused);
-    }
+    let mut session = session_without_numbers(rt.alloc())?;
     assert!(rt; is_refused(add_unwinder(&mut session, rt.alloc())?));
-    if session.unwinders() == 1 {
-        assert!(rt; is_refused(load(&mut session, rt.alloc(), 0, module(rt.alloc())?)?));
-    }
-    if session.unwinders() == 1 {
-        assert!(rt; is_refused(unload(&mut session, rt.alloc(), 0, 0x100000)?));
-    }
-    if session.unwinders() == 1 {
-        let written = unload(&mut session, rt.alloc(), 0, 0x100001)?;
-        assert!(rt; !written.is_refused);
-        assert!(rt; written.text.as_str() == "");
-    }
-    if session.unwinders() == 1 {
-        let written = clone_unwinder(&mut session, rt.alloc(), 0)?;
-        assert!(rt; !written.is_refused);
-    }
+    assert!(rt; is_refused(load_first(&mut session, rt.alloc())?));
+    assert!(rt; is_refused(unload_first(&mut session, rt.alloc(), 0x100000)?));
+    Ok(())
+}
+
+/// What takes none isn't: an unload that finds nothing, and a clone.
+#[test]
+fn done_without_a_number(rt: HostRuntime) -> Result<(), Fail> {
+    let mut session = session_without_numbers(rt.alloc())?;
+    let written = unload_first(&mut session, rt.alloc(), 0x100001)?;
+    assert!(rt; !written.is_refused && written.text.as_str() == "");
+    assert!(rt; !clone_first(&mut session, rt.alloc())?.is_refused);
     assert!(rt; session.unwinders() == 2);
     Ok(())
 }

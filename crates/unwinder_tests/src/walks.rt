@@ -3,45 +3,48 @@ use crate::tables::{Said, Tables};
 use crate::worked::{added, first, loaded, module, word_at};
 use framehop_registers::aarch64::UnwindRegsAarch64;
 use framehop_registers::x86_64::UnwindRegsX86_64;
+use framehop_rules::Arch;
 use framehop_rules::aarch64::ArchAarch64;
 use framehop_rules::x86_64::ArchX86_64;
 use framehop_unwinder::{
     Cache, Error, FrameAddress, Generations, Session, StackWalk, Unwinder, UnwinderInternal,
 };
+use std::alloc::Global;
 use std::test::Fail;
 
-/// A later frame at an address.
+/// A later frame at an address, or the end at 0.
 fn later(address: u64) -> Option<FrameAddress> {
     FrameAddress::from_return_address(address)
+}
+
+/// An unwinder with one module, which says one thing.
+fn unwinder_with<A: Arch>(alloc: Global, said: Said) -> Result<UnwinderInternal<Tables<A>>, Fail> {
+    let mut generations = Generations::new();
+    let Ok(mut unwinder) = UnwinderInternal::new(alloc, &mut generations) else {
+        return Err(Fail::new("no unwinder"));
+    };
+    let there = module(alloc, 0x100000, 0x102000, 0x1000, said)?;
+    loaded(unwinder.add_module(&mut generations, there))?;
+    Ok(unwinder)
 }
 
 /// The worked stack, frame by frame: the instruction pointer, three return addresses, then the end,
 /// which stays.
 #[test]
 fn walks_to_the_end(rt: HostRuntime) -> Result<(), Fail> {
-    let alloc = rt.alloc();
-    let mut generations = Generations::new();
-    let Ok(mut unwinder) = UnwinderInternal::<Tables<ArchX86_64>>::new(alloc, &mut generations)
-    else {
-        return Err(Fail::new("no unwinder"));
-    };
-    let there = module(alloc, 0x100000, 0x102000, 0x1000, Said::StubRule)?;
-    loaded(unwinder.add_module(&mut generations, there))?;
+    let unwinder = unwinder_with::<ArchX86_64>(rt.alloc(), Said::StubRule)?;
     assert!(rt; unwinder.max_known_code_address() == 0x102000);
-    let mut cache = Cache::new(alloc, ())?;
+    let mut cache = Cache::new(rt.alloc(), ())?;
     for _ in 0..2 {
         let mut read_stack = |at: u64| word_at(at);
         let regs = UnwindRegsX86_64::new(0x101000, 0x10, 0x20);
         let mut frames = unwinder.iter_frames(0x101000, regs, &mut cache, &mut read_stack);
         assert!(rt; frames.next() == Ok(Some(first(0x101000))));
-        assert!(rt; frames.next() == Ok(later(0x100300)));
-        assert!(rt; frames.next() == Ok(later(0x100200)));
-        assert!(rt; frames.next() == Ok(later(0x100100)));
-        assert!(rt; frames.next() == Ok(None));
-        assert!(rt; frames.next() == Ok(None));
+        for address in [0x100300, 0x100200, 0x100100, 0, 0] {
+            assert!(rt; frames.next() == Ok(later(address)), "{address}");
+        }
     }
-    assert!(rt; cache.stats().hits() == 4);
-    assert!(rt; cache.stats().misses() == 4);
+    assert!(rt; cache.stats().hits() == 4 && cache.stats().misses() == 4);
     Ok(())
 }
 
@@ -84,15 +87,8 @@ fn walks_by_moves_of_a_session(rt: HostRuntime) -> Result<(), Fail> {
 /// A return address of 0 is refused, again at each further move: the walk stays at its frame.
 #[test]
 fn return_addresses_of_0_are_refused(rt: HostRuntime) -> Result<(), Fail> {
-    let alloc = rt.alloc();
-    let mut generations = Generations::new();
-    let Ok(mut unwinder) = UnwinderInternal::<Tables<ArchX86_64>>::new(alloc, &mut generations)
-    else {
-        return Err(Fail::new("no unwinder"));
-    };
-    let there = module(alloc, 0x100000, 0x102000, 0x1000, Said::NullCaller)?;
-    loaded(unwinder.add_module(&mut generations, there))?;
-    let mut cache = Cache::new(alloc, ())?;
+    let unwinder = unwinder_with::<ArchX86_64>(rt.alloc(), Said::NullCaller)?;
+    let mut cache = Cache::new(rt.alloc(), ())?;
     let mut read_stack = |at: u64| word_at(at);
     let regs = UnwindRegsX86_64::new(0x101000, 0x10, 0x20);
     let mut frames = unwinder.iter_frames(0x101000, regs, &mut cache, &mut read_stack);
@@ -105,22 +101,14 @@ fn return_addresses_of_0_are_refused(rt: HostRuntime) -> Result<(), Fail> {
 /// On aarch64, by the same code: the link register's frame first, then frame pointers.
 #[test]
 fn walks_on_aarch64(rt: HostRuntime) -> Result<(), Fail> {
-    let alloc = rt.alloc();
-    let mut generations = Generations::new();
-    let Ok(mut unwinder) = UnwinderInternal::<Tables<ArchAarch64>>::new(alloc, &mut generations)
-    else {
-        return Err(Fail::new("no unwinder"));
-    };
-    let there = module(alloc, 0x100000, 0x102000, 0x1000, Said::StubRule)?;
-    loaded(unwinder.add_module(&mut generations, there))?;
-    let mut cache = Cache::new(alloc, ())?;
+    let unwinder = unwinder_with::<ArchAarch64>(rt.alloc(), Said::StubRule)?;
+    let mut cache = Cache::new(rt.alloc(), ())?;
     let mut read_stack = |at: u64| word_at(at);
     let regs = UnwindRegsAarch64::new(0x100300, 0x10, 0x20);
     let mut frames = unwinder.iter_frames(0x101000, regs, &mut cache, &mut read_stack);
     assert!(rt; frames.next() == Ok(Some(first(0x101000))));
-    assert!(rt; frames.next() == Ok(later(0x100300)));
-    assert!(rt; frames.next() == Ok(later(0x100200)));
-    assert!(rt; frames.next() == Ok(later(0x100100)));
-    assert!(rt; frames.next() == Ok(None));
+    for address in [0x100300, 0x100200, 0x100100, 0] {
+        assert!(rt; frames.next() == Ok(later(address)), "{address}");
+    }
     Ok(())
 }
