@@ -126,6 +126,80 @@ impl Alone {
         }
     }
 
+    /// A new unwinder.
+    fn add_unwinder(&mut self, alloc: Global) -> Result<Shown, Fail> {
+        let Ok(unwinder) = UnwinderInternal::new(alloc, &mut self.generations) else {
+            return Ok(EXHAUSTED);
+        };
+        self.unwinders.push(unwinder)?;
+        Ok(ADDED)
+    }
+
+    /// A module is loaded.
+    fn load(&mut self, unwinder: usize, module: &Module<Vec<Row>>) -> Result<Shown, Fail> {
+        let Some(there) = self.unwinders.get_mut(unwinder) else {
+            return Ok(UNKNOWN);
+        };
+        loaded(there.add_module(&mut self.generations, module.try_clone()?))?;
+        Ok(ADDED)
+    }
+
+    /// A module is unloaded.
+    fn unload(&mut self, unwinder: usize, start: u64) -> Shown {
+        let Some(there) = self.unwinders.get_mut(unwinder) else {
+            return UNKNOWN;
+        };
+        match there.remove_module(&mut self.generations, start) {
+            Ok(()) => REMOVED,
+            Err(_) => EXHAUSTED,
+        }
+    }
+
+    /// An unwinder is cloned.
+    fn clone_unwinder(&mut self, alloc: Global, unwinder: usize) -> Result<Shown, Fail> {
+        let Some(there) = self.unwinders.get(unwinder) else {
+            return Ok(UNKNOWN);
+        };
+        let clone = there.try_clone(alloc)?;
+        self.unwinders.push(clone)?;
+        Ok(ADDED)
+    }
+
+    /// A step, where there would be the cache.
+    fn step(
+        &self,
+        alloc: Global,
+        unwinder: usize,
+        cache: usize,
+        address: FrameAddress,
+        mut regs: Regs,
+    ) -> Result<Shown, Fail> {
+        match self.unwinders.get(unwinder) {
+            Some(there) if (cache as u64) < self.caches => {
+                let answer = step_alone(alloc, there, address, &mut regs)?;
+                Ok(Shown::Stepped(answer, regs.sp(), regs.bp()))
+            }
+            _ => Ok(UNKNOWN),
+        }
+    }
+
+    /// A walk's next move, where there would be the cache.
+    fn next_frame(
+        &mut self,
+        alloc: Global,
+        unwinder: usize,
+        cache: usize,
+        walk: usize,
+    ) -> Result<Shown, Fail> {
+        match (self.unwinders.get(unwinder), self.walks.get_mut(walk)) {
+            (Some(there), Some(walk)) if (cache as u64) < self.caches => {
+                let answer = move_alone(alloc, there, walk)?;
+                Ok(Shown::Moved(answer, walk.regs.sp(), walk.regs.bp()))
+            }
+            _ => Ok(UNKNOWN),
+        }
+    }
+
     /// What a command has to be answered.
     fn answer<F>(
         &mut self,
@@ -133,69 +207,24 @@ impl Alone {
         command: &Command<Vec<Row>, (), Regs, F>,
     ) -> Result<Shown, Fail> {
         match command {
-            Command::NewUnwinder => {
-                let Ok(unwinder) = UnwinderInternal::new(alloc, &mut self.generations) else {
-                    return Ok(EXHAUSTED);
-                };
-                self.unwinders.push(unwinder)?;
-                Ok(ADDED)
-            }
+            Command::NewUnwinder => self.add_unwinder(alloc),
             Command::NewCache(()) => {
                 self.caches = self.caches.saturating_add(1);
                 Ok(ADDED)
             }
-            Command::Load(unwinder, module) => {
-                if *unwinder >= self.unwinders.len() {
-                    return Ok(UNKNOWN);
-                }
-                let there = &mut self.unwinders[*unwinder];
-                loaded(there.add_module(&mut self.generations, module.try_clone()?))?;
-                Ok(ADDED)
-            }
-            Command::Unload(unwinder, start) => {
-                if *unwinder >= self.unwinders.len() {
-                    return Ok(UNKNOWN);
-                }
-                let there = &mut self.unwinders[*unwinder];
-                match there.remove_module(&mut self.generations, *start) {
-                    Ok(()) => Ok(REMOVED),
-                    Err(_) => Ok(EXHAUSTED),
-                }
-            }
-            Command::Clone(unwinder) => {
-                if *unwinder >= self.unwinders.len() {
-                    return Ok(UNKNOWN);
-                }
-                let clone = self.unwinders[*unwinder].try_clone(alloc)?;
-                self.unwinders.push(clone)?;
-                Ok(ADDED)
-            }
+            Command::Load(unwinder, module) => self.load(*unwinder, module),
+            Command::Unload(unwinder, start) => Ok(self.unload(*unwinder, *start)),
+            Command::Clone(unwinder) => self.clone_unwinder(alloc, *unwinder),
             Command::Step(unwinder, cache, address, regs, _) => {
-                if *unwinder >= self.unwinders.len() || *cache as u64 >= self.caches {
-                    return Ok(UNKNOWN);
-                }
-                let mut regs = *regs;
-                let answer = step_alone(alloc, &self.unwinders[*unwinder], *address, &mut regs)?;
-                Ok(Shown::Stepped(answer, regs.sp(), regs.bp()))
+                self.step(alloc, *unwinder, *cache, *address, *regs)
             }
             Command::NewWalk(pc, regs) => {
-                self.walks.push(Walk {
-                    place: Place::Starts(*pc),
-                    regs: *regs,
-                })?;
+                let place = Place::Starts(*pc);
+                self.walks.push(Walk { place, regs: *regs })?;
                 Ok(ADDED)
             }
             Command::NextFrame(unwinder, cache, walk, _) => {
-                if *unwinder >= self.unwinders.len()
-                    || *cache as u64 >= self.caches
-                    || *walk >= self.walks.len()
-                {
-                    return Ok(UNKNOWN);
-                }
-                let mut moved = self.walks[*walk];
-                let answer = move_alone(alloc, &self.unwinders[*unwinder], &mut moved)?;
-                self.walks[*walk] = moved;
-                Ok(Shown::Moved(answer, moved.regs.sp(), moved.regs.bp()))
+                self.next_frame(alloc, *unwinder, *cache, *walk)
             }
         }
     }
