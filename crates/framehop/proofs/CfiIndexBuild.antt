@@ -1,8 +1,8 @@
 -- An index that is sorted from the FDEs of a section finds what the section's index has.
-use Rattle.std.proofs.Common.{◌≡◌, ℕ, ◌+◌, ◌-◌, ◌<◌, ◌≤◌, Bool, true, false, cond, List, [], ◌∷◌, ◌++◌, map, reverse, Option, Some, None, Result, Ok, Err, nat_cmp, is_lt, refl, sym, ap, ◌∙◌, arith, subst}
+use Rattle.std.proofs.Common.{◌≡◌, ◌≢◌, ℕ, ◌+◌, ◌-◌, ◌<◌, ◌≤◌, Bool, true, false, cond, List, [], ◌∷◌, ◌++◌, map, reverse, Option, Some, None, Result, Ok, Err, nat_cmp, is_lt, refl, sym, ap, ◌∙◌, arith, subst}
 use Rattle.std.specs.Prelude.{nat_le, nat_lt, ◌&&◌, is_none, option_map}
 use Rattle.std.specs.List.{All, cons_option, filter, filter_map, find, list_all}
-use Rattle.std.specs.Result.{result_ok}
+use Rattle.std.specs.Result.{IsErr, IsErrAnd, result_ok}
 use Rattle.std.specs.Option.{option_or}
 use Rattle.std.specs.List.Sorted.{IsNonDecreasingBy, IsPermutation, IsStableByKey, ties}
 use Rattle.std.proofs.lemmas.Bool.{and_parts}
@@ -14,6 +14,7 @@ use Rattle.dwarf_constants.specs.declared.error.Error.{Error}
 use Rattle.dwarf_frame_sections.specs.Sections.{FrameSection}
 use Rattle.framehop.specs.declared.cfi_index.IndexedFde.{IndexedFde}
 use Rattle.framehop.specs.declared.cfi_index.DwarfCfiIndexError.{DwarfCfiIndexError}
+use Rattle.framehop.specs.declared.cfi_index.DwarfCfiIndexError.TheVariants.{OutOfMemory}
 use Rattle.dwarf_call_frames.specs.Entries.{AnyEntry, Cie, Fde, PartialFde, fde_of}
 use Rattle.dwarf_call_frames.specs.EntryLists.{entries_of}
 use Rattle.dwarf_call_frames.specs.SectionFdes.{IsOfSection, fde_in, whole_fdes}
@@ -21,7 +22,7 @@ use Rattle.dwarf_call_frames.specs.declared.entries.Entry.TheVariants as which
 use Rattle.framehop.specs.EntryFor.{indexed_among, fits_index, fde_fits, item_fits, has_index, indexed_entry}
 use Rattle.lists.specs.Greatest.{is_greatest, greater}
 use Rattle.lists.specs.Last.{last_of}
-use Rattle.framehop.specs.CfiIndex.{index_refusal, fde_error, item_error, first_value, index_error, index_entry, offset_by_index, Indexes}
+use Rattle.framehop.specs.CfiIndex.{index_refusal, fde_error, item_error, first_value, index_error, index_entry, IsKept, IsMadeOf, offset_by_index, Indexes}
 use Rattle.lists.proofs.Laws.{by_case, by_option}
 use Rattle.framehop.proofs.EntryIndex.{later_of, find-has, indexed-cons}
 use Rattle.framehop.proofs.CfiIndexOrder.{none-passes, last-passes, none-higher, last-alike, find-back}
@@ -241,13 +242,26 @@ cie-gathered section base kept all left cie is before = record {
   fdes = before.fdes ∙ ap (λ entries. kept ++ map (index_entry base) (whole_among section entries)) is;
 }
 
--- an FDE that an index can have is kept
-pub fde-gathered : (section : FrameSection) (base : ℕ) (kept : List IndexedFde) (all left : List (Result AnyEntry Error)) (partial : PartialFde) (fde : Fde) → all ≡ Ok (which.Fde partial) ∷ left
-    → fde_of section.limit section.kind partial ≡ Ok fde → index_refusal base fde ≡ None → Gathered section base kept all → Gathered section base (kept ++ index_entry base fde ∷ []) left
-fde-gathered section base kept all left partial fde is whole fits before = record {
-  error = before.error ∙ ap (first_value (item_error base section)) is ∙ rw (whole, fits) refl;
-  fdes = before.fdes ∙ ap (λ entries. kept ++ map (index_entry base) (whole_among section entries)) is ∙ rw whole (sym (append_assoc kept (index_entry base fde ∷ []) (map (index_entry base) (whole_among section left))));
+-- an FDE is kept
+pub fde-gathered : (section : FrameSection) (base : ℕ) (before after : List IndexedFde) (all left : List (Result AnyEntry Error)) (partial : PartialFde) (fde : Result Fde Error) → all ≡ Ok (which.Fde partial) ∷ left
+    → fde_of section.limit section.kind partial ≡ fde → IsKept (Ok tt) base fde before after → Gathered section base before all → Gathered section base after left
+fde-gathered section base before after all left partial (Ok fde) is whole (fits, kept) gathered = record {
+  error = gathered.error ∙ ap (first_value (item_error base section)) is ∙ rw (whole, fits) refl;
+  fdes = gathered.fdes ∙ ap (λ entries. before ++ map (index_entry base) (whole_among section entries)) is ∙ rw (whole, kept) (sym (append_assoc before (index_entry base fde ∷ []) (map (index_entry base) (whole_among section left))));
 }
+fde-gathered section base before after all left partial (Err e) is whole kept gathered = absurd kept
+
+-- the first of the entries that are left is against an index
+pub first-against : (section : FrameSection) (base : ℕ) (kept : List IndexedFde) (all left : List (Result AnyEntry Error)) (item : Result AnyEntry Error) (error : DwarfCfiIndexError) → all ≡ item ∷ left
+    → item_error base section item ≡ Some error → Gathered section base kept all → index_error base section ≡ Some error
+first-against section base kept all left item error is against gathered =
+    gathered.error ∙ ap (first_value (item_error base section)) is ∙ ap (λ first. option_or first (first_value (item_error base section) left)) against
+
+-- where an entry is against an index, its error is what is returned
+pub refused : {X : Type 0} (r : Result X DwarfCfiIndexError) (Is : X → ℕ → FrameSection → Type 0) (base : ℕ) (section : FrameSection) (error : DwarfCfiIndexError) → IsErr r → IsErrAnd r (λ e. e ≡ error)
+    → (error ≢ OutOfMemory → index_error base section ≡ Some error) → IsMadeOf r Is base section
+refused (Ok made) Is base section error err same why = absurd cc
+refused (Err e) Is base section error err same why = subst (λ (x : DwarfCfiIndexError). x ≢ OutOfMemory → index_error base section ≡ Some x) (sym same) why
 
 -- ---- the entries that are left are of the section
 

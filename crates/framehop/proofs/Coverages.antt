@@ -1,15 +1,13 @@
 -- How an address is covered, by what an index and an entry gave.
-use Rattle.std.proofs.Common.{◌≡◌, ℕ, ◌+◌, ◌^◌, Bool, cond, true, false, List, Option, Some, None, Ok, Err, refl, sym, ap, ◌∙◌}
+use Rattle.std.proofs.Common.{◌≡◌, ℕ, ◌+◌, ◌^◌, Bool, cond, true, false, Option, Some, None, Ok, Err, refl, sym, ap, ◌∙◌}
 use Rattle.std.specs.Prelude.{nat_lt}
 use Rattle.std.specs.Option.{ForSome, ok_or}
 use Rattle.dwarf_constants.specs.declared.common.Vendor.{Vendor}
 use Rattle.dwarf_constants.specs.declared.common.Vendor.TheVariants.{Default}
-use Rattle.dwarf_readers.specs.Place.{Stretch, whole}
 use Rattle.dwarf_frame_rows.specs.Effects.{Limits}
 use Rattle.dwarf_frame_rows.specs.Row.{Row}
-use Rattle.dwarf_frame_rows.specs.SectionKind.{SectionKind}
 use Rattle.dwarf_frame_rows.specs.declared.base_addresses.BaseAddresses.{BaseAddresses}
-use Rattle.dwarf_frame_sections.specs.Sections.{FrameData, FrameSection, frame_section, plain_data}
+use Rattle.dwarf_frame_sections.specs.Sections.{FrameSection}
 use Rattle.dwarf_call_frames.specs.Entries.{Fde}
 use Rattle.dwarf_call_frames.specs.EntryPrograms.{fde_row}
 use Rattle.framehop.specs.Coverage.{Covered, NoEntry, by_row, by_fde, by_entry}
@@ -39,10 +37,3 @@ unindexed room road bases base relative (Some section) is none =
     by : (fits : Bool) → NoEntry ≡ cond fits NoEntry NoEntry
     by true = refl
     by false = refl
-
--- a section that is made of bytes is the section of these bytes
-pub section-made : {R : Type 0} (stretch : R → Stretch) (kind : SectionKind) (made : FrameData R) (bytes : List ℕ) (bases : BaseAddresses) → stretch made.reader ≡ whole false bytes → made ≡ plain_data made.reader
-    → frame_section (2 ^ 64) kind made.address_size (stretch made.reader) bases ≡ frame_section (2 ^ 64) kind 8 (whole false bytes) bases
-section-made stretch kind made bytes bases is plain =
-    ap (λ (n : ℕ). frame_section (2 ^ 64) kind n (stretch made.reader) bases) (ap (λ d. d.address_size) plain)
-    ∙ ap (λ (s : Stretch). frame_section (2 ^ 64) kind 8 s bases) is

@@ -5,5 +5,6 @@ pub mod EntryIndex
 pub mod EntryPlaces
 pub mod Halves
 pub mod RowTrials
+pub mod SectionsMade
 pub mod TruthfulRoads
 pub mod WholeFdes

@@ -1,10 +1,10 @@
 -- What an index of a section's FDEs is made of, and why a section has none.
-use Rattle.std.specs.Prelude.{◌≡◌, ℕ, ◌-◌, ◌^◌, List, [], ◌∷◌, length, true, Option, Some, None, option_map, Result, Ok, Err, nat_lt, nat_le, if◌then◌else◌}
+use Rattle.std.specs.Prelude.{◌≡◌, ◌≢◌, ℕ, ◌-◌, ◌^◌, List, [], ◌∷◌, ◌++◌, length, true, Option, Some, None, option_map, Result, Ok, Err, nat_lt, nat_le, if◌then◌else◌}
 use Rattle.std.specs.List.{filter}
 use Rattle.std.specs.Option.{option_or}
 use Rattle.framehop.specs.declared.cfi_index.IndexedFde.{IndexedFde}
 use Rattle.framehop.specs.declared.cfi_index.DwarfCfiIndexError.{DwarfCfiIndexError}
-use Rattle.framehop.specs.declared.cfi_index.DwarfCfiIndexError.TheVariants.{Gimli, CouldNotSubtractBaseAddress, RelativeAddressTooBig, FdeOffsetTooBig}
+use Rattle.framehop.specs.declared.cfi_index.DwarfCfiIndexError.TheVariants.{Gimli, CouldNotSubtractBaseAddress, RelativeAddressTooBig, FdeOffsetTooBig, OutOfMemory}
 use Rattle.dwarf_constants.specs.declared.error.Error.{Error}
 use Rattle.dwarf_frame_sections.specs.Sections.{FrameSection}
 use Rattle.dwarf_call_frames.specs.Entries.{AnyEntry, Fde, fde_of}
@@ -38,9 +38,22 @@ first_value value (x ∷ xs) = option_or (value x) (first_value value xs)
 abbrev pub index_error : ℕ → FrameSection → Option DwarfCfiIndexError
 index_error base section = first_value (item_error base section) (entries_of section)
 
+-- What is made of a section for an index is so, and none of the section's entries is against an index; or the error is that of the
+-- first entry that is, unless memory was refused.
+abbrev pub IsMadeOf : {X : Type 0} → Result X DwarfCfiIndexError → (X → ℕ → FrameSection → Type 0) → ℕ → FrameSection → Type 0
+IsMadeOf (Ok made) Is base section = Is made base section × (index_error base section ≡ None)
+IsMadeOf (Err error) Is base section = error ≢ OutOfMemory → index_error base section ≡ Some error
+
 -- what an index keeps of an FDE: its start relative to the base, and its place
 abbrev pub index_entry : ℕ → Fde → IndexedFde
 index_entry base fde = record { start = fde.initial_address - base; offset = fde.head.offset }
+
+-- What an index keeps of an FDE stands behind what it kept before; or the error is why it can't have the FDE, unless memory was
+-- refused.
+abbrev pub IsKept : Result (Unit {0}) DwarfCfiIndexError → ℕ → Result Fde Error → List IndexedFde → List IndexedFde → Type 0
+IsKept (Ok done) base (Ok fde) before after = (index_refusal base fde ≡ None) × (after ≡ before ++ index_entry base fde ∷ [])
+IsKept (Ok done) base (Err e) before after = ⊥
+IsKept (Err error) base fde before after = error ≢ OutOfMemory → fde_error base fde ≡ Some error
 
 -- the place of the last that starts at or below an address, of those that an index keeps
 abbrev pub offset_by_index : List IndexedFde → ℕ → Option ℕ

@@ -1,6 +1,6 @@
 //! The index of a section of call frames: which entry is for an address.
 
-ghost use Rattle.std.specs.Prelude.{◌≡◌, ◌≢◌, ◌<◌, ◌≤◌, ◌^◌, ◌+◌, ◌*◌, ℕ, suc, None, Some, option_map, map, length, codes, nat_le, if◌then◌else◌, Result, Ok, Err, IfOk, IfErr};
+ghost use Rattle.std.specs.Prelude.{◌≡◌, ◌<◌, ◌≤◌, ◌^◌, ◌+◌, ◌*◌, ℕ, suc, None, Some, option_map, map, length, codes, nat_le, if◌then◌else◌, Result, Ok, Err, IfOk, IfErr};
 ghost use Rattle.std.specs.List.Sorted.{IsNonDecreasingBy, IsPartitionPoint};
 ghost use Rattle.dwarf_numbers.specs.Answers.{Gives};
 ghost use Rattle.dwarf_frame_sections.specs.Sections.{FrameSection, frame_section, section_data};
@@ -10,7 +10,7 @@ ghost use Rattle.framehop.specs.LastCie.{IsLastCie};
 ghost use Rattle.dwarf_call_frames.specs.SectionFdes.{whole_fdes};
 ghost use Rattle.framehop.specs.EntryFor.{indexed_entry};
 ghost use Rattle.framehop.specs.FrameSections.{eh_frame_of, debug_frame_of};
-ghost use Rattle.framehop.specs.CfiIndex.{index_refusal, index_entry, index_error};
+ghost use Rattle.framehop.specs.CfiIndex.{index_refusal, index_entry, IsKept, IsMadeOf};
 ghost use Rattle.framehop.specs.declared.cfi_index.DwarfCfiIndexError.TheVariants.{OutOfMemory};
 
 use dwarf_call_frames::{
@@ -204,6 +204,34 @@ fn fde_by_last<R: Reader, Section: UnwindSection<R>>(
     fde_with(partial, &cie)
 }
 
+/// Adds what the index keeps of an FDE of a section to what it keeps of those before it, if it can have
+/// it. The FDE's CIE is read only where it isn't the one that was read last.
+#[inline(always)]
+fn keep_fde<R: Reader, Section: UnwindSection<R>>(
+    section: &Section,
+    bases: &BaseAddresses,
+    base_svma: u64,
+    partial: &PartialFrameDescriptionEntry<'_, Section, R>,
+    last: &mut Option<LastCie<R>>,
+    fdes: &mut Vec<IndexedFde>,
+) -> Result<(), DwarfCfiIndexError>
+    requires within { partial.now.within ≡ section_data (Section.size section.now)
+        (R.stretch (Section.reader section.now)) bases.now }
+    requires last { IsLastCie R.stretch R.Offset.value (frame_section R.Offset.limit Section.kind
+        (Section.size section.now) (R.stretch (Section.reader section.now)) bases.now) last.old }
+    ensures kept { IsKept result base_svma (fde_of R.Offset.limit Section.kind partial.now)
+        fdes.old.items fdes.new.items }
+    ensures last { IsLastCie R.stretch R.Offset.value (frame_section R.Offset.limit Section.kind
+        (Section.size section.now) (R.stretch (Section.reader section.now)) bases.now) last.new }
+{
+    let fde = fde_by_last(section, bases, partial, last)?;
+    let kept = indexed(&fde, base_svma)?;
+    if fdes.push(kept).is_err() {
+        return Err(DwarfCfiIndexError::OutOfMemory);
+    }
+    Ok(())
+}
+
 /// What the index keeps of a section's FDEs, in their order.
 fn indexed_fdes<R: Reader, Section: UnwindSection<R>>(
     alloc: Global,
@@ -211,15 +239,10 @@ fn indexed_fdes<R: Reader, Section: UnwindSection<R>>(
     bases: &BaseAddresses,
     base_svma: u64,
 ) -> Result<Vec<IndexedFde>, DwarfCfiIndexError>
-    ensures kept { IfOk result (λ kept. kept.items ≡ map (index_entry base_svma)
-        (whole_fdes (frame_section R.Offset.limit Section.kind (Section.size section.now)
-        (R.stretch (Section.reader section.now)) bases.now))) }
-    ensures index { IfOk result (λ kept. index_error base_svma
+    ensures { IsMadeOf result
+        (λ kept base section. kept.items ≡ map (index_entry base) (whole_fdes section)) base_svma
         (frame_section R.Offset.limit Section.kind (Section.size section.now)
-        (R.stretch (Section.reader section.now)) bases.now) ≡ None) }
-    ensures error { IfErr result (λ error. error ≢ OutOfMemory → index_error base_svma
-        (frame_section R.Offset.limit Section.kind (Section.size section.now)
-        (R.stretch (Section.reader section.now)) bases.now) ≡ Some error) }
+        (R.stretch (Section.reader section.now)) bases.now) }
 {
     let mut fdes = Vec::new(alloc);
     let mut last = None;
@@ -231,11 +254,7 @@ fn indexed_fdes<R: Reader, Section: UnwindSection<R>>(
         let Entry::Fde(partial) = entry else {
             continue;
         };
-        let fde = fde_by_last(section, bases, &partial, &mut last)?;
-        let kept = indexed(&fde, base_svma)?;
-        if fdes.push(kept).is_err() {
-            return Err(DwarfCfiIndexError::OutOfMemory);
-        }
+        keep_fde(section, bases, base_svma, &partial, &mut last, &mut fdes)?;
     }
 }
 
@@ -331,15 +350,9 @@ impl DwarfCfiIndex {
         bases: &BaseAddresses,
         base_svma: u64,
     ) -> Result<Self, DwarfCfiIndexError>
-        ensures index { IfOk result (λ index. IsIndexOf index base_svma
+        ensures { IsMadeOf result IsIndexOf base_svma
             (frame_section R.Offset.limit Section.kind (Section.size section.now)
-            (R.stretch (Section.reader section.now)) bases.now)) }
-        ensures none_against { IfOk result (λ index. index_error base_svma
-            (frame_section R.Offset.limit Section.kind (Section.size section.now)
-            (R.stretch (Section.reader section.now)) bases.now) ≡ None) }
-        ensures error { IfErr result (λ error. error ≢ OutOfMemory → index_error base_svma
-            (frame_section R.Offset.limit Section.kind (Section.size section.now)
-            (R.stretch (Section.reader section.now)) bases.now) ≡ Some error) }
+            (R.stretch (Section.reader section.now)) bases.now) }
     {
         let mut fdes = indexed_fdes(alloc, section, bases, base_svma)?;
         fdes.reverse();
@@ -355,12 +368,8 @@ impl DwarfCfiIndex {
         bases: &BaseAddresses,
         base_svma: u64,
     ) -> Result<Self, DwarfCfiIndexError>
-        ensures index { IfOk result (λ index.
-            IsIndexOf index base_svma (eh_frame_of bases.now eh_frame_data.now)) }
-        ensures none_against { IfOk result (λ index.
-            index_error base_svma (eh_frame_of bases.now eh_frame_data.now) ≡ None) }
-        ensures error { IfErr result (λ error. error ≢ OutOfMemory
-            → index_error base_svma (eh_frame_of bases.now eh_frame_data.now) ≡ Some error) }
+        ensures { IsMadeOf result IsIndexOf base_svma
+            (eh_frame_of bases.now eh_frame_data.now) }
     {
         let section = EhFrame::new(eh_frame_data, LittleEndian);
         DwarfCfiIndex::try_new(alloc, &section, bases, base_svma)
@@ -374,12 +383,8 @@ impl DwarfCfiIndex {
         bases: &BaseAddresses,
         base_svma: u64,
     ) -> Result<Self, DwarfCfiIndexError>
-        ensures index { IfOk result (λ index.
-            IsIndexOf index base_svma (debug_frame_of bases.now debug_frame_data.now)) }
-        ensures none_against { IfOk result (λ index.
-            index_error base_svma (debug_frame_of bases.now debug_frame_data.now) ≡ None) }
-        ensures error { IfErr result (λ error. error ≢ OutOfMemory
-            → index_error base_svma (debug_frame_of bases.now debug_frame_data.now) ≡ Some error) }
+        ensures { IsMadeOf result IsIndexOf base_svma
+            (debug_frame_of bases.now debug_frame_data.now) }
     {
         let section = DebugFrame::new(debug_frame_data, LittleEndian);
         DwarfCfiIndex::try_new(alloc, &section, bases, base_svma)

@@ -1,16 +1,15 @@
 //! What a module is unwound by.
 
-ghost use Rattle.std.specs.Prelude.{◌≡◌, ◌≢◌, ℕ, Some, IfErr, IfOk, IfSome, IfNone, false};
+ghost use Rattle.std.specs.Prelude.{◌≡◌, ℕ, Some, IfOk, IfSome, IfNone, false};
 ghost use Rattle.std.specs.Option.{ForSome};
 ghost use Rattle.framehop_modules.specs.ChosenViews.{sections_bytes};
 ghost use Rattle.dwarf_frame_sections.specs.Sections.{FrameSection};
-ghost use Rattle.framehop.specs.CfiIndex.{index_error};
+ghost use Rattle.framehop.specs.CfiIndex.{IsMadeOf};
 ghost use Rattle.framehop.specs.CfiIndexView.{IsIndexOf, IsIndexed, IsUnindexed};
 ghost use Rattle.framehop.specs.EntryFor.{has_index};
 ghost use Rattle.framehop.specs.RoadViews.{road_view, LeadsInto};
 ghost use Rattle.framehop.specs.Roads.{ByIndex, ByHeader};
 ghost use Rattle.framehop.specs.UnwindData.{bases_of, road_among, road_of, scanned_data_of, section_among, section_of, unwind_data_of};
-ghost use Rattle.framehop.specs.declared.cfi_index.DwarfCfiIndexError.TheVariants.{OutOfMemory};
 
 use crate::cfi_index::{DwarfCfiIndex, DwarfCfiIndexError};
 use crate::roads::Road;
@@ -74,10 +73,10 @@ fn index_made(
     index: Result<DwarfCfiIndex, DwarfCfiIndexError>,
 ) -> Result<Option<DwarfCfiIndex>, AllocError>
     ensures indexed { (base_svma : ℕ) (section : FrameSection)
-        → IfOk index (λ made. IsIndexOf made base_svma section)
+        → IsMadeOf index IsIndexOf base_svma section
         → IfOk result (λ index. IsIndexed index base_svma (Some section)) }
     ensures unindexed { (base_svma : ℕ) (section : FrameSection)
-        → IfErr index (λ e. e ≢ OutOfMemory → index_error base_svma section ≡ Some e)
+        → IsMadeOf index IsIndexOf base_svma section
         → IfOk result (λ index. IsUnindexed index base_svma (Some section)) }
 {
     match index {

@@ -1,9 +1,9 @@
-use Rattle.std.proofs.Common.{rules, ◌≡◌, [], ◌∷◌, ◌++◌, Ok, ap}
+use Rattle.std.proofs.Common.{rules, ◌≡◌, Ok, ap, refl}
 use Rattle.dwarf_frame_sections.specs.Sections.{frame_section}
 use Rattle.dwarf_call_frames.specs.EntryLists.{entries_of}
 use Rattle.dwarf_call_frames.specs.declared.entries.Entry.TheVariants as which
 use Rattle.dwarf_call_frames.proofs.Laws.{fdes_of_section}
-use Rattle.framehop.proofs.CfiIndexBuild.{cie-gathered, fde-gathered, first-of, none-gathered, others-of}
+use Rattle.framehop.proofs.CfiIndexBuild.{cie-gathered, fde-gathered, first-against, first-of, none-gathered, others-of, refused}
 use Rattle.framehop.proofs.cfi_index.indexed_fdes.Goals as goal
 
 pub entries-init : goal.entries-init
@@ -28,8 +28,8 @@ entries-preserved-in_default-entry g c =
       last = c.entries.invariant.last;
     }
 
-pub fde_by_last-requires-clause-within : goal.fde_by_last-requires-clause-within
-fde_by_last-requires-clause-within g c =
+pub keep_fde-requires-clause-within : goal.keep_fde-requires-clause-within
+keep_fde-requires-clause-within g c =
     let section = frame_section g.R.Offset.ReaderOffset.limit g.Section._UnwindSectionPrivate.kind (g.Section._UnwindSectionPrivate.size c.args.section.now)
     (g.R.Reader.stretch (g.Section._UnwindSectionPrivate.reader c.args.section.now)) c.args.bases.now in
     let list = rw (c.in-Some.is, c.in-Fde.is) at c.in_ok-entry.ensures.list in
@@ -40,10 +40,17 @@ entries-preserved g c =
     let section = frame_section g.R.Offset.ReaderOffset.limit g.Section._UnwindSectionPrivate.kind (g.Section._UnwindSectionPrivate.size c.args.section.now)
     (g.R.Reader.stretch (g.Section._UnwindSectionPrivate.reader c.args.section.now)) c.args.bases.now in
     let list = rw (c.in-Some.is, c.in-Fde.is) at c.in_ok-entry.ensures.list in
-    let pushed : c.push.new.self.items ≡ c.entries.fdes.items ++ c.in_ok-kept.kept ∷ [] = search rules in
     record {
-      gathered = rw (pushed, c.in_ok-kept.ensures.kept) (fde-gathered section c.args.base_svma c.entries.fdes.items c.entries.entries.entries c.next.new.self.entries c.in-Fde.partial c.in_ok-fde.fde list
-          c.in_ok-fde.ensures.fde c.in_ok-kept.ensures.fits c.entries.invariant.gathered);
+      gathered = fde-gathered section c.args.base_svma c.entries.fdes.items c.keep_fde.new.fdes.items c.entries.entries.entries c.next.new.self.entries c.in-Fde.partial _ list refl c.in_ok-keep_fde.ensures.kept c.entries.invariant.gathered;
       within = others-of section c.entries.entries.entries c.next.new.self.entries _ list c.entries.invariant.within;
-      last = c.fde_by_last.ensures.last;
+      last = c.keep_fde.ensures.last;
     }
+
+pub returns-in_err-keep_fde : goal.returns-in_err-keep_fde
+returns-in_err-keep_fde g c =
+    let section = frame_section g.R.Offset.ReaderOffset.limit g.Section._UnwindSectionPrivate.kind (g.Section._UnwindSectionPrivate.size c.args.section.now)
+    (g.R.Reader.stretch (g.Section._UnwindSectionPrivate.reader c.args.section.now)) c.args.bases.now in
+    let list = rw (c.in-Some.is, c.in-Fde.is) at c.in_ok-entry.ensures.list in
+    let told = c.from_residual-in_err-keep_fde.ensures in
+    refused c.from_residual-in_err-keep_fde.result _ c.args.base_svma section c.in_err-keep_fde.field-0.0 told.0 told.1
+    (λ given. first-against section c.args.base_svma c.entries.fdes.items c.entries.entries.entries c.next.new.self.entries (Ok (which.Fde c.in-Fde.partial)) _ list (c.in_err-keep_fde.ensures.kept given) c.entries.invariant.gathered)

@@ -19,7 +19,7 @@ returns-in-EhFrame-default-None-clause-indexed g c =
     let there : section_among bases (sections_bytes g.D.SectionBytes.content c.args.sections.now) ≡ Some (eh_frame_of bases c.bytes-bytes.result.now)
     = ap (λ s. section_among bases (sections_bytes g.D.SectionBytes.content s)) c.in-EhFrame-default-None.is ∙ ap (λ b. Some (eh_frame_of bases b)) (sym c.bytes-bytes.ensures) in
     subst (λ (o : Option FrameSection). IfOk c.index_made.result (λ index. IsIndexed index c.args.base_svma o)) (sym there)
-    (c.index_made.ensures.indexed c.args.base_svma (eh_frame_of bases c.bytes-bytes.result.now) c.try_new_eh_frame.ensures.index)
+    (c.index_made.ensures.indexed c.args.base_svma (eh_frame_of bases c.bytes-bytes.result.now) c.try_new_eh_frame.ensures)
 
 pub returns-in-EhFrame-default-None-clause-unindexed : goal.returns-in-EhFrame-default-None-clause-unindexed
 returns-in-EhFrame-default-None-clause-unindexed g c =
@@ -28,7 +28,7 @@ returns-in-EhFrame-default-None-clause-unindexed g c =
     = ap (λ s. section_among bases (sections_bytes g.D.SectionBytes.content s)) c.in-EhFrame-default-None.is ∙ ap (λ b. Some (eh_frame_of bases b)) (sym c.bytes-bytes.ensures) in
     by-road _ c.index_made.result (λ index. IsUnindexed index c.args.base_svma (section_among bases (sections_bytes g.D.SectionBytes.content c.args.sections.now)))
     (subst (λ (o : Option FrameSection). IfOk c.index_made.result (λ index. IsUnindexed index c.args.base_svma o)) (sym there)
-    (c.index_made.ensures.unindexed c.args.base_svma (eh_frame_of bases c.bytes-bytes.result.now) c.try_new_eh_frame.ensures.error))
+    (c.index_made.ensures.unindexed c.args.base_svma (eh_frame_of bases c.bytes-bytes.result.now) c.try_new_eh_frame.ensures))
 
 pub returns-in-DebugFrame-clause-indexed : goal.returns-in-DebugFrame-clause-indexed
 returns-in-DebugFrame-clause-indexed g c =
@@ -36,7 +36,7 @@ returns-in-DebugFrame-clause-indexed g c =
     let there : section_among bases (sections_bytes g.D.SectionBytes.content c.args.sections.now) ≡ Some (debug_frame_of bases c.bytes-bytes-in-DebugFrame.result.now)
     = ap (λ s. section_among bases (sections_bytes g.D.SectionBytes.content s)) c.in-DebugFrame.is ∙ ap (λ b. Some (debug_frame_of bases b)) (sym c.bytes-bytes-in-DebugFrame.ensures) in
     subst (λ (o : Option FrameSection). IfOk c.index_made-in-DebugFrame.result (λ index. IsIndexed index c.args.base_svma o)) (sym there)
-    (c.index_made-in-DebugFrame.ensures.indexed c.args.base_svma (debug_frame_of bases c.bytes-bytes-in-DebugFrame.result.now) c.try_new_debug_frame.ensures.index)
+    (c.index_made-in-DebugFrame.ensures.indexed c.args.base_svma (debug_frame_of bases c.bytes-bytes-in-DebugFrame.result.now) c.try_new_debug_frame.ensures)
 
 pub returns-in-DebugFrame-clause-unindexed : goal.returns-in-DebugFrame-clause-unindexed
 returns-in-DebugFrame-clause-unindexed g c =
@@ -45,4 +45,4 @@ returns-in-DebugFrame-clause-unindexed g c =
     = ap (λ s. section_among bases (sections_bytes g.D.SectionBytes.content s)) c.in-DebugFrame.is ∙ ap (λ b. Some (debug_frame_of bases b)) (sym c.bytes-bytes-in-DebugFrame.ensures) in
     by-road _ c.index_made-in-DebugFrame.result (λ index. IsUnindexed index c.args.base_svma (section_among bases (sections_bytes g.D.SectionBytes.content c.args.sections.now)))
     (subst (λ (o : Option FrameSection). IfOk c.index_made-in-DebugFrame.result (λ index. IsUnindexed index c.args.base_svma o)) (sym there)
-    (c.index_made-in-DebugFrame.ensures.unindexed c.args.base_svma (debug_frame_of bases c.bytes-bytes-in-DebugFrame.result.now) c.try_new_debug_frame.ensures.error))
+    (c.index_made-in-DebugFrame.ensures.unindexed c.args.base_svma (debug_frame_of bases c.bytes-bytes-in-DebugFrame.result.now) c.try_new_debug_frame.ensures))

@@ -13,7 +13,8 @@ use Rattle.framehop.specs.RoadViews.{LeadsInto}
 use Rattle.framehop.specs.Coverage.{attempt_by, row_meanings}
 use Rattle.framehop.specs.FrameSections.{eh_frame_of, debug_frame_of}
 use Rattle.framehop.specs.UnwindData.{UnwindData, road_of, room_of, section_among, section_of}
-use Rattle.framehop.proofs.Coverages.{unindexed, section-made}
+use Rattle.framehop.proofs.Coverages.{unindexed}
+use Rattle.framehop.proofs.SectionsMade.{section-made}
 use Rattle.framehop.proofs.arch.BySectionsUnwinding.unwind_frame.Goals as goal
 
 -- there is no road
