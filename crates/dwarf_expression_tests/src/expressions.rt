@@ -8,8 +8,10 @@ mod stored;
 mod values;
 mod worked;
 
+use dwarf_arrays::StoreOnHeap;
 use dwarf_constants::{Encoding, Error, Format, Result};
-use dwarf_expressions::{Evaluation, EvaluationResult, EvaluationStorage, Expression, StoreOnHeap};
+use dwarf_evaluations::{Evaluation, EvaluationResult, EvaluationStorage};
+use dwarf_expressions::Expression;
 use dwarf_readers::Reader;
 use dwarf_tests::{Outcome, ReaderTest};
 use std::alloc::Global;

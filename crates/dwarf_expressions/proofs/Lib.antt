@@ -1,7 +1,1 @@
-pub mod Behind
-pub mod Machines
 pub mod OperationLists
-pub mod Requests
-pub mod Runs
-pub mod Stacks
-pub mod Words

@@ -69,9 +69,11 @@ pub enum Operation {
 }
 
 impl Operation {
-    /// Reads an operation.
+    /// Reads the operation that the bytes begin with, and leaves what stands behind it. Fails with
+    /// `UnsupportedEvaluation` where the opcode isn't one of an operation on values without a type,
+    /// and else where an operand can't be read.
     #[inline(always)]
-    pub(crate) fn parse<R: Reader>(bytes: &mut R, encoding: Encoding) -> Result<Operation>
+    pub fn parse<R: Reader>(bytes: &mut R, encoding: Encoding) -> Result<Operation>
         ensures { Reads result (operation_at encoding.address_size (R.stretch bytes.old))
             (R.stretch bytes.new) }
     {

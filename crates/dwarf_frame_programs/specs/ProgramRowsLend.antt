@@ -4,7 +4,7 @@ use Rattle.std.specs.Borrow.{Bor, follows_so, MutBor, Fml, RattleType}
 use mathlib.Core.Option.{none}
 use mir.Syntax.{named}
 use Rattle.dwarf_constants.specs.declared.error.Error.{Error}
-use Rattle.dwarf_expressions.specs.declared.array_like.ArrayLike.{Ghosts}
+use Rattle.dwarf_arrays.specs.declared.array_like.ArrayLike.{Ghosts}
 use Rattle.dwarf_readers.specs.Place.{Stretch}
 use Rattle.dwarf_frame_rows.specs.declared.row.UnwindTableRow.{UnwindTableRow}
 use Rattle.dwarf_frame_rows.specs.declared.rules.RegisterRule.{RegisterRule}

@@ -11,8 +11,8 @@ ghost use Rattle.dwarf_frame_programs.specs.Standing.{Stands};
 
 use crate::instructions::Coding;
 use crate::{CallFrameInstruction, CallFrameInstructionIter, Factors};
+use dwarf_arrays::ArrayLike;
 use dwarf_constants::{Error, Result};
-use dwarf_expressions::ArrayLike;
 use dwarf_frame_rows::{Effect, UnwindContext, UnwindContextStorage, UnwindTableRow};
 use dwarf_readers::{Reader, ReaderOffset};
 

@@ -1,7 +1,7 @@
 //! Rows as lines of text.
 
+use dwarf_arrays::ArrayLike;
 use dwarf_constants::Register;
-use dwarf_expressions::ArrayLike;
 use dwarf_frame_rows::{CfaRule, RegisterRule, RuledRegister, UnwindTableRow};
 use dwarf_readers::ReaderOffset;
 use std::alloc::{AllocError, Global};

@@ -3,7 +3,8 @@ ghost use Rattle.std.specs.Prelude.{◌≡◌};
 
 use arrayvec::ArrayVec;
 use dwarf_constants::{Encoding, Error, Format, Register, Result, X86_64};
-use dwarf_expressions::{Evaluation, EvaluationResult, EvaluationStorage, Expression, Value};
+use dwarf_evaluations::{Evaluation, EvaluationResult, EvaluationStorage, Value};
+use dwarf_expressions::Expression;
 use dwarf_readers::{EndianSlice, LittleEndian};
 use std::alloc::Global;
 

@@ -6,7 +6,8 @@ ghost use Rattle.dwarf_frame_rows.specs.Effects.{limits_of};
 ghost use Rattle.framehop_rows.specs.Memory.{TakesMemory, takes_memory};
 
 use arrayvec::ArrayVec;
-use dwarf_expressions::{ArrayLike, EvaluationStorage, StoreOnHeap};
+use dwarf_arrays::{ArrayLike, StoreOnHeap};
+use dwarf_evaluations::EvaluationStorage;
 use dwarf_frame_rows::{RegisterRule, RuledRegister, UnwindContextStorage, UnwindTableRow};
 use dwarf_read_core::ReaderOffset;
 

@@ -10,8 +10,9 @@ ghost use Rattle.framehop_rows.specs.Memory.{TakesMemory};
 ghost use Rattle.framehop_rows.specs.RowAttempt.{RowAttempt, row_trial, rule_of_row, rule_answered};
 ghost use Rattle.framehop_rows.specs.declared.dwarf.DwarfUnwinderError.TheVariants.{OutOfMemory};
 
+use dwarf_arrays::ArrayLike;
 use dwarf_constants::Encoding;
-use dwarf_expressions::{ArrayLike, EvaluationStorage};
+use dwarf_evaluations::EvaluationStorage;
 use dwarf_frame_rows::{_UnwindSectionPrivate, RegisterRule, RuledRegister, UnwindTableRow};
 use dwarf_readers::{Reader, ReaderOffset};
 use framehop_rules::Arch;

@@ -2,7 +2,7 @@
 
 ghost use Rattle.std.specs.Prelude.{◌≡◌, ◌≢◌, ℕ, true, None, Some, Option, IfErr, IfOk, option_and_then, option_map};
 ghost use Rattle.dwarf_constants.specs.declared.common.Register.{Register};
-ghost use Rattle.dwarf_expressions.specs.Evaluation.{Ready, state_reached, first_machine};
+ghost use Rattle.dwarf_evaluations.specs.Evaluation.{Ready, state_reached, first_machine};
 ghost use Rattle.dwarf_readers.specs.InitialLength.{is_size};
 ghost use Rattle.framehop_registers.specs.Callback.{OverWords};
 ghost use Rattle.dwarf_frame_programs.specs.InstructionViews.{expression_as};
@@ -13,7 +13,8 @@ ghost use Rattle.framehop_rows.specs.ExpressionValue.{expression_program, value_
 ghost use Rattle.framehop_rows.specs.Memory.{IsColumnExpression, IsExpression, TakesMemory};
 
 use dwarf_constants::{Encoding, Error, Register};
-use dwarf_expressions::{Evaluation, EvaluationResult, EvaluationStorage, Expression, Value};
+use dwarf_evaluations::{Evaluation, EvaluationResult, EvaluationStorage, Value};
+use dwarf_expressions::Expression;
 use dwarf_frame_rows::{_UnwindSectionPrivate, CfaRule, RegisterRule, UnwindExpression};
 use dwarf_readers::Reader;
 use std::alloc::{AllocError, Global};

@@ -4,8 +4,8 @@ ghost use Rattle.std.specs.Prelude.{◌≡◌};
 ghost use Rattle.dwarf_frame_programs.specs.Execution.{row_in};
 ghost use Rattle.framehop_rows.specs.RowParts.{parts_as, parts_of};
 
+use dwarf_arrays::ArrayLike;
 use dwarf_constants::Register;
-use dwarf_expressions::ArrayLike;
 use dwarf_frame_rows::{CfaRule, RegisterRule, RuledRegister, UnwindTableRow};
 use dwarf_readers::ReaderOffset;
 

@@ -13,8 +13,9 @@ ghost use Rattle.framehop_rows.specs.declared.parts.Parts.{Parts};
 
 use crate::dwarf::DwarfUnwinderError;
 use crate::parts::{Parts, parts_of_row};
+use dwarf_arrays::ArrayLike;
 use dwarf_constants::{Encoding, Register};
-use dwarf_expressions::{ArrayLike, EvaluationStorage};
+use dwarf_evaluations::EvaluationStorage;
 use dwarf_frame_rows::{_UnwindSectionPrivate, RegisterRule, RuledRegister, UnwindTableRow};
 use dwarf_readers::{Reader, ReaderOffset};
 use framehop_rules::Arch;

@@ -1,12 +1,12 @@
 //! Passes over the entries of a section.
 
+use dwarf_arrays::ArrayLike;
 use dwarf_call_frames::{
     BaseAddresses, CommonInformationEntry, Entry, FrameDescriptionEntry,
     PartialFrameDescriptionEntry, UnwindContext, UnwindContextStorage, UnwindSection,
     UnwindTableRow,
 };
 use dwarf_constants::Result;
-use dwarf_expressions::ArrayLike;
 use dwarf_frame_rows::{CfaRule, RegisterRule, RuledRegister};
 use dwarf_readers::{Reader, ReaderOffset};
 use std::alloc::Global;

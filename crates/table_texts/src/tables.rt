@@ -10,8 +10,8 @@ ghost use Rattle.table_texts.specs.Tables.{cfa_text, column_cells, column_name, 
 
 use crate::cells::{push_bytes, push_cell, push_hex, signed_text};
 use crate::names::{Machine, register_in_full, register_name};
+use dwarf_arrays::ArrayLike;
 use dwarf_constants::{Error, Register};
-use dwarf_expressions::ArrayLike;
 use dwarf_frame_programs::{FrameProgram, ProgramRows};
 use dwarf_frame_rows::{
     CfaRule, RegisterRule, RuledRegister, UnwindContext, UnwindContextStorage, UnwindTableRow,

@@ -2,8 +2,10 @@
 
 use super::stored::{Fixed, Reserved};
 use super::{ValueTest, sized, value_of};
+use dwarf_arrays::StoreOnHeap;
 use dwarf_constants::{Error, Result};
-use dwarf_expressions::{Evaluation, Expression, StoreOnHeap, Value};
+use dwarf_evaluations::{Evaluation, Value};
+use dwarf_expressions::Expression;
 use dwarf_readers::{EndianSlice, Reader, RunTimeEndian, TwoPieces};
 use dwarf_tests::{Outcome, ReaderTest, over_each_reader};
 use std::alloc::Global;

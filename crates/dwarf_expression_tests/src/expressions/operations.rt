@@ -1,8 +1,10 @@
 //! Operations in the order of their bytes, and their texts.
 
 use super::sized;
+use dwarf_arrays::PushError;
 use dwarf_constants::{Error, ReaderOffsetId, Register};
-use dwarf_expressions::{EvaluationResult, Expression, Operation, PushError, Value};
+use dwarf_evaluations::{EvaluationResult, Value};
+use dwarf_expressions::{Expression, Operation};
 use dwarf_readers::{EndianSlice, LittleEndian, Reader, RunTimeEndian};
 use dwarf_tests::{Outcome, ReaderTest, over_each_reader};
 use std::alloc::Global;

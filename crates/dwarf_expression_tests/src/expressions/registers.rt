@@ -3,7 +3,8 @@
 use super::sized;
 use super::stored::Fixed;
 use dwarf_constants::{Error, Register, Result, X86_64};
-use dwarf_expressions::{Evaluation, EvaluationResult, Expression, Value};
+use dwarf_evaluations::{Evaluation, EvaluationResult, Value};
+use dwarf_expressions::Expression;
 use dwarf_readers::{Reader, RunTimeEndian};
 use dwarf_tests::{Outcome, ReaderTest, over_each_reader};
 use std::alloc::Global;

@@ -1,7 +1,8 @@
 //! Stacks of values.
 
 use arrayvec::ArrayVec;
-use dwarf_expressions::{EvaluationStorage, ReservedVec};
+use dwarf_arrays::ReservedVec;
+use dwarf_evaluations::EvaluationStorage;
 
 /// Room for 64 values, in place.
 pub struct Fixed;

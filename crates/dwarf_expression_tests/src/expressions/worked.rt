@@ -2,8 +2,10 @@
 
 use super::stored::Fixed;
 use super::{ValueTest, sized, value_of};
+use dwarf_arrays::StoreOnHeap;
 use dwarf_constants::{Error, ReaderOffsetId, Result};
-use dwarf_expressions::{Evaluation, EvaluationResult, Expression, StoreOnHeap};
+use dwarf_evaluations::{Evaluation, EvaluationResult};
+use dwarf_expressions::Expression;
 use dwarf_readers::{EndianSlice, LittleEndian, RunTimeEndian};
 use dwarf_tests::{Outcome, over_each_reader};
 

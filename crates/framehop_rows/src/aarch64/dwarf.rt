@@ -19,8 +19,9 @@ use crate::evaluation::{DwarfUnwindRegs, eval_cfa_rule, eval_register_rule};
 use crate::parts::Parts;
 use crate::rows::{PartsUnwinding, unwind_frame_by_row};
 use crate::rule_fields::{unsigned_pairs, unsigned_words, words_from_base};
+use dwarf_arrays::ArrayLike;
 use dwarf_constants::{AArch64, Encoding, Register};
-use dwarf_expressions::{ArrayLike, EvaluationStorage};
+use dwarf_evaluations::EvaluationStorage;
 use dwarf_frame_rows::{
     _UnwindSectionPrivate, CfaRule, RegisterRule, RuledRegister, UnwindTableRow,
 };

@@ -1,8 +1,8 @@
 use Rattle.std.proofs.Common.{◌≡◌, ℕ, suc}
 use Rattle.dwarf_constants.specs.declared.common.Register.{Register}
-use Rattle.dwarf_expressions.specs.Evaluation.{CanResume, State, operations_left}
-use Rattle.dwarf_expressions.specs.declared.evaluation.EvaluationResult.{EvaluationResult}
-use Rattle.dwarf_expressions.specs.declared.evaluation.EvaluationResult.TheVariants.{Complete, RequiresRegister}
+use Rattle.dwarf_evaluations.specs.Evaluation.{CanResume, State, operations_left}
+use Rattle.dwarf_evaluations.specs.declared.evaluation.EvaluationResult.{EvaluationResult}
+use Rattle.dwarf_evaluations.specs.declared.evaluation.EvaluationResult.TheVariants.{Complete, RequiresRegister}
 use Rattle.dwarf_expression_tests.proofs.expressions.registers.value_with_registers.Given as goal
 
 -- one more than the operations that may still run, where a register is asked for

@@ -1,0 +1,5 @@
+pub mod Effects
+pub mod Evaluation
+pub mod EvaluationViews
+pub mod StackViews
+pub mod Values
