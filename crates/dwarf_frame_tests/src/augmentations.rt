@@ -5,7 +5,7 @@ use dwarf_call_frames::{Augmentation, Pointer};
 use dwarf_constants::{DwEhPe, Error, ReaderOffsetId};
 
 // The section starts at 0x10000, the code at 0x20000, and the global offset table at 0x30000.
-pub static CASES: &[Listed] = &[
+pub static VERSIONS: &[Listed] = &[
     // .eh_frame, version 0
     Listed {
         which: Which::EhFrame,
@@ -429,6 +429,9 @@ pub static CASES: &[Listed] = &[
         ],
         end: None,
     },
+];
+
+pub static SIZES: &[Listed] = &[
     // addresses of 1 bytes, said by the user
     Listed {
         which: Which::EhFrame,
@@ -599,6 +602,9 @@ pub static CASES: &[Listed] = &[
         entries: &[],
         end: Some(Error::UnsupportedAddressSize(0x0)),
     },
+];
+
+pub static CODE_POINTERS: &[Listed] = &[
     // 'z', data 00
     Listed {
         which: Which::EhFrame,
@@ -1140,6 +1146,9 @@ pub static CASES: &[Listed] = &[
         ],
         end: None,
     },
+];
+
+pub static LSDAS: &[Listed] = &[
     // 'zL', data 011b
     Listed {
         which: Which::EhFrame,
@@ -1417,6 +1426,9 @@ pub static CASES: &[Listed] = &[
         ],
         end: None,
     },
+];
+
+pub static PERSONALITIES: &[Listed] = &[
     // 'zP', data 051b08000000
     Listed {
         which: Which::EhFrame,
@@ -1682,6 +1694,9 @@ pub static CASES: &[Listed] = &[
         ],
         end: None,
     },
+];
+
+pub static LETTERS: &[Listed] = &[
     // 'zRS', data 011b
     Listed {
         which: Which::EhFrame,

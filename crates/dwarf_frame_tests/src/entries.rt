@@ -1,5 +1,5 @@
 //! Entries of worked sections.
-use super::augmentations::CASES;
+use super::augmentations::{CODE_POINTERS, LETTERS, LSDAS, PERSONALITIES, SIZES, VERSIONS};
 use super::listed::{Listed, Seen, Which};
 use super::real_sections::SECTIONS;
 use dwarf_call_frames::{
@@ -287,18 +287,45 @@ fn entries_at_offsets(rt: HostRuntime) -> Outcome {
     over_each_reader(&rt, rt.alloc(), &WorkedFde, bytes, RunTimeEndian::Little)
 }
 
-#[test]
-fn augmentations_and_versions(rt: HostRuntime) -> Outcome {
-    for listed in CASES {
-        over_each_reader(&rt, rt.alloc(), listed, listed.bytes, RunTimeEndian::Little)?;
+// The entries of sections, over each reader.
+fn sections<H: Abort>(rt: &H, alloc: Global, listed: &[Listed]) -> Outcome {
+    for section in listed {
+        over_each_reader(rt, alloc, section, section.bytes, RunTimeEndian::Little)?;
     }
     Ok(())
 }
 
 #[test]
+fn versions_and_words(rt: HostRuntime) -> Outcome {
+    sections(&rt, rt.alloc(), VERSIONS)
+}
+
+#[test]
+fn sizes_of_addresses(rt: HostRuntime) -> Outcome {
+    sections(&rt, rt.alloc(), SIZES)
+}
+
+#[test]
+fn encodings_of_code_pointers(rt: HostRuntime) -> Outcome {
+    sections(&rt, rt.alloc(), CODE_POINTERS)
+}
+
+#[test]
+fn pointers_to_exception_data(rt: HostRuntime) -> Outcome {
+    sections(&rt, rt.alloc(), LSDAS)
+}
+
+#[test]
+fn personality_routines(rt: HostRuntime) -> Outcome {
+    sections(&rt, rt.alloc(), PERSONALITIES)
+}
+
+#[test]
+fn other_letters(rt: HostRuntime) -> Outcome {
+    sections(&rt, rt.alloc(), LETTERS)
+}
+
+#[test]
 fn sections_of_programs(rt: HostRuntime) -> Outcome {
-    for listed in SECTIONS {
-        over_each_reader(&rt, rt.alloc(), listed, listed.bytes, RunTimeEndian::Little)?;
-    }
-    Ok(())
+    sections(&rt, rt.alloc(), SECTIONS)
 }
