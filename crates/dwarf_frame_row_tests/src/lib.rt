@@ -5,4 +5,4 @@
 mod frame_rows;
 pub mod row_line;
 
-pub use row_line::line_of;
+pub use row_line::{answer_line, line_of};

@@ -1,7 +1,7 @@
 //! Rows as lines of text.
 
 use dwarf_arrays::ArrayLike;
-use dwarf_constants::Register;
+use dwarf_constants::{Error, Register};
 use dwarf_frame_rows::{CfaRule, RegisterRule, RuledRegister, UnwindTableRow};
 use dwarf_readers::ReaderOffset;
 use std::alloc::{AllocError, Global};
@@ -65,4 +65,15 @@ pub fn line_of<T: ReaderOffset, Rules: ArrayLike<Item = RuledRegister<RegisterRu
         write!(line, " args={}", row.saved_args_size())?;
     }
     Ok(line)
+}
+
+/// The line of a row that was asked for, or the refusal.
+pub fn answer_line<T: ReaderOffset, Rules: ArrayLike<Item = RuledRegister<RegisterRule<T>>>>(
+    alloc: Global,
+    answer: Result<&UnwindTableRow<T, Rules>, Error>,
+) -> Result<String, AllocError> {
+    match answer {
+        Ok(row) => line_of(alloc, row),
+        Err(error) => Ok(format!(in alloc; "{error:?}")?),
+    }
 }

@@ -1,7 +1,7 @@
 //! The rows of a function that pushes and sets a frame pointer, by its entry.
 use super::listed::fde_at;
 use dwarf_call_frames::{BaseAddresses, EhFrame, UnwindContext, UnwindContextStorage};
-use dwarf_frame_row_tests::line_of;
+use dwarf_frame_row_tests::answer_line;
 use dwarf_frame_rows::StoreOnHeap;
 use dwarf_offsets::EhFrameOffset;
 use dwarf_readers::{LittleEndian, Reader, ReaderOffset};
@@ -25,11 +25,8 @@ fn line_in<R: Reader, S: UnwindContextStorage<R::Offset>>(
 ) -> Result<String, Fail> {
     let bases = BaseAddresses::default();
     let fde = fde_at(section, &bases, EhFrameOffset(R::Offset::from_u8(20)))?;
-    let line = match fde.unwind_info_for_address(section, &bases, context, address) {
-        Ok(row) => line_of(alloc, row)?,
-        Err(error) => format!(in alloc; "{error:?}")?,
-    };
-    Ok(line)
+    let row = fde.unwind_info_for_address(section, &bases, context, address);
+    Ok(answer_line(alloc, row)?)
 }
 
 // .. of a section with these bytes.

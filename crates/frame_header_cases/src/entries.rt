@@ -1,13 +1,15 @@
 //! The entries and the rows for addresses, by a header.
 
 use anyhow::Result;
-use dwarf_call_frames::{BaseAddresses, EhFrame, UnwindContext, UnwindSection};
+use dwarf_call_frames::{
+    BaseAddresses, EhFrame, UnwindContext, UnwindContextStorage, UnwindSection, UnwindTableRow,
+};
 use dwarf_constants::Result as Answer;
 use dwarf_frame_headers::{EhFrameHdr, EhHdrTable};
-use dwarf_frame_row_tests::line_of;
+use dwarf_frame_row_tests::answer_line;
 use dwarf_frame_rows::StoreOnHeap;
 use dwarf_readers::{EndianSlice, LittleEndian};
-use std::alloc::{AllocError, Global};
+use std::alloc::Global;
 
 /// A header, the section of call frames that it is about, and addresses.
 #[derive(Drop)]
@@ -21,6 +23,9 @@ pub struct Entries {
 
 type Slice<'a> = EndianSlice<'a, LittleEndian>;
 
+// The rules of a row.
+type Rules = <StoreOnHeap as UnwindContextStorage<usize>>::Rules;
+
 // The offset of the FDE for an address.
 fn offset_for<'a>(
     table: &EhHdrTable<'_, Slice<'a>>,
@@ -32,20 +37,16 @@ fn offset_for<'a>(
     Ok(fde.offset())
 }
 
-// The row for an address, or the refusal.
-fn row_for<'a>(
-    alloc: Global,
+// The row for an address.
+fn row_for<'ctx, 'a>(
     table: &EhHdrTable<'_, Slice<'a>>,
     frame: &EhFrame<Slice<'a>>,
     bases: &BaseAddresses,
-    context: &mut UnwindContext<usize, StoreOnHeap>,
+    context: &'ctx mut UnwindContext<usize, StoreOnHeap>,
     address: u64,
-) -> Result<String, AllocError> {
+) -> Answer<&'ctx UnwindTableRow<usize, Rules>> {
     let cie = UnwindSection::cie_from_offset;
-    match table.unwind_info_for_address(frame, bases, context, address, cie) {
-        Ok(row) => line_of(alloc, row),
-        Err(error) => Ok(format!(in alloc; "{error:?}")?),
-    }
+    table.unwind_info_for_address(frame, bases, context, address, cie)
 }
 
 // An address, and how it is answered.
@@ -69,8 +70,9 @@ pub fn show_entries(alloc: Global, entries: &Entries) -> Result<String> {
     if let Some(table) = header.table() {
         for address in &entries.addresses {
             let offset = offset_for(&table, &frame, &bases, *address);
-            let row = row_for(alloc, &table, &frame, &bases, &mut context, *address)?;
-            show_address(&mut shown, *address, offset, row.as_str())?;
+            let row = row_for(&table, &frame, &bases, &mut context, *address);
+            let line = answer_line(alloc, row)?;
+            show_address(&mut shown, *address, offset, line.as_str())?;
         }
     }
     Ok(shown)

@@ -5,7 +5,7 @@ use crate::entry::{bases, fde_for, row_for};
 use crate::readers::Shows;
 use anyhow::Result;
 use dwarf_call_frames::{DebugFrame, EhFrame, UnwindContext, UnwindContextStorage, UnwindSection};
-use dwarf_frame_row_tests::line_of;
+use dwarf_frame_row_tests::answer_line;
 use dwarf_readers::{Reader, ReaderOffset};
 use std::alloc::Global;
 
@@ -30,10 +30,7 @@ fn show_all<R: Reader, S: UnwindContextStorage<R::Offset>, Section: UnwindSectio
             Ok(fde) => write!(shown, "  {address:x}: {:x}", fde.offset().into_u64())?,
             Err(error) => write!(shown, "  {address:x}: {error:?}")?,
         }
-        let line = match row_for(section, &bases, context, *address) {
-            Ok(row) => line_of(alloc, row)?,
-            Err(error) => format!(in alloc; "{error:?}")?,
-        };
+        let line = answer_line(alloc, row_for(section, &bases, context, *address))?;
         write!(shown, ", {line}\n")?;
     }
     Ok(shown)

@@ -9,7 +9,7 @@ use dwarf_call_frames::{
     UnwindSection, UnwindTable,
 };
 use dwarf_constants::Vendor;
-use dwarf_frame_row_tests::line_of;
+use dwarf_frame_row_tests::{answer_line, line_of};
 use dwarf_readers::{Reader, ReaderOffset};
 use std::alloc::Global;
 
@@ -75,10 +75,8 @@ fn show_addresses<R: Reader, S: UnwindContextStorage<R::Offset>, Section: Unwind
 ) -> Result<()> {
     let bases = bases();
     for address in addresses {
-        let line = match fde.unwind_info_for_address(section, &bases, context, *address) {
-            Ok(row) => line_of(alloc, row)?,
-            Err(error) => format!(in alloc; "{error:?}")?,
-        };
+        let row = fde.unwind_info_for_address(section, &bases, context, *address);
+        let line = answer_line(alloc, row)?;
         write!(shown, "  {address:x}: {line}\n")?;
     }
     Ok(())
