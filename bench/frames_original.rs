@@ -1,4 +1,4 @@
-//! Makes the passes of crates/frames_bench by the original's `gimli` alone, and prints the least nanoseconds of each. `bench/frames
+//! Makes the passes of crates/bench_frames by the original's `gimli` alone, and prints the least nanoseconds of each. `bench/frames
 //! --original` builds it, with the original's sources beside it.
 extern crate alloc;
 

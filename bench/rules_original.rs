@@ -1,4 +1,4 @@
-//! Makes the steps of crates/rules_bench that pop registers by the original's rule cache and rules alone, and prints the
+//! Makes the steps of crates/bench_rules that pop registers by the original's rule cache and rules alone, and prints the
 //! least nanoseconds of all rounds. `bench/rules --original` builds it, with the original's sources beside it.
 #![allow(dead_code)]
 

@@ -1,18 +1,43 @@
--- Laws of the entries of a section. Each is the contract of a function of the crate.
-use Rattle.std.specs.List.{All}
+-- Laws of truthful headers. Each is the contract of a function of the crate.
+use Rattle.std.specs.Prelude.{◌≡◌, ℕ, ◌<◌, true, false, Some, None, Ok, Err}
+use Rattle.std.specs.List.{Contains}
+use Rattle.dwarf_constants.specs.declared.error.Error.TheVariants.{NoUnwindInfoForAddress}
+use Rattle.dwarf_frame_rows.specs.declared.base_addresses.BaseAddresses.{BaseAddresses}
 use Rattle.dwarf_frame_sections.specs.Sections.{FrameSection}
-use Rattle.dwarf_call_frames.specs.EntryLists.{entries_of}
-use Rattle.dwarf_call_frames.specs.SectionFdes.{IsOfSection, StandsAtItsOffset, StandsThere, whole_fdes}
-use Rattle.dwarf_call_frames.proofs.EntryPlaces as places
+use Rattle.dwarf_frame_entries.specs.AddressLookups.{fde_for_address}
+use Rattle.dwarf_frame_entries.specs.Entries.{Fde, contains}
+use Rattle.dwarf_frame_entries.specs.SectionFdes.{whole_fdes}
+use Rattle.dwarf_call_frames.specs.Header.{Header}
+use Rattle.dwarf_call_frames.specs.HeaderEntries.{named_offset}
+use Rattle.dwarf_call_frames.specs.Truthful.{IsTruthful, nearest_fde}
+use Rattle.dwarf_call_frames.proofs.TruthfulRows as truthful
 
--- each entry of a section is what stands at its offset
-pub entries_there : (section : FrameSection) → All (StandsThere section) (entries_of section)
-entries_there = places.entries_there
+module _ (section : FrameSection) (bases : BaseAddresses) (header : Header) (t : IsTruthful section bases header) where
+  -- an FDE that contains an address stands where the header says, is the nearest, and is found from the first entry on
+  pub named_contained : (address : ℕ) (fde : Fde) → Contains (whole_fdes section) fde → contains address fde ≡ true → named_offset section.limit bases header address ≡ Ok fde.head.offset
+  named_contained = truthful.named_contained section bases header t
 
--- each FDE of a section is read in it
-pub fdes_of_section : (section : FrameSection) → All (IsOfSection section) (entries_of section)
-fdes_of_section = places.fdes_of_section
+  pub nearest_contained : (address : ℕ) (fde : Fde) → Contains (whole_fdes section) fde → contains address fde ≡ true → nearest_fde address (whole_fdes section) ≡ Some fde
+  nearest_contained = truthful.nearest_contained section bases header t
 
--- each FDE of a section is what stands at its offset
-pub fdes_there : (section : FrameSection) → All (StandsAtItsOffset section) (whole_fdes section)
-fdes_there = places.fdes_there
+  pub scanned_contained : (address : ℕ) (fde : Fde) → Contains (whole_fdes section) fde → contains address fde ≡ true → fde_for_address section address ≡ Ok fde
+  scanned_contained = truthful.scanned_contained section bases header t
+
+  -- the nearest stands where the header says, and where it doesn't contain the address, none does
+  pub named_nearest : (address : ℕ) (fde : Fde) → nearest_fde address (whole_fdes section) ≡ Some fde → named_offset section.limit bases header address ≡ Ok fde.head.offset
+  named_nearest = truthful.named_nearest section bases header t
+
+  pub scanned_outside : (address : ℕ) (fde : Fde) → nearest_fde address (whole_fdes section) ≡ Some fde → contains address fde ≡ false → fde_for_address section address ≡ Err NoUnwindInfoForAddress
+  scanned_outside = truthful.scanned_outside section bases header t
+
+  -- below all starts an FDE is named that starts above, where there are rows, and none contains the address
+  pub named_below : 0 < header.count → (address : ℕ) → nearest_fde address (whole_fdes section) ≡ None
+      → (fde : Fde) × (Contains (whole_fdes section) fde × ((address < fde.initial_address) × (named_offset section.limit bases header address ≡ Ok fde.head.offset)))
+  named_below = truthful.named_below section bases header t
+
+  pub scanned_below : (address : ℕ) → nearest_fde address (whole_fdes section) ≡ None → fde_for_address section address ≡ Err NoUnwindInfoForAddress
+  scanned_below = truthful.scanned_below section bases header t
+
+  -- there are rows, where there is an FDE
+  pub has_rows : (fde : Fde) → Contains (whole_fdes section) fde → 0 < header.count
+  has_rows = truthful.has_rows section bases header t

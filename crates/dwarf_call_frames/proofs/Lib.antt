@@ -1,9 +1,9 @@
-pub mod AddressLookups
-pub mod Behind
-pub mod Each
-pub mod EntryLists
-pub mod EntryPlaces
+pub mod Halves
+pub mod HeaderRows
+pub mod Increasing
 pub mod Laws
+pub mod NamedEntries
 pub mod Onward
-pub mod RowLookups
-pub mod UnwindTables
+pub mod RowsBetween
+pub mod RowsHalved
+pub mod TruthfulRows

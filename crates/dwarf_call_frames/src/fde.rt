@@ -1,320 +1,92 @@
-//! Frame description entries.
-ghost use Rattle.std.specs.Prelude.{◌≡◌, ◌≤◌};
-ghost use Rattle.dwarf_numbers.specs.Answers.{Gives};
-ghost use Rattle.dwarf_readers.specs.Place.{Reads};
-ghost use Rattle.dwarf_frame_rows.specs.EncodedPointer.{origins_of, pointer_at};
-ghost use Rattle.dwarf_call_frames.specs.Entries.{addresses_at, cie_of, contains, end_address, fde_of, fde_with, lsda_at};
-ghost use Rattle.dwarf_call_frames.specs.EntryViews.{cie_view};
-ghost use Rattle.dwarf_call_frames.specs.Getters.{is_signal_trampoline, personality};
-ghost use Rattle.dwarf_call_frames.specs.Memory.{MayGive};
-ghost use Rattle.dwarf_frame_sections.specs.Sections.{section_data};
+//! The entry for an address, by the table.
+ghost use Rattle.std.specs.Prelude.{◌≡◌, false};
+ghost use Rattle.dwarf_frame_rows.specs.Effects.{limits_of};
+ghost use Rattle.dwarf_frame_instructions.specs.Execution.{TakesNoMemory};
+ghost use Rattle.dwarf_frame_instructions.specs.ProgramRows.{IsRowFor};
+ghost use Rattle.dwarf_frame_entries.specs.Entries.{cie_from_offset};
+ghost use Rattle.dwarf_frame_entries.specs.EntryViews.{cie_view};
+ghost use Rattle.dwarf_frame_entries.specs.Memory.{MayGive};
+ghost use Rattle.dwarf_call_frames.specs.HeaderEntries.{fde_by_header, row_by_header, section_of_header};
 
-use crate::augmentation::{Augmentation, read_data};
-use crate::cie::{CommonInformationEntry, Head};
-use crate::section::UnwindSection;
-use dwarf_constants::{DwEhPe, Result};
-use dwarf_frame_rows::{
-    _UnwindSectionPrivate, BaseAddresses, Pointer, PointerEncodingParameters,
-    parse_encoded_pointer, parse_encoded_value,
+use crate::table::EhHdrTable;
+use dwarf_constants::{Error, Result};
+use dwarf_frame_entries::{
+    BaseAddresses, CommonInformationEntry, EhFrame, FrameDescriptionEntry, UnwindContext,
+    UnwindContextStorage, UnwindSection, UnwindTableRow,
 };
-use dwarf_readers::{Reader, ReaderOffset};
-use std::marker::Model;
+use dwarf_offsets::EhFrameOffset;
+use dwarf_readers::Reader;
 
-/// An FDE whose CIE isn't read yet.
-#[derive(Debug, Drop)]
-pub struct PartialFrameDescriptionEntry<'bases, Section: UnwindSection<R>, R: Reader> {
-    pub(crate) head: Head<R::Offset>,
-    pub(crate) cie_offset: Section::Offset,
-    pub(crate) rest: R,
-    pub(crate) section: Section,
-    pub(crate) bases: &'bases BaseAddresses,
-}
-
-impl<'bases, Section: UnwindSection<R>, R: Reader> Model
-    for PartialFrameDescriptionEntry<'bases, Section, R> {
-    ghost use Rattle.std.specs.Prelude.{◌≤◌};
-    ghost use Rattle.dwarf_call_frames.specs.Entries.{PartialFde};
-    ghost use Rattle.dwarf_call_frames.specs.HeadViews.{head_view};
-    ghost use Rattle.dwarf_frame_sections.specs.Sections.{section_data};
-
-    ghost Value = { PartialFde };
-
-    ghost view = { λ fde. record {
-      head = head_view R.Offset.value fde.head;
-      cie_offset = Section.Offset.number fde.cie_offset;
-      within = section_data (Section.size fde.section)
-          (R.stretch (Section.reader fde.section)) fde.bases.now;
-      rest = R.stretch fde.rest;
-    } };
-
-    ghost invariant = { λ fde.
-        (R.stretch (Section.reader fde.section)).place ≤ (R.stretch fde.rest).place };
-}
-
-impl<'bases, Section: UnwindSection<R>, R: Reader> PartialFrameDescriptionEntry<
-    'bases,
-    Section,
-    R,
-> {
-    /// Where the entry stands, in bytes from the section's start.
-    pub fn offset(&self) -> R::Offset
-        ensures { R.Offset.value result ≡ self.now.head.offset }
-    {
-        self.head.offset
-    }
-
-    /// Where its CIE stands.
-    pub fn cie_offset(&self) -> Section::Offset
-        ensures { Section.Offset.number result ≡ self.now.cie_offset }
-    {
-        self.cie_offset
-    }
-
-    /// The length that the entry says: how many bytes follow it.
-    pub fn entry_len(&self) -> R::Offset
-        ensures { R.Offset.value result ≡ self.now.head.length }
-    {
-        self.head.length
-    }
-
-    /// The whole entry, with its CIE, for which `get_cie` is called once with the section in which
-    /// this entry was read, its bases, and where the CIE stands. Where `get_cie` answers that as
-    /// `cie_from_offset` does, this is the entry or the refusal; its want of memory is passed on.
-    #[inline(always)]
-    pub fn parse<
-        F: FnMut(&Section, &BaseAddresses, Section::Offset) -> Result<CommonInformationEntry<R>>,
-    >(&self, mut get_cie: F) -> Result<FrameDescriptionEntry<R>>
-        requires { F.IsAlwaysCallable get_cie }
-        ensures { (may_want : _) → ((s : _) (b : _) (o : Section.Offset) (r : _) (after : F)
-            → self.now.within ≡ section_data (Section.size s.now)
-            (R.stretch (Section.reader s.now)) b.now
-            → self.now.cie_offset ≡ Section.Offset.number o → F.step get_cie s b o r after
-            → MayGive may_want (cie_view R.stretch R.Offset.value) r
-            (cie_of R.Offset.limit Section.kind self.now))
-            → MayGive may_want (λ fde. fde) result
-            (fde_of R.Offset.limit Section.kind self.now) }
-    {
-        let cie = get_cie(&self.section, self.bases, self.cie_offset)?;
-        self.with_cie(cie)
-    }
-
-    /// The whole entry, as [`parse`](Self::parse) with `cie_from_offset`: with the CIE at its offset in
-    /// the section in which this entry was read.
-    #[inline(always)]
-    pub fn parse_by_offset(&self) -> Result<FrameDescriptionEntry<R>>
-        ensures { Gives (λ fde. fde) result (fde_of R.Offset.limit Section.kind self.now) }
-    {
-        let cie = self.section.cie_from_offset(self.bases, self.cie_offset)?;
-        self.with_cie(cie)
-    }
-
-    /// The whole entry, once its CIE is read.
-    #[inline(always)]
-    pub(crate) fn with_cie(
+impl<'a, R: Reader> EhHdrTable<'a, R> {
+    /// The FDE whose code contains the address: that in the row for the address, or
+    /// `NoUnwindInfoForAddress` where it doesn't contain it. `get_cie` is called once at most. Where it
+    /// answers as `cie_from_offset` does, this is that FDE, or the refusal; its want of memory is passed
+    /// on.
+    pub fn fde_for_address<
+        F: FnMut(
+            &EhFrame<R>,
+            &BaseAddresses,
+            EhFrameOffset<R::Offset>,
+        ) -> Result<CommonInformationEntry<R>>,
+    >(
         &self,
-        cie: CommonInformationEntry<R>,
+        frame: &EhFrame<R>,
+        bases: &BaseAddresses,
+        address: u64,
+        get_cie: F,
     ) -> Result<FrameDescriptionEntry<R>>
-        ensures { Gives (λ fde. fde) result (fde_with R.Offset.limit self.now
-            (cie_view R.stretch R.Offset.value cie)) }
+        requires { F.IsAlwaysCallable get_cie }
+        ensures { (may_want : _)
+            → ((f : F) (s : _) (b : _) (o : _) (r : _) (after : F) → F.step f s b o r after
+            → MayGive may_want (cie_view R.stretch R.Offset.value) r (cie_from_offset
+            (section_of_header R.Offset.limit s.now.address_size (R.stretch s.now.reader) b.now)
+            (R.Offset.value o.0)))
+            → MayGive may_want (λ fde. fde) result (fde_by_header
+            (section_of_header R.Offset.limit frame.now.address_size (R.stretch frame.now.reader)
+            bases.now) bases.now self.now address) }
     {
-        let mut rest = self.rest;
-        let mut parameters = PointerEncodingParameters {
-            bases: &self.bases.eh_frame,
-            func_base: None,
-            address_size: cie.address_size,
-            section: self.section.section(),
-        };
-        let (initial_address, address_range) = read_addresses(
-            cie.fde_address_encoding(),
-            &parameters,
-            &mut rest,
-        )?;
-        parameters.func_base = Some(initial_address);
-        let lsda = read_lsda(&cie.augmentation, &parameters, &mut rest)?;
-        Ok(FrameDescriptionEntry {
-            head: self.head,
-            cie,
-            initial_address,
-            address_range,
-            lsda,
-            instructions: rest,
-        })
-    }
-}
-
-// Reads the first address of the code and how many bytes it has.
-#[inline(always)]
-fn read_addresses<R: Reader>(
-    encoding: Option<DwEhPe>,
-    parameters: &PointerEncodingParameters<'_, R>,
-    input: &mut R,
-) -> Result<(u64, u64)>
-    requires { (R.stretch parameters.now.section.now).place ≤ (R.stretch input.old).place }
-    ensures { Reads result (addresses_at (origins_of R.stretch parameters.now) encoding
-        (R.stretch input.old)) (R.stretch input.new) }
-{
-    let size = parameters.address_size;
-    match encoding {
-        Some(encoding) => {
-            // It is the code that is meant, also where the pointer is indirect.
-            let initial_address = parse_encoded_pointer(encoding, parameters, input)?.pointer();
-            let address_range = parse_encoded_value(encoding, size, input)?;
-            Ok((initial_address, address_range))
-        }
-        None => {
-            let initial_address = input.read_address(size)?;
-            let address_range = input.read_address(size)?;
-            Ok((initial_address, address_range))
-        }
-    }
-}
-
-// Reads the data that an FDE has by its CIE's augmentation, and in it where language-specific data
-// stands.
-#[inline(always)]
-fn read_lsda<R: Reader>(
-    augmentation: &Option<Augmentation>,
-    parameters: &PointerEncodingParameters<'_, R>,
-    input: &mut R,
-) -> Result<Option<Pointer>>
-    requires { (R.stretch parameters.now.section.now).place ≤ (R.stretch input.old).place }
-    ensures { Reads result (lsda_at R.Offset.limit (origins_of R.stretch parameters.now)
-        augmentation.now (R.stretch input.old)) (R.stretch input.new) }
-{
-    let Some(said) = augmentation else {
-        return Ok(None);
-    };
-    if !said.has_data {
-        return Ok(None);
-    }
-    let mut data = read_data(input)?;
-    let Some(encoding) = said.lsda else {
-        return Ok(None);
-    };
-    let pointer = read_lsda_pointer(encoding, parameters, &mut data)?;
-    Ok(Some(pointer))
-}
-
-// Reads where language-specific data stands, which few FDEs have.
-#[inline(never)]
-fn read_lsda_pointer<R: Reader>(
-    encoding: DwEhPe,
-    parameters: &PointerEncodingParameters<'_, R>,
-    input: &mut R,
-) -> Result<Pointer>
-    requires { (R.stretch parameters.now.section.now).place ≤ (R.stretch input.old).place }
-    ensures { Reads result (pointer_at (origins_of R.stretch parameters.now) encoding.0
-        (R.stretch input.old)) (R.stretch input.new) }
-{
-    parse_encoded_pointer(encoding, parameters, input)
-}
-
-/// How a range of code is unwound (DWARF 5, 6.4.1).
-#[derive(Debug, Clone, Drop)]
-pub struct FrameDescriptionEntry<R: Reader> {
-    head: Head<R::Offset>,
-    pub(crate) cie: CommonInformationEntry<R>,
-    pub(crate) initial_address: u64,
-    address_range: u64,
-    lsda: Option<Pointer>,
-    pub(crate) instructions: R,
-}
-
-impl<R: Reader> Model for FrameDescriptionEntry<R> {
-    ghost use Rattle.std.specs.Prelude.{IsTrue};
-    ghost use Rattle.dwarf_readers.specs.InitialLength.{is_size};
-    ghost use Rattle.dwarf_call_frames.specs.Entries.{Fde};
-    ghost use Rattle.dwarf_call_frames.specs.EntryViews.{cie_view};
-    ghost use Rattle.dwarf_call_frames.specs.HeadViews.{head_view};
-
-    ghost Value = { Fde };
-
-    ghost view = { λ fde. record {
-      head = head_view R.Offset.value fde.head;
-      cie = cie_view R.stretch R.Offset.value fde.cie;
-      initial_address = fde.initial_address;
-      address_range = fde.address_range;
-      lsda = fde.lsda;
-      instructions = R.stretch fde.instructions;
-    } };
-
-    ghost invariant = { λ fde. IsTrue (is_size fde.cie.address_size) };
-}
-
-impl<R: Reader> FrameDescriptionEntry<R> {
-    /// Where the entry stands, in bytes from the section's start.
-    pub fn offset(&self) -> R::Offset
-        ensures { R.Offset.value result ≡ self.now.head.offset }
-    {
-        self.head.offset
-    }
-
-    /// What it has in common with other FDEs.
-    pub fn cie(&self) -> &CommonInformationEntry<R>
-        ensures { cie_view R.stretch R.Offset.value result.now ≡ self.now.cie }
-    {
-        &self.cie
-    }
-
-    /// The length that the entry says: how many bytes follow it.
-    pub fn entry_len(&self) -> R::Offset
-        ensures { R.Offset.value result ≡ self.now.head.length }
-    {
-        self.head.length
-    }
-
-    /// The first address of the code.
-    pub fn initial_address(&self) -> u64
-        ensures { result ≡ self.now.initial_address }
-    {
-        self.initial_address
-    }
-
-    /// The address behind the code, modulo the size of an address.
-    pub fn end_address(&self) -> u64
-        ensures { result ≡ end_address self.now }
-    {
-        let end = self.initial_address.wrapping_add(self.address_range);
-        match self.cie.address_size {
-            1 => end % (1 << 8),
-            2 => end % (1 << 16),
-            4 => end % (1 << 32),
-            _ => end,
+        let pointer = self.lookup(address, bases)?;
+        let offset = self.pointer_to_offset(pointer)?;
+        let fde = frame.fde_from_offset(bases, offset, get_cie)?;
+        if fde.contains(address) {
+            Ok(fde)
+        } else {
+            Err(Error::NoUnwindInfoForAddress)
         }
     }
 
-    /// How many bytes of code there are.
-    pub fn len(&self) -> u64
-        ensures { result ≡ self.now.address_range }
+    /// The row for an address of the FDE whose code contains it. Fails as `fde_for_address` and as the
+    /// FDE's own `unwind_info_for_address` do. What the context held before counts for nothing.
+    pub fn unwind_info_for_address<
+        'ctx,
+        F: FnMut(
+            &EhFrame<R>,
+            &BaseAddresses,
+            EhFrameOffset<R::Offset>,
+        ) -> Result<CommonInformationEntry<R>>,
+        S: UnwindContextStorage<R::Offset>,
+    >(
+        &self,
+        frame: &EhFrame<R>,
+        bases: &BaseAddresses,
+        ctx: &'ctx mut UnwindContext<R::Offset, S>,
+        address: u64,
+        get_cie: F,
+    ) -> Result<&'ctx UnwindTableRow<R::Offset, S::Rules>>
+        requires { F.IsAlwaysCallable get_cie }
+        ensures { (may_want : _)
+            → ((f : F) (s : _) (b : _) (o : _) (r : _) (after : F) → F.step f s b o r after
+            → MayGive may_want (cie_view R.stretch R.Offset.value) r (cie_from_offset
+            (section_of_header R.Offset.limit s.now.address_size (R.stretch s.now.reader) b.now)
+            (R.Offset.value o.0)))
+            → let limits = limits_of S.Rules.capacity S.Stack.capacity in
+            IsRowFor R.Offset.value
+            ((may_want ≡ false) × TakesNoMemory S.Rules.is_made_in_place limits)
+            (row_by_header limits (section_of_header R.Offset.limit frame.now.address_size
+            (R.stretch frame.now.reader) bases.now) frame.now.vendor bases.now self.now address)
+            result }
     {
-        self.address_range
-    }
-
-    /// Whether the address is from the initial address on, and before the end.
-    pub fn contains(&self, address: u64) -> bool
-        ensures { result ≡ contains address self.now }
-    {
-        self.initial_address <= address && address < self.end_address()
-    }
-
-    /// Where language-specific data stands, if there is any.
-    pub fn lsda(&self) -> Option<Pointer>
-        ensures { result ≡ self.now.lsda }
-    {
-        self.lsda
-    }
-
-    /// Whether the frame is that of a signal handler, whose caller was interrupted.
-    pub fn is_signal_trampoline(&self) -> bool
-        ensures { result ≡ is_signal_trampoline self.now.cie }
-    {
-        self.cie.is_signal_trampoline()
-    }
-
-    /// The personality routine, if there is one.
-    pub fn personality(&self) -> Option<Pointer>
-        ensures { result ≡ personality self.now.cie }
-    {
-        self.cie.personality()
+        let fde = self.fde_for_address(frame, bases, address, get_cie)?;
+        fde.unwind_info_for_address(frame, bases, ctx, address)
     }
 }

@@ -1,30 +1,16 @@
-//! The entries of call frame information: the sections `.eh_frame` and `.debug_frame`, their CIEs and
-//! their FDEs (DWARF 5, 6.4.1; LSB 5.0, 10.6.1), over any reader.
+//! The section `.eh_frame_hdr`: where `.eh_frame` starts, and a table by which the FDE for an address is
+//! found without reading the others (LSB 5.0, 10.6.2), over any reader.
 #![tactic(auto)]
 
-mod augmentation;
-mod cie;
-mod entries;
-mod entry_places;
 mod fde;
-mod parse;
-mod programs;
-mod section;
+mod header;
+mod iter;
+mod rows;
+pub mod search;
 mod table;
+pub mod truthful;
 
-pub use augmentation::Augmentation;
-pub use cie::CommonInformationEntry;
-pub use dwarf_frame_programs::{CallFrameInstruction, CallFrameInstructionIter};
-pub use dwarf_frame_rows::{
-    _UnwindSectionPrivate, BaseAddresses, CieOffsetEncoding, Pointer, SectionBaseAddresses,
-    UnwindContext, UnwindContextStorage, UnwindOffset, UnwindTableRow,
-};
-pub use dwarf_frame_sections::{DebugFrame, EhFrame};
-pub use entries::{CfiEntriesIter, CieOrFde, Entry};
-pub use entry_places::{
-    listed_entries_stand_at_their_offsets, listed_fdes_are_of_their_section,
-    listed_fdes_stand_at_their_offsets,
-};
-pub use fde::{FrameDescriptionEntry, PartialFrameDescriptionEntry};
-pub use section::UnwindSection;
-pub use table::UnwindTable;
+pub use dwarf_frame_rows::{BaseAddresses, Pointer, SectionBaseAddresses};
+pub use header::{EhFrameHdr, ParsedEhFrameHdr};
+pub use iter::EhHdrTableIter;
+pub use table::EhHdrTable;

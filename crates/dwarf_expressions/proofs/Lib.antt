@@ -1,1 +1,6 @@
-pub mod OperationLists
+pub mod Behind
+pub mod Machines
+pub mod Requests
+pub mod Runs
+pub mod Stacks
+pub mod Words

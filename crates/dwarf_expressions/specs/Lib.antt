@@ -1,1 +1,5 @@
-pub mod Operations
+pub mod Effects
+pub mod Evaluation
+pub mod EvaluationViews
+pub mod StackViews
+pub mod Values

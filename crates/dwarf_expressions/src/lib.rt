@@ -1,6 +1,10 @@
-//! Expressions (DWARF 5, 2.5): their operations, in the order of their bytes.
+//! The values of expressions (DWARF 5, 2.5), on which their operations work one after the other.
 #![tactic(auto)]
 
-mod op;
+mod evaluation;
+mod machine;
+mod stack;
+mod value;
 
-pub use op::{Expression, Operation, OperationIter};
+pub use evaluation::{Evaluation, EvaluationResult, EvaluationStorage};
+pub use value::Value;

@@ -11,7 +11,7 @@ use Rattle.std.proofs.lemmas.Bool.Decides.{Decides-eqb}
 use Rattle.std.proofs.lemmas.Cmp.{nat_cmp_total}
 use Rattle.dwarf_constants.specs.declared.common.Register.{Register}
 use Rattle.dwarf_constants.specs.declared.error.Error.{Error}
-use Rattle.dwarf_arrays.specs.Capacity.{IsWithin}
+use Rattle.dwarf_storage.specs.Capacity.{IsWithin}
 use Rattle.dwarf_frame_rows.specs.declared.rules.RuledRegister.{RuledRegister}
 use Rattle.dwarf_frame_rows.specs.RuleMap.{HasEachOnce, HoldsRules, RuleMap, map_of, rule_in}
 

@@ -1,15 +1,15 @@
 //! What rows are worked out in.
 ghost use Rattle.std.specs.Prelude.{◌≡◌, ◌≢◌, ◌≤◌, ◌<◌, ◌+◌, ◌^◌, ◌++◌, ◌∷◌, [], ◌↔◌, IfErr, IfOk, IsOk, IsSome, IsTrue, OnErr, OnOk, length, map, take, slice_index_or};
-ghost use Rattle.dwarf_arrays.specs.Capacity.{HasRoom, IsWithin};
+ghost use Rattle.dwarf_storage.specs.Capacity.{HasRoom, IsWithin};
 ghost use Rattle.dwarf_frame_rows.specs.Row.{row_of, with_parts_of};
 ghost use Rattle.dwarf_frame_rows.specs.Effects.{initial_rows, negated_rule};
 
 use crate::rule_map::RegisterRuleMap;
 use crate::{Effect, RegisterRule, RuledRegister, UnwindTableRow};
 use arrayvec::ArrayVec;
-use dwarf_arrays::{ArrayLike, ReservedVec, StoreOnHeap};
 use dwarf_constants::{AArch64, Error, Register, Result};
 use dwarf_readers::ReaderOffset;
+use dwarf_storage::{ArrayLike, ReservedVec, StoreOnHeap};
 use std::alloc::{AllocError, Global};
 
 /// Where the rows of a context lie, and the rules of a row.

@@ -1,10 +1,10 @@
 //! Where the expressions of call frames stand (DWARF 5, 6.4.2).
-ghost use Rattle.dwarf_numbers.specs.Answers.{Gives};
+ghost use Rattle.dwarf_endianity.specs.Answers.{Gives};
 ghost use Rattle.dwarf_frame_rows.specs.Expressions.{expression_in};
 
 use crate::_UnwindSectionPrivate;
 use dwarf_constants::Result;
-use dwarf_expressions::Expression;
+use dwarf_operations::Expression;
 use dwarf_readers::Reader;
 
 /// The place of an expression in its section.

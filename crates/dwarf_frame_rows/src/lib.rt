@@ -15,7 +15,7 @@ mod section;
 
 pub use base_addresses::{BaseAddresses, SectionBaseAddresses};
 pub use context::{UnwindContext, UnwindContextStorage};
-pub use dwarf_arrays::StoreOnHeap;
+pub use dwarf_storage::StoreOnHeap;
 pub use effect::Effect;
 pub use expression::UnwindExpression;
 pub use pointer::{

@@ -6,9 +6,9 @@ ghost use Rattle.dwarf_frame_rows.specs.RuleMap.{HasEachOnce, HoldsRules, map_of
 
 use crate::rule_map::RegisterRuleMap;
 use crate::{CfaRule, RegisterRule, RuledRegister};
-use dwarf_arrays::ArrayLike;
 use dwarf_constants::{Error, Register, Result};
 use dwarf_readers::ReaderOffset;
+use dwarf_storage::ArrayLike;
 use std::alloc::{AllocError, Global};
 use std::slice::Iter;
 

@@ -1,13 +1,13 @@
 //! The rules of a row as a map.
 ghost use Rattle.std.specs.Prelude.{◌≡◌, ◌==◌, ◌+◌, [], ◌∷◌, ◌++◌, length, IfOk, IfErr, IsOk, IsSome, IsTrue, OnErr, OnOk, position, slice_set};
 ghost use Rattle.std.specs.FinMap as map;
-ghost use Rattle.dwarf_arrays.specs.Capacity.{IsWithin};
+ghost use Rattle.dwarf_storage.specs.Capacity.{IsWithin};
 ghost use Rattle.dwarf_frame_rows.specs.RuleMap.{HasEachOnce, HoldsRules, map_of, rule_in};
 ghost use Rattle.dwarf_frame_rows.specs.SameRules.{rules_are_in};
 
 use crate::RuledRegister;
-use dwarf_arrays::{ArrayLike, PushError};
 use dwarf_constants::{Error, Register, Result};
+use dwarf_storage::{ArrayLike, PushError};
 use std::alloc::{AllocError, Global};
 use std::marker::{Model, PhantomData};
 

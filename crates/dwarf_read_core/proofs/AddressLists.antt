@@ -6,8 +6,8 @@ use Rattle.dwarf_readers.specs.InitialLength.{address_at}
 use Rattle.dwarf_readers.specs.Place.{Stretch}
 use Rattle.dwarf_readers.specs.Remainder.{Takes, size_of}
 use Rattle.dwarf_readers.proofs.Laws.{address_takes_one, initial_length_takes, item_takes, items_shrink, leaves_from, leaves_none, leaves_ok, leaves_then, split_takes}
-use Rattle.lists.specs.Items.{GivesNext, LeavesNone, Shrinks, step_taken}
-use Rattle.lists.proofs.Laws.{gives-next}
+use Rattle.list_laws.specs.Items.{GivesNext, LeavesNone, Shrinks, step_taken}
+use Rattle.list_laws.proofs.Laws.{gives-next}
 
 -- a set takes a byte at least
 set_takes : (limit offset : ℕ) (s : Stretch) → Takes 1 s (set_at limit offset s)

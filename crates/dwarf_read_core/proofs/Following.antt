@@ -14,12 +14,12 @@ use Rattle.dwarf_read_core.specs.Sections.{address_in, behind_entries, range_in,
 use Rattle.dwarf_read_core.specs.MoreItems.{StaysNext}
 use Rattle.dwarf_read_core.proofs.Tables.{declarations_shrink}
 use Rattle.dwarf_readers.specs.Remainder.{item_at}
-use Rattle.lists.specs.Items.{Answer, items_from, items_within, rest_from, rest_within}
-use Rattle.lists.proofs.Laws.{by_case}
+use Rattle.list_laws.specs.Items.{Answer, items_from, items_within, rest_from, rest_within}
+use Rattle.list_laws.proofs.Laws.{by_case}
 use Rattle.dwarf_readers.specs.InitialLength.{address_at, initial_length_at, word_at}
 use Rattle.dwarf_readers.specs.Leb128.{signed_at, unsigned_16_at, unsigned_at}
 use Rattle.dwarf_readers.specs.More.{IsSteady, IsSteadyMove, IsSteadySearch, Stays, StaysAs, extended_stretch}
-use Rattle.dwarf_numbers.specs.Offset.{offset_below}
+use Rattle.dwarf_endianity.specs.Offset.{offset_below}
 use Rattle.dwarf_readers.specs.Place.{Stretch, ◌>>=◌, behind, behind_at, byte_at, end_of, ends_at, prefix_at, requirement, split_at, string_at}
 use Rattle.dwarf_readers.proofs.Laws.{address_steady, behind_steady, byte_steady, cond_stays, front_steady, given_stays, initial_length_steady, refusal_stays, signed_steady, split_steady, steady_then, string_steady, then_stays, then_stays_as, unsigned_16_steady, unsigned_steady, value_stays, word_steady}
 

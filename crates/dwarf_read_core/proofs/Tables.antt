@@ -6,8 +6,8 @@ use Rattle.dwarf_read_core.specs.AbbreviationTable.{Attribute, Declaration, attr
 use Rattle.dwarf_readers.specs.Place.{Stretch, ◌>>=◌, requirement}
 use Rattle.dwarf_readers.specs.Remainder.{Takes, TakesItem, size_of}
 use Rattle.dwarf_readers.proofs.Laws.{byte_takes, items_shrink, leaves_err, leaves_from, leaves_if, leaves_none, leaves_ok, leaves_then, signed_takes, unsigned_16_takes, unsigned_takes}
-use Rattle.lists.specs.Items.{Shrinks, items_from, items_of}
-use Rattle.lists.proofs.Laws.{items-first}
+use Rattle.list_laws.specs.Items.{Shrinks, items_from, items_of}
+use Rattle.list_laws.proofs.Laws.{items-first}
 
 -- a count of steps that is large enough, and by which the answer is this
 pub record Within {A B : Type 0} (within : ℕ → A → Stretch → Result B Error) (seen : A) (s : Stretch) (whole : Result B Error) : Type 0 where

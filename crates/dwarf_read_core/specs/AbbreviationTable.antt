@@ -7,7 +7,7 @@ use Rattle.dwarf_constants.specs.declared.constants.form.TheConstants.{DW_FORM_i
 use Rattle.dwarf_readers.specs.Leb128.{signed_at, unsigned_16_at, unsigned_at}
 use Rattle.dwarf_readers.specs.Place.{Stretch, ◌>>=◌, behind_at, byte_at, end_of, ends_at, requirement}
 use Rattle.dwarf_readers.specs.Remainder.{size_of}
-use Rattle.lists.specs.Items.{Answer, items_of}
+use Rattle.list_laws.specs.Items.{Answer, items_of}
 
 -- an attribute of an abbreviation: its name, its form, and the value that the abbreviation itself gives it
 pub record Attribute : Type 0 where

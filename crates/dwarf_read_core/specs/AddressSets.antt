@@ -7,7 +7,7 @@ use Rattle.dwarf_constants.specs.declared.error.Error.TheVariants.{UnknownVersio
 use Rattle.dwarf_readers.specs.InitialLength.{address_at, address_size_at, initial_length_at}
 use Rattle.dwarf_readers.specs.Place.{Stretch, ◌>>=◌, byte_at, requirement, number_at, split_at}
 use Rattle.dwarf_readers.specs.Remainder.{item_at, size_of}
-use Rattle.lists.specs.Items.{Answer, items_of}
+use Rattle.list_laws.specs.Items.{Answer, items_of}
 
 -- a set of addresses: its offset in the section, its length, how it is encoded, and its addresses
 pub record AddressSet : Type 0 where

@@ -5,7 +5,7 @@ use Rattle.dwarf_read_core.specs.AbbreviationTable.{next_declaration}
 use Rattle.dwarf_readers.specs.More.{IsLasting}
 use Rattle.dwarf_readers.specs.Place.{Stretch, behind}
 use Rattle.dwarf_readers.specs.Remainder.{size_of}
-use Rattle.lists.specs.Items.{Answer, rest_of}
+use Rattle.list_laws.specs.Items.{Answer, rest_of}
 
 -- the answer is that the items end
 abbrev pub is_end : {A : Type 0} → Answer Stretch A Error → Bool

@@ -4,7 +4,7 @@ use Rattle.dwarf_constants.specs.Format.{word_size}
 use Rattle.dwarf_constants.specs.declared.common.Format.{Format}
 use Rattle.dwarf_constants.specs.declared.error.Error.{Error}
 use Rattle.dwarf_readers.specs.InitialLength.{address_at, word_at}
-use Rattle.dwarf_numbers.specs.Offset.{offset_below}
+use Rattle.dwarf_endianity.specs.Offset.{offset_below}
 use Rattle.dwarf_readers.specs.Place.{Stretch, ◌>>=◌, behind_at, prefix_at, string_at}
 
 -- a part of a section, by its offset and its size

@@ -2,7 +2,7 @@
 
 ghost use Rattle.std.specs.Prelude.{◌≡◌, ◌<◌, ◌+◌, ◌≤◌, length, Some, None, Ok, Err, OnOk};
 ghost use Rattle.dwarf_constants.specs.declared.common.SectionId.TheVariants as id;
-ghost use Rattle.dwarf_numbers.specs.Answers.{Gives};
+ghost use Rattle.dwarf_endianity.specs.Answers.{Gives};
 ghost use Rattle.dwarf_read_core.specs.AddressSets.{set_encoding_at};
 ghost use Rattle.dwarf_readers.specs.Place.{Reads};
 
@@ -121,7 +121,7 @@ impl<R: Reader> Model for AddrHeaderIter<R> {
 }
 
 impl<R: Reader> AddrHeaderIter<R> {
-    ghost use Rattle.lists.specs.Items.{GivesNext};
+    ghost use Rattle.list_laws.specs.Items.{GivesNext};
 
     /// The next header, or `None` at the end of the section.
     pub fn next(&mut self) -> Result<Option<AddrHeader<R>>>
@@ -278,7 +278,7 @@ pub struct AddrEntryIter<R> {
 }
 
 impl<R: Reader> AddrEntryIter<R> {
-    ghost use Rattle.lists.specs.Items.{GivesNext};
+    ghost use Rattle.list_laws.specs.Items.{GivesNext};
     ghost use Rattle.dwarf_read_core.specs.AddressViews.{addresses_left};
 
     /// The next address, or `None` at the end of the set.

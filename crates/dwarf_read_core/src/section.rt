@@ -3,7 +3,7 @@
 ghost use Rattle.std.specs.Prelude.{◌≡◌, ◌≤◌, List, ℕ, IfErr, IfOk, IfSome, option_map};
 ghost use Rattle.dwarf_constants.specs.Section.{dwo_section_name, section_name};
 ghost use Rattle.dwarf_constants.specs.declared.common.SectionId.{SectionId};
-ghost use Rattle.dwarf_numbers.specs.Answers.{Gives};
+ghost use Rattle.dwarf_endianity.specs.Answers.{Gives};
 ghost use Rattle.dwarf_readers.specs.Place.{place_within};
 
 use dwarf_constants::{ReaderOffsetId, Result, SectionId};

@@ -2,8 +2,8 @@
 
 ghost use Rattle.std.specs.Prelude.{◌≡◌, ◌<◌, ◌+◌, ◌*◌};
 ghost use Rattle.dwarf_constants.specs.declared.common.SectionId.TheVariants as id;
-ghost use Rattle.dwarf_numbers.specs.Offset.{offset_below};
-ghost use Rattle.dwarf_numbers.specs.Answers.{Gives};
+ghost use Rattle.dwarf_endianity.specs.Offset.{offset_below};
+ghost use Rattle.dwarf_endianity.specs.Answers.{Gives};
 ghost use Rattle.dwarf_readers.specs.Place.{whole};
 
 use crate::section::Section;

@@ -8,11 +8,11 @@ use Rattle.dwarf_constants.specs.declared.common.Format.{Format}
 use Rattle.dwarf_constants.specs.declared.common.Format.TheVariants.{Dwarf32, Dwarf64}
 use Rattle.dwarf_constants.specs.declared.error.Error.{Error}
 use Rattle.dwarf_constants.specs.declared.error.Error.TheVariants.{BadSignedLeb128, BadUnsignedLeb128, UnknownReservedLength, UnsupportedAddressSize, UnsupportedOffsetSize}
-use Rattle.dwarf_numbers.specs.ByteOrder.{number_of}
+use Rattle.dwarf_endianity.specs.ByteOrder.{number_of}
 use Rattle.dwarf_readers.specs.InitialLength.{address_at, address_size_at, as_offset, initial_length_at, is_size, length_behind, sized_number_at, sized_offset_at, word_at}
 use Rattle.dwarf_readers.specs.Leb128.{behind_string, leb128_within, signed_at, signed_in_range, string_of, unsigned_16_at, unsigned_32_at, unsigned_at, unsigned_below, value_behind}
 use Rattle.dwarf_readers.specs.More.{IsSteady, IsSteadyMove, IsSteadySearch, Stays, StaysAs, extended_stretch}
-use Rattle.dwarf_numbers.specs.Offset.{offset_below}
+use Rattle.dwarf_endianity.specs.Offset.{offset_below}
 use Rattle.dwarf_readers.specs.Place.{Stretch, ◌>>=◌, behind, behind_at, byte_at, bytes_at, count_before, end_of, ends_at, found_at, prefix, prefix_at, requirement, number_at, signed_byte_at, signed_number_at, split_at, string_at}
 use Rattle.dwarf_readers.proofs.Places.{count_before_lt}
 

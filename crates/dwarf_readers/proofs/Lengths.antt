@@ -7,15 +7,15 @@ use Rattle.dwarf_constants.specs.declared.common.Format.{Format}
 use Rattle.dwarf_constants.specs.declared.common.Format.TheVariants.{Dwarf64}
 use Rattle.dwarf_constants.specs.declared.error.Error.{Error}
 use Rattle.dwarf_constants.specs.declared.error.Error.TheVariants.{BadSignedLeb128, BadUnsignedLeb128, UnsupportedAddressSize, UnsupportedOffsetSize}
-use Rattle.dwarf_numbers.specs.ByteOrder.{number_of}
+use Rattle.dwarf_endianity.specs.ByteOrder.{number_of}
 use Rattle.dwarf_readers.specs.InitialLength.{address_at, address_size_at, as_offset, initial_length_at, is_size, length_behind, sized_offset_at, word_at}
 use Rattle.dwarf_readers.specs.Leb128.{behind_string, leb128_within, signed_at, signed_in_range, string_of, unsigned_16_at, unsigned_32_at, unsigned_at, unsigned_below, value_behind}
-use Rattle.dwarf_numbers.specs.Offset.{offset_below}
+use Rattle.dwarf_endianity.specs.Offset.{offset_below}
 use Rattle.dwarf_readers.specs.Place.{Stretch, ◌>>=◌, behind, behind_at, byte_at, bytes_at, count_before, ends_at, found_at, prefix, requirement, number_at, signed_byte_at, signed_number_at, split_at, string_at}
 use Rattle.dwarf_readers.specs.Remainder.{IsLessLeft, IsShorter, LeavesLess, Passes, Takes, TakesItem, item_at, size_of}
 use Rattle.dwarf_readers.proofs.Following.{string_inside, whole_inside}
 use Rattle.dwarf_readers.proofs.Places.{count_before_lt}
-use Rattle.lists.specs.Items.{Answer, Shrinks}
+use Rattle.list_laws.specs.Items.{Answer, Shrinks}
 
 -- ---- one after the other
 

@@ -5,7 +5,7 @@ use Rattle.dwarf_constants.specs.declared.common.Format.{Format}
 use Rattle.dwarf_constants.specs.declared.common.Format.TheVariants.{Dwarf32, Dwarf64}
 use Rattle.dwarf_constants.specs.declared.error.Error.{Error}
 use Rattle.dwarf_constants.specs.declared.error.Error.TheVariants.{UnknownReservedLength, UnsupportedAddressSize, UnsupportedOffsetSize}
-use Rattle.dwarf_numbers.specs.Offset.{offset_below}
+use Rattle.dwarf_endianity.specs.Offset.{offset_below}
 use Rattle.dwarf_readers.specs.Place.{Stretch, ◌>>=◌, byte_at, requirement, number_at}
 
 -- what is left behind a read, or where it began if it was refused

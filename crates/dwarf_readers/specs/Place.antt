@@ -3,7 +3,7 @@ use Rattle.std.specs.Prelude.{ℕ, ◌+◌, ◌-◌, ℤ, List, [], ◌∷◌, l
 use Rattle.std.specs.Int.{Width, w8, byte_len, cast_signed}
 use Rattle.dwarf_constants.specs.declared.error.Error.{Error}
 use Rattle.dwarf_constants.specs.declared.error.Error.TheVariants.{UnexpectedEof}
-use Rattle.dwarf_numbers.specs.ByteOrder.{number_of}
+use Rattle.dwarf_endianity.specs.ByteOrder.{number_of}
 
 -- a stretch of a section: its bytes, the place of the first of them, and whether numbers are big-endian there
 pub record Stretch : Type 0 where

@@ -2,7 +2,7 @@
 use Rattle.std.specs.Prelude.{ℕ, ◌+◌, ◌==◌, ◌≤◌, length, Option, Some, None, option_map, Result, Ok, Err, if◌then◌else◌}
 use Rattle.dwarf_constants.specs.declared.error.Error.{Error}
 use Rattle.dwarf_readers.specs.Place.{Stretch, ◌>>=◌}
-use Rattle.lists.specs.Items.{Answer}
+use Rattle.list_laws.specs.Items.{Answer}
 
 -- What is left, if anything, has n bytes fewer than the stretch, at least.
 abbrev pub IsShorter : ℕ → Stretch → Option Stretch → Type 0

@@ -4,7 +4,7 @@ ghost use Rattle.std.specs.Prelude.{◌≡◌, ◌≤◌, ◌<◌, ◌+◌, ◌^
 
 use crate::reader::Reader;
 use dwarf_constants::{Error, ReaderOffsetId, Result};
-use dwarf_numbers::Endianity;
+use dwarf_endianity::Endianity;
 use std::alloc::{AllocError, Global};
 use std::borrow::{CowSlice, CowStr};
 use std::ops::{DerefSlice, Range, RangeFrom, RangeTo};

@@ -6,7 +6,7 @@ ghost use Rattle.dwarf_readers.specs.EndianSlice.{stretch_of};
 ghost use Rattle.dwarf_readers.specs.Place.{AreAlike};
 
 use crate::endian_slice::EndianSlice;
-use dwarf_numbers::Endianity;
+use dwarf_endianity::Endianity;
 use std::hash::Hash;
 
 /// Two slices are equal exactly where their bytes and their byte orders are, wherever they stand, and

@@ -1,5 +1,5 @@
 //! Reading of a section's bytes: readers that know their place, and numbers of variable length. It
-//! hands on the byte orders and offsets of `dwarf_numbers`.
+//! hands on the byte orders and offsets of `dwarf_endianity`.
 #![tactic(auto)]
 
 mod endian_slice;
@@ -12,7 +12,7 @@ mod steps;
 mod str_offsets_base;
 mod two_pieces;
 
-pub use dwarf_numbers::{
+pub use dwarf_endianity::{
     BigEndian, Endianity, LittleEndian, NativeEndian, ReaderOffset, RunTimeEndian,
 };
 pub use endian_slice::EndianSlice;

@@ -8,13 +8,13 @@ ghost use Rattle.dwarf_constants.specs.declared.error.Error.TheVariants.{BadUtf8
 ghost use Rattle.dwarf_constants.specs.Format.{word_size};
 ghost use Rattle.dwarf_readers.specs.InitialLength.{address_at, address_size_at, initial_length_at, left_by, left_by_initial_length, sized_number_at, sized_offset_at, word_at};
 ghost use Rattle.dwarf_readers.specs.Leb128.{behind_string, left_by_leb128, signed_at, string_of, unsigned_16_at, unsigned_32_at, unsigned_at};
-ghost use Rattle.dwarf_numbers.specs.Answers.{Gives};
+ghost use Rattle.dwarf_endianity.specs.Answers.{Gives};
 ghost use Rattle.dwarf_readers.specs.Place.{Moves, Reads, ReadsAs, Stretch, behind, behind_at, byte_at, bytes_at, count_before, empty_stretch, end_of, found_at, prefix_at, number_at, place_within, signed_byte_at, signed_number_at, split_at, string_at};
 ghost use Rattle.dwarf_readers.specs.Remainder.{size_of};
 
 use crate::leb128;
 use dwarf_constants::{Error, Format, ReaderOffsetId, Result};
-use dwarf_numbers::{Endianity, ReaderOffset};
+use dwarf_endianity::{Endianity, ReaderOffset};
 use std::alloc::Global;
 use std::borrow::{CowSlice, CowStr};
 use std::fmt::Debug;

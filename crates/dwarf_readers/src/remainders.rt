@@ -11,7 +11,7 @@ ghost use Rattle.dwarf_readers.specs.Leb128.{behind_string, signed_at, string_of
 ghost use Rattle.dwarf_readers.specs.Place.{Stretch, ◌>>=◌ as ◌and_then◌, behind_at, byte_at, bytes_at, number_at, signed_byte_at, signed_number_at, split_at, string_at};
 ghost use Rattle.dwarf_readers.specs.Onward.{GoesOn, ReadsOn};
 ghost use Rattle.dwarf_readers.specs.Remainder.{IsShorter, LeavesLess, Passes, Takes, TakesItem, item_at, size_of};
-ghost use Rattle.lists.specs.Items.{Answer, Shrinks};
+ghost use Rattle.list_laws.specs.Items.{Answer, Shrinks};
 
 /// Reads of as many bytes as the caller asks for take all of them.
 pub fn fixed_reads_take()

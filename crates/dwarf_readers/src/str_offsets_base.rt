@@ -1,7 +1,7 @@
 //! Where string offsets begin.
 
 use dwarf_constants::{DwarfFileType, Encoding, Format};
-use dwarf_numbers::ReaderOffset;
+use dwarf_endianity::ReaderOffset;
 
 /// The offset of a unit's entries in `.debug_str_offsets`, in bytes.
 #[derive(Debug, Clone, Copy, PartialEq, Eq, PartialOrd, Ord, Hash)]

@@ -4,14 +4,14 @@ use Rattle.std.specs.Prelude.{IfOk}
 use Rattle.std.specs.declared.alloc.AllocError.{AllocError}
 use Rattle.dwarf_constants.specs.declared.error.Error.{Error}
 use Rattle.dwarf_readers.specs.Place.{◌>>=◌}
-use Rattle.dwarf_frame_programs.specs.Programs.{Program, rows_of_program}
+use Rattle.dwarf_frame_instructions.specs.Programs.{Program, rows_of_program}
 use Rattle.dwarf_frame_rows.specs.Effects.{Limits}
-use Rattle.dwarf_call_frames.specs.Entries.{Fde, PartialFde}
+use Rattle.dwarf_frame_entries.specs.Entries.{Fde, PartialFde}
 use Rattle.frame_tables.proofs.Appends.{then}
 use Rattle.frame_tables.specs.Entries.{Part, Setting, fde_front, fde_part, front_text, part_or_fault, part_with, whole_fde_part}
 use Rattle.frame_tables.specs.EntryWrites.{WritesPart}
 use Rattle.frame_tables.specs.Front.{Front}
-use Rattle.table_texts.specs.Tables.{Table, table_text}
+use Rattle.frame_table_text.specs.Tables.{Table, table_text}
 
 -- the front of a line, by equal numbers
 pub same_front : (size size' offset offset' length length' : ℕ) (front : Front) → size ≡ size' → offset ≡ offset' → length ≡ length'

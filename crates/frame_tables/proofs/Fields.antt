@@ -1,11 +1,11 @@
 -- The fields of a document.
 use Rattle.std.proofs.Common.{◌≡◌, ℕ, List, Option, Ok, Vec, Global}
-use Rattle.documents.specs.Faults.{Checked, ◌⊛◌, both}
-use Rattle.documents.specs.Decoded.{result_map}
-use Rattle.documents.proofs.Laws.{first-field, and-field, as_it_is}
+use Rattle.json_program.specs.Faults.{Checked, ◌⊛◌, both}
+use Rattle.json_program.specs.Decoded.{result_map}
+use Rattle.json_program.proofs.Laws.{first-field, and-field, as_it_is}
 use Rattle.frame_tables.specs.Document.{stated_of}
 use Rattle.frame_tables.specs.declared.document.SectionName.{SectionName}
-use Rattle.table_texts.specs.declared.names.Machine.{Machine}
+use Rattle.frame_table_text.specs.declared.names.Machine.{Machine}
 
 abbrev pub Bytes : Type 0
 Bytes = Vec ℕ Global

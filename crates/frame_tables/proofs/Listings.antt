@@ -2,7 +2,7 @@
 use Rattle.std.proofs.Common.{◌≡◌, ℕ, List, [], ◌∷◌, ◌++◌, false, Option, Some, None, Result, Ok, refl, sym, ap, ◌∙◌}
 use Rattle.std.proofs.lemmas.List.{append-nil}
 use Rattle.dwarf_constants.specs.declared.error.Error.{Error}
-use Rattle.dwarf_call_frames.specs.Entries.{AnyEntry}
+use Rattle.dwarf_frame_entries.specs.Entries.{AnyEntry}
 use Rattle.frame_tables.specs.Entries.{Setting, part_of}
 use Rattle.frame_tables.specs.Listing.{Listing, listing_from}
 

@@ -1,8 +1,8 @@
 -- What calls have written.
 use Rattle.std.proofs.Common.{◌≡◌, Bool, true, false, ◌↔◌, IsTrue, Result, Ok, Err, refl}
 use Rattle.std.specs.Prelude.{IsErrOf, OnErr}
-use Rattle.documents.specs.declared.status.RunError.{RunError}
-use Rattle.documents.specs.declared.status.RunError.TheVariants.{Write}
+use Rattle.json_program.specs.declared.status.RunError.{RunError}
+use Rattle.json_program.specs.declared.status.RunError.TheVariants.{Write}
 
 -- what a write that succeeds answers
 abbrev pub succeeded : Result (Unit {0}) RunError

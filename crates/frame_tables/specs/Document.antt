@@ -3,17 +3,17 @@ use Rattle.std.specs.Prelude.{ℕ, nat_lt, if◌then◌else◌, List, [], ◌∷
 use Rattle.serde_json.specs.Data.{Data}
 use Rattle.serde_json.specs.Find.{get}
 use Rattle.serde_json.specs.Written.{has_float}
-use Rattle.documents.specs.declared.fault.Fault.{Fault}
-use Rattle.documents.specs.declared.fault.FaultName.{FaultName}
-use Rattle.documents.specs.declared.fault.FaultName.TheVariants.{TooLong, NotJson, FloatNumber, BadDocument, BadCommand, BadNumber}
-use Rattle.documents.specs.declared.transfer.TheConstants.{DOCUMENT_LIMIT}
-use Rattle.documents.specs.Faults.{Checked, ◌>>=◌, ◌⊛◌}
-use Rattle.documents.specs.Json.{address_value, bytes_value, field, has_only, json_of, number_value, optional_value, text_value}
+use Rattle.json_program.specs.declared.fault.Fault.{Fault}
+use Rattle.json_program.specs.declared.fault.FaultName.{FaultName}
+use Rattle.json_program.specs.declared.fault.FaultName.TheVariants.{TooLong, NotJson, FloatNumber, BadDocument, BadCommand, BadNumber}
+use Rattle.json_program.specs.declared.transfer.TheConstants.{DOCUMENT_LIMIT}
+use Rattle.json_program.specs.Faults.{Checked, ◌>>=◌, ◌⊛◌}
+use Rattle.json_program.specs.Json.{address_value, bytes_value, field, has_only, json_of, number_value, optional_value, text_value}
 use Rattle.dwarf_readers.specs.InitialLength.{is_size}
 use Rattle.frame_tables.specs.declared.document.SectionName.{SectionName}
 use Rattle.frame_tables.specs.declared.document.SectionName.TheVariants.{EhFrame, DebugFrame}
-use Rattle.table_texts.specs.declared.names.Machine.{Machine}
-use Rattle.table_texts.specs.declared.names.Machine.TheVariants.{X86_64, AArch64}
+use Rattle.frame_table_text.specs.declared.names.Machine.{Machine}
+use Rattle.frame_table_text.specs.declared.names.Machine.TheVariants.{X86_64, AArch64}
 
 -- a section: its name, its machine, if that is stated, where it starts, how many bytes an address has where no CIE says it, and its bytes
 pub record Stated : Type 0 where

@@ -1,24 +1,24 @@
 -- What a listing has of each entry: its line, and its table.
 use Rattle.std.specs.Prelude.{ℕ, ◌*◌, not, List, [], ◌++◌, codes, decimal, Option, Some, None, Result, Ok, Err}
 use Rattle.std.specs.Fmt.{signed_decimal}
-use Rattle.documents.specs.Lines.{hexadecimal, line}
+use Rattle.json_program.specs.Lines.{hexadecimal, line}
 use Rattle.dwarf_constants.specs.Error.{variant_name}
 use Rattle.dwarf_constants.specs.declared.common.Vendor.{Vendor}
 use Rattle.dwarf_constants.specs.declared.error.Error.{Error}
 use Rattle.dwarf_readers.specs.Place.{◌>>=◌}
-use Rattle.dwarf_frame_programs.specs.Programs.{Program, Instructions, Rows, rows_of_program}
+use Rattle.dwarf_frame_instructions.specs.Programs.{Program, Instructions, Rows, rows_of_program}
 use Rattle.dwarf_frame_rows.specs.Effects.{Limits}
 use Rattle.dwarf_frame_rows.specs.declared.section.CieOffsetEncoding.{CieOffsetEncoding}
 use Rattle.dwarf_frame_rows.specs.declared.section.CieOffsetEncoding.TheVariants.{U32, U64}
 use Rattle.dwarf_frame_sections.specs.Sections.{FrameSection}
-use Rattle.dwarf_call_frames.specs.Entries.{AnyEntry, Cie, Fde, Head, PartialFde, end_address, fde_of}
-use Rattle.dwarf_call_frames.specs.EntryPrograms.{cie_instructions, factors_of, fde_instructions, fde_program}
-use Rattle.dwarf_call_frames.specs.declared.entries.Entry.TheVariants as which
-use Rattle.table_texts.specs.Cells.{hex_of}
-use Rattle.table_texts.specs.Columns.{all_nops, columns_with}
+use Rattle.dwarf_frame_entries.specs.Entries.{AnyEntry, Cie, Fde, Head, PartialFde, end_address, fde_of}
+use Rattle.dwarf_frame_entries.specs.EntryPrograms.{cie_instructions, factors_of, fde_instructions, fde_program}
+use Rattle.dwarf_frame_entries.specs.declared.entries.Entry.TheVariants as which
+use Rattle.frame_table_text.specs.Cells.{hex_of}
+use Rattle.frame_table_text.specs.Columns.{all_nops, columns_with}
 use Rattle.frame_tables.specs.Front.{Front, augmentation_text, front_at}
-use Rattle.table_texts.specs.Tables.{Table, table_text}
-use Rattle.table_texts.specs.declared.names.Machine.{Machine}
+use Rattle.frame_table_text.specs.Tables.{Table, table_text}
+use Rattle.frame_table_text.specs.declared.names.Machine.{Machine}
 
 -- a section, and how it is listed: whose instructions are read, whose names registers have, and what rows have room for
 pub record Setting : Type 0 where

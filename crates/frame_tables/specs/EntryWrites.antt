@@ -4,7 +4,7 @@ use Rattle.dwarf_constants.specs.declared.common.Vendor.{Vendor}
 use Rattle.dwarf_frame_rows.specs.Effects.{Limits}
 use Rattle.dwarf_frame_sections.specs.Sections.{FrameSection}
 use Rattle.frame_tables.specs.Entries.{Part, Setting}
-use Rattle.table_texts.specs.declared.names.Machine.{Machine}
+use Rattle.frame_table_text.specs.declared.names.Machine.{Machine}
 
 -- a setting of these parts
 abbrev pub setting_with : Limits → FrameSection → Vendor → Option Machine → Setting

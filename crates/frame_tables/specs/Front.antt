@@ -5,7 +5,7 @@ use Rattle.dwarf_readers.specs.InitialLength.{initial_length_at}
 use Rattle.dwarf_readers.specs.Place.{Stretch, ◌>>=◌, behind_at, byte_at, string_at}
 use Rattle.dwarf_frame_rows.specs.declared.section.CieOffsetEncoding.{CieOffsetEncoding}
 use Rattle.dwarf_frame_sections.specs.Sections.{FrameSection}
-use Rattle.dwarf_call_frames.specs.Entries.{id_at}
+use Rattle.dwarf_frame_entries.specs.Entries.{id_at}
 
 -- how wide the id is, the id, what is left behind it, and the place behind the entry
 pub record Front : Type 0 where

@@ -1,8 +1,8 @@
 -- The listing of a section.
 use Rattle.std.specs.Prelude.{ℕ, Bool, true, false, List, [], ◌∷◌, ◌++◌, Some, None, Result, Ok, Err}
 use Rattle.dwarf_constants.specs.declared.error.Error.{Error}
-use Rattle.dwarf_call_frames.specs.Entries.{AnyEntry}
-use Rattle.dwarf_call_frames.specs.EntryLists.{entries_of}
+use Rattle.dwarf_frame_entries.specs.Entries.{AnyEntry}
+use Rattle.dwarf_frame_entries.specs.EntryLists.{entries_of}
 use Rattle.frame_tables.specs.Entries.{Part, Setting, fault_text, part_of}
 
 -- a text, and whether it has all of a section, or ends at a fault

@@ -1,8 +1,8 @@
 -- What a run writes for a document: the listing of its section, or the line of its fault.
 use Rattle.std.specs.Prelude.{ℕ, ◌^◌, List, Bool, false, Option, Some, None, Result, Ok, Err, if◌then◌else◌}
-use Rattle.documents.specs.Faults.{fault_line}
-use Rattle.documents.specs.Lines.{line}
-use Rattle.documents.specs.declared.fault.Fault.{Fault}
+use Rattle.json_program.specs.Faults.{fault_line}
+use Rattle.json_program.specs.Lines.{line}
+use Rattle.json_program.specs.declared.fault.Fault.{Fault}
 use Rattle.dwarf_constants.specs.declared.common.Vendor.{Vendor}
 use Rattle.dwarf_constants.specs.declared.common.Vendor.TheVariants as vendor
 use Rattle.dwarf_readers.specs.Place.{whole}
@@ -16,8 +16,8 @@ use Rattle.frame_tables.specs.Entries.{Setting}
 use Rattle.frame_tables.specs.Listing.{Listing, listing_of}
 use Rattle.frame_tables.specs.declared.document.SectionName.{SectionName}
 use Rattle.frame_tables.specs.declared.document.SectionName.TheVariants.{EhFrame, DebugFrame}
-use Rattle.table_texts.specs.declared.names.Machine.{Machine}
-use Rattle.table_texts.specs.declared.names.Machine.TheVariants.{X86_64, AArch64}
+use Rattle.frame_table_text.specs.declared.names.Machine.{Machine}
+use Rattle.frame_table_text.specs.declared.names.Machine.TheVariants.{X86_64, AArch64}
 use Rattle.frame_tables.specs.declared.program.Ending.{Ending}
 use Rattle.frame_tables.specs.declared.program.Ending.TheVariants.{Listed, Faulty}
 

@@ -1,8 +1,8 @@
 -- Documents that are too long are answered alike.
 use Rattle.std.proofs.Common.{◌≡◌, ℕ, ◌<◌, List, length, Err, ◌∙◌, ap, sym}
 use Rattle.std.proofs.lemmas.Bool.{lt-ltb}
-use Rattle.documents.specs.declared.fault.FaultName.TheVariants.{TooLong}
-use Rattle.documents.specs.declared.transfer.TheConstants.{DOCUMENT_LIMIT}
+use Rattle.json_program.specs.declared.fault.FaultName.TheVariants.{TooLong}
+use Rattle.json_program.specs.declared.transfer.TheConstants.{DOCUMENT_LIMIT}
 use Rattle.frame_tables.specs.Document.{stated_in}
 use Rattle.frame_tables.specs.Text.{text_of, answer_to, ending_of, ending_by}
 

@@ -1,8 +1,8 @@
 //! What a listing has of common information entries.
 ghost use Rattle.std.specs.Prelude.{◌≡◌, ◌++◌, IfOk, OnOk, []};
-ghost use Rattle.dwarf_numbers.specs.Answers.{Gives};
-ghost use Rattle.dwarf_call_frames.specs.EntryViews.{cie_view};
-ghost use Rattle.dwarf_frame_programs.specs.ProgramRows.{program_of};
+ghost use Rattle.dwarf_endianity.specs.Answers.{Gives};
+ghost use Rattle.dwarf_frame_entries.specs.EntryViews.{cie_view};
+ghost use Rattle.dwarf_frame_instructions.specs.ProgramRows.{program_of};
 ghost use Rattle.dwarf_frame_rows.specs.Effects.{limits_of};
 ghost use Rattle.dwarf_frame_sections.specs.Sections.{frame_section};
 ghost use Rattle.frame_tables.specs.Entries.{cie_factors, cie_front, cie_line, cie_part, cie_program, cie_register, part_or_fault, whole_cie_part};
@@ -11,16 +11,16 @@ ghost use Rattle.frame_tables.specs.FrontViews.{front_view};
 
 use crate::front::{Front, augmentation_of, front_at};
 use crate::parts::{end_part, factors_of, push_fault, push_front, table_of};
-use dwarf_call_frames::{
+use dwarf_frame_entries::{
     BaseAddresses, CallFrameInstructionIter, CommonInformationEntry, UnwindContext,
     UnwindContextStorage, UnwindSection,
 };
-use dwarf_frame_programs::FrameProgram;
+use dwarf_frame_instructions::FrameProgram;
 use dwarf_frame_rows::{_UnwindSectionPrivate, PointerEncodingParameters};
 use dwarf_readers::{Reader, ReaderOffset};
+use frame_table_text::{Machine, push_bytes, push_decimal, push_signed};
 use std::alloc::{AllocError, Global};
 use std::collections::BTreeSet;
-use table_texts::{Machine, push_bytes, push_decimal, push_signed};
 
 /// No instructions.
 fn no_instructions<'a, R: Reader, Section: UnwindSection<R>>(

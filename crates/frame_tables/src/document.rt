@@ -3,19 +3,19 @@ ghost use Rattle.std.specs.Prelude.{◌≡◌, IfOk, IsTrue, codes, ok_or};
 ghost use Rattle.serde_json.specs.Find.{get};
 ghost use Rattle.serde_json.specs.View.{view};
 ghost use Rattle.dwarf_readers.specs.InitialLength.{is_size};
-ghost use Rattle.documents.specs.Decoded.{Decodes};
-ghost use Rattle.documents.specs.Json.{bytes_value, field, optional_value};
+ghost use Rattle.json_program.specs.Decoded.{Decodes};
+ghost use Rattle.json_program.specs.Json.{bytes_value, field, optional_value};
 ghost use Rattle.frame_tables.specs.Document.{fields_in, in_document, machine_named, machine_value, name_value, named, of_document, section_in, size_of_addresses, size_value, stated_in, stated_value};
 ghost use Rattle.frame_tables.specs.DocumentViews.{stated_view};
 
-use documents::check::{Checked, both, weighed};
-use documents::field::{address_field, has_only, needed, number_field, text_field, text_in};
-use documents::float::has_float;
-use documents::json::{bytes_in, read};
-use documents::{DOCUMENT_LIMIT, Fault, FaultName, Refusal};
+use frame_table_text::Machine;
+use json_program::check::{Checked, both, weighed};
+use json_program::field::{address_field, has_only, needed, number_field, text_field, text_in};
+use json_program::float::has_float;
+use json_program::json::{bytes_in, read};
+use json_program::{DOCUMENT_LIMIT, Fault, FaultName, Refusal};
 use serde_json::Value;
 use std::alloc::Global;
-use table_texts::Machine;
 
 /// The sections that are listed.
 #[derive(Clone, Copy, Debug, PartialEq, Eq)]

@@ -1,26 +1,26 @@
 //! What a listing has of frame description entries.
 ghost use Rattle.std.specs.Prelude.{◌≡◌, ◌++◌, IfOk, OnOk, ℕ};
-ghost use Rattle.dwarf_numbers.specs.Answers.{Gives};
-ghost use Rattle.dwarf_call_frames.specs.EntryPrograms.{fde_program};
-ghost use Rattle.dwarf_frame_programs.specs.ProgramRows.{program_of};
+ghost use Rattle.dwarf_endianity.specs.Answers.{Gives};
+ghost use Rattle.dwarf_frame_entries.specs.EntryPrograms.{fde_program};
+ghost use Rattle.dwarf_frame_instructions.specs.ProgramRows.{program_of};
 ghost use Rattle.dwarf_frame_rows.specs.Effects.{Limits, limits_of};
 ghost use Rattle.dwarf_frame_sections.specs.Sections.{frame_section};
 ghost use Rattle.frame_tables.specs.Entries.{fde_front, fde_line, fde_places, fde_part, fde_table, part_or_fault, whole_fde_part};
 ghost use Rattle.frame_tables.specs.EntryWrites.{WritesPart, setting_with};
 ghost use Rattle.frame_tables.specs.FrontViews.{front_view};
-ghost use Rattle.table_texts.specs.TableViews.{table_view};
+ghost use Rattle.frame_table_text.specs.TableViews.{table_view};
 
 use crate::front::{Front, front_at};
 use crate::parts::{end_part, factors_of, push_fault, push_front, table_of};
-use dwarf_call_frames::{
+use dwarf_frame_entries::{
     BaseAddresses, FrameDescriptionEntry, PartialFrameDescriptionEntry, UnwindContext,
     UnwindContextStorage, UnwindOffset, UnwindSection,
 };
-use dwarf_frame_programs::FrameProgram;
+use dwarf_frame_instructions::FrameProgram;
 use dwarf_readers::{Reader, ReaderOffset};
+use frame_table_text::{Machine, Table, add_columns, push_bytes, push_hex};
 use std::alloc::{AllocError, Global};
 use std::collections::BTreeSet;
-use table_texts::{Machine, Table, add_columns, push_bytes, push_hex};
 
 /// A program of an FDE: its CIE's instructions and its own.
 fn fde_program<'a, R: Reader, Section: UnwindSection<R>>(

@@ -1,14 +1,14 @@
 //! What stands in front of an entry's parts, and the text of a CIE's augmentation.
 ghost use Rattle.std.specs.Prelude.{◌≡◌, IfOk};
-ghost use Rattle.dwarf_numbers.specs.Answers.{Gives};
+ghost use Rattle.dwarf_endianity.specs.Answers.{Gives};
 ghost use Rattle.dwarf_readers.specs.Place.{Reads};
-ghost use Rattle.dwarf_call_frames.specs.Entries.{id_at};
+ghost use Rattle.dwarf_frame_entries.specs.Entries.{id_at};
 ghost use Rattle.dwarf_frame_sections.specs.Sections.{frame_section};
 ghost use Rattle.frame_tables.specs.Front.{augmentation_text, front_at};
 ghost use Rattle.frame_tables.specs.FrontViews.{front_view};
 
-use dwarf_call_frames::{BaseAddresses, CieOffsetEncoding, UnwindSection};
 use dwarf_constants::{Format, Result};
+use dwarf_frame_entries::{BaseAddresses, CieOffsetEncoding, UnwindSection};
 use dwarf_readers::{Reader, ReaderOffset};
 
 /// What stands in front of an entry's parts.

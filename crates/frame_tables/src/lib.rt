@@ -10,5 +10,5 @@ mod listing;
 mod parts;
 mod program;
 
-pub use documents::{Program, RunError, Sink, Source, StreamError, Streamed};
+pub use json_program::{Program, RunError, Sink, Source, StreamError, Streamed};
 pub use program::{Ending, FrameTables};

@@ -1,8 +1,8 @@
 //! The listing of a section, entry by entry.
 ghost use Rattle.std.specs.Prelude.{◌≡◌, ◌≢◌, ◌↔◌, false, IfErr, IfOk, IsErrOf, IsTrue, OnErr, OnOk};
 ghost use Rattle.std.specs.Io.KnownBytes.{Appends};
-ghost use Rattle.documents.specs.Stream.{AppendsFront};
-ghost use Rattle.dwarf_call_frames.specs.EntryViews.{entry_view};
+ghost use Rattle.json_program.specs.Stream.{AppendsFront};
+ghost use Rattle.dwarf_frame_entries.specs.EntryViews.{entry_view};
 ghost use Rattle.dwarf_frame_rows.specs.Effects.{limits_of};
 ghost use Rattle.dwarf_frame_sections.specs.Sections.{frame_section};
 ghost use Rattle.frame_tables.specs.Entries.{fault_text, part_of};
@@ -12,15 +12,15 @@ ghost use Rattle.frame_tables.specs.Listing.{listing_of};
 use crate::cies::push_cie;
 use crate::fdes::push_fde;
 use crate::parts::fault_text;
-use documents::{RunError, Sink, write_all};
-use dwarf_call_frames::{
+use dwarf_constants::Error;
+use dwarf_frame_entries::{
     BaseAddresses, CieOrFde, Entry, UnwindContext, UnwindContextStorage, UnwindSection,
 };
-use dwarf_constants::Error;
 use dwarf_frame_rows::_UnwindSectionPrivate;
 use dwarf_readers::Reader;
+use frame_table_text::Machine;
+use json_program::{RunError, Sink, write_all};
 use std::alloc::{AllocError, Global};
-use table_texts::Machine;
 
 /// Appends what is listed of an entry, and answers the place behind it, unless a fault ends the
 /// listing.

@@ -1,21 +1,21 @@
 //! What both kinds of entry have in a listing.
 ghost use Rattle.std.specs.Prelude.{◌≡◌, ◌*◌, ◌++◌, IfOk, OnOk, List, ℕ, Err, string_bytes};
 ghost use Rattle.dwarf_readers.specs.Place.{Stretch};
-ghost use Rattle.dwarf_call_frames.specs.EntryViews.{cie_view};
-ghost use Rattle.dwarf_call_frames.specs.EntryPrograms.{factors_of};
+ghost use Rattle.dwarf_frame_entries.specs.EntryViews.{cie_view};
+ghost use Rattle.dwarf_frame_entries.specs.EntryPrograms.{factors_of};
 ghost use Rattle.frame_tables.specs.Entries.{fault_text, front_text, id_digits, part_or_fault, part_with, entry_table};
 ghost use Rattle.frame_tables.specs.EntryWrites.{WritesPart};
 ghost use Rattle.frame_tables.specs.FrontViews.{front_view};
-ghost use Rattle.table_texts.specs.TableViews.{table_view};
+ghost use Rattle.frame_table_text.specs.TableViews.{table_view};
 
 use crate::front::Front;
-use dwarf_call_frames::{CallFrameInstructionIter, CieOffsetEncoding, CommonInformationEntry};
 use dwarf_constants::Error;
-use dwarf_frame_programs::Factors;
+use dwarf_frame_entries::{CallFrameInstructionIter, CieOffsetEncoding, CommonInformationEntry};
+use dwarf_frame_instructions::Factors;
 use dwarf_readers::Reader;
+use frame_table_text::{Machine, Table, add_columns, push_bytes, push_hex};
 use std::alloc::{AllocError, Global};
 use std::collections::BTreeSet;
-use table_texts::{Machine, Table, add_columns, push_bytes, push_hex};
 
 /// The line of a fault: its name, and the place of the entry that has it.
 pub(crate) fn fault_text(alloc: Global, error: Error, place: u64) -> Result<String, AllocError>

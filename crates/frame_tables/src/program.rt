@@ -1,7 +1,7 @@
 //! One run of the program: a document in, the listing of its section out.
 ghost use Rattle.std.specs.Prelude.{◌≡◌, ◌≢◌, ◌↔◌, false, IsTrue, IfOk, IfErr, IfSome, IsErrOf, OnErr, OnOk};
 ghost use Rattle.std.specs.Io.KnownBytes.{Appends};
-ghost use Rattle.documents.specs.Stream.{AppendsFront};
+ghost use Rattle.json_program.specs.Stream.{AppendsFront};
 ghost use Rattle.dwarf_readers.specs.InitialLength.{is_size};
 ghost use Rattle.frame_tables.specs.DocumentViews.{stated_view};
 ghost use Rattle.frame_tables.specs.Listing.{listing_of};
@@ -9,13 +9,13 @@ ghost use Rattle.frame_tables.specs.Text.{bases_from, ending_by, ending_of, sett
 
 use crate::document::{SectionName, Stated, decode};
 use crate::listing::write_listing;
-use documents::{Program, Refusal, RunError, Sink, write_all};
-use dwarf_call_frames::{BaseAddresses, DebugFrame, EhFrame, UnwindContext};
 use dwarf_constants::Vendor;
+use dwarf_frame_entries::{BaseAddresses, DebugFrame, EhFrame, UnwindContext};
 use dwarf_frame_rows::{SectionBaseAddresses, StoreOnHeap};
 use dwarf_readers::{EndianSlice, LittleEndian};
+use frame_table_text::Machine;
+use json_program::{Program, Refusal, RunError, Sink, write_all};
 use std::alloc::Global;
-use table_texts::Machine;
 
 /// How a run that wrote all its text ended.
 #[derive(Clone, Copy, Debug, PartialEq, Eq, Hash)]

@@ -15,15 +15,15 @@ use Rattle.dwarf_frame_sections.specs.Sections.{FrameSection}
 use Rattle.framehop.specs.declared.cfi_index.IndexedFde.{IndexedFde}
 use Rattle.framehop.specs.declared.cfi_index.DwarfCfiIndexError.{DwarfCfiIndexError}
 use Rattle.framehop.specs.declared.cfi_index.DwarfCfiIndexError.TheVariants.{OutOfMemory}
-use Rattle.dwarf_call_frames.specs.Entries.{AnyEntry, Cie, Fde, PartialFde, fde_of}
-use Rattle.dwarf_call_frames.specs.EntryLists.{entries_of}
-use Rattle.dwarf_call_frames.specs.SectionFdes.{IsOfSection, fde_in, whole_fdes}
-use Rattle.dwarf_call_frames.specs.declared.entries.Entry.TheVariants as which
+use Rattle.dwarf_frame_entries.specs.Entries.{AnyEntry, Cie, Fde, PartialFde, fde_of}
+use Rattle.dwarf_frame_entries.specs.EntryLists.{entries_of}
+use Rattle.dwarf_frame_entries.specs.SectionFdes.{IsOfSection, fde_in, whole_fdes}
+use Rattle.dwarf_frame_entries.specs.declared.entries.Entry.TheVariants as which
 use Rattle.framehop.specs.EntryFor.{indexed_among, fits_index, fde_fits, item_fits, has_index, indexed_entry}
-use Rattle.lists.specs.Greatest.{is_greatest, greater}
-use Rattle.lists.specs.Last.{last_of}
+use Rattle.list_laws.specs.Greatest.{is_greatest, greater}
+use Rattle.list_laws.specs.Last.{last_of}
 use Rattle.framehop.specs.CfiIndex.{index_refusal, fde_error, item_error, first_value, index_error, index_entry, IsKept, IsMadeOf, offset_by_index, Indexes}
-use Rattle.lists.proofs.Laws.{by_case, by_option}
+use Rattle.list_laws.proofs.Laws.{by_case, by_option}
 use Rattle.framehop.proofs.EntryIndex.{later_of, find-has, indexed-cons}
 use Rattle.framehop.proofs.CfiIndexOrder.{none-passes, last-passes, none-higher, last-alike, find-back}
 

@@ -6,8 +6,8 @@ use Rattle.std.specs.List.Sorted.{IsNonDecreasingBy}
 use Rattle.std.proofs.lemmas.List.{append-nil}
 use Rattle.std.proofs.lemmas.List.Elements.{filter-append, All-nil, All-cons, All-head, All-tail, All-weaker}
 use mathlib.Core.List.{reverse-cons}
-use Rattle.lists.specs.Last.{last_of}
-use Rattle.lists.proofs.Laws.{by_case, last_of-push, last_of-cons, last_of-none}
+use Rattle.list_laws.specs.Last.{last_of}
+use Rattle.list_laws.proofs.Laws.{by_case, last_of-push, last_of-cons, last_of-none}
 
 -- the last stands behind the first, or the list has the first alone
 either : {X P : Type 0} (y : X) (xs : List X) (x : X) → last_of (y ∷ xs) ≡ Some x → (last_of xs ≡ Some x → P) → (xs ≡ [] → y ≡ x → P) → P

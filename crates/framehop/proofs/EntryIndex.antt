@@ -3,9 +3,9 @@ use Rattle.std.proofs.Common.{◌≡◌, ℕ, refl, cond, subst, Option, Some, N
 use Rattle.std.specs.Prelude.{nat_le}
 use Rattle.std.specs.List.{All, filter, find}
 use Rattle.std.proofs.lemmas.List.Elements.{All-head, All-tail}
-use Rattle.lists.specs.Greatest.{greater_of}
-use Rattle.lists.proofs.Laws.{by_case, first_greatest-cons}
-use Rattle.dwarf_call_frames.specs.Entries.{Fde}
+use Rattle.list_laws.specs.Greatest.{greater_of}
+use Rattle.list_laws.proofs.Laws.{by_case, first_greatest-cons}
+use Rattle.dwarf_frame_entries.specs.Entries.{Fde}
 use Rattle.framehop.specs.EntryFor.{indexed_among}
 
 -- what is found has what all have

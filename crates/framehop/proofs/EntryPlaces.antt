@@ -6,12 +6,12 @@ use Rattle.std.specs.Result.{result_ok}
 use Rattle.std.proofs.lemmas.List.Elements.{All-filter}
 use Rattle.dwarf_constants.specs.declared.error.Error.{Error}
 use Rattle.dwarf_frame_sections.specs.Sections.{FrameSection}
-use Rattle.dwarf_numbers.specs.Answers.{Gives}
-use Rattle.dwarf_call_frames.specs.Entries.{Fde, fde_from_offset}
-use Rattle.dwarf_call_frames.specs.SectionFdes.{StandsAtItsOffset, whole_fdes}
-use Rattle.dwarf_call_frames.proofs.Laws.{fdes_there}
-use Rattle.lists.specs.Greatest.{is_greatest}
-use Rattle.lists.proofs.Laws.{by_case}
+use Rattle.dwarf_endianity.specs.Answers.{Gives}
+use Rattle.dwarf_frame_entries.specs.Entries.{Fde, fde_from_offset}
+use Rattle.dwarf_frame_entries.specs.SectionFdes.{StandsAtItsOffset, whole_fdes}
+use Rattle.dwarf_frame_entries.proofs.Laws.{fdes_there}
+use Rattle.list_laws.specs.Greatest.{is_greatest}
+use Rattle.list_laws.proofs.Laws.{by_case}
 use Rattle.framehop.specs.EntryFor.{has_index, indexed_among, indexed_entry}
 use Rattle.framehop.proofs.EntryIndex.{find-has}
 

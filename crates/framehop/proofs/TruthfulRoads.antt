@@ -14,13 +14,13 @@ use Rattle.dwarf_frame_rows.specs.declared.base_addresses.SectionBaseAddresses.{
 use Rattle.dwarf_constants.specs.declared.common.Vendor.TheVariants.{Default}
 use Rattle.dwarf_frame_sections.specs.Sections.{FrameSection, eh_frame}
 use Rattle.dwarf_readers.specs.Place.{whole}
-use Rattle.dwarf_call_frames.specs.Entries.{Fde, contains}
-use Rattle.dwarf_call_frames.specs.EntryLists.{entries_of}
-use Rattle.dwarf_call_frames.specs.SectionFdes.{StandsAtItsOffset, whole_fdes}
-use Rattle.dwarf_call_frames.proofs.Laws.{fdes_there}
-use Rattle.dwarf_frame_headers.specs.HeaderEntries.{named_offset}
-use Rattle.dwarf_frame_headers.specs.Truthful.{nearest_fde}
-use Rattle.dwarf_frame_headers.proofs.Laws as header_laws
+use Rattle.dwarf_frame_entries.specs.Entries.{Fde, contains}
+use Rattle.dwarf_frame_entries.specs.EntryLists.{entries_of}
+use Rattle.dwarf_frame_entries.specs.SectionFdes.{StandsAtItsOffset, whole_fdes}
+use Rattle.dwarf_frame_entries.proofs.Laws.{fdes_there}
+use Rattle.dwarf_call_frames.specs.HeaderEntries.{named_offset}
+use Rattle.dwarf_call_frames.specs.Truthful.{nearest_fde}
+use Rattle.dwarf_call_frames.proofs.Laws as header_laws
 use Rattle.framehop.specs.Coverage.{NoEntry, by_entry, by_road}
 use Rattle.framehop.specs.EntryFor.{fits_index, has_index, indexed_entry}
 use Rattle.framehop.specs.FrameSections.{eh_frame_of}
@@ -31,7 +31,7 @@ use Rattle.framehop.specs.declared.roads.NoFde.{NoFde}
 use Rattle.framehop.specs.declared.roads.NoFde.TheVariants.{Uncovered, Unknown}
 use Rattle.framehop.proofs.CfiIndexBuild.{whole-fit}
 use Rattle.framehop.proofs.EntryIndex.{find-has}
-use Rattle.lists.specs.Greatest.{is_greatest}
+use Rattle.list_laws.specs.Greatest.{is_greatest}
 
 -- a number above 0 isn't 0
 not-zero : (n : ℕ) → 0 < n → (n == 0) ≡ false

@@ -7,12 +7,12 @@ use Rattle.framehop.specs.declared.cfi_index.DwarfCfiIndexError.{DwarfCfiIndexEr
 use Rattle.framehop.specs.declared.cfi_index.DwarfCfiIndexError.TheVariants.{Gimli, CouldNotSubtractBaseAddress, RelativeAddressTooBig, FdeOffsetTooBig, OutOfMemory}
 use Rattle.dwarf_constants.specs.declared.error.Error.{Error}
 use Rattle.dwarf_frame_sections.specs.Sections.{FrameSection}
-use Rattle.dwarf_call_frames.specs.Entries.{AnyEntry, Fde, fde_of}
-use Rattle.dwarf_call_frames.specs.EntryLists.{entries_of}
-use Rattle.dwarf_call_frames.specs.SectionFdes.{whole_fdes}
-use Rattle.dwarf_call_frames.specs.declared.entries.Entry.TheVariants as which
+use Rattle.dwarf_frame_entries.specs.Entries.{AnyEntry, Fde, fde_of}
+use Rattle.dwarf_frame_entries.specs.EntryLists.{entries_of}
+use Rattle.dwarf_frame_entries.specs.SectionFdes.{whole_fdes}
+use Rattle.dwarf_frame_entries.specs.declared.entries.Entry.TheVariants as which
 use Rattle.framehop.specs.EntryFor.{has_index, indexed_entry}
-use Rattle.lists.specs.Last.{last_of}
+use Rattle.list_laws.specs.Last.{last_of}
 
 -- why an index can't have an FDE, if it can't
 abbrev pub index_refusal : ℕ → Fde → Option DwarfCfiIndexError

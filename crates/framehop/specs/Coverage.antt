@@ -7,8 +7,8 @@ use Rattle.dwarf_frame_rows.specs.Effects.{Limits}
 use Rattle.dwarf_frame_rows.specs.Row.{Row}
 use Rattle.dwarf_frame_rows.specs.declared.base_addresses.BaseAddresses.{BaseAddresses}
 use Rattle.dwarf_frame_sections.specs.Sections.{FrameSection}
-use Rattle.dwarf_call_frames.specs.Entries.{Fde}
-use Rattle.dwarf_call_frames.specs.EntryPrograms.{fde_row}
+use Rattle.dwarf_frame_entries.specs.Entries.{Fde}
+use Rattle.dwarf_frame_entries.specs.EntryPrograms.{fde_row}
 use Rattle.framehop_unwinder.specs.Attempt.{Attempt, Says, SaysNothing}
 use Rattle.framehop.specs.Roads.{Road, entry_by}
 use Rattle.framehop.specs.declared.roads.NoFde.{NoFde}

@@ -1,13 +1,13 @@
 -- The entry that a section's index has for an address.
 use Rattle.std.specs.Prelude.{ℕ, ◌+◌, ◌-◌, ◌^◌, List, Bool, true, false, ◌&&◌, Option, None, Result, Ok, Err, nat_lt, nat_le, if◌then◌else◌}
 use Rattle.std.specs.List.{filter, list_all}
-use Rattle.lists.specs.Greatest.{first_greatest}
+use Rattle.list_laws.specs.Greatest.{first_greatest}
 use Rattle.dwarf_constants.specs.declared.error.Error.{Error}
 use Rattle.dwarf_frame_sections.specs.Sections.{FrameSection}
-use Rattle.dwarf_call_frames.specs.Entries.{AnyEntry, Fde, fde_of}
-use Rattle.dwarf_call_frames.specs.EntryLists.{entries_of}
-use Rattle.dwarf_call_frames.specs.SectionFdes.{whole_fdes}
-use Rattle.dwarf_call_frames.specs.declared.entries.Entry.TheVariants as which
+use Rattle.dwarf_frame_entries.specs.Entries.{AnyEntry, Fde, fde_of}
+use Rattle.dwarf_frame_entries.specs.EntryLists.{entries_of}
+use Rattle.dwarf_frame_entries.specs.SectionFdes.{whole_fdes}
+use Rattle.dwarf_frame_entries.specs.declared.entries.Entry.TheVariants as which
 
 -- an FDE that an index can have: its code starts at or above the base and within 32 bits of it, and its place has 32 bits
 abbrev pub fits_index : ℕ → Fde → Bool

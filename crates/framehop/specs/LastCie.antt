@@ -2,8 +2,8 @@
 use Rattle.std.specs.Prelude.{◌≡◌, ℕ, Option, Ok, IfSome}
 use Rattle.dwarf_readers.specs.Place.{Stretch}
 use Rattle.dwarf_frame_sections.specs.Sections.{FrameSection}
-use Rattle.dwarf_call_frames.specs.Entries.{cie_from_offset}
-use Rattle.dwarf_call_frames.specs.EntryViews.{cie_view}
+use Rattle.dwarf_frame_entries.specs.Entries.{cie_from_offset}
+use Rattle.dwarf_frame_entries.specs.EntryViews.{cie_view}
 use Rattle.framehop.specs.declared.cfi_index.LastCie.{LastCie}
 
 -- What is kept, if anything is, is the CIE at its offset in the section.

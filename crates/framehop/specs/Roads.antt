@@ -4,15 +4,15 @@ use Rattle.std.specs.Option.{ok_or}
 use Rattle.std.specs.Result.{result_ok}
 use Rattle.dwarf_constants.specs.declared.error.Error.{Error}
 use Rattle.dwarf_constants.specs.declared.error.Error.TheVariants.{NoUnwindInfoForAddress}
-use Rattle.dwarf_numbers.specs.Offset.{offset_below}
+use Rattle.dwarf_endianity.specs.Offset.{offset_below}
 use Rattle.dwarf_readers.specs.Place.{◌>>=◌, whole}
 use Rattle.dwarf_frame_rows.specs.declared.base_addresses.BaseAddresses.{BaseAddresses}
 use Rattle.dwarf_frame_sections.specs.Sections.{FrameSection}
-use Rattle.dwarf_call_frames.specs.AddressLookups.{fde_for_address}
-use Rattle.dwarf_call_frames.specs.Entries.{Fde, fde_from_offset}
-use Rattle.dwarf_frame_headers.specs.Header.{Header, header_at}
-use Rattle.dwarf_frame_headers.specs.HeaderEntries.{named_offset}
-use Rattle.dwarf_frame_headers.specs.HeaderTable.{header_with_table}
+use Rattle.dwarf_frame_entries.specs.AddressLookups.{fde_for_address}
+use Rattle.dwarf_frame_entries.specs.Entries.{Fde, fde_from_offset}
+use Rattle.dwarf_call_frames.specs.Header.{Header, header_at}
+use Rattle.dwarf_call_frames.specs.HeaderEntries.{named_offset}
+use Rattle.dwarf_call_frames.specs.HeaderTable.{header_with_table}
 use Rattle.framehop.specs.EntryFor.{indexed_entry}
 use Rattle.framehop.specs.declared.roads.NoFde.{NoFde}
 use Rattle.framehop.specs.declared.roads.NoFde.TheVariants.{Uncovered, Unknown}

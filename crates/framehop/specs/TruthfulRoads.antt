@@ -1,8 +1,8 @@
 -- What modules with the same section `.eh_frame` are unwound by, each by another road, and when the roads lead to the same entries.
 use Rattle.std.specs.Prelude.{◌≡◌, ℕ, List, true, false, Some, None, Ok}
 use Rattle.dwarf_frame_rows.specs.declared.base_addresses.BaseAddresses.{BaseAddresses}
-use Rattle.dwarf_frame_headers.specs.Header.{Header}
-use Rattle.dwarf_frame_headers.specs.Truthful.{IsTruthful}
+use Rattle.dwarf_call_frames.specs.Header.{Header}
+use Rattle.dwarf_call_frames.specs.Truthful.{IsTruthful}
 use Rattle.framehop_modules.specs.declared.module_sections.ModuleSections.TheVariants.{EhFrame}
 use Rattle.framehop.specs.EntryFor.{has_index}
 use Rattle.framehop.specs.FrameSections.{eh_frame_of}

@@ -12,7 +12,7 @@ ghost use Rattle.framehop.specs.UnwindData.{AsksExpression, attempt, room_of};
 use crate::cache::AllocationPolicy;
 use crate::dwarf::{DwarfUnwindContext, unwind_frame_by_road};
 use crate::unwind_data::ModuleUnwindData;
-use dwarf_call_frames::{DebugFrame, EhFrame};
+use dwarf_frame_entries::{DebugFrame, EhFrame};
 use dwarf_read_core::{EndianSlice, LittleEndian};
 use framehop_modules::{ModuleSections, SectionBytes};
 use framehop_rows::DwarfUnwinding;

@@ -1,15 +1,15 @@
 //! Whether a step may take memory.
 
 ghost use Rattle.std.specs.Prelude.{◌≡◌, false, Some};
-ghost use Rattle.dwarf_frame_programs.specs.Execution.{TakesNoMemory};
+ghost use Rattle.dwarf_frame_instructions.specs.Execution.{TakesNoMemory};
 ghost use Rattle.dwarf_frame_rows.specs.Effects.{limits_of};
 ghost use Rattle.framehop_rows.specs.Memory.{TakesMemory, takes_memory};
 
 use arrayvec::ArrayVec;
-use dwarf_arrays::{ArrayLike, StoreOnHeap};
-use dwarf_evaluations::EvaluationStorage;
+use dwarf_expressions::EvaluationStorage;
 use dwarf_frame_rows::{RegisterRule, RuledRegister, UnwindContextStorage, UnwindTableRow};
 use dwarf_read_core::ReaderOffset;
+use dwarf_storage::{ArrayLike, StoreOnHeap};
 
 /// Whether a step may take memory: where rows and the values of an expression lie.
 pub trait AllocationPolicy {

@@ -2,18 +2,18 @@
 
 ghost use Rattle.std.specs.Prelude.{◌≡◌, ◌<◌, ◌≤◌, ◌^◌, ◌+◌, ◌*◌, ℕ, suc, None, Some, option_map, map, length, codes, nat_le, if◌then◌else◌, Result, Ok, Err, IfOk, IfErr};
 ghost use Rattle.std.specs.List.Sorted.{IsNonDecreasingBy, IsPartitionPoint};
-ghost use Rattle.dwarf_numbers.specs.Answers.{Gives};
+ghost use Rattle.dwarf_endianity.specs.Answers.{Gives};
 ghost use Rattle.dwarf_frame_sections.specs.Sections.{FrameSection, frame_section, section_data};
-ghost use Rattle.dwarf_call_frames.specs.Entries.{cie_from_offset, cie_of, fde_of};
-ghost use Rattle.dwarf_call_frames.specs.EntryViews.{cie_view};
+ghost use Rattle.dwarf_frame_entries.specs.Entries.{cie_from_offset, cie_of, fde_of};
+ghost use Rattle.dwarf_frame_entries.specs.EntryViews.{cie_view};
 ghost use Rattle.framehop.specs.LastCie.{IsLastCie};
-ghost use Rattle.dwarf_call_frames.specs.SectionFdes.{whole_fdes};
+ghost use Rattle.dwarf_frame_entries.specs.SectionFdes.{whole_fdes};
 ghost use Rattle.framehop.specs.EntryFor.{indexed_entry};
 ghost use Rattle.framehop.specs.FrameSections.{eh_frame_of, debug_frame_of};
 ghost use Rattle.framehop.specs.CfiIndex.{index_refusal, index_entry, IsKept, IsMadeOf};
 ghost use Rattle.framehop.specs.declared.cfi_index.DwarfCfiIndexError.TheVariants.{OutOfMemory};
 
-use dwarf_call_frames::{
+use dwarf_frame_entries::{
     BaseAddresses, CommonInformationEntry, DebugFrame, EhFrame, Entry, FrameDescriptionEntry,
     PartialFrameDescriptionEntry, UnwindOffset, UnwindSection,
 };

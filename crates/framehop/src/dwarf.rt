@@ -14,7 +14,7 @@ ghost use Rattle.framehop.specs.UnwindData.{room_of};
 
 use crate::cache::AllocationPolicy;
 use crate::roads::{NoFde, Road, fde_by_road};
-use dwarf_call_frames::{BaseAddresses, FrameDescriptionEntry, UnwindContext, UnwindSection};
+use dwarf_frame_entries::{BaseAddresses, FrameDescriptionEntry, UnwindContext, UnwindSection};
 use dwarf_read_core::Reader;
 use framehop_rows::{DwarfUnwinderError, DwarfUnwinding};
 use framehop_unwinder::{UnwindFailure, UnwindResult};

@@ -18,7 +18,7 @@ pub use cache::{
 };
 pub use cfi_index::{DwarfCfiIndex, DwarfCfiIndexError, LookUp};
 pub use dwarf::DwarfUnwindContext;
-pub use dwarf_call_frames::BaseAddresses;
+pub use dwarf_frame_entries::BaseAddresses;
 pub use framehop_modules::{
     ExplicitModuleSectionInfo, Generations, GenerationsExhausted, LoadError, ModuleSectionInfo,
     SectionBytes,

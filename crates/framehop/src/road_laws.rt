@@ -2,9 +2,9 @@
 ghost use Rattle.std.specs.Prelude.{◌≡◌, ℕ, ◌+◌, ◌^◌, ◌<◌, List, Some, None, true, Ok, Err};
 ghost use Rattle.std.specs.List.{Contains};
 ghost use Rattle.dwarf_frame_rows.specs.declared.base_addresses.BaseAddresses.{BaseAddresses};
-ghost use Rattle.dwarf_call_frames.specs.Entries.{Fde, contains};
-ghost use Rattle.dwarf_call_frames.specs.SectionFdes.{whole_fdes};
-ghost use Rattle.dwarf_frame_headers.specs.Truthful.{nearest_fde};
+ghost use Rattle.dwarf_frame_entries.specs.Entries.{Fde, contains};
+ghost use Rattle.dwarf_frame_entries.specs.SectionFdes.{whole_fdes};
+ghost use Rattle.dwarf_call_frames.specs.Truthful.{nearest_fde};
 ghost use Rattle.framehop.specs.FrameSections.{eh_frame_of};
 ghost use Rattle.framehop.specs.Roads.{entry_by, ByHeader, ByIndex, ByScan};
 ghost use Rattle.framehop.specs.TruthfulRoads.{AreTruthful, headed_data, indexed_data, scanned_data};

@@ -2,22 +2,22 @@
 
 ghost use Rattle.std.specs.Prelude.{◌≡◌, ℕ, ◌+◌, false};
 ghost use Rattle.std.specs.Result.{result_ok};
-ghost use Rattle.dwarf_numbers.specs.Answers.{Gives};
+ghost use Rattle.dwarf_endianity.specs.Answers.{Gives};
 ghost use Rattle.dwarf_frame_sections.specs.Sections.{frame_section};
-ghost use Rattle.dwarf_call_frames.specs.AddressLookups.{fde_for_address};
-ghost use Rattle.dwarf_call_frames.specs.Entries.{cie_from_offset, fde_from_offset};
-ghost use Rattle.dwarf_call_frames.specs.EntryViews.{cie_view};
-ghost use Rattle.dwarf_call_frames.specs.Memory.{MayGive};
+ghost use Rattle.dwarf_frame_entries.specs.AddressLookups.{fde_for_address};
+ghost use Rattle.dwarf_frame_entries.specs.Entries.{cie_from_offset, fde_from_offset};
+ghost use Rattle.dwarf_frame_entries.specs.EntryViews.{cie_view};
+ghost use Rattle.dwarf_frame_entries.specs.Memory.{MayGive};
 ghost use Rattle.framehop.specs.CfiIndexView.{IsIndexOf};
 ghost use Rattle.framehop.specs.EntryFor.{indexed_entry};
 ghost use Rattle.framehop.specs.RoadViews.{road_view, LeadsInto};
 ghost use Rattle.framehop.specs.Roads.{entry_by, headed_entry, headed_offset, no_fde, offset_in_table, scanned_entry};
 
 use crate::cfi_index::DwarfCfiIndex;
-use dwarf_call_frames::{
+use dwarf_call_frames::{EhFrameHdr, EhHdrTable};
+use dwarf_frame_entries::{
     BaseAddresses, CommonInformationEntry, FrameDescriptionEntry, UnwindSection,
 };
-use dwarf_frame_headers::{EhFrameHdr, EhHdrTable};
 use dwarf_read_core::{EndianSlice, Error, LittleEndian, Reader, ReaderOffset};
 
 /// How the entry for an address is found.

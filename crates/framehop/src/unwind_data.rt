@@ -13,7 +13,7 @@ ghost use Rattle.framehop.specs.UnwindData.{bases_of, road_among, road_of, scann
 
 use crate::cfi_index::{DwarfCfiIndex, DwarfCfiIndexError};
 use crate::roads::Road;
-use dwarf_call_frames::BaseAddresses;
+use dwarf_frame_entries::BaseAddresses;
 use framehop_modules::{BaseSvmas, ModuleSectionInfo, ModuleSections, SectionBytes};
 use std::alloc::{AllocError, Global};
 use std::marker::Model;

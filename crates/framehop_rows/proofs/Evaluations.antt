@@ -4,9 +4,9 @@ use Rattle.std.specs.Prelude.{option_and_then}
 use Rattle.dwarf_constants.specs.declared.common.Register.{Register}
 use Rattle.dwarf_constants.specs.declared.error.Error.{Error}
 use Rattle.dwarf_constants.specs.declared.error.Error.TheVariants.{OutOfMemory}
-use Rattle.dwarf_evaluations.specs.Evaluation.{Answers, ComesTo, Program, State, Ready, Asking, Finished, Refused, operations_left, state_reached_with, value_in}
-use Rattle.dwarf_evaluations.specs.declared.evaluation.EvaluationResult.{EvaluationResult}
-use Rattle.dwarf_evaluations.specs.declared.evaluation.EvaluationResult.TheVariants.{Complete, RequiresRegister}
+use Rattle.dwarf_expressions.specs.Evaluation.{Answers, ComesTo, Program, State, Ready, Asking, Finished, Refused, operations_left, state_reached_with, value_in}
+use Rattle.dwarf_expressions.specs.declared.evaluation.EvaluationResult.{EvaluationResult}
+use Rattle.dwarf_expressions.specs.declared.evaluation.EvaluationResult.TheVariants.{Complete, RequiresRegister}
 use Rattle.framehop_rows.specs.ExpressionValue.{RegisterValues, value_within, value_by_requests}
 
 -- as many requests are left as there can be

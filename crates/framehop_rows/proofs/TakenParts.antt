@@ -2,9 +2,9 @@
 use Rattle.std.proofs.Common.{◌≡◌, ℕ, Bool, Option, Some, None, Result, Ok, Err, refl, sym, ap, subst, ◌∙◌}
 use Rattle.dwarf_constants.specs.declared.common.Register.{Register}
 use Rattle.dwarf_readers.specs.Place.{Stretch}
-use Rattle.dwarf_frame_programs.specs.Execution.{row_in}
-use Rattle.dwarf_frame_programs.specs.StateViews.{rule_as}
-use Rattle.dwarf_frame_programs.proofs.Laws.{rule_seen}
+use Rattle.dwarf_frame_instructions.specs.Execution.{row_in}
+use Rattle.dwarf_frame_instructions.specs.StateViews.{rule_as}
+use Rattle.dwarf_frame_instructions.proofs.Laws.{rule_seen}
 use Rattle.dwarf_frame_rows.specs.Row.{Row, row_of}
 use Rattle.dwarf_frame_rows.specs.declared.row.UnwindTableRow.{UnwindTableRow}
 use Rattle.framehop_registers.specs.Callback.{Words}

@@ -4,7 +4,7 @@ use Rattle.dwarf_constants.specs.declared.common.Register.{Register}
 use Rattle.dwarf_constants.specs.declared.error.Error.{Error}
 use Rattle.dwarf_readers.specs.InitialLength.{is_size}
 use Rattle.dwarf_readers.specs.Place.{Stretch}
-use Rattle.dwarf_evaluations.specs.Evaluation.{Program, State, Ready, Asking, Finished, Refused, state_reached, first_machine, operations_left, state_reached_with}
+use Rattle.dwarf_expressions.specs.Evaluation.{Program, State, Ready, Asking, Finished, Refused, state_reached, first_machine, operations_left, state_reached_with}
 
 -- the registers that have values, by their DWARF numbers
 abbrev pub RegisterValues : Type 0

@@ -2,7 +2,7 @@
 use Rattle.std.specs.Prelude.{option_map}
 use Rattle.std.specs.FinMap.{get}
 use Rattle.dwarf_constants.specs.declared.common.Register.{Register}
-use Rattle.dwarf_frame_programs.specs.StateViews.{cfa_as, rule_as}
+use Rattle.dwarf_frame_instructions.specs.StateViews.{cfa_as, rule_as}
 use Rattle.dwarf_frame_rows.specs.Row.{Row}
 use Rattle.framehop_rows.specs.declared.parts.Parts.{Parts}
 

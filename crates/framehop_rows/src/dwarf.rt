@@ -2,7 +2,7 @@
 
 ghost use Rattle.std.specs.Prelude.{◌≡◌, ◌≢◌, ℕ, Bool, Option, Err};
 ghost use Rattle.dwarf_readers.specs.Place.{Stretch};
-ghost use Rattle.dwarf_frame_programs.specs.Execution.{row_in};
+ghost use Rattle.dwarf_frame_instructions.specs.Execution.{row_in};
 ghost use Rattle.dwarf_frame_rows.specs.Row.{Row};
 ghost use Rattle.framehop_registers.specs.Callback.{OverWords};
 ghost use Rattle.framehop_unwinder.specs.Trials.{HasValidRule, KeepsUnlessDirect};
@@ -10,11 +10,11 @@ ghost use Rattle.framehop_rows.specs.Memory.{TakesMemory};
 ghost use Rattle.framehop_rows.specs.RowAttempt.{RowAttempt, row_trial, rule_of_row, rule_answered};
 ghost use Rattle.framehop_rows.specs.declared.dwarf.DwarfUnwinderError.TheVariants.{OutOfMemory};
 
-use dwarf_arrays::ArrayLike;
 use dwarf_constants::Encoding;
-use dwarf_evaluations::EvaluationStorage;
+use dwarf_expressions::EvaluationStorage;
 use dwarf_frame_rows::{_UnwindSectionPrivate, RegisterRule, RuledRegister, UnwindTableRow};
 use dwarf_readers::{Reader, ReaderOffset};
+use dwarf_storage::ArrayLike;
 use framehop_rules::Arch;
 use framehop_unwinder::UnwindResult;
 use std::alloc::{AllocError, Global};

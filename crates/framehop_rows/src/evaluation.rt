@@ -2,20 +2,20 @@
 
 ghost use Rattle.std.specs.Prelude.{◌≡◌, ◌≢◌, ℕ, true, None, Some, Option, IfErr, IfOk, option_and_then, option_map};
 ghost use Rattle.dwarf_constants.specs.declared.common.Register.{Register};
-ghost use Rattle.dwarf_evaluations.specs.Evaluation.{Ready, state_reached, first_machine};
+ghost use Rattle.dwarf_expressions.specs.Evaluation.{Ready, state_reached, first_machine};
 ghost use Rattle.dwarf_readers.specs.InitialLength.{is_size};
 ghost use Rattle.framehop_registers.specs.Callback.{OverWords};
-ghost use Rattle.dwarf_frame_programs.specs.InstructionViews.{expression_as};
-ghost use Rattle.dwarf_frame_programs.specs.StateViews.{cfa_as, rule_as};
+ghost use Rattle.dwarf_frame_instructions.specs.InstructionViews.{expression_as};
+ghost use Rattle.dwarf_frame_instructions.specs.StateViews.{cfa_as, rule_as};
 ghost use Rattle.framehop_rows.specs.Columns.{cfa_by, column_by, found_by, found_in};
 ghost use Rattle.framehop_rows.specs.RowSources.{direct_sources, sum_of, value_by_expression, word_below_cfa};
 ghost use Rattle.framehop_rows.specs.ExpressionValue.{expression_program, value_by_requests};
 ghost use Rattle.framehop_rows.specs.Memory.{IsColumnExpression, IsExpression, TakesMemory};
 
 use dwarf_constants::{Encoding, Error, Register};
-use dwarf_evaluations::{Evaluation, EvaluationResult, EvaluationStorage, Value};
-use dwarf_expressions::Expression;
+use dwarf_expressions::{Evaluation, EvaluationResult, EvaluationStorage, Value};
 use dwarf_frame_rows::{_UnwindSectionPrivate, CfaRule, RegisterRule, UnwindExpression};
+use dwarf_operations::Expression;
 use dwarf_readers::Reader;
 use std::alloc::{AllocError, Global};
 

@@ -1,13 +1,13 @@
 //! The parts of a row that a step asks for.
 
 ghost use Rattle.std.specs.Prelude.{◌≡◌};
-ghost use Rattle.dwarf_frame_programs.specs.Execution.{row_in};
+ghost use Rattle.dwarf_frame_instructions.specs.Execution.{row_in};
 ghost use Rattle.framehop_rows.specs.RowParts.{parts_as, parts_of};
 
-use dwarf_arrays::ArrayLike;
 use dwarf_constants::Register;
 use dwarf_frame_rows::{CfaRule, RegisterRule, RuledRegister, UnwindTableRow};
 use dwarf_readers::ReaderOffset;
+use dwarf_storage::ArrayLike;
 
 /// The parts of a row that a step asks for.
 #[derive(Clone, Copy)]

@@ -2,7 +2,7 @@
 
 ghost use Rattle.std.specs.Prelude.{◌≡◌, ◌≢◌, ℕ, Option, Err, IfSome, OnErr};
 ghost use Rattle.dwarf_constants.specs.declared.common.Register.{Register};
-ghost use Rattle.dwarf_frame_programs.specs.Execution.{row_in};
+ghost use Rattle.dwarf_frame_instructions.specs.Execution.{row_in};
 ghost use Rattle.framehop_registers.specs.Callback.{OverWords};
 ghost use Rattle.framehop_unwinder.specs.Trials.{HasValidRule, KeepsUnlessDirect};
 ghost use Rattle.framehop_rows.specs.Memory.{HasExpressionPart, TakesMemory};
@@ -13,11 +13,11 @@ ghost use Rattle.framehop_rows.specs.declared.parts.Parts.{Parts};
 
 use crate::dwarf::DwarfUnwinderError;
 use crate::parts::{Parts, parts_of_row};
-use dwarf_arrays::ArrayLike;
 use dwarf_constants::{Encoding, Register};
-use dwarf_evaluations::EvaluationStorage;
+use dwarf_expressions::EvaluationStorage;
 use dwarf_frame_rows::{_UnwindSectionPrivate, RegisterRule, RuledRegister, UnwindTableRow};
 use dwarf_readers::{Reader, ReaderOffset};
+use dwarf_storage::ArrayLike;
 use framehop_rules::Arch;
 use framehop_unwinder::UnwindResult;
 use std::alloc::Global;

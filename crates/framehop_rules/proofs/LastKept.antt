@@ -6,8 +6,8 @@ use Rattle.std.specs.List.{filter}
 use Rattle.std.proofs.lemmas.Bool.Decides.{Decides-eqb}
 use Rattle.std.proofs.lemmas.List.{get_or-set_same, get_or-set_other, length-set, append-nil}
 use Rattle.std.proofs.lemmas.List.Elements.{filter-append}
-use Rattle.lists.specs.Last.{last_of}
-use Rattle.lists.proofs.Laws.{last_of-push}
+use Rattle.list_laws.specs.Last.{last_of}
+use Rattle.list_laws.proofs.Laws.{last_of-push}
 use Rattle.framehop_rules.specs.Slots.{Key, Entry, Hits, OtherModules, OtherAddress, slot_of, entry_in, with_kept, finding_for, counts_after}
 use Rattle.framehop_rules.specs.LastKept.{last_entry, last_key, HasLast}
 use Rattle.framehop_rules.specs.declared.rule_cache.CacheStats.{CacheStats}

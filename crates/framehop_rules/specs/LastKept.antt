@@ -1,7 +1,7 @@
 -- A rule cache by the list of all that was kept in it: in each slot stands the last one.
 use Rattle.std.specs.Prelude.{ℕ, ◌≡◌, ◌==◌, List, length, Option}
 use Rattle.std.specs.List.{filter}
-use Rattle.lists.specs.Last.{last_of}
+use Rattle.list_laws.specs.Last.{last_of}
 use Rattle.framehop_rules.specs.Slots.{Key, Entry, slot_of, entry_in}
 
 -- Of what was kept, in this order, the last of a slot.

@@ -5,8 +5,8 @@ use Rattle.std.specs.List.{All, filter}
 use Rattle.std.specs.List.Sorted.{IsNonDecreasingBy}
 use Rattle.std.proofs.lemmas.Bool.{leb-true, leb-false, or_parts, or_from, ne_eqb, le-ltb, eqb-false, ltb-false, le-leb}
 use Rattle.std.proofs.lemmas.List.Kept.{IsNonDecreasingBy-filter}
-use Rattle.lists.specs.Last.{last_of}
-use Rattle.lists.proofs.Laws.{last_of-cons, last_of-none, last_greatest-sorted}
+use Rattle.list_laws.specs.Last.{last_of}
+use Rattle.list_laws.proofs.Laws.{last_of-cons, last_of-none, last_greatest-sorted}
 use Rattle.framehop_unwinder.specs.Modules.{Loaded, nearest_module, is_inside, has_relative, if_inside, module_found, with_module}
 use Rattle.framehop_unwinder.specs.ModulesApart.{StartsOutside}
 

@@ -7,8 +7,8 @@ use Rattle.std.proofs.lemmas.List.{get_or-take, get_or_default, length-take-le}
 use Rattle.std.proofs.lemmas.List.Edits.{length-remove, get_or-remove_below, get_or-remove_above}
 use Rattle.std.specs.List.Sorted.{IsNonDecreasingBy}
 use Rattle.std.proofs.lemmas.List.Sorted.{IsNonDecreasingBy-insert, IsNonDecreasingBy-take}
-use Rattle.lists.specs.Greatest.{last_greatest}
-use Rattle.lists.proofs.Laws.{last_of-at, last_greatest-sorted}
+use Rattle.list_laws.specs.Greatest.{last_greatest}
+use Rattle.list_laws.proofs.Laws.{last_of-at, last_greatest-sorted}
 use Rattle.framehop_unwinder.specs.Modules.{with_module, without_module, has_start, last_end}
 
 or-true : (b : Bool) → (b || true) ≡ true

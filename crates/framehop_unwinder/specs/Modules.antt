@@ -1,8 +1,8 @@
 -- Modules, the one that an address is in, and lists of modules in the order of their starts.
 use Rattle.std.specs.Prelude.{ℕ, ◌-◌, ◌^◌, List, [], ◌∷◌, Bool, not, ◌&&◌, ◌||◌, Option, Some, None, option_and_then, option_map, unwrap_or, ◌==◌, nat_lt, nat_le, if◌then◌else◌}
 use Rattle.std.specs.List.{filter, list_any}
-use Rattle.lists.specs.Last.{last_of}
-use Rattle.lists.specs.Greatest.{last_greatest}
+use Rattle.list_laws.specs.Last.{last_of}
+use Rattle.list_laws.specs.Greatest.{last_greatest}
 
 -- A module as it is loaded: its name, its range of addresses, the address that relative addresses count from, and what it has
 -- to be unwound by.

@@ -10,12 +10,12 @@ use Rattle.dwarf_constants.specs.declared.error.Error.{Error}
 use Rattle.dwarf_constants.specs.declared.error.Error.TheVariants.{NotEnoughStackItems, StackFull, TooManyIterations}
 use Rattle.dwarf_readers.specs.InitialLength.{is_size}
 use Rattle.dwarf_readers.specs.Place.{Stretch, ◌>>=◌, behind, requirement}
-use Rattle.dwarf_evaluations.specs.Effects.{Stack, stack_with, stack_without_top, swapped_stack, rotated_stack, with_top, with_two, of_top, of_two, stack_after, has_room, stack_within}
-use Rattle.dwarf_evaluations.specs.Evaluation.{Machine, Program, State, Ready, Asking, Finished, Refused, state_behind, branch_of, place_by, machine_after, machine_with, state_by_operation, last_step, operation_step, step, run_within, run, state_reached, state_reached_with, first_machine, operations_left}
-use Rattle.dwarf_expressions.specs.Operations.{operation_at}
-use Rattle.dwarf_evaluations.specs.Values.{modulus, value_of}
-use Rattle.dwarf_expressions.specs.declared.op.Operation.{Operation}
-use Rattle.dwarf_expressions.specs.declared.op.Operation.TheVariants.{Address, UnsignedConstant, SignedConstant, Pick, Drop, Swap, Rot, Abs, Neg, Not, PlusConstant, Bra, Skip, RegisterOffset, Nop}
+use Rattle.dwarf_expressions.specs.Effects.{Stack, stack_with, stack_without_top, swapped_stack, rotated_stack, with_top, with_two, of_top, of_two, stack_after, has_room, stack_within}
+use Rattle.dwarf_expressions.specs.Evaluation.{Machine, Program, State, Ready, Asking, Finished, Refused, state_behind, branch_of, place_by, machine_after, machine_with, state_by_operation, last_step, operation_step, step, run_within, run, state_reached, state_reached_with, first_machine, operations_left}
+use Rattle.dwarf_operations.specs.Operations.{operation_at}
+use Rattle.dwarf_expressions.specs.Values.{modulus, value_of}
+use Rattle.dwarf_operations.specs.declared.op.Operation.{Operation}
+use Rattle.dwarf_operations.specs.declared.op.Operation.TheVariants.{Address, UnsignedConstant, SignedConstant, Pick, Drop, Swap, Rot, Abs, Neg, Not, PlusConstant, Bra, Skip, RegisterOffset, Nop}
 use Rattle.framehop_rows.specs.ExpressionValue.{RegisterValues, value_within, value_by_requests, expression_program, expression_value}
 
 -- ---- one value

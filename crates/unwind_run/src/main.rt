@@ -6,7 +6,7 @@
 
 use std::io;
 use std::process::ExitCode;
-use unwind_commands::{Program, Streamed, UnwindCommands};
+use unwind_run_program::{Program, Streamed, UnwindCommands};
 
 fn main(rt: HostRuntime) -> ExitCode {
     let mut source = Streamed::new(rt.reader());

@@ -4,10 +4,10 @@ use framehop_rules::x86_64::ArchX86_64;
 use framehop_unwinder::{Generations, Module, Session, StackWalk};
 use std::alloc::Global;
 use std::test::Fail;
-use unwind_sessions::{
+use test_unwinder::{Row, Said, Tables};
+use unwind_run_session::{
     Written, add_cache, add_unwinder, clone_unwinder, load, stats, unload, walk,
 };
-use unwinder_tests::{Row, Said, Tables};
 
 type Toy = Tables<ArchX86_64>;
 

@@ -19,13 +19,13 @@ use crate::evaluation::{DwarfUnwindRegs, eval_cfa_rule, eval_register_rule};
 use crate::parts::Parts;
 use crate::rows::{PartsUnwinding, unwind_frame_by_row};
 use crate::rule_fields::{unsigned_pairs, unsigned_words, words_from_base};
-use dwarf_arrays::ArrayLike;
 use dwarf_constants::{AArch64, Encoding, Register};
-use dwarf_evaluations::EvaluationStorage;
+use dwarf_expressions::EvaluationStorage;
 use dwarf_frame_rows::{
     _UnwindSectionPrivate, CfaRule, RegisterRule, RuledRegister, UnwindTableRow,
 };
 use dwarf_readers::{Reader, ReaderOffset};
+use dwarf_storage::ArrayLike;
 use framehop_rules::aarch64::{ArchAarch64, UnwindRegsAarch64, UnwindRuleAarch64};
 use framehop_unwinder::UnwindResult;
 use std::alloc::Global;

@@ -5,7 +5,7 @@ ghost use Rattle.framehop_registers.specs.Callback.{Words, OverWords};
 ghost use Rattle.framehop_rows.specs.DirectRow.{direct_return_address, direct_refusal, direct_answer, frame_sources};
 ghost use Rattle.framehop_rows.specs.DirectViews.{caller_shown};
 ghost use Rattle.framehop_rows.specs.Memory.{HasExpressionPart, IsColumnExpression, TakesMemory};
-ghost use Rattle.dwarf_frame_programs.specs.StateViews.{rule_as};
+ghost use Rattle.dwarf_frame_instructions.specs.StateViews.{rule_as};
 ghost use Rattle.framehop_rules.specs.Outcome.{Answers, Caller};
 ghost use Rattle.framehop_rules.specs.RuleMeaning.{rule_meaning, IsValid};
 ghost use Rattle.framehop_rows.specs.RowAnswer.{row_answer, register_value};
@@ -19,13 +19,13 @@ use crate::evaluation::{DwarfUnwindRegs, eval_cfa_rule, eval_register_rule, read
 use crate::parts::Parts;
 use crate::rows::{PartsUnwinding, unwind_frame_by_row};
 use crate::rule_fields::{unsigned_words, words_from_base};
-use dwarf_arrays::ArrayLike;
 use dwarf_constants::{Encoding, Register, X86_64};
-use dwarf_evaluations::EvaluationStorage;
+use dwarf_expressions::EvaluationStorage;
 use dwarf_frame_rows::{
     _UnwindSectionPrivate, CfaRule, RegisterRule, RuledRegister, UnwindTableRow,
 };
 use dwarf_readers::{Reader, ReaderOffset};
+use dwarf_storage::ArrayLike;
 use framehop_rules::x86_64::{ArchX86_64, UnwindRegsX86_64, UnwindRuleX86_64};
 use framehop_unwinder::UnwindResult;
 use std::alloc::{AllocError, Global};

@@ -1,5 +1,5 @@
 use Rattle.std.proofs.Common.{rules, ◌≡◌, Bool, true, false, IsTrue, refl, ◌∙◌}
-use Rattle.dwarf_numbers.specs.ByteOrder.{same_order}
+use Rattle.dwarf_endianity.specs.ByteOrder.{same_order}
 use Rattle.dwarf_readers.proofs.equality.equal_slices_are_alike.Goals as goal
 
 one_order : (a b : Bool) → IsTrue (same_order a b) → a ≡ b

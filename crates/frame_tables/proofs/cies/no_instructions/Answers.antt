@@ -1,6 +1,6 @@
 use Rattle.std.proofs.Common.{◌≡◌, [], List, ℕ, refl, sym, ap, subst, ◌∙◌}
 use Rattle.dwarf_readers.specs.Place.{Stretch}
-use Rattle.dwarf_frame_programs.specs.Instructions.{Conventions, instructions_of}
+use Rattle.dwarf_frame_instructions.specs.Instructions.{Conventions, instructions_of}
 use Rattle.frame_tables.proofs.cies.no_instructions.Goals as goal
 
 -- where no bytes are, no instructions are

@@ -1,7 +1,7 @@
 use Rattle.std.proofs.Common.{◌++◌, ◌∙◌}
 use Rattle.std.specs.Prelude.{codes}
 use Rattle.std.proofs.lemmas.Result.{on_ok_weaker}
-use Rattle.dwarf_call_frames.specs.EntryViews.{cie_view}
+use Rattle.dwarf_frame_entries.specs.EntryViews.{cie_view}
 use Rattle.frame_tables.specs.Entries.{cie_factors, cie_register, front_text}
 use Rattle.frame_tables.specs.FrontViews.{front_view}
 use Rattle.frame_tables.proofs.Appends.{as_part, then}

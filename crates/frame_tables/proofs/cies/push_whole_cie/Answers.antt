@@ -1,7 +1,7 @@
 use Rattle.std.proofs.Common.{ℕ, List, [], ap, ◌∙◌}
 use Rattle.dwarf_frame_rows.specs.Effects.{limits_of}
-use Rattle.dwarf_frame_programs.specs.Programs.{Instructions}
-use Rattle.dwarf_call_frames.specs.EntryViews.{cie_view}
+use Rattle.dwarf_frame_instructions.specs.Programs.{Instructions}
+use Rattle.dwarf_frame_entries.specs.EntryViews.{cie_view}
 use Rattle.frame_tables.specs.Entries.{entry_table}
 use Rattle.frame_tables.proofs.Entries.{whole_part}
 use Rattle.frame_tables.proofs.cies.push_whole_cie.Goals as goal

@@ -1,6 +1,6 @@
 use Rattle.std.proofs.Common.{sym, ap, ◌∙◌}
-use Rattle.documents.specs.Decoded.{result_map}
-use Rattle.documents.proofs.Laws.{weighed-decoded, passed_on}
+use Rattle.json_program.specs.Decoded.{result_map}
+use Rattle.json_program.proofs.Laws.{weighed-decoded, passed_on}
 use Rattle.frame_tables.specs.Document.{stated_of}
 use Rattle.frame_tables.proofs.Fields.{Four, five_fields}
 use Rattle.frame_tables.proofs.document.fields_in.Goals as goal

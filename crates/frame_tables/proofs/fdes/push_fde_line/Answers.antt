@@ -1,6 +1,6 @@
 use Rattle.std.proofs.Common.{◌≡◌, ℕ, ap, ◌∙◌}
 use Rattle.std.proofs.lemmas.Result.{on_ok_weaker}
-use Rattle.dwarf_call_frames.specs.Entries.{Cie}
+use Rattle.dwarf_frame_entries.specs.Entries.{Cie}
 use Rattle.frame_tables.specs.Entries.{fde_places}
 use Rattle.frame_tables.specs.FrontViews.{front_view}
 use Rattle.frame_tables.proofs.Appends.{as_part, then}

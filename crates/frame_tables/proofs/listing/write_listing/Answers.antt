@@ -1,11 +1,11 @@
 use Rattle.std.proofs.Common.{rules, ◌≡◌, ℕ, List, [], ◌++◌, sym, ap, subst, ◌∙◌}
 use Rattle.std.proofs.lemmas.List.{append-nil}
-use Rattle.documents.proofs.Laws.{begun_line, written_all, written_front, written_more, written_none}
-use Rattle.documents.specs.Stream.{IsWritten}
+use Rattle.json_program.proofs.Laws.{begun_line, written_all, written_front, written_more, written_none}
+use Rattle.json_program.specs.Stream.{IsWritten}
 use Rattle.dwarf_frame_rows.specs.Effects.{limits_of}
 use Rattle.dwarf_frame_sections.specs.Sections.{frame_section}
-use Rattle.dwarf_call_frames.specs.EntryLists.{entries_of}
-use Rattle.dwarf_call_frames.specs.EntryViews.{entry_view}
+use Rattle.dwarf_frame_entries.specs.EntryLists.{entries_of}
+use Rattle.dwarf_frame_entries.specs.EntryViews.{entry_view}
 use Rattle.frame_tables.specs.Entries.{fault_text, part_of}
 use Rattle.frame_tables.specs.EntryWrites.{setting_with}
 use Rattle.frame_tables.specs.Listing.{Listing, listing_from, listing_of}

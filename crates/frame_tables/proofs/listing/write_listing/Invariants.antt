@@ -1,5 +1,5 @@
 use Rattle.std.proofs.Common.{◌≡◌, false, length}
-use Rattle.documents.specs.Stream.{IsWritten}
+use Rattle.json_program.specs.Stream.{IsWritten}
 use Rattle.dwarf_frame_rows.specs.Effects.{limits_of}
 use Rattle.dwarf_frame_sections.specs.Sections.{frame_section}
 use Rattle.frame_tables.specs.EntryWrites.{setting_with}

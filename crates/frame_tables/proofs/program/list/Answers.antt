@@ -1,5 +1,5 @@
 use Rattle.std.proofs.Common.{rules, subst, OnErr}
-use Rattle.documents.specs.Stream.{AppendsFront}
+use Rattle.json_program.specs.Stream.{AppendsFront}
 use Rattle.frame_tables.proofs.program.list.Goals as goal
 
 pub returns-in-EhFrame-clause-begun : goal.returns-in-EhFrame-clause-begun

@@ -1,8 +1,8 @@
 use Rattle.std.proofs.Common.{rules, ◌≡◌, Ok, ap, refl}
 use Rattle.dwarf_frame_sections.specs.Sections.{frame_section}
-use Rattle.dwarf_call_frames.specs.EntryLists.{entries_of}
-use Rattle.dwarf_call_frames.specs.declared.entries.Entry.TheVariants as which
-use Rattle.dwarf_call_frames.proofs.Laws.{fdes_of_section}
+use Rattle.dwarf_frame_entries.specs.EntryLists.{entries_of}
+use Rattle.dwarf_frame_entries.specs.declared.entries.Entry.TheVariants as which
+use Rattle.dwarf_frame_entries.proofs.Laws.{fdes_of_section}
 use Rattle.framehop.proofs.CfiIndexBuild.{cie-gathered, fde-gathered, first-against, first-of, none-gathered, others-of, refused}
 use Rattle.framehop.proofs.cfi_index.indexed_fdes.Goals as goal
 

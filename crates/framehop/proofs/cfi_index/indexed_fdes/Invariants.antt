@@ -1,7 +1,7 @@
 use Rattle.std.proofs.Common.{length}
 use Rattle.std.specs.List.{All}
 use Rattle.dwarf_frame_sections.specs.Sections.{frame_section}
-use Rattle.dwarf_call_frames.specs.SectionFdes.{IsOfSection}
+use Rattle.dwarf_frame_entries.specs.SectionFdes.{IsOfSection}
 use Rattle.framehop.specs.LastCie.{IsLastCie}
 use Rattle.framehop.proofs.CfiIndexBuild.{Gathered}
 use Rattle.framehop.proofs.cfi_index.indexed_fdes.Given as goal

@@ -1,5 +1,5 @@
 use Rattle.std.proofs.Common.{rules, ◌≡◌, ◌^◌, false, Err, ap, sym, subst, ◌∙◌}
-use Rattle.dwarf_frame_programs.specs.Execution.{row_in}
+use Rattle.dwarf_frame_instructions.specs.Execution.{row_in}
 use Rattle.dwarf_frame_rows.specs.Effects.{limits_of}
 use Rattle.dwarf_frame_sections.specs.Sections.{FrameSection, frame_section}
 use Rattle.framehop_registers.proofs.Laws.{over_weaker}

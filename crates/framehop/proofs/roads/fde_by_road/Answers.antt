@@ -1,7 +1,7 @@
 -- The sum is the address that the section is read for.
 use Rattle.std.proofs.Common.{ℕ, ap, ◌∙◌}
 use Rattle.dwarf_frame_sections.specs.Sections.{FrameSection, frame_section}
-use Rattle.dwarf_call_frames.specs.AddressLookups.{fde_for_address}
+use Rattle.dwarf_frame_entries.specs.AddressLookups.{fde_for_address}
 use Rattle.framehop.specs.Roads.{scanned_entry}
 use Rattle.framehop.proofs.roads.fde_by_road.Goals as goal
 

@@ -3,11 +3,11 @@ use Rattle.std.proofs.Common.{◌≡◌, ℕ, List, Some, Option, Result, Ok, sy
 use Rattle.std.specs.Option.{ok_or}
 use Rattle.dwarf_constants.specs.declared.error.Error.{Error}
 use Rattle.dwarf_constants.specs.declared.error.Error.TheVariants.{NoUnwindInfoForAddress}
-use Rattle.dwarf_numbers.specs.Answers.{Gives}
+use Rattle.dwarf_endianity.specs.Answers.{Gives}
 use Rattle.dwarf_readers.specs.Place.{Stretch, ◌>>=◌}
 use Rattle.dwarf_frame_rows.specs.declared.base_addresses.BaseAddresses.{BaseAddresses}
-use Rattle.dwarf_frame_headers.specs.Header.{Header, header_at}
-use Rattle.dwarf_frame_headers.specs.HeaderTable.{header_with_table}
+use Rattle.dwarf_call_frames.specs.Header.{Header, header_at}
+use Rattle.dwarf_call_frames.specs.HeaderTable.{header_with_table}
 use Rattle.framehop.specs.Roads.{headed_offset, header_of, offset_in_table}
 use Rattle.framehop.proofs.roads.get_fde_offset_for_address.Goals as goal
 

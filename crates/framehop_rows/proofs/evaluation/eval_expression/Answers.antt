@@ -1,6 +1,6 @@
 use Rattle.std.proofs.Common.{◌≡◌, Ok, subst, sym, ap, ◌∙◌}
-use Rattle.dwarf_evaluations.specs.Evaluation.{ComesTo, Program, Ready, first_machine, state_reached, state_reached_with}
-use Rattle.dwarf_evaluations.specs.declared.evaluation.EvaluationResult.TheVariants.{RequiresRegister}
+use Rattle.dwarf_expressions.specs.Evaluation.{ComesTo, Program, Ready, first_machine, state_reached, state_reached_with}
+use Rattle.dwarf_expressions.specs.declared.evaluation.EvaluationResult.TheVariants.{RequiresRegister}
 use Rattle.framehop_rows.specs.ExpressionValue.{expression_program, value_by_requests}
 use Rattle.framehop_rows.proofs.Evaluations.{fewer_requests, grows, leads_on}
 use Rattle.framehop_rows.proofs.evaluation.eval_expression.Goals as goal

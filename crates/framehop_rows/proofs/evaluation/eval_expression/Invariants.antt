@@ -1,8 +1,8 @@
 use Rattle.std.proofs.Common.{◌≡◌, None, Ok, Err}
 use Rattle.dwarf_constants.specs.declared.common.Register.{Register}
 use Rattle.dwarf_constants.specs.declared.error.Error.TheVariants.{OutOfMemory}
-use Rattle.dwarf_evaluations.specs.Evaluation.{Answers, CanResume, Ready, state_reached, first_machine}
-use Rattle.dwarf_evaluations.specs.declared.evaluation.EvaluationResult.TheVariants.{RequiresRegister}
+use Rattle.dwarf_expressions.specs.Evaluation.{Answers, CanResume, Ready, state_reached, first_machine}
+use Rattle.dwarf_expressions.specs.declared.evaluation.EvaluationResult.TheVariants.{RequiresRegister}
 use Rattle.framehop_rows.specs.ExpressionValue.{expression_program, value_by_requests}
 use Rattle.framehop_rows.proofs.Evaluations.{LeadsOn, requests_left}
 use Rattle.framehop_rows.proofs.evaluation.eval_expression.Given as goal

@@ -1,5 +1,5 @@
 use Rattle.std.proofs.Common.{◌≡◌, Err, ap}
-use Rattle.dwarf_frame_programs.specs.Execution.{row_in}
+use Rattle.dwarf_frame_instructions.specs.Execution.{row_in}
 use Rattle.framehop_registers.proofs.Laws.{over_none, over_weaker}
 use Rattle.framehop_rows.specs.RowAttempt.{row_trial, rule_of_row}
 use Rattle.framehop_rows.specs.RowParts.{parts_as, parts_of}

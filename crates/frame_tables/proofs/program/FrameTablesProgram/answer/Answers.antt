@@ -1,5 +1,5 @@
 use Rattle.frame_tables.specs.Text.{text_of}
-use Rattle.documents.proofs.Laws.{begun_none}
+use Rattle.json_program.proofs.Laws.{begun_none}
 use Rattle.frame_tables.proofs.Writes.{on_err}
 use Rattle.frame_tables.proofs.program.FrameTablesProgram.answer.Goals as goal
 

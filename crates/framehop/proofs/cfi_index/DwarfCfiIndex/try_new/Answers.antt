@@ -4,8 +4,8 @@ use Rattle.std.specs.List.Sorted.{IsNonDecreasingBy, IsPermutation, IsStableByKe
 use Rattle.std.proofs.lemmas.List.Sorted.{IsNonDecreasingBy-from_sort_by_key, answers_always}
 use Rattle.framehop.specs.declared.cfi_index.IndexedFde.{IndexedFde}
 use Rattle.dwarf_frame_sections.specs.Sections.{FrameSection, frame_section}
-use Rattle.dwarf_call_frames.specs.Entries.{Fde}
-use Rattle.dwarf_call_frames.specs.SectionFdes.{whole_fdes}
+use Rattle.dwarf_frame_entries.specs.Entries.{Fde}
+use Rattle.dwarf_frame_entries.specs.SectionFdes.{whole_fdes}
 use Rattle.framehop.specs.CfiIndex.{index_entry}
 use Rattle.framehop.proofs.CfiIndexBuild.{has-index, indexes-sorted}
 use Rattle.framehop.proofs.cfi_index.DwarfCfiIndex.try_new.Goals as goal

@@ -1,7 +1,7 @@
 use Rattle.std.proofs.Common.{ap, sym, ◌∙◌, option_map}
 use Rattle.std.specs.Prelude.{option_and_then}
 use Rattle.std.specs.Option.{option_or}
-use Rattle.dwarf_frame_programs.specs.StateViews.{rule_as}
+use Rattle.dwarf_frame_instructions.specs.StateViews.{rule_as}
 use Rattle.framehop_registers.proofs.Laws.{over_weaker, over_both}
 use Rattle.framehop_rows.specs.Columns.{column_by}
 use Rattle.framehop_rows.specs.DirectRow.{frame_sources}

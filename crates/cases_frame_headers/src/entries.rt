@@ -1,0 +1,79 @@
+//! The entries and the rows for addresses, by a header.
+
+use anyhow::Result;
+use dwarf_call_frames::{EhFrameHdr, EhHdrTable};
+use dwarf_constants::Result as Answer;
+use dwarf_frame_entries::{
+    BaseAddresses, EhFrame, UnwindContext, UnwindContextStorage, UnwindSection, UnwindTableRow,
+};
+use dwarf_frame_rows::StoreOnHeap;
+use dwarf_readers::{EndianSlice, LittleEndian};
+use std::alloc::Global;
+use test_frame_rows::answer_line;
+
+/// A header, the section of call frames that it is about, and addresses.
+#[derive(Drop)]
+pub struct Entries {
+    pub header_start: u64,
+    pub header: Vec<u8>,
+    pub frame_start: u64,
+    pub frame: Vec<u8>,
+    pub addresses: Vec<u64>,
+}
+
+type Slice<'a> = EndianSlice<'a, LittleEndian>;
+
+// The rules of a row.
+type Rules = <StoreOnHeap as UnwindContextStorage<usize>>::Rules;
+
+// The offset of the FDE for an address.
+fn offset_for<'a>(
+    table: &EhHdrTable<'_, Slice<'a>>,
+    frame: &EhFrame<Slice<'a>>,
+    bases: &BaseAddresses,
+    address: u64,
+) -> Answer<usize> {
+    let fde = table.fde_for_address(frame, bases, address, UnwindSection::cie_from_offset)?;
+    Ok(fde.offset())
+}
+
+// The row for an address.
+fn row_for<'ctx, 'a>(
+    table: &EhHdrTable<'_, Slice<'a>>,
+    frame: &EhFrame<Slice<'a>>,
+    bases: &BaseAddresses,
+    context: &'ctx mut UnwindContext<usize, StoreOnHeap>,
+    address: u64,
+) -> Answer<&'ctx UnwindTableRow<usize, Rules>> {
+    let cie = UnwindSection::cie_from_offset;
+    table.unwind_info_for_address(frame, bases, context, address, cie)
+}
+
+// An address, and how it is answered.
+fn show_address(shown: &mut String, address: u64, offset: Answer<usize>, row: &str) -> Result<()> {
+    match offset {
+        Ok(offset) => write!(shown, "  {address:x}: {offset:x}, {row}\n")?,
+        Err(error) => write!(shown, "  {address:x}: {error:?}, {row}\n")?,
+    }
+    Ok(())
+}
+
+/// What is shown for each address.
+pub fn show_entries(alloc: Global, entries: &Entries) -> Result<String> {
+    let bases = BaseAddresses::default()
+        .set_eh_frame_hdr(entries.header_start)
+        .set_eh_frame(entries.frame_start);
+    let frame = EhFrame::new(&entries.frame, LittleEndian);
+    let header = EhFrameHdr::new(&entries.header, LittleEndian).parse(&bases, 8)?;
+    let mut context: UnwindContext<usize, StoreOnHeap> = UnwindContext::new(alloc)?;
+    let mut shown = String::new(alloc);
+    if let Some(table) = header.table() {
+        for address in &entries.addresses {
+            let offset = offset_for(&table, &frame, &bases, *address);
+            let row = row_for(&table, &frame, &bases, &mut context, *address);
+            let line = answer_line(alloc, row)?;
+            show_address(&mut shown, *address, offset, line.as_str())?;
+        }
+    }
+    Ok(shown)
+}

@@ -1,0 +1,55 @@
+//! The entries and the rows that whole sections have for addresses.
+
+use crate::case::Which;
+use crate::entry::{bases, fde_for, row_for};
+use crate::readers::Shows;
+use anyhow::Result;
+use dwarf_frame_entries::{
+    DebugFrame, EhFrame, UnwindContext, UnwindContextStorage, UnwindSection,
+};
+use dwarf_readers::{Reader, ReaderOffset};
+use std::alloc::Global;
+use test_frame_rows::answer_line;
+
+/// Addresses that are looked up in a section.
+#[derive(Drop)]
+pub struct Lookups<'a> {
+    pub which: Which,
+    pub addresses: &'a [u64],
+}
+
+// A line for each address: the offset of the FDE for it or the refusal, and the row or the refusal.
+fn show_all<R: Reader, S: UnwindContextStorage<R::Offset>, Section: UnwindSection<R>>(
+    alloc: Global,
+    section: &Section,
+    context: &mut UnwindContext<R::Offset, S>,
+    addresses: &[u64],
+) -> Result<String> {
+    let bases = bases();
+    let mut shown = String::new(alloc);
+    for address in addresses {
+        match fde_for(section, &bases, *address) {
+            Ok(fde) => write!(shown, "  {address:x}: {:x}", fde.offset().into_u64())?,
+            Err(error) => write!(shown, "  {address:x}: {error:?}")?,
+        }
+        let line = answer_line(alloc, row_for(section, &bases, context, *address))?;
+        write!(shown, ", {line}\n")?;
+    }
+    Ok(shown)
+}
+
+impl Shows for Lookups<'_> {
+    fn show<R: Reader, S: UnwindContextStorage<R::Offset>>(
+        &self,
+        alloc: Global,
+        reader: R,
+        context: &mut UnwindContext<R::Offset, S>,
+    ) -> Result<String> {
+        match self.which {
+            Which::EhFrame => show_all(alloc, &EhFrame::from(reader), context, self.addresses),
+            Which::DebugFrame => {
+                show_all(alloc, &DebugFrame::from(reader), context, self.addresses)
+            }
+        }
+    }
+}

@@ -1,0 +1,150 @@
+//! The entries of a section, and the rows of each.
+
+use anyhow::Result;
+use dwarf_constants::Result as Answer;
+use dwarf_frame_entries::{
+    _UnwindSectionPrivate, BaseAddresses, CieOrFde, CommonInformationEntry, Entry,
+    FrameDescriptionEntry, PartialFrameDescriptionEntry, UnwindContext, UnwindContextStorage,
+    UnwindOffset, UnwindSection, UnwindTable,
+};
+use dwarf_readers::{Reader, ReaderOffset};
+use std::alloc::Global;
+use test_frame_rows::line_of;
+
+// How many entries of a section, and rows of an entry, are shown at most.
+const MOST: usize = 100_000;
+
+// A line for a CIE.
+fn show_cie<R: Reader>(cie: &CommonInformationEntry<R>, shown: &mut String) -> Result<()> {
+    let (offset, length) = (cie.offset().into_u64(), cie.entry_len().into_u64());
+    write!(
+        shown,
+        "cie {offset:x} length {length:x} version {}",
+        cie.version()
+    )?;
+    let (code, data) = (cie.code_alignment_factor(), cie.data_alignment_factor());
+    write!(shown, " size {} factors {code} {data}", cie.address_size())?;
+    let register = cie.return_address_register().0;
+    write!(
+        shown,
+        " register {register} {:?}\n",
+        cie.augmentation().copied()
+    )?;
+    Ok(())
+}
+
+// A line for each row of a table, and for the refusal, behind which there is no row.
+fn show_table<R: Reader, S: UnwindContextStorage<R::Offset>>(
+    alloc: Global,
+    table: &mut UnwindTable<'_, '_, R, S>,
+    shown: &mut String,
+) -> Result<()> {
+    for _ in 0..MOST {
+        match table.next_row() {
+            Ok(Some(row)) => {
+                let line = line_of(alloc, row)?;
+                write!(shown, "  {line}\n")?;
+            }
+            Ok(None) => return Ok(()),
+            Err(error) => write!(shown, "  {error:?}\n")?,
+        }
+    }
+    Ok(())
+}
+
+// A line for each row of an entry, and for the refusal. One in its CIE comes at once.
+fn show_rows<R: Reader, S: UnwindContextStorage<R::Offset>, Frames: UnwindSection<R>>(
+    alloc: Global,
+    section: &Frames,
+    bases: &BaseAddresses,
+    fde: &FrameDescriptionEntry<R>,
+    context: &mut UnwindContext<R::Offset, S>,
+    shown: &mut String,
+) -> Result<()> {
+    match fde.rows(section, bases, context) {
+        Ok(mut table) => show_table(alloc, &mut table, shown),
+        Err(error) => {
+            write!(shown, "  at once {error:?}\n")?;
+            Ok(())
+        }
+    }
+}
+
+// A reader, whose type names the types that belong to it.
+#[derive(Clone, Copy)]
+struct Of<R: Reader> {
+    reader: R,
+}
+
+// The whole FDE, with its CIE.
+fn whole<R: Reader, Frames: UnwindSection<R>>(
+    section: &Frames,
+    partial: &PartialFrameDescriptionEntry<'_, Frames, R>,
+) -> Answer<FrameDescriptionEntry<R>> {
+    let of = Of {
+        reader: *section.section(),
+    };
+    partial.parse(move |s, b, o| {
+        let _of = of;
+        s.cie_from_offset(b, o)
+    })
+}
+
+// Lines for an FDE: what it says or why it is refused, and its rows.
+fn show_fde<R: Reader, S: UnwindContextStorage<R::Offset>, Frames: UnwindSection<R>>(
+    alloc: Global,
+    section: &Frames,
+    bases: &BaseAddresses,
+    partial: &PartialFrameDescriptionEntry<'_, Frames, R>,
+    context: &mut UnwindContext<R::Offset, S>,
+    shown: &mut String,
+) -> Result<()> {
+    let (offset, length) = (partial.offset().into_u64(), partial.entry_len().into_u64());
+    let cie = UnwindOffset::into(partial.cie_offset()).into_u64();
+    write!(shown, "fde {offset:x} length {length:x} cie {cie:x}")?;
+    match whole(section, partial) {
+        Ok(fde) => {
+            let (start, length) = (fde.initial_address(), fde.len());
+            write!(shown, " code {start:x} {length:x} {:?}\n", fde.lsda())?;
+            show_rows(alloc, section, bases, &fde, context, shown)
+        }
+        Err(error) => {
+            write!(shown, " {error:?}\n")?;
+            Ok(())
+        }
+    }
+}
+
+// Lines for an entry of either kind.
+fn show_entry<R: Reader, S: UnwindContextStorage<R::Offset>, Frames: UnwindSection<R>>(
+    alloc: Global,
+    section: &Frames,
+    bases: &BaseAddresses,
+    entry: &CieOrFde<'_, Frames, R>,
+    context: &mut UnwindContext<R::Offset, S>,
+    shown: &mut String,
+) -> Result<()> {
+    match entry {
+        Entry::Cie(cie) => show_cie(cie, shown),
+        Entry::Fde(partial) => show_fde(alloc, section, bases, partial, context, shown),
+    }
+}
+
+/// Lines for each entry and its rows, and for the refusal that ends them.
+pub fn show_entries<R: Reader, S: UnwindContextStorage<R::Offset>, Frames: UnwindSection<R>>(
+    alloc: Global,
+    section: &Frames,
+    bases: &BaseAddresses,
+    context: &mut UnwindContext<R::Offset, S>,
+    shown: &mut String,
+) -> Result<()> {
+    let mut entries = section.entries(bases);
+    for _ in 0..MOST {
+        match entries.next() {
+            Ok(Some(entry)) => show_entry(alloc, section, bases, &entry, context, shown)?,
+            Ok(None) => return Ok(()),
+            Err(error) => write!(shown, "{error:?}\n")?,
+        }
+    }
+    Ok(())
+}

@@ -1,5 +1,0 @@
-use Rattle.documents.proofs.Laws.{drop-element, joined-end, kept-bad, kept-good}
-use Rattle.documents.proofs.decoding.elements_by_index.Goals as goal
-
-pub returns : goal.returns
-returns g c = record { element = drop-element; good = kept-good; bad = kept-bad; end = joined-end }

@@ -1,5 +1,0 @@
-use Rattle.documents.proofs.Laws.{and-field, as_it_is, first-field}
-use Rattle.documents.proofs.decoding.fields_by_parts.Goals as goal
-
-pub returns : goal.returns
-returns g c = record { first = first-field; next = and-field; plain = as_it_is }

@@ -1,5 +1,0 @@
-use Rattle.documents.proofs.Laws.{passed_on, same_fault, weighed-decoded}
-use Rattle.documents.proofs.decoding.passed_on_as_decoded.Goals as goal
-
-pub returns : goal.returns
-returns g c = record { weighed = weighed-decoded; fault = passed_on; checked = same_fault }

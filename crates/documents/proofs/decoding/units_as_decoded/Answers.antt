@@ -1,5 +1,0 @@
-use Rattle.documents.proofs.Laws.{same_refusal, unit_answer-decoded, unit_answer-good}
-use Rattle.documents.proofs.decoding.units_as_decoded.Goals as goal
-
-pub returns : goal.returns
-returns g c = record { refusal = same_refusal; unit = unit_answer-decoded; good = unit_answer-good }

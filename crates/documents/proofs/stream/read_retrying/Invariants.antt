@@ -1,7 +1,0 @@
--- A read that was interrupted consumed nothing.
-use Rattle.std.proofs.Common.{◌≡◌, length}
-use Rattle.std.specs.Io.KnownBytes.{Keeps}
-use Rattle.documents.proofs.stream.read_retrying.Given as goal
-
-abbrev pub invariant-loop : goal.invariant-loop
-invariant-loop g l = (length l.buffer ≡ length l.initial.buffer) × Keeps (g.R.Read.remaining l.fn.reader) (g.R.Read.remaining l.reader)

@@ -1,8 +1,0 @@
--- The heads of entries as contracts see them.
-use Rattle.std.specs.Prelude.{ℕ}
-use Rattle.dwarf_call_frames.specs.Entries.{Head}
-use Rattle.dwarf_call_frames.specs.declared.cie.Head.{Head as Read}
-
--- offset and length as numbers
-abbrev pub head_view : {T : Type 0} → (T → ℕ) → Read T → Head
-head_view value head = record { offset = value head.offset; length = value head.length }

@@ -1,6 +1,0 @@
-pub mod Behind
-pub mod Machines
-pub mod Requests
-pub mod Runs
-pub mod Stacks
-pub mod Words

@@ -1,5 +1,0 @@
-pub mod Effects
-pub mod Evaluation
-pub mod EvaluationViews
-pub mod StackViews
-pub mod Values

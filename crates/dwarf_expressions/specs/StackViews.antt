@@ -1,0 +1,20 @@
+-- The stack of an evaluation, as the contracts of private functions see it.
+use Rattle.std.specs.Prelude.{ℕ, ◌≡◌, ◌⊎◌, List, Option, None, Result, Ok, Err}
+use Rattle.dwarf_constants.specs.declared.error.Error.{Error}
+use Rattle.dwarf_constants.specs.declared.error.Error.TheVariants.{OutOfMemory}
+use Rattle.dwarf_expressions.specs.Effects.{Stack, stack_within}
+
+-- what a stack of values is: the size of an address in bytes, and the values, the top first
+pub record SizedValues : Type 0 where
+  pub address_size : ℕ
+  pub values : List ℕ
+
+-- A stack became what is said here, or it was refused so; or memory was wanted, which a stack that grows takes.
+abbrev pub Becomes : Option ℕ → Stack → Result (Unit {0}) Error → List ℕ → Type 0
+Becomes capacity expected (Ok _) new = stack_within capacity expected ≡ Ok new
+Becomes capacity expected (Err e) new = (stack_within capacity expected ≡ Err e) ⊎ ((capacity ≡ None) × (e ≡ OutOfMemory))
+
+-- A stack became what is said here, and no longer, or it was refused so.
+abbrev pub Leaves : Stack → Result (Unit {0}) Error → List ℕ → Type 0
+Leaves expected (Ok _) new = expected ≡ Ok new
+Leaves expected (Err e) new = expected ≡ Err e

@@ -1,0 +1,215 @@
+//! The machine that runs the operations of an expression (DWARF 5, 2.5).
+
+ghost use Rattle.std.specs.Prelude.{◌≡◌, ◌≤◌, ◌-◌, ◌+ℤ◌, pos, IfOk, IfErr, IsTrue, IsOk, Ok, length, true};
+ghost use Rattle.std.specs.Prelude.{◌⊎◌, ◌==◌, false};
+ghost use Rattle.dwarf_constants.specs.declared.error.Error.TheVariants.{OutOfMemory, UnsupportedAddressSize};
+ghost use Rattle.dwarf_readers.specs.InitialLength.{is_size};
+ghost use Rattle.dwarf_endianity.specs.Answers.{Gives};
+ghost use Rattle.dwarf_readers.specs.Place.{◌>>=◌ as ◌and_then◌, behind, end_of};
+ghost use Rattle.dwarf_expressions.specs.Evaluation.{IsNotMade, first_machine, machine_after, machine_with, operation_step, place_in, run, state_by_operation, top_of};
+ghost use Rattle.dwarf_expressions.specs.EvaluationViews.{Changes, Comes, Course, StandsAt, Stops};
+
+use crate::stack::ValueStack;
+use crate::value::AddressSize;
+use dwarf_constants::{Encoding, Error, Register, Result};
+use dwarf_operations::{Expression, Operation};
+use dwarf_readers::{Reader, ReaderOffset};
+use dwarf_storage::ArrayLike;
+use std::alloc::Global;
+use std::marker::Model;
+
+/// How many operations an evaluation may run.
+const OPERATION_LIMIT: u32 = 4096;
+
+/// Why a machine stopped, where it wasn't refused.
+#[derive(Debug, Clone, Copy)]
+pub(crate) enum Stop {
+    /// The expression is over, and has this value.
+    Finished { value: u64 },
+    /// An operation asks for a register, to whose value it adds an offset.
+    Asking { register: Register, offset: i64 },
+}
+
+/// A stack of values, and what is left of an expression.
+#[derive(Drop)]
+pub(crate) struct Machine<R: Reader, L: ArrayLike<Item = u64>> {
+    expression: R,
+    rest: R,
+    encoding: Encoding,
+    stack: ValueStack<L>,
+    /// How many operations may still run.
+    left: u32,
+}
+
+impl<R: Reader, L: ArrayLike<Item = u64>> Model for Machine<R, L> {
+    ghost Value = { Course };
+
+    ghost view = { λ m. record {
+      program = record {
+        expression = R.stretch m.expression;
+        address_size = m.encoding.address_size;
+        capacity = L.capacity;
+      };
+      machine = record {
+        stack = m.stack.values;
+        place = (R.stretch m.rest).place - (R.stretch m.expression).place;
+        left = m.left;
+      };
+    } };
+
+    ghost invariant = { λ m. StandsAt (R.stretch m.expression) (R.stretch m.rest)
+        ((R.stretch m.rest).place - (R.stretch m.expression).place)
+        × (m.stack.address_size ≡ m.encoding.address_size) };
+}
+
+impl<R: Reader, L: ArrayLike<Item = u64>> Machine<R, L> {
+    /// The machine at the expression's start. Fails with `UnsupportedAddressSize` where addresses
+    /// haven't 1, 2, 4 or 8 bytes.
+    pub(crate) fn new_in(
+        alloc: Global,
+        expression: Expression<R>,
+        encoding: Encoding,
+    ) -> Result<Machine<R, L>>
+        ensures first { IfOk result (λ m. m ≡ record {
+          program = record {
+            expression = R.stretch expression.0;
+            address_size = encoding.address_size;
+            capacity = L.capacity;
+          };
+          machine = first_machine;
+        }) }
+        ensures size { IfOk result (λ m. is_size encoding.address_size ≡ true) }
+        ensures refused { IfErr result (λ e. IsNotMade encoding.address_size e) }
+        ensures memory { IsTrue L.is_made_in_place → is_size encoding.address_size ≡ true
+            → IsOk result }
+    {
+        let size = AddressSize::new(encoding.address_size)?;
+        let stack = ValueStack::new_in(alloc, size)?;
+        Ok(Machine {
+            expression: expression.0,
+            rest: expression.0,
+            encoding,
+            stack,
+            left: OPERATION_LIMIT,
+        })
+    }
+
+    /// Puts a number plus an offset on the stack.
+    pub(crate) fn push_sum(&mut self, number: u64, offset: i64) -> Result<()>
+        ensures program { self.new.program ≡ self.old.program }
+        ensures changes { Changes self.old.program.capacity
+            (machine_with self.old.program number offset self.old.machine) result self.new.machine }
+    {
+        self.stack.push_sum(number, offset)
+    }
+
+    /// Runs to the expression's end, until an operation asks for a register, or to the first
+    /// refusal.
+    pub(crate) fn run(&mut self) -> Result<Stop>
+        ensures program { self.new.program ≡ self.old.program }
+        ensures stops { Stops self.old.program.capacity
+            (run self.old.program self.old.machine) result self.new.machine }
+    {
+        while !self.is_at_end() {
+            if let Some(stop) = self.step()? {
+                return Ok(stop);
+            }
+        }
+        let value = self.top()?;
+        Ok(Stop::Finished { value })
+    }
+
+    /// The top of the stack.
+    fn top(&self) -> Result<u64>
+        ensures { top_of self.now.machine.stack ≡ result }
+    {
+        self.stack.get(0)
+    }
+
+    /// Whether the expression is over.
+    fn is_at_end(&self) -> bool
+        ensures { result ≡ (self.now.machine.place == length self.now.program.expression.bytes) }
+    {
+        self.rest.is_empty()
+    }
+
+    /// Runs the operation at the machine's place.
+    #[inline(always)]
+    fn step(&mut self) -> Result<Option<Stop>>
+        ensures program { self.new.program ≡ self.old.program }
+        ensures comes { Comes self.old.program.capacity
+            (operation_step self.old.program self.old.machine) result self.new.machine }
+    {
+        if self.left == 0 {
+            return Err(Error::TooManyIterations);
+        }
+        self.left -= 1;
+        let mut rest = self.rest;
+        let operation = Operation::parse(&mut rest, self.encoding)?;
+        self.rest = rest;
+        self.perform(operation)
+    }
+
+    /// Does what an operation does, at whose end the machine stands.
+    #[inline(always)]
+    fn perform(&mut self, operation: Operation) -> Result<Option<Stop>>
+        ensures program { self.new.program ≡ self.old.program }
+        ensures comes { Comes self.old.program.capacity
+            (state_by_operation self.old.program self.old.machine operation)
+            result self.new.machine }
+    {
+        match operation {
+            Operation::RegisterOffset { register, offset } => {
+                Ok(Some(Stop::Asking { register, offset }))
+            }
+            _ => {
+                self.change(operation)?;
+                Ok(None)
+            }
+        }
+    }
+
+    /// Changes the stack and the place as an operation does.
+    #[inline(always)]
+    fn change(&mut self, operation: Operation) -> Result<()>
+        ensures program { self.new.program ≡ self.old.program }
+        ensures changes { Changes self.old.program.capacity
+            (machine_after self.old.program self.old.machine operation) result self.new.machine }
+    {
+        let branch = self.stack.branch(operation);
+        self.stack.apply(operation)?;
+        if let Some(target) = branch {
+            self.rest = behind_branch(self.expression, self.rest, target)?;
+        }
+        Ok(())
+    }
+}
+
+/// The place of a branch's target, which is counted from the operation's end, in an expression of
+/// this length.
+fn place_of_branch(len: u64, end: u64, target: i64) -> Result<u64>
+    ensures { result ≡ place_in len (pos end +ℤ target) }
+{
+    match end.checked_add_signed(target) {
+        Some(place) if place <= len => Ok(place),
+        Some(place) => Err(Error::BadBranchTarget(place)),
+        None => Err(Error::BadBranchTarget(end.wrapping_add_signed(target))),
+    }
+}
+
+/// What is left of an expression behind a branch's target, which is counted from `rest`, the
+/// operation's end.
+fn behind_branch<R: Reader>(expression: R, rest: R, target: i16) -> Result<R>
+    requires from { (R.stretch expression).place ≤ (R.stretch rest).place }
+    requires to { (R.stretch rest).place ≤ end_of (R.stretch expression) }
+    ensures { Gives R.stretch result (place_in (length (R.stretch expression).bytes)
+        (pos ((R.stretch rest).place - (R.stretch expression).place) +ℤ target)
+        and_then λ place. Ok (behind place (R.stretch expression))) }
+{
+    let end = rest.offset_from(&expression).into_u64();
+    let len = expression.len().into_u64();
+    let place = place_of_branch(len, end, i64::from(target))?;
+    let mut rest = expression;
+    rest.skip(R::Offset::from_u64(place)?)?;
+    Ok(rest)
+}

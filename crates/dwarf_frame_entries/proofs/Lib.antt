@@ -1,0 +1,9 @@
+pub mod AddressLookups
+pub mod Behind
+pub mod Each
+pub mod EntryLists
+pub mod EntryPlaces
+pub mod Laws
+pub mod Onward
+pub mod RowLookups
+pub mod UnwindTables

@@ -1,0 +1,14 @@
+pub mod AddressLookups
+pub mod Augmentations
+pub mod Entries
+pub mod EntryLists
+pub mod EntryPrograms
+pub mod EntryViews
+pub mod Getters
+pub mod HeadViews
+pub mod LetterViews
+pub mod Memory
+pub mod Parts
+pub mod SectionFdes
+pub mod UnwindTableLends
+pub mod UnwindTables

@@ -1,0 +1,211 @@
+//! What the augmentation of a CIE says (LSB 5.0, 10.6.1.1.1).
+ghost use Rattle.std.specs.Prelude.{◌≡◌, ◌≤◌, ◌<◌, length, Option, Some, None, option_map, OnOk, OnErr, Ok};
+ghost use Rattle.dwarf_endianity.specs.Answers.{Gives};
+ghost use Rattle.dwarf_readers.specs.Place.{Reads, ReadsAs};
+ghost use Rattle.dwarf_frame_rows.specs.EncodedPointer.{origins_of};
+ghost use Rattle.dwarf_frame_entries.specs.Augmentations.{augmentation_at, data_at, encoding_unless_omitted, letter_with_data, pointer_unless_omitted, with_letter, with_letters, no_letters, said_by_letters};
+ghost use Rattle.dwarf_frame_entries.specs.LetterViews.{IsBehindStart};
+
+use dwarf_constants::constants::DW_EH_PE_omit;
+use dwarf_constants::{DwEhPe, Error, Result};
+use dwarf_frame_rows::{
+    Pointer, PointerEncodingParameters, parse_encoded_pointer, parse_pointer_encoding,
+};
+use dwarf_readers::{Reader, ReaderOffset};
+
+/// What the letters of an augmentation say.
+#[derive(Debug, Clone, Copy, PartialEq, Eq)]
+pub struct Augmentation {
+    /// CIE and FDEs have a length and so many bytes of data (`z`).
+    pub has_data: bool,
+    /// How an FDE's pointer to language-specific data is encoded (`L`), if it has one.
+    pub lsda: Option<DwEhPe>,
+    /// The personality routine and how the pointer to it is encoded (`P`), if there is one.
+    pub personality: Option<(DwEhPe, Pointer)>,
+    /// How the addresses of FDEs are encoded (`R`), where they aren't plain.
+    pub fde_address_encoding: Option<DwEhPe>,
+    /// The frame is that of a signal handler (`S`).
+    pub is_signal_trampoline: bool,
+}
+
+/// Nothing is said.
+impl Default for Augmentation {
+    ghost use Rattle.std.specs.Prelude.{◌≡◌, None};
+    ghost use Rattle.dwarf_frame_entries.specs.Augmentations.{no_letters, said_by_letters};
+
+    ghost is_default = { λ said. said ≡ (no_letters None).augmentation };
+
+    fn default() -> Self {
+        Augmentation {
+            has_data: false,
+            lsda: None,
+            personality: None,
+            fde_address_encoding: None,
+            is_signal_trampoline: false,
+        }
+    }
+}
+
+// Reads a length and so many bytes of data.
+#[inline(always)]
+pub(crate) fn read_data<R: Reader>(input: &mut R) -> Result<R>
+    ensures { ReadsAs R.stretch result (data_at R.Offset.limit (R.stretch input.old))
+        (R.stretch input.new) }
+{
+    let length = input.read_uleb128()?;
+    input.split(R::Offset::from_u64(length)?)
+}
+
+// What the letters up to some place said, and the data that is left to the others, if there is any.
+#[derive(Drop)]
+struct LettersRead<R: Reader> {
+    said: Augmentation,
+    left: Option<R>,
+}
+
+impl<R: Reader> LettersRead<R> {
+    ghost use Rattle.dwarf_frame_entries.specs.LetterViews.{IsBehindStart, letters_view};
+
+    // Before any letter.
+    fn new(left: Option<R>) -> Self
+        ensures { letters_view R.stretch result ≡ no_letters (option_map R.stretch left) }
+    {
+        let said = Augmentation {
+            has_data: left.is_some(),
+            ..Augmentation::default()
+        };
+        LettersRead { said, left }
+    }
+
+    // Reads what one more letter says.
+    fn read(&mut self, letter: u8, parameters: &PointerEncodingParameters<'_, R>) -> Result<()>
+        requires { IsBehindStart (R.stretch parameters.now.section.now)
+            (letters_view R.stretch self.old) }
+        ensures read { Gives (λ _. letters_view R.stretch self.new) result (with_letter
+            (origins_of R.stretch parameters.now) letter (letters_view R.stretch self.old)) }
+        ensures placed { OnOk result (IsBehindStart (R.stretch parameters.now.section.now)
+            (letters_view R.stretch self.new)) }
+    {
+        if letter == b'S' {
+            self.said.is_signal_trampoline = true;
+            return Ok(());
+        }
+        if letter == b'B' {
+            return Ok(());
+        }
+        match self.left {
+            Some(left) => self.read_with_data(letter, left, parameters),
+            None => Err(Error::UnknownAugmentation),
+        }
+    }
+
+    // The same of a letter that stands for data.
+    fn read_with_data(
+        &mut self,
+        letter: u8,
+        left: R,
+        parameters: &PointerEncodingParameters<'_, R>,
+    ) -> Result<()>
+        requires { (R.stretch parameters.now.section.now).place ≤ (R.stretch left).place }
+        ensures read { Gives (λ _. letters_view R.stretch self.new) result (letter_with_data
+            (origins_of R.stretch parameters.now) letter self.old.said (R.stretch left)) }
+        ensures placed { OnOk result (IsBehindStart (R.stretch parameters.now.section.now)
+            (letters_view R.stretch self.new)) }
+    {
+        let mut left = left;
+        match letter {
+            b'L' => {
+                let encoding = parse_pointer_encoding(&mut left)?;
+                self.said.lsda = unless_omitted(encoding);
+                self.left = Some(left);
+                Ok(())
+            }
+            b'P' => {
+                let encoding = parse_pointer_encoding(&mut left)?;
+                self.said.personality = read_pointer(encoding, parameters, &mut left)?;
+                self.left = Some(left);
+                Ok(())
+            }
+            b'R' => {
+                let encoding = parse_pointer_encoding(&mut left)?;
+                self.said.fde_address_encoding = Some(encoding);
+                self.left = Some(left);
+                Ok(())
+            }
+            _ => Err(Error::UnknownAugmentation),
+        }
+    }
+}
+
+// The encoding, unless it says that no pointer stands there.
+fn unless_omitted(encoding: DwEhPe) -> Option<DwEhPe>
+    ensures { result ≡ encoding_unless_omitted encoding.0 }
+{
+    if encoding == DW_EH_PE_omit {
+        None
+    } else {
+        Some(encoding)
+    }
+}
+
+// Reads a pointer of this encoding, unless none stands there.
+fn read_pointer<R: Reader>(
+    encoding: DwEhPe,
+    parameters: &PointerEncodingParameters<'_, R>,
+    input: &mut R,
+) -> Result<Option<(DwEhPe, Pointer)>>
+    requires { (R.stretch parameters.now.section.now).place ≤ (R.stretch input.old).place }
+    ensures { Reads result (pointer_unless_omitted (origins_of R.stretch parameters.now) encoding.0
+        (R.stretch input.old)) (R.stretch input.new) }
+{
+    if encoding == DW_EH_PE_omit {
+        return Ok(None);
+    }
+    let pointer = parse_encoded_pointer(encoding, parameters, input)?;
+    Ok(Some((encoding, pointer)))
+}
+
+// Reads what these letters say, from their data, if there is any.
+fn read_letters<R: Reader>(
+    text: R,
+    parameters: &PointerEncodingParameters<'_, R>,
+    left: Option<R>,
+) -> Result<Augmentation>
+    requires { IsBehindStart (R.stretch parameters.now.section.now)
+        (no_letters (option_map R.stretch left)) }
+    ensures { Gives (λ said. said) result (said_by_letters (origins_of R.stretch parameters.now)
+        (R.stretch text).bytes (option_map R.stretch left)) }
+{
+    let mut letters = text;
+    let mut read = LettersRead::new(left);
+    while !letters.is_empty() {
+        let letter = letters.read_u8()?;
+        read.read(letter, parameters)?;
+    }
+    Ok(read.said)
+}
+
+// Reads what an augmentation says whose text this is, and its data. No text says nothing.
+#[inline(always)]
+pub(crate) fn parse_augmentation<R: Reader>(
+    text: R,
+    parameters: &PointerEncodingParameters<'_, R>,
+    input: &mut R,
+) -> Result<Option<Augmentation>>
+    requires { (R.stretch parameters.now.section.now).place ≤ (R.stretch input.old).place }
+    ensures { Reads result (augmentation_at R.Offset.limit (origins_of R.stretch parameters.now)
+        (R.stretch text).bytes (R.stretch input.old)) (R.stretch input.new) }
+{
+    if text.is_empty() {
+        return Ok(None);
+    }
+    let mut others = text;
+    let first = others.read_u8()?;
+    if first == b'z' {
+        let data = read_data(input)?;
+        let said = read_letters(others, parameters, Some(data))?;
+        return Ok(Some(said));
+    }
+    let said = read_letters(text, parameters, None)?;
+    Ok(Some(said))
+}

@@ -1,0 +1,30 @@
+//! The entries of call frame information: the sections `.eh_frame` and `.debug_frame`, their CIEs and
+//! their FDEs (DWARF 5, 6.4.1; LSB 5.0, 10.6.1), over any reader.
+#![tactic(auto)]
+
+mod augmentation;
+mod cie;
+mod entries;
+mod entry_places;
+mod fde;
+mod parse;
+mod programs;
+mod section;
+mod table;
+
+pub use augmentation::Augmentation;
+pub use cie::CommonInformationEntry;
+pub use dwarf_frame_instructions::{CallFrameInstruction, CallFrameInstructionIter};
+pub use dwarf_frame_rows::{
+    _UnwindSectionPrivate, BaseAddresses, CieOffsetEncoding, Pointer, SectionBaseAddresses,
+    UnwindContext, UnwindContextStorage, UnwindOffset, UnwindTableRow,
+};
+pub use dwarf_frame_sections::{DebugFrame, EhFrame};
+pub use entries::{CfiEntriesIter, CieOrFde, Entry};
+pub use entry_places::{
+    listed_entries_stand_at_their_offsets, listed_fdes_are_of_their_section,
+    listed_fdes_stand_at_their_offsets,
+};
+pub use fde::{FrameDescriptionEntry, PartialFrameDescriptionEntry};
+pub use section::UnwindSection;
+pub use table::UnwindTable;

@@ -1,0 +1,148 @@
+//! The instructions of entries, and the rows that they make.
+ghost use Rattle.std.specs.Prelude.{◌≡◌};
+ghost use Rattle.dwarf_frame_rows.specs.Effects.{limits_of};
+ghost use Rattle.dwarf_frame_instructions.specs.Execution.{TakesNoMemory};
+ghost use Rattle.dwarf_frame_instructions.specs.Instructions.{instructions_of};
+ghost use Rattle.dwarf_frame_instructions.specs.ProgramRows.{IsRowFor, program_of};
+ghost use Rattle.dwarf_frame_sections.specs.Sections.{frame_section};
+ghost use Rattle.dwarf_frame_entries.specs.EntryPrograms.{cie_instructions, conventions_in, factors_of, fde_instructions, fde_program, fde_row};
+ghost use Rattle.dwarf_frame_entries.specs.EntryViews.{cie_view};
+
+use crate::cie::CommonInformationEntry;
+use crate::fde::FrameDescriptionEntry;
+use crate::section::UnwindSection;
+use dwarf_constants::Result;
+use dwarf_frame_instructions::{CallFrameInstructionIter, Factors, FrameProgram, row_for_address};
+use dwarf_frame_rows::{
+    _UnwindSectionPrivate, BaseAddresses, PointerEncodingParameters, UnwindContext,
+    UnwindContextStorage, UnwindTableRow,
+};
+use dwarf_readers::Reader;
+
+impl<R: Reader> CommonInformationEntry<R> {
+    /// The entry's instructions, which the programs of its FDEs begin with. The section is the one in
+    /// which the entry was read.
+    pub fn instructions<'a, Section: UnwindSection<R>>(
+        &self,
+        section: &'a Section,
+        bases: &'a BaseAddresses,
+    ) -> CallFrameInstructionIter<'a, R>
+    where
+        R: 'a,
+        ensures { result ≡ cie_instructions (frame_section R.Offset.limit Section.kind
+            (Section.size section.now) (R.stretch (Section.reader section.now)) bases.now)
+            (Section.extensions section.now) (cie_view R.stretch R.Offset.value self.now) }
+    {
+        self.instructions_in(self.instructions, None, section, bases)
+    }
+
+    // The instructions of a stretch, read as those of this entry and of its FDEs are. `func_base` is
+    // the start of the function that they are about.
+    fn instructions_in<'a, Section: UnwindSection<R>>(
+        &self,
+        input: R,
+        func_base: Option<u64>,
+        section: &'a Section,
+        bases: &'a BaseAddresses,
+    ) -> CallFrameInstructionIter<'a, R>
+    where
+        R: 'a,
+        ensures { result ≡ instructions_of
+            (conventions_in (frame_section R.Offset.limit Section.kind
+            (Section.size section.now) (R.stretch (Section.reader section.now)) bases.now)
+            (Section.extensions section.now) (cie_view R.stretch R.Offset.value self.now) func_base)
+            (R.stretch input) }
+    {
+        let parameters = PointerEncodingParameters {
+            bases: &bases.eh_frame,
+            func_base,
+            address_size: self.address_size,
+            section: section.section(),
+        };
+        CallFrameInstructionIter::new(
+            input,
+            self.fde_address_encoding(),
+            parameters,
+            section.vendor(),
+        )
+    }
+
+    // What the operands of instructions are multiplied by.
+    fn factors(&self) -> Factors
+        ensures { result ≡ factors_of (cie_view R.stretch R.Offset.value self.now) }
+    {
+        Factors {
+            code_alignment_factor: self.code_alignment_factor,
+            data_alignment_factor: self.data_alignment_factor,
+            address_size: self.address_size,
+        }
+    }
+}
+
+impl<R: Reader> FrameDescriptionEntry<R> {
+    /// The entry's own instructions, which those of its CIE come before. The section is the one in
+    /// which the entry was read.
+    pub fn instructions<'a, Section: UnwindSection<R>>(
+        &self,
+        section: &'a Section,
+        bases: &'a BaseAddresses,
+    ) -> CallFrameInstructionIter<'a, R>
+    where
+        R: 'a,
+        ensures { result ≡ fde_instructions (frame_section R.Offset.limit Section.kind
+            (Section.size section.now) (R.stretch (Section.reader section.now)) bases.now)
+            (Section.extensions section.now) self.now }
+    {
+        self.cie.instructions_in(
+            self.instructions,
+            Some(self.initial_address),
+            section,
+            bases,
+        )
+    }
+
+    /// The row for an address: the first of the entry's rows that contains it. Fails with the refusal
+    /// that stands before its end, with `NoUnwindInfoForAddress` where no row contains the address, and
+    /// with `OutOfMemory` in a storage that grows. What the context held before counts for nothing. The
+    /// section is the one in which the entry was read.
+    pub fn unwind_info_for_address<
+        'ctx,
+        Section: UnwindSection<R>,
+        S: UnwindContextStorage<R::Offset>,
+    >(
+        &self,
+        section: &Section,
+        bases: &BaseAddresses,
+        ctx: &'ctx mut UnwindContext<R::Offset, S>,
+        address: u64,
+    ) -> Result<&'ctx UnwindTableRow<R::Offset, S::Rules>>
+        ensures { let limits = limits_of S.Rules.capacity S.Stack.capacity in
+            IsRowFor R.Offset.value (TakesNoMemory S.Rules.is_made_in_place limits)
+            (fde_row limits (frame_section R.Offset.limit Section.kind
+            (Section.size section.now) (R.stretch (Section.reader section.now)) bases.now)
+            (Section.extensions section.now) self.now address) result }
+    {
+        row_for_address(ctx, self.program(section, bases), address)
+    }
+
+    // The entry's program.
+    pub(crate) fn program<'a, Section: UnwindSection<R>>(
+        &self,
+        section: &'a Section,
+        bases: &'a BaseAddresses,
+    ) -> FrameProgram<'a, R>
+    where
+        R: 'a,
+        ensures { program_of result ≡ fde_program (frame_section R.Offset.limit Section.kind
+            (Section.size section.now) (R.stretch (Section.reader section.now)) bases.now)
+            (Section.extensions section.now) self.now }
+    {
+        FrameProgram {
+            factors: self.cie.factors(),
+            initial_address: self.initial_address,
+            end_address: self.end_address(),
+            initial_instructions: self.cie.instructions(section, bases),
+            instructions: self.instructions(section, bases),
+        }
+    }
+}

@@ -1,9 +1,0 @@
-pub mod Halves
-pub mod HeaderRows
-pub mod Increasing
-pub mod Laws
-pub mod NamedEntries
-pub mod Onward
-pub mod RowsBetween
-pub mod RowsHalved
-pub mod TruthfulRows

@@ -1,5 +1,0 @@
-use Rattle.dwarf_frame_headers.proofs.Increasing.{finds}
-use Rattle.dwarf_frame_headers.proofs.search.increasing_starts_are_found.Goals as goal
-
-pub returns : goal.returns
-returns c = λ address rows up. finds address rows up

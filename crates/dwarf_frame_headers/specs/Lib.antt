@@ -1,5 +1,0 @@
-pub mod Header
-pub mod HeaderTable
-pub mod Halving
-pub mod HeaderEntries
-pub mod Truthful

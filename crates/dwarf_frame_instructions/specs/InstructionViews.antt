@@ -1,0 +1,66 @@
+-- Instructions of the code as those of the definitions: offsets and lengths are numbers.
+use Rattle.std.specs.Prelude.{ℕ, Option, option_map, Result, Ok, Err}
+use Rattle.dwarf_constants.specs.declared.constants.DwEhPe.{DwEhPe}
+use Rattle.dwarf_constants.specs.declared.common.Vendor.{Vendor}
+use Rattle.dwarf_constants.specs.declared.error.Error.{Error}
+use Rattle.dwarf_readers.specs.Place.{Stretch}
+use Rattle.dwarf_frame_rows.specs.declared.expression.UnwindExpression.{UnwindExpression}
+use Rattle.dwarf_frame_rows.specs.declared.pointer.PointerEncodingParameters.{PointerEncodingParameters}
+use Rattle.dwarf_frame_rows.specs.EncodedPointer.{origins_of}
+use Rattle.dwarf_frame_instructions.specs.declared.instructions.CallFrameInstruction.{CallFrameInstruction}
+use Rattle.dwarf_frame_instructions.specs.declared.instructions.CallFrameInstruction.TheVariants.{SetLoc, AdvanceLoc, DefCfa, DefCfaSf, DefCfaRegister, DefCfaOffset, DefCfaOffsetSf, DefCfaExpression, Undefined, SameValue, Offset, OffsetExtendedSf, ValOffset, ValOffsetSf, Register as InRegister, Expression, ValExpression, Restore, RememberState, RestoreState, ArgsSize, NegateRaState, Nop}
+use Rattle.dwarf_frame_instructions.specs.declared.instructions.Coding.{Coding}
+use Rattle.dwarf_frame_instructions.specs.Instructions.{Conventions}
+
+-- the place of an expression
+abbrev pub expression_as : {T U : Type 0} → (T → U) → UnwindExpression T → UnwindExpression U
+expression_as number e = record { offset = number e.offset; length = number e.length }
+
+-- an instruction
+abbrev pub instruction_as : {T U : Type 0} → (T → U) → CallFrameInstruction T → CallFrameInstruction U
+instruction_as number (SetLoc address) = SetLoc address
+instruction_as number (AdvanceLoc delta) = AdvanceLoc delta
+instruction_as number (DefCfa register offset) = DefCfa register offset
+instruction_as number (DefCfaSf register factored) = DefCfaSf register factored
+instruction_as number (DefCfaRegister register) = DefCfaRegister register
+instruction_as number (DefCfaOffset offset) = DefCfaOffset offset
+instruction_as number (DefCfaOffsetSf factored) = DefCfaOffsetSf factored
+instruction_as number (DefCfaExpression expression) = DefCfaExpression (expression_as number expression)
+instruction_as number (Undefined register) = Undefined register
+instruction_as number (SameValue register) = SameValue register
+instruction_as number (Offset register factored) = Offset register factored
+instruction_as number (OffsetExtendedSf register factored) = OffsetExtendedSf register factored
+instruction_as number (ValOffset register factored) = ValOffset register factored
+instruction_as number (ValOffsetSf register factored) = ValOffsetSf register factored
+instruction_as number (InRegister register source) = InRegister register source
+instruction_as number (Expression register expression) = Expression register (expression_as number expression)
+instruction_as number (ValExpression register expression) = ValExpression register (expression_as number expression)
+instruction_as number (Restore register) = Restore register
+instruction_as number RememberState = RememberState
+instruction_as number RestoreState = RestoreState
+instruction_as number (ArgsSize size) = ArgsSize size
+instruction_as number NegateRaState = NegateRaState
+instruction_as number Nop = Nop
+
+-- the conventions of the code's parameters
+abbrev pub conventions_of : {R : Type 0} → (R → Stretch) → ℕ → Option DwEhPe → PointerEncodingParameters R → Vendor → Conventions
+conventions_of stretch limit encoding parameters vendor = record {
+  encoding = option_map (λ e. e.0) encoding;
+  origins = origins_of stretch parameters;
+  vendor = vendor;
+  limit = limit;
+}
+
+-- the same of the code's record of them
+abbrev pub conventions_by : {R : Type 0} → (R → Stretch) → ℕ → Coding R → Conventions
+conventions_by stretch limit coding = record {
+  encoding = option_map (λ e. e.0) coding.address_encoding;
+  origins = record { bases = coding.bases.now; function = coding.func_base; section_place = (stretch coding.section).place; address_size = coding.address_size };
+  vendor = coding.vendor;
+  limit = limit;
+}
+
+-- an answer, with its value seen so
+abbrev pub answer_as : {X Y : Type 0} → (X → Y) → Result X Error → Result Y Error
+answer_as view (Ok x) = Ok (view x)
+answer_as view (Err e) = Err e

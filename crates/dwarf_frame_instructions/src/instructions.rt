@@ -1,0 +1,460 @@
+//! Call frame instructions (DWARF 5, 6.4.2 and 7.24).
+ghost use Rattle.std.specs.Prelude.{◌≡◌};
+ghost use Rattle.list_laws.specs.Items.{GivesNext};
+ghost use Rattle.dwarf_readers.specs.Place.{Reads, ReadsAs};
+ghost use Rattle.dwarf_frame_instructions.specs.Instructions.{all_but_locations, expression_at, instruction_at, instructions_of, listed_at, location_at, other_rules_and_others, others, register_at, rules_and_others, told_by_all_bits};
+ghost use Rattle.dwarf_frame_instructions.specs.InstructionViews.{conventions_by, conventions_of, expression_as, instruction_as};
+
+use dwarf_constants::constants::{
+    DW_CFA_AARCH64_negate_ra_state, DW_CFA_GNU_args_size, DW_CFA_advance_loc, DW_CFA_advance_loc1,
+    DW_CFA_advance_loc2, DW_CFA_advance_loc4, DW_CFA_def_cfa, DW_CFA_def_cfa_expression,
+    DW_CFA_def_cfa_offset, DW_CFA_def_cfa_offset_sf, DW_CFA_def_cfa_register, DW_CFA_def_cfa_sf,
+    DW_CFA_expression, DW_CFA_nop, DW_CFA_offset, DW_CFA_offset_extended,
+    DW_CFA_offset_extended_sf, DW_CFA_register, DW_CFA_remember_state, DW_CFA_restore,
+    DW_CFA_restore_extended, DW_CFA_restore_state, DW_CFA_same_value, DW_CFA_set_loc,
+    DW_CFA_undefined, DW_CFA_val_expression, DW_CFA_val_offset, DW_CFA_val_offset_sf,
+};
+use dwarf_constants::{DwCfa, DwEhPe, Error, Register, Result, Vendor};
+use dwarf_frame_rows::{
+    PointerEncodingParameters, SectionBaseAddresses, UnwindExpression, parse_encoded_pointer,
+};
+use dwarf_readers::{Reader, ReaderOffset};
+use std::marker::Model;
+
+/// A call frame instruction (DWARF 5, 6.4.2), its operands as they are encoded. A factored offset is
+/// to be multiplied by the data alignment factor.
+#[derive(Debug, Clone, Copy, PartialEq, Eq)]
+pub enum CallFrameInstruction<T> {
+    /// The next row starts at this address.
+    SetLoc {
+        address: u64,
+    },
+    /// The next row starts `delta` times the code alignment factor behind the last.
+    AdvanceLoc {
+        delta: u32,
+    },
+    /// The CFA is the register plus the offset in bytes.
+    DefCfa {
+        register: Register,
+        offset: u64,
+    },
+    /// The CFA is the register plus a factored offset.
+    DefCfaSf {
+        register: Register,
+        factored_offset: i64,
+    },
+    /// The CFA keeps its offset, and is counted from this register.
+    DefCfaRegister {
+        register: Register,
+    },
+    /// The CFA keeps its register, and is at this offset in bytes.
+    DefCfaOffset {
+        offset: u64,
+    },
+    /// The CFA keeps its register, and is at this factored offset.
+    DefCfaOffsetSf {
+        factored_offset: i64,
+    },
+    /// The CFA is the value of an expression.
+    DefCfaExpression {
+        expression: UnwindExpression<T>,
+    },
+    /// The register can't be recovered.
+    Undefined {
+        register: Register,
+    },
+    /// The register has the value that it has here.
+    SameValue {
+        register: Register,
+    },
+    /// The register is saved at the CFA plus a factored offset.
+    Offset {
+        register: Register,
+        factored_offset: u64,
+    },
+    /// The register is saved at the CFA plus a factored offset with a sign.
+    OffsetExtendedSf {
+        register: Register,
+        factored_offset: i64,
+    },
+    /// The register is the CFA plus a factored offset.
+    ValOffset {
+        register: Register,
+        factored_offset: u64,
+    },
+    /// The register is the CFA plus a factored offset with a sign.
+    ValOffsetSf {
+        register: Register,
+        factored_offset: i64,
+    },
+    /// The first register is the value of the second.
+    Register {
+        dest_register: Register,
+        src_register: Register,
+    },
+    /// The register is saved at the value of an expression.
+    Expression {
+        register: Register,
+        expression: UnwindExpression<T>,
+    },
+    /// The register is the value of an expression.
+    ValExpression {
+        register: Register,
+        expression: UnwindExpression<T>,
+    },
+    /// The register is found as the CIE's own instructions said.
+    Restore {
+        register: Register,
+    },
+    /// How all is found is kept for later.
+    RememberState,
+    /// What was kept last comes back.
+    RestoreState,
+    /// The caller pushed arguments of so many bytes (`DW_CFA_GNU_args_size`).
+    ArgsSize {
+        size: u64,
+    },
+    /// The return address changes between signed and not signed, on AArch64.
+    NegateRaState,
+    /// Nothing.
+    Nop,
+}
+
+/// What the bytes of instructions are read by. The section is a reader of its own: rows that hold a
+/// reference to it beside a context couldn't be asked for in a loop.
+#[derive(Debug, Clone, Copy)]
+pub(crate) struct Coding<'a, R> {
+    address_encoding: Option<DwEhPe>,
+    bases: &'a SectionBaseAddresses,
+    func_base: Option<u64>,
+    address_size: u8,
+    section: R,
+    vendor: Vendor,
+}
+
+/// The instructions of an entry, one after the other.
+#[derive(Debug, Drop)]
+pub struct CallFrameInstructionIter<'a, R: Reader> {
+    input: R,
+    coding: Coding<'a, R>,
+}
+
+/// An iterator is the list of what is to come.
+impl<'a, R: Reader> Model for CallFrameInstructionIter<'a, R> {
+    ghost use Rattle.std.specs.Prelude.{ℕ, List, Result};
+    ghost use Rattle.dwarf_constants.specs.declared.error.Error.{Error};
+    ghost use Rattle.dwarf_frame_instructions.specs.Instructions.{instructions_of};
+    ghost use Rattle.dwarf_frame_instructions.specs.InstructionViews.{conventions_by};
+    ghost use Rattle.dwarf_frame_instructions.specs.declared.instructions.CallFrameInstruction.{CallFrameInstruction};
+
+    ghost Value = { List (Result (CallFrameInstruction ℕ) Error) };
+
+    ghost view = { λ iter. instructions_of (conventions_by R.stretch R.Offset.limit iter.coding)
+        (R.stretch iter.input) };
+}
+
+impl<'a, R: Reader> CallFrameInstructionIter<'a, R> {
+    /// The instructions of a stretch of a section. `address_encoding` says how addresses are written in
+    /// them, if the entry's augmentation does. The stretch is one of the parameters' section.
+    pub fn new(
+        input: R,
+        address_encoding: Option<DwEhPe>,
+        parameters: PointerEncodingParameters<'a, R>,
+        vendor: Vendor,
+    ) -> Self
+        ensures { result ≡ instructions_of (conventions_of R.stretch R.Offset.limit
+            address_encoding parameters.entry vendor) (R.stretch input) }
+    {
+        let coding = Coding {
+            address_encoding,
+            bases: parameters.bases,
+            func_base: parameters.func_base,
+            address_size: parameters.address_size,
+            section: *parameters.section,
+            vendor,
+        };
+        CallFrameInstructionIter { input, coding }
+    }
+
+    /// The next instruction, or nothing behind the last. After an error it answers only `Ok(None)`.
+    #[inline(always)]
+    pub fn next(&mut self) -> Result<Option<CallFrameInstruction<R::Offset>>>
+        ensures { GivesNext (instruction_as R.Offset.value) result self.old self.new }
+    {
+        self.coding.next(&mut self.input)
+    }
+
+    /// What the instructions that are left are read by, and their bytes.
+    pub(crate) fn into_parts(self) -> (Coding<'a, R>, R)
+        ensures { self.entry ≡ instructions_of
+            (conventions_by R.stretch R.Offset.limit result.0) (R.stretch result.1) }
+    {
+        (self.coding, self.input)
+    }
+}
+
+/// std's iterator over the same instructions, the error as the last item.
+impl<'a, R: Reader> Iterator for CallFrameInstructionIter<'a, R> {
+    ghost use Rattle.std.specs.Iterator.{YieldsFirstBy, item_count};
+    ghost use Rattle.dwarf_frame_instructions.specs.InstructionViews.{answer_as, instruction_as};
+
+    type Item = Result<CallFrameInstruction<R::Offset>>;
+
+    ghost next_gives = { YieldsFirstBy (answer_as (instruction_as R.Offset.value))
+        (λ instructions. instructions) };
+
+    ghost remaining = { item_count (λ instructions. instructions) };
+
+    fn next(&mut self) -> Option<Result<CallFrameInstruction<R::Offset>>> {
+        CallFrameInstructionIter::next(self).transpose()
+    }
+}
+
+/// How many values the low six bits of an opcode have. They are an operand where the high two tell the
+/// instruction.
+const LOW_VALUES: u8 = 1 << 6;
+
+impl<'a, R: Reader> Coding<'a, R> {
+    /// Reads the next instruction, if bytes are left. After an error none are.
+    #[inline(always)]
+    pub(crate) fn next(&self, input: &mut R) -> Result<Option<CallFrameInstruction<R::Offset>>>
+        ensures { let conventions = conventions_by R.stretch R.Offset.limit self.now in
+            GivesNext (instruction_as R.Offset.value) result
+            (instructions_of conventions (R.stretch input.old))
+            (instructions_of conventions (R.stretch input.new)) }
+    {
+        if input.is_empty() {
+            return Ok(None);
+        }
+        match self.parse(input) {
+            Ok(instruction) => Ok(Some(instruction)),
+            Err(error) => {
+                input.empty();
+                Err(error)
+            }
+        }
+    }
+
+    // Reads an instruction, which the high two bits of its opcode tell, or all.
+    #[inline(always)]
+    fn parse(&self, input: &mut R) -> Result<CallFrameInstruction<R::Offset>>
+        ensures { ReadsAs (instruction_as R.Offset.value) result
+            (instruction_at (conventions_by R.stretch R.Offset.limit self.now)
+            (R.stretch input.old))
+            (R.stretch input.new) }
+    {
+        let opcode = input.read_u8()?;
+        let low = opcode % LOW_VALUES;
+        match DwCfa(opcode - low) {
+            DW_CFA_advance_loc => Ok(CallFrameInstruction::AdvanceLoc {
+                delta: u32::from(low),
+            }),
+            DW_CFA_offset => Ok(CallFrameInstruction::Offset {
+                register: Register(u16::from(low)),
+                factored_offset: input.read_uleb128()?,
+            }),
+            DW_CFA_restore => Ok(CallFrameInstruction::Restore {
+                register: Register(u16::from(low)),
+            }),
+            _ => self.parse_operands(DwCfa(opcode), input),
+        }
+    }
+
+    // Reads the operands of an instruction that all bits of its opcode tell: where the next row
+    // starts, or another.
+    #[inline(always)]
+    fn parse_operands(
+        &self,
+        opcode: DwCfa,
+        input: &mut R,
+    ) -> Result<CallFrameInstruction<R::Offset>>
+        ensures { ReadsAs (instruction_as R.Offset.value) result
+            (told_by_all_bits (conventions_by R.stretch R.Offset.limit self.now) opcode.0
+            (R.stretch input.old)) (R.stretch input.new) }
+    {
+        let instruction = match opcode {
+            DW_CFA_set_loc => CallFrameInstruction::SetLoc {
+                address: self.parse_location(input)?,
+            },
+            DW_CFA_advance_loc1 => CallFrameInstruction::AdvanceLoc {
+                delta: u32::from(input.read_u8()?),
+            },
+            DW_CFA_advance_loc2 => CallFrameInstruction::AdvanceLoc {
+                delta: u32::from(input.read_u16()?),
+            },
+            DW_CFA_advance_loc4 => CallFrameInstruction::AdvanceLoc {
+                delta: input.read_u32()?,
+            },
+            _ => return self.parse_cfa(opcode, input),
+        };
+        Ok(instruction)
+    }
+
+    // The same of how the CFA is found, or another.
+    #[inline(always)]
+    fn parse_cfa(&self, opcode: DwCfa, input: &mut R) -> Result<CallFrameInstruction<R::Offset>>
+        ensures { ReadsAs (instruction_as R.Offset.value) result
+            (listed_at (all_but_locations (conventions_by R.stretch R.Offset.limit self.now))
+            opcode.0
+            (R.stretch input.old)) (R.stretch input.new) }
+    {
+        let instruction = match opcode {
+            DW_CFA_def_cfa => CallFrameInstruction::DefCfa {
+                register: parse_register(input)?,
+                offset: input.read_uleb128()?,
+            },
+            DW_CFA_def_cfa_sf => CallFrameInstruction::DefCfaSf {
+                register: parse_register(input)?,
+                factored_offset: input.read_sleb128()?,
+            },
+            DW_CFA_def_cfa_register => CallFrameInstruction::DefCfaRegister {
+                register: parse_register(input)?,
+            },
+            DW_CFA_def_cfa_offset => CallFrameInstruction::DefCfaOffset {
+                offset: input.read_uleb128()?,
+            },
+            DW_CFA_def_cfa_offset_sf => CallFrameInstruction::DefCfaOffsetSf {
+                factored_offset: input.read_sleb128()?,
+            },
+            DW_CFA_def_cfa_expression => CallFrameInstruction::DefCfaExpression {
+                expression: self.parse_expression(input)?,
+            },
+            _ => return self.parse_rule(opcode, input),
+        };
+        Ok(instruction)
+    }
+
+    // The same of how a register is found, or another.
+    #[inline(always)]
+    fn parse_rule(&self, opcode: DwCfa, input: &mut R) -> Result<CallFrameInstruction<R::Offset>>
+        ensures { ReadsAs (instruction_as R.Offset.value) result
+            (listed_at (rules_and_others (conventions_by R.stretch R.Offset.limit self.now))
+            opcode.0
+            (R.stretch input.old)) (R.stretch input.new) }
+    {
+        let instruction = match opcode {
+            DW_CFA_undefined => CallFrameInstruction::Undefined {
+                register: parse_register(input)?,
+            },
+            DW_CFA_same_value => CallFrameInstruction::SameValue {
+                register: parse_register(input)?,
+            },
+            DW_CFA_offset_extended => CallFrameInstruction::Offset {
+                register: parse_register(input)?,
+                factored_offset: input.read_uleb128()?,
+            },
+            DW_CFA_offset_extended_sf => CallFrameInstruction::OffsetExtendedSf {
+                register: parse_register(input)?,
+                factored_offset: input.read_sleb128()?,
+            },
+            DW_CFA_val_offset => CallFrameInstruction::ValOffset {
+                register: parse_register(input)?,
+                factored_offset: input.read_uleb128()?,
+            },
+            DW_CFA_val_offset_sf => CallFrameInstruction::ValOffsetSf {
+                register: parse_register(input)?,
+                factored_offset: input.read_sleb128()?,
+            },
+            _ => return self.parse_other_rule(opcode, input),
+        };
+        Ok(instruction)
+    }
+
+    // The same of how a register is found, but not by an offset from the CFA, or another.
+    #[inline(always)]
+    fn parse_other_rule(
+        &self,
+        opcode: DwCfa,
+        input: &mut R,
+    ) -> Result<CallFrameInstruction<R::Offset>>
+        ensures { ReadsAs (instruction_as R.Offset.value) result
+            (listed_at (other_rules_and_others
+            (conventions_by R.stretch R.Offset.limit self.now)) opcode.0
+            (R.stretch input.old)) (R.stretch input.new) }
+    {
+        let instruction = match opcode {
+            DW_CFA_register => CallFrameInstruction::Register {
+                dest_register: parse_register(input)?,
+                src_register: parse_register(input)?,
+            },
+            DW_CFA_expression => CallFrameInstruction::Expression {
+                register: parse_register(input)?,
+                expression: self.parse_expression(input)?,
+            },
+            DW_CFA_val_expression => CallFrameInstruction::ValExpression {
+                register: parse_register(input)?,
+                expression: self.parse_expression(input)?,
+            },
+            DW_CFA_restore_extended => CallFrameInstruction::Restore {
+                register: parse_register(input)?,
+            },
+            _ => return self.parse_other(opcode, input),
+        };
+        Ok(instruction)
+    }
+
+    // The same of all other instructions.
+    #[inline(always)]
+    fn parse_other(&self, opcode: DwCfa, input: &mut R) -> Result<CallFrameInstruction<R::Offset>>
+        ensures { ReadsAs (instruction_as R.Offset.value) result
+            (listed_at (others (conventions_by R.stretch R.Offset.limit self.now)) opcode.0
+            (R.stretch input.old)) (R.stretch input.new) }
+    {
+        let instruction = match opcode {
+            DW_CFA_remember_state => CallFrameInstruction::RememberState,
+            DW_CFA_restore_state => CallFrameInstruction::RestoreState,
+            DW_CFA_nop => CallFrameInstruction::Nop,
+            DW_CFA_GNU_args_size => CallFrameInstruction::ArgsSize {
+                size: input.read_uleb128()?,
+            },
+            DW_CFA_AARCH64_negate_ra_state if self.vendor == Vendor::AArch64 => {
+                CallFrameInstruction::NegateRaState
+            }
+            _ => return Err(Error::UnknownCallFrameInstruction(opcode)),
+        };
+        Ok(instruction)
+    }
+
+    // Reads an address, which has to be direct.
+    #[inline(always)]
+    fn parse_location(&self, input: &mut R) -> Result<u64>
+        ensures { Reads result (location_at (conventions_by R.stretch R.Offset.limit self.now)
+            (R.stretch input.old)) (R.stretch input.new) }
+    {
+        let Some(encoding) = self.address_encoding else {
+            return input.read_address(self.address_size);
+        };
+        if input.offset_id().0 < self.section.offset_id().0 {
+            return Err(Error::OffsetOutOfBounds);
+        }
+        let parameters = PointerEncodingParameters {
+            bases: self.bases,
+            func_base: self.func_base,
+            address_size: self.address_size,
+            section: &self.section,
+        };
+        parse_encoded_pointer(encoding, &parameters, input)?.direct()
+    }
+
+    // Goes over an expression behind its length, and keeps its place.
+    #[inline(always)]
+    fn parse_expression(&self, input: &mut R) -> Result<UnwindExpression<R::Offset>>
+        ensures { ReadsAs (expression_as R.Offset.value) result (expression_at
+            (conventions_by R.stretch R.Offset.limit self.now) (R.stretch input.old))
+            (R.stretch input.new) }
+    {
+        let length = R::Offset::from_u64(input.read_uleb128()?)?;
+        let section = self.section.offset_id().0;
+        let offset = R::Offset::from_u64(input.offset_id().0.saturating_sub(section))?;
+        input.skip(length)?;
+        Ok(UnwindExpression { offset, length })
+    }
+}
+
+// Reads a register's number.
+#[inline(always)]
+fn parse_register<R: Reader>(input: &mut R) -> Result<Register>
+    ensures { Reads result (register_at (R.stretch input.old)) (R.stretch input.new) }
+{
+    Ok(Register(input.read_uleb128_u16()?))
+}

@@ -1,0 +1,87 @@
+-- The table of an entry: a line of headings, and one for each row.
+use Rattle.std.specs.Prelude.{ℕ, ◌*◌, ◌==◌, Bool, List, [], ◌++◌, codes, decimal, Option, Some, None, if◌then◌else◌}
+use Rattle.std.specs.FinMap.{get}
+use Rattle.std.specs.List.{flat_map}
+use Rattle.json_program.specs.Lines.{line}
+use Rattle.dwarf_frame_instructions.specs.Programs.{Rows}
+use Rattle.dwarf_frame_rows.specs.Row.{Row}
+use Rattle.dwarf_frame_rows.specs.declared.rules.CfaRule.{CfaRule}
+use Rattle.dwarf_frame_rows.specs.declared.rules.CfaRule.TheVariants as cfa
+use Rattle.dwarf_frame_rows.specs.declared.rules.RegisterRule.{RegisterRule}
+use Rattle.dwarf_frame_rows.specs.declared.rules.RegisterRule.TheVariants as rule
+use Rattle.frame_table_text.specs.Cells.{cell_of, hex_of, with_sign}
+use Rattle.frame_table_text.specs.Names.{register_in_full, register_name}
+use Rattle.frame_table_text.specs.declared.names.Machine.{Machine}
+
+-- what the lines of one table have in common: whose names registers have, how many bytes an address has, which column is that of the
+-- return address, the columns, and whether the table is shown at all
+pub record Table : Type 0 where
+  pub machine : Option Machine
+  pub address_size : ℕ
+  pub return_address : ℕ
+  pub columns : List ℕ
+  pub is_shown : Bool
+
+-- how the CFA is found: a register and an offset, or by an expression
+abbrev pub cfa_text : {T : Type 0} → Option Machine → CfaRule T → List ℕ
+cfa_text machine (cfa.RegisterAndOffset register offset) = register_name machine register.0 ++ with_sign offset
+cfa_text machine (cfa.Expression expression) = codes "exp"
+
+-- how a register is found: u where it can't be recovered, s where it has its own value, c and v behind the CFA
+abbrev pub rule_text : {T : Type 0} → Option Machine → RegisterRule T → List ℕ
+rule_text machine rule.Undefined = codes "u"
+rule_text machine rule.SameValue = codes "s"
+rule_text machine (rule.Offset offset) = codes "c" ++ with_sign offset
+rule_text machine (rule.ValOffset offset) = codes "v" ++ with_sign offset
+rule_text machine (rule.Register register) = register_in_full machine register.0
+rule_text machine (rule.Expression expression) = codes "exp"
+rule_text machine (rule.ValExpression expression) = codes "vexp"
+rule_text machine rule.Architectural = codes "arch"
+rule_text machine (rule.Constant n) = decimal n
+
+-- the same of a register that may have no rule, and then can't be recovered either
+abbrev pub found_text : {T : Type 0} → Option Machine → Option (RegisterRule T) → List ℕ
+found_text machine None = codes "u"
+found_text machine (Some rule) = rule_text machine rule
+
+-- the heading of a column
+abbrev pub column_name : Table → ℕ → List ℕ
+column_name table register = if register == table.return_address then codes "ra" else register_name table.machine register
+
+-- a cell for each column
+abbrev pub column_cells : Table → (ℕ → List ℕ) → List ℕ
+column_cells table text = flat_map (λ register. cell_of 5 (text register)) table.columns
+
+-- a line of a table: an address or its heading, the CFA, and the columns
+abbrev pub line_of_cells : Table → List ℕ → List ℕ → (ℕ → List ℕ) → List ℕ
+line_of_cells table address cfa text = line (cell_of (2 * table.address_size) address ++ cell_of 8 cfa ++ column_cells table text)
+
+-- the headings
+abbrev pub heading_line : Table → List ℕ
+heading_line table = line_of_cells table (codes "   LOC") (codes "CFA") (column_name table)
+
+-- how a row finds a register
+abbrev pub found_in : {T : Type 0} → Table → Row T → ℕ → List ℕ
+found_in table row register = found_text table.machine (get row.rules register)
+
+-- the line of a row: where it starts, the CFA, and how each column is found
+abbrev pub row_line : {T : Type 0} → Table → Row T → List ℕ
+row_line table row =
+    line_of_cells table (hex_of (2 * table.address_size) row.start) (cfa_text table.machine row.cfa) (found_in table row)
+
+-- a line, in a table that is shown
+abbrev pub if_shown : Table → List ℕ → List ℕ
+if_shown table text = if table.is_shown then text else []
+
+-- the same of a row that may not be given
+abbrev pub line_if_given : {T : Type 0} → Table → Option (Row T) → List ℕ
+line_if_given table None = []
+line_if_given table (Some row) = if_shown table (row_line table row)
+
+-- the lines of rows
+abbrev pub row_lines : {T : Type 0} → Table → List (Row T) → List ℕ
+row_lines table rows = flat_map (λ row. if_shown table (row_line table row)) rows
+
+-- the lines of a table
+abbrev pub table_text : Table → Rows ℕ → List ℕ
+table_text table rows = if_shown table (heading_line table) ++ row_lines table rows.rows

@@ -1,0 +1,74 @@
+//! Parts of lines, which go to the end of a text. An `Err` is for want of memory, and may leave a
+//! part behind.
+ghost use Rattle.std.specs.Prelude.{◌≡◌, ◌++◌, IfOk, OnOk, decimal, replicate, string_bytes};
+ghost use Rattle.std.specs.Fmt.{signed_decimal};
+ghost use Rattle.frame_table_text.specs.Cells.{cell_of, hex_of, with_sign};
+
+use std::alloc::{AllocError, Global};
+
+/// Appends a byte so many times.
+fn push_times(text: &mut Vec<u8>, byte: u8, count: usize) -> Result<(), AllocError>
+    ensures { OnOk result (text.new.items ≡ text.old.items ++ replicate count byte) }
+{
+    for i in 0..count {
+        text.push(byte)?;
+    }
+    Ok(())
+}
+
+/// Appends bytes as they are.
+pub fn push_bytes(text: &mut Vec<u8>, bytes: &[u8]) -> Result<(), AllocError>
+    ensures { OnOk result (text.new.items ≡ text.old.items ++ bytes.now) }
+{
+    text.extend_from_slice(bytes)
+}
+
+/// Appends a cell of a table: a text, the spaces that bring it to its width, and one more.
+pub(crate) fn push_cell(text: &mut Vec<u8>, width: usize, cell: &[u8]) -> Result<(), AllocError>
+    ensures { OnOk result (text.new.items ≡ text.old.items ++ cell_of width cell.now) }
+{
+    push_bytes(text, cell)?;
+    push_times(text, b' ', width.saturating_sub(cell.len()))?;
+    push_times(text, b' ', 1)
+}
+
+/// Appends a number in hexadecimal digits, with so many digits at least.
+pub fn push_hex(
+    alloc: Global,
+    text: &mut Vec<u8>,
+    width: usize,
+    number: u64,
+) -> Result<(), AllocError>
+    ensures { OnOk result (text.new.items ≡ text.old.items ++ hex_of width number) }
+{
+    let digits = format!(in alloc; "{number:x}")?;
+    push_times(text, b'0', width.saturating_sub(digits.len()))?;
+    push_bytes(text, digits.as_bytes())
+}
+
+/// Appends a number in decimal digits.
+pub fn push_decimal(alloc: Global, text: &mut Vec<u8>, number: u64) -> Result<(), AllocError>
+    ensures { OnOk result (text.new.items ≡ text.old.items ++ decimal number) }
+{
+    let digits = format!(in alloc; "{number}")?;
+    push_bytes(text, digits.as_bytes())
+}
+
+/// Appends a number in decimal digits, with a minus where it is negative.
+pub fn push_signed(alloc: Global, text: &mut Vec<u8>, number: i64) -> Result<(), AllocError>
+    ensures { OnOk result (text.new.items ≡ text.old.items ++ signed_decimal number) }
+{
+    let digits = format!(in alloc; "{number}")?;
+    push_bytes(text, digits.as_bytes())
+}
+
+/// A number with its sign, also where that is a plus.
+pub(crate) fn signed_text(alloc: Global, number: i64) -> Result<String, AllocError>
+    ensures { IfOk result (λ text. string_bytes text ≡ with_sign number) }
+{
+    if number < 0 {
+        format!(in alloc; "{number}")
+    } else {
+        format!(in alloc; "+{number}")
+    }
+}

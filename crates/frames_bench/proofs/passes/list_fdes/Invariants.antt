@@ -1,5 +1,0 @@
-use Rattle.std.proofs.Common.{length}
-use Rattle.frames_bench.proofs.passes.list_fdes.Given as goal
-
-abbrev pub decreases-entries : goal.decreases-entries
-decreases-entries g l = length l.entries.entries

@@ -1,0 +1,70 @@
+//! A program: one document in, text out.
+ghost use Rattle.std.specs.Prelude.{◌≡◌, ◌≢◌, ◌↔◌, ◌<◌, ℕ, List, length, false, IsTrue, IfOk, IfErr, IfSome, IsErrOf, OnErr, OnOk};
+ghost use Rattle.std.specs.Io.KnownBytes.{Appends};
+ghost use Rattle.json_program.specs.Stream.{AppendsFront};
+ghost use Rattle.json_program.specs.declared.transfer.TheConstants.{DOCUMENT_LIMIT};
+
+use crate::status::RunError;
+use crate::stream::{Sink, Source};
+use crate::transfer::read_document;
+use std::alloc::Global;
+
+/// What a program writes for a document, and how its run ends.
+pub trait Program {
+    /// How a run ends that wrote all its text.
+    type Ending;
+
+    /// The text for a document of these bytes.
+    ghost text_of: { List ℕ → List ℕ };
+
+    /// How the run over such a document ends.
+    ghost ending_of: { List ℕ → Self.Ending };
+
+    /// Writes what a document's bytes ask for.
+    fn answer<W: Sink>(
+        alloc: Global,
+        document: &[u8],
+        writer: &mut W,
+    ) -> Result<Self::Ending, RunError>
+        requires { W.has_failed writer.old ≡ false }
+        ensures text { OnOk result (Appends (W.contents writer.old) (W.contents writer.new)
+            (text_of document.now)) }
+        ensures ending { IfOk result (λ ending. ending ≡ ending_of document.now) }
+        ensures write { IsErrOf result RunError.Write ↔ IsTrue (W.has_failed writer.new) }
+        ensures no_read { IfErr result (λ error. error ≢ RunError.Read) }
+        ensures begun { OnErr result (AppendsFront (W.contents writer.old) (W.contents writer.new)
+            (text_of document.now)) };
+
+    /// Documents that are too long are answered alike, whatever their bytes are.
+    ghost too_long: { (one other : List ℕ)
+        → DOCUMENT_LIMIT < length one → DOCUMENT_LIMIT < length other
+        → (text_of one ≡ text_of other) × (ending_of one ≡ ending_of other) };
+
+    /// Reads a document, and writes the program's text for it.
+    ///
+    /// A run that stops before its end has written a front of the whole text, and nothing where
+    /// the document couldn't be read.
+    final fn run<R: Source, W: Sink>(
+        alloc: Global,
+        reader: &mut R,
+        writer: &mut W,
+    ) -> Result<Self::Ending, RunError>
+        requires reader { R.has_failed reader.old ≡ false }
+        requires writer { W.has_failed writer.old ≡ false }
+
+        ensures text { OnOk result (IfSome (R.remaining reader.old) (λ document.
+            Appends (W.contents writer.old) (W.contents writer.new) (text_of document))) }
+        ensures ending { IfOk result (λ ending.
+            IfSome (R.remaining reader.old) (λ document. ending ≡ ending_of document)) }
+
+        ensures read { IsErrOf result RunError.Read ↔ IsTrue (R.has_failed reader.new) }
+        ensures write { IsErrOf result RunError.Write ↔ IsTrue (W.has_failed writer.new) }
+        ensures begun { OnErr result (IfSome (R.remaining reader.old) (λ document.
+            AppendsFront (W.contents writer.old) (W.contents writer.new) (text_of document))) }
+        ensures unwritten { IsErrOf result RunError.Read
+            → W.contents writer.new ≡ W.contents writer.old }
+    {
+        let document = read_document(alloc, reader)?;
+        Self::answer(alloc, document.as_slice(), writer)
+    }
+}

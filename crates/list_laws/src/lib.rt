@@ -1,0 +1,54 @@
+//! What std's definitions of lists lack: the last of a list, the elements with the greatest key, and
+//! items that are read one after the other. The definitions stand in `specs`, and each function here
+//! is a law of them: it does nothing when the program runs.
+#![tactic(auto)]
+
+ghost use Rattle.std.specs.Prelude.{◌≡◌, ◌+◌, ℕ, Bool, true, false, List, [], ◌∷◌, ◌++◌, Option, Some, None, Result, length};
+ghost use Rattle.std.specs.List.{slice_index_or};
+ghost use Rattle.std.specs.List.Sorted.{IsNonDecreasingBy};
+ghost use Rattle.list_laws.specs.Greatest.{first_greatest, last_greatest, greater_of};
+ghost use Rattle.list_laws.specs.Items.{Answer, GivesNext, LeavesNone, Shrinks, items_from, items_of, rest_from, rest_of, step_taken};
+ghost use Rattle.list_laws.specs.Last.{last_of};
+
+/// A test holds or fails, and an option has a value or none.
+pub fn cases<A, P>()
+    ensures by_case { (b : Bool) → (b ≡ true → P) → (b ≡ false → P) → P }
+    ensures by_option { (o : Option A) → ((x : A) → o ≡ Some x → P) → (o ≡ None → P) → P }
+{}
+
+/// The last of a list, by what goes to its end or to its front.
+pub fn last_by_parts<A>()
+    ensures push { (xs : List A) (y : A) → last_of (xs ++ y ∷ []) ≡ Some y }
+    ensures cons { (x y : A) (xs : List A) → last_of xs ≡ Some y → last_of (x ∷ xs) ≡ Some y }
+    ensures none { (xs : List A) → last_of xs ≡ None → xs ≡ [] }
+    ensures at { (xs : List A) (i : ℕ) (d : A) → length xs ≡ i + 1
+        → last_of xs ≡ Some (slice_index_or xs i d) }
+{}
+
+/// The first of the elements with the greatest key, where one more goes to the front.
+pub fn greatest_by_parts<A>()
+    ensures { (key : A → ℕ) (x : A) (xs : List A)
+        → first_greatest key (x ∷ xs) ≡ greater_of key (Some x) (first_greatest key xs) }
+{}
+
+/// In a list in the order of the keys the last of the elements with the greatest key is the last.
+pub fn greatest_in_order<A>()
+    ensures { (key : A → ℕ) (xs : List A) → IsNonDecreasingBy key xs
+        → last_greatest key xs ≡ last_of xs }
+{}
+
+/// Items begin with what one step gives, and go on with those of what is left behind it.
+pub fn items_by_steps<S, A, E>()
+    ensures items { (size : S → ℕ) (step : S → Answer S A E) → Shrinks size step → (s : S)
+        → items_of size step s ≡ items_from (items_of size step) (step s) }
+    ensures rest { (size : S → ℕ) (step : S → Answer S A E) → Shrinks size step → (s : S)
+        → rest_of size step s ≡ rest_from (rest_of size step) s (step s) }
+{}
+
+/// A call that takes a step gives the first of the items that were to come, and leaves the others.
+pub fn calls_by_steps<S, A, E, X>()
+    ensures { (size : S → ℕ) (step : S → Answer S A E) → Shrinks size step
+        → (view : X → A) (result : Result (Option X) E) (s rest : S)
+        → step s ≡ step_taken view result rest → LeavesNone result (step rest)
+        → GivesNext view result (items_of size step s) (items_of size step rest) }
+{}

@@ -1,5 +1,0 @@
-use Rattle.lists.proofs.Laws.{gives-next}
-use Rattle.lists.proofs.calls_by_steps.Goals as goal
-
-pub returns : goal.returns
-returns g c = λ size step shrinks view result s rest. gives-next size step shrinks view result s rest

@@ -1,5 +1,0 @@
-use Rattle.lists.proofs.Laws.{last_greatest-sorted}
-use Rattle.lists.proofs.greatest_in_order.Goals as goal
-
-pub returns : goal.returns
-returns g c = λ key xs up. last_greatest-sorted key xs up

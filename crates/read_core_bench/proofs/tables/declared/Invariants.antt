@@ -1,8 +1,0 @@
-use Rattle.std.proofs.Common.{◌≡◌, Ok, false, take}
-use Rattle.read_core_bench.specs.Little.{little}
-use Rattle.read_core_bench.specs.Codes.{declared_in}
-use Rattle.read_core_bench.proofs.tables.declared.Given as goal
-
--- what the tables at the offsets so far declare
-abbrev pub invariant-loop-offset : goal.invariant-loop-offset
-invariant-loop-offset l = declared_in (take l.offset-index l.offsets) l.codes (little l.fn.section) ≡ Ok l.declared

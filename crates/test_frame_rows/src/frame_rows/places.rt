@@ -1,0 +1,126 @@
+//! The bytes of expressions, by their places in a section.
+
+use dwarf_constants::{Error, Format, ReaderOffsetId, Vendor};
+use dwarf_frame_rows::{_UnwindSectionPrivate, CieOffsetEncoding, UnwindExpression};
+use dwarf_operations::Expression;
+use dwarf_readers::{Reader, ReaderOffset, RunTimeEndian};
+use std::alloc::Global;
+use std::process::Abort;
+use test_readers::{Outcome, ReaderTest, over_each_reader};
+
+/// A section in which no entry is read.
+#[derive(Drop)]
+struct Frames<R>(R);
+
+impl<R: Reader> _UnwindSectionPrivate<R> for Frames<R> {
+    ghost use Rattle.std.specs.Prelude.{None, false, true};
+    ghost use Rattle.dwarf_constants.specs.declared.common.Vendor.TheVariants.{Default};
+    ghost use Rattle.dwarf_frame_rows.specs.declared.section.CieOffsetEncoding.TheVariants.{U32};
+
+    ghost reader = { λ frames. frames.0 };
+
+    ghost kind = { record {
+      ends_at_zero = true;
+      is_cie = λ format id. false;
+      id_width = λ format. U32;
+      cie_place = λ base id. None;
+      has_sizes = λ version. false;
+    } };
+
+    ghost size = { λ frames. 8 };
+
+    ghost extensions = { λ frames. Default };
+
+    fn section(&self) -> &R {
+        &self.0
+    }
+
+    fn has_zero_terminator() -> bool {
+        true
+    }
+
+    fn is_cie(_format: Format, _id: u64) -> bool {
+        false
+    }
+
+    fn cie_offset_encoding(_format: Format) -> CieOffsetEncoding {
+        CieOffsetEncoding::U32
+    }
+
+    fn resolve_cie_offset(&self, _base: R::Offset, _offset: R::Offset) -> Option<R::Offset> {
+        None
+    }
+
+    fn has_address_and_segment_sizes(_version: u8) -> bool {
+        false
+    }
+
+    fn address_size(&self) -> u8 {
+        8
+    }
+
+    fn vendor(&self) -> Vendor {
+        Vendor::Default
+    }
+}
+
+const SECTION: [u8; 6] = [0x10, 0x11, 0x12, 0x13, 0x14, 0x15];
+
+// An expression's offset and length, and its bytes, or the place at which the section has too few.
+static EXPRESSIONS: [(u8, u8, Result<&[u8], u64>); 12] = [
+    (0, 6, Ok(&[0x10, 0x11, 0x12, 0x13, 0x14, 0x15])),
+    (0, 0, Ok(&[])),
+    (0, 1, Ok(&[0x10])),
+    (1, 4, Ok(&[0x11, 0x12, 0x13, 0x14])),
+    (3, 3, Ok(&[0x13, 0x14, 0x15])),
+    (5, 1, Ok(&[0x15])),
+    (6, 0, Ok(&[])),
+    (0, 7, Err(0)),
+    (4, 3, Err(4)),
+    (6, 1, Err(6)),
+    (7, 0, Err(0)),
+    (255, 255, Err(0)),
+];
+
+// Whether the bytes are the ones that are wanted, at this place.
+fn is_wanted<R: Reader>(
+    alloc: Global,
+    found: Result<Expression<R>, Error>,
+    place: u8,
+    wanted: Result<&[u8], u64>,
+) -> Result<bool, Error> {
+    match (found, wanted) {
+        (Ok(Expression(bytes)), Ok(wanted)) => {
+            let place = ReaderOffsetId(u64::from(place));
+            Ok(bytes.offset_id() == place && bytes.to_slice(alloc)?.as_slice() == wanted)
+        }
+        (Err(error), Err(end)) => Ok(error == Error::UnexpectedEof(ReaderOffsetId(end))),
+        _ => Ok(false),
+    }
+}
+
+#[derive(Clone, Copy)]
+struct PlaceTest;
+
+impl<H: Abort> ReaderTest<H> for PlaceTest {
+    fn run<R: Reader>(&self, rt: &H, alloc: Global, reader: R) -> Outcome {
+        let frames = Frames(reader);
+        for (offset, length, wanted) in &EXPRESSIONS {
+            let expression = UnwindExpression {
+                offset: R::Offset::from_u8(*offset),
+                length: R::Offset::from_u8(*length),
+            };
+            let found = expression.get(&frames);
+            assert!(rt;
+                is_wanted(alloc, found, *offset, *wanted)?,
+                "{offset} {length}"
+            );
+        }
+        Ok(())
+    }
+}
+
+#[test]
+fn bytes_at_a_place(rt: HostRuntime) -> Outcome {
+    over_each_reader(&rt, rt.alloc(), &PlaceTest, &SECTION, RunTimeEndian::Little)
+}

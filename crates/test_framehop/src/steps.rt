@@ -1,0 +1,112 @@
+//! Steps over one module by an unwinder and a cache of x86_64, on the worked stack.
+use crate::worked::word_at;
+use framehop::x86_64::{CacheX86_64, UnwindRegsX86_64, UnwinderX86_64};
+use framehop::{
+    AllocationPolicy, DwarfUnwindContext, ExplicitModuleSectionInfo, FrameAddress, Generations,
+    MayAllocateDuringUnwind, Module, ModuleUnwindData,
+};
+use std::alloc::Global;
+use std::test::Fail;
+use test_readers::WORKED;
+
+/// An FDE that follows the worked section's: a function of sixteen bytes at 0x1010, whose CFA is the
+/// expression RSP + 8.
+const BY_EXPRESSION: [u8; 32] = [
+    0x18, 0, 0, 0, 0x38, 0, 0, 0, 0x10, 0x10, 0, 0, 0, 0, 0, 0, 0x10, 0, 0, 0, 0, 0, 0, 0, 0x0f, 2,
+    0x77, 8, 0, 0, 0, 0,
+];
+
+/// The registers ip, sp and bp.
+pub type Registers = (u64, u64, u64);
+
+/// A module at 0x100000 with this section `.eh_frame`, whose relative addresses count from there.
+fn module_with(alloc: Global, section: &[u8]) -> Result<Module<Vec<u8>>, Fail> {
+    let mut sections = ExplicitModuleSectionInfo {
+        base_svma: 0,
+        text_svma: None,
+        text: None,
+        stubs_svma: None,
+        stub_helper_svma: None,
+        got_svma: None,
+        unwind_info: None,
+        eh_frame_svma: None,
+        eh_frame: Some(section.to_vec(alloc)?),
+        eh_frame_hdr_svma: None,
+        eh_frame_hdr: None,
+        debug_frame: None,
+        text_segment_svma: None,
+        text_segment: None,
+    };
+    let name = String::from_str(alloc, "m")?;
+    let unwind_data = ModuleUnwindData::new(alloc, &mut sections)?;
+    Ok(Module::new(alloc, name, 0x100000..0x102000, 0x100000, unwind_data)?)
+}
+
+/// What a step answers in a module with this section, and the registers that it leaves.
+pub fn step<P: AllocationPolicy>(
+    rt: &HostRuntime,
+    section: &[u8],
+    (ip, sp, bp): Registers,
+) -> Result<(Option<u64>, Registers), Fail> {
+    let alloc = rt.alloc();
+    let mut generations = Generations::new();
+    let mut unwinder = UnwinderX86_64::<Vec<u8>, P>::new(alloc, &mut generations)?;
+    let module = module_with(alloc, section)?;
+    if unwinder.add_module(&mut generations, module).is_err() {
+        return Err(Fail::new("not loaded"));
+    }
+    let mut cache = CacheX86_64::<P>::new(alloc, DwarfUnwindContext::new(alloc)?)?;
+    let mut regs = UnwindRegsX86_64::new(ip, sp, bp);
+    let address = FrameAddress::from_instruction_pointer(ip);
+    let mut read = word_at;
+    let return_address = unwinder.unwind_frame(address, &mut regs, &mut cache, &mut read)?;
+    Ok((return_address, (regs.ip(), regs.sp(), regs.bp())))
+}
+
+#[test]
+fn a_row_gives_the_caller(rt: HostRuntime) -> Result<(), Fail> {
+    let mut both = WORKED[..52].to_vec(rt.alloc())?;
+    both.extend_from_slice(&BY_EXPRESSION)?;
+    for (place, section, frame, caller) in [
+        (
+            "before the push RSP is raised",
+            WORKED.as_slice(),
+            (0x101000, 0x10, 0x20),
+            (0x100300, 0x18, 0x20),
+        ),
+        (
+            "after the push RBP is restored",
+            WORKED.as_slice(),
+            (0x101002, 0x20, 0x20),
+            (0x100200, 0x30, 0x40),
+        ),
+        (
+            "in the body the frame pointer is followed",
+            WORKED.as_slice(),
+            (0x101004, 0x18, 0x20),
+            (0x100200, 0x30, 0x40),
+        ),
+        (
+            "by an expression RSP is raised",
+            both.as_slice(),
+            (0x101010, 0x10, 0x20),
+            (0x100300, 0x18, 0x20),
+        ),
+    ] {
+        let (return_address, registers) = step::<MayAllocateDuringUnwind>(&rt, section, frame)?;
+        assert!(rt; return_address == Some(caller.0), "{place}");
+        assert!(rt; registers == caller, "{place}");
+    }
+    Ok(())
+}
+
+#[test]
+fn a_module_tells_its_place(rt: HostRuntime) -> Result<(), Fail> {
+    let module = module_with(rt.alloc(), &WORKED)?;
+    let range = module.avma_range();
+    assert!(rt;
+        (module.name(), range.start, range.end, module.base_avma())
+            == ("m", 0x100000, 0x102000, 0x100000)
+    );
+    Ok(())
+}

@@ -1,8 +1,0 @@
-use Rattle.std.proofs.Common.{◌≡◌, drop}
-use Rattle.unwind_documents.specs.CommandViews.{sections_view}
-use Rattle.unwind_commands.specs.Sections.{range_named}
-use Rattle.unwind_commands.proofs.sections.range_of.Given as goal
-
--- the sections that are left have the range that all have under the name
-abbrev pub invariant-loop-section : goal.invariant-loop-section
-invariant-loop-section l = range_named l.name (sections_view (drop l.section-index l.sections)) ≡ range_named l.name (sections_view l.sections)

@@ -1,0 +1,214 @@
+//! Loads of modules.
+ghost use Rattle.std.specs.Prelude.{◌≡◌, codes, option_map, option_and_then, IfOk, string_bytes};
+ghost use Rattle.serde_json.specs.Find.{as_str, get};
+ghost use Rattle.serde_json.specs.View.{view, items_view};
+ghost use Rattle.json_program.specs.Json.{bytes_value, list_of, field, optional_value, text_value};
+ghost use Rattle.unwind_run_document.specs.Commands.{are_distinct, is_refused, load_in, names_of, range_between, section_in, section_name_in, sections_in, unload_in};
+ghost use Rattle.json_program.specs.Decoded.{Decodes, result_map};
+ghost use Rattle.unwind_run_document.specs.CommandViews.{load_view, made_view, section_view, sections_view, unload_view};
+
+use crate::command::{AddressRange, Load, Section, Unload};
+use crate::made::{Made, made_number};
+use json_program::check::{Checked, both, weighed, with_fault};
+use json_program::field::{address_field, address_in, has_only, needed, text_field};
+use json_program::json::bytes_in;
+use json_program::{FaultName, Refusal};
+use serde_json::Value;
+use std::alloc::{AllocError, Global};
+use std::collections::BTreeSet;
+
+/// Whether a section of this name is refused.
+#[tactic(auto, unfolding(crate::specs::Commands::is_refused))]
+fn is_refused(name: &str) -> bool
+    ensures { result ≡ is_refused name.now }
+{
+    [
+        "__unwind_info",
+        "__stubs",
+        "__stub_helper",
+        ".pdata",
+        ".rdata",
+        ".xdata",
+    ]
+    .contains(&name)
+}
+
+/// The name of a section.
+fn section_name(alloc: Global, object: &Value) -> Result<String, Refusal<FaultName>>
+    ensures { Decodes string_bytes result
+        (field section_name_in (codes "name") (view object.now)) }
+{
+    let text = text_field(object, "name")?;
+    if is_refused(text) {
+        return Err(Refusal::Fault(FaultName::BadCommand));
+    }
+    Ok(String::from_str(alloc, text)?)
+}
+
+/// The addresses of a start with its end, or neither.
+fn range_in(object: &Value) -> Checked<Option<AddressRange>>
+    ensures { result ≡ range_between (get (codes "start") (view object.now))
+        (get (codes "end") (view object.now)) }
+{
+    match (object.get("start"), object.get("end")) {
+        (None, None) => Ok(None),
+        (Some(start), Some(end)) => match both(address_in(start), address_in(end)) {
+            Ok((start, end)) => Ok(Some(AddressRange { start, end })),
+            Err(name) => Err(name),
+        },
+        (Some(_), None) | (None, Some(_)) => Err(FaultName::BadCommand),
+    }
+}
+
+/// The bytes of a section, where it has some.
+fn bytes_field(alloc: Global, object: &Value) -> Result<Option<Vec<u8>>, Refusal<FaultName>>
+    ensures { Decodes (option_map (λ bytes. bytes.items)) result
+        (optional_value bytes_value (get (codes "data") (view object.now))) }
+{
+    match object.get("data") {
+        Some(value) => Ok(Some(bytes_in(alloc, value)?)),
+        None => Ok(None),
+    }
+}
+
+/// A value that has to be a section.
+fn section_in(alloc: Global, value: &Value) -> Result<Section, Refusal<FaultName>>
+    ensures { Decodes section_view result (section_in (view value.now)) }
+{
+    if !has_only(value, &["name", "start", "end", "data"]) {
+        return Err(Refusal::Fault(FaultName::BadCommand));
+    }
+    let name = weighed(section_name(alloc, value))?;
+    let range = range_in(value);
+    let bytes = weighed(bytes_field(alloc, value))?;
+    let ((name, range), bytes) = both(both(name, range), bytes)?;
+    Ok(Section { name, range, bytes })
+}
+
+/// The name of a section, where it has one.
+fn name_of(section: &Value) -> Option<&str>
+    ensures { option_map (λ s. s.now) result
+        ≡ option_and_then as_str (get (codes "name") (view section.now)) }
+{
+    match section.get("name") {
+        Some(name) => name.as_str(),
+        None => None,
+    }
+}
+
+/// Whether no name stands twice.
+fn are_distinct(alloc: Global, items: &Vec<Value>) -> Result<bool, AllocError>
+    ensures { IfOk result (λ b. b ≡ are_distinct (names_of (items_view items.now.items))) }
+{
+    let mut before: BTreeSet<&str> = BTreeSet::new(alloc);
+    for item in items {
+        if let Some(name) = name_of(item) {
+            if !before.insert(name)? {
+                return Ok(false);
+            }
+        }
+    }
+    Ok(true)
+}
+
+/// Each element has to be a section.
+fn sections(alloc: Global, items: &Vec<Value>) -> Result<Vec<Section>, Refusal<FaultName>>
+    ensures { Decodes (λ sections. sections_view sections.items) result
+        (list_of section_in (items_view items.now.items)) }
+{
+    let mut sections = Vec::new(alloc);
+    let mut fault = None;
+    for item in items {
+        match weighed(section_in(alloc, item))? {
+            Ok(section) => sections.push(section)?,
+            Err(name) => fault = with_fault(fault, name),
+        }
+    }
+    match fault {
+        None => Ok(sections),
+        Some(name) => Err(Refusal::Fault(name)),
+    }
+}
+
+/// A value that has to be a list of sections, of which no two have one name.
+fn sections_in(alloc: Global, value: &Value) -> Result<Vec<Section>, Refusal<FaultName>>
+    ensures { Decodes (λ sections. sections_view sections.items) result
+        (sections_in (view value.now)) }
+{
+    let items = value.as_array().ok_or(FaultName::BadCommand)?;
+    if !are_distinct(alloc, items)? {
+        return Err(Refusal::Fault(FaultName::BadCommand));
+    }
+    sections(alloc, items)
+}
+
+/// The sections of a module.
+fn sections_field(alloc: Global, object: &Value) -> Result<Vec<Section>, Refusal<FaultName>>
+    ensures { Decodes (λ sections. sections_view sections.items) result
+        (field sections_in (codes "sections") (view object.now)) }
+{
+    sections_in(alloc, needed(object, "sections")?)
+}
+
+/// The name of a module.
+fn module_name(alloc: Global, object: &Value) -> Result<String, Refusal<FaultName>>
+    ensures { Decodes string_bytes result (field text_value (codes "name") (view object.now)) }
+{
+    Ok(String::from_str(alloc, text_field(object, "name")?)?)
+}
+
+/// A module for an unwinder that an earlier command made.
+pub(crate) fn load_in(
+    alloc: Global,
+    object: &Value,
+    made: &Made,
+) -> Result<Load, Refusal<FaultName>>
+    ensures { Decodes load_view result (load_in (made_view made.now) (view object.now)) }
+{
+    let names = [
+        "do",
+        "unwinder",
+        "name",
+        "start",
+        "end",
+        "base",
+        "base_svma",
+        "sections",
+    ];
+    if !has_only(object, &names) {
+        return Err(Refusal::Fault(FaultName::BadCommand));
+    }
+    let unwinder = made_number(object, "unwinder", made.unwinders);
+    let name = weighed(module_name(alloc, object))?;
+    let start = address_field(object, "start");
+    let end = address_field(object, "end");
+    let base = address_field(object, "base");
+    let base_svma = address_field(object, "base_svma");
+    let sections = weighed(sections_field(alloc, object))?;
+    let front = both(both(both(unwinder, name), start), end);
+    let ((((((unwinder, name), start), end), base), base_svma), sections) = both(
+        both(both(front, base), base_svma),
+        sections,
+    )?;
+    Ok(Load {
+        unwinder,
+        name,
+        start,
+        end,
+        base,
+        base_svma,
+        sections,
+    })
+}
+
+/// A module of an unwinder that an earlier command made, by its start.
+pub(crate) fn unload_in(object: &Value, made: &Made) -> Checked<Unload>
+    ensures { result_map unload_view result ≡ unload_in (made_view made.now) (view object.now) }
+{
+    if !has_only(object, &["do", "unwinder", "start"]) {
+        return Err(FaultName::BadCommand);
+    }
+    let unwinder = made_number(object, "unwinder", made.unwinders);
+    let (unwinder, start) = both(unwinder, address_field(object, "start"))?;
+    Ok(Unload { unwinder, start })
+}

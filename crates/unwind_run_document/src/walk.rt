@@ -1,0 +1,65 @@
+//! Walks.
+ghost use Rattle.std.specs.Prelude.{◌≡◌, codes};
+ghost use Rattle.serde_json.specs.View.{view};
+ghost use Rattle.json_program.specs.Decoded.{Decodes};
+ghost use Rattle.json_program.specs.Json.{field};
+ghost use Rattle.unwind_run_document.specs.Commands.{limit_value, walk_in};
+ghost use Rattle.unwind_run_document.specs.CommandViews.{made_view, walk_view};
+
+use crate::command::Walk;
+use crate::document::{Architecture, WALK_LIMIT};
+use crate::made::{Made, made_number};
+use crate::registers::registers_field;
+use crate::step::stack_field;
+use json_program::check::{Checked, both, weighed};
+use json_program::field::{address_field, has_only, number_field};
+use json_program::{FaultName, Refusal};
+use serde_json::Value;
+use std::alloc::Global;
+
+/// The most frames that a walk gives.
+fn limit_field(object: &Value) -> Checked<u64>
+    ensures { result ≡ field limit_value (codes "limit") (view object.now) }
+{
+    let limit = number_field(object, "limit")?;
+    if (1..=WALK_LIMIT).contains(&limit) {
+        Ok(limit)
+    } else {
+        Err(FaultName::BadNumber)
+    }
+}
+
+/// A walk over the frames of an unwinder with a cache that earlier commands made.
+pub(crate) fn walk_in(
+    alloc: Global,
+    arch: Architecture,
+    object: &Value,
+    made: &Made,
+) -> Result<Walk, Refusal<FaultName>>
+    ensures { Decodes walk_view result (walk_in arch (made_view made.now) (view object.now)) }
+{
+    if !has_only(
+        object,
+        &["do", "unwinder", "cache", "pc", "limit", "regs", "stack"],
+    ) {
+        return Err(Refusal::Fault(FaultName::BadCommand));
+    }
+    let unwinder = made_number(object, "unwinder", made.unwinders);
+    let cache = made_number(object, "cache", made.caches);
+    let pc = address_field(object, "pc");
+    let limit = limit_field(object);
+    let registers = registers_field(arch, object);
+    let stack = weighed(stack_field(alloc, object))?;
+    let (((((unwinder, cache), pc), limit), registers), stack) = both(
+        both(both(both(both(unwinder, cache), pc), limit), registers),
+        stack,
+    )?;
+    Ok(Walk {
+        unwinder,
+        cache,
+        pc,
+        limit,
+        registers,
+        stack,
+    })
+}

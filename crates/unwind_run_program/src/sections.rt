@@ -1,0 +1,133 @@
+//! The sections of a load, as a module is made of them.
+ghost use Rattle.std.specs.Prelude.{◌≡◌, ◌<◌, None, IsSome, IfSome, IfNone, length};
+ghost use Rattle.std.specs.List.{slice_index_or};
+ghost use Rattle.unwind_run_document.specs.CommandViews.{section_view, sections_view};
+ghost use Rattle.unwind_run_program.specs.Sections.{first_data_named, range_named};
+ghost use Rattle.unwind_run_document.specs.declared.command.Section.{Section};
+
+use crate::arch::DocumentArch;
+use crate::perform::DocumentModules;
+use framehop::{AllocationPolicy, BySections, DwarfUnwindContext, ModuleUnwindData};
+use framehop_modules::ModuleSectionInfo;
+use std::alloc::{AllocError, Global};
+use std::ops::Range;
+use unwind_run_document::{Section, StatedRegisters};
+
+/// The sections of a load, whose stated addresses count from an address.
+#[derive(Debug, Drop)]
+pub(crate) struct StatedSections {
+    base_svma: u64,
+    sections: Vec<Section>,
+}
+
+impl StatedSections {
+    ghost use Rattle.unwind_run_program.specs.SectionViews.{stated};
+    ghost use Rattle.unwind_run_program.specs.Sections.{sections_stated};
+
+    /// Sections whose stated addresses count from `base_svma`.
+    pub(crate) fn new(base_svma: u64, sections: Vec<Section>) -> Self
+        ensures { stated result ≡ sections_stated base_svma (sections_view sections.items) }
+    {
+        StatedSections {
+            base_svma,
+            sections,
+        }
+    }
+}
+
+/// The place of the first section that has this name and data.
+fn place_of(sections: &[Section], name: &[u8]) -> Option<usize>
+    ensures within { IfSome result (λ i. i < length sections.now) }
+    ensures named { IfSome result (λ i. (d : Section)
+        → (section_view (slice_index_or sections.now i d)).name ≡ name.now) }
+    ensures data_ { IfSome result (λ i. (d : Section)
+        → first_data_named name.now (sections_view sections.now)
+        ≡ (section_view (slice_index_or sections.now i d)).bytes) }
+    ensures has_data { IfSome result (λ _.
+        IsSome (first_data_named name.now (sections_view sections.now))) }
+    ensures none { IfNone result (first_data_named name.now (sections_view sections.now) ≡ None) }
+{
+    for (i, section) in sections.iter().enumerate() {
+        if section.name.as_bytes() == name && section.bytes.is_some() {
+            return Some(i);
+        }
+    }
+    None
+}
+
+/// The range of the first section that has this name and a range.
+fn range_of(sections: &[Section], name: &[u8]) -> Option<Range<u64>>
+    ensures { result ≡ range_named name.now (sections_view sections.now) }
+{
+    for section in sections {
+        if section.name.as_bytes() == name {
+            if let Some(range) = section.range {
+                return Some(range.start..range.end);
+            }
+        }
+    }
+    None
+}
+
+impl ModuleSectionInfo<Vec<u8>> for StatedSections {
+    ghost use Rattle.unwind_run_program.specs.SectionViews.{stated};
+
+    ghost sections = { stated };
+
+    fn base_svma(&self) -> u64 {
+        self.base_svma
+    }
+
+    fn section_svma_range(&mut self, name: &[u8]) -> Option<Range<u64>> {
+        range_of(&self.sections, name)
+    }
+
+    fn section_data(&mut self, name: &[u8]) -> Option<Vec<u8>> {
+        let place = place_of(&self.sections, name)?;
+        self.sections[place].bytes.take()
+    }
+
+    fn segment_svma_range(&mut self, _name: &[u8]) -> Option<Range<u64>> {
+        None
+    }
+
+    fn segment_data(&mut self, _name: &[u8]) -> Option<Vec<u8>> {
+        None
+    }
+}
+
+impl<A: DocumentArch, P: AllocationPolicy> DocumentModules for BySections<A, Vec<u8>, P> {
+    ghost use Rattle.unwind_run_program.specs.Sections.{data_stated};
+
+    ghost data_of = { data_stated };
+
+    fn unwind_data(
+        alloc: Global,
+        base_svma: u64,
+        sections: Vec<Section>,
+    ) -> Result<ModuleUnwindData<Vec<u8>>, AllocError> {
+        let mut info = StatedSections::new(base_svma, sections);
+        ModuleUnwindData::new(alloc, &mut info)
+    }
+
+    fn scanned_data(base_svma: u64, sections: Vec<Section>) -> ModuleUnwindData<Vec<u8>> {
+        let mut info = StatedSections::new(base_svma, sections);
+        ModuleUnwindData::scanning(&mut info)
+    }
+
+    ghost of_stated = { A.of_stated };
+
+    ghost shown = { A.shown };
+
+    fn stated_registers(stated: StatedRegisters) -> A::UnwindRegs {
+        A::stated_registers(stated)
+    }
+
+    fn registers_text(alloc: Global, registers: A::UnwindRegs) -> Result<String, AllocError> {
+        A::registers_text(alloc, registers)
+    }
+
+    fn unwind_context(alloc: Global) -> Result<DwarfUnwindContext<P>, AllocError> {
+        DwarfUnwindContext::new(alloc)
+    }
+}

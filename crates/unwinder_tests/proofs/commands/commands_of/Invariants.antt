@@ -1,6 +1,0 @@
-use Rattle.std.specs.List.{All}
-use Rattle.framehop_commands.specs.Commands.{OfCallback}
-use Rattle.unwinder_tests.proofs.commands.commands_of.Given as goal
-
-abbrev pub invariant-loop-number : goal.invariant-loop-number
-invariant-loop-number g l = All (OfCallback (goal.F-IsAlwaysCallable g)) l.commands.items

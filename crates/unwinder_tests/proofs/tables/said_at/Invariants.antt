@@ -1,7 +1,0 @@
-use Rattle.std.proofs.Common.{◌≡◌, drop}
-use Rattle.unwinder_tests.specs.Tables.{said_at}
-use Rattle.unwinder_tests.proofs.tables.said_at.Given as goal
-
--- no row so far is of the address
-abbrev pub invariant-loop-row : goal.invariant-loop-row
-invariant-loop-row l = said_at (drop l.row-index l.rows) l.address ≡ said_at l.rows l.address
