@@ -2,6 +2,7 @@
 #![tactic(auto)]
 
 mod arch;
+pub mod codes;
 mod common;
 pub mod constants;
 mod error;

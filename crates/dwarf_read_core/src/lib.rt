@@ -13,7 +13,7 @@ pub use abbrev::{
     AttributeSpecification, DebugAbbrev,
 };
 pub use addr::{AddrEntryIter, AddrHeader, AddrHeaderIter, DebugAddr};
-pub use dwarf_codes::{
+pub use dwarf_constants::codes::{
     DwAccess, DwAddr, DwAte, DwCc, DwDefaulted, DwDs, DwDsc, DwEnd, DwId, DwIdx, DwInl, DwLang,
     DwLle, DwLnct, DwLne, DwLns, DwMacinfo, DwMacro, DwOrd, DwRle, DwSect, DwSectV2, DwUt,
     DwVirtuality, DwVis,

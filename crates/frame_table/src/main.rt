@@ -5,7 +5,16 @@
 //! fault, and 1 where standard input or output failed or memory ran out.
 #![tactic(auto)]
 
-use frame_tables::{FrameTables, Program, Streamed};
+mod cies;
+mod document;
+mod fdes;
+mod front;
+mod listing;
+mod parts;
+mod program;
+
+use json_program::{Program, Streamed};
+use program::FrameTables;
 use std::io;
 use std::process::ExitCode;
 

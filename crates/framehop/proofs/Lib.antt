@@ -4,7 +4,10 @@ pub mod Coverages
 pub mod EntryIndex
 pub mod EntryPlaces
 pub mod Halves
+pub mod LaterSteps
 pub mod RowTrials
 pub mod SectionsMade
 pub mod TruthfulRoads
+pub mod WalkEnds
+pub mod WalkValues
 pub mod WholeFdes

@@ -8,3 +8,6 @@ pub mod RoadViews
 pub mod Roads
 pub mod TruthfulRoads
 pub mod UnwindData
+pub mod WalkLengths
+pub mod WalksAarch64
+pub mod WalksX86_64

@@ -9,6 +9,7 @@ mod dwarf;
 pub mod road_laws;
 mod roads;
 mod unwind_data;
+pub mod walk_laws;
 pub mod x86_64;
 
 pub use arch::BySections;

@@ -1,5 +1,5 @@
-//! Tests of modules' sections, of unwinders that share caches, and of walks, over modules that are
-//! tables, by public calls alone.
+//! Tests of modules' sections, of unwinders that share caches, of walks, and of what commands write
+//! in a session, over modules that are tables, by public calls alone.
 #![tactic(auto)]
 
 #[cfg(test)]
@@ -9,6 +9,8 @@ mod sections;
 #[cfg(test)]
 mod sessions;
 mod tables;
+#[cfg(test)]
+mod turns;
 #[cfg(test)]
 mod walks;
 #[cfg(test)]

@@ -1,0 +1,205 @@
+//! What a listing has of common information entries.
+ghost use Rattle.std.specs.Prelude.{◌≡◌, ◌++◌, IfOk, OnOk, []};
+ghost use Rattle.dwarf_endianity.specs.Answers.{Gives};
+ghost use Rattle.dwarf_frame_entries.specs.EntryViews.{cie_view};
+ghost use Rattle.dwarf_frame_instructions.specs.ProgramRows.{program_of};
+ghost use Rattle.dwarf_frame_rows.specs.Effects.{limits_of};
+ghost use Rattle.dwarf_frame_sections.specs.Sections.{frame_section};
+ghost use Rattle.frame_table.specs.Entries.{cie_factors, cie_front, cie_line, cie_part, cie_program, cie_register, part_or_fault, whole_cie_part};
+ghost use Rattle.frame_table.specs.EntryWrites.{WritesPart, setting_with};
+ghost use Rattle.frame_table.specs.FrontViews.{front_view};
+
+use crate::front::{Front, augmentation_of, front_at};
+use crate::parts::{end_part, factors_of, push_fault, push_front, table_of};
+use dwarf_frame_entries::{
+    BaseAddresses, CallFrameInstructionIter, CommonInformationEntry, UnwindContext,
+    UnwindContextStorage, UnwindSection,
+};
+use dwarf_frame_instructions::FrameProgram;
+use dwarf_frame_rows::{_UnwindSectionPrivate, PointerEncodingParameters};
+use dwarf_readers::{Reader, ReaderOffset};
+use frame_table_text::{Machine, push_bytes, push_decimal, push_signed};
+use std::alloc::{AllocError, Global};
+use std::collections::BTreeSet;
+
+/// No instructions.
+fn no_instructions<'a, R: Reader, Section: UnwindSection<R>>(
+    section: &'a Section,
+    bases: &'a BaseAddresses,
+) -> CallFrameInstructionIter<'a, R>
+where
+    R: 'a,
+    ensures { result ≡ [] }
+{
+    let mut none = *section.section();
+    none.empty();
+    let parameters = PointerEncodingParameters {
+        bases: &bases.eh_frame,
+        func_base: None,
+        address_size: section.address_size(),
+        section: section.section(),
+    };
+    CallFrameInstructionIter::new(none, None, parameters, section.vendor())
+}
+
+/// A program of a CIE's instructions alone, from 0 on.
+fn cie_program<'a, R: Reader, Section: UnwindSection<R>>(
+    section: &'a Section,
+    bases: &'a BaseAddresses,
+    cie: &CommonInformationEntry<R>,
+) -> FrameProgram<'a, R>
+where
+    R: 'a,
+    ensures { program_of result ≡ cie_program (frame_section R.Offset.limit Section.kind
+        (Section.size section.now) (R.stretch (Section.reader section.now)) bases.now)
+        (Section.extensions section.now) (cie_view R.stretch R.Offset.value cie.now) }
+{
+    FrameProgram {
+        factors: factors_of(cie),
+        initial_address: 0,
+        end_address: 0,
+        initial_instructions: cie.instructions(section, bases),
+        instructions: no_instructions(section, bases),
+    }
+}
+
+/// Appends the factors of a CIE.
+fn push_factors<R: Reader>(
+    alloc: Global,
+    cie: &CommonInformationEntry<R>,
+    text: &mut Vec<u8>,
+) -> Result<(), AllocError>
+    ensures { OnOk result (text.new.items
+        ≡ text.old.items ++ cie_factors (cie_view R.stretch R.Offset.value cie.now)) }
+{
+    push_bytes(text, b"\" cf=")?;
+    push_decimal(alloc, text, cie.code_alignment_factor())?;
+    push_bytes(text, b" df=")?;
+    push_signed(alloc, text, cie.data_alignment_factor())
+}
+
+/// Appends the column of the return address.
+fn push_register<R: Reader>(
+    alloc: Global,
+    cie: &CommonInformationEntry<R>,
+    text: &mut Vec<u8>,
+) -> Result<(), AllocError>
+    ensures { OnOk result (text.new.items
+        ≡ text.old.items ++ cie_register (cie_view R.stretch R.Offset.value cie.now)) }
+{
+    let register = cie.return_address_register();
+    push_bytes(text, b" ra=")?;
+    push_decimal(alloc, text, u64::from(register.0))?;
+    push_bytes(text, b"\n")
+}
+
+/// Appends the line of a CIE.
+fn push_cie_line<R: Reader>(
+    alloc: Global,
+    cie: &CommonInformationEntry<R>,
+    front: &Front<R>,
+    augmentation: &R,
+    text: &mut Vec<u8>,
+) -> Result<(), AllocError>
+    ensures { OnOk result (text.new.items ≡ text.old.items
+        ++ cie_line (cie_view R.stretch R.Offset.value cie.now) (front_view R.stretch front.now)
+        (R.stretch augmentation.now).bytes) }
+{
+    let offset = cie.offset().into_u64();
+    let length = cie.entry_len().into_u64();
+    let size = cie.address_size();
+    push_front(alloc, size, offset, length, front, text)?;
+    push_bytes(text, b" CIE \"")?;
+    push_reader(alloc, augmentation, text)?;
+    push_factors(alloc, cie, text)?;
+    push_register(alloc, cie, text)
+}
+
+/// Appends the bytes of a reader.
+fn push_reader<R: Reader>(alloc: Global, reader: &R, text: &mut Vec<u8>) -> Result<(), AllocError>
+    ensures { OnOk result (text.new.items ≡ text.old.items ++ (R.stretch reader.now).bytes) }
+{
+    match reader.to_slice(alloc) {
+        Ok(bytes) => push_bytes(text, &bytes),
+        Err(_) => Err(AllocError),
+    }
+}
+
+/// The front of a CIE, and the text of its augmentation.
+fn cie_front<R: Reader, Section: UnwindSection<R>>(
+    section: &Section,
+    bases: &BaseAddresses,
+    offset: R::Offset,
+) -> dwarf_constants::Result<(Front<R>, R)>
+    ensures { Gives (λ read. (front_view R.stretch read.0, (R.stretch read.1).bytes)) result
+        (cie_front (frame_section R.Offset.limit Section.kind
+        (Section.size section.now) (R.stretch (Section.reader section.now)) bases.now)
+        (R.Offset.value offset)) }
+{
+    let front = front_at(section, bases, offset)?;
+    let augmentation = augmentation_of(&front)?;
+    Ok((front, augmentation))
+}
+
+/// Appends what is listed of a CIE behind its front.
+fn push_whole_cie<R: Reader, Section: UnwindSection<R>, S: UnwindContextStorage<R::Offset>>(
+    alloc: Global,
+    section: &Section,
+    bases: &BaseAddresses,
+    machine: Option<Machine>,
+    context: &mut UnwindContext<R::Offset, S>,
+    cie: &CommonInformationEntry<R>,
+    front: &Front<R>,
+    augmentation: &R,
+    text: &mut Vec<u8>,
+) -> Result<Option<u64>, AllocError>
+    ensures { let limits = limits_of S.Rules.capacity S.Stack.capacity in
+        let s = setting_with limits (frame_section R.Offset.limit Section.kind
+        (Section.size section.now) (R.stretch (Section.reader section.now)) bases.now)
+        (Section.extensions section.now) machine in
+        IfOk result (λ end. WritesPart (whole_cie_part s (cie_view R.stretch R.Offset.value cie.now)
+        (front_view R.stretch front.now) (R.stretch augmentation.now).bytes)
+        text.old.items text.new.items end) }
+{
+    push_cie_line(alloc, cie, front, augmentation, text)?;
+    let none = BTreeSet::new(alloc);
+    let table = table_of(alloc, machine, cie, none, cie.instructions(section, bases))?;
+    let refusal = table.push(alloc, context, cie_program(section, bases, cie), text)?;
+    end_part(alloc, refusal, cie.offset().into_u64(), front.end, text)
+}
+
+/// Appends what is listed of a CIE.
+pub(crate) fn push_cie<R: Reader, Section: UnwindSection<R>, S: UnwindContextStorage<R::Offset>>(
+    alloc: Global,
+    section: &Section,
+    bases: &BaseAddresses,
+    machine: Option<Machine>,
+    context: &mut UnwindContext<R::Offset, S>,
+    cie: &CommonInformationEntry<R>,
+    text: &mut Vec<u8>,
+) -> Result<Option<u64>, AllocError>
+    ensures { let limits = limits_of S.Rules.capacity S.Stack.capacity in
+        let s = setting_with limits (frame_section R.Offset.limit Section.kind
+        (Section.size section.now) (R.stretch (Section.reader section.now)) bases.now)
+        (Section.extensions section.now) machine in
+        let view = cie_view R.stretch R.Offset.value cie.now in
+        IfOk result (λ end. WritesPart (part_or_fault view.head.offset (cie_part s view))
+        text.old.items text.new.items end) }
+{
+    match cie_front(section, bases, cie.offset()) {
+        Ok((front, augmentation)) => {
+            push_whole_cie(
+                alloc,
+                section,
+                bases,
+                machine,
+                context,
+                cie,
+                &front,
+                &augmentation,
+                text,
+            )
+        }
+        Err(error) => push_fault(alloc, error, cie.offset().into_u64(), text),
+    }
+}

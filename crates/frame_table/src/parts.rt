@@ -1,0 +1,120 @@
+//! What both kinds of entry have in a listing.
+ghost use Rattle.std.specs.Prelude.{◌≡◌, ◌*◌, ◌++◌, IfOk, OnOk, List, ℕ, Err, string_bytes};
+ghost use Rattle.dwarf_readers.specs.Place.{Stretch};
+ghost use Rattle.dwarf_frame_entries.specs.EntryViews.{cie_view};
+ghost use Rattle.dwarf_frame_entries.specs.EntryPrograms.{factors_of};
+ghost use Rattle.frame_table.specs.Entries.{fault_text, front_text, id_digits, part_or_fault, part_with, entry_table};
+ghost use Rattle.frame_table.specs.EntryWrites.{WritesPart};
+ghost use Rattle.frame_table.specs.FrontViews.{front_view};
+ghost use Rattle.frame_table_text.specs.TableViews.{table_view};
+
+use crate::front::Front;
+use dwarf_constants::Error;
+use dwarf_frame_entries::{CallFrameInstructionIter, CieOffsetEncoding, CommonInformationEntry};
+use dwarf_frame_instructions::Factors;
+use dwarf_readers::Reader;
+use frame_table_text::{Machine, Table, add_columns, push_bytes, push_hex};
+use std::alloc::{AllocError, Global};
+use std::collections::BTreeSet;
+
+/// The line of a fault: its name, and the place of the entry that has it.
+pub(crate) fn fault_text(alloc: Global, error: Error, place: u64) -> Result<String, AllocError>
+    ensures { IfOk result (λ text. string_bytes text ≡ fault_text error place) }
+{
+    format!(in alloc; "fault {error} at 0x{place:x}\n")
+}
+
+/// Appends the line of a fault, which ends a listing.
+pub(crate) fn push_fault(
+    alloc: Global,
+    error: Error,
+    place: u64,
+    text: &mut Vec<u8>,
+) -> Result<Option<u64>, AllocError>
+    ensures { IfOk result (λ end. WritesPart (part_or_fault place (Err error))
+        text.old.items text.new.items end) }
+{
+    push_bytes(text, fault_text(alloc, error, place)?.as_bytes())?;
+    Ok(None)
+}
+
+/// Ends what is written of an entry: where there is a refusal with its line.
+pub(crate) fn end_part(
+    alloc: Global,
+    refusal: Option<Error>,
+    place: u64,
+    end: u64,
+    text: &mut Vec<u8>,
+) -> Result<Option<u64>, AllocError>
+    ensures { (before body : List ℕ) → text.old.items ≡ before ++ body
+        → IfOk result (λ given. WritesPart (part_with place end body refusal)
+        before text.new.items given) }
+{
+    match refusal {
+        None => Ok(Some(end)),
+        Some(error) => push_fault(alloc, error, place, text),
+    }
+}
+
+/// How many digits an id has.
+fn id_digits(width: CieOffsetEncoding) -> usize
+    ensures { result ≡ id_digits width }
+{
+    match width {
+        CieOffsetEncoding::U32 => 8,
+        CieOffsetEncoding::U64 => 16,
+    }
+}
+
+/// Appends the front of an entry's line: where it stands, its length and its id.
+pub(crate) fn push_front<R>(
+    alloc: Global,
+    address_size: u8,
+    offset: u64,
+    length: u64,
+    front: &Front<R>,
+    text: &mut Vec<u8>,
+) -> Result<(), AllocError>
+    ensures { (stretch : R → Stretch) → OnOk result (text.new.items ≡ text.old.items
+        ++ front_text address_size (record { offset = offset; length = length })
+        (front_view stretch front.now)) }
+{
+    push_bytes(text, b"\n")?;
+    push_hex(alloc, text, 8, offset)?;
+    push_bytes(text, b" ")?;
+    push_hex(alloc, text, 2 * usize::from(address_size), length)?;
+    push_bytes(text, b" ")?;
+    push_hex(alloc, text, id_digits(front.width), front.id)
+}
+
+/// The table of an entry with a CIE: its columns are added to those of earlier instructions.
+pub(crate) fn table_of<'a, R: Reader>(
+    alloc: Global,
+    machine: Option<Machine>,
+    cie: &CommonInformationEntry<R>,
+    mut columns: BTreeSet<u16>,
+    own: CallFrameInstructionIter<'a, R>,
+) -> Result<Table, AllocError>
+    ensures { IfOk result (λ table. table_view table ≡ entry_table machine
+        (cie_view R.stretch R.Offset.value cie.now) columns.keys own.entry) }
+{
+    let nops = add_columns(&mut columns, own)?;
+    Ok(Table {
+        machine,
+        address_size: cie.address_size(),
+        return_address: cie.return_address_register(),
+        columns: columns.into_iter().collect(alloc)?,
+        is_shown: !nops,
+    })
+}
+
+/// What the operands of a CIE's and its FDEs' instructions are multiplied by.
+pub(crate) fn factors_of<R: Reader>(cie: &CommonInformationEntry<R>) -> Factors
+    ensures { result ≡ factors_of (cie_view R.stretch R.Offset.value cie.now) }
+{
+    Factors {
+        code_alignment_factor: cie.code_alignment_factor(),
+        data_alignment_factor: cie.data_alignment_factor(),
+        address_size: cie.address_size(),
+    }
+}

@@ -1,5 +1,0 @@
-//! Laws of how long walks are. The functions do nothing when the program runs.
-#![tactic(auto)]
-
-pub mod aarch64;
-pub mod x86_64;
