@@ -1,10 +1,10 @@
 //! Evaluations of one expression.
+
 ghost use Rattle.std.specs.Prelude.{◌≡◌};
 
 use arrayvec::ArrayVec;
 use dwarf_constants::{Encoding, Error, Format, Register, Result, X86_64};
-use dwarf_expressions::{Evaluation, EvaluationResult, EvaluationStorage, Value};
-use dwarf_operations::Expression;
+use dwarf_expressions::{Evaluation, EvaluationResult, EvaluationStorage, Expression, Value};
 use dwarf_readers::{EndianSlice, LittleEndian};
 use std::alloc::Global;
 
@@ -69,12 +69,11 @@ pub fn value_of(
         .ok_or(Error::UnsupportedEvaluation)
 }
 
-/// The sum of the values at the places of an entry of a PLT, so many in turn; what has no value
-/// counts as 0.
+/// The sum of `count` values, in turn at each address of an entry of a PLT. An error counts as 0.
 pub fn sum_of_values(alloc: Global, expression: EndianSlice<'_, LittleEndian>, count: u64) -> u64 {
     let mut sum: u64 = 0;
-    for place in 0..count {
-        let registers = Registers::at(0x1020 + place % 16);
+    for offset in 0..count {
+        let registers = Registers::at(0x1020 + offset % 16);
         let value = value_of(alloc, expression, registers).unwrap_or(0);
         sum = sum.wrapping_add(value);
     }

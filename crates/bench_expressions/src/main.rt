@@ -1,8 +1,8 @@
-//! Evaluates the expression that stands on standard input, for timing.
+//! Evaluates the expression on standard input, for timing.
 //!
-//! It prints the expression's value, where RSP is 0x7000, RIP 0x102c, and every other register 0. With the arguments `time`
-//! and a number it evaluates it so many times a round, each time at another of the 16 places of an entry of a PLT, and
-//! prints the least nanoseconds of all rounds with the sum of the values.
+//! It prints the expression's value, with RSP 0x7000, RIP 0x102c, and every other register 0. With the arguments `time` and
+//! n it evaluates the expression n times a round, each time at another of the 16 addresses of an entry of a PLT, and prints
+//! the least nanoseconds of all rounds with the sum of the values.
 #![tactic(auto)]
 
 mod evaluations;
@@ -30,7 +30,7 @@ fn main(rt: HostRuntime) -> Result<()> {
     }
 }
 
-/// Evaluates the expression so many times a round, and prints the least time.
+// Evaluates the expression n times a round, and prints the least time.
 fn print_time(
     rt: &HostRuntime,
     expression: EndianSlice<'_, LittleEndian>,

@@ -1,8 +1,8 @@
-//! Reads all entries of the section `.eh_frame` that stands on standard input, and all their rows, for timing.
+//! Reads all entries of the section `.eh_frame` on standard input, and all their rows, for timing.
 //!
 //! It prints how many entries there are, how many FDEs with their CIEs and how many rows, each with a sum of some of their
-//! parts. With the argument `time` and a number it makes each of the three passes so many times, in turn, and prints the
-//! least nanoseconds of each.
+//! parts. With the argument `time` and a number n it makes each of the three passes n times, in turn, and prints the least
+//! nanoseconds of each.
 #![tactic(auto)]
 
 mod passes;
@@ -18,7 +18,7 @@ use std::env;
 use std::io::Read;
 use std::time::{Duration, Instant};
 
-/// Where the section starts. Code before it has addresses too.
+/// The address at which the section starts. Code before it has addresses too.
 const START: u64 = 1 << 32;
 
 fn main(rt: HostRuntime) -> Result<()> {
@@ -33,7 +33,7 @@ fn main(rt: HostRuntime) -> Result<()> {
     print_passes(&rt, &section, &mut context, rounds)
 }
 
-/// Makes each pass, so many times again, and prints what came of it.
+/// Makes each pass, again as often as asked for, and prints its result.
 fn print_passes<R: Reader, Section: UnwindSection<R>, S: UnwindContextStorage<R::Offset>>(
     rt: &HostRuntime,
     section: &Section,
@@ -62,7 +62,7 @@ fn print_passes<R: Reader, Section: UnwindSection<R>, S: UnwindContextStorage<R:
     print_pass(rt, "rows", rows, least[2], rounds)
 }
 
-/// Prints what came of a pass, and the time, if any was taken.
+/// Prints the result of a pass, and the time, if it was taken.
 fn print_pass(
     rt: &HostRuntime,
     name: &str,

@@ -11,7 +11,7 @@ use dwarf_readers::{Reader, ReaderOffset};
 use dwarf_storage::ArrayLike;
 use std::alloc::Global;
 
-/// What a pass came to.
+/// The result of a pass.
 #[derive(Debug, Clone, Copy, PartialEq, Eq)]
 pub struct Tally {
     /// How many there are.
@@ -31,7 +31,7 @@ impl Tally {
     }
 }
 
-/// Lists the entries, and adds up where the CIEs stand. FDEs stay without their CIEs.
+/// Lists the entries, and adds up the offsets of the CIEs. FDEs are read without their CIEs.
 pub fn list_entries<R: Reader, Section: UnwindSection<R>>(
     section: &Section,
     bases: &BaseAddresses,
@@ -47,7 +47,7 @@ pub fn list_entries<R: Reader, Section: UnwindSection<R>>(
     Ok(tally)
 }
 
-/// The CIE that was read last, and where it stands.
+/// The CIE that was read last, and its offset.
 #[derive(Drop)]
 struct LastCie<R: Reader, Section: UnwindSection<R>> {
     offset: Section::Offset,
@@ -79,7 +79,7 @@ fn read_cie<R: Reader, Section: UnwindSection<R>>(
     Ok(cie)
 }
 
-/// The CIE at an offset, which is read only where it isn't the last one that was.
+/// The CIE at an offset, which is read only if it isn't the one that was read last.
 #[inline(always)]
 fn cie_by_last<R: Reader, Section: UnwindSection<R>>(
     section: &Section,
@@ -107,7 +107,7 @@ fn whole_fde<R: Reader, Section: UnwindSection<R>>(
     fde_with(partial, &cie)
 }
 
-/// Lists the FDEs with their CIEs, and adds up where they and their code stand.
+/// Lists the FDEs with their CIEs, and adds up their offsets and the starts of their code.
 pub fn list_fdes<R: Reader, Section: UnwindSection<R>>(
     section: &Section,
     bases: &BaseAddresses,
@@ -146,7 +146,7 @@ pub fn keep_fdes<R: Reader, Section: UnwindSection<R>>(
     Ok(fdes)
 }
 
-/// Some of what a row says, as one number.
+/// Some parts of a row, as one number.
 fn parts_of<T: ReaderOffset, Rules: ArrayLike<Item = RuledRegister<RegisterRule<T>>>>(
     row: &UnwindTableRow<T, Rules>,
 ) -> u64 {

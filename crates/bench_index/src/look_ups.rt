@@ -1,7 +1,7 @@
 //! Look-ups of addresses in steps of one size.
 
 ghost use Rattle.std.specs.Prelude.{◌≡◌, ◌≤◌, ◌^◌, ℕ, suc, length};
-ghost use Rattle.dwarf_frame_sections.specs.Sections.{FrameSection};
+ghost use Rattle.dwarf_frame_rows.specs.FrameSection.{FrameSection};
 ghost use Rattle.dwarf_frame_entries.specs.SectionFdes.{whole_fdes};
 ghost use Rattle.framehop.specs.CfiIndexView.{IsIndexOf};
 ghost use Rattle.bench_index.specs.LookUps.{found_among};
@@ -17,7 +17,7 @@ pub struct Tally {
     pub most_starts_read: u32,
 }
 
-/// Looks up so many addresses, which count from 0 on by `apart`, modulo 2^32.
+/// Looks up `count` addresses: from 0 on, `apart` bytes from one to the next, modulo 2^32.
 pub fn look_up_each(index: &DwarfCfiIndex, count: u32, apart: u32) -> Tally
     ensures found { (base_svma : ℕ) (section : FrameSection) → IsIndexOf index.now base_svma section
         → result.found ≡ found_among count apart base_svma section }

@@ -3,7 +3,7 @@ use framehop::{BaseAddresses, DwarfCfiIndex};
 use std::alloc::Global;
 use std::test::Fail;
 
-/// A section with a CIE, and an FDE for each multiple of 16 below 16 times so many, from 16 on.
+/// A section with a CIE, and an FDE for each multiple of 16 from 16 to 16 times their number.
 fn section_of(alloc: Global, fdes: u32) -> Result<Vec<u8>, Fail> {
     let cie = [
         0x10, 0, 0, 0, 0, 0, 0, 0, 1, 0, 1, 0x78, 0x10, 0, 0, 0, 0, 0, 0, 0,
@@ -19,7 +19,7 @@ fn section_of(alloc: Global, fdes: u32) -> Result<Vec<u8>, Fail> {
     Ok(bytes)
 }
 
-/// What look-ups 16 bytes apart come to, in an index of so many FDEs.
+/// What look-ups 16 bytes apart find in an index of this number of FDEs.
 fn tally_of(alloc: Global, fdes: u32, count: u32) -> Result<Tally, Fail> {
     let bytes = section_of(alloc, fdes)?;
     let index = DwarfCfiIndex::try_new_eh_frame(alloc, &bytes, &BaseAddresses::default(), 0)?;

@@ -5,7 +5,7 @@ use Rattle.std.proofs.lemmas.List.{take_more}
 use Rattle.std.proofs.lemmas.List.Sums.{sum_by_push}
 use Rattle.dwarf_constants.specs.declared.error.Error.{Error}
 use Rattle.dwarf_read_core.specs.AbbreviationTable.{Declaration, table_in}
-use Rattle.dwarf_readers.specs.Place.{Stretch, ◌>>=◌, number_at}
+use Rattle.dwarf_readers.specs.Stretch.{Stretch, ◌>>=◌, number_at}
 use Rattle.bench_read_core.specs.Codes.{declared_in, declared_up_to, tables_at_offsets, words_at}
 
 words_refused_here : (i : ℕ) (e : Error) (seen : List ℕ) (s t : Stretch) → words_at i s ≡ Ok (seen, t) → number_at 4 t ≡ Err e → words_at (suc i) s ≡ Err e

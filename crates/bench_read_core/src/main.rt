@@ -1,4 +1,4 @@
-//! Works over the bytes on standard input, for timing. The first byte says what is done.
+//! Reads the bytes on standard input, for timing. The first byte says what is read.
 //!
 //! - `n`: the rest is unsigned numbers of variable length. It prints their count, and their sum
 //!   modulo 2^64.

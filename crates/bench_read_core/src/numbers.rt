@@ -13,7 +13,7 @@ pub struct Tally {
     pub sum: u64,
 }
 
-/// Reads unsigned numbers to the end of the bytes. Fails with the first fault.
+/// Reads unsigned numbers to the end of the bytes. Fails with the first error.
 pub fn tally_numbers(mut reader: EndianSlice<'_, LittleEndian>) -> Result<Tally>
     ensures { Gives (λ t. (t.count, t.sum)) result (tally_in (little reader.entry)) }
 {

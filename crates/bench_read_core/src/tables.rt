@@ -1,4 +1,4 @@
-//! Tables of abbreviations, and where they stand.
+//! Tables of abbreviations, and their offsets.
 
 ghost use Rattle.std.specs.Prelude.{◌≡◌, ◌⊎◌, Ok, Err, IfOk, IfErr};
 ghost use Rattle.dwarf_constants.specs.declared.error.Error.TheVariants as error;
@@ -12,7 +12,7 @@ use dwarf_read_core::{
 };
 use std::alloc::Global;
 
-/// Reads so many offsets, each in four bytes. Fails where the bytes end.
+/// Reads `count` offsets, each in four bytes. Fails if the bytes end.
 pub fn read_offsets(
     alloc: Global,
     input: &mut EndianSlice<'_, LittleEndian>,
@@ -47,7 +47,7 @@ fn declared_codes(table: &Abbreviations, codes: u32) -> u64
 }
 
 /// How many of the codes up to `codes` the tables at these offsets declare, over all of them, modulo
-/// 2^64. Fails with the first fault of a table, in the order of the offsets.
+/// 2^64. Fails with the first error of a table, in the order of the offsets.
 pub fn declared(
     alloc: Global,
     section: EndianSlice<'_, LittleEndian>,

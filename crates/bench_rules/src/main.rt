@@ -30,7 +30,7 @@ fn main(rt: HostRuntime) -> Result<()> {
     }
 }
 
-/// A cache that has a rule for each frame.
+// A cache that has a rule for each frame.
 fn full_cache(
     rt: &HostRuntime,
     frames: &[Frame],
@@ -41,7 +41,7 @@ fn full_cache(
     Ok(cache)
 }
 
-/// Makes all steps once, and prints how many answered.
+// Makes all steps once, and prints how many answered.
 fn print_counts(rt: &HostRuntime, stack: &Stack, frames: &[Frame], rules: Rules) -> Result<()> {
     let mut cache = full_cache(rt, frames, rules)?;
     let tally = make_steps(&mut cache, stack, frames);
@@ -53,7 +53,7 @@ fn print_counts(rt: &HostRuntime, stack: &Stack, frames: &[Frame], rules: Rules)
     Ok(())
 }
 
-/// Makes all steps as often as there are rounds, and prints the least time.
+// Makes all steps as often as there are rounds, and prints the least time.
 fn print_time(rt: &HostRuntime, stack: &Stack, frames: &[Frame], rules: Rules) -> Result<()> {
     let mut cache = full_cache(rt, frames, rules)?;
     let mut least = Duration::MAX;

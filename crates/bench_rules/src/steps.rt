@@ -1,4 +1,5 @@
 //! Steps from frames whose rules are kept.
+
 ghost use Rattle.framehop_rules.specs.RuleMeaning.{IsValid};
 
 use framehop_rules::x86_64::{Reg, UnwindRegsX86_64, UnwindRuleX86_64};
@@ -47,7 +48,7 @@ impl Stack {
         Ok(Stack(words))
     }
 
-    /// The word at an address. `Err` where there is none.
+    // The word at an address. `Err` where there is none.
     fn word(&self, address: u64) -> Result<u64, ()> {
         let offset = address.checked_sub(STACK).ok_or(())?;
         if offset % 8 != 0 {
@@ -80,7 +81,7 @@ pub enum Rules {
     Pops,
 }
 
-/// One of the common rules.
+// One of the common rules.
 fn common_rule(step: usize) -> UnwindRuleX86_64
     ensures { IsValid result }
 {
@@ -94,7 +95,7 @@ fn common_rule(step: usize) -> UnwindRuleX86_64
     }
 }
 
-/// One of the rules that pop registers: RBP; RBX, RBP, R12; RBX, RBP, R12 to R15.
+// One of the rules that pop registers: RBP; RBX, RBP, R12; RBX, RBP, R12 to R15.
 fn pop_rule(step: usize) -> UnwindRuleX86_64
     ensures { IsValid result }
 {

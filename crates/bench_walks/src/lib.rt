@@ -18,8 +18,8 @@ use work::read_work;
 
 /// Reads from standard input what is said at `read_work`, and prints how many frames the walks give, and with the argument
 /// `time` the least nanoseconds of all rounds: of a module, of all walks through one cache that has seen them before, and of
-/// all walks with a new cache each, without and with the making of the caches. `Err` where the input ends too soon, where
-/// reading or writing failed, or memory was refused.
+/// all walks with a new cache each, without and with the making of the caches. Fails if the input ends too soon, if
+/// reading or writing fails, or if it fails to allocate.
 pub fn run<A: TimedArch, R: AllocGlobal + Input + Print + Env + Clock>(rt: &R) -> Result<()> {
     let mut input = Vec::new(rt.alloc());
     rt.reader().read_to_end(&mut input)?;

@@ -4,10 +4,9 @@ use crate::arch::TimedArch;
 use crate::work::{Walk, Work};
 use anyhow::{Result, bail};
 use framehop::{
-    Arch, BySections, DwarfUnwindContext, ExplicitModuleSectionInfo, Generations,
-    MayAllocateDuringUnwind, Module, ModuleUnwindData, Unwinder,
+    Arch, BySections, Cache, DwarfUnwindContext, ExplicitModuleSectionInfo, Generations,
+    MayAllocateDuringUnwind, Module, Unwinder, UnwinderInternal, load_module,
 };
-use framehop_unwinder::{Cache, UnwinderInternal};
 use std::alloc::Global;
 use std::time::{Clock, Duration, Instant};
 
@@ -45,31 +44,20 @@ fn sections_of(alloc: Global, work: &Work) -> Result<Sections> {
     })
 }
 
-/// The module with the section that is timed, and with its header, where it has one.
+/// The module with the section that is timed, and with its header, if it has one.
 fn module_of(alloc: Global, work: &Work, bytes: Sections) -> Result<Module<Vec<u8>>> {
     let Sections { section, header } = bytes;
+    let header_start = work.header.as_ref().map(|header| header.start);
     let mut sections = ExplicitModuleSectionInfo {
-        base_svma: 0,
         text_svma: Some(work.text..work.text),
-        text: None,
-        stubs_svma: None,
-        stub_helper_svma: None,
-        got_svma: None,
-        unwind_info: None,
         eh_frame_svma: Some(work.eh_frame..work.eh_frame),
         eh_frame: Some(section),
-        eh_frame_hdr_svma: work
-            .header
-            .as_ref()
-            .map(|header| header.start..header.start),
+        eh_frame_hdr_svma: header_start.map(|start| start..start),
         eh_frame_hdr: header,
-        debug_frame: None,
-        text_segment_svma: None,
-        text_segment: None,
+        ..Default::default()
     };
-    let unwind_data = ModuleUnwindData::new(alloc, &mut sections)?;
     let name = String::from_str(alloc, "timed")?;
-    Ok(Module::new(alloc, name, work.base..work.end, work.base, unwind_data)?)
+    Ok(load_module(alloc, name, work.base..work.end, work.base, &mut sections)?)
 }
 
 /// An unwinder with the module.
@@ -83,7 +71,8 @@ fn unwinder_of<A: TimedArch>(alloc: Global, work: &Work) -> Result<TimedUnwinder
     Ok(unwinder)
 }
 
-fn cache<A: TimedArch>(alloc: Global) -> Result<TimedCache<A>> {
+/// A new cache.
+fn new_cache<A: TimedArch>(alloc: Global) -> Result<TimedCache<A>> {
     Ok(Cache::new(alloc, DwarfUnwindContext::new(alloc)?)?)
 }
 
@@ -122,7 +111,7 @@ fn frames_of_each<A: TimedArch>(
 /// How many frames all walks give.
 pub fn frames_of_all<A: TimedArch>(alloc: Global, work: &Work) -> Result<u32> {
     let unwinder = unwinder_of::<A>(alloc, work)?;
-    let mut cache = cache::<A>(alloc)?;
+    let mut cache = new_cache::<A>(alloc)?;
     Ok(frames_of_each(&unwinder, &mut cache, &work.walks))
 }
 
@@ -136,7 +125,7 @@ fn fresh_walks<A: TimedArch>(
     let mut fresh = Duration::ZERO;
     let all = Instant::now(clock)?;
     for walk in walks {
-        let mut cache = cache::<A>(alloc)?;
+        let mut cache = new_cache::<A>(alloc)?;
         let start = Instant::now(clock)?;
         frames_of(unwinder, &mut cache, walk);
         fresh = fresh.saturating_add(start.elapsed(clock)?);
@@ -168,7 +157,7 @@ pub fn time<A: TimedArch>(clock: &impl Clock, alloc: Global, work: &Work) -> Res
         with_making: Duration::MAX,
     };
     let unwinder = unwinder_of::<A>(alloc, work)?;
-    let mut cache = cache::<A>(alloc)?;
+    let mut cache = new_cache::<A>(alloc)?;
     frames_of_each(&unwinder, &mut cache, &work.walks);
     for _ in 0..work.rounds {
         let start = Instant::now(clock)?;

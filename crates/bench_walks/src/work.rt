@@ -12,7 +12,7 @@ pub struct Stack {
 }
 
 impl Stack {
-    /// The word at an address. `Err` where there is none.
+    /// The word at an address. `Err` if there is none.
     pub fn word(&self, address: u64) -> std::result::Result<u64, ()> {
         let offset = address.checked_sub(self.start).ok_or(())?;
         if offset % 8 != 0 {
@@ -33,7 +33,7 @@ pub struct FirstRegisters {
     pub mask: u64,
 }
 
-/// A walk from a first frame, of at most so many frames.
+/// A walk from a first frame, of at most `limit` frames.
 #[derive(Drop)]
 pub struct Walk {
     pub pc: u64,
@@ -65,7 +65,7 @@ pub struct Work {
 /// Reads what is to be timed: the rounds, the module's base and its end, and the addresses of `.text` and `.eh_frame` as the
 /// module's sections have them; the number of walks, and of each the instruction pointer, this again or on aarch64 the link
 /// register, the stack pointer, the frame pointer, the bits of a code address, the most frames, and its stack's start, number
-/// of words, and words; the address of `.eh_frame_hdr`, its number of bytes, 0 where there is none, and these; and then the
+/// of words, and words; the address of `.eh_frame_hdr`, its number of bytes, 0 if there is none, and these; and then the
 /// bytes of `.eh_frame`. Rounds, counts and limits have four bytes, all else eight, the low byte first.
 pub fn read_work(alloc: Global, bytes: &[u8]) -> Result<Work> {
     let mut reader = EndianSlice::new(bytes, LittleEndian);

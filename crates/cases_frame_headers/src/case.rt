@@ -11,9 +11,9 @@ use std::str::SplitWhitespace;
 /// What is asked for.
 #[derive(Drop)]
 pub enum Case {
-    /// A header, its table, and look-ups in that.
+    /// A header, its table, and lookups in that.
     Table(Table),
-    /// The entries for addresses that a header leads to.
+    /// The FDEs for addresses by a header.
     Entries(Entries),
 }
 
@@ -37,8 +37,8 @@ impl Case {
     }
 }
 
-// The byte order, the size of an address, whether the addresses are known that pointers count from, the
-// section, addresses, and behind `behind` numbers of rows to go over.
+// The byte order, the size of an address, whether base addresses are known, the section, addresses,
+// and after the word `behind` numbers of rows to skip.
 fn parse_table(alloc: Global, mut words: SplitWhitespace<'_>) -> Result<Table> {
     let endian = if words.next() == Some("big") {
         RunTimeEndian::Big
@@ -70,7 +70,7 @@ fn parse_table(alloc: Global, mut words: SplitWhitespace<'_>) -> Result<Table> {
     })
 }
 
-// Where the header starts and its bytes, the same of `.eh_frame`, and addresses.
+// The address of the header and its bytes, those of `.eh_frame`, and addresses.
 fn parse_entries(alloc: Global, mut words: SplitWhitespace<'_>) -> Result<Entries> {
     let header_start = words.next().context("a start")?.parse::<u64>()?;
     let header = hex::decode(alloc, words.next().context("bytes")?.as_bytes())?;

@@ -1,4 +1,4 @@
-//! The entries and the rows for addresses, by a header.
+//! The FDEs and the rows for addresses, by a header.
 
 use anyhow::Result;
 use dwarf_call_frames::{EhFrameHdr, EhHdrTable};
@@ -11,7 +11,7 @@ use dwarf_readers::{EndianSlice, LittleEndian};
 use std::alloc::Global;
 use test_frame_rows::answer_line;
 
-/// A header, the section of call frames that it is about, and addresses.
+/// A header, its `.eh_frame`, and addresses.
 #[derive(Drop)]
 pub struct Entries {
     pub header_start: u64,
@@ -49,7 +49,7 @@ fn row_for<'ctx, 'a>(
     table.unwind_info_for_address(frame, bases, context, address, cie)
 }
 
-// An address, and how it is answered.
+// An address, and what is found for it.
 fn show_address(shown: &mut String, address: u64, offset: Answer<usize>, row: &str) -> Result<()> {
     match offset {
         Ok(offset) => write!(shown, "  {address:x}: {offset:x}, {row}\n")?,

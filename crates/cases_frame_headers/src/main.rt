@@ -1,5 +1,5 @@
-//! Shows what headers of call frames say, the rows of their tables, and look-ups in them: for each line
-//! of the input, which `scripts/frame-headers` writes as it writes what is to be shown.
+//! Shows headers of call frames, the rows of their tables, and lookups in them, for each line of
+//! the input, which `scripts/frame-headers` writes as it writes what is to be shown.
 #![tactic(auto)]
 
 mod case;

@@ -6,8 +6,9 @@ use dwarf_readers::{EndianSlice, TwoPieces};
 use std::alloc::Global;
 use test_readers::Backward;
 
-/// What is shown of bytes in one piece. In two pieces, cut at any place, it has to be the same. Stored
-/// back to front, where offsets have 32 bits, something else can come, which is shown too.
+/// What is shown of bytes in one piece. In two pieces, cut anywhere, it has to be the same. The
+/// reader that stores bytes back to front has offsets of 32 bits: if that gives something else, it
+/// is shown too.
 pub fn over_readers(alloc: Global, table: &Table) -> Result<String> {
     let bytes = table.bytes.as_slice();
     let mut shown = table.show(alloc, EndianSlice::new(bytes, table.endian))?;

@@ -1,4 +1,4 @@
-//! What headers say, the rows of their tables, and look-ups in these.
+//! Headers, the rows of their tables, and lookups in these.
 
 use anyhow::Result;
 use dwarf_call_frames::{BaseAddresses, EhFrameHdr, EhHdrTable, EhHdrTableIter, Pointer};
@@ -11,19 +11,19 @@ use std::alloc::Global;
 pub struct Table {
     pub endian: RunTimeEndian,
     pub address_size: u8,
-    /// The addresses that pointers count from are known.
+    /// Base addresses are known.
     pub is_based: bool,
     pub bytes: Vec<u8>,
     /// Addresses that are looked up.
     pub addresses: Vec<u64>,
-    /// Numbers of rows that are gone over.
+    /// Numbers of rows that are skipped.
     pub behind: Vec<usize>,
 }
 
 // How many rows are shown at most.
 const MOST_ROWS: usize = 9;
 
-// An address in hexadecimal, behind a `*` where the pointer to it is indirect.
+// An address in hexadecimal, after a `*` if the pointer to it is indirect.
 fn pointer_of(alloc: Global, pointer: Pointer) -> Result<String> {
     let text = match pointer {
         Pointer::Direct(address) => format!(in alloc; "{address:x}")?,
@@ -32,7 +32,7 @@ fn pointer_of(alloc: Global, pointer: Pointer) -> Result<String> {
     Ok(text)
 }
 
-// A row, a refusal, or "end".
+// A row, an error, or "end".
 fn row_of(alloc: Global, row: Result<Option<(Pointer, Pointer)>, Error>) -> Result<String> {
     match row {
         Ok(Some((start, target))) => {
@@ -61,7 +61,7 @@ fn show_rows<R: Reader>(
     Ok(())
 }
 
-// The row behind so many others, and how many are left then.
+// The row after some others, and how many are left then.
 fn show_behind<R: Reader>(
     alloc: Global,
     mut rows: EhHdrTableIter<'_, '_, R>,
@@ -77,8 +77,7 @@ fn show_behind<R: Reader>(
     Ok(())
 }
 
-// The pointer for an address with how far it lies behind the start of `.eh_frame`, or the refusal of
-// either.
+// The pointer for an address with its offset from the start of `.eh_frame`, or the error of either.
 fn show_address<R: Reader>(
     alloc: Global,
     table: &EhHdrTable<'_, R>,
@@ -103,7 +102,7 @@ fn show_address<R: Reader>(
 }
 
 impl Table {
-    // What the pointers count from.
+    // The base addresses.
     fn bases(&self) -> BaseAddresses {
         let bases = BaseAddresses::default();
         if self.is_based {

@@ -23,7 +23,8 @@ pub struct Case {
     which: Which,
     vendor: Vendor,
     bytes: Vec<u8>,
-    // The offset of the FDE whose rows are shown; without one, what the section has for addresses is.
+    // The offset of the FDE whose rows are shown; without one, what the section has for addresses is
+    // shown.
     fde: Option<u8>,
     addresses: Vec<u64>,
 }
@@ -70,7 +71,7 @@ impl Case {
         })
     }
 
-    /// What is shown of it.
+    /// What is shown of the line.
     pub fn show(&self, alloc: Global) -> Result<String> {
         match self.fde {
             Some(offset) => self.show_program(alloc, offset),
@@ -78,7 +79,7 @@ impl Case {
         }
     }
 
-    // The rows and the refusals of an entry in each storage.
+    // The rows and the errors of an entry in each storage.
     fn show_program(&self, alloc: Global, offset: u8) -> Result<String> {
         let program = Program {
             which: self.which,

@@ -7,7 +7,7 @@ use dwarf_frame_entries::{
 };
 use dwarf_readers::Reader;
 
-/// The addresses that the pointers of all sections count from.
+/// The addresses that the pointers of all sections are relative to.
 pub fn bases() -> BaseAddresses {
     BaseAddresses::default()
         .set_eh_frame(0x10000)
@@ -15,7 +15,7 @@ pub fn bases() -> BaseAddresses {
         .set_got(0x30000)
 }
 
-// A reader, whose type names the types that belong to it.
+// A reader, for which the type names the types that belong to it.
 #[derive(Clone, Copy)]
 struct Of<R: Reader> {
     reader: R,

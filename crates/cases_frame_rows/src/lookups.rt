@@ -18,7 +18,7 @@ pub struct Lookups<'a> {
     pub addresses: &'a [u64],
 }
 
-// A line for each address: the offset of the FDE for it or the refusal, and the row or the refusal.
+// A line for each address: the offset of the FDE for it or an error, and the row or an error.
 fn show_all<R: Reader, S: UnwindContextStorage<R::Offset>, Section: UnwindSection<R>>(
     alloc: Global,
     section: &Section,

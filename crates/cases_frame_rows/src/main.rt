@@ -1,5 +1,5 @@
-//! Shows the rows that entries of call frames make, and what sections have for addresses: for each line
-//! of the input, which `scripts/frame-rows` writes as it writes what is to be shown.
+//! Shows the rows that entries of call frames make, and what sections have for addresses, for each line
+//! of the input. `scripts/frame-rows` writes the input and the expected output.
 #![tactic(auto)]
 
 mod case;

@@ -25,7 +25,7 @@ pub struct Program<'a> {
 // How many rows are shown at most.
 const MOST_ROWS: usize = 1000;
 
-// Adds a line for each row of a table, and for the refusal, behind which there is no row.
+// Adds a line for each row of a table, and for the error, after which there is no row.
 fn show_table<R: Reader, S: UnwindContextStorage<R::Offset>>(
     alloc: Global,
     table: &mut UnwindTable<'_, '_, R, S>,
@@ -46,7 +46,7 @@ fn show_table<R: Reader, S: UnwindContextStorage<R::Offset>>(
     Ok(())
 }
 
-// Adds a line for each row of an entry, and for the refusal. One in its CIE comes at once.
+// Adds a line for each row of an entry, and for the error. An error in its CIE comes at once.
 fn show_rows<R: Reader, S: UnwindContextStorage<R::Offset>, Section: UnwindSection<R>>(
     alloc: Global,
     section: &Section,
@@ -64,7 +64,7 @@ fn show_rows<R: Reader, S: UnwindContextStorage<R::Offset>, Section: UnwindSecti
     }
 }
 
-// Adds a line for each address: the row for it, or the refusal.
+// Adds a line for each address: the row for it, or the error.
 fn show_addresses<R: Reader, S: UnwindContextStorage<R::Offset>, Section: UnwindSection<R>>(
     alloc: Global,
     section: &Section,
@@ -82,8 +82,8 @@ fn show_addresses<R: Reader, S: UnwindContextStorage<R::Offset>, Section: Unwind
     Ok(())
 }
 
-// The rows of an entry, one after the other and by address, and once more by the context that served
-// all of them.
+// The rows of an entry, one after the other and by address, and once more by the context that was used
+// for all of them.
 fn show_entry<R: Reader, S: UnwindContextStorage<R::Offset>, Section: UnwindSection<R>>(
     alloc: Global,
     section: &Section,

@@ -8,7 +8,7 @@ use test_readers::Backward;
 
 /// What is shown by calls that are generic over the reader and the storage.
 pub trait Shows {
-    /// What is shown of the whole of a section, by a context that may have served others.
+    /// What is shown of the whole of a section, by a context that may have been used before.
     fn show<R: Reader, S: UnwindContextStorage<R::Offset>>(
         &self,
         alloc: Global,
@@ -17,7 +17,7 @@ pub trait Shows {
     ) -> Result<String>;
 }
 
-// The first place at which bytes in two pieces that are cut there show something else, if there is one.
+// The first offset at which bytes in two pieces that are cut there show something else, if there is one.
 fn odd_cut<T: Shows, S: UnwindContextStorage<usize>>(
     alloc: Global,
     test: &T,
@@ -49,8 +49,8 @@ fn backward<T: Shows, S: UnwindContextStorage<u32>>(
     test.show(alloc, reader, context)
 }
 
-/// What is shown of bytes in one piece. Where they are in two pieces, cut at any place, or stored back
-/// to front, by a context of their own, whose offsets are short, it has to be the same.
+/// What is shown of bytes in one piece. It has to be the same if they are in two pieces, cut at any
+/// offset, or stored back to front, by a context of their own, whose offsets are short.
 pub fn over_readers<T: Shows, S: UnwindContextStorage<usize>, Short: UnwindContextStorage<u32>>(
     alloc: Global,
     test: &T,

@@ -1,6 +1,8 @@
 //! Storages of other sizes than the library's.
 
-ghost use Rattle.std.proofs.Common.{lit≤};
+ghost use Rattle.std.specs.Prelude.{None, Some, false, true};
+ghost use Rattle.std.proofs.Common.{lit≤, refl};
+ghost use Rattle.dwarf_frame_rows.specs.Effects.{TakesNoMemory, limits_of};
 
 use arrayvec::ArrayVec;
 use dwarf_frame_rows::{RegisterRule, RuledRegister, UnwindContextStorage, UnwindTableRow};
@@ -14,6 +16,14 @@ impl<T: ReaderOffset> UnwindContextStorage<T> for One {
 
     type Stack = ArrayVec<UnwindTableRow<T, ArrayVec<RuledRegister<RegisterRule<T>>, 1>>, 1>;
 
+    ghost limits = { limits_of (Some 1) (Some 1) };
+
+    ghost limited = { refl };
+
+    ghost never_allocates = { TakesNoMemory true (limits_of (Some 1) (Some 1)) };
+
+    ghost allocates_never = { (λ t. t, λ t. t) };
+
     ghost room = { lit≤ tt };
 }
 
@@ -25,6 +35,14 @@ impl<T: ReaderOffset> UnwindContextStorage<T> for Small {
 
     type Stack = ArrayVec<UnwindTableRow<T, ArrayVec<RuledRegister<RegisterRule<T>>, 3>>, 2>;
 
+    ghost limits = { limits_of (Some 3) (Some 2) };
+
+    ghost limited = { refl };
+
+    ghost never_allocates = { TakesNoMemory true (limits_of (Some 3) (Some 2)) };
+
+    ghost allocates_never = { (λ t. t, λ t. t) };
+
     ghost room = { lit≤ tt };
 }
 
@@ -35,6 +53,14 @@ impl<T: ReaderOffset> UnwindContextStorage<T> for Growing {
     type Rules = Vec<RuledRegister<RegisterRule<T>>>;
 
     type Stack = Vec<UnwindTableRow<T, Vec<RuledRegister<RegisterRule<T>>>>>;
+
+    ghost limits = { limits_of None None };
+
+    ghost limited = { refl };
+
+    ghost never_allocates = { TakesNoMemory true (limits_of None None) };
+
+    ghost allocates_never = { (λ t. t, λ t. t) };
 
     ghost room = { tt };
 }

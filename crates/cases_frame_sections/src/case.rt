@@ -14,16 +14,17 @@ use std::alloc::Global;
 pub struct Case {
     is_eh_frame: bool,
     vendor: Vendor,
-    // Where it starts.
+    // The address at which it starts.
     start: u64,
     bytes: Vec<u8>,
-    // What is written over each byte in turn; where nothing is, the entries are shown.
+    // What is written over each byte in turn. If this is empty, the entries are shown.
     damages: Vec<u8>,
 }
 
 impl Case {
-    /// Reads a line: which section it is, whose extensions are read, where it starts, its bytes in
-    /// hexadecimal, and numbers of which each is written over each byte in turn.
+    /// Reads a line: which section it is, whose extensions are read, the address at which it
+    /// starts, its bytes in hexadecimal, and numbers, each of which is written over each byte in
+    /// turn.
     pub fn parse(alloc: Global, line: &str) -> Result<Self> {
         let mut words = line.split_whitespace();
         let is_eh_frame = words.next() == Some("eh_frame");

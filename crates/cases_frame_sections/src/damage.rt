@@ -1,9 +1,9 @@
-//! Bytes that are changed, and digests.
+//! Damaged bytes, and digests.
 
 use anyhow::Result;
 use std::alloc::Global;
 
-/// The bytes with another one at a place.
+/// The bytes with another one at an index.
 pub fn damaged(alloc: Global, bytes: &[u8], place: usize, byte: u8) -> Result<Vec<u8>> {
     let mut changed = Vec::from_slice(alloc, bytes)?;
     if let Some(at) = changed.get_mut(place) {

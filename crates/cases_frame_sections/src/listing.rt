@@ -33,7 +33,7 @@ fn show_cie<R: Reader>(cie: &CommonInformationEntry<R>, shown: &mut String) -> R
     Ok(())
 }
 
-// A line for each row of a table, and for the refusal, behind which there is no row.
+// A line for each row of a table, and for the error, after which there is no row.
 fn show_table<R: Reader, S: UnwindContextStorage<R::Offset>>(
     alloc: Global,
     table: &mut UnwindTable<'_, '_, R, S>,
@@ -52,7 +52,7 @@ fn show_table<R: Reader, S: UnwindContextStorage<R::Offset>>(
     Ok(())
 }
 
-// A line for each row of an entry, and for the refusal. One in its CIE comes at once.
+// A line for each row of an entry, and for the error, before any row if it is one of the CIE's.
 fn show_rows<R: Reader, S: UnwindContextStorage<R::Offset>, Frames: UnwindSection<R>>(
     alloc: Global,
     section: &Frames,
@@ -90,7 +90,7 @@ fn whole<R: Reader, Frames: UnwindSection<R>>(
     })
 }
 
-// Lines for an FDE: what it says or why it is refused, and its rows.
+// Lines for an FDE: its parts and its rows, or its error.
 fn show_fde<R: Reader, S: UnwindContextStorage<R::Offset>, Frames: UnwindSection<R>>(
     alloc: Global,
     section: &Frames,
@@ -130,7 +130,7 @@ fn show_entry<R: Reader, S: UnwindContextStorage<R::Offset>, Frames: UnwindSecti
     }
 }
 
-/// Lines for each entry and its rows, and for the refusal that ends them.
+/// Lines for each entry and its rows, and for the error that ends them.
 pub fn show_entries<R: Reader, S: UnwindContextStorage<R::Offset>, Frames: UnwindSection<R>>(
     alloc: Global,
     section: &Frames,

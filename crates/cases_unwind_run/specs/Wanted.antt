@@ -1,4 +1,4 @@
--- What a row of worked documents wants of a run.
+-- What a row of worked documents states of a run.
 use Rattle.std.specs.Prelude.{ℕ, ◌==◌, ◌&&◌, List, [], unwrap_or, Bool, false, codes, bytes_eq, Option, Some, None, option_and_then}
 use Rattle.serde_json.specs.Data.{Data}
 use Rattle.serde_json.specs.Find.{as_number, as_str, as_u64, get}
@@ -11,7 +11,7 @@ text_field name row = option_and_then as_str (get name row)
 abbrev pub number_field : List ℕ → Data → Option ℕ
 number_field name row = option_and_then (λ value. option_and_then as_u64 (as_number value)) (get name row)
 
--- the document of a row, which is empty where there is none
+-- the document of a row, which is empty if there is none
 abbrev pub document_of : Data → List ℕ
 document_of row = unwrap_or (text_field (codes "text") row) []
 

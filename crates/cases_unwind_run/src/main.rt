@@ -1,4 +1,4 @@
-//! Runs the documents of `data/rows.jsonl` and compares what is written, and the exit status, with what the row wants.
+//! Runs the documents of `data/rows.jsonl` and compares what is written, and the exit status, with those that the row states.
 //! It prints a line for each mismatch, and last how many rows there were and how many mismatches.
 #![tactic(auto)]
 

@@ -1,4 +1,5 @@
 //! One row: a document, and what a run of it has to write.
+
 ghost use Rattle.std.specs.Prelude.{◌≡◌, [], IfOk, Some, codes, option_map, unwrap_or};
 ghost use Rattle.serde_json.specs.Read.{read as read_text};
 ghost use Rattle.serde_json.specs.View.{view};
@@ -58,7 +59,7 @@ impl Row {
         })
     }
 
-    /// Whether the answer is the one that the row wants. None is, where the row doesn't say.
+    /// Whether what was written and the exit status are those that the row states. They never are if the row states none.
     pub fn wants(&self, answer: &Answer) -> bool
         ensures { result
             ≡ is_wanted (view self.now.fields) answer.now.bytes.items answer.now.status }

@@ -5,28 +5,28 @@ use Rattle.std.proofs.Math.Nat.{two-pow-succ}
 use Rattle.std.proofs.lemmas.Bool.Decides.{nat_tests}
 use Rattle.list_laws.proofs.Laws.{by_case}
 use Rattle.dwarf_constants.specs.declared.error.Error.{Error}
-use Rattle.dwarf_call_frames.specs.Halving.{Halving, TableRow, behind_start, ended_at, first_start, halving, halving_within}
+use Rattle.dwarf_call_frames.specs.Halving.{Halving, TableRow, after_start, ended_at, first_start, halving, halving_within}
 
 -- ---- one half
 
 -- what is done behind a pivot
 abbrev pub Onwards : (ℕ → List TableRow → Halving) → ℕ → List TableRow → List TableRow → Halving
 Onwards more address front back =
-    behind_start (first_start back) (λ pivot. cond (pivot == address) (ended_at back) (cond (nat_lt pivot address) (more address back) (more address front)))
+    after_start (first_start back) (λ pivot. cond (pivot == address) (ended_at back) (cond (nat_lt pivot address) (more address back) (more address front)))
 
 chosen : {X : Type 0} (a b : Bool) (x y y' z z' : X) → y ≡ y' → z ≡ z' → cond a x (cond b y z) ≡ cond a x (cond b y' z')
 chosen true b x y y' z z' p q = refl
 chosen false true x y y' z z' p q = p
 chosen false false x y y' z z' p q = q
 
-behind_start-same : (start : Result ℕ Error) (f g : ℕ → Halving) → ((pivot : ℕ) → f pivot ≡ g pivot) → behind_start start f ≡ behind_start start g
-behind_start-same (Ok start) f g same = ap (λ (h : Halving). record { reached = h.reached; reads = suc h.reads }) (same start)
-behind_start-same (Err e) f g same = refl
+after_start-same : (start : Result ℕ Error) (f g : ℕ → Halving) → ((pivot : ℕ) → f pivot ≡ g pivot) → after_start start f ≡ after_start start g
+after_start-same (Ok start) f g same = ap (λ (h : Halving). record { reached = h.reached; reads = suc h.reads }) (same start)
+after_start-same (Err e) f g same = refl
 
 onwards-same : (f g : ℕ → List TableRow → Halving) (address : ℕ) (front back : List TableRow) → f address front ≡ g address front → f address back ≡ g address back
     → Onwards f address front back ≡ Onwards g address front back
 onwards-same f g address front back p q =
-    behind_start-same (first_start back) _ _ (λ pivot. chosen (pivot == address) (nat_lt pivot address) (ended_at back) _ _ _ _ q p)
+    after_start-same (first_start back) _ _ (λ pivot. chosen (pivot == address) (nat_lt pivot address) (ended_at back) _ _ _ _ q p)
 
 -- where more rows than one are left, both parts have fewer
 back-shorter : (rows : List TableRow) (n : ℕ) → length rows ≤ suc n → (length rows / 2 == 0) ≡ false → length (drop (length rows / 2) rows) ≤ n
@@ -83,7 +83,7 @@ few-chosen true b k x y z p q r = p
 few-chosen false true k x y z p q r = q
 few-chosen false false k x y z p q r = r
 
-few-behind : (start : Result ℕ Error) (k : ℕ) (f : ℕ → Halving) → ((pivot : ℕ) → (f pivot).reads ≤ k) → (behind_start start f).reads ≤ suc k
+few-behind : (start : Result ℕ Error) (k : ℕ) (f : ℕ → Halving) → ((pivot : ℕ) → (f pivot).reads ≤ k) → (after_start start f).reads ≤ suc k
 few-behind (Ok start) k f few = let less = few start in omega arith
 few-behind (Err e) k f few = omega arith
 

@@ -3,13 +3,13 @@ use Rattle.std.specs.Prelude.{◌≡◌, ℕ, ◌<◌, true, false, Some, None, 
 use Rattle.std.specs.List.{Contains}
 use Rattle.dwarf_constants.specs.declared.error.Error.TheVariants.{NoUnwindInfoForAddress}
 use Rattle.dwarf_frame_rows.specs.declared.base_addresses.BaseAddresses.{BaseAddresses}
-use Rattle.dwarf_frame_sections.specs.Sections.{FrameSection}
+use Rattle.dwarf_frame_rows.specs.FrameSection.{FrameSection}
 use Rattle.dwarf_frame_entries.specs.AddressLookups.{fde_for_address}
 use Rattle.dwarf_frame_entries.specs.Entries.{Fde, contains}
-use Rattle.dwarf_frame_entries.specs.SectionFdes.{whole_fdes}
+use Rattle.dwarf_frame_entries.specs.SectionFdes.{whole_fdes, nearest_fde}
 use Rattle.dwarf_call_frames.specs.Header.{Header}
 use Rattle.dwarf_call_frames.specs.HeaderEntries.{named_offset}
-use Rattle.dwarf_call_frames.specs.Truthful.{IsTruthful, nearest_fde}
+use Rattle.dwarf_call_frames.specs.Truthful.{IsTruthful}
 use Rattle.dwarf_call_frames.proofs.TruthfulRows as truthful
 
 module _ (section : FrameSection) (bases : BaseAddresses) (header : Header) (t : IsTruthful section bases header) where

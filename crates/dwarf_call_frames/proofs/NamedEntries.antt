@@ -5,12 +5,12 @@ use Rattle.std.specs.Borrow.{Bor}
 use Rattle.dwarf_constants.specs.declared.common.Vendor.{Vendor}
 use Rattle.dwarf_constants.specs.declared.error.Error.{Error}
 use Rattle.dwarf_constants.specs.declared.error.Error.TheVariants.{NoUnwindInfoForAddress, OutOfMemory}
-use Rattle.dwarf_readers.specs.Place.{◌>>=◌, requirement}
+use Rattle.dwarf_readers.specs.Stretch.{◌>>=◌, requirement}
 use Rattle.dwarf_frame_rows.specs.Effects.{Limits}
 use Rattle.dwarf_frame_rows.specs.declared.base_addresses.BaseAddresses.{BaseAddresses}
 use Rattle.dwarf_frame_rows.specs.declared.pointer.Pointer.{Pointer}
 use Rattle.dwarf_frame_rows.specs.declared.row.UnwindTableRow.{UnwindTableRow}
-use Rattle.dwarf_frame_sections.specs.Sections.{FrameSection}
+use Rattle.dwarf_frame_rows.specs.FrameSection.{FrameSection}
 use Rattle.dwarf_frame_instructions.specs.Execution.{IsRefusal}
 use Rattle.dwarf_frame_instructions.specs.ProgramRows.{IsRowFor}
 use Rattle.dwarf_frame_entries.specs.Entries.{Fde, contains, fde_from_offset}
@@ -31,10 +31,10 @@ module _ (section : FrameSection) (bases : BaseAddresses) (header : Header) (add
       ∙ ap (λ (r : Result ℕ Error). r >>= λ o. Containing address (fde_from_offset section o)) place
 
   -- it is refused, or memory is wanted
-  pub fde-refused : (may_want : Bool) (e : Error) → (fde_from_offset section offset ≡ Err e) ⊎ (IsTrue may_want × (e ≡ OutOfMemory))
-      → (fde_by_header section bases header address ≡ Err e) ⊎ (IsTrue may_want × (e ≡ OutOfMemory))
-  fde-refused may_want e (inl is) = inl (named ∙ ap (Containing address) is)
-  fde-refused may_want e (inr wants) = inr wants
+  pub fde-refused : (may_allocate : Bool) (e : Error) → (fde_from_offset section offset ≡ Err e) ⊎ (IsTrue may_allocate × (e ≡ OutOfMemory))
+      → (fde_by_header section bases header address ≡ Err e) ⊎ (IsTrue may_allocate × (e ≡ OutOfMemory))
+  fde-refused may_allocate e (inl is) = inl (named ∙ ap (Containing address) is)
+  fde-refused may_allocate e (inr wants) = inr wants
 
   tested : (fde : Fde) (test : Bool) → contains address fde ≡ test → Containing address (Ok fde) ≡ (requirement test NoUnwindInfoForAddress >>= λ _. Ok fde)
   tested fde test is = ap (λ (b : Bool). requirement b NoUnwindInfoForAddress >>= λ _. Ok fde) is
@@ -52,21 +52,21 @@ module _ (limits : Limits) (section : FrameSection) (vendor : Vendor) (bases : B
       → row_by_header limits section vendor bases header address ≡ (found >>= λ fde. fde_row limits section vendor fde address)
   from-fde found is = ap (λ (r : Result Fde Error). r >>= λ fde. fde_row limits section vendor fde address) is
 
-  no-memory : (may_want : Bool) → IsTrue may_want → may_want ≡ false → ⊥
+  no-memory : (may_allocate : Bool) → IsTrue may_allocate → may_allocate ≡ false → ⊥
   no-memory true wants none = cc
   no-memory false wants none = cc
 
   -- the entry is refused
-  pub row-refused : (Fixed : Type 0) (may_want : Bool) (e : Error) → (fde_by_header section bases header address ≡ Err e) ⊎ (IsTrue may_want × (e ≡ OutOfMemory))
-      → IsRefusal ((may_want ≡ false) × Fixed) e → row_by_header limits section vendor bases header address ≡ Err e
-  row-refused Fixed may_want e (inl is) refusal = from-fde (Err e) is
-  row-refused Fixed may_want e (inr wants) (inl fixed) = absurd (no-memory may_want wants.0 fixed.0)
-  row-refused Fixed may_want e (inr wants) (inr other) = absurd (other wants.1)
+  pub row-refused : (Fixed : Type 0) (may_allocate : Bool) (e : Error) → (fde_by_header section bases header address ≡ Err e) ⊎ (IsTrue may_allocate × (e ≡ OutOfMemory))
+      → IsRefusal (Fixed × (may_allocate ≡ false)) e → row_by_header limits section vendor bases header address ≡ Err e
+  row-refused Fixed may_allocate e (inl is) refusal = from-fde (Err e) is
+  row-refused Fixed may_allocate e (inr wants) (inl fixed) = absurd (no-memory may_allocate wants.0 fixed.1)
+  row-refused Fixed may_allocate e (inr wants) (inr other) = absurd (other wants.1)
 
   -- the entry has a row, or none
-  pub row-of-fde : {O L : Type 0} (number : O → ℕ) (Fixed : Type 0) (may_want : Bool) (fde : Fde) (result : Result (Bor (UnwindTableRow O L)) Error)
+  pub row-of-fde : {O L : Type 0} (number : O → ℕ) (Fixed : Type 0) (may_allocate : Bool) (fde : Fde) (result : Result (Bor (UnwindTableRow O L)) Error)
       → fde_by_header section bases header address ≡ Ok fde → IsRowFor number Fixed (fde_row limits section vendor fde address) result
-      → IsRowFor number ((may_want ≡ false) × Fixed) (row_by_header limits section vendor bases header address) result
-  row-of-fde number Fixed may_want fde (Ok shown) is gives = from-fde (Ok fde) is ∙ gives
-  row-of-fde number Fixed may_want fde (Err e) is gives =
-      elim [ inl fixed ↦ from-fde (Ok fde) is ∙ gives (inl fixed.1) | inr other ↦ from-fde (Ok fde) is ∙ gives (inr other) ]
+      → IsRowFor number (Fixed × (may_allocate ≡ false)) (row_by_header limits section vendor bases header address) result
+  row-of-fde number Fixed may_allocate fde (Ok shown) is gives = from-fde (Ok fde) is ∙ gives
+  row-of-fde number Fixed may_allocate fde (Err e) is gives =
+      elim [ inl fixed ↦ from-fde (Ok fde) is ∙ gives (inl fixed.0) | inr other ↦ from-fde (Ok fde) is ∙ gives (inr other) ]

@@ -6,7 +6,7 @@ use Rattle.dwarf_constants.specs.declared.constants.TheConstants.{DW_EH_PE_omit,
 use Rattle.dwarf_constants.specs.declared.error.Error.{Error}
 use Rattle.dwarf_readers.specs.Leb128.{left_by_leb128}
 use Rattle.dwarf_readers.specs.Onward.{IsOn, ReadsOn, rest_of_read}
-use Rattle.dwarf_readers.specs.Place.{Stretch}
+use Rattle.dwarf_readers.specs.Stretch.{Stretch}
 use Rattle.dwarf_frame_rows.specs.EncodedPointer.{Origins, left_by_pointer, left_by_value, origin_of, pointer_at, taken_encoding}
 use Rattle.dwarf_frame_rows.specs.declared.pointer.Pointer.{Pointer}
 use Rattle.dwarf_call_frames.specs.Header.{count_at}
@@ -25,23 +25,23 @@ row_on origins encoding s =
 
 -- ---- what is refused
 
-stays-if : (test : Bool) (place : ℕ) (s t : Stretch) → place ≤ s.place → place ≤ t.place → place ≤ (cond test s t).place
+stays-if : (test : Bool) (place : ℕ) (s t : Stretch) → place ≤ s.offset → place ≤ t.offset → place ≤ (cond test s t).offset
 stays-if true place s t a b = a
 stays-if false place s t a b = b
 
-left_by_leb128_on : (n : ℕ) (s : Stretch) → s.place ≤ (left_by_leb128 n s).place
+left_by_leb128_on : (n : ℕ) (s : Stretch) → s.offset ≤ (left_by_leb128 n s).offset
 left_by_leb128_on n s = omega arith
 
-left_by_value_on : (format : ℕ) (s : Stretch) → s.place ≤ (left_by_value format s).place
-left_by_value_on format s = stays-if (format == DW_EH_PE_uleb128.0 || format == DW_EH_PE_sleb128.0) s.place (left_by_leb128 10 s) s (left_by_leb128_on 10 s) (omega arith)
+left_by_value_on : (format : ℕ) (s : Stretch) → s.offset ≤ (left_by_value format s).offset
+left_by_value_on format s = stays-if (format == DW_EH_PE_uleb128.0 || format == DW_EH_PE_sleb128.0) s.offset (left_by_leb128 10 s) s (left_by_leb128_on 10 s) (omega arith)
 
-left_by_pointer_on : (origins : Origins) (encoding : ℕ) (s : Stretch) → s.place ≤ (left_by_pointer origins encoding s).place
+left_by_pointer_on : (origins : Origins) (encoding : ℕ) (s : Stretch) → s.offset ≤ (left_by_pointer origins encoding s).offset
 left_by_pointer_on origins encoding s =
-    stays-if (is_ok (origin_of origins encoding s.place)) s.place (left_by_value (format_of encoding) s) s (left_by_value_on (format_of encoding) s) (omega arith)
+    stays-if (is_ok (origin_of origins encoding s.offset)) s.offset (left_by_value (format_of encoding) s) s (left_by_value_on (format_of encoding) s) (omega arith)
 
-left_by_start_on : (origins : Origins) (encoding : ℕ) (s : Stretch) (start : Result (Pointer × Stretch) Error) → IsOn rest_of_read s.place start → s.place ≤ (left_by_start origins encoding s start).place
+left_by_start_on : (origins : Origins) (encoding : ℕ) (s : Stretch) (start : Result (Pointer × Stretch) Error) → IsOn rest_of_read s.offset start → s.offset ≤ (left_by_start origins encoding s start).offset
 left_by_start_on origins encoding s (Ok start) le = let more = left_by_pointer_on origins encoding start.1 in omega arith
 left_by_start_on origins encoding s (Err e) le = left_by_pointer_on origins encoding s
 
-pub left_by_row_on : (origins : Origins) (encoding : ℕ) (s : Stretch) → s.place ≤ (left_by_row origins encoding s).place
+pub left_by_row_on : (origins : Origins) (encoding : ℕ) (s : Stretch) → s.offset ≤ (left_by_row origins encoding s).offset
 left_by_row_on origins encoding s = left_by_start_on origins encoding s (pointer_at origins encoding s) (pointer_on origins encoding s).on

@@ -4,7 +4,7 @@ use Rattle.std.specs.Prelude.{◌==◌, nat_lt}
 use Rattle.std.proofs.lemmas.Bool.Decides.{nat_tests}
 use Rattle.dwarf_constants.specs.declared.error.Error.{Error}
 use Rattle.dwarf_frame_rows.specs.declared.pointer.Pointer.{Pointer}
-use Rattle.dwarf_call_frames.specs.Halving.{ComesTo, Halving, TableRow, behind_start, ended_at, first_start, first_target, halving}
+use Rattle.dwarf_call_frames.specs.Halving.{GivesHalving, Halving, TableRow, after_start, ended_at, first_start, first_target, halving}
 use Rattle.dwarf_call_frames.specs.HeaderTable.{rows_between}
 use Rattle.dwarf_call_frames.proofs.Halves.{Onwards, halving-more, halving-one}
 use Rattle.dwarf_call_frames.proofs.RowsBetween.{drop-between, length-between, take-between}
@@ -16,7 +16,7 @@ one-more h = record { reached = h.reached; reads = suc h.reads }
 module _ (row : ℕ → TableRow) (address first count : ℕ) where
   -- the pivot's start decides
   by-start : (start : Result ℕ Error) → Halving
-  by-start start = behind_start start (λ pivot. cond (pivot == address) (ended_at (rows_between row (first + count / 2) (count - count / 2)))
+  by-start start = after_start start (λ pivot. cond (pivot == address) (ended_at (rows_between row (first + count / 2) (count - count / 2)))
       (cond (nat_lt pivot address) (halving address (rows_between row (first + count / 2) (count - count / 2))) (halving address (rows_between row first (count / 2)))))
 
   start-of-first : (from n : ℕ) → 0 < n → first_start (rows_between row from n) ≡ (row from).start
@@ -92,7 +92,7 @@ pub record Left (row : ℕ → TableRow) (address total first count before now :
 
 module _ (row : ℕ → TableRow) (address total first count before now : ℕ) (left : Left row address total first count before now) where
   ended : (halved : Halving) (answer : Result Pointer Error) (after : ℕ) → halving address (rows_between row first count) ≡ halved → answer ≡ halved.reached → after ≡ now + halved.reads
-      → ComesTo (halving address (rows_between row 0 total)) answer before after
+      → GivesHalving (halving address (rows_between row 0 total)) answer before after
   ended halved answer after all is counted = record {
     row = is ∙ sym (ap (λ h. h.reached) all) ∙ sym left.reached;
     counted = omega (arith, counted, ap (λ h. h.reads) all, left.counted);
@@ -109,11 +109,11 @@ module _ (row : ℕ → TableRow) (address total first count before now : ℕ) (
 
   -- the pivot's start was read
   module _ (after : ℕ) (ticked : after ≡ now + 1) (more : 1 < count) where
-    pub ended-refused : (e : Error) (answer : Result Pointer Error) → Err e ≡ (row (first + count / 2)).start → answer ≡ Err e → ComesTo (halving address (rows_between row 0 total)) answer before after
+    pub ended-refused : (e : Error) (answer : Result Pointer Error) → Err e ≡ (row (first + count / 2)).start → answer ≡ Err e → GivesHalving (halving address (rows_between row 0 total)) answer before after
     ended-refused e answer start is = ended (record { reached = Err e; reads = 1 }) answer after (halved-refused row address first count e more (sym start)) is ticked
 
     module _ (start : ℕ) (is : Ok start ≡ (row (first + count / 2)).start) where
-      pub ended-at-pivot : (answer : Result Pointer Error) → start ≡ address → answer ≡ (row (first + count / 2)).target → ComesTo (halving address (rows_between row 0 total)) answer before after
+      pub ended-at-pivot : (answer : Result Pointer Error) → start ≡ address → answer ≡ (row (first + count / 2)).target → GivesHalving (halving address (rows_between row 0 total)) answer before after
       ended-at-pivot answer at target = ended (record { reached = (row (first + count / 2)).target; reads = 1 }) answer after (halved-at row address first count start more (sym is) at) target ticked
 
       pub left-below : start < address → Left row address total (first + count / 2) (count - count / 2) before after
@@ -123,5 +123,5 @@ module _ (row : ℕ → TableRow) (address total first count before now : ℕ) (
       left-above above = gone-on first (count / 2) (halved-above row address first count start more (sym is) above) (omega (arith, more)) (omega (arith, more)) after ticked
 
   -- one row is left
-  pub ended-one : count ≤ 1 → (answer : Result Pointer Error) → answer ≡ (row first).target → ComesTo (halving address (rows_between row 0 total)) answer before now
+  pub ended-one : count ≤ 1 → (answer : Result Pointer Error) → answer ≡ (row first).target → GivesHalving (halving address (rows_between row 0 total)) answer before now
   ended-one few answer is = ended (record { reached = (row first).target; reads = 0 }) answer now (halved-one row address first count (omega (arith, left.some, few))) is (omega arith)

@@ -10,16 +10,16 @@ use Rattle.std.proofs.lemmas.List.Sorted.{All-permutation, Contains-permutation,
 use Rattle.dwarf_constants.specs.declared.error.Error.{Error}
 use Rattle.dwarf_constants.specs.declared.error.Error.TheVariants.{NoUnwindInfoForAddress, OffsetOutOfBounds}
 use Rattle.dwarf_endianity.specs.Offset.{offset_below}
-use Rattle.dwarf_readers.specs.Place.{◌>>=◌, requirement}
+use Rattle.dwarf_readers.specs.Stretch.{◌>>=◌, requirement}
 use Rattle.dwarf_frame_rows.specs.EncodedPointer.{direct_address}
 use Rattle.dwarf_frame_rows.specs.declared.base_addresses.BaseAddresses.{BaseAddresses}
 use Rattle.dwarf_frame_rows.specs.declared.pointer.Pointer.{Pointer}
 use Rattle.dwarf_frame_rows.specs.declared.pointer.Pointer.TheVariants.{Direct}
-use Rattle.dwarf_frame_sections.specs.Sections.{FrameSection}
-use Rattle.dwarf_frame_entries.specs.AddressLookups.{fde_for_address, fde_or_fault, first_deciding}
+use Rattle.dwarf_frame_rows.specs.FrameSection.{FrameSection}
+use Rattle.dwarf_frame_entries.specs.AddressLookups.{fde_for_address, fde_or_error, first_deciding}
 use Rattle.dwarf_frame_entries.specs.Entries.{AnyEntry, Fde, contains, end_address, fde_of}
 use Rattle.dwarf_frame_entries.specs.EntryLists.{entries_of}
-use Rattle.dwarf_frame_entries.specs.SectionFdes.{fde_in, whole_fdes}
+use Rattle.dwarf_frame_entries.specs.SectionFdes.{fde_in, whole_fdes, nearest_fde}
 use Rattle.dwarf_frame_entries.specs.declared.entries.Entry.TheVariants as which
 use Rattle.list_laws.specs.Greatest.{first_greatest, greater_of, is_greatest}
 use Rattle.list_laws.specs.Last.{last_of}
@@ -27,8 +27,8 @@ use Rattle.list_laws.proofs.Laws.{by_case, by_option, first_greatest-cons, last_
 use Rattle.dwarf_call_frames.specs.Halving.{halving, read_row, target_at_or_below, target_or_first}
 use Rattle.dwarf_call_frames.specs.Header.{Header, offset_of_pointer}
 use Rattle.dwarf_call_frames.specs.HeaderEntries.{named_offset}
-use Rattle.dwarf_call_frames.specs.HeaderTable.{header_row, row_by_place, rows_by_place, header_table}
-use Rattle.dwarf_call_frames.specs.Truthful.{IsTruthful, nearest_fde, row_of_fde}
+use Rattle.dwarf_call_frames.specs.HeaderTable.{header_row, row_at_index, rows_by_index, header_table}
+use Rattle.dwarf_call_frames.specs.Truthful.{IsTruthful, row_of_fde}
 use Rattle.dwarf_call_frames.proofs.Increasing.{AllAbove, Increases, finds, increases}
 use Rattle.dwarf_call_frames.proofs.RowsBetween.{length-between}
 
@@ -189,13 +189,13 @@ none-nearest address fdes none = none-passes (starts_by address) fdes (empty (fi
 -- ---- the section's FDEs and faults
 
 -- the FDEs that aren't refused, with or without faults
-whole-alike : (section : FrameSection) (entries : List (Result AnyEntry Error)) → filter_map result_ok (filter_map (fde_or_fault section) entries) ≡ filter_map result_ok (filter_map (fde_in section) entries)
+whole-alike : (section : FrameSection) (entries : List (Result AnyEntry Error)) → filter_map result_ok (filter_map (fde_or_error section) entries) ≡ filter_map result_ok (filter_map (fde_in section) entries)
 whole-alike section [] = refl
 whole-alike section (Ok (which.Cie cie) ∷ entries) = whole-alike section entries
 whole-alike section (Ok (which.Fde partial) ∷ entries) = one (fde_of section.limit section.kind partial) (whole-alike section entries)
   where
-    one : (fde : Result Fde Error) → filter_map result_ok (filter_map (fde_or_fault section) entries) ≡ filter_map result_ok (filter_map (fde_in section) entries)
-        → filter_map result_ok (fde ∷ filter_map (fde_or_fault section) entries) ≡ filter_map result_ok (fde ∷ filter_map (fde_in section) entries)
+    one : (fde : Result Fde Error) → filter_map result_ok (filter_map (fde_or_error section) entries) ≡ filter_map result_ok (filter_map (fde_in section) entries)
+        → filter_map result_ok (fde ∷ filter_map (fde_or_error section) entries) ≡ filter_map result_ok (fde ∷ filter_map (fde_in section) entries)
     one (Ok fde) others = ap (λ fdes. fde ∷ fdes) others
     one (Err e) others = others
 whole-alike section (Err e ∷ entries) = whole-alike section entries
@@ -235,7 +235,7 @@ module _ (section : FrameSection) (bases : BaseAddresses) (header : Header) (t :
       get-there k d h = All-contains_itself all k d h
 
       alone : (other : Fde) → Contains all other → contains other.initial_address fde ≡ true → other ≡ fde
-      alone other is = All-contains (λ other. contains other.initial_address fde ≡ true → other ≡ fde) all other (All-contains (λ fde. All (λ other. contains other.initial_address fde ≡ true → other ≡ fde) all) all fde t.apart there) is
+      alone other is = All-contains (λ other. contains other.initial_address fde ≡ true → other ≡ fde) all other (All-contains (λ fde. All (λ other. contains other.initial_address fde ≡ true → other ≡ fde) all) all fde t.sound.apart there) is
 
       near-at : (other : Fde) → starts_by address other ≡ true → (contains other.initial_address fde ≡ true → other ≡ fde) → other.initial_address ≤ fde.initial_address
       near-at other passes one =
@@ -260,7 +260,7 @@ module _ (section : FrameSection) (bases : BaseAddresses) (header : Header) (t :
   -- the row that halving finds
   row-found : (address : ℕ) → header_row section.limit address (header_table bases.eh_frame_hdr header) ≡ target_at_or_below address (map (row_of_fde t.section_start) t.fdes)
   row-found address =
-      ap (λ (r : Result ℕ Error). r >>= λ size. (halving address (rows_by_place section.limit size (header_table bases.eh_frame_hdr header))).reached) t.has_size
+      ap (λ (r : Result ℕ Error). r >>= λ size. (halving address (rows_by_index section.limit size (header_table bases.eh_frame_hdr header))).reached) t.has_size
       ∙ ap (λ rows. (halving address rows).reached) t.rows
       ∙ finds address (map (row_of_fde t.section_start) t.fdes) (subst IsStrictlyIncreasing (sym (starts-same t.section_start t.fdes)) t.increase)
 
@@ -269,7 +269,7 @@ module _ (section : FrameSection) (bases : BaseAddresses) (header : Header) (t :
   named-at address fde there row = ap (λ (r : Result Pointer Error). r >>= λ p. offset_of_pointer section.limit header p) row ∙ place
     where
       has-offset : nat_lt fde.head.offset section.limit ≡ true
-      has-offset = All-contains (λ (f : Fde). nat_lt f.head.offset section.limit ≡ true) all fde t.have_offsets there
+      has-offset = All-contains (λ (f : Fde). nat_lt f.head.offset section.limit ≡ true) all fde t.sound.have_offsets there
 
       below : (start offset : ℕ) → nat_lt offset section.limit ≡ true → (requirement (nat_le start (start + offset)) OffsetOutOfBounds >>= λ _. offset_below section.limit ((start + offset) - start)) ≡ Ok offset
       below start offset fits =
@@ -307,9 +307,9 @@ module _ (section : FrameSection) (bases : BaseAddresses) (header : Header) (t :
       (λ none. let fails : starts_by address fde ≡ false = All-contains (λ f. starts_by address f ≡ false) all fde (none-nearest address all none) there in let low = near.low in cc)
 
   -- the FDEs that are read are all of the section
-  read-whole : filter_map (fde_or_fault section) (entries_of section) ≡ map (λ f. Ok f) all
+  read-whole : filter_map (fde_or_error section) (entries_of section) ≡ map (λ f. Ok f) all
   unfolding whole_fdes
-  read-whole = none-refused (filter_map (fde_or_fault section) (entries_of section)) t.parse ∙ ap (map (λ f. Ok f)) (whole-alike section (entries_of section))
+  read-whole = none-refused (filter_map (fde_or_error section) (entries_of section)) t.sound.parses ∙ ap (map (λ f. Ok f)) (whole-alike section (entries_of section))
 
   -- none contains an address that a nearest one doesn't contain, or at or below which none starts
   pub scanned_outside : (address : ℕ) (fde : Fde) → nearest_fde address all ≡ Some fde → contains address fde ≡ false → fde_for_address section address ≡ Err NoUnwindInfoForAddress
@@ -343,7 +343,7 @@ module _ (section : FrameSection) (bases : BaseAddresses) (header : Header) (t :
   has_rows fde there =
       let table = header_table bases.eh_frame_hdr header in
       let len = ap length t.rows ∙ length-rows t.fdes in
-      let count = length-between (row_by_place section.limit t.size table) 0 table.count in
+      let count = length-between (row_at_index section.limit t.size table) 0 table.count in
       some (Contains-permutation all t.fdes fde t.are_all there) (sym count ∙ len)
     where
       length-rows : (fdes : List Fde) → length (map read_row (map (row_of_fde t.section_start) fdes)) ≡ length fdes
@@ -361,8 +361,8 @@ module _ (section : FrameSection) (bases : BaseAddresses) (header : Header) (t :
       first : (fdes : List Fde) → t.fdes ≡ fdes → (fde : Fde) × (Contains all fde × ((address < fde.initial_address) × (named_offset section.limit bases header address ≡ Ok fde.head.offset)))
       first [] is =
           let table = header_table bases.eh_frame_hdr header in
-          let len : length (rows_by_place section.limit t.size table) ≡ 0 = ap length (t.rows ∙ ap (λ (fdes : List Fde). map read_row (map (row_of_fde t.section_start) fdes)) is) in
-          let count = length-between (row_by_place section.limit t.size table) 0 table.count in
+          let len : length (rows_by_index section.limit t.size table) ≡ 0 = ap length (t.rows ∙ ap (λ (fdes : List Fde). map read_row (map (row_of_fde t.section_start) fdes)) is) in
+          let count = length-between (row_at_index section.limit t.size table) 0 table.count in
           absurd (omega arith)
       first (fde ∷ fdes) is =
           let rows = map (row_of_fde t.section_start) t.fdes in

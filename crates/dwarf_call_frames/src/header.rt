@@ -1,9 +1,10 @@
-//! The section, and what it says before its table.
+//! The section `.eh_frame_hdr`, and its header before the table.
+
 ghost use Rattle.std.specs.Prelude.{◌≡◌, ◌≤◌, OnErr};
 ghost use Rattle.dwarf_constants.specs.declared.common.SectionId.TheVariants as id;
 ghost use Rattle.dwarf_endianity.specs.Answers.{Gives};
 ghost use Rattle.dwarf_readers.specs.EndianSlice.{stretch_of};
-ghost use Rattle.dwarf_readers.specs.Place.{Reads, whole};
+ghost use Rattle.dwarf_readers.specs.Stretch.{Reads, whole};
 ghost use Rattle.dwarf_call_frames.specs.Header.{count_at, header_at};
 ghost use Rattle.dwarf_call_frames.specs.HeaderTable.{header_with_table};
 
@@ -42,9 +43,9 @@ impl<'a, E: Endianity> EhFrameHdr<EndianSlice<'a, E>> {
 }
 
 impl<R: Reader> EhFrameHdr<R> {
-    /// Reads what stands before the rows of the table, and where they begin. `address_size` is the size
-    /// of an address in bytes. Fails with `UnknownVersion` where the version isn't 1, with
-    /// `UnsupportedPointerEncoding` where the count isn't a plain number, and as pointers do.
+    /// Reads the header, up to the rows of the table. `address_size` is the size of an address in
+    /// bytes. Fails with `UnknownVersion` if the version isn't 1, with `UnsupportedPointerEncoding`
+    /// if the number of rows isn't encoded as a plain number, and as encoded pointers do.
     pub fn parse(&self, bases: &BaseAddresses, address_size: u8) -> Result<ParsedEhFrameHdr<R>>
         ensures { Gives (λ header. header) result
             (header_at bases.now.eh_frame_hdr address_size (R.stretch self.now)) }
@@ -119,7 +120,7 @@ impl<R: Reader> Section<R> for EhFrameHdr<R> {
     }
 }
 
-/// What the section says before the rows of its table, and where they begin.
+/// The header of the section, and the bytes of its table.
 #[derive(Debug, Drop)]
 pub struct ParsedEhFrameHdr<R: Reader> {
     pub(crate) section: R,
@@ -137,7 +138,7 @@ impl<R: Reader> Model for ParsedEhFrameHdr<R> {
     ghost Value = { Header };
 
     ghost view = { λ header. record {
-      section_place = (R.stretch header.section).place;
+      section_offset = (R.stretch header.section).offset;
       address_size = header.address_size;
       eh_frame_ptr = header.eh_frame_ptr;
       table_encoding = header.table_enc.0;
@@ -146,18 +147,18 @@ impl<R: Reader> Model for ParsedEhFrameHdr<R> {
     } };
 
     ghost invariant = { λ header.
-        (R.stretch header.section).place ≤ (R.stretch header.table).place };
+        (R.stretch header.section).offset ≤ (R.stretch header.table).offset };
 }
 
 impl<R: Reader> ParsedEhFrameHdr<R> {
-    /// The address at which the section `.eh_frame` starts.
+    /// The pointer to the start of the section `.eh_frame`.
     pub fn eh_frame_ptr(&self) -> Pointer
         ensures { result ≡ self.now.eh_frame_ptr }
     {
         self.eh_frame_ptr
     }
 
-    /// The table, if there is one: a table without rows is none.
+    /// The table, if it has rows.
     pub fn table(&self) -> Option<EhHdrTable<'_, R>>
         ensures { result ≡ header_with_table self.now }
     {

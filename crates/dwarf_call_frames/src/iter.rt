@@ -1,4 +1,5 @@
-//! The rows of a table, one after the other.
+//! An iterator over the rows of a table.
+
 ghost use Rattle.std.specs.Prelude.{◌≡◌, IfSome};
 ghost use Rattle.std.specs.Iterator.{UpTo, at_most};
 ghost use Rattle.std.specs.Iterator.SizeHint.{IsWithinCount};
@@ -11,9 +12,8 @@ use dwarf_frame_rows::{BaseAddresses, Pointer};
 use dwarf_readers::Reader;
 use std::marker::Model;
 
-/// The rows that are left of a table: of each FDE the address at which its code starts, and the address
-/// at which it stands itself. There are as many as the table's count says, and each that is refused
-/// counts as one.
+/// The rows of a table that are left. A row is the start of an FDE's code, and the address of the
+/// FDE itself. There are as many rows as the header says, also if some can't be read.
 #[derive(Debug, Drop)]
 pub struct EhHdrTableIter<'a, 'bases, R: Reader> {
     hdr: &'a ParsedEhFrameHdr<R>,
@@ -26,16 +26,16 @@ pub struct EhHdrTableIter<'a, 'bases, R: Reader> {
 
 impl<'a, 'bases, R: Reader> Model for EhHdrTableIter<'a, 'bases, R> {
     ghost use Rattle.std.specs.Prelude.{◌≤◌};
-    ghost use Rattle.dwarf_call_frames.specs.HeaderTable.{Table, header_table};
+    ghost use Rattle.dwarf_call_frames.specs.HeaderTable.{HeaderTable, header_table};
 
-    ghost Value = { Table };
+    ghost Value = { HeaderTable };
 
     ghost view = { λ i. record (header_table i.bases.now.eh_frame_hdr i.hdr.now) {
       count = i.remain;
       bytes = R.stretch i.table;
     } };
 
-    ghost invariant = { λ i. i.hdr.now.section_place ≤ (R.stretch i.table).place };
+    ghost invariant = { λ i. i.hdr.now.section_offset ≤ (R.stretch i.table).offset };
 }
 
 impl<'a, 'bases, R: Reader> EhHdrTableIter<'a, 'bases, R> {
@@ -51,7 +51,8 @@ impl<'a, 'bases, R: Reader> EhHdrTableIter<'a, 'bases, R> {
         }
     }
 
-    /// The next row, or `None` behind the last.
+    /// The next row, or `None` after the last. Fails if the row can't be read, which counts as one
+    /// row.
     pub fn next(&mut self) -> Result<Option<(Pointer, Pointer)>>
         ensures row { result ≡ first_table_row self.old }
         ensures left { self.new ≡ without_first self.old }
@@ -64,10 +65,10 @@ impl<'a, 'bases, R: Reader> EhHdrTableIter<'a, 'bases, R> {
         Ok(Some(row))
     }
 
-    /// The row behind the next `n` rows, over which it goes without reading them. Fails with
-    /// `VariableLengthSearchTable` or `UnknownPointerEncoding` where rows have no common size or their
-    /// encoding none, with `UnsupportedOffset` where so many bytes have no offset, and with
-    /// `UnexpectedEof` where they aren't there; the rows that are left are then as before.
+    /// The row after the next `n` rows, which it skips without reading them. Fails with
+    /// `VariableLengthSearchTable` or `UnknownPointerEncoding` if rows have no common size, with
+    /// `UnsupportedOffset` if the size of `n` rows is no offset, and with `UnexpectedEof` if there
+    /// aren't as many bytes; the rows that are left are then as before. Fails also as `next` does.
     pub fn nth(&mut self, n: usize) -> Result<Option<(Pointer, Pointer)>>
         ensures row { result ≡ nth_row R.Offset.limit n self.old }
         ensures left { self.new ≡ left_by_nth self.old (without_rows R.Offset.limit n self.old) }

@@ -1,5 +1,16 @@
-//! The section `.eh_frame_hdr`: where `.eh_frame` starts, and a table by which the FDE for an address is
-//! found without reading the others (LSB 5.0, 10.6.2), over any reader.
+//! Call frame information (DWARF 5, 6.4; LSB 5.0, 10.6), over any reader: all that its users name.
+//!
+//! - Sections: [`EhFrame`] and [`DebugFrame`], which are both an [`UnwindSection`], and the
+//!   [`BaseAddresses`] to which their pointers are relative.
+//! - Entries: [`CommonInformationEntry`] with its [`Augmentation`], and [`FrameDescriptionEntry`].
+//!   A section lists them by `entries`, and has them by offset or by address.
+//! - Rows: an FDE gives its [`UnwindTable`], or the [`UnwindTableRow`] for an address, which is
+//!   worked out in an [`UnwindContext`]. A row has a [`CfaRule`] and a [`RegisterRule`] for each
+//!   register. [`CallFrameInstructionIter`] lists the instructions of an entry.
+//! - The lookup table: [`EhFrameHdr`], the section `.eh_frame_hdr`, by which the FDE for an address
+//!   is found without reading the others.
+//! - Laws, functions whose contracts are theorems and which do nothing when the program runs: where
+//!   entries are, which row is for an address, what lookups find ([`search`], [`truthful`]).
 #![tactic(auto)]
 
 mod fde;
@@ -10,7 +21,22 @@ pub mod search;
 mod table;
 pub mod truthful;
 
-pub use dwarf_frame_rows::{BaseAddresses, Pointer, SectionBaseAddresses};
+pub use dwarf_frame_entries::{
+    Augmentation, CfiEntriesIter, CieOrFde, CommonInformationEntry, Entry, FrameDescriptionEntry,
+    PartialFrameDescriptionEntry, UnwindSection, UnwindTable,
+    listed_entries_stand_at_their_offsets, listed_fdes_are_of_their_section,
+    listed_fdes_stand_at_their_offsets,
+};
+pub use dwarf_frame_instructions::{
+    CallFrameInstruction, CallFrameInstructionIter, each_address_has_one_row,
+    each_rule_is_seen_alike,
+};
+pub use dwarf_frame_rows::{
+    _UnwindSectionPrivate, BaseAddresses, CfaRule, CieOffsetEncoding, Pointer, RegisterRule,
+    RegisterRuleIter, RuledRegister, SectionBaseAddresses, StoreOnHeap, UnwindContext,
+    UnwindContextStorage, UnwindExpression, UnwindOffset, UnwindTableRow,
+};
+pub use dwarf_frame_sections::{DebugFrame, EhFrame};
 pub use header::{EhFrameHdr, ParsedEhFrameHdr};
 pub use iter::EhHdrTableIter;
 pub use table::EhHdrTable;

@@ -1,10 +1,11 @@
-//! Reading of rows.
+//! Reading the rows of a table.
+
 ghost use Rattle.std.specs.Prelude.{◌≡◌, ◌≤◌, ◌*◌, OnErr};
 ghost use Rattle.dwarf_endianity.specs.Answers.{Gives};
-ghost use Rattle.dwarf_readers.specs.Place.{Moves, Reads};
+ghost use Rattle.dwarf_readers.specs.Stretch.{Moves, Reads};
 ghost use Rattle.dwarf_frame_rows.specs.EncodedPointer.{left_by_pointer, pointer_at};
 ghost use Rattle.dwarf_endianity.specs.Offset.{offset_below};
-ghost use Rattle.dwarf_call_frames.specs.HeaderTable.{behind_rows, left_by_row, pointer_size, row_at, start_at, header_table, target_at};
+ghost use Rattle.dwarf_call_frames.specs.HeaderTable.{after_rows, left_by_row, pointer_size, row_at, start_at, header_table, target_at};
 
 use crate::header::ParsedEhFrameHdr;
 use dwarf_constants::constants::{
@@ -19,7 +20,7 @@ impl<R: Reader> ParsedEhFrameHdr<R> {
     // Reads a pointer of the table.
     #[inline(always)]
     pub(crate) fn parse_pointer(&self, bases: &BaseAddresses, input: &mut R) -> Result<Pointer>
-        requires { self.now.section_place ≤ (R.stretch input.old).place }
+        requires { self.now.section_offset ≤ (R.stretch input.old).offset }
         ensures read { let table = header_table bases.now.eh_frame_hdr self.now in Reads result
             (pointer_at table.origins table.encoding (R.stretch input.old)) (R.stretch input.new) }
         ensures refused { let table = header_table bases.now.eh_frame_hdr self.now in OnErr result
@@ -35,13 +36,13 @@ impl<R: Reader> ParsedEhFrameHdr<R> {
         parse_encoded_pointer(self.table_enc, &parameters, input)
     }
 
-    // Reads a row: the start of an FDE's code and the pointer to the FDE.
+    // Reads a row: the start of an FDE's code, and the pointer to the FDE.
     pub(crate) fn parse_row(
         &self,
         bases: &BaseAddresses,
         input: &mut R,
     ) -> Result<(Pointer, Pointer)>
-        requires { self.now.section_place ≤ (R.stretch input.old).place }
+        requires { self.now.section_offset ≤ (R.stretch input.old).offset }
         ensures read { let table = header_table bases.now.eh_frame_hdr self.now in Reads result
             (row_at table.origins table.encoding (R.stretch input.old)) (R.stretch input.new) }
         ensures refused { let table = header_table bases.now.eh_frame_hdr self.now in OnErr result
@@ -53,7 +54,7 @@ impl<R: Reader> ParsedEhFrameHdr<R> {
         Ok((start, target))
     }
 
-    // The start in the row of this index, where pointers have this size in bytes.
+    // The start in the row with this index. Pointers have this size in bytes.
     pub(crate) fn start_at(&self, size: u8, index: u64, bases: &BaseAddresses) -> Result<u64>
         ensures { result ≡ start_at R.Offset.limit size
             (header_table bases.now.eh_frame_hdr self.now) index }
@@ -63,7 +64,7 @@ impl<R: Reader> ParsedEhFrameHdr<R> {
         self.parse_pointer(bases, &mut input)?.direct()
     }
 
-    // The pointer to an FDE in the row of this index, where pointers have this size in bytes.
+    // The pointer to an FDE in the row with this index. Pointers have this size in bytes.
     pub(crate) fn target_at(&self, size: u8, index: u64, bases: &BaseAddresses) -> Result<Pointer>
         ensures { result ≡ target_at R.Offset.limit size
             (header_table bases.now.eh_frame_hdr self.now) index }
@@ -75,7 +76,7 @@ impl<R: Reader> ParsedEhFrameHdr<R> {
     }
 }
 
-// How many bytes a pointer of this encoding has, where that doesn't depend on its value.
+// The size in bytes of pointers of this encoding, if it doesn't depend on their values.
 pub(crate) fn pointer_size(encoding: DwEhPe) -> Result<u8>
     ensures { Gives (λ size. size) result (pointer_size encoding.0) }
 {
@@ -88,20 +89,20 @@ pub(crate) fn pointer_size(encoding: DwEhPe) -> Result<u8>
     }
 }
 
-// Goes over so many rows whose pointers have this size in bytes.
+// Skips rows whose pointers have this size in bytes.
 pub(crate) fn skip_rows<R: Reader>(input: &mut R, size: u8, count: u64) -> Result<()>
-    ensures moved { Moves result (behind_rows R.Offset.limit size count (R.stretch input.old))
+    ensures moved { Moves result (after_rows R.Offset.limit size count (R.stretch input.old))
         (R.stretch input.new) }
     ensures unchanged { OnErr result (R.stretch input.new ≡ R.stretch input.old) }
 {
     input.skip(offset_of_row(size, count)?)
 }
 
-// How many bytes so many rows have.
+// The size in bytes of rows whose pointers have this size.
 fn offset_of_row<O: ReaderOffset>(size: u8, count: u64) -> Result<O>
     ensures { Gives O.value result (offset_below O.limit (count * (2 * size))) }
 {
-    // Every offset is below a limit of at most 2^64.
+    // By this conversion it is known that offsets are below 2^64.
     let _zero = O::from_u8(0).into_u64();
     match count.checked_mul(2 * u64::from(size)) {
         Some(offset) => O::from_u64(offset),

@@ -1,9 +1,10 @@
-//! The table, and look-ups in it.
+//! The table, and lookups in it.
+
 ghost use Rattle.std.specs.Prelude.{◌≡◌, ◌≤◌, ◌<◌, ◌+◌, ◌^◌, ℕ};
 ghost use Rattle.dwarf_endianity.specs.Answers.{Gives};
-ghost use Rattle.dwarf_call_frames.specs.Halving.{ComesTo, halving};
+ghost use Rattle.dwarf_call_frames.specs.Halving.{GivesHalving, halving};
 ghost use Rattle.dwarf_call_frames.specs.Header.{offset_of_pointer};
-ghost use Rattle.dwarf_call_frames.specs.HeaderTable.{header_row, rows_by_place, starts_read, header_table};
+ghost use Rattle.dwarf_call_frames.specs.HeaderTable.{header_row, rows_by_index, starts_read, header_table};
 
 use crate::header::ParsedEhFrameHdr;
 use crate::iter::EhHdrTableIter;
@@ -16,8 +17,9 @@ use std::cmp::Ordering;
 use std::marker::Model;
 use std::sync::ledger::Ledger;
 
-/// The table of a header, which has a row at least. Linkers write its rows in the order of their starts,
-/// and look-ups take it that they are; over any others they answer too.
+/// The table of a header, which has at least one row. Linkers write the rows in the order of their
+/// starts, which lookups rely on to find the right one; in any other order they still end, with
+/// some row or an error.
 #[derive(Debug, Drop)]
 pub struct EhHdrTable<'a, R: Reader> {
     hdr: &'a ParsedEhFrameHdr<R>,
@@ -50,25 +52,26 @@ impl<'a, R: Reader> EhHdrTable<'a, R> {
         EhHdrTableIter::new(self.hdr, bases)
     }
 
-    /// The pointer in the row for an address: where starts increase, the last row whose start is at or
-    /// below the address, else the first row. Whether that FDE contains the address isn't asked.
+    /// The pointer to the FDE in the row for an address: if starts increase, the last row whose
+    /// start is at or below the address, or else the first row. The FDE may not contain the
+    /// address.
     ///
-    /// Fails with `VariableLengthSearchTable` where pointers have no common size, with
-    /// `UnknownPointerEncoding` where their size isn't 2, 4 or 8 bytes by their encoding, with
-    /// `UnsupportedPointerEncoding` at a start that is an indirect pointer, and where the bytes end.
+    /// Fails with `VariableLengthSearchTable` if pointers have no common size, with
+    /// `UnknownPointerEncoding` if their size isn't 2, 4 or 8 bytes by their encoding, with
+    /// `UnsupportedPointerEncoding` at a start that is an indirect pointer, and if the bytes end.
     pub fn lookup(&self, address: u64, bases: &BaseAddresses) -> Result<Pointer>
         ensures { result ≡ header_row R.Offset.limit address
             (header_table bases.now.eh_frame_hdr self.now) }
     {
-        count_steps(LookUp {
+        count_steps(TableLookup {
             table: self,
             address,
             bases,
         })
     }
 
-    /// As `lookup`, with a step for each start that is read: of n rows at most ceil(log2(n)), however
-    /// they are ordered.
+    /// As `lookup`; it counts a step for each start that it reads, which are at most ceil(log2(n))
+    /// of n rows, in any order.
     pub fn lookup_counted<L: Ledger>(
         &self,
         address: u64,
@@ -94,7 +97,7 @@ impl<'a, R: Reader> EhHdrTable<'a, R> {
         bases: &BaseAddresses,
         steps: &mut Steps<L>,
     ) -> Result<Pointer>
-        ensures { ComesTo (halving address (rows_by_place R.Offset.limit size
+        ensures { GivesHalving (halving address (rows_by_index R.Offset.limit size
             (header_table bases.now.eh_frame_hdr self.now))) result steps.old steps.new }
     {
         let hdr = self.hdr;
@@ -116,9 +119,10 @@ impl<'a, R: Reader> EhHdrTable<'a, R> {
         hdr.target_at(size, first, bases)
     }
 
-    /// The offset of what a pointer of the table means from the start of `.eh_frame`. Fails with
-    /// `UnsupportedPointerEncoding` where it or the section's start is indirect, with
-    /// `OffsetOutOfBounds` where it lies before that start, and with `UnsupportedOffset`.
+    /// The offset from the start of `.eh_frame` of what a pointer of the table points at. Fails
+    /// with `UnsupportedPointerEncoding` if the pointer, or that to the section, is indirect, with
+    /// `OffsetOutOfBounds` if the pointer is below the section's start, and with
+    /// `UnsupportedOffset` if the offset is out of range for the reader.
     pub fn pointer_to_offset(&self, pointer: Pointer) -> Result<EhFrameOffset<R::Offset>>
         ensures { Gives (λ offset. R.Offset.value offset.0) result
             (offset_of_pointer R.Offset.limit self.now pointer) }
@@ -132,15 +136,15 @@ impl<'a, R: Reader> EhHdrTable<'a, R> {
     }
 }
 
-// A look-up whose steps nobody asks for.
+// A lookup whose steps nobody asks for.
 #[derive(Drop)]
-struct LookUp<'t, 'a, 'b, R: Reader> {
+struct TableLookup<'t, 'a, 'b, R: Reader> {
     table: &'t EhHdrTable<'a, R>,
     address: u64,
     bases: &'b BaseAddresses,
 }
 
-impl<'t, 'a, 'b, R: Reader> Counted for LookUp<'t, 'a, 'b, R> {
+impl<'t, 'a, 'b, R: Reader> Counted for TableLookup<'t, 'a, 'b, R> {
     ghost use Rattle.std.specs.Prelude.{◌≡◌};
     ghost use Rattle.dwarf_call_frames.specs.HeaderTable.{header_row, header_table};
 

@@ -3,7 +3,7 @@ use Rattle.std.specs.Prelude.{ℕ, List, codes}
 use Rattle.dwarf_constants.specs.declared.error.Error.{Error}
 use Rattle.dwarf_constants.specs.declared.error.Error.TheVariants.{UnexpectedEof, BadUnsignedLeb128, BadSignedLeb128, UnknownReservedLength, UnsupportedAddressSize, UnsupportedOffsetSize, UnsupportedSegmentSize, UnsupportedOffset, OffsetOutOfBounds, UnknownVersion, BadUtf8, AbbreviationTagZero, InvalidAbbreviationChildren, AttributeNameZero, AttributeFormZero, DuplicateAbbreviationCode, UnknownPointerEncoding, UnsupportedPointerEncoding, CannotParseOmitPointerEncoding, PcRelativePointerButSectionBaseIsUndefined, TextRelativePointerButTextBaseIsUndefined, DataRelativePointerButDataBaseIsUndefined, FuncRelativePointerInBadContext, NotCieId, NotCiePointer, UnknownAugmentation, NoEntryAtGivenOffset, NoUnwindInfoForAddress, UnknownCallFrameInstruction, CfiInstructionInInvalidContext, InvalidCfiSetLoc, AddressOverflow, PopWithEmptyStack, StackFull, TooManyRegisterRules, VariableLengthSearchTable, UnsupportedEvaluation, NotEnoughStackItems, DivisionByZero, BadBranchTarget, TooManyIterations, OutOfMemory}
 
--- the variant's name, whatever number it carries
+-- the variant's name, without the number that it carries
 abbrev pub variant_name : Error → List ℕ
 variant_name (UnexpectedEof _) = codes "UnexpectedEof"
 variant_name BadUnsignedLeb128 = codes "BadUnsignedLeb128"

@@ -2,12 +2,12 @@
 use Rattle.std.specs.Prelude.{ℕ, List, [], ◌∷◌, ◌++◌, ◌==◌, false, if◌then◌else◌, codes, Option, Some, None, unwrap_or}
 use Rattle.std.specs.Fmt.{digits}
 
--- the name that stands beside the value's first mention
+-- the name in the first row with the value
 abbrev pub name_in : List (ℕ × List ℕ) → ℕ → Option (List ℕ)
 name_in [] value = None
 name_in (entry ∷ entries) value = if value == entry.0 then Some entry.1 else name_in entries value
 
--- what is printed of a value: its name, or its type's name and its hexadecimal digits
+-- a value as it is printed: its name, or its type's name and its hexadecimal digits
 abbrev pub shown_code : List (ℕ × List ℕ) → List ℕ → ℕ → List ℕ
 shown_code names type_name value =
     unwrap_or (name_in names value)

@@ -2,11 +2,11 @@
 use Rattle.std.specs.Prelude.{ℕ, ◌+◌, ◌*◌, ◌/◌, ◌%◌, List, [], ◌∷◌, map}
 use Rattle.std.specs.List.{flat_map}
 
--- the low four bits
+-- the format: the low four bits
 abbrev pub format_of : ℕ → ℕ
 format_of encoding = encoding % 16
 
--- bits 4 to 6, at their places
+-- the application: bits 4 to 6, not shifted
 abbrev pub application_of : ℕ → ℕ
 application_of encoding = encoding / 16 % 8 * 16
 

@@ -9,7 +9,7 @@ impl X86_64 {
     pub const RBP: Register = Register(6);
     /// The stack pointer.
     pub const RSP: Register = Register(7);
-    /// The column of the return address.
+    /// The return address.
     pub const RA: Register = Register(16);
 }
 

@@ -1,4 +1,5 @@
 //! Plain values, and the sections of debugging information.
+
 ghost use Rattle.std.specs.Prelude.{◌≡◌, ◌↔◌, negsuc, true, IsTrue, Contains, option_map};
 
 /// Whether lengths and offsets in a section have 64 or 32 bits (DWARF 5, 7.4).
@@ -32,14 +33,14 @@ impl Format {
     }
 }
 
-/// Whose extensions of call frame instructions are read.
+/// The vendor whose extensions of call frame instructions are read.
 #[derive(Debug, Clone, Copy, PartialEq, Eq, Hash)]
 pub enum Vendor {
     Default,
     AArch64,
 }
 
-/// What the encoding of a unit's values depends on.
+/// The parameters on which the encoding of a unit's values depends.
 #[derive(Debug, Clone, Copy, PartialEq, Eq, Hash)]
 pub struct Encoding {
     /// The size of an address, in bytes.
@@ -56,7 +57,7 @@ pub struct LineEncoding {
     pub minimum_instruction_length: u8,
     /// How many operations an instruction has at most.
     pub maximum_operations_per_instruction: u8,
-    /// Whether a row begins a statement where nothing else is said.
+    /// Whether a row begins a statement unless its program says otherwise.
     pub default_is_stmt: bool,
     /// The least advance of the line by a special opcode.
     pub line_base: i8,
@@ -64,7 +65,7 @@ pub struct LineEncoding {
     pub line_range: u8,
 }
 
-/// The parameters that compilers use for machines of one operation an instruction.
+/// The parameters that compilers use for machines with one operation an instruction.
 impl Default for LineEncoding {
     ghost is_default = { λ encoding. encoding ≡ record {
       minimum_instruction_length = 1;
@@ -89,7 +90,7 @@ impl Default for LineEncoding {
 #[derive(Debug, Clone, Copy, PartialEq, Eq, PartialOrd, Ord, Hash)]
 pub struct Register(pub u16);
 
-/// A place in a section, in bytes from the section's start, as an error names it.
+/// An offset into a section, in bytes, as an error names it.
 #[derive(Debug, Clone, Copy, PartialEq, Eq, PartialOrd, Ord, Hash)]
 pub struct ReaderOffsetId(pub u64);
 
@@ -174,7 +175,7 @@ impl SectionId {
         }
     }
 
-    /// The section's name in a `.dwo` or `.dwp` file, if it can stand in one.
+    /// The section's name in a `.dwo` or `.dwp` file, if such a file can have it.
     pub fn dwo_name(self) -> Option<&'static str>
         ensures { option_map (λ s. s.now) result ≡ dwo_section_name self }
     {

@@ -1,4 +1,5 @@
 //! The constants of DWARF 5, section 7, and of the call frames of the LSB.
+
 ghost use Rattle.std.specs.Prelude.{◌≡◌, ◌↔◌, ◌==◌, IsTrue, IsBitSet, Contains, Some, bit_or, option_map, codes};
 ghost use Rattle.std.specs.List.{list_any};
 ghost use Rattle.dwarf_constants.specs.Names.{name_in, shown_code, cfa_names, children_names, operation_names, plain_operation_names, literal_names, register_offset_names, pointer_names};
@@ -494,35 +495,35 @@ impl DwEhPe {
         )
     }
 
-    /// How the value's bytes are read: the low four bits.
+    /// The format in which the value is encoded: the low four bits.
     pub fn format(self) -> DwEhPe
         ensures { result.0 ≡ format_of self.0 }
     {
         DwEhPe(self.0 & 0x0f)
     }
 
-    /// What is added to the value: bits 4 to 6.
+    /// What the value is relative to: bits 4 to 6.
     pub fn application(self) -> DwEhPe
         ensures { result.0 ≡ application_of self.0 }
     {
         DwEhPe(self.0 & 0x70)
     }
 
-    /// Whether no pointer stands there.
+    /// Whether there is no pointer.
     pub fn is_absent(self) -> bool
         ensures { IsTrue result ↔ (self.0 ≡ 0xff) }
     {
         self == DW_EH_PE_omit
     }
 
-    /// Whether the pointer stands at the address that is read: bit 7.
+    /// Whether the value is the address of the pointer: bit 7.
     pub fn is_indirect(self) -> bool
         ensures { IsTrue result ↔ IsBitSet self.0 7 }
     {
         self.0 & DW_EH_PE_indirect.0 != 0
     }
 
-    /// Whether this is a listed format with a listed application, direct or indirect, or `omit`.
+    /// Whether this is a format with an application, direct or indirect, or `omit`.
     pub fn is_valid_encoding(self) -> bool
         ensures { IsTrue result ↔ Contains valid_encodings self.0 }
     {

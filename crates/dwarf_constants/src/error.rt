@@ -6,7 +6,7 @@ use crate::constants::{DwCfa, DwChildren, DwEhPe};
 use std::alloc::{AllocError, AllocFailed};
 use std::fmt;
 
-/// Why bytes of a section were refused.
+/// Why bytes of a section can't be read.
 #[derive(Debug, Clone, Copy, PartialEq, Eq)]
 pub enum Error {
     // Lengths, addresses, strings and numbers of variable length (DWARF 5, 7.2.2, 7.5.5, 7.6).
@@ -40,9 +40,9 @@ pub enum Error {
     FuncRelativePointerInBadContext,
 
     // Entries of call frame information (DWARF 5, 6.4.1; LSB 5.0, 10.6).
-    /// An FDE stands at this place, where a CIE is wanted.
+    /// The entry at this offset is an FDE, and not a CIE.
     NotCieId(u64),
-    /// A CIE stands at this place, where an FDE is wanted.
+    /// The entry at this offset is a CIE, and not an FDE.
     NotCiePointer(u64),
     UnknownAugmentation,
     NoEntryAtGivenOffset,
@@ -133,5 +133,5 @@ impl<T: Drop> From<AllocFailed<T>> for Error {
     }
 }
 
-/// A value of a section, or why its bytes were refused.
+/// A value of a section, or why its bytes can't be read.
 pub type Result<T> = std::result::Result<T, Error>;

@@ -1,4 +1,4 @@
--- Numbers of several bytes, in either byte order: that of the file that a section is of, as ELF's header says it.
+-- Numbers of several bytes in either byte order; a section has the order of its file, which the ELF header gives.
 use Rattle.std.specs.Prelude.{ℕ, ◌+◌, ◌*◌, ◌^◌, List, [], ◌∷◌, length, Bool, true, false, not}
 use Rattle.std.specs.Int.{bytes_low_first, bytes_high_first}
 
@@ -12,7 +12,7 @@ abbrev pub big_endian : List ℕ → ℕ
 big_endian [] = 0
 big_endian (b ∷ bs) = b * 256 ^ length bs + big_endian bs
 
--- the number in some bytes: the most significant byte is the first where the order is big-endian, else the last
+-- the number in some bytes: the most significant byte is the first if the order is big-endian, else the last
 abbrev pub number_of : Bool → List ℕ → ℕ
 number_of true bytes = big_endian bytes
 number_of false bytes = little_endian bytes

@@ -3,7 +3,7 @@ use Rattle.std.specs.Prelude.{ℕ, ◌+◌, ◌-◌, ℤ, pos, negsuc, Result, O
 use Rattle.dwarf_constants.specs.declared.error.Error.{Error}
 use Rattle.dwarf_constants.specs.declared.error.Error.TheVariants.{UnsupportedOffset}
 
--- the offset of this value
+-- a number as an offset; an error if it is too large
 abbrev pub offset_below : ℕ → ℕ → Result ℕ Error
 offset_below limit n = if nat_lt n limit then Ok n else Err UnsupportedOffset
 

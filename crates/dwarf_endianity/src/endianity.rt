@@ -1,4 +1,4 @@
-//! The order in which the bytes of a number stand.
+//! The order of the bytes of a number.
 
 ghost use Rattle.std.specs.Prelude.{◌≡◌, ◌≤◌, ◌<◌, ◌++◌, Bool, true, false, not, refl, length, take, drop};
 ghost use Rattle.std.specs.Int.{w16, w32, w64, cast_signed};
@@ -169,7 +169,7 @@ pub trait Endianity: Debug + Default + Clone + Copy + PartialEq + Eq {
         }
     }
 
-    /// Byte orders are equal where both or neither has the most significant byte first.
+    /// Two byte orders are equal if both or neither have the most significant byte first.
     ghost equal: { (a b : Self) → Self.eq a b ≡ same_order (is_big a) (is_big b) };
 }
 

@@ -1,5 +1,4 @@
-//! What the numbers of a section are read by, below its readers: the order of their bytes, and the
-//! types of its offsets.
+//! The byte order of a section's numbers, and the types of its offsets.
 #![tactic(auto)]
 
 mod endianity;

@@ -10,7 +10,8 @@ use std::fmt::Debug;
 use std::hash::Hash;
 use std::ops::{Add, AddAssign, Sub};
 
-/// The type of a section's offsets: a number below a limit. Sums and differences need room.
+/// The type of a section's offsets: a number below a limit. A sum has to be below it too, and a
+/// difference has to be 0 or more.
 pub trait ReaderOffset: Debug
     + Copy
     + Eq
@@ -22,7 +23,7 @@ pub trait ReaderOffset: Debug
     /// The offset as a number.
     ghost value: { Self → ℕ };
 
-    /// What each offset is below.
+    /// The limit that every offset is below.
     ghost limit: { ℕ };
 
     fn from_u8(offset: u8) -> Self
@@ -38,7 +39,7 @@ pub trait ReaderOffset: Debug
     fn from_u32(offset: u32) -> Self
         ensures { value result ≡ offset };
 
-    /// Fails with `UnsupportedOffset` where the number is too large.
+    /// Fails with `UnsupportedOffset` if the number is too large.
     fn from_u64(offset: u64) -> Result<Self>
         ensures { Gives value result (offset_below limit offset) };
 
@@ -51,12 +52,12 @@ pub trait ReaderOffset: Debug
     fn wrapping_add(self, other: Self) -> Self
         ensures { value result ≡ (value self + value other) % limit };
 
-    /// The difference, or `None` where it is below 0.
+    /// The difference, or `None` if it is below 0.
     fn checked_sub(self, other: Self) -> Option<Self>
         ensures { option_map value result ≡ (if nat_le (value other) (value self)
             then Some (value self - value other) else None) };
 
-    /// A sum below the limit may be asked for.
+    /// The sum, which has to be below the limit.
     ghost adds: { (a b : Self) → value a + value b < limit → Self.can_add a b };
 
     ghost sum: { (a b c : Self) → Self.add_gives a b c → value c ≡ value a + value b };
@@ -65,7 +66,7 @@ pub trait ReaderOffset: Debug
 
     ghost sum_to: { (a b c : Self) → Self.add_assign_gives a b c → value c ≡ value a + value b };
 
-    /// A difference from 0 on may be asked for.
+    /// The difference, which has to be 0 or more.
     ghost subtracts: { (a b : Self) → value b ≤ value a → Self.can_sub a b };
 
     ghost difference: { (a b c : Self) → Self.sub_gives a b c → value c ≡ value a - value b };

@@ -1,4 +1,4 @@
--- Reads of operations leave what stands behind a place in the stretch that they read.
+-- Reads of operations leave what follows an offset in the stretch that they read.
 use Rattle.std.proofs.Common.{subst, ◌≡◌, ℕ, ◌+◌, ◌-◌, ◌≤◌, List, [], ◌∷◌, length, take, drop, Bool, Option, Some, None, Result, Ok, Err, add_assoc, add-zero, refl, sym, ap, ◌∙◌, arith, length-drop}
 use Rattle.std.specs.Prelude.{◌==◌, nat_lt, slice_index, if◌then◌else◌, option_map}
 use Rattle.std.specs.Int.{Width, w8, w16, w32, w64, byte_len, cast_signed}
@@ -11,13 +11,14 @@ use Rattle.dwarf_constants.specs.declared.error.Error.TheVariants.{BadSignedLeb1
 use Rattle.dwarf_endianity.specs.ByteOrder.{number_of}
 use Rattle.dwarf_readers.specs.InitialLength.{address_at, is_size}
 use Rattle.dwarf_readers.specs.Leb128.{leb128_within, signed_at, signed_in_range, string_of, unsigned_16_at, unsigned_at, unsigned_below, value_behind}
-use Rattle.dwarf_readers.specs.Place.{Stretch, ◌>>=◌, behind, byte_at, ends_at, number_at, signed_byte_at, signed_number_at}
+use Rattle.dwarf_readers.specs.Operands.{Parse, look_up, one}
+use Rattle.dwarf_readers.specs.Stretch.{Stretch, ◌>>=◌, behind, byte_at, ends_at, number_at, signed_byte_at, signed_number_at}
 use Rattle.dwarf_operations.specs.declared.op.Operation.{Operation}
 use Rattle.dwarf_operations.specs.declared.op.Operation.TheVariants.{Address, UnsignedConstant, SignedConstant, Pick, PlusConstant, Bra, Skip, RegisterOffset}
-use Rattle.dwarf_expressions.specs.EvaluationViews.{StandsAt}
-use Rattle.dwarf_operations.specs.Operations.{Operands, one, offset_of, register_and_offset, with_operands, without_operands, look_up, listed_operation, is_between, operation_by, operation_at}
+use Rattle.dwarf_expressions.specs.EvaluationViews.{IsRestAt}
+use Rattle.dwarf_operations.specs.Operations.{offset_of, register_and_offset, with_operands, without_operands, listed_operation, is_between, operation_by, operation_at, opcode_number}
 
--- rest stands behind a place in s
+-- rest begins at an offset in s
 pub record IsBehind (s rest : Stretch) : Type 0 where
   pub count : ℕ
   pub is : rest ≡ behind count s
@@ -27,13 +28,13 @@ pub record IsBehind (s rest : Stretch) : Type 0 where
 pub record StaysIn {A : Type 0} (s : Stretch) (read : Result (A × Stretch) Error) : Type 0 where
   pub left : (x : A) (rest : Stretch) → read ≡ Ok (x, rest) → IsBehind s rest
 
-same_stretch : (bytes others : List ℕ) (place other : ℕ) (big : Bool) → bytes ≡ others → place ≡ other
-    → let s : Stretch = record { bytes = bytes; place = place; big = big } in s ≡ record { bytes = others; place = other; big = big }
-same_stretch bytes others place other big e f =
-    ap (λ (x : List ℕ). let s : Stretch = record { bytes = x; place = place; big = big } in s) e ∙ ap (λ (y : ℕ). let s : Stretch = record { bytes = others; place = y; big = big } in s) f
+same_stretch : (bytes others : List ℕ) (offset other : ℕ) (big : Bool) → bytes ≡ others → offset ≡ other
+    → let s : Stretch = record { bytes = bytes; offset = offset; big = big } in s ≡ record { bytes = others; offset = other; big = big }
+same_stretch bytes others offset other big e f =
+    ap (λ (x : List ℕ). let s : Stretch = record { bytes = x; offset = offset; big = big } in s) e ∙ ap (λ (y : ℕ). let s : Stretch = record { bytes = others; offset = y; big = big } in s) f
 
 here : (s : Stretch) → IsBehind s s
-here s = record { count = 0; is = same_stretch s.bytes (drop 0 s.bytes) s.place (s.place + 0) s.big refl (sym (add-zero s.place)); within = omega arith }
+here s = record { count = 0; is = same_stretch s.bytes (drop 0 s.bytes) s.offset (s.offset + 0) s.big refl (sym (add-zero s.offset)); within = omega arith }
 
 further : (s t rest : Stretch) → IsBehind s t → IsBehind t rest → IsBehind s rest
 further s t rest a b =
@@ -43,8 +44,8 @@ further s t rest a b =
       is =
           b.is
           ∙ ap (behind b.count) a.is
-          ∙ same_stretch (drop b.count (drop a.count s.bytes)) (drop (a.count + b.count) s.bytes) (s.place + a.count + b.count) (s.place + (a.count + b.count)) s.big
-          (drop-drop b.count a.count s.bytes) (add_assoc s.place a.count b.count);
+          ∙ same_stretch (drop b.count (drop a.count s.bytes)) (drop (a.count + b.count) s.bytes) (s.offset + a.count + b.count) (s.offset + (a.count + b.count)) s.big
+          (drop-drop b.count a.count s.bytes) (add_assoc s.offset a.count b.count);
       within = (let h = b.within in let k = a.within in omega arith);
     }
 
@@ -89,16 +90,16 @@ leb128_stays {A} n bad fitting s = by (string_of (take n s.bytes)) refl
     by (Some string) is = let le = string_length (take n s.bytes) string is in value string (omega (arith, length-take n s.bytes)) (fitting string)
     by None is =
         by_case (nat_lt (length s.bytes) n)
-        (λ short. rw short (err_stays A s (ends_at (s.place + length s.bytes))))
+        (λ short. rw short (err_stays A s (ends_at (s.offset + length s.bytes))))
         (λ long. rw long (err_stays A s bad))
 
 -- ---- operands
 
--- operands leave what stands in the stretch
-pub record AreWithin (operands : Operands) : Type 0 where
+-- operands leave a part of the stretch
+pub record AreWithin (operands : Parse Operation) : Type 0 where
   pub stays : (s : Stretch) → StaysIn s (operands s)
 
-one_within : {A : Type 0} (operand : Stretch → Result (A × Stretch) Error) (operation : A → Operation) → ((s : Stretch) → StaysIn s (operand s)) → AreWithin (one operand operation)
+one_within : {A : Type 0} (operand : Parse A) (operation : A → Operation) → ((s : Stretch) → StaysIn s (operand s)) → AreWithin (one operand operation)
 one_within operand operation stays =
     record { stays = λ s. then_stays s (operand s) (λ value. Ok (operation value.0, value.1)) (stays s) (λ x rest. ok_stays rest rest (operation x) (here rest)) }
 
@@ -118,26 +119,26 @@ register_within = record {
 }
 
 number_stays : (n : ℕ) (s : Stretch) → StaysIn s (number_at n s)
-number_stays n s = fixed_stays n s (ends_at s.place) (number_of s.big (take n s.bytes))
+number_stays n s = fixed_stays n s (ends_at s.offset) (number_of s.big (take n s.bytes))
 
 signed_number_stays : (w : Width) (s : Stretch) → StaysIn s (signed_number_at w s)
-signed_number_stays w s = fixed_stays (byte_len w) s (ends_at s.place) (cast_signed w (number_of s.big (take (byte_len w) s.bytes)))
+signed_number_stays w s = fixed_stays (byte_len w) s (ends_at s.offset) (cast_signed w (number_of s.big (take (byte_len w) s.bytes)))
 
 byte_stays : (s : Stretch) → StaysIn s (byte_at s)
-byte_stays s = fixed_stays 1 s (ends_at s.place) (slice_index s.bytes 0)
+byte_stays s = fixed_stays 1 s (ends_at s.offset) (slice_index s.bytes 0)
 
 signed_byte_stays : (s : Stretch) → StaysIn s (signed_byte_at s)
-signed_byte_stays s = fixed_stays 1 s (ends_at s.place) (cast_signed w8 (slice_index s.bytes 0))
+signed_byte_stays s = fixed_stays 1 s (ends_at s.offset) (cast_signed w8 (slice_index s.bytes 0))
 
 address_stays : (size : ℕ) (s : Stretch) → StaysIn s (address_at size s)
 address_stays size s = by_case (is_size size) (λ is. rw is (number_stays size s)) (λ is. rw is (err_stays ℕ s (UnsupportedAddressSize size)))
 
 -- .. of each row
-data AllWithin : List (DwOp × Operands) → Type 0 where
+data AllWithin : List (DwOp × Parse Operation) → Type 0 where
   no_rows : AllWithin []
-  one_more : (code : DwOp) (operands : Operands) (rows : List (DwOp × Operands)) → AreWithin operands → AllWithin rows → AllWithin ((code, operands) ∷ rows)
+  one_more : (code : DwOp) (operands : Parse Operation) (rows : List (DwOp × Parse Operation)) → AreWithin operands → AllWithin rows → AllWithin ((code, operands) ∷ rows)
 
-and_then : {code : DwOp} {operands : Operands} {rows : List (DwOp × Operands)} → AreWithin operands → AllWithin rows → AllWithin ((code, operands) ∷ rows)
+and_then : {code : DwOp} {operands : Parse Operation} {rows : List (DwOp × Parse Operation)} → AreWithin operands → AllWithin rows → AllWithin ((code, operands) ∷ rows)
 and_then {code} {operands} {rows} first others = one_more code operands rows first others
 
 table_within : (size : ℕ) → AllWithin (with_operands size)
@@ -165,7 +166,7 @@ module _ (opcode : ℕ) (plain : Option Operation) where
   plain_stays (Some operation) s = ok_stays s s operation (here s)
   plain_stays None s = err_stays Operation s UnsupportedEvaluation
 
-  listed_stays : (rows : List (DwOp × Operands)) → AllWithin rows → (s : Stretch) → StaysIn s (listed_operation (look_up opcode rows) plain s)
+  listed_stays : (rows : List (DwOp × Parse Operation)) → AllWithin rows → (s : Stretch) → StaysIn s (listed_operation (look_up opcode_number opcode rows) plain s)
   listed_stays [] no_rows s = plain_stays plain s
   listed_stays ((code, operands) ∷ rows) (one_more _ _ _ first others) s =
       by_case (opcode == code.0)
@@ -178,18 +179,18 @@ said_stays size opcode s =
     (λ is. rw is (ok_stays s s (UnsignedConstant (opcode - DW_OP_lit0.0)) (here s)))
     (λ no. by_case (is_between DW_OP_breg0 DW_OP_breg31 opcode)
     (λ is. rw (no, is) ((offset_within (opcode - DW_OP_breg0.0)).stays s))
-    (λ is. rw (no, is) (listed_stays opcode (look_up opcode without_operands) (with_operands size) (table_within size) s)))
+    (λ is. rw (no, is) (listed_stays opcode (look_up opcode_number opcode without_operands) (with_operands size) (table_within size) s)))
 
 operation_stays : (size : ℕ) (s : Stretch) → StaysIn s (operation_at size s)
 operation_stays size s = then_stays s (byte_at s) (λ opcode. operation_by size opcode.0 opcode.1) (byte_stays s) (λ x rest. said_stays size x rest)
 
--- ---- places
+-- ---- offsets
 
--- behind a place in an expression an operation leaves what stands behind a place in it
-pub operation_stands : (size : ℕ) (expression rest left : Stretch) (place : ℕ) (operation : Operation) → StandsAt expression rest place → operation_at size rest ≡ Ok (operation, left)
-    → StandsAt expression left (left.place - expression.place)
-operation_stands size expression rest left place operation at is =
-    let now : IsBehind expression rest = record { count = place; is = at.rest_is; within = at.within } in
+-- an operation of an expression leaves what begins at an offset in it
+pub operation_stands : (size : ℕ) (expression rest left : Stretch) (offset : ℕ) (operation : Operation) → IsRestAt expression rest offset → operation_at size rest ≡ Ok (operation, left)
+    → IsRestAt expression left (left.offset - expression.offset)
+operation_stands size expression rest left offset operation at is =
+    let now : IsBehind expression rest = record { count = offset; is = at.rest_is; within = at.within } in
     let all = further expression rest left now ((operation_stays size rest).left operation left is) in
-    let same : left.place - expression.place ≡ all.count = ap (λ (s : Stretch). s.place - expression.place) all.is ∙ (let e : expression.place + all.count - expression.place ≡ all.count = omega arith in e) in
+    let same : left.offset - expression.offset ≡ all.count = ap (λ (s : Stretch). s.offset - expression.offset) all.is ∙ (let e : expression.offset + all.count - expression.offset ≡ all.count = omega arith in e) in
     record { rest_is = all.is ∙ ap (λ (k : ℕ). behind k expression) (sym same); within = (let h = all.within in omega arith) }

@@ -1,4 +1,4 @@
--- Of steps and runs: a register is asked for where fewer operations are left, and no refusal is want of memory.
+-- Of steps and runs: once a register is asked for, fewer operations are left, and no error is that there is no memory.
 use Rattle.std.proofs.Common.{◌≡◌, ◌∙◌, inl, inr, ℕ, zero, suc, ◌-◌, ◌<◌, Bool, true, false, cond, ℤ, pos, negsuc, List, [], ◌∷◌, length, take, Option, Some, None, Result, Ok, Err, refl, sym, ap, subst, arith}
 use Rattle.std.specs.Prelude.{◌==◌, ◌+◌, ◌+ℤ◌, ◌%◌, ◌^◌, if◌then◌else◌, nat_le, nat_lt, slice_get}
 use Rattle.std.specs.Int.{w16, w32, w64}
@@ -11,19 +11,20 @@ use Rattle.dwarf_constants.specs.declared.error.Error.{Error}
 use Rattle.dwarf_constants.specs.declared.error.Error.TheVariants.{BadSignedLeb128, BadUnsignedLeb128, BadBranchTarget, DivisionByZero, NotEnoughStackItems, OutOfMemory, StackFull, TooManyIterations, UnsupportedAddressSize, UnsupportedEvaluation}
 use Rattle.dwarf_readers.specs.InitialLength.{address_at, is_size}
 use Rattle.dwarf_readers.specs.Leb128.{leb128_within, signed_at, signed_in_range, string_of, unsigned_16_at, unsigned_at, unsigned_below, value_behind}
-use Rattle.dwarf_readers.specs.Place.{Stretch, ◌>>=◌, behind, byte_at, ends_at, number_at, requirement, signed_byte_at, signed_number_at}
+use Rattle.dwarf_readers.specs.Operands.{Parse, look_up, one}
+use Rattle.dwarf_readers.specs.Stretch.{Stretch, ◌>>=◌, behind, byte_at, ends_at, number_at, requirement, signed_byte_at, signed_number_at}
 use Rattle.dwarf_operations.specs.declared.op.Operation.{Operation}
 use Rattle.dwarf_operations.specs.declared.op.Operation.TheVariants.{Address, UnsignedConstant, SignedConstant, Pick, Drop, Swap, Rot, Abs, Div, Mod, Neg, Not, PlusConstant, Bra, Skip, RegisterOffset, Nop}
 use Rattle.dwarf_expressions.specs.Effects.{Stack, stack_without_top, has_room, of_top, of_two, stack_with, rotated_stack, stack_after, swapped_stack, unless_zero, with_top, with_two, stack_within}
-use Rattle.dwarf_expressions.specs.Evaluation.{Machine, Program, State, Ready, Asking, Finished, Refused, state_behind, branch_of, machine_after, last_step, operation_step, operations_left, state_by_operation, place_by, place_in, run, run_within, step}
+use Rattle.dwarf_expressions.specs.Evaluation.{StackMachine, EvaluationInput, EvaluationState, Ready, Asking, Finished, Refused, state_behind, branch_of, machine_after, last_step, operation_step, operations_left, state_by_operation, offset_by, branch_target, run, run_within, step}
 use Rattle.dwarf_expressions.specs.EvaluationViews.{IsReady, Stops, evaluation_state, stopped_state}
-use Rattle.dwarf_expressions.specs.declared.evaluation.EvaluationState.{EvaluationState}
+use Rattle.dwarf_expressions.specs.declared.evaluation.EvaluationState.{EvaluationState as StoredState}
 use Rattle.dwarf_expressions.specs.declared.evaluation.EvaluationState.TheVariants as state
 use Rattle.dwarf_expressions.specs.declared.machine.Stop.{Stop}
 use Rattle.dwarf_expressions.specs.declared.machine.Stop.TheVariants as stop
-use Rattle.dwarf_operations.specs.Operations.{Operands, is_between, listed_operation, look_up, offset_of, one, operation_at, register_and_offset, operation_by, with_operands, without_operands}
+use Rattle.dwarf_operations.specs.Operations.{is_between, listed_operation, offset_of, operation_at, register_and_offset, operation_by, with_operands, without_operands, opcode_number}
 
--- it isn't refused for want of memory
+-- it doesn't fail because there is no memory
 pub record HasMemory {A : Type 0} (answer : Result A Error) : Type 0 where
   pub never : answer ≡ Err OutOfMemory → ⊥
 
@@ -47,8 +48,8 @@ required false e other = refused e other
 
 -- ---- reads
 
-fixed_read : {A : Type 0} (n : ℕ) (s : Stretch) (x : A × Stretch) → HasMemory (if nat_lt (length s.bytes) n then Err (ends_at s.place) else Ok x)
-fixed_read n s x = either (nat_lt (length s.bytes) n) (Err (ends_at s.place)) (Ok x) (refused (ends_at s.place) (λ h. cc)) (given x)
+fixed_read : {A : Type 0} (n : ℕ) (s : Stretch) (x : A × Stretch) → HasMemory (if nat_lt (length s.bytes) n then Err (ends_at s.offset) else Ok x)
+fixed_read n s x = either (nat_lt (length s.bytes) n) (Err (ends_at s.offset)) (Ok x) (refused (ends_at s.offset) (λ h. cc)) (given x)
 
 value_read : {A : Type 0} (bad : Error) (string : List ℕ) (s : Stretch) (o : Option A) → (bad ≡ OutOfMemory → ⊥) → HasMemory (value_behind bad string s o)
 value_read bad string s (Some value) other = given (value, behind (length string) s)
@@ -57,7 +58,7 @@ value_read bad string s None other = refused bad other
 leb128_read : {A : Type 0} (n : ℕ) (bad : Error) (fitting : List ℕ → Option A) (s : Stretch) (o : Option (List ℕ)) → (bad ≡ OutOfMemory → ⊥) → HasMemory (leb128_within n bad fitting s o)
 leb128_read n bad fitting s (Some string) other = value_read bad string s (fitting string) other
 leb128_read n bad fitting s None other =
-    let end : ℕ = s.place + length s.bytes in
+    let end : ℕ = s.offset + length s.bytes in
     either (nat_lt (length s.bytes) n) (Err (ends_at end)) (Err bad) (refused (ends_at end) (λ h. cc)) (refused bad other)
 
 signed_read : (s : Stretch) → HasMemory (signed_at s)
@@ -72,11 +73,11 @@ address_read size s =
 
 -- ---- operations
 
--- operands are never refused for want of memory
-abbrev HaveMemory : Operands → Type 0
+-- operands never fail because there is no memory
+abbrev HaveMemory : Parse Operation → Type 0
 HaveMemory operands = (s : Stretch) → HasMemory (operands s)
 
-one_read : {A : Type 0} (operand : Stretch → Result (A × Stretch) Error) (operation : A → Operation) → ((s : Stretch) → HasMemory (operand s)) → HaveMemory (one operand operation)
+one_read : {A : Type 0} (operand : Parse A) (operation : A → Operation) → ((s : Stretch) → HasMemory (operand s)) → HaveMemory (one operand operation)
 one_read operand operation h s = behind_both (operand s) (λ value. Ok (operation value.0, value.1)) (h s) (λ value. given (operation value.0, value.1))
 
 offset_read : (register : ℕ) → HaveMemory (offset_of register)
@@ -88,7 +89,7 @@ register_read s =
     (leb128_read 3 BadUnsignedLeb128 (unsigned_below 16) s (string_of (take 3 s.bytes)) (λ h. cc)) (λ register. offset_read register.0 register.1)
 
 -- .. those of each row
-abbrev AllHaveMemory : List (DwOp × Operands) → Type 0
+abbrev AllHaveMemory : List (DwOp × Parse Operation) → Type 0
 AllHaveMemory [] = Unit {0}
 AllHaveMemory (row ∷ rows) = HaveMemory row.1 × AllHaveMemory rows
 
@@ -149,7 +150,7 @@ module _ (opcode : ℕ) where
   plain_read (Some operation) s = given (operation, s)
   plain_read None s = refused UnsupportedEvaluation (λ h. cc)
 
-  listed_read : (rows : List (DwOp × Operands)) (plain : Option Operation) → AllHaveMemory rows → (s : Stretch) → HasMemory (listed_operation (look_up opcode rows) plain s)
+  listed_read : (rows : List (DwOp × Parse Operation)) (plain : Option Operation) → AllHaveMemory rows → (s : Stretch) → HasMemory (listed_operation (look_up opcode_number opcode rows) plain s)
   listed_read [] plain h s = plain_read plain s
   listed_read (row ∷ rows) plain (first, others) s =
       by_case (opcode == row.0.0)
@@ -159,7 +160,7 @@ module _ (opcode : ℕ) where
 said_read : (size opcode : ℕ) → HaveMemory (operation_by size opcode)
 said_read size opcode s =
     either (is_between DW_OP_lit0 DW_OP_lit31 opcode) _ _ (given _)
-    (either (is_between DW_OP_breg0 DW_OP_breg31 opcode) _ _ (offset_read (opcode - DW_OP_breg0.0) s) (listed_read opcode (with_operands size) (look_up opcode without_operands) (table_read size) s))
+    (either (is_between DW_OP_breg0 DW_OP_breg31 opcode) _ _ (offset_read (opcode - DW_OP_breg0.0) s) (listed_read opcode (with_operands size) (look_up opcode_number opcode without_operands) (table_read size) s))
 
 operation_read : (size : ℕ) → HaveMemory (operation_at size)
 operation_read size s = behind_both (byte_at s) (λ opcode. operation_by size opcode.0 opcode.1) (fixed_read 1 s _) (λ opcode. said_read size opcode.0 opcode.1)
@@ -227,43 +228,43 @@ room_found capacity expected h =
 
 -- ---- machines
 
-place_found : (len : ℕ) (place : ℤ) → HasMemory (place_in len place)
-place_found len (pos place) = either (nat_le place len) (Ok place) _ (given place) (refused (BadBranchTarget (place % 2 ^ 64)) (λ h. cc))
-place_found len (negsuc before) = refused (BadBranchTarget (2 ^ 64 - 1 - before)) (λ h. cc)
+target_found : (len : ℕ) (offset : ℤ) → HasMemory (branch_target len offset)
+target_found len (pos offset) = either (nat_le offset len) (Ok offset) _ (given offset) (refused (BadBranchTarget (offset % 2 ^ 64)) (λ h. cc))
+target_found len (negsuc before) = refused (BadBranchTarget (2 ^ 64 - 1 - before)) (λ h. cc)
 
-branch_found : (len end : ℕ) (branch : Option ℤ) → HasMemory (place_by len end branch)
-branch_found len end (Some target) = place_found len (pos end +ℤ target)
+branch_found : (len end : ℕ) (branch : Option ℤ) → HasMemory (offset_by len end branch)
+branch_found len end (Some target) = target_found len (pos end +ℤ target)
 branch_found len end None = given end
 
--- what a step comes to: less is left than before, and no refusal is want of memory
-abbrev IsStep : ℕ → Result State Error → Type 0
+-- the outcome of a step: fewer operations are left than before, and no error is that there is no memory
+abbrev IsStep : ℕ → Result EvaluationState Error → Type 0
 IsStep left (Ok (Ready m)) = m.left < left
 IsStep left (Ok (Asking register offset m)) = m.left < left
 IsStep left (Ok (Finished value)) = Unit {0}
 IsStep left (Ok (Refused e)) = ⊥
 IsStep left (Err e) = e ≡ OutOfMemory → ⊥
 
-step_behind : {A : Type 0} (left : ℕ) (first : Result A Error) (next : A → Result State Error) → HasMemory first → ((x : A) → IsStep left (next x)) → IsStep left (first >>= next)
+step_behind : {A : Type 0} (left : ℕ) (first : Result A Error) (next : A → Result EvaluationState Error) → HasMemory first → ((x : A) → IsStep left (next x)) → IsStep left (first >>= next)
 step_behind left (Ok x) next h k = k x
 step_behind left (Err e) next h k = λ is. h.never (ap (λ (x : Error). Err x) is)
 
-either_step : (left : ℕ) (b : Bool) (x y : Result State Error) → (b ≡ true → IsStep left x) → (b ≡ false → IsStep left y) → IsStep left (cond b x y)
+either_step : (left : ℕ) (b : Bool) (x y : Result EvaluationState Error) → (b ≡ true → IsStep left x) → (b ≡ false → IsStep left y) → IsStep left (cond b x y)
 either_step left true x y h k = h refl
 either_step left false x y h k = k refl
 
-change_step : (p : Program) (m : Machine) (left : ℕ) (operation : Operation) → m.left < left → IsStep left (machine_after p m operation >>= λ next. Ok (Ready next))
+change_step : (p : EvaluationInput) (m : StackMachine) (left : ℕ) (operation : Operation) → m.left < left → IsStep left (machine_after p m operation >>= λ next. Ok (Ready next))
 change_step p m left operation less =
     let stack = stack_within p.capacity (stack_after p.address_size operation m.stack) in
-    let place = place_by (length p.expression.bytes) m.place (branch_of operation m.stack) in
-    step_two stack (room_found p.capacity _ (stack_effect p.address_size operation m.stack)) place (branch_found _ m.place (branch_of operation m.stack))
+    let offset = offset_by (length p.expression.bytes) m.offset (branch_of operation m.stack) in
+    step_two stack (room_found p.capacity _ (stack_effect p.address_size operation m.stack)) offset (branch_found _ m.offset (branch_of operation m.stack))
   where
-    step_two : (stack : Stack) → HasMemory stack → (place : Result ℕ Error) → HasMemory place
-        → IsStep left ((stack >>= λ values. place >>= λ at. Ok (let next : Machine = record { stack = values; place = at; left = m.left } in next)) >>= λ next. Ok (Ready next))
+    step_two : (stack : Stack) → HasMemory stack → (offset : Result ℕ Error) → HasMemory offset
+        → IsStep left ((stack >>= λ values. offset >>= λ at. Ok (let next : StackMachine = record { stack = values; offset = at; left = m.left } in next)) >>= λ next. Ok (Ready next))
     step_two (Ok values) h (Ok at) k = less
     step_two (Ok values) h (Err e) k = λ is. k.never (ap (λ (x : Error). Err x) is)
-    step_two (Err e) h place k = λ is. h.never (ap (λ (x : Error). Err x) is)
+    step_two (Err e) h offset k = λ is. h.never (ap (λ (x : Error). Err x) is)
 
-perform_step : (p : Program) (m : Machine) (left : ℕ) (operation : Operation) → m.left < left → IsStep left (state_by_operation p m operation)
+perform_step : (p : EvaluationInput) (m : StackMachine) (left : ℕ) (operation : Operation) → m.left < left → IsStep left (state_by_operation p m operation)
 perform_step p m left (RegisterOffset register offset) less = less
 perform_step p m left operation less = change_step p m left operation less
 
@@ -271,60 +272,60 @@ end_step : (left : ℕ) (stack : List ℕ) → IsStep left (last_step stack)
 end_step left (top ∷ rest) = tt
 end_step left [] = λ h. cc
 
-one_step : (p : Program) (m : Machine) → IsStep m.left (step p m)
+one_step : (p : EvaluationInput) (m : StackMachine) → IsStep m.left (step p m)
 one_step p m =
-    either_step m.left (m.place == length p.expression.bytes) (last_step m.stack) (operation_step p m) (λ _. end_step m.left m.stack)
+    either_step m.left (m.offset == length p.expression.bytes) (last_step m.stack) (operation_step p m) (λ _. end_step m.left m.stack)
     (λ _. either_step m.left (m.left == 0) (Err TooManyIterations) _ (λ _ h. cc)
     (λ some. let less : m.left - 1 < m.left = grind arith in
-    step_behind m.left (operation_at p.address_size (behind m.place p.expression)) _ (operation_read p.address_size (behind m.place p.expression))
-    (λ operation. perform_step p (record { stack = m.stack; place = operation.1.place - p.expression.place; left = m.left - 1 }) m.left operation.0 less)))
+    step_behind m.left (operation_at p.address_size (behind m.offset p.expression)) _ (operation_read p.address_size (behind m.offset p.expression))
+    (λ operation. perform_step p (record { stack = m.stack; offset = operation.1.offset - p.expression.offset; left = m.left - 1 }) m.left operation.0 less)))
 
 -- ---- runs
 
--- what a run comes to: a register is asked for where less is left than before, and no refusal is want of memory
-abbrev pub IsRun : ℕ → State → Type 0
+-- the outcome of a run: if a register is asked for, fewer operations are left than before, and no error is that there is no memory
+abbrev pub IsRun : ℕ → EvaluationState → Type 0
 IsRun left (Ready m) = Unit {0}
 IsRun left (Asking register offset m) = m.left < left
 IsRun left (Finished value) = Unit {0}
 IsRun left (Refused e) = e ≡ OutOfMemory → ⊥
 
-longer_run : (less left : ℕ) (state : State) → less < left → IsRun less state → IsRun left state
+longer_run : (less left : ℕ) (state : EvaluationState) → less < left → IsRun less state → IsRun left state
 longer_run less left (Ready m) below h = tt
 longer_run less left (Asking register offset m) below h = omega arith
 longer_run less left (Finished value) below h = tt
 longer_run less left (Refused e) below h = h
 
-few_steps : (n : ℕ) (p : Program) (m : Machine) → IsRun m.left (run_within n p m)
+few_steps : (n : ℕ) (p : EvaluationInput) (m : StackMachine) → IsRun m.left (run_within n p m)
 few_steps zero p m = tt
 few_steps (suc n) p m = on (λ next. few_steps n p next) (step p m) (one_step p m)
   where
-    on : ((next : Machine) → IsRun next.left (run_within n p next)) → (s : Result State Error) → IsStep m.left s → IsRun m.left (state_behind (run_within n p) s)
+    on : ((next : StackMachine) → IsRun next.left (run_within n p next)) → (s : Result EvaluationState Error) → IsStep m.left s → IsRun m.left (state_behind (run_within n p) s)
     on later (Ok (Ready next)) h = longer_run next.left m.left (run_within n p next) h (later next)
     on later (Ok (Asking register offset next)) h = h
     on later (Ok (Finished value)) h = tt
     on later (Ok (Refused e)) h = absurd h
     on later (Err e) h = h
 
-pub run_is : (p : Program) (m : Machine) → IsRun m.left (run p m)
+pub run_is : (p : EvaluationInput) (m : StackMachine) → IsRun m.left (run p m)
 unfolding run
 run_is p m = few_steps (suc m.left) p m
 
--- where a machine stopped and asks for a register, less is left than before
-pub asks_fewer : (capacity : Option ℕ) (p : Program) (m next : Machine) (s : Stop) (register : Register) (offset : ℤ) → Stops capacity (run p m) (Ok s) next → s ≡ stop.Asking register offset → next.left < m.left
+-- if a machine stopped and asks for a register, fewer operations are left than before
+pub asks_fewer : (capacity : Option ℕ) (p : EvaluationInput) (m next : StackMachine) (s : Stop) (register : Register) (offset : ℤ) → Stops capacity (run p m) (Ok s) next → s ≡ stop.Asking register offset → next.left < m.left
 asks_fewer capacity p m next s register offset stops is =
     let asks : run p m ≡ Asking register offset next = stops ∙ ap (λ (x : Stop). stopped_state x next) is in
-    let P : State → Type 0 = IsRun m.left in subst P asks (run_is p m)
+    let P : EvaluationState → Type 0 = IsRun m.left in subst P asks (run_is p m)
 
--- where a machine was refused for want of memory, its stack grows
-pub refused_grows : {A : Type 0} (capacity : Option ℕ) (p : Program) (m next : Machine) (e : Error) (answer : Result A Error) → Stops capacity (run p m) (Err e) next → answer ≡ Err e → answer ≡ Err OutOfMemory → capacity ≡ None
+-- if a machine failed because there was no memory, its stack grows
+pub refused_grows : {A : Type 0} (capacity : Option ℕ) (p : EvaluationInput) (m next : StackMachine) (e : Error) (answer : Result A Error) → Stops capacity (run p m) (Err e) next → answer ≡ Err e → answer ≡ Err OutOfMemory → capacity ≡ None
 refused_grows {A} capacity p m next e answer (inl stops) is memory =
     let same : ◌≡◌ {A = Result A Error} (Err e) (Err OutOfMemory) = sym is ∙ memory in
     let wanted : e ≡ OutOfMemory = cc in
-    let P : State → Type 0 = IsRun m.left in absurd (subst P stops (run_is p m) wanted)
+    let P : EvaluationState → Type 0 = IsRun m.left in absurd (subst P stops (run_is p m) wanted)
 refused_grows capacity p m next e answer (inr grows) is memory = grows.0
 
 -- what is left of an evaluation that can go on is its machine's
-pub ready_left : (kept : EvaluationState) (m : Machine) → IsReady (evaluation_state kept m) → operations_left (evaluation_state kept m) ≡ m.left
+pub ready_left : (kept : StoredState) (m : StackMachine) → IsReady (evaluation_state kept m) → operations_left (evaluation_state kept m) ≡ m.left
 ready_left state.Ready m h = refl
 ready_left (state.Asking register offset) m h = absurd h
 ready_left (state.Finished value) m h = absurd h

@@ -1,4 +1,4 @@
--- What becomes of a stack, where there is room for it.
+-- The stack after an operation, if there is room for it.
 use Rattle.std.proofs.Common.{◌≡◌, ℕ, ◌%◌, ◌≤◌, ◌<◌, true, List, ◌∷◌, length, reverse, pos, Option, Some, None, Result, Ok, Err, ◌⊎◌, inl, inr, subst, refl, sym, ap, ◌∙◌, arith}
 use Rattle.std.specs.Prelude.{slice_get}
 use Rattle.std.specs.Option.{ok_or}
@@ -6,7 +6,7 @@ use Rattle.std.proofs.Math.Nat.{mod-eq_of_lt}
 use Rattle.std.proofs.lemmas.List.{length-reverse}
 use Rattle.dwarf_constants.specs.declared.error.Error.{Error}
 use Rattle.dwarf_constants.specs.declared.error.Error.TheVariants.{NotEnoughStackItems}
-use Rattle.dwarf_readers.specs.Place.{◌>>=◌}
+use Rattle.dwarf_readers.specs.Stretch.{◌>>=◌}
 use Rattle.dwarf_storage.specs.Capacity.{IsWithin}
 use Rattle.dwarf_expressions.specs.Values.{modulus}
 use Rattle.dwarf_expressions.specs.Effects.{Stack, has_room, of_top, of_two, stack_after, stack_with, stack_with_copy, stack_within, with_top, with_two}

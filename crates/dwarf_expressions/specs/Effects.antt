@@ -1,52 +1,52 @@
--- What operations make of the stack (DWARF 5, 2.5.1), in whole numbers. A stack is the list of its values, the top first; an
--- address has n bytes.
+-- The effect of operations on the stack (DWARF 5, 2.5.1), in whole numbers. A stack is the list of its values, the top first;
+-- an address has n bytes.
 use Rattle.std.specs.Prelude.{ℕ, ◌+◌, ◌-◌, ◌*◌, ◌/◌, ◌%◌, ◌^◌, ◌==◌, ℤ, pos, neg_ℤ, ◌-ℤ◌, unsigned_abs, int_div, int_le, int_lt, List, [], ◌∷◌, length, nat_le, Bool, true, false, not, Option, Some, None, Result, Ok, Err, slice_get, bit_and, bit_or, bit_xor, if◌then◌else◌}
 use Rattle.std.specs.Int.Signed.{shr_z}
 use Rattle.std.specs.Option.{ok_or}
 use Rattle.dwarf_constants.specs.declared.error.Error.{Error}
 use Rattle.dwarf_constants.specs.declared.error.Error.TheVariants.{DivisionByZero, NotEnoughStackItems, StackFull, UnsupportedEvaluation}
-use Rattle.dwarf_readers.specs.Place.{◌>>=◌, requirement}
+use Rattle.dwarf_readers.specs.Stretch.{◌>>=◌, requirement}
 use Rattle.dwarf_expressions.specs.Values.{modulus, signed, value_of}
 use Rattle.dwarf_operations.specs.declared.op.Operation.{Operation}
 use Rattle.dwarf_operations.specs.declared.op.Operation.TheVariants.{Address, UnsignedConstant, SignedConstant, Pick, Drop, Swap, Rot, Abs, And, Div, Minus, Mod, Mul, Neg, Not, Or, Plus, PlusConstant, Shl, Shr, Shra, Xor, Bra, Eq, Ge, Gt, Le, Lt, Ne, Skip, RegisterOffset, Nop}
 
--- a stack, or the refusal
+-- a stack, or an error
 abbrev pub Stack : Type 0
 Stack = Result (List ℕ) Error
 
--- the value of a whole number is put on the stack
+-- the stack with the value of a whole number on top
 abbrev pub stack_with : ℕ → ℤ → List ℕ → Stack
 stack_with n z stack = Ok (value_of n z ∷ stack)
 
--- a copy of a value is put on the stack; 0 counts the top
+-- the stack with a copy of the value at an index on top; the top has index 0
 abbrev pub stack_with_copy : ℕ → List ℕ → Stack
 stack_with_copy index stack = do
   value ← ok_or (slice_get stack index) NotEnoughStackItems
   Ok (value ∷ stack)
 
--- the top is taken away
+-- the stack without its top
 abbrev pub stack_without_top : List ℕ → Stack
 stack_without_top (top ∷ rest) = Ok rest
 stack_without_top [] = Err NotEnoughStackItems
 
--- the top and the one below it change places
+-- the stack with its top and the value below it exchanged
 abbrev pub swapped_stack : List ℕ → Stack
 swapped_stack (top ∷ second ∷ rest) = Ok (second ∷ top ∷ rest)
 swapped_stack stack = Err NotEnoughStackItems
 
--- the top goes below the two under it
+-- the stack with its top moved below the two values under it
 abbrev pub rotated_stack : List ℕ → Stack
 rotated_stack (top ∷ second ∷ third ∷ rest) = Ok (second ∷ third ∷ top ∷ rest)
 rotated_stack stack = Err NotEnoughStackItems
 
--- what is made of the top takes its place
+-- the stack with the top replaced by what f gives for it
 abbrev pub with_top : ℕ → (ℕ → Result ℤ Error) → List ℕ → Stack
 with_top n f (top ∷ rest) = do
   result ← f top
   stack_with n result rest
 with_top n f [] = Err NotEnoughStackItems
 
--- what is made of the two values on top takes their place: the second is the left operand
+-- the stack with the two values on top replaced by what f gives for them: the second is the left operand
 abbrev pub with_two : ℕ → (ℕ → ℕ → Result ℤ Error) → List ℕ → Stack
 with_two n f (right ∷ left ∷ rest) = do
   result ← f left right
@@ -57,12 +57,12 @@ with_two n f stack = Err NotEnoughStackItems
 abbrev pub unless_zero : ℕ → ℤ → Result ℤ Error
 unless_zero divisor result = if divisor == 0 then Err DivisionByZero else Ok result
 
--- 1 where a comparison holds, else 0
+-- 1 if a comparison holds, else 0
 abbrev pub truth : Bool → ℤ
 truth true = pos 1
 truth false = pos 0
 
--- what operations make of the top (2.5.1.4)
+-- the result of an operation on the top (2.5.1.4)
 abbrev pub of_top : ℕ → Operation → ℕ → Result ℤ Error
 of_top n Abs v = Ok (pos (unsigned_abs (signed n v)))
 of_top n Neg v = Ok (neg_ℤ (pos v))
@@ -70,7 +70,7 @@ of_top n Not v = Ok (pos (modulus n - 1 - v))
 of_top n (PlusConstant value) v = Ok (pos (v + value))
 of_top n operation v = Err UnsupportedEvaluation
 
--- what operations make of the two values on top: arithmetic and logic (2.5.1.4), and comparisons (2.5.1.5)
+-- the result of an operation on the two values on top: arithmetic and logic (2.5.1.4), and comparisons (2.5.1.5)
 abbrev pub of_two : ℕ → Operation → ℕ → ℕ → Result ℤ Error
 of_two n And left right = Ok (pos (bit_and left right))
 of_two n Div left right = unless_zero right (int_div (signed n left) (signed n right))
@@ -91,7 +91,7 @@ of_two n Lt left right = Ok (truth (int_lt (signed n left) (signed n right)))
 of_two n Ne left right = Ok (truth (not (left == right)))
 of_two n operation left right = Err UnsupportedEvaluation
 
--- the stack that an operation leaves; all that stand in no line of their own take two values
+-- the stack after an operation; an operation without a line of its own takes two values
 abbrev pub stack_after : ℕ → Operation → List ℕ → Stack
 stack_after n (Address address) stack = Err UnsupportedEvaluation
 stack_after n (UnsignedConstant value) stack = stack_with n (pos value) stack
@@ -110,12 +110,12 @@ stack_after n (RegisterOffset register offset) stack = Ok stack
 stack_after n Nop stack = Ok stack
 stack_after n operation stack = with_two n (of_two n operation) stack
 
--- there is room for a stack
+-- a stack fits the capacity, if there is one
 abbrev pub has_room : Option ℕ → List ℕ → Bool
 has_room (Some capacity) stack = nat_le (length stack) capacity
 has_room None stack = true
 
--- a stack, where there is room for it
+-- a stack, if it fits the capacity
 abbrev pub stack_within : Option ℕ → Stack → Stack
 stack_within capacity expected = do
   stack ← expected

@@ -4,17 +4,17 @@ use Rattle.dwarf_constants.specs.declared.error.Error.{Error}
 use Rattle.dwarf_constants.specs.declared.error.Error.TheVariants.{OutOfMemory}
 use Rattle.dwarf_expressions.specs.Effects.{Stack, stack_within}
 
--- what a stack of values is: the size of an address in bytes, and the values, the top first
+-- a stack of values: the size of an address in bytes, and the values, the top first
 pub record SizedValues : Type 0 where
   pub address_size : ℕ
   pub values : List ℕ
 
--- A stack became what is said here, or it was refused so; or memory was wanted, which a stack that grows takes.
+-- A stack became the expected one, or an operation failed with the expected error; or there was no memory for a stack that grows.
 abbrev pub Becomes : Option ℕ → Stack → Result (Unit {0}) Error → List ℕ → Type 0
 Becomes capacity expected (Ok _) new = stack_within capacity expected ≡ Ok new
 Becomes capacity expected (Err e) new = (stack_within capacity expected ≡ Err e) ⊎ ((capacity ≡ None) × (e ≡ OutOfMemory))
 
--- A stack became what is said here, and no longer, or it was refused so.
+-- A stack, which became no longer, became the expected one, or an operation failed with the expected error.
 abbrev pub Leaves : Stack → Result (Unit {0}) Error → List ℕ → Type 0
 Leaves expected (Ok _) new = expected ≡ Ok new
 Leaves expected (Err e) new = expected ≡ Err e

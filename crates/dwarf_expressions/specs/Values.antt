@@ -13,7 +13,7 @@ modulus n = 2 ^ (8 * n)
 abbrev pub value_of : ℕ → ℤ → ℕ
 value_of n z = unsigned_abs (int_rem_euclid z (pos (modulus n)))
 
--- .. as what was worked out
+-- the value of a whole number, as a result without an error
 abbrev pub value_from : ℕ → ℤ → Result ℕ Error
 value_from n z = Ok (value_of n z)
 

@@ -1,16 +1,16 @@
 //! The evaluation of expressions (DWARF 5, 2.5).
 
 ghost use Rattle.std.specs.Prelude.{◌≡◌, ◌<◌, true, Err, IfOk, IfErr, IsOk, IsTrue, Ok};
-ghost use Rattle.dwarf_constants.specs.declared.error.Error.TheVariants.{OutOfMemory, UnsupportedAddressSize};
+ghost use Rattle.dwarf_constants.specs.declared.error.Error.TheVariants.{OutOfMemory};
 ghost use Rattle.dwarf_readers.specs.InitialLength.{is_size};
-ghost use Rattle.dwarf_expressions.specs.Evaluation.{Answers, CanResume, ComesTo, IsNotMade, Progress, Ready, Refused, StaysStopped, WantsMemory, first_machine, operations_left, state_reached, state_reached_with, value_in};
+ghost use Rattle.dwarf_expressions.specs.Evaluation.{CanResume, EvaluationModel, GoesTo, IsNotMade, Ready, Refused, StaysStopped, WantsMemory, first_machine, operations_left, state_reached, state_reached_with, value_in};
 ghost use Rattle.dwarf_expressions.specs.EvaluationViews.{AddsOffset, IsReady, evaluation_state};
 ghost use Rattle.dwarf_expressions.specs.Values.{generic_of};
 ghost use Rattle.dwarf_constants.specs.declared.common.Register.{Register};
 ghost use Rattle.dwarf_constants.specs.declared.error.Error.{Error};
 ghost use Rattle.dwarf_expressions.specs.declared.evaluation.EvaluationResult.TheVariants.{RequiresRegister};
 
-use crate::machine::{Machine, Stop};
+use crate::machine::{StackMachine, Stop};
 use crate::value::Value;
 use dwarf_constants::{Encoding, Error, Register, Result};
 use dwarf_operations::Expression;
@@ -19,28 +19,28 @@ use dwarf_storage::{ArrayLike, StoreOnHeap};
 use std::alloc::Global;
 use std::marker::Model;
 
-/// Where the values of an evaluation lie.
+/// The storage of an evaluation.
 pub trait EvaluationStorage {
     /// The stack of values.
     type Stack: ArrayLike<Item = u64>;
 }
 
-/// As many values as there is memory for.
+/// The stack grows as long as there is memory.
 impl EvaluationStorage for StoreOnHeap {
     type Stack = Vec<u64>;
 }
 
-/// What an evaluation answers, where it isn't refused.
+/// Why an evaluation stopped without an error.
 #[derive(Debug, Clone, Copy, PartialEq, Eq)]
 pub enum EvaluationResult {
-    /// It is over, and has a value.
+    /// It is over, and has a value: [`value_result`](Evaluation::value_result).
     Complete,
-    /// It asks for the value of a register, with which
-    /// [`resume_with_register`](Evaluation::resume_with_register) goes on.
+    /// It needs the value of a register:
+    /// [`resume_with_register`](Evaluation::resume_with_register) goes on with it.
     RequiresRegister { register: Register },
 }
 
-/// How far an evaluation has come.
+/// The state of an evaluation.
 #[derive(Debug, Clone, Copy)]
 enum EvaluationState {
     Ready,
@@ -49,15 +49,15 @@ enum EvaluationState {
     Refused { error: Error },
 }
 
-/// The evaluation of an expression.
+/// The evaluation of an expression (DWARF 5, 2.5).
 #[derive(Drop)]
 pub struct Evaluation<R: Reader, S: EvaluationStorage> {
-    machine: Machine<R, S::Stack>,
+    machine: StackMachine<R, S::Stack>,
     state: EvaluationState,
 }
 
 impl<R: Reader, S: EvaluationStorage> Model for Evaluation<R, S> {
-    ghost Value = { Progress };
+    ghost Value = { EvaluationModel };
 
     ghost view = { λ e. record {
       program = e.machine.program;
@@ -66,8 +66,8 @@ impl<R: Reader, S: EvaluationStorage> Model for Evaluation<R, S> {
 }
 
 impl<R: Reader, S: EvaluationStorage> Evaluation<R, S> {
-    /// The evaluation of an expression from its start. Fails with `UnsupportedAddressSize` where
-    /// addresses haven't 1, 2, 4 or 8 bytes.
+    /// The evaluation of an expression from its start. Fails with `UnsupportedAddressSize` if
+    /// addresses haven't 1, 2, 4 or 8 bytes, and with `OutOfMemory` if the stack fails to allocate.
     pub fn new_in(
         alloc: Global,
         expression: Expression<R>,
@@ -86,21 +86,18 @@ impl<R: Reader, S: EvaluationStorage> Evaluation<R, S> {
         ensures memory { IsTrue S.Stack.is_made_in_place → is_size encoding.address_size ≡ true
             → IsOk result }
     {
-        let machine = Machine::new_in(alloc, expression, encoding)?;
+        let machine = StackMachine::new_in(alloc, expression, encoding)?;
         Ok(Evaluation {
             machine,
             state: EvaluationState::Ready,
         })
     }
 
-    /// Evaluates the expression to its end, until it asks for a register, or to the first refusal.
-    /// A later call answers the same again.
+    /// Evaluates the expression to its end, until it asks for a register, or to the first error. A
+    /// later call returns the same again.
     pub fn evaluate(&mut self) -> Result<EvaluationResult>
-        ensures program { self.new.program ≡ self.old.program }
-        ensures state { ComesTo self.old.program.capacity
-            (state_reached self.old.program self.old.state) self.new.state }
-        ensures answer { Answers self.new.state result }
-        ensures refused { IfErr result (λ e. self.new.state ≡ Refused e) }
+        ensures goes { GoesTo self.old self.new
+            (state_reached self.old.program self.old.state) result }
         ensures stays { StaysStopped self.old.state self.new.state }
         ensures asks { (register : Register) → result ≡ Ok (RequiresRegister register)
             → CanResume self.new.state }
@@ -116,15 +113,12 @@ impl<R: Reader, S: EvaluationStorage> Evaluation<R, S> {
         }
     }
 
-    /// Goes on with the value of the register that was asked for. After a refusal it answers the
-    /// refusal. Where it asks for a register again, fewer operations may still run.
+    /// Goes on with the value of the register that was asked for. After an error it returns the error
+    /// again. If it asks for a register again, fewer operations may still run.
     pub fn resume_with_register(&mut self, value: Value) -> Result<EvaluationResult>
         requires { CanResume self.old.state }
-        ensures program { self.new.program ≡ self.old.program }
-        ensures state { ComesTo self.old.program.capacity
-            (state_reached_with self.old.program (generic_of value) self.old.state) self.new.state }
-        ensures answer { Answers self.new.state result }
-        ensures refused { IfErr result (λ e. self.new.state ≡ Refused e) }
+        ensures goes { GoesTo self.old self.new
+            (state_reached_with self.old.program (generic_of value) self.old.state) result }
         ensures again { (e : Error) → self.old.state ≡ Refused e → self.new.state ≡ Refused e }
         ensures asks { (register : Register) → result ≡ Ok (RequiresRegister register)
             → CanResume self.new.state }
@@ -140,7 +134,7 @@ impl<R: Reader, S: EvaluationStorage> Evaluation<R, S> {
         }
     }
 
-    /// The value of the expression, where its evaluation is over.
+    /// The value of the expression, if its evaluation is over.
     pub fn value_result(&self) -> Option<u64>
         ensures { result ≡ value_in self.now.state }
     {
@@ -150,14 +144,11 @@ impl<R: Reader, S: EvaluationStorage> Evaluation<R, S> {
         }
     }
 
-    /// Goes on with a register's value, which is this number, plus the offset.
+    // Goes on with a register's value, `number`, plus the offset.
     fn answer(&mut self, number: u64, offset: i64) -> Result<EvaluationResult>
         requires { AddsOffset self.old.state offset }
-        ensures program { self.new.program ≡ self.old.program }
-        ensures state { ComesTo self.old.program.capacity
-            (state_reached_with self.old.program number self.old.state) self.new.state }
-        ensures answer { Answers self.new.state result }
-        ensures refused { IfErr result (λ e. self.new.state ≡ Refused e) }
+        ensures goes { GoesTo self.old self.new
+            (state_reached_with self.old.program number self.old.state) result }
         ensures asks { (register : Register) → result ≡ Ok (RequiresRegister register)
             → CanResume self.new.state }
         ensures fewer { (register : Register) → result ≡ Ok (RequiresRegister register)
@@ -173,7 +164,7 @@ impl<R: Reader, S: EvaluationStorage> Evaluation<R, S> {
         }
     }
 
-    /// Keeps a refusal, which every later call answers.
+    // Keeps an error, which every later call returns.
     fn refuse(&mut self, error: Error) -> Result<EvaluationResult>
         ensures program { self.new.program ≡ self.old.program }
         ensures state { self.new.state ≡ Refused error }
@@ -183,14 +174,11 @@ impl<R: Reader, S: EvaluationStorage> Evaluation<R, S> {
         Err(error)
     }
 
-    /// Runs the machine, and keeps where it stops.
+    // Runs the machine, and keeps the state in which it stops.
     fn go_on(&mut self) -> Result<EvaluationResult>
         requires { IsReady self.old.state }
-        ensures program { self.new.program ≡ self.old.program }
-        ensures state { ComesTo self.old.program.capacity
-            (state_reached self.old.program self.old.state) self.new.state }
-        ensures answer { Answers self.new.state result }
-        ensures refused { IfErr result (λ e. self.new.state ≡ Refused e) }
+        ensures goes { GoesTo self.old self.new
+            (state_reached self.old.program self.old.state) result }
         ensures asks { (register : Register) → result ≡ Ok (RequiresRegister register)
             → CanResume self.new.state }
         ensures fewer { (register : Register) → result ≡ Ok (RequiresRegister register)

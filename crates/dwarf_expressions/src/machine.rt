@@ -1,13 +1,12 @@
 //! The machine that runs the operations of an expression (DWARF 5, 2.5).
 
 ghost use Rattle.std.specs.Prelude.{◌≡◌, ◌≤◌, ◌-◌, ◌+ℤ◌, pos, IfOk, IfErr, IsTrue, IsOk, Ok, length, true};
-ghost use Rattle.std.specs.Prelude.{◌⊎◌, ◌==◌, false};
-ghost use Rattle.dwarf_constants.specs.declared.error.Error.TheVariants.{OutOfMemory, UnsupportedAddressSize};
+ghost use Rattle.std.specs.Prelude.{◌==◌};
 ghost use Rattle.dwarf_readers.specs.InitialLength.{is_size};
 ghost use Rattle.dwarf_endianity.specs.Answers.{Gives};
-ghost use Rattle.dwarf_readers.specs.Place.{◌>>=◌ as ◌and_then◌, behind, end_of};
-ghost use Rattle.dwarf_expressions.specs.Evaluation.{IsNotMade, first_machine, machine_after, machine_with, operation_step, place_in, run, state_by_operation, top_of};
-ghost use Rattle.dwarf_expressions.specs.EvaluationViews.{Changes, Comes, Course, StandsAt, Stops};
+ghost use Rattle.dwarf_readers.specs.Stretch.{end_of};
+ghost use Rattle.dwarf_expressions.specs.Evaluation.{IsNotMade, first_machine, machine_after, machine_with, operation_step, branch_target, run, state_by_operation, top_of};
+ghost use Rattle.dwarf_expressions.specs.EvaluationViews.{Changes, Comes, Course, IsRestAt, Stops, rest_at_target};
 
 use crate::stack::ValueStack;
 use crate::value::AddressSize;
@@ -21,7 +20,7 @@ use std::marker::Model;
 /// How many operations an evaluation may run.
 const OPERATION_LIMIT: u32 = 4096;
 
-/// Why a machine stopped, where it wasn't refused.
+/// Why a machine stopped without an error.
 #[derive(Debug, Clone, Copy)]
 pub(crate) enum Stop {
     /// The expression is over, and has this value.
@@ -32,7 +31,7 @@ pub(crate) enum Stop {
 
 /// A stack of values, and what is left of an expression.
 #[derive(Drop)]
-pub(crate) struct Machine<R: Reader, L: ArrayLike<Item = u64>> {
+pub(crate) struct StackMachine<R: Reader, L: ArrayLike<Item = u64>> {
     expression: R,
     rest: R,
     encoding: Encoding,
@@ -41,7 +40,7 @@ pub(crate) struct Machine<R: Reader, L: ArrayLike<Item = u64>> {
     left: u32,
 }
 
-impl<R: Reader, L: ArrayLike<Item = u64>> Model for Machine<R, L> {
+impl<R: Reader, L: ArrayLike<Item = u64>> Model for StackMachine<R, L> {
     ghost Value = { Course };
 
     ghost view = { λ m. record {
@@ -52,24 +51,24 @@ impl<R: Reader, L: ArrayLike<Item = u64>> Model for Machine<R, L> {
       };
       machine = record {
         stack = m.stack.values;
-        place = (R.stretch m.rest).place - (R.stretch m.expression).place;
+        offset = (R.stretch m.rest).offset - (R.stretch m.expression).offset;
         left = m.left;
       };
     } };
 
-    ghost invariant = { λ m. StandsAt (R.stretch m.expression) (R.stretch m.rest)
-        ((R.stretch m.rest).place - (R.stretch m.expression).place)
+    ghost invariant = { λ m. IsRestAt (R.stretch m.expression) (R.stretch m.rest)
+        ((R.stretch m.rest).offset - (R.stretch m.expression).offset)
         × (m.stack.address_size ≡ m.encoding.address_size) };
 }
 
-impl<R: Reader, L: ArrayLike<Item = u64>> Machine<R, L> {
-    /// The machine at the expression's start. Fails with `UnsupportedAddressSize` where addresses
-    /// haven't 1, 2, 4 or 8 bytes.
+impl<R: Reader, L: ArrayLike<Item = u64>> StackMachine<R, L> {
+    /// The machine at the expression's start. Fails with `UnsupportedAddressSize` if addresses haven't
+    /// 1, 2, 4 or 8 bytes, and with `OutOfMemory` if the stack fails to allocate.
     pub(crate) fn new_in(
         alloc: Global,
         expression: Expression<R>,
         encoding: Encoding,
-    ) -> Result<Machine<R, L>>
+    ) -> Result<StackMachine<R, L>>
         ensures first { IfOk result (λ m. m ≡ record {
           program = record {
             expression = R.stretch expression.0;
@@ -85,7 +84,7 @@ impl<R: Reader, L: ArrayLike<Item = u64>> Machine<R, L> {
     {
         let size = AddressSize::new(encoding.address_size)?;
         let stack = ValueStack::new_in(alloc, size)?;
-        Ok(Machine {
+        Ok(StackMachine {
             expression: expression.0,
             rest: expression.0,
             encoding,
@@ -94,7 +93,7 @@ impl<R: Reader, L: ArrayLike<Item = u64>> Machine<R, L> {
         })
     }
 
-    /// Puts a number plus an offset on the stack.
+    /// Pushes a number plus an offset.
     pub(crate) fn push_sum(&mut self, number: u64, offset: i64) -> Result<()>
         ensures program { self.new.program ≡ self.old.program }
         ensures changes { Changes self.old.program.capacity
@@ -103,8 +102,7 @@ impl<R: Reader, L: ArrayLike<Item = u64>> Machine<R, L> {
         self.stack.push_sum(number, offset)
     }
 
-    /// Runs to the expression's end, until an operation asks for a register, or to the first
-    /// refusal.
+    /// Runs to the expression's end, until an operation asks for a register, or to the first error.
     pub(crate) fn run(&mut self) -> Result<Stop>
         ensures program { self.new.program ≡ self.old.program }
         ensures stops { Stops self.old.program.capacity
@@ -119,21 +117,21 @@ impl<R: Reader, L: ArrayLike<Item = u64>> Machine<R, L> {
         Ok(Stop::Finished { value })
     }
 
-    /// The top of the stack.
+    // The top of the stack.
     fn top(&self) -> Result<u64>
         ensures { top_of self.now.machine.stack ≡ result }
     {
         self.stack.get(0)
     }
 
-    /// Whether the expression is over.
+    // Whether the expression is over.
     fn is_at_end(&self) -> bool
-        ensures { result ≡ (self.now.machine.place == length self.now.program.expression.bytes) }
+        ensures { result ≡ (self.now.machine.offset == length self.now.program.expression.bytes) }
     {
         self.rest.is_empty()
     }
 
-    /// Runs the operation at the machine's place.
+    // Runs the operation at the machine's offset.
     #[inline(always)]
     fn step(&mut self) -> Result<Option<Stop>>
         ensures program { self.new.program ≡ self.old.program }
@@ -150,7 +148,7 @@ impl<R: Reader, L: ArrayLike<Item = u64>> Machine<R, L> {
         self.perform(operation)
     }
 
-    /// Does what an operation does, at whose end the machine stands.
+    // Runs an operation, whose end is the machine's offset.
     #[inline(always)]
     fn perform(&mut self, operation: Operation) -> Result<Option<Stop>>
         ensures program { self.new.program ≡ self.old.program }
@@ -169,7 +167,7 @@ impl<R: Reader, L: ArrayLike<Item = u64>> Machine<R, L> {
         }
     }
 
-    /// Changes the stack and the place as an operation does.
+    // Changes the stack and the offset as an operation does.
     #[inline(always)]
     fn change(&mut self, operation: Operation) -> Result<()>
         ensures program { self.new.program ≡ self.old.program }
@@ -179,37 +177,36 @@ impl<R: Reader, L: ArrayLike<Item = u64>> Machine<R, L> {
         let branch = self.stack.branch(operation);
         self.stack.apply(operation)?;
         if let Some(target) = branch {
-            self.rest = behind_branch(self.expression, self.rest, target)?;
+            self.rest = rest_after_branch(self.expression, self.rest, target)?;
         }
         Ok(())
     }
 }
 
-/// The place of a branch's target, which is counted from the operation's end, in an expression of
-/// this length.
-fn place_of_branch(len: u64, end: u64, target: i64) -> Result<u64>
-    ensures { result ≡ place_in len (pos end +ℤ target) }
+// The offset of a branch's target in an expression of this length. The target is relative to the
+// operation's end.
+fn target_of_branch(len: u64, end: u64, target: i64) -> Result<u64>
+    ensures { result ≡ branch_target len (pos end +ℤ target) }
 {
     match end.checked_add_signed(target) {
-        Some(place) if place <= len => Ok(place),
-        Some(place) => Err(Error::BadBranchTarget(place)),
+        Some(offset) if offset <= len => Ok(offset),
+        Some(offset) => Err(Error::BadBranchTarget(offset)),
         None => Err(Error::BadBranchTarget(end.wrapping_add_signed(target))),
     }
 }
 
-/// What is left of an expression behind a branch's target, which is counted from `rest`, the
-/// operation's end.
-fn behind_branch<R: Reader>(expression: R, rest: R, target: i16) -> Result<R>
-    requires from { (R.stretch expression).place ≤ (R.stretch rest).place }
-    requires to { (R.stretch rest).place ≤ end_of (R.stretch expression) }
-    ensures { Gives R.stretch result (place_in (length (R.stretch expression).bytes)
-        (pos ((R.stretch rest).place - (R.stretch expression).place) +ℤ target)
-        and_then λ place. Ok (behind place (R.stretch expression))) }
+// What is left of an expression after a branch. The target is relative to the start of `rest`, which
+// is the operation's end.
+fn rest_after_branch<R: Reader>(expression: R, rest: R, target: i16) -> Result<R>
+    requires from { (R.stretch expression).offset ≤ (R.stretch rest).offset }
+    requires to { (R.stretch rest).offset ≤ end_of (R.stretch expression) }
+    ensures { Gives R.stretch result
+        (rest_at_target (R.stretch expression) (R.stretch rest) target) }
 {
     let end = rest.offset_from(&expression).into_u64();
     let len = expression.len().into_u64();
-    let place = place_of_branch(len, end, i64::from(target))?;
+    let offset = target_of_branch(len, end, i64::from(target))?;
     let mut rest = expression;
-    rest.skip(R::Offset::from_u64(place)?)?;
+    rest.skip(R::Offset::from_u64(offset)?)?;
     Ok(rest)
 }

@@ -50,14 +50,14 @@ impl<L: ArrayLike<Item = u64>> ValueStack<L> {
         Ok(ValueStack { size, items })
     }
 
-    /// How many values there are.
+    // How many values there are.
     fn len(&self) -> usize
         ensures { result ≡ length self.now.values }
     {
         self.items.as_slice().len()
     }
 
-    /// Puts a value on top.
+    // Pushes a value.
     fn push_value(&mut self, value: u64) -> Result<()>
         requires { value < modulus self.old.address_size }
         ensures size { self.new.address_size ≡ self.old.address_size }
@@ -72,7 +72,7 @@ impl<L: ArrayLike<Item = u64>> ValueStack<L> {
         }
     }
 
-    /// Puts the value of a number on top.
+    // Pushes the value of a number.
     fn push(&mut self, number: u64) -> Result<()>
         ensures size { self.new.address_size ≡ self.old.address_size }
         ensures becomes { Becomes L.capacity
@@ -82,7 +82,7 @@ impl<L: ArrayLike<Item = u64>> ValueStack<L> {
         self.push_value(value)
     }
 
-    /// Puts the value of a number plus an offset on top.
+    /// Pushes the value of a number plus an offset.
     pub(crate) fn push_sum(&mut self, number: u64, offset: i64) -> Result<()>
         ensures size { self.new.address_size ≡ self.old.address_size }
         ensures becomes { Becomes L.capacity
@@ -93,7 +93,7 @@ impl<L: ArrayLike<Item = u64>> ValueStack<L> {
         self.push_value(value)
     }
 
-    /// Takes the top away.
+    // Removes the top, and returns it.
     fn pop(&mut self) -> Result<u64>
         ensures size { self.new.address_size ≡ self.old.address_size }
         ensures top { MatchResult result (λ top. self.old.values ≡ top ∷ self.new.values)
@@ -116,7 +116,7 @@ impl<L: ArrayLike<Item = u64>> ValueStack<L> {
         Ok(items[items.len() - 1 - depth])
     }
 
-    /// Writes the value at a depth.
+    // Writes the value at a depth.
     fn put(&mut self, depth: usize, value: u64)
         requires there { depth < length self.old.values }
         requires below { value < modulus self.old.address_size }
@@ -129,7 +129,7 @@ impl<L: ArrayLike<Item = u64>> ValueStack<L> {
         }
     }
 
-    /// Puts a copy of the value at a depth on top.
+    // Pushes a copy of the value at a depth.
     fn pick(&mut self, index: u8) -> Result<()>
         ensures size { self.new.address_size ≡ self.old.address_size }
         ensures becomes { Becomes L.capacity (stack_with_copy index self.old.values) result
@@ -139,7 +139,7 @@ impl<L: ArrayLike<Item = u64>> ValueStack<L> {
         self.push(value)
     }
 
-    /// Takes the top away.
+    // Removes the top.
     fn drop_top(&mut self) -> Result<()>
         ensures size { self.new.address_size ≡ self.old.address_size }
         ensures shorter { length self.new.values ≤ length self.old.values }
@@ -149,7 +149,7 @@ impl<L: ArrayLike<Item = u64>> ValueStack<L> {
         Ok(())
     }
 
-    /// Exchanges the top and the value below it.
+    // Exchanges the top and the value below it.
     fn swap(&mut self) -> Result<()>
         ensures size { self.new.address_size ≡ self.old.address_size }
         ensures shorter { length self.new.values ≤ length self.old.values }
@@ -162,7 +162,7 @@ impl<L: ArrayLike<Item = u64>> ValueStack<L> {
         Ok(())
     }
 
-    /// Moves the top below the two values under it.
+    // Moves the top below the two values under it.
     fn rotate(&mut self) -> Result<()>
         ensures size { self.new.address_size ≡ self.old.address_size }
         ensures shorter { length self.new.values ≤ length self.old.values }
@@ -177,7 +177,7 @@ impl<L: ArrayLike<Item = u64>> ValueStack<L> {
         Ok(())
     }
 
-    /// Puts what an operation makes of the top in its place.
+    // Replaces the top by the result of an operation on it.
     fn change_top(&mut self, operation: Operation) -> Result<()>
         ensures size { self.new.address_size ≡ self.old.address_size }
         ensures shorter { length self.new.values ≤ length self.old.values }
@@ -190,7 +190,7 @@ impl<L: ArrayLike<Item = u64>> ValueStack<L> {
         Ok(())
     }
 
-    /// Puts what an operation makes of the two values on top in their place.
+    // Replaces the two values on top by the result of an operation on them.
     fn change_two(&mut self, operation: Operation) -> Result<()>
         ensures size { self.new.address_size ≡ self.old.address_size }
         ensures shorter { length self.new.values ≤ length self.old.values }
@@ -204,7 +204,7 @@ impl<L: ArrayLike<Item = u64>> ValueStack<L> {
         Ok(())
     }
 
-    /// How far an operation branches, if it does.
+    /// How far an operation branches from its end, in bytes, if it does.
     #[inline(always)]
     pub(crate) fn branch(&self, operation: Operation) -> Option<i16>
         ensures { result ≡ branch_of operation self.now.values }
@@ -219,7 +219,7 @@ impl<L: ArrayLike<Item = u64>> ValueStack<L> {
         }
     }
 
-    /// Does what an operation does to the stack.
+    /// Changes the stack as an operation does.
     #[inline(always)]
     pub(crate) fn apply(&mut self, operation: Operation) -> Result<()>
         ensures size { self.new.address_size ≡ self.old.address_size }

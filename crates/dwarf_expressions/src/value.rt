@@ -1,11 +1,11 @@
-//! Values of expressions (DWARF 5, 2.5.1), and what operations make of them (2.5.1.4, 2.5.1.5).
+//! Values of expressions (DWARF 5, 2.5.1), and operations on them (2.5.1.4, 2.5.1.5).
 
 ghost use Rattle.std.specs.Prelude.{◌≡◌, ◌+◌, ◌-◌, ◌*◌, ◌/◌, ◌%◌, ◌^◌, ◌<◌, ◌==◌, false, pos, neg_ℤ, ◌+ℤ◌, ◌-ℤ◌, IsTrue, MatchResult, unsigned_abs, int_div, int_le, int_lt};
 ghost use Rattle.std.specs.Int.Signed.{shr_z};
 ghost use Rattle.dwarf_constants.specs.declared.error.Error.TheVariants.{UnsupportedAddressSize};
 ghost use Rattle.dwarf_readers.specs.InitialLength.{is_size};
 ghost use Rattle.dwarf_endianity.specs.Answers.{Gives};
-ghost use Rattle.dwarf_readers.specs.Place.{◌>>=◌ as ◌and_then◌};
+ghost use Rattle.dwarf_readers.specs.Stretch.{◌>>=◌ as ◌and_then◌};
 ghost use Rattle.dwarf_expressions.specs.Effects.{of_top, of_two, truth};
 ghost use Rattle.dwarf_expressions.specs.Values.{modulus, signed, value_from, value_of};
 
@@ -37,7 +37,7 @@ impl AddressSize {
         }
     }
 
-    /// How many bits of 64 no value has.
+    // How many of 64 bits no value has.
     fn unused_bits(self) -> u32
         ensures { result + 8 * self.bytes ≡ 64 }
     {
@@ -52,7 +52,7 @@ impl AddressSize {
         (number << unused) >> unused
     }
 
-    /// A value as a signed number.
+    // A value as a signed number.
     fn signed(self, value: u64) -> i64
         requires { value < modulus self.bytes }
         ensures { result ≡ signed self.bytes value }
@@ -108,7 +108,7 @@ impl AddressSize {
         self.wrap(left.wrapping_mul(right))
     }
 
-    /// The signed quotient, rounded toward 0.
+    // The signed quotient, rounded toward 0.
     fn div(self, left: u64, right: u64) -> u64
         requires left { left < modulus self.bytes }
         requires right { right < modulus self.bytes }
@@ -132,7 +132,7 @@ impl AddressSize {
         Ok(self.div(left, right))
     }
 
-    /// The unsigned remainder.
+    // The unsigned remainder.
     fn checked_mod(self, left: u64, right: u64) -> Result<u64>
         ensures { Gives (λ value. value) result
             (of_two self.bytes Operation.Mod left right and_then value_from self.bytes) }
@@ -171,7 +171,7 @@ impl AddressSize {
         self.wrap((self.signed(left) >> by).cast_unsigned())
     }
 
-    /// Whether a value is below another one as signed numbers.
+    // Whether a value is below another one as signed numbers.
     fn is_less(self, left: u64, right: u64) -> bool
         requires left { left < modulus self.bytes }
         requires right { right < modulus self.bytes }
@@ -180,7 +180,7 @@ impl AddressSize {
         self.signed(left) < self.signed(right)
     }
 
-    /// Whether a value isn't above another one as signed numbers.
+    // Whether a value isn't above another one as signed numbers.
     fn is_at_most(self, left: u64, right: u64) -> bool
         requires left { left < modulus self.bytes }
         requires right { right < modulus self.bytes }
@@ -189,14 +189,14 @@ impl AddressSize {
         self.signed(left) <= self.signed(right)
     }
 
-    /// 1 where a comparison holds, else 0.
+    // 1 if a comparison holds, else 0.
     fn truth(self, holds: bool) -> u64
         ensures { result ≡ value_of self.bytes (truth holds) }
     {
         u64::from(holds)
     }
 
-    /// What an operation makes of the top of the stack.
+    /// The result of an operation on the top of the stack.
     #[inline(always)]
     pub(crate) fn of_top(self, operation: Operation, top: u64) -> Result<u64>
         requires { top < modulus self.bytes }
@@ -212,7 +212,7 @@ impl AddressSize {
         }
     }
 
-    /// What an operation makes of the two values on top of the stack: the left one is below the
+    /// The result of an operation on the two values on top of the stack: the left one is below the
     /// right one.
     #[inline(always)]
     pub(crate) fn of_two(self, operation: Operation, left: u64, right: u64) -> Result<u64>

@@ -8,10 +8,10 @@ use Rattle.dwarf_constants.specs.declared.common.Format.TheVariants.{Dwarf64}
 use Rattle.dwarf_constants.specs.declared.error.Error.{Error}
 use Rattle.dwarf_readers.specs.InitialLength.{as_offset, initial_length_at, length_behind, word_at}
 use Rattle.dwarf_endianity.specs.Offset.{offset_below}
-use Rattle.dwarf_readers.specs.Place.{Stretch, ◌>>=◌, behind, number_at, split_at}
+use Rattle.dwarf_readers.specs.Stretch.{Stretch, ◌>>=◌, behind, number_at, split_at}
 use Rattle.dwarf_frame_entries.specs.Entries.{entry_at, entry_within, offset_in}
 use Rattle.dwarf_frame_entries.specs.Parts.{IsPart}
-use Rattle.dwarf_frame_sections.specs.Sections.{FrameSection}
+use Rattle.dwarf_frame_rows.specs.FrameSection.{FrameSection}
 
 -- a stretch is what stands behind so many bytes of another
 pub record IsBehind (s t : Stretch) : Type 0 where
@@ -20,20 +20,20 @@ pub record IsBehind (s t : Stretch) : Type 0 where
   pub is : t ≡ behind count s
 
 pub behind-none : (s : Stretch) → IsBehind s s
-behind-none s = record { count = 0; within = omega arith; is = same s.bytes s.place s.big (omega arith) }
+behind-none s = record { count = 0; within = omega arith; is = same s.bytes s.offset s.big (omega arith) }
   where
-    same : (bytes : List ℕ) (place : ℕ) (big : Bool) → place ≡ place + 0 → ◌≡◌ {A = Stretch} (record { bytes = bytes; place = place; big = big }) (record { bytes = bytes; place = place + 0; big = big })
+    same : (bytes : List ℕ) (place : ℕ) (big : Bool) → place ≡ place + 0 → ◌≡◌ {A = Stretch} (record { bytes = bytes; offset = place; big = big }) (record { bytes = bytes; offset = place + 0; big = big })
     same bytes place big e = cc
 
 pub behind-both : (s t u : Stretch) → IsBehind s t → IsBehind t u → IsBehind s u
 behind-both s t u h k = let count = ap (λ (x : Stretch). length x.bytes) h.is in record {
   count = h.count + k.count;
   within = let le = k.within in let first = h.within in omega (arith, length-drop h.count s.bytes);
-  is = k.is ∙ ap (behind k.count) h.is ∙ together s.bytes s.place s.big h.count k.count;
+  is = k.is ∙ ap (behind k.count) h.is ∙ together s.bytes s.offset s.big h.count k.count;
 }
   where
     together : (bytes : List ℕ) (place : ℕ) (big : Bool) (m n : ℕ)
-        → ◌≡◌ {A = Stretch} (record { bytes = drop n (drop m bytes); place = place + m + n; big = big }) (record { bytes = drop (m + n) bytes; place = place + (m + n); big = big })
+        → ◌≡◌ {A = Stretch} (record { bytes = drop n (drop m bytes); offset = place + m + n; big = big }) (record { bytes = drop (m + n) bytes; offset = place + (m + n); big = big })
     together bytes place big m n =
         let bytes_same : drop n (drop m bytes) ≡ drop (m + n) bytes = drop-drop n m bytes ∙ ap (λ (k : ℕ). drop k bytes) (omega arith) in
         let place_same : place + m + n ≡ place + (m + n) = omega arith in

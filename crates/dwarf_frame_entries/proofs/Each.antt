@@ -1,7 +1,7 @@
 -- What holds of an answer, if it isn't refused, step by step.
 use Rattle.std.proofs.Common.{◌≡◌, Bool, true, false, cond, Result, Ok, Err, subst}
 use Rattle.dwarf_constants.specs.declared.error.Error.{Error}
-use Rattle.dwarf_readers.specs.Place.{◌>>=◌}
+use Rattle.dwarf_readers.specs.Stretch.{◌>>=◌}
 
 abbrev pub IsEach : {X : Type 0} → (X → Type 0) → Result X Error → Type 0
 IsEach P (Ok x) = P x

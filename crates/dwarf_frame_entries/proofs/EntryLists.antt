@@ -5,13 +5,13 @@ use Rattle.std.specs.List.{filter_map}
 use Rattle.list_laws.specs.Items.{Shrinks, items_from, items_of, rest_from, rest_of}
 use Rattle.list_laws.proofs.Laws.{items-first, rest-first}
 use Rattle.dwarf_constants.specs.declared.error.Error.{Error}
-use Rattle.dwarf_readers.specs.Place.{Stretch, ◌>>=◌, empty_stretch}
+use Rattle.dwarf_readers.specs.Stretch.{Stretch, ◌>>=◌, empty_stretch}
 use Rattle.dwarf_readers.specs.Remainder.{Takes, TakesItem, size_of}
 use Rattle.dwarf_readers.proofs.Laws.{initial_length_takes, items_shrink, leaves_from, leaves_if, leaves_is, leaves_none, leaves_ok, leaves_then, split_takes}
 use Rattle.dwarf_frame_entries.specs.Entries.{AnyEntry, entry_at, entry_within, offset_in}
-use Rattle.dwarf_frame_entries.specs.EntryLists.{ListEnd, SectionEnd, Terminator, Fault, end_by, entries_from, entry_there, list_end_from, next_length, unless_ended}
+use Rattle.dwarf_frame_entries.specs.EntryLists.{ListEnd, SectionEnd, Terminator, Failed, end_by, entries_from, entry_there, list_end_from, next_length, unless_ended}
 use Rattle.dwarf_frame_entries.specs.Parts.{IsPart}
-use Rattle.dwarf_frame_sections.specs.Sections.{FrameSection}
+use Rattle.dwarf_frame_rows.specs.FrameSection.{FrameSection}
 use Rattle.dwarf_frame_entries.proofs.Behind.{entry-left, left-known, part-behind}
 
 -- a length takes four bytes at least
@@ -69,7 +69,7 @@ end-ended section s is =
     either true e = inl e
     either false e = inr e
 
-pub end-refused : (section : FrameSection) (s : Stretch) (e : Error) → next_length section s ≡ Err e → list_end_from section s ≡ Fault e
+pub end-refused : (section : FrameSection) (s : Stretch) (e : Error) → next_length section s ≡ Err e → list_end_from section s ≡ Failed e
 unfolding list_end_from
 end-refused section s e is =
     ap (λ left. end_by left (next_length section left)) (rest-first size_of (next_length section) (entries_shrink section) s ∙ ap (rest_from (rest_of size_of (next_length section)) s) is) ∙ ap (end_by s) is
@@ -149,7 +149,7 @@ pub goes_on-none : (section : FrameSection) (start s : Stretch) → GoesOnAt sec
 goes_on-none section start s h none = ended-at section start s h (next-none section s none)
 
 pub goes_on-refused : (section : FrameSection) (start s : Stretch) (e : Error) → GoesOnAt section start s → (length s.bytes == 0) ≡ false → entry_at section s ≡ Err e
-    → (entries_from section start ≡ Err e ∷ []) × (list_end_from section start ≡ Fault e)
+    → (entries_from section start ≡ Err e ∷ []) × (list_end_from section start ≡ Failed e)
 goes_on-refused section start s e h some is =
     let next = next-refused section s e some is in
     (h.entries ∙ entries-refused section s e next, h.end ∙ end-refused section s e next)

@@ -1,18 +1,18 @@
 -- Laws of the entries of a section. Each is the contract of a function of the crate.
 use Rattle.std.specs.List.{All}
-use Rattle.dwarf_frame_sections.specs.Sections.{FrameSection}
+use Rattle.dwarf_frame_rows.specs.FrameSection.{FrameSection}
 use Rattle.dwarf_frame_entries.specs.EntryLists.{entries_of}
 use Rattle.dwarf_frame_entries.specs.SectionFdes.{IsOfSection, StandsAtItsOffset, StandsThere, whole_fdes}
-use Rattle.dwarf_frame_entries.proofs.EntryPlaces as places
+use Rattle.dwarf_frame_entries.proofs.EntryOffsets as offsets
 
 -- each entry of a section is what stands at its offset
 pub entries_there : (section : FrameSection) → All (StandsThere section) (entries_of section)
-entries_there = places.entries_there
+entries_there = offsets.entries_there
 
 -- each FDE of a section is read in it
 pub fdes_of_section : (section : FrameSection) → All (IsOfSection section) (entries_of section)
-fdes_of_section = places.fdes_of_section
+fdes_of_section = offsets.fdes_of_section
 
 -- each FDE of a section is what stands at its offset
 pub fdes_there : (section : FrameSection) → All (StandsAtItsOffset section) (whole_fdes section)
-fdes_there = places.fdes_there
+fdes_there = offsets.fdes_there

@@ -2,7 +2,7 @@ pub mod AddressLookups
 pub mod Behind
 pub mod Each
 pub mod EntryLists
-pub mod EntryPlaces
+pub mod EntryOffsets
 pub mod Laws
 pub mod Onward
 pub mod RowLookups

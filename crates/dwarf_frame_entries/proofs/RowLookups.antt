@@ -4,7 +4,7 @@ use Rattle.std.specs.Borrow.{Bor}
 use Rattle.std.specs.Prelude.{IsTrue}
 use Rattle.dwarf_constants.specs.declared.error.Error.{Error}
 use Rattle.dwarf_constants.specs.declared.error.Error.TheVariants.{OutOfMemory}
-use Rattle.dwarf_readers.specs.Place.{◌>>=◌}
+use Rattle.dwarf_readers.specs.Stretch.{◌>>=◌}
 use Rattle.dwarf_frame_rows.specs.declared.row.UnwindTableRow.{UnwindTableRow}
 use Rattle.dwarf_frame_rows.specs.Row.{Row}
 use Rattle.dwarf_frame_instructions.specs.Execution.{IsRefusal}
@@ -12,12 +12,12 @@ use Rattle.dwarf_frame_instructions.specs.ProgramRows.{IsRowFor}
 use Rattle.dwarf_frame_entries.specs.Entries.{Fde}
 
 -- there is no FDE
-pub no-fde : (found : Result Fde Error) (next : Fde → Result (Row ℕ) Error) (may_want : Bool) (e : Error) (Fixed : Type 0) → (found ≡ Err e) ⊎ (IsTrue may_want × (e ≡ OutOfMemory))
-    → IsRefusal (Fixed × (may_want ≡ false)) e → (found >>= next) ≡ Err e
-no-fde found next may_want e Fixed (inl is) told = ap (λ (x : Result Fde Error). x >>= next) is
+pub no-fde : (found : Result Fde Error) (next : Fde → Result (Row ℕ) Error) (may_allocate : Bool) (e : Error) (Fixed : Type 0) → (found ≡ Err e) ⊎ (IsTrue may_allocate × (e ≡ OutOfMemory))
+    → IsRefusal (Fixed × (may_allocate ≡ false)) e → (found >>= next) ≡ Err e
+no-fde found next may_allocate e Fixed (inl is) told = ap (λ (x : Result Fde Error). x >>= next) is
 no-fde found next true e Fixed (inr wants) (inl never) = cc
 no-fde found next false e Fixed (inr wants) (inl never) = let wanted = wants.0 in cc
-no-fde found next may_want e Fixed (inr wants) (inr other) = absurd (other wants.1)
+no-fde found next may_allocate e Fixed (inr wants) (inr other) = absurd (other wants.1)
 
 -- what refuses in a storage that takes no memory refuses in any
 fixed-refuses : (Fixed Never : Type 0) (e : Error) → IsRefusal (Fixed × Never) e → IsRefusal Fixed e

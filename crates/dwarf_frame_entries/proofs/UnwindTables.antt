@@ -1,20 +1,20 @@
 -- What a call of next_row gives and leaves, by the step that the rows took.
 use Rattle.std.proofs.Common.{◌≡◌, ℕ, Bool, true, false, cond, List, [], ◌∷◌, Option, Some, None, option_map, Ok, sym, ◌∙◌}
 use Rattle.std.specs.Borrow.{Bor}
-use Rattle.dwarf_readers.specs.Place.{Stretch}
+use Rattle.dwarf_readers.specs.Stretch.{Stretch}
 use Rattle.dwarf_frame_rows.specs.declared.row.UnwindTableRow.{UnwindTableRow}
 use Rattle.dwarf_frame_rows.specs.Effects.{Limits}
 use Rattle.dwarf_frame_rows.specs.Row.{Row}
 use Rattle.dwarf_frame_instructions.specs.declared.rows.ProgramRows.{ProgramRows}
 use Rattle.dwarf_frame_instructions.specs.Execution.{row_in}
 use Rattle.dwarf_frame_instructions.specs.ProgramRows.{Advances, HasLeft, NextIs, behind_first, row_given, rows_state}
-use Rattle.dwarf_frame_instructions.specs.Programs.{Rows}
+use Rattle.dwarf_frame_instructions.specs.Programs.{RowList}
 
 -- the row that is seen of an answer
 abbrev shown_as : {O L : Type 0} → (O → ℕ) → Option (Bor (UnwindTableRow O L)) → Option (Row ℕ)
 shown_as number result = option_map (λ row. row_in number row.now) result
 
-module _ {R S E O L K : Type 0} (stretch : R → Stretch) (limit : ℕ) (number : O → ℕ) (items : K → List (UnwindTableRow O L)) (limits : Limits) (Fixed : Type 0) (rows : ProgramRows R S E O L K) (left : Rows ℕ) where
+module _ {R S E O L K : Type 0} (stretch : R → Stretch) (limit : ℕ) (number : O → ℕ) (items : K → List (UnwindTableRow O L)) (limits : Limits) (Fixed : Type 0) (rows : ProgramRows R S E O L K) (left : RowList ℕ) where
   pub step-leaves : (all : List (Row ℕ)) (more : Bool) → Advances stretch limit number items limits Fixed left all (Ok more) rows → HasLeft stretch limit number items limits rows (behind_first left all)
   step-leaves [] true h = absurd h
   step-leaves [] false h = h.1

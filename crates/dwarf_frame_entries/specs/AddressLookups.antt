@@ -4,39 +4,40 @@ use Rattle.std.specs.List.{filter_map, find}
 use Rattle.dwarf_constants.specs.declared.common.Vendor.{Vendor}
 use Rattle.dwarf_constants.specs.declared.error.Error.{Error}
 use Rattle.dwarf_constants.specs.declared.error.Error.TheVariants.{NoUnwindInfoForAddress}
-use Rattle.dwarf_readers.specs.Place.{◌>>=◌}
+use Rattle.dwarf_readers.specs.Stretch.{◌>>=◌}
 use Rattle.dwarf_frame_rows.specs.Effects.{Limits}
 use Rattle.dwarf_frame_rows.specs.Row.{Row}
-use Rattle.dwarf_frame_sections.specs.Sections.{FrameSection}
+use Rattle.dwarf_frame_rows.specs.FrameSection.{FrameSection}
 use Rattle.dwarf_frame_entries.specs.declared.entries.Entry.TheVariants as which
 use Rattle.dwarf_frame_entries.specs.Entries.{AnyEntry, Fde, contains, fde_of}
 use Rattle.dwarf_frame_entries.specs.EntryLists.{entries_of}
 use Rattle.dwarf_frame_entries.specs.EntryPrograms.{fde_row}
 
--- an item of a section's list: the FDE, with its CIE or refused, or the fault that ends the list; a CIE is none of them
-abbrev pub fde_or_fault : FrameSection → Result AnyEntry Error → Option (Result Fde Error)
-fde_or_fault section (Ok (which.Cie cie)) = None
-fde_or_fault section (Ok (which.Fde partial)) = Some (fde_of section.limit section.kind partial)
-fde_or_fault section (Err e) = Some (Err e)
+-- what an item of a section's list is for a lookup: an FDE with its CIE, or the error of reading it, or the error that ends the
+-- list; a CIE is passed over
+abbrev pub fde_or_error : FrameSection → Result AnyEntry Error → Option (Result Fde Error)
+fde_or_error section (Ok (which.Cie cie)) = None
+fde_or_error section (Ok (which.Fde partial)) = Some (fde_of section.limit section.kind partial)
+fde_or_error section (Err e) = Some (Err e)
 
--- an FDE that contains an address, or any refusal, decides what there is for the address
+-- a lookup ends at an FDE that contains the address, and at any error
 abbrev pub decides : ℕ → Result Fde Error → Bool
 decides address (Ok fde) = contains address fde
 decides address (Err e) = true
 
--- the first of these that decides
+-- the first FDE or error at which a lookup ends
 abbrev pub first_deciding : ℕ → List (Result Fde Error) → Result Fde Error
 first_deciding address fdes = unwrap_or (find (decides address) fdes) (Err NoUnwindInfoForAddress)
 
 -- the FDE for an address among items of a section's list
 abbrev pub fde_for : FrameSection → ℕ → List (Result AnyEntry Error) → Result Fde Error
-fde_for section address entries = first_deciding address (filter_map (fde_or_fault section) entries)
+fde_for section address entries = first_deciding address (filter_map (fde_or_error section) entries)
 
--- the FDE for an address: the first in the section that contains it, or the refusal that stands before it
+-- the FDE for an address: the first in the section that contains it, or the first error before it
 abbrev pub fde_for_address : FrameSection → ℕ → Result Fde Error
 fde_for_address section address = fde_for section address (entries_of section)
 
--- the row of a section for an address: that of its FDE, or the first refusal
+-- the row of a section for an address: that of its FDE, or the error of finding or executing it
 abbrev pub section_row : Limits → FrameSection → Vendor → ℕ → Result (Row ℕ) Error
 section_row limits section vendor address = do
   fde ← fde_for_address section address

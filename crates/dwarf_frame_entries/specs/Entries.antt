@@ -1,5 +1,5 @@
--- The entries of a section of call frames: CIEs, and FDEs, each of which says how a range of code is unwound and has the rest in common
--- with other FDEs, in its CIE (DWARF 5, 6.4.1; LSB 5.0, 10.6.1).
+-- The entries of a section of call frames (DWARF 5, 6.4.1; LSB 5.0, 10.6.1): FDEs, each of which says how a range of code is
+-- unwound, and CIEs, which say what several FDEs have in common.
 use Rattle.std.specs.Prelude.{ℕ, ◌+◌, ◌-◌, ◌==◌, ◌||◌, ◌&&◌, ℤ, Bool, Option, Some, None, Result, Ok, Err, nat_lt, nat_le, if◌then◌else◌}
 use Rattle.std.specs.Option.{ok_or}
 use Rattle.dwarf_constants.specs.declared.common.Format.{Format}
@@ -10,24 +10,24 @@ use Rattle.dwarf_constants.specs.declared.error.Error.TheVariants.{NoEntryAtGive
 use Rattle.dwarf_readers.specs.InitialLength.{address_at, address_size_at, initial_length_at}
 use Rattle.dwarf_readers.specs.Leb128.{signed_at, unsigned_16_at, unsigned_at}
 use Rattle.dwarf_endianity.specs.Offset.{offset_below}
-use Rattle.dwarf_readers.specs.Place.{Stretch, ◌>>=◌, behind_at, byte_at, number_at, requirement, split_at, string_at}
+use Rattle.dwarf_readers.specs.Stretch.{Stretch, ◌>>=◌, behind_at, byte_at, number_at, requirement, split_at, string_at}
 use Rattle.dwarf_frame_rows.specs.EncodedPointer.{Origins, pointer_address, in_address_size, plain_value_at, pointer_at}
-use Rattle.dwarf_frame_rows.specs.SectionKind.{SectionKind}
+use Rattle.dwarf_frame_rows.specs.SectionKind.{FrameSectionKind}
 use Rattle.dwarf_frame_rows.specs.declared.pointer.Pointer.{Pointer}
 use Rattle.dwarf_frame_rows.specs.declared.section.CieOffsetEncoding.{CieOffsetEncoding}
 use Rattle.dwarf_frame_rows.specs.declared.section.CieOffsetEncoding.TheVariants.{U32, U64}
 use Rattle.dwarf_frame_entries.specs.Augmentations.{augmentation_at, data_at}
-use Rattle.dwarf_frame_sections.specs.Sections.{FrameSection, SectionData, origins_in}
+use Rattle.dwarf_frame_rows.specs.FrameSection.{FrameSection, SectionContents, origins_in}
 use Rattle.dwarf_frame_entries.specs.declared.augmentation.Augmentation.{Augmentation}
 use Rattle.dwarf_frame_entries.specs.declared.entries.Entry.{Entry}
 use Rattle.dwarf_frame_entries.specs.declared.entries.Entry.TheVariants as which
 
--- what entries of both kinds begin with: the offset from the section's start, and the length that the entry says
+-- what entries of both kinds have: their offset in the section, and the length that they begin with
 pub record Head : Type 0 where
   pub offset : ℕ
   pub length : ℕ
 
--- a common information entry, with the format of its length
+-- a common information entry (DWARF 5, 6.4.1); the format is that of its length
 pub record Cie : Type 0 where
   pub head : Head
   pub format : Format
@@ -39,14 +39,16 @@ pub record Cie : Type 0 where
   pub return_address_register : Register
   pub instructions : Stretch
 
--- a frame description entry whose CIE isn't read yet, and what it is read in
+-- a frame description entry whose CIE isn't read yet: the CIE's offset, the section's data, and the bytes from the initial
+-- location on
 pub record PartialFde : Type 0 where
   pub head : Head
   pub cie_offset : ℕ
-  pub within : SectionData
+  pub within : SectionContents
   pub rest : Stretch
 
--- a frame description entry: the code that it describes, where language-specific data stands, and how it is unwound
+-- a frame description entry (DWARF 5, 6.4.1): the range of its code, the pointer to language-specific data, and its own
+-- instructions
 pub record Fde : Type 0 where
   pub head : Head
   pub cie : Cie
@@ -59,18 +61,19 @@ pub record Fde : Type 0 where
 abbrev pub AnyEntry : Type 0
 AnyEntry = Entry Cie PartialFde
 
--- how far behind the section's start a stretch begins
+-- the offset of a stretch from the section's start
 abbrev pub offset_in : FrameSection → Stretch → ℕ
-offset_in section s = s.place - section.within.bytes.place
+offset_in section s = s.offset - section.within.bytes.offset
 
--- ---- common information entries
+-- ---- common information entries (DWARF 5, 6.4.1; LSB 5.0, 10.6.1.1.1)
 
 -- the versions of CIEs
 abbrev pub is_version : ℕ → Bool
 is_version version = version == 1 || version == 3 || version == 4
 
--- the size of an address, and a segment size of 0, where CIEs of this version say them, or else this size
-abbrev pub sizes_at : SectionKind → ℕ → ℕ → Stretch → Result (ℕ × Stretch) Error
+-- the size of an address: the CIE's own, which a segment selector size of 0 follows, if CIEs of this version have these fields,
+-- or else this one
+abbrev pub sizes_at : FrameSectionKind → ℕ → ℕ → Stretch → Result (ℕ × Stretch) Error
 sizes_at kind address_size version s =
     if kind.has_sizes version then (do
       size ← address_size_at s
@@ -79,11 +82,11 @@ sizes_at kind address_size version s =
       Ok (size.0, segment.1))
     else Ok (address_size, s)
 
--- the column of the return address: a byte in version 1
+-- the return address register: a byte in version 1, and then an unsigned LEB128
 abbrev pub return_register_at : ℕ → Stretch → Result (ℕ × Stretch) Error
 return_register_at version s = if version == 1 then byte_at s else unsigned_16_at s
 
--- a CIE's parts behind its id
+-- a CIE from its version on
 abbrev pub cie_at : FrameSection → Head → Format → Stretch → Result Cie Error
 cie_at section head format s = do
   version ← byte_at s
@@ -108,19 +111,19 @@ cie_at section head format s = do
 
 -- ---- entries of both kinds
 
--- a number of this width
+-- an id of this width
 abbrev pub id_at : CieOffsetEncoding → Stretch → Result (ℕ × Stretch) Error
 id_at U32 s = number_at 4 s
 id_at U64 s = number_at 8 s
 
--- an FDE's parts behind its id, which stands at this place: first where its CIE stands
+-- an FDE from its id on, the CIE pointer, whose offset is `place`: it gives the offset of the CIE
 abbrev pub partial_at : FrameSection → Head → ℕ → ℕ × Stretch → Result PartialFde Error
 partial_at section head place id = do
   pointer ← offset_below section.limit id.0
   cie_offset ← ok_or (section.kind.cie_place place pointer) OffsetOutOfBounds
   Ok (record { head = head; cie_offset = cie_offset; within = section.within; rest = id.1 })
 
--- an entry from its id on, which is as wide as the format of its length says
+-- an entry from its id on, which tells CIEs from FDEs
 abbrev pub entry_within : FrameSection → Head → Format → Stretch → Result AnyEntry Error
 entry_within section head format s = do
   id ← id_at (section.kind.id_width format) s
@@ -130,7 +133,7 @@ entry_within section head format s = do
       partial ← partial_at section head (offset_in section s) id
       Ok (which.Fde partial))
 
--- the entry at the front, or nothing at a length of 0, and what is left behind it
+-- the first entry, or none at a length of 0, and what is left after it
 abbrev pub entry_at : FrameSection → Stretch → Result (Option AnyEntry × Stretch) Error
 entry_at section s = do
   length ← initial_length_at section.limit s
@@ -141,7 +144,7 @@ entry_at section s = do
 
 -- ---- entries at an offset
 
--- the CIE among what may stand at an offset
+-- an entry that has to be a CIE
 abbrev pub cie_among : ℕ → Option AnyEntry → Result Cie Error
 cie_among offset None = Err NoEntryAtGivenOffset
 cie_among offset (Some (which.Cie cie)) = Ok cie
@@ -154,7 +157,7 @@ cie_from_offset section offset = do
   entry ← entry_at section rest
   cie_among offset entry.0
 
--- the FDE among what may stand at an offset
+-- an entry that has to be an FDE
 abbrev pub partial_among : ℕ → Option AnyEntry → Result PartialFde Error
 partial_among offset None = Err NoEntryAtGivenOffset
 partial_among offset (Some (which.Cie cie)) = Err (NotCiePointer offset)
@@ -167,9 +170,9 @@ partial_fde_from_offset section offset = do
   entry ← entry_at section rest
   partial_among offset entry.0
 
--- ---- frame description entries
+-- ---- frame description entries (DWARF 5, 6.4.1; LSB 5.0, 10.6.1.1.2)
 
--- a part of what an augmentation says, if there is one
+-- a part of an augmentation, if there is one
 abbrev pub part_of : {A : Type 0} → (Augmentation → Option A) → Option Augmentation → Option A
 part_of part None = None
 part_of part (Some augmentation) = part augmentation
@@ -178,25 +181,26 @@ part_of part (Some augmentation) = part augmentation
 abbrev pub address_encoding : Cie → Option DwEhPe
 address_encoding cie = part_of (λ augmentation. augmentation.fde_address_encoding) cie.augmentation
 
--- the first address of the code and how many bytes it has: two addresses, or a pointer, direct or not, and a value of its format
-abbrev pub addresses_at : Origins → Option DwEhPe → Stretch → Result ((ℕ × ℕ) × Stretch) Error
-addresses_at origins None s = do
+-- the first address of the code and its size in bytes: two addresses, or, if the CIE says an encoding, a pointer and a value of
+-- its format
+abbrev pub code_range_at : Origins → Option DwEhPe → Stretch → Result ((ℕ × ℕ) × Stretch) Error
+code_range_at origins None s = do
   initial ← address_at origins.address_size s
   range ← address_at origins.address_size initial.1
   Ok ((initial.0, range.0), range.1)
-addresses_at origins (Some encoding) s = do
+code_range_at origins (Some encoding) s = do
   initial ← pointer_at origins encoding.0 s
   range ← plain_value_at origins.address_size encoding.0 initial.1
   Ok ((pointer_address initial.0, range.0), range.1)
 
--- where language-specific data stands, by the encoding that the CIE says for it
+-- the pointer to language-specific data, if the CIE says an encoding for it
 abbrev pub lsda_within : Origins → Option DwEhPe → Stretch → Result (Option Pointer) Error
 lsda_within origins None s = Ok None
 lsda_within origins (Some encoding) s = do
   pointer ← pointer_at origins encoding.0 s
   Ok (Some pointer.0)
 
--- the same at the front of an FDE's data, which there is where the CIE's augmentation has data
+-- the pointer to language-specific data in an FDE's augmentation data, which the FDE has if its CIE's augmentation does
 abbrev pub lsda_at : ℕ → Origins → Option Augmentation → Stretch → Result (Option Pointer × Stretch) Error
 lsda_at limit origins None s = Ok (None, s)
 lsda_at limit origins (Some augmentation) s =
@@ -206,10 +210,10 @@ lsda_at limit origins (Some augmentation) s =
       Ok (lsda, extra.1))
     else Ok (None, s)
 
--- the FDE, with its CIE
+-- an FDE by its CIE
 abbrev pub fde_with : ℕ → PartialFde → Cie → Result Fde Error
 fde_with limit partial cie = do
-  addresses ← addresses_at (origins_in partial.within cie.address_size None) (address_encoding cie) partial.rest
+  addresses ← code_range_at (origins_in partial.within cie.address_size None) (address_encoding cie) partial.rest
   lsda ← lsda_at limit (origins_in partial.within cie.address_size (Some addresses.0.0)) cie.augmentation addresses.1
   Ok (record {
     head = partial.head;
@@ -221,11 +225,11 @@ fde_with limit partial cie = do
   })
 
 -- the CIE of an FDE
-abbrev pub cie_of : ℕ → SectionKind → PartialFde → Result Cie Error
+abbrev pub cie_of : ℕ → FrameSectionKind → PartialFde → Result Cie Error
 cie_of limit kind partial = cie_from_offset (record { limit = limit; kind = kind; within = partial.within }) partial.cie_offset
 
--- the FDE, once its CIE is read
-abbrev pub fde_of : ℕ → SectionKind → PartialFde → Result Fde Error
+-- an FDE with the CIE that it names
+abbrev pub fde_of : ℕ → FrameSectionKind → PartialFde → Result Fde Error
 fde_of limit kind partial = do
   cie ← cie_of limit kind partial
   fde_with limit partial cie
@@ -236,10 +240,10 @@ fde_from_offset section offset = do
   partial ← partial_fde_from_offset section offset
   fde_of section.limit section.kind partial
 
--- the address behind the code, modulo the size of an address
+-- the end of the code, in the size of an address
 abbrev pub end_address : Fde → ℕ
 end_address fde = in_address_size fde.cie.address_size (fde.initial_address + fde.address_range)
 
--- the address is from the initial address on, and before the end
+-- the code contains the address
 abbrev pub contains : ℕ → Fde → Bool
 contains address fde = nat_le fde.initial_address address && nat_lt address (end_address fde)

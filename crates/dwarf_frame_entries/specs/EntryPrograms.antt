@@ -1,4 +1,4 @@
--- The programs of entries: their instructions, and the rows that these make (DWARF 5, 6.4.1 to 6.4.3).
+-- The instructions of entries, and the rows of an FDE (DWARF 5, 6.4.1 to 6.4.3).
 use Rattle.std.specs.Prelude.{ℕ, Option, Some, None, option_map, Result}
 use Rattle.dwarf_constants.specs.declared.common.Vendor.{Vendor}
 use Rattle.dwarf_constants.specs.declared.error.Error.{Error}
@@ -6,12 +6,12 @@ use Rattle.dwarf_frame_rows.specs.Effects.{Limits}
 use Rattle.dwarf_frame_rows.specs.Row.{Row}
 use Rattle.dwarf_frame_instructions.specs.declared.effects.Factors.{Factors}
 use Rattle.dwarf_frame_instructions.specs.Instructions.{Conventions, instructions_of}
-use Rattle.dwarf_frame_instructions.specs.Programs.{Instructions, Program, Rows, row_for, rows_of_program}
-use Rattle.dwarf_frame_sections.specs.Sections.{FrameSection, origins_in}
+use Rattle.dwarf_frame_instructions.specs.Programs.{Instructions, EntryProgram, RowList, row_for, rows_of_program}
+use Rattle.dwarf_frame_rows.specs.FrameSection.{FrameSection, origins_in}
 use Rattle.dwarf_frame_entries.specs.Entries.{Cie, Fde, address_encoding, end_address}
 
--- what the instructions of a CIE and of its FDEs are read by: addresses are encoded as those of an FDE, and may count from the
--- start of its function
+-- what decides how the instructions of a CIE and of its FDEs are read: the operand of DW_CFA_set_loc is encoded as the addresses
+-- of FDEs, and may be relative to the start of the FDE's function
 abbrev pub conventions_in : FrameSection → Vendor → Cie → Option ℕ → Conventions
 conventions_in section vendor cie function = record {
   encoding = option_map (λ e. e.0) (address_encoding cie);
@@ -24,12 +24,12 @@ conventions_in section vendor cie function = record {
 abbrev pub cie_instructions : FrameSection → Vendor → Cie → Instructions ℕ
 cie_instructions section vendor cie = instructions_of (conventions_in section vendor cie None) cie.instructions
 
--- the instructions of an FDE alone
+-- the instructions of an FDE itself
 abbrev pub fde_instructions : FrameSection → Vendor → Fde → Instructions ℕ
 fde_instructions section vendor fde =
     instructions_of (conventions_in section vendor fde.cie (Some fde.initial_address)) fde.instructions
 
--- what the operands of a CIE's and its FDEs' instructions are multiplied by, and the size of an address
+-- the alignment factors that operands are multiplied by, and the size of an address
 abbrev pub factors_of : Cie → Factors
 factors_of cie = record {
   code_alignment_factor = cie.code_alignment_factor;
@@ -37,8 +37,8 @@ factors_of cie = record {
   address_size = cie.address_size;
 }
 
--- the program of an FDE: its CIE's instructions and then its own, over its code
-abbrev pub fde_program : FrameSection → Vendor → Fde → Program ℕ
+-- the program of an FDE: the range of its code, its CIE's instructions, and its own
+abbrev pub fde_program : FrameSection → Vendor → Fde → EntryProgram ℕ
 fde_program section vendor fde = record {
   factors = factors_of fde.cie;
   initial_address = fde.initial_address;
@@ -48,9 +48,9 @@ fde_program section vendor fde = record {
 }
 
 -- the rows of an FDE
-abbrev pub fde_rows : Limits → FrameSection → Vendor → Fde → Rows ℕ
+abbrev pub fde_rows : Limits → FrameSection → Vendor → Fde → RowList ℕ
 fde_rows limits section vendor fde = rows_of_program limits (fde_program section vendor fde)
 
--- the row of an FDE for an address, or the refusal
+-- the row of an FDE for an address
 abbrev pub fde_row : Limits → FrameSection → Vendor → Fde → ℕ → Result (Row ℕ) Error
 fde_row limits section vendor fde address = row_for limits (fde_program section vendor fde) address

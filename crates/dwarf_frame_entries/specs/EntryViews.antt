@@ -1,7 +1,7 @@
--- Entries as contracts see them.
+-- Entries of the code as values of the definitions: readers as stretches, and offsets as numbers.
 use Rattle.std.specs.Prelude.{ℕ, Result, Ok, Err}
 use Rattle.dwarf_constants.specs.declared.error.Error.{Error}
-use Rattle.dwarf_readers.specs.Place.{Stretch}
+use Rattle.dwarf_readers.specs.Stretch.{Stretch}
 use Rattle.dwarf_frame_entries.specs.Entries.{AnyEntry, Cie, PartialFde}
 use Rattle.dwarf_frame_entries.specs.HeadViews.{head_view}
 use Rattle.dwarf_frame_entries.specs.declared.cie.CommonInformationEntry.{CommonInformationEntry}
@@ -28,6 +28,7 @@ entry_view stretch value (which.Cie cie) = which.Cie (cie_view stretch value cie
 entry_view stretch value (which.Fde partial) = which.Fde partial
 
 -- an item of a list of entries
-abbrev pub item_view : {R E O : Type 0} → (R → Stretch) → (O → ℕ) → Result (Entry (CommonInformationEntry R E O) PartialFde) Error → Result AnyEntry Error
+abbrev pub item_view : {R E O : Type 0} → (R → Stretch) → (O → ℕ)
+    → Result (Entry (CommonInformationEntry R E O) PartialFde) Error → Result AnyEntry Error
 item_view stretch value (Ok entry) = Ok (entry_view stretch value entry)
 item_view stretch value (Err e) = Err e

@@ -1,4 +1,4 @@
--- What getters of entries tell of them.
+-- Parts of a CIE that it may lack, as getters return them.
 use Rattle.std.specs.Prelude.{Bool, false, Option, Some, None, option_map}
 use Rattle.dwarf_constants.specs.declared.common.Encoding.{Encoding}
 use Rattle.dwarf_constants.specs.declared.constants.DwEhPe.{DwEhPe}
@@ -6,9 +6,9 @@ use Rattle.dwarf_frame_rows.specs.declared.pointer.Pointer.{Pointer}
 use Rattle.dwarf_frame_entries.specs.Entries.{Cie, part_of}
 use Rattle.dwarf_frame_entries.specs.declared.augmentation.Augmentation.{Augmentation}
 
--- the size of addresses, the format and the version
-abbrev pub unit_encoding : Cie → Encoding
-unit_encoding cie = record { address_size = cie.address_size; format = cie.format; version = cie.version }
+-- the encoding parameters: the size of addresses, the format and the version
+abbrev pub cie_encoding : Cie → Encoding
+cie_encoding cie = record { address_size = cie.address_size; format = cie.format; version = cie.version }
 
 -- the encoding of pointers to language-specific data
 abbrev pub lsda_encoding : Cie → Option DwEhPe

@@ -1,4 +1,4 @@
--- The heads of entries as contracts see them.
+-- The offset and length of an entry of the code as numbers.
 use Rattle.std.specs.Prelude.{ℕ}
 use Rattle.dwarf_frame_entries.specs.Entries.{Head}
 use Rattle.dwarf_frame_entries.specs.declared.cie.Head.{Head as Read}

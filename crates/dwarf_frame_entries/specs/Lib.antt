@@ -1,5 +1,6 @@
 pub mod AddressLookups
 pub mod Augmentations
+pub mod CieReaders
 pub mod Entries
 pub mod EntryLists
 pub mod EntryPrograms

@@ -1,10 +1,11 @@
-//! What the augmentation of a CIE says (LSB 5.0, 10.6.1.1.1).
+//! The augmentation of a CIE (LSB 5.0, 10.6.1.1.1).
+
 ghost use Rattle.std.specs.Prelude.{◌≡◌, ◌≤◌, ◌<◌, length, Option, Some, None, option_map, OnOk, OnErr, Ok};
 ghost use Rattle.dwarf_endianity.specs.Answers.{Gives};
-ghost use Rattle.dwarf_readers.specs.Place.{Reads, ReadsAs};
+ghost use Rattle.dwarf_readers.specs.Stretch.{Reads, ReadsAs};
 ghost use Rattle.dwarf_frame_rows.specs.EncodedPointer.{origins_of};
-ghost use Rattle.dwarf_frame_entries.specs.Augmentations.{augmentation_at, data_at, encoding_unless_omitted, letter_with_data, pointer_unless_omitted, with_letter, with_letters, no_letters, said_by_letters};
-ghost use Rattle.dwarf_frame_entries.specs.LetterViews.{IsBehindStart};
+ghost use Rattle.dwarf_frame_entries.specs.Augmentations.{augmentation_at, data_at, encoding_unless_omitted, letter_with_data, pointer_unless_omitted, with_letter, with_letters, no_letters, augmentation_by_letters};
+ghost use Rattle.dwarf_frame_entries.specs.LetterViews.{IsAfterStart};
 
 use dwarf_constants::constants::DW_EH_PE_omit;
 use dwarf_constants::{DwEhPe, Error, Result};
@@ -13,27 +14,27 @@ use dwarf_frame_rows::{
 };
 use dwarf_readers::{Reader, ReaderOffset};
 
-/// What the letters of an augmentation say.
+/// The augmentation of a CIE: what its letters say (LSB 5.0, 10.6.1.1.1).
 #[derive(Debug, Clone, Copy, PartialEq, Eq)]
 pub struct Augmentation {
-    /// CIE and FDEs have a length and so many bytes of data (`z`).
+    /// The CIE and its FDEs have augmentation data, which begins with its length (`z`).
     pub has_data: bool,
-    /// How an FDE's pointer to language-specific data is encoded (`L`), if it has one.
+    /// The encoding of an FDE's pointer to language-specific data (`L`), if FDEs have one.
     pub lsda: Option<DwEhPe>,
-    /// The personality routine and how the pointer to it is encoded (`P`), if there is one.
+    /// The pointer to the personality routine, with its encoding (`P`), if there is one.
     pub personality: Option<(DwEhPe, Pointer)>,
-    /// How the addresses of FDEs are encoded (`R`), where they aren't plain.
+    /// The encoding of the addresses of FDEs (`R`), unless they are absolute.
     pub fde_address_encoding: Option<DwEhPe>,
     /// The frame is that of a signal handler (`S`).
     pub is_signal_trampoline: bool,
 }
 
-/// Nothing is said.
+/// An augmentation without letters.
 impl Default for Augmentation {
     ghost use Rattle.std.specs.Prelude.{◌≡◌, None};
-    ghost use Rattle.dwarf_frame_entries.specs.Augmentations.{no_letters, said_by_letters};
+    ghost use Rattle.dwarf_frame_entries.specs.Augmentations.{no_letters, augmentation_by_letters};
 
-    ghost is_default = { λ said. said ≡ (no_letters None).augmentation };
+    ghost is_default = { λ augmentation. augmentation ≡ (no_letters None).augmentation };
 
     fn default() -> Self {
         Augmentation {
@@ -46,7 +47,7 @@ impl Default for Augmentation {
     }
 }
 
-// Reads a length and so many bytes of data.
+// Reads augmentation data: its length, and as many bytes.
 #[inline(always)]
 pub(crate) fn read_data<R: Reader>(input: &mut R) -> Result<R>
     ensures { ReadsAs R.stretch result (data_at R.Offset.limit (R.stretch input.old))
@@ -56,38 +57,38 @@ pub(crate) fn read_data<R: Reader>(input: &mut R) -> Result<R>
     input.split(R::Offset::from_u64(length)?)
 }
 
-// What the letters up to some place said, and the data that is left to the others, if there is any.
+// What the letters so far say, and the data that is left for the others, if there is any.
 #[derive(Drop)]
 struct LettersRead<R: Reader> {
-    said: Augmentation,
+    augmentation: Augmentation,
     left: Option<R>,
 }
 
 impl<R: Reader> LettersRead<R> {
-    ghost use Rattle.dwarf_frame_entries.specs.LetterViews.{IsBehindStart, letters_view};
+    ghost use Rattle.dwarf_frame_entries.specs.LetterViews.{IsAfterStart, letters_view};
 
     // Before any letter.
     fn new(left: Option<R>) -> Self
         ensures { letters_view R.stretch result ≡ no_letters (option_map R.stretch left) }
     {
-        let said = Augmentation {
+        let augmentation = Augmentation {
             has_data: left.is_some(),
             ..Augmentation::default()
         };
-        LettersRead { said, left }
+        LettersRead { augmentation, left }
     }
 
     // Reads what one more letter says.
     fn read(&mut self, letter: u8, parameters: &PointerEncodingParameters<'_, R>) -> Result<()>
-        requires { IsBehindStart (R.stretch parameters.now.section.now)
+        requires { IsAfterStart (R.stretch parameters.now.section.now)
             (letters_view R.stretch self.old) }
         ensures read { Gives (λ _. letters_view R.stretch self.new) result (with_letter
             (origins_of R.stretch parameters.now) letter (letters_view R.stretch self.old)) }
-        ensures placed { OnOk result (IsBehindStart (R.stretch parameters.now.section.now)
+        ensures placed { OnOk result (IsAfterStart (R.stretch parameters.now.section.now)
             (letters_view R.stretch self.new)) }
     {
         if letter == b'S' {
-            self.said.is_signal_trampoline = true;
+            self.augmentation.is_signal_trampoline = true;
             return Ok(());
         }
         if letter == b'B' {
@@ -99,36 +100,36 @@ impl<R: Reader> LettersRead<R> {
         }
     }
 
-    // The same of a letter that stands for data.
+    // Reads what a letter says by its data.
     fn read_with_data(
         &mut self,
         letter: u8,
         left: R,
         parameters: &PointerEncodingParameters<'_, R>,
     ) -> Result<()>
-        requires { (R.stretch parameters.now.section.now).place ≤ (R.stretch left).place }
+        requires { (R.stretch parameters.now.section.now).offset ≤ (R.stretch left).offset }
         ensures read { Gives (λ _. letters_view R.stretch self.new) result (letter_with_data
-            (origins_of R.stretch parameters.now) letter self.old.said (R.stretch left)) }
-        ensures placed { OnOk result (IsBehindStart (R.stretch parameters.now.section.now)
+            (origins_of R.stretch parameters.now) letter self.old.augmentation (R.stretch left)) }
+        ensures placed { OnOk result (IsAfterStart (R.stretch parameters.now.section.now)
             (letters_view R.stretch self.new)) }
     {
         let mut left = left;
         match letter {
             b'L' => {
                 let encoding = parse_pointer_encoding(&mut left)?;
-                self.said.lsda = unless_omitted(encoding);
+                self.augmentation.lsda = unless_omitted(encoding);
                 self.left = Some(left);
                 Ok(())
             }
             b'P' => {
                 let encoding = parse_pointer_encoding(&mut left)?;
-                self.said.personality = read_pointer(encoding, parameters, &mut left)?;
+                self.augmentation.personality = read_pointer(encoding, parameters, &mut left)?;
                 self.left = Some(left);
                 Ok(())
             }
             b'R' => {
                 let encoding = parse_pointer_encoding(&mut left)?;
-                self.said.fde_address_encoding = Some(encoding);
+                self.augmentation.fde_address_encoding = Some(encoding);
                 self.left = Some(left);
                 Ok(())
             }
@@ -137,7 +138,7 @@ impl<R: Reader> LettersRead<R> {
     }
 }
 
-// The encoding, unless it says that no pointer stands there.
+// The encoding; DW_EH_PE_omit is none.
 fn unless_omitted(encoding: DwEhPe) -> Option<DwEhPe>
     ensures { result ≡ encoding_unless_omitted encoding.0 }
 {
@@ -148,13 +149,13 @@ fn unless_omitted(encoding: DwEhPe) -> Option<DwEhPe>
     }
 }
 
-// Reads a pointer of this encoding, unless none stands there.
+// Reads a pointer of this encoding; there is none at DW_EH_PE_omit.
 fn read_pointer<R: Reader>(
     encoding: DwEhPe,
     parameters: &PointerEncodingParameters<'_, R>,
     input: &mut R,
 ) -> Result<Option<(DwEhPe, Pointer)>>
-    requires { (R.stretch parameters.now.section.now).place ≤ (R.stretch input.old).place }
+    requires { (R.stretch parameters.now.section.now).offset ≤ (R.stretch input.old).offset }
     ensures { Reads result (pointer_unless_omitted (origins_of R.stretch parameters.now) encoding.0
         (R.stretch input.old)) (R.stretch input.new) }
 {
@@ -165,16 +166,16 @@ fn read_pointer<R: Reader>(
     Ok(Some((encoding, pointer)))
 }
 
-// Reads what these letters say, from their data, if there is any.
+// Reads what these letters say, by their data, if there is any.
 fn read_letters<R: Reader>(
     text: R,
     parameters: &PointerEncodingParameters<'_, R>,
     left: Option<R>,
 ) -> Result<Augmentation>
-    requires { IsBehindStart (R.stretch parameters.now.section.now)
+    requires { IsAfterStart (R.stretch parameters.now.section.now)
         (no_letters (option_map R.stretch left)) }
-    ensures { Gives (λ said. said) result (said_by_letters (origins_of R.stretch parameters.now)
-        (R.stretch text).bytes (option_map R.stretch left)) }
+    ensures { Gives (λ augmentation. augmentation) result (augmentation_by_letters
+        (origins_of R.stretch parameters.now) (R.stretch text).bytes (option_map R.stretch left)) }
 {
     let mut letters = text;
     let mut read = LettersRead::new(left);
@@ -182,17 +183,17 @@ fn read_letters<R: Reader>(
         let letter = letters.read_u8()?;
         read.read(letter, parameters)?;
     }
-    Ok(read.said)
+    Ok(read.augmentation)
 }
 
-// Reads what an augmentation says whose text this is, and its data. No text says nothing.
+// Reads an augmentation by its string, and its data. An empty string is none.
 #[inline(always)]
 pub(crate) fn parse_augmentation<R: Reader>(
     text: R,
     parameters: &PointerEncodingParameters<'_, R>,
     input: &mut R,
 ) -> Result<Option<Augmentation>>
-    requires { (R.stretch parameters.now.section.now).place ≤ (R.stretch input.old).place }
+    requires { (R.stretch parameters.now.section.now).offset ≤ (R.stretch input.old).offset }
     ensures { Reads result (augmentation_at R.Offset.limit (origins_of R.stretch parameters.now)
         (R.stretch text).bytes (R.stretch input.old)) (R.stretch input.new) }
 {
@@ -203,9 +204,9 @@ pub(crate) fn parse_augmentation<R: Reader>(
     let first = others.read_u8()?;
     if first == b'z' {
         let data = read_data(input)?;
-        let said = read_letters(others, parameters, Some(data))?;
-        return Ok(Some(said));
+        let augmentation = read_letters(others, parameters, Some(data))?;
+        return Ok(Some(augmentation));
     }
-    let said = read_letters(text, parameters, None)?;
-    Ok(Some(said))
+    let augmentation = read_letters(text, parameters, None)?;
+    Ok(Some(augmentation))
 }

@@ -1,6 +1,7 @@
 //! Common information entries.
+
 ghost use Rattle.std.specs.Prelude.{◌≡◌, option_map, is_some};
-ghost use Rattle.dwarf_frame_entries.specs.Getters.{is_signal_trampoline, lsda_encoding, personality, personality_with_encoding, unit_encoding};
+ghost use Rattle.dwarf_frame_entries.specs.Getters.{is_signal_trampoline, lsda_encoding, personality, personality_with_encoding, cie_encoding};
 ghost use Rattle.dwarf_frame_entries.specs.Entries.{address_encoding};
 
 use crate::augmentation::Augmentation;
@@ -9,19 +10,20 @@ use dwarf_frame_rows::Pointer;
 use dwarf_readers::{Reader, ReaderOffset};
 use std::alloc::AllocError;
 
-/// What entries of both kinds begin with.
+// What entries of both kinds have.
 #[derive(Debug, Clone, Copy)]
 pub(crate) struct Head<T> {
-    // In bytes from the section's start.
+    // From the section's start, in bytes.
     pub(crate) offset: T,
+    // How many bytes follow the field itself.
     pub(crate) length: T,
 }
 
-/// What FDEs have in common (DWARF 5, 6.4.1).
+/// A common information entry (CIE): what several FDEs have in common (DWARF 5, 6.4.1).
 #[derive(Debug, Drop)]
 pub struct CommonInformationEntry<R: Reader> {
     pub(crate) head: Head<R::Offset>,
-    // Of the length: FDEs don't keep theirs.
+    // That of the length. FDEs don't keep theirs.
     pub(crate) format: Format,
     pub(crate) version: u8,
     pub(crate) address_size: u8,
@@ -57,7 +59,7 @@ impl<R: Reader> Clone for CommonInformationEntry<R> {
 impl<R: Reader> CommonInformationEntry<R> {
     ghost use Rattle.dwarf_frame_entries.specs.EntryViews.{cie_view};
 
-    /// Where the entry stands, in bytes from the section's start.
+    /// The offset of the entry from the section's start, in bytes.
     pub fn offset(&self) -> R::Offset
         ensures { R.Offset.value result ≡ (cie_view R.stretch R.Offset.value self.now).head.offset }
     {
@@ -66,7 +68,7 @@ impl<R: Reader> CommonInformationEntry<R> {
 
     /// The size of addresses, the format and the version.
     pub fn encoding(&self) -> Encoding
-        ensures { result ≡ unit_encoding (cie_view R.stretch R.Offset.value self.now) }
+        ensures { result ≡ cie_encoding (cie_view R.stretch R.Offset.value self.now) }
     {
         Encoding {
             address_size: self.address_size,
@@ -82,7 +84,7 @@ impl<R: Reader> CommonInformationEntry<R> {
         self.address_size
     }
 
-    /// The length that the entry says: how many bytes follow it.
+    /// The length with which the entry begins: how many bytes follow it.
     pub fn entry_len(&self) -> R::Offset
         ensures { R.Offset.value result ≡ (cie_view R.stretch R.Offset.value self.now).head.length }
     {
@@ -96,9 +98,9 @@ impl<R: Reader> CommonInformationEntry<R> {
         self.version
     }
 
-    /// What the augmentation says, if the entry has one.
+    /// The augmentation, if the entry has one.
     pub fn augmentation(&self) -> Option<&Augmentation>
-        ensures { option_map (λ said. said.now) result
+        ensures { option_map (λ augmentation. augmentation.now) result
             ≡ (cie_view R.stretch R.Offset.value self.now).augmentation }
     {
         self.augmentation.as_ref()
@@ -111,27 +113,27 @@ impl<R: Reader> CommonInformationEntry<R> {
         self.lsda_encoding().is_some()
     }
 
-    /// How an FDE's pointer to language-specific data is encoded, if it has one.
+    /// The encoding of an FDE's pointer to language-specific data, if FDEs have one.
     pub fn lsda_encoding(&self) -> Option<DwEhPe>
         ensures { result ≡ lsda_encoding (cie_view R.stretch R.Offset.value self.now) }
     {
         match self.augmentation {
-            Some(said) => said.lsda,
+            Some(augmentation) => augmentation.lsda,
             None => None,
         }
     }
 
-    /// The personality routine and how the pointer to it is encoded, if there is one.
+    /// The pointer to the personality routine, with its encoding, if there is one.
     pub fn personality_with_encoding(&self) -> Option<(DwEhPe, Pointer)>
         ensures { result ≡ personality_with_encoding (cie_view R.stretch R.Offset.value self.now) }
     {
         match self.augmentation {
-            Some(said) => said.personality,
+            Some(augmentation) => augmentation.personality,
             None => None,
         }
     }
 
-    /// The personality routine, if there is one.
+    /// The pointer to the personality routine, if there is one.
     pub fn personality(&self) -> Option<Pointer>
         ensures { result ≡ personality (cie_view R.stretch R.Offset.value self.now) }
     {
@@ -141,12 +143,12 @@ impl<R: Reader> CommonInformationEntry<R> {
         }
     }
 
-    /// How the addresses of FDEs are encoded, where they aren't plain.
+    /// The encoding of the addresses of FDEs, unless they are absolute.
     pub fn fde_address_encoding(&self) -> Option<DwEhPe>
         ensures { result ≡ address_encoding (cie_view R.stretch R.Offset.value self.now) }
     {
         match self.augmentation {
-            Some(said) => said.fde_address_encoding,
+            Some(augmentation) => augmentation.fde_address_encoding,
             None => None,
         }
     }
@@ -156,26 +158,26 @@ impl<R: Reader> CommonInformationEntry<R> {
         ensures { result ≡ is_signal_trampoline (cie_view R.stretch R.Offset.value self.now) }
     {
         match self.augmentation {
-            Some(said) => said.is_signal_trampoline,
+            Some(augmentation) => augmentation.is_signal_trampoline,
             None => false,
         }
     }
 
-    /// What the delta of an advance is multiplied by.
+    /// The factor of the delta of each instruction that advances the location.
     pub fn code_alignment_factor(&self) -> u64
         ensures { result ≡ (cie_view R.stretch R.Offset.value self.now).code_alignment_factor }
     {
         self.code_alignment_factor
     }
 
-    /// What a factored offset is multiplied by.
+    /// The factor of each factored offset.
     pub fn data_alignment_factor(&self) -> i64
         ensures { result ≡ (cie_view R.stretch R.Offset.value self.now).data_alignment_factor }
     {
         self.data_alignment_factor
     }
 
-    /// The column of the return address.
+    /// The register in whose column the rows have the return address.
     pub fn return_address_register(&self) -> Register
         ensures { result ≡ (cie_view R.stretch R.Offset.value self.now).return_address_register }
     {

@@ -1,9 +1,10 @@
 //! Entries of either kind, and the iterator over those of a section.
+
 ghost use Rattle.std.specs.Prelude.{◌≡◌};
 ghost use Rattle.dwarf_frame_entries.specs.EntryLists.{GivesEntry, TellsEnd, entry_list_of};
 ghost use Rattle.dwarf_frame_entries.specs.EntryViews.{entry_view};
 ghost use Rattle.dwarf_frame_entries.specs.Parts.{IsPart};
-ghost use Rattle.dwarf_frame_sections.specs.Sections.{frame_section};
+ghost use Rattle.dwarf_frame_rows.specs.FrameSection.{frame_section};
 
 use crate::cie::CommonInformationEntry;
 use crate::fde::PartialFrameDescriptionEntry;
@@ -14,20 +15,20 @@ use dwarf_frame_rows::{_UnwindSectionPrivate, BaseAddresses};
 use dwarf_readers::Reader;
 use std::marker::Model;
 
-/// An entry of either kind: a CIE and an FDE in these types.
+/// An entry of either kind, with these types for CIEs and FDEs.
 #[derive(Debug, Drop)]
 pub enum Entry<C, F> {
     Cie(C),
     Fde(F),
 }
 
-/// An entry of either kind of a section.
+/// An entry of a section, of either kind.
 pub type CieOrFde<'bases, Section, R> = Entry<
     CommonInformationEntry<R>,
     PartialFrameDescriptionEntry<'bases, Section, R>,
 >;
 
-/// The entries of a section, one after the other. After an error there is none.
+/// An iterator over the entries of a section. After an error it is at its end.
 #[derive(Debug, Drop)]
 pub struct CfiEntriesIter<'bases, Section: UnwindSection<R>, R: Reader> {
     section: Section,
@@ -39,7 +40,7 @@ pub struct CfiEntriesIter<'bases, Section: UnwindSection<R>, R: Reader> {
 impl<'bases, Section: UnwindSection<R>, R: Reader> Model for CfiEntriesIter<'bases, Section, R> {
     ghost use Rattle.dwarf_frame_entries.specs.EntryLists.{EntryList, entry_list_from};
     ghost use Rattle.dwarf_frame_entries.specs.Parts.{IsPart};
-    ghost use Rattle.dwarf_frame_sections.specs.Sections.{frame_section};
+    ghost use Rattle.dwarf_frame_rows.specs.FrameSection.{frame_section};
 
     ghost Value = { EntryList };
 
@@ -55,8 +56,7 @@ impl<'bases, Section: UnwindSection<R>, R: Reader> CfiEntriesIter<'bases, Sectio
 
     // The entries of a section.
     pub(crate) fn new(section: &Section, bases: &'bases BaseAddresses) -> Self
-        ensures { result ≡ entry_list_of (frame_section R.Offset.limit Section.kind
-            (Section.size section.now) (R.stretch (Section.reader section.now)) bases.now) }
+        ensures { result ≡ entry_list_of (Section.frame section.now bases.now) }
     {
         CfiEntriesIter {
             section: *section,
@@ -65,8 +65,8 @@ impl<'bases, Section: UnwindSection<R>, R: Reader> CfiEntriesIter<'bases, Sectio
         }
     }
 
-    /// The next entry, or `None` at the end: where the section ends, and in `.eh_frame` at a length of
-    /// 0. After an error or the end it answers only `Ok(None)`.
+    /// The next entry, or `None` at the end: that of the section, or, in `.eh_frame`, a length of
+    /// 0. Fails if the entry can't be read. After an error or the end it returns only `Ok(None)`.
     #[inline(always)]
     pub fn next(&mut self) -> Result<Option<CieOrFde<'bases, Section, R>>>
         ensures list { GivesNext (entry_view R.stretch R.Offset.value) result
@@ -91,7 +91,7 @@ impl<'bases, Section: UnwindSection<R>, R: Reader> CfiEntriesIter<'bases, Sectio
     }
 }
 
-// Reads the next entry. Nothing is said of what is left behind the end or an error.
+// Reads the next entry. What `input` has after the end or an error isn't specified.
 #[inline(always)]
 fn read_next<'bases, Section: UnwindSection<R>, R: Reader>(
     section: &Section,

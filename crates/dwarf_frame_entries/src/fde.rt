@@ -1,13 +1,13 @@
 //! Frame description entries.
+
 ghost use Rattle.std.specs.Prelude.{◌≡◌, ◌≤◌};
 ghost use Rattle.dwarf_endianity.specs.Answers.{Gives};
-ghost use Rattle.dwarf_readers.specs.Place.{Reads};
+ghost use Rattle.dwarf_readers.specs.Stretch.{Reads};
 ghost use Rattle.dwarf_frame_rows.specs.EncodedPointer.{origins_of, pointer_at};
-ghost use Rattle.dwarf_frame_entries.specs.Entries.{addresses_at, cie_of, contains, end_address, fde_of, fde_with, lsda_at};
+ghost use Rattle.dwarf_frame_entries.specs.CieReaders.{GivesByCies, ReadsCieOf};
+ghost use Rattle.dwarf_frame_entries.specs.Entries.{code_range_at, contains, end_address, fde_of, fde_with, lsda_at};
 ghost use Rattle.dwarf_frame_entries.specs.EntryViews.{cie_view};
 ghost use Rattle.dwarf_frame_entries.specs.Getters.{is_signal_trampoline, personality};
-ghost use Rattle.dwarf_frame_entries.specs.Memory.{MayGive};
-ghost use Rattle.dwarf_frame_sections.specs.Sections.{section_data};
 
 use crate::augmentation::{Augmentation, read_data};
 use crate::cie::{CommonInformationEntry, Head};
@@ -20,7 +20,7 @@ use dwarf_frame_rows::{
 use dwarf_readers::{Reader, ReaderOffset};
 use std::marker::Model;
 
-/// An FDE whose CIE isn't read yet.
+/// A frame description entry (FDE) whose CIE isn't read yet.
 #[derive(Debug, Drop)]
 pub struct PartialFrameDescriptionEntry<'bases, Section: UnwindSection<R>, R: Reader> {
     pub(crate) head: Head<R::Offset>,
@@ -35,7 +35,7 @@ impl<'bases, Section: UnwindSection<R>, R: Reader> Model
     ghost use Rattle.std.specs.Prelude.{◌≤◌};
     ghost use Rattle.dwarf_frame_entries.specs.Entries.{PartialFde};
     ghost use Rattle.dwarf_frame_entries.specs.HeadViews.{head_view};
-    ghost use Rattle.dwarf_frame_sections.specs.Sections.{section_data};
+    ghost use Rattle.dwarf_frame_rows.specs.FrameSection.{section_data};
 
     ghost Value = { PartialFde };
 
@@ -48,7 +48,7 @@ impl<'bases, Section: UnwindSection<R>, R: Reader> Model
     } };
 
     ghost invariant = { λ fde.
-        (R.stretch (Section.reader fde.section)).place ≤ (R.stretch fde.rest).place };
+        (R.stretch (Section.reader fde.section)).offset ≤ (R.stretch fde.rest).offset };
 }
 
 impl<'bases, Section: UnwindSection<R>, R: Reader> PartialFrameDescriptionEntry<
@@ -56,50 +56,45 @@ impl<'bases, Section: UnwindSection<R>, R: Reader> PartialFrameDescriptionEntry<
     Section,
     R,
 > {
-    /// Where the entry stands, in bytes from the section's start.
+    /// The offset of the entry from the section's start, in bytes.
     pub fn offset(&self) -> R::Offset
         ensures { R.Offset.value result ≡ self.now.head.offset }
     {
         self.head.offset
     }
 
-    /// Where its CIE stands.
+    /// The offset of its CIE from the section's start, in bytes.
     pub fn cie_offset(&self) -> Section::Offset
         ensures { Section.Offset.number result ≡ self.now.cie_offset }
     {
         self.cie_offset
     }
 
-    /// The length that the entry says: how many bytes follow it.
+    /// The length with which the entry begins: how many bytes follow it.
     pub fn entry_len(&self) -> R::Offset
         ensures { R.Offset.value result ≡ self.now.head.length }
     {
         self.head.length
     }
 
-    /// The whole entry, with its CIE, for which `get_cie` is called once with the section in which
-    /// this entry was read, its bases, and where the CIE stands. Where `get_cie` answers that as
-    /// `cie_from_offset` does, this is the entry or the refusal; its want of memory is passed on.
+    /// Reads the whole entry. `get_cie` is called once, with the section in which this entry was
+    /// read, its bases, and the offset of the CIE. If it returns what `cie_from_offset` does, or
+    /// `OutOfMemory`, this is the entry, or the error of reading it, or that `OutOfMemory`.
     #[inline(always)]
     pub fn parse<
         F: FnMut(&Section, &BaseAddresses, Section::Offset) -> Result<CommonInformationEntry<R>>,
     >(&self, mut get_cie: F) -> Result<FrameDescriptionEntry<R>>
         requires { F.IsAlwaysCallable get_cie }
-        ensures { (may_want : _) → ((s : _) (b : _) (o : Section.Offset) (r : _) (after : F)
-            → self.now.within ≡ section_data (Section.size s.now)
-            (R.stretch (Section.reader s.now)) b.now
-            → self.now.cie_offset ≡ Section.Offset.number o → F.step get_cie s b o r after
-            → MayGive may_want (cie_view R.stretch R.Offset.value) r
-            (cie_of R.Offset.limit Section.kind self.now))
-            → MayGive may_want (λ fde. fde) result
+        ensures { GivesByCies (ReadsCieOf F.step R.stretch R.Offset.value Section.frame
+            Section.Offset.number self.now get_cie) result
             (fde_of R.Offset.limit Section.kind self.now) }
     {
         let cie = get_cie(&self.section, self.bases, self.cie_offset)?;
         self.with_cie(cie)
     }
 
-    /// The whole entry, as [`parse`](Self::parse) with `cie_from_offset`: with the CIE at its offset in
-    /// the section in which this entry was read.
+    /// Reads the whole entry, as [`parse`](Self::parse) with `cie_from_offset` does: its CIE is
+    /// read at its offset in the section in which this entry was read.
     #[inline(always)]
     pub fn parse_by_offset(&self) -> Result<FrameDescriptionEntry<R>>
         ensures { Gives (λ fde. fde) result (fde_of R.Offset.limit Section.kind self.now) }
@@ -108,7 +103,7 @@ impl<'bases, Section: UnwindSection<R>, R: Reader> PartialFrameDescriptionEntry<
         self.with_cie(cie)
     }
 
-    /// The whole entry, once its CIE is read.
+    // The whole entry, by its CIE.
     #[inline(always)]
     pub(crate) fn with_cie(
         &self,
@@ -142,21 +137,21 @@ impl<'bases, Section: UnwindSection<R>, R: Reader> PartialFrameDescriptionEntry<
     }
 }
 
-// Reads the first address of the code and how many bytes it has.
+// Reads the first address of the code and the size of the code in bytes.
 #[inline(always)]
 fn read_addresses<R: Reader>(
     encoding: Option<DwEhPe>,
     parameters: &PointerEncodingParameters<'_, R>,
     input: &mut R,
 ) -> Result<(u64, u64)>
-    requires { (R.stretch parameters.now.section.now).place ≤ (R.stretch input.old).place }
-    ensures { Reads result (addresses_at (origins_of R.stretch parameters.now) encoding
+    requires { (R.stretch parameters.now.section.now).offset ≤ (R.stretch input.old).offset }
+    ensures { Reads result (code_range_at (origins_of R.stretch parameters.now) encoding
         (R.stretch input.old)) (R.stretch input.new) }
 {
     let size = parameters.address_size;
     match encoding {
         Some(encoding) => {
-            // It is the code that is meant, also where the pointer is indirect.
+            // The flag for an indirect pointer is ignored: the code begins at the pointer itself.
             let initial_address = parse_encoded_pointer(encoding, parameters, input)?.pointer();
             let address_range = parse_encoded_value(encoding, size, input)?;
             Ok((initial_address, address_range))
@@ -169,47 +164,47 @@ fn read_addresses<R: Reader>(
     }
 }
 
-// Reads the data that an FDE has by its CIE's augmentation, and in it where language-specific data
-// stands.
+// Reads an FDE's augmentation data, if its CIE says that there is any, and in it the pointer to
+// language-specific data.
 #[inline(always)]
 fn read_lsda<R: Reader>(
     augmentation: &Option<Augmentation>,
     parameters: &PointerEncodingParameters<'_, R>,
     input: &mut R,
 ) -> Result<Option<Pointer>>
-    requires { (R.stretch parameters.now.section.now).place ≤ (R.stretch input.old).place }
+    requires { (R.stretch parameters.now.section.now).offset ≤ (R.stretch input.old).offset }
     ensures { Reads result (lsda_at R.Offset.limit (origins_of R.stretch parameters.now)
         augmentation.now (R.stretch input.old)) (R.stretch input.new) }
 {
-    let Some(said) = augmentation else {
+    let Some(augmentation) = augmentation else {
         return Ok(None);
     };
-    if !said.has_data {
+    if !augmentation.has_data {
         return Ok(None);
     }
     let mut data = read_data(input)?;
-    let Some(encoding) = said.lsda else {
+    let Some(encoding) = augmentation.lsda else {
         return Ok(None);
     };
     let pointer = read_lsda_pointer(encoding, parameters, &mut data)?;
     Ok(Some(pointer))
 }
 
-// Reads where language-specific data stands, which few FDEs have.
+// Reads the pointer to language-specific data. Few FDEs have one, so this isn't inlined.
 #[inline(never)]
 fn read_lsda_pointer<R: Reader>(
     encoding: DwEhPe,
     parameters: &PointerEncodingParameters<'_, R>,
     input: &mut R,
 ) -> Result<Pointer>
-    requires { (R.stretch parameters.now.section.now).place ≤ (R.stretch input.old).place }
+    requires { (R.stretch parameters.now.section.now).offset ≤ (R.stretch input.old).offset }
     ensures { Reads result (pointer_at (origins_of R.stretch parameters.now) encoding.0
         (R.stretch input.old)) (R.stretch input.new) }
 {
     parse_encoded_pointer(encoding, parameters, input)
 }
 
-/// How a range of code is unwound (DWARF 5, 6.4.1).
+/// A frame description entry (FDE) with its CIE: how a range of code is unwound (DWARF 5, 6.4.1).
 #[derive(Debug, Clone, Drop)]
 pub struct FrameDescriptionEntry<R: Reader> {
     head: Head<R::Offset>,
@@ -242,21 +237,21 @@ impl<R: Reader> Model for FrameDescriptionEntry<R> {
 }
 
 impl<R: Reader> FrameDescriptionEntry<R> {
-    /// Where the entry stands, in bytes from the section's start.
+    /// The offset of the entry from the section's start, in bytes.
     pub fn offset(&self) -> R::Offset
         ensures { R.Offset.value result ≡ self.now.head.offset }
     {
         self.head.offset
     }
 
-    /// What it has in common with other FDEs.
+    /// Its CIE.
     pub fn cie(&self) -> &CommonInformationEntry<R>
         ensures { cie_view R.stretch R.Offset.value result.now ≡ self.now.cie }
     {
         &self.cie
     }
 
-    /// The length that the entry says: how many bytes follow it.
+    /// The length with which the entry begins: how many bytes follow it.
     pub fn entry_len(&self) -> R::Offset
         ensures { R.Offset.value result ≡ self.now.head.length }
     {
@@ -270,7 +265,7 @@ impl<R: Reader> FrameDescriptionEntry<R> {
         self.initial_address
     }
 
-    /// The address behind the code, modulo the size of an address.
+    /// The address after the code, modulo 2^8, 2^16, 2^32 or 2^64 by the size of an address.
     pub fn end_address(&self) -> u64
         ensures { result ≡ end_address self.now }
     {
@@ -283,21 +278,22 @@ impl<R: Reader> FrameDescriptionEntry<R> {
         }
     }
 
-    /// How many bytes of code there are.
+    /// The size of the code in bytes.
     pub fn len(&self) -> u64
         ensures { result ≡ self.now.address_range }
     {
         self.address_range
     }
 
-    /// Whether the address is from the initial address on, and before the end.
+    /// Whether the code contains the address: it is at or above the initial address, and below the
+    /// end.
     pub fn contains(&self, address: u64) -> bool
         ensures { result ≡ contains address self.now }
     {
         self.initial_address <= address && address < self.end_address()
     }
 
-    /// Where language-specific data stands, if there is any.
+    /// The pointer to language-specific data, if there is one.
     pub fn lsda(&self) -> Option<Pointer>
         ensures { result ≡ self.now.lsda }
     {
@@ -311,7 +307,7 @@ impl<R: Reader> FrameDescriptionEntry<R> {
         self.cie.is_signal_trampoline()
     }
 
-    /// The personality routine, if there is one.
+    /// The pointer to the personality routine, if there is one.
     pub fn personality(&self) -> Option<Pointer>
         ensures { result ≡ personality self.now.cie }
     {

@@ -1,11 +1,13 @@
-//! The entries of call frame information: the sections `.eh_frame` and `.debug_frame`, their CIEs and
-//! their FDEs (DWARF 5, 6.4.1; LSB 5.0, 10.6.1), over any reader.
+//! The entries of call frame information: the CIEs and FDEs of `.eh_frame` and `.debug_frame`
+//! (DWARF 5, 6.4.1; LSB 5.0, 10.6.1), over any reader, and the rows of an FDE.
+//!
+//! `dwarf_call_frames` re-exports all of it, together with the lookup table of `.eh_frame_hdr`.
 #![tactic(auto)]
 
 mod augmentation;
 mod cie;
 mod entries;
-mod entry_places;
+mod entry_offsets;
 mod fde;
 mod parse;
 mod programs;
@@ -21,7 +23,7 @@ pub use dwarf_frame_rows::{
 };
 pub use dwarf_frame_sections::{DebugFrame, EhFrame};
 pub use entries::{CfiEntriesIter, CieOrFde, Entry};
-pub use entry_places::{
+pub use entry_offsets::{
     listed_entries_stand_at_their_offsets, listed_fdes_are_of_their_section,
     listed_fdes_stand_at_their_offsets,
 };

@@ -1,12 +1,13 @@
 //! Reading of entries.
+
 ghost use Rattle.std.specs.Prelude.{◌≡◌, ◌≤◌, ◌-◌, option_map};
 ghost use Rattle.dwarf_endianity.specs.Answers.{Gives};
-ghost use Rattle.dwarf_readers.specs.Place.{Reads, ReadsAs};
+ghost use Rattle.dwarf_readers.specs.Stretch.{Reads, ReadsAs};
 ghost use Rattle.dwarf_frame_entries.specs.Entries.{cie_at, entry_at, entry_within, id_at, is_version, return_register_at, sizes_at};
 ghost use Rattle.dwarf_frame_entries.specs.EntryViews.{cie_view, entry_view};
 ghost use Rattle.dwarf_frame_entries.specs.HeadViews.{head_view};
 ghost use Rattle.dwarf_frame_entries.specs.Parts.{IsPart};
-ghost use Rattle.dwarf_frame_sections.specs.Sections.{frame_section};
+ghost use Rattle.dwarf_frame_rows.specs.FrameSection.{frame_section};
 
 use crate::augmentation::parse_augmentation;
 use crate::cie::{CommonInformationEntry, Head};
@@ -19,7 +20,7 @@ use dwarf_frame_rows::{
 };
 use dwarf_readers::{Reader, ReaderOffset};
 
-// Reads the entry at the front. There is none at a length of 0.
+// Reads the first entry. There is none at a length of 0.
 #[inline(always)]
 pub(crate) fn parse_entry<'bases, Section: UnwindSection<R>, R: Reader>(
     section: &Section,
@@ -43,17 +44,17 @@ pub(crate) fn parse_entry<'bases, Section: UnwindSection<R>, R: Reader>(
     Ok(Some(entry))
 }
 
-// How far behind the section's start the reader stands.
+// The offset of the reader from the section's start.
 #[inline(always)]
 fn offset_in<R: Reader>(section: &R, reader: &R) -> R::Offset
     requires { IsPart (R.stretch section.now) (R.stretch reader.now) }
     ensures { R.Offset.value result
-        ≡ (R.stretch reader.now).place - (R.stretch section.now).place }
+        ≡ (R.stretch reader.now).offset - (R.stretch section.now).offset }
 {
     reader.offset_from(section)
 }
 
-// Reads an entry from its id on, whose length is in this format.
+// Reads an entry from its id on. The format is that of its length.
 #[inline(always)]
 fn parse_body<'bases, Section: UnwindSection<R>, R: Reader>(
     section: &Section,
@@ -74,9 +75,9 @@ fn parse_body<'bases, Section: UnwindSection<R>, R: Reader>(
         let cie = parse_cie(section, bases, head, format, rest)?;
         return Ok(CieOrFde::Cie(cie));
     }
-    let place = offset_in(section.section(), &body);
+    let id_offset = offset_in(section.section(), &body);
     let pointer = R::Offset::from_u64(id)?;
-    let Some(cie_offset) = section.resolve_cie_offset(place, pointer) else {
+    let Some(cie_offset) = section.resolve_cie_offset(id_offset, pointer) else {
         return Err(Error::OffsetOutOfBounds);
     };
     Ok(CieOrFde::Fde(PartialFrameDescriptionEntry {
@@ -108,7 +109,7 @@ fn parse_cie<Section: UnwindSection<R>, R: Reader>(
     format: Format,
     input: R,
 ) -> Result<CommonInformationEntry<R>>
-    requires { (R.stretch (Section.reader section.now)).place ≤ (R.stretch input).place }
+    requires { (R.stretch (Section.reader section.now)).offset ≤ (R.stretch input).offset }
     ensures { Gives (cie_view R.stretch R.Offset.value) result (cie_at
         (frame_section R.Offset.limit Section.kind (Section.size section.now)
         (R.stretch (Section.reader section.now)) bases.now)
@@ -144,14 +145,14 @@ fn parse_cie<Section: UnwindSection<R>, R: Reader>(
     })
 }
 
-// Whether CIEs of this version are read.
+// Whether this is a version of CIEs.
 fn is_known(version: u8) -> bool
     ensures { result ≡ is_version version }
 {
     version == 1 || version == 3 || version == 4
 }
 
-// Reads the size of an address, where CIEs of this version say it.
+// Reads the size of an address, if CIEs of this version have it.
 #[inline(always)]
 fn read_sizes<Section: UnwindSection<R>, R: Reader>(
     section: &Section,
@@ -172,7 +173,7 @@ fn read_sizes<Section: UnwindSection<R>, R: Reader>(
     Ok(address_size)
 }
 
-// Reads the column of the return address.
+// Reads the return address register.
 #[inline(always)]
 fn read_register<R: Reader>(version: u8, input: &mut R) -> Result<u16>
     ensures { Reads result (return_register_at version (R.stretch input.old))

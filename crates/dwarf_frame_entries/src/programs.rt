@@ -1,10 +1,9 @@
-//! The instructions of entries, and the rows that they make.
+//! The instructions of entries, and the row of an FDE for an address.
+
 ghost use Rattle.std.specs.Prelude.{◌≡◌};
-ghost use Rattle.dwarf_frame_rows.specs.Effects.{limits_of};
-ghost use Rattle.dwarf_frame_instructions.specs.Execution.{TakesNoMemory};
 ghost use Rattle.dwarf_frame_instructions.specs.Instructions.{instructions_of};
 ghost use Rattle.dwarf_frame_instructions.specs.ProgramRows.{IsRowFor, program_of};
-ghost use Rattle.dwarf_frame_sections.specs.Sections.{frame_section};
+ghost use Rattle.dwarf_frame_rows.specs.FrameSection.{frame_section};
 ghost use Rattle.dwarf_frame_entries.specs.EntryPrograms.{cie_instructions, conventions_in, factors_of, fde_instructions, fde_program, fde_row};
 ghost use Rattle.dwarf_frame_entries.specs.EntryViews.{cie_view};
 
@@ -20,8 +19,8 @@ use dwarf_frame_rows::{
 use dwarf_readers::Reader;
 
 impl<R: Reader> CommonInformationEntry<R> {
-    /// The entry's instructions, which the programs of its FDEs begin with. The section is the one in
-    /// which the entry was read.
+    /// The entry's instructions, which are executed before those of each of its FDEs. `section` has
+    /// to be the one in which the entry was read.
     pub fn instructions<'a, Section: UnwindSection<R>>(
         &self,
         section: &'a Section,
@@ -29,15 +28,14 @@ impl<R: Reader> CommonInformationEntry<R> {
     ) -> CallFrameInstructionIter<'a, R>
     where
         R: 'a,
-        ensures { result ≡ cie_instructions (frame_section R.Offset.limit Section.kind
-            (Section.size section.now) (R.stretch (Section.reader section.now)) bases.now)
+        ensures { result ≡ cie_instructions (Section.frame section.now bases.now)
             (Section.extensions section.now) (cie_view R.stretch R.Offset.value self.now) }
     {
         self.instructions_in(self.instructions, None, section, bases)
     }
 
-    // The instructions of a stretch, read as those of this entry and of its FDEs are. `func_base` is
-    // the start of the function that they are about.
+    // Instructions of this entry or of one of its FDEs. `func_base` is the start of the FDE's
+    // function.
     fn instructions_in<'a, Section: UnwindSection<R>>(
         &self,
         input: R,
@@ -67,7 +65,7 @@ impl<R: Reader> CommonInformationEntry<R> {
         )
     }
 
-    // What the operands of instructions are multiplied by.
+    // The alignment factors of operands, and the size of an address.
     fn factors(&self) -> Factors
         ensures { result ≡ factors_of (cie_view R.stretch R.Offset.value self.now) }
     {
@@ -80,8 +78,8 @@ impl<R: Reader> CommonInformationEntry<R> {
 }
 
 impl<R: Reader> FrameDescriptionEntry<R> {
-    /// The entry's own instructions, which those of its CIE come before. The section is the one in
-    /// which the entry was read.
+    /// The entry's own instructions, which are executed after those of its CIE. `section` has to be
+    /// the one in which the entry was read.
     pub fn instructions<'a, Section: UnwindSection<R>>(
         &self,
         section: &'a Section,
@@ -89,8 +87,7 @@ impl<R: Reader> FrameDescriptionEntry<R> {
     ) -> CallFrameInstructionIter<'a, R>
     where
         R: 'a,
-        ensures { result ≡ fde_instructions (frame_section R.Offset.limit Section.kind
-            (Section.size section.now) (R.stretch (Section.reader section.now)) bases.now)
+        ensures { result ≡ fde_instructions (Section.frame section.now bases.now)
             (Section.extensions section.now) self.now }
     {
         self.cie.instructions_in(
@@ -101,10 +98,10 @@ impl<R: Reader> FrameDescriptionEntry<R> {
         )
     }
 
-    /// The row for an address: the first of the entry's rows that contains it. Fails with the refusal
-    /// that stands before its end, with `NoUnwindInfoForAddress` where no row contains the address, and
-    /// with `OutOfMemory` in a storage that grows. What the context held before counts for nothing. The
-    /// section is the one in which the entry was read.
+    /// The row for an address: the first of the entry's rows that contains it. Fails with the error
+    /// of an instruction before that row's end, with `NoUnwindInfoForAddress` if no row contains
+    /// the address, and with `OutOfMemory` if the storage allocates. What the context held before
+    /// doesn't matter. `section` has to be the one in which the entry was read.
     pub fn unwind_info_for_address<
         'ctx,
         Section: UnwindSection<R>,
@@ -116,10 +113,8 @@ impl<R: Reader> FrameDescriptionEntry<R> {
         ctx: &'ctx mut UnwindContext<R::Offset, S>,
         address: u64,
     ) -> Result<&'ctx UnwindTableRow<R::Offset, S::Rules>>
-        ensures { let limits = limits_of S.Rules.capacity S.Stack.capacity in
-            IsRowFor R.Offset.value (TakesNoMemory S.Rules.is_made_in_place limits)
-            (fde_row limits (frame_section R.Offset.limit Section.kind
-            (Section.size section.now) (R.stretch (Section.reader section.now)) bases.now)
+        ensures { IsRowFor R.Offset.value S.never_allocates
+            (fde_row S.limits (Section.frame section.now bases.now)
             (Section.extensions section.now) self.now address) result }
     {
         row_for_address(ctx, self.program(section, bases), address)
@@ -133,8 +128,7 @@ impl<R: Reader> FrameDescriptionEntry<R> {
     ) -> FrameProgram<'a, R>
     where
         R: 'a,
-        ensures { program_of result ≡ fde_program (frame_section R.Offset.limit Section.kind
-            (Section.size section.now) (R.stretch (Section.reader section.now)) bases.now)
+        ensures { program_of result ≡ fde_program (Section.frame section.now bases.now)
             (Section.extensions section.now) self.now }
     {
         FrameProgram {

@@ -1,15 +1,12 @@
-//! What both sections of call frames are asked for.
-ghost use Rattle.std.specs.Prelude.{◌≡◌, false};
-ghost use Rattle.dwarf_frame_rows.specs.Effects.{limits_of};
-ghost use Rattle.dwarf_frame_instructions.specs.Execution.{TakesNoMemory};
-ghost use Rattle.dwarf_frame_instructions.specs.ProgramRows.{IsRowFor};
+//! Lookups in a section of call frames, by offset and by address.
+
+ghost use Rattle.std.specs.Prelude.{◌≡◌};
 ghost use Rattle.dwarf_endianity.specs.Answers.{Gives};
 ghost use Rattle.dwarf_frame_entries.specs.AddressLookups.{fde_for_address, section_row};
+ghost use Rattle.dwarf_frame_entries.specs.CieReaders.{GivesByCies, IsRowByCies, ReadsCies};
 ghost use Rattle.dwarf_frame_entries.specs.Entries.{cie_from_offset, fde_from_offset, partial_fde_from_offset};
 ghost use Rattle.dwarf_frame_entries.specs.EntryLists.{entry_list_of};
 ghost use Rattle.dwarf_frame_entries.specs.EntryViews.{cie_view};
-ghost use Rattle.dwarf_frame_entries.specs.Memory.{MayGive};
-ghost use Rattle.dwarf_frame_sections.specs.Sections.{frame_section};
 
 use crate::cie::CommonInformationEntry;
 use crate::entries::{CfiEntriesIter, CieOrFde};
@@ -25,27 +22,27 @@ use dwarf_offsets::{DebugFrameOffset, EhFrameOffset};
 use dwarf_readers::{Reader, ReaderOffset};
 use std::fmt::Debug;
 
-/// A section of call frames, `.eh_frame` or `.debug_frame`. The bases are the addresses that its
-/// pointers count from.
+/// A section of call frames, `.eh_frame` or `.debug_frame`. `bases` are the addresses to which its
+/// pointers are relative.
 ///
-/// `get_cie` is how calls come by a CIE: [`UnwindSection::cie_from_offset`] itself, or a function that
-/// keeps what that answered.
+/// Lookups read the CIE of an FDE by `get_cie`: [`UnwindSection::cie_from_offset`] itself, or a
+/// function that keeps what that returned. A function that returns anything else is safe, and its
+/// lookups are unspecified.
 pub trait UnwindSection<R: Reader>: Copy + Debug + _UnwindSectionPrivate<R> {
     /// The type of offsets in the section.
     type Offset: UnwindOffset<R::Offset>;
 
-    /// The entries in their order.
+    /// The entries of the section, in their order.
     final fn entries<'bases>(&self, bases: &'bases BaseAddresses) -> CfiEntriesIter<'bases, Self, R>
     where
         Self: Sized,
-        ensures { result ≡ entry_list_of (frame_section R.Offset.limit Self.kind
-            (Self.size self.now) (R.stretch (Self.reader self.now)) bases.now) }
+        ensures { result ≡ entry_list_of (Self.frame self.now bases.now) }
     {
         CfiEntriesIter::new(self, bases)
     }
 
-    /// The CIE at `offset`. Fails also with `NotCieId` where an FDE stands there, and with
-    /// `NoEntryAtGivenOffset` at a length of 0.
+    /// The CIE at `offset`. Fails if the entry there can't be read, with `NotCieId` if it is an
+    /// FDE, and with `NoEntryAtGivenOffset` at a length of 0.
     #[inline(always)]
     final fn cie_from_offset(
         &self,
@@ -55,8 +52,7 @@ pub trait UnwindSection<R: Reader>: Copy + Debug + _UnwindSectionPrivate<R> {
     where
         Self: Sized,
         ensures { Gives (cie_view R.stretch R.Offset.value) result (cie_from_offset
-            (frame_section R.Offset.limit Self.kind
-            (Self.size self.now) (R.stretch (Self.reader self.now)) bases.now)
+            (Self.frame self.now bases.now)
             (Self.Offset.number offset)) }
     {
         let offset = UnwindOffset::into(offset);
@@ -69,8 +65,8 @@ pub trait UnwindSection<R: Reader>: Copy + Debug + _UnwindSectionPrivate<R> {
         }
     }
 
-    /// The FDE at `offset`, without its CIE. Fails also with `NotCiePointer` where a CIE stands there,
-    /// and with `NoEntryAtGivenOffset` at a length of 0.
+    /// The FDE at `offset`, without its CIE. Fails if the entry there can't be read, with
+    /// `NotCiePointer` if it is a CIE, and with `NoEntryAtGivenOffset` at a length of 0.
     #[inline(always)]
     final fn partial_fde_from_offset<'bases>(
         &self,
@@ -80,8 +76,7 @@ pub trait UnwindSection<R: Reader>: Copy + Debug + _UnwindSectionPrivate<R> {
     where
         Self: Sized,
         ensures { Gives (λ partial. partial) result (partial_fde_from_offset
-            (frame_section R.Offset.limit Self.kind (Self.size self.now)
-            (R.stretch (Self.reader self.now)) bases.now) (Self.Offset.number offset)) }
+            (Self.frame self.now bases.now) (Self.Offset.number offset)) }
     {
         let offset = UnwindOffset::into(offset);
         let mut input = *self.section();
@@ -93,8 +88,8 @@ pub trait UnwindSection<R: Reader>: Copy + Debug + _UnwindSectionPrivate<R> {
         }
     }
 
-    /// The FDE at `offset`, with its CIE. Where `get_cie` answers as `cie_from_offset` does, this is
-    /// what stands there, or the refusal; its want of memory is passed on.
+    /// The FDE at `offset`, with its CIE. Fails as `partial_fde_from_offset` does, with the error
+    /// of `get_cie`, and if the FDE can't be read by its CIE.
     #[inline(always)]
     final fn fde_from_offset<
         F: FnMut(&Self, &BaseAddresses, Self::Offset) -> Result<CommonInformationEntry<R>>,
@@ -107,22 +102,16 @@ pub trait UnwindSection<R: Reader>: Copy + Debug + _UnwindSectionPrivate<R> {
     where
         Self: Sized,
         requires { F.IsAlwaysCallable get_cie }
-        ensures { (may_want : _) → ((f : F) (s : _) (b : _) (o : Self.Offset) (r : _) (after : F)
-            → F.step f s b o r after
-            → MayGive may_want (cie_view R.stretch R.Offset.value) r (cie_from_offset
-            (frame_section R.Offset.limit Self.kind (Self.size s.now)
-            (R.stretch (Self.reader s.now)) b.now) (Self.Offset.number o)))
-            → MayGive may_want (λ fde. fde) result (fde_from_offset
-            (frame_section R.Offset.limit Self.kind (Self.size self.now)
-            (R.stretch (Self.reader self.now)) bases.now) (Self.Offset.number offset)) }
+        ensures { GivesByCies (ReadsCies F.step R.stretch R.Offset.value Self.frame Self.Offset.number)
+            result (fde_from_offset (Self.frame self.now bases.now) (Self.Offset.number offset)) }
     {
         let partial = self.partial_fde_from_offset(bases, offset)?;
         partial.parse(get_cie)
     }
 
-    /// The FDE for an address: the first in the section that contains it. Fails with the first refusal
-    /// of an entry before it, and with `NoUnwindInfoForAddress` where no FDE contains the address.
-    /// Where `get_cie` answers as `cie_from_offset` does, so does this; its want of memory is passed on.
+    /// The FDE for an address: the first in the section that contains it. It reads the entries
+    /// before that FDE, and fails with the first error of one of these, and with
+    /// `NoUnwindInfoForAddress` if no FDE contains the address.
     final fn fde_for_address<
         F: FnMut(&Self, &BaseAddresses, Self::Offset) -> Result<CommonInformationEntry<R>>,
     >(
@@ -134,14 +123,8 @@ pub trait UnwindSection<R: Reader>: Copy + Debug + _UnwindSectionPrivate<R> {
     where
         Self: Sized,
         requires { F.IsAlwaysCallable get_cie }
-        ensures { (may_want : _) → ((f : F) (s : _) (b : _) (o : Self.Offset) (r : _) (after : F)
-            → F.step f s b o r after
-            → MayGive may_want (cie_view R.stretch R.Offset.value) r (cie_from_offset
-            (frame_section R.Offset.limit Self.kind (Self.size s.now)
-            (R.stretch (Self.reader s.now)) b.now) (Self.Offset.number o)))
-            → MayGive may_want (λ fde. fde) result (fde_for_address
-            (frame_section R.Offset.limit Self.kind (Self.size self.now)
-            (R.stretch (Self.reader self.now)) bases.now) address) }
+        ensures { GivesByCies (ReadsCies F.step R.stretch R.Offset.value Self.frame Self.Offset.number)
+            result (fde_for_address (Self.frame self.now bases.now) address) }
     {
         let mut entries = self.entries(bases);
         while let Some(entry) = entries.next()? {
@@ -156,8 +139,8 @@ pub trait UnwindSection<R: Reader>: Copy + Debug + _UnwindSectionPrivate<R> {
         Err(Error::NoUnwindInfoForAddress)
     }
 
-    /// The row for an address: that of the FDE that `fde_for_address` gives, or the first refusal. What
-    /// the context held before counts for nothing.
+    /// The row for an address: that of the FDE that `fde_for_address` finds. Fails as this does,
+    /// and as the FDE's own `unwind_info_for_address`. What the context held before doesn't matter.
     final fn unwind_info_for_address<
         'ctx,
         F: FnMut(&Self, &BaseAddresses, Self::Offset) -> Result<CommonInformationEntry<R>>,
@@ -172,17 +155,9 @@ pub trait UnwindSection<R: Reader>: Copy + Debug + _UnwindSectionPrivate<R> {
     where
         Self: Sized,
         requires { F.IsAlwaysCallable get_cie }
-        ensures { let limits = limits_of S.Rules.capacity S.Stack.capacity in
-            (may_want : _) → ((f : F) (s : _) (b : _) (o : Self.Offset) (r : _) (after : F)
-            → F.step f s b o r after
-            → MayGive may_want (cie_view R.stretch R.Offset.value) r (cie_from_offset
-            (frame_section R.Offset.limit Self.kind (Self.size s.now)
-            (R.stretch (Self.reader s.now)) b.now) (Self.Offset.number o)))
-            → IsRowFor R.Offset.value
-            (TakesNoMemory S.Rules.is_made_in_place limits × (may_want ≡ false))
-            (section_row limits (frame_section R.Offset.limit Self.kind (Self.size self.now)
-            (R.stretch (Self.reader self.now)) bases.now) (Self.extensions self.now) address)
-            result }
+        ensures { IsRowByCies (ReadsCies F.step R.stretch R.Offset.value Self.frame Self.Offset.number)
+            R.Offset.value S.never_allocates (section_row S.limits (Self.frame self.now bases.now)
+            (Self.extensions self.now) address) result }
     {
         let fde = self.fde_for_address(bases, address, get_cie)?;
         fde.unwind_info_for_address(self, bases, ctx, address)

@@ -14,13 +14,15 @@ use Rattle.dwarf_constants.specs.declared.error.Error.TheVariants.{OffsetOutOfBo
 use Rattle.dwarf_readers.specs.InitialLength.{as_offset}
 use Rattle.dwarf_readers.specs.Leb128.{signed_at, unsigned_at}
 use Rattle.dwarf_endianity.specs.Offset.{offset_below}
-use Rattle.dwarf_readers.specs.Place.{Stretch, ◌>>=◌, byte_at, number_at, requirement}
+use Rattle.dwarf_readers.specs.Operands.{alone, one, two}
+use Rattle.dwarf_readers.specs.Stretch.{Stretch, ◌>>=◌, byte_at, number_at, requirement}
 use Rattle.dwarf_readers.specs.Remainder.{Takes, item_at, size_of}
 use Rattle.dwarf_readers.proofs.Laws.{address_takes, behind_passes, byte_takes, item_takes, items_shrink, leaves_err, leaves_from, leaves_if, leaves_none, leaves_ok, leaves_then, number_takes, signed_number_takes, signed_takes, unsigned_takes, unsigned_16_takes}
 use Rattle.dwarf_frame_rows.specs.EncodedPointer.{Origins, direct_address, origin_of, pointer_at, value_at}
 use Rattle.dwarf_frame_instructions.specs.declared.instructions.CallFrameInstruction.{CallFrameInstruction}
 use Rattle.dwarf_frame_instructions.specs.declared.instructions.CallFrameInstruction.TheVariants.{SetLoc, AdvanceLoc, DefCfa, DefCfaSf, DefCfaRegister, DefCfaOffset, DefCfaOffsetSf, DefCfaExpression, Undefined, SameValue, Offset, OffsetExtendedSf, ValOffset, ValOffsetSf, Register as InRegister, Expression, ValExpression, Restore, RememberState, RestoreState, ArgsSize, NegateRaState, Nop}
-use Rattle.dwarf_frame_instructions.specs.Instructions.{Conventions, Operands, all_but_locations, alone, cfa_definitions, expression_at, instruction_at, instructions_of, listed_at, location_at, location_in, locations, one, others, register_at, register_rules, rules_and_others, told_at, two, vendors}
+use Rattle.dwarf_frame_instructions.specs.Instructions.{Conventions, Operands, cfa_definition, expression_at, extended_opcodes, instruction_at, instruction_of, instructions_of, listed_at, location_at, location_in, offset_rules, other_rules, register_at, row_creation, vendor_opcodes}
+use Rattle.dwarf_frame_instructions.specs.OpcodeTables.{from_cfa_definition, from_offset_rules, from_other_rules, from_row_state}
 
 -- operands leave no more than there was
 pub record GoOn (operands : Operands) : Type 0 where
@@ -46,12 +48,12 @@ value_takes size format s =
 
 pointer_takes : (origins : Origins) (encoding : ℕ) (s : Stretch) → Takes 0 s (pointer_at origins encoding s)
 pointer_takes origins encoding s =
-    leaves_then {n = 0} (leaves_none (origin_of origins encoding s.place)) (λ base _.
+    leaves_then {n = 0} (leaves_none (origin_of origins encoding s.offset)) (λ base _.
     leaves_then (value_takes origins.address_size (format_of encoding) s) (λ value le. leaves_ok (omega arith)))
 
 location_takes : (encoding : Option ℕ) (origins : Origins) (s : Stretch) → Takes 0 s (location_in encoding origins s)
 location_takes (Some encoding) origins s =
-    leaves_then {n = 0} (leaves_none (requirement (nat_le origins.section_place s.place) OffsetOutOfBounds)) (λ here _.
+    leaves_then {n = 0} (leaves_none (requirement (nat_le origins.section_place s.offset) OffsetOutOfBounds)) (λ here _.
     leaves_then (pointer_takes origins encoding s) (λ pointer le.
     leaves_then {n = 0} (leaves_none (direct_address pointer.0)) (λ address _. leaves_ok (omega arith))))
 location_takes None origins s = leaves_from {m = 0} (address_takes origins.address_size s) (omega arith)
@@ -60,7 +62,7 @@ expression_takes : (conventions : Conventions) (s : Stretch) → Takes 0 s (expr
 expression_takes conventions s =
     leaves_then (unsigned_takes s) (λ read le.
     leaves_then {n = 0} (count_takes conventions.limit read s (omega arith)) (λ count less.
-    leaves_then {n = 0} (leaves_none (offset_below conventions.limit (count.1.place - conventions.origins.section_place))) (λ offset _.
+    leaves_then {n = 0} (leaves_none (offset_below conventions.limit (count.1.offset - conventions.origins.section_place))) (λ offset _.
     leaves_then (leaves_from {m = 0} (behind_passes count.0 count.1) (omega arith)) (λ rest least. leaves_ok least))))
   where
     count_takes : (limit : ℕ) (read : ℕ × Stretch) (s : Stretch) → length read.1.bytes ≤ length s.bytes → Takes 0 s (as_offset limit read)
@@ -96,7 +98,7 @@ module _ (conventions : Conventions) where
   with_unsigned : (i : ℕ → CallFrameInstruction ℕ) → GoOn (one unsigned_at i)
   with_unsigned i = one_goes_on 1 unsigned_at i unsigned_takes
 
-  location_rows : AllGoOn (locations conventions)
+  location_rows : AllGoOn (row_creation conventions)
   location_rows =
       and_then (one_goes_on 0 (location_at conventions) SetLoc (location_takes conventions.encoding conventions.origins))
       (and_then (one_goes_on 1 byte_at AdvanceLoc byte_takes)
@@ -104,7 +106,7 @@ module _ (conventions : Conventions) where
       (and_then (one_goes_on 4 (number_at 4) AdvanceLoc (number_takes 4))
       no_rows)))
 
-  cfa_rows : AllGoOn (cfa_definitions conventions)
+  cfa_rows : AllGoOn (cfa_definition conventions)
   cfa_rows =
       and_then (two_go_on 1 register_at unsigned_at DefCfa register_takes unsigned_takes)
       (and_then (two_go_on 1 register_at signed_at DefCfaSf register_takes signed_takes)
@@ -114,25 +116,29 @@ module _ (conventions : Conventions) where
       (and_then (one_goes_on 0 (expression_at conventions) DefCfaExpression (expression_takes conventions))
       no_rows)))))
 
-  rule_rows : AllGoOn (register_rules conventions)
-  rule_rows =
+  offset_rows : AllGoOn offset_rules
+  offset_rows =
       and_then (one_goes_on 0 register_at Undefined register_takes)
       (and_then (one_goes_on 0 register_at SameValue register_takes)
       (and_then (two_go_on 1 register_at unsigned_at Offset register_takes unsigned_takes)
       (and_then (two_go_on 1 register_at signed_at OffsetExtendedSf register_takes signed_takes)
       (and_then (two_go_on 1 register_at unsigned_at ValOffset register_takes unsigned_takes)
       (and_then (two_go_on 1 register_at signed_at ValOffsetSf register_takes signed_takes)
-      (and_then (two_go_on 0 register_at register_at InRegister register_takes register_takes)
+      no_rows)))))
+
+  rule_rows : AllGoOn (other_rules conventions)
+  rule_rows =
+      and_then (two_go_on 0 register_at register_at InRegister register_takes register_takes)
       (and_then (two_go_on 0 register_at (expression_at conventions) Expression register_takes (expression_takes conventions))
       (and_then (two_go_on 0 register_at (expression_at conventions) ValExpression register_takes (expression_takes conventions))
       (and_then (one_goes_on 0 register_at Restore register_takes)
-      no_rows)))))))))
+      no_rows)))
 
-  vendor_rows : (v : Vendor) → AllGoOn (vendors v)
+  vendor_rows : (v : Vendor) → AllGoOn (vendor_opcodes v)
   vendor_rows vendor.Default = no_rows
   vendor_rows vendor.AArch64 = and_then (alone_goes_on NegateRaState) no_rows
 
-  other_rows : AllGoOn (others conventions)
+  other_rows : AllGoOn (from_row_state conventions)
   other_rows =
       and_then (alone_goes_on RememberState)
       (and_then (alone_goes_on RestoreState)
@@ -140,8 +146,12 @@ module _ (conventions : Conventions) where
       (and_then (with_unsigned ArgsSize)
       (vendor_rows conventions.vendor))))
 
-  all_rows : AllGoOn (locations conventions ++ all_but_locations conventions)
-  all_rows = and_all (all_but_locations conventions) location_rows (and_all (rules_and_others conventions) cfa_rows (and_all (others conventions) rule_rows other_rows))
+  all_rows : AllGoOn (extended_opcodes conventions)
+  all_rows =
+      and_all (from_cfa_definition conventions) location_rows
+      (and_all (from_offset_rules conventions) cfa_rows
+      (and_all (from_other_rules conventions) offset_rows
+      (and_all (from_row_state conventions) rule_rows other_rows)))
 
   listed_goes_on : (opcode : ℕ) (rows : List (DwCfa × Operands)) → AllGoOn rows → (s : Stretch) → Takes 0 s (listed_at rows opcode s)
   listed_goes_on opcode [] no_rows s = leaves_err
@@ -150,7 +160,7 @@ module _ (conventions : Conventions) where
       (λ is. rw is (first.takes s))
       (λ is. rw is (listed_goes_on opcode rows others s))
 
-  told_takes : (opcode : ℕ) (s : Stretch) → Takes 0 s (told_at conventions opcode s)
+  told_takes : (opcode : ℕ) (s : Stretch) → Takes 0 s (instruction_of conventions opcode s)
   told_takes opcode s =
       by_case (opcode - opcode % 2 ^ 6 == DW_CFA_advance_loc.0)
       (λ is. rw is (leaves_ok (omega arith)))
@@ -158,7 +168,7 @@ module _ (conventions : Conventions) where
       (λ is. rw (advance, is) ((with_unsigned (Offset (record { 0 = opcode % 2 ^ 6 }))).takes s))
       (λ offset. by_case (opcode - opcode % 2 ^ 6 == DW_CFA_restore.0)
       (λ is. rw (advance, offset, is) (leaves_ok (omega arith)))
-      (λ restore. rw (advance, offset, restore) (listed_goes_on opcode (locations conventions ++ all_but_locations conventions) all_rows s))))
+      (λ restore. rw (advance, offset, restore) (listed_goes_on opcode (extended_opcodes conventions) all_rows s))))
 
   -- an instruction takes a byte at least
   instruction_takes : (s : Stretch) → Takes 1 s (instruction_at conventions s)
@@ -173,7 +183,7 @@ module _ (conventions : Conventions) where
   unfolding instructions_of
   next_taken view result s rest is none = gives-next size_of (item_at (instruction_at conventions)) instructions_shrink view result s rest is none
 
-  -- where bytes are left, an item is the instruction there, and else there is none
+  -- if bytes are left, an item is the instruction there, and else there is none
   pub item_there : (s : Stretch) (read : Result (CallFrameInstruction ℕ × Stretch) Error) → (length s.bytes == 0) ≡ false → instruction_at conventions s ≡ read
       → item_at (instruction_at conventions) s ≡ (read >>= λ item. Ok (Some item))
   item_there s read some is = rw some (ap (λ answer. answer >>= λ item. Ok (Some item)) is)

@@ -14,7 +14,7 @@ use Rattle.dwarf_frame_instructions.specs.declared.effects.Factors.{Factors}
 use Rattle.dwarf_frame_instructions.specs.declared.instructions.CallFrameInstruction.{CallFrameInstruction}
 use Rattle.dwarf_frame_instructions.specs.declared.instructions.CallFrameInstruction.TheVariants as instruction
 use Rattle.dwarf_frame_instructions.specs.Effects.{address_limit, effect_of}
-use Rattle.dwarf_frame_instructions.specs.Programs.{Frame, Instructions, Program, Rows, Step, Moves, Writes, Refused, past_left, refused_rows, row_behind, rows_behind, rows_from, rows_of_program, rules_left, step_by, step_from, step_of, row_before, written}
+use Rattle.dwarf_frame_instructions.specs.Programs.{InstructionContext, Instructions, EntryProgram, RowList, InstructionStep, Moves, Writes, Refused, executed_by_cie, refused_rows, row_after, rows_after_cie, rows_from, rows_of_program, rules_left, step_by, step_from, step_of, row_before, written}
 use Rattle.dwarf_frame_instructions.specs.Refusals.{needs}
 
 -- ---- moves go on
@@ -25,22 +25,22 @@ module _ {T : Type 0} where
   never_moves effect next (Err e) is = cc
 
   -- a step that moves has the effect of a move
-  moved_by : (frame : Frame T) (past : List (Effect T)) (effect : Effect T) (next : ℕ) → step_by frame past effect ≡ Moves next → effect ≡ Move next
-  moved_by frame past (Move location) next is = let same : location ≡ next = cc in ap Move same
-  moved_by frame past (Cfa rule) next is = never_moves (Cfa rule) next (needs frame.limits frame.known past (Cfa rule)) is
-  moved_by frame past (CfaRegister register) next is = never_moves (CfaRegister register) next (needs frame.limits frame.known past (CfaRegister register)) is
-  moved_by frame past (CfaOffset offset) next is = never_moves (CfaOffset offset) next (needs frame.limits frame.known past (CfaOffset offset)) is
-  moved_by frame past (Rule register rule) next is = never_moves (Rule register rule) next (needs frame.limits frame.known past (Rule register rule)) is
-  moved_by frame past (RestoreRule register) next is = never_moves (RestoreRule register) next (needs frame.limits frame.known past (RestoreRule register)) is
-  moved_by frame past NegateRaState next is = never_moves NegateRaState next (needs frame.limits frame.known past NegateRaState) is
-  moved_by frame past (ArgsSize size) next is = never_moves (ArgsSize size) next (needs frame.limits frame.known past (ArgsSize size)) is
-  moved_by frame past Remember next is = never_moves Remember next (needs frame.limits frame.known past Remember) is
-  moved_by frame past Restore next is = never_moves Restore next (needs frame.limits frame.known past Restore) is
-  moved_by frame past Nothing next is = never_moves Nothing next (needs frame.limits frame.known past Nothing) is
+  moved_by : (frame : InstructionContext T) (executed : List (Effect T)) (effect : Effect T) (next : ℕ) → step_by frame executed effect ≡ Moves next → effect ≡ Move next
+  moved_by frame executed (Move location) next is = let same : location ≡ next = cc in ap Move same
+  moved_by frame executed (Cfa rule) next is = never_moves (Cfa rule) next (needs frame.limits frame.initial_rules executed (Cfa rule)) is
+  moved_by frame executed (CfaRegister register) next is = never_moves (CfaRegister register) next (needs frame.limits frame.initial_rules executed (CfaRegister register)) is
+  moved_by frame executed (CfaOffset offset) next is = never_moves (CfaOffset offset) next (needs frame.limits frame.initial_rules executed (CfaOffset offset)) is
+  moved_by frame executed (Rule register rule) next is = never_moves (Rule register rule) next (needs frame.limits frame.initial_rules executed (Rule register rule)) is
+  moved_by frame executed (RestoreRule register) next is = never_moves (RestoreRule register) next (needs frame.limits frame.initial_rules executed (RestoreRule register)) is
+  moved_by frame executed NegateRaState next is = never_moves NegateRaState next (needs frame.limits frame.initial_rules executed NegateRaState) is
+  moved_by frame executed (ArgsSize size) next is = never_moves (ArgsSize size) next (needs frame.limits frame.initial_rules executed (ArgsSize size)) is
+  moved_by frame executed Remember next is = never_moves Remember next (needs frame.limits frame.initial_rules executed Remember) is
+  moved_by frame executed Restore next is = never_moves Restore next (needs frame.limits frame.initial_rules executed Restore) is
+  moved_by frame executed Nothing next is = never_moves Nothing next (needs frame.limits frame.initial_rules executed Nothing) is
 
-  moved_from : (frame : Frame T) (past : List (Effect T)) (answer : Result (Effect T) Error) (next : ℕ) → step_from frame past answer ≡ Moves next → answer ≡ Ok (Move next)
-  moved_from frame past (Ok effect) next is = ap (λ e. Ok e) (moved_by frame past effect next is)
-  moved_from frame past (Err e) next is = cc
+  moved_from : (frame : InstructionContext T) (executed : List (Effect T)) (answer : Result (Effect T) Error) (next : ℕ) → step_from frame executed answer ≡ Moves next → answer ≡ Ok (Move next)
+  moved_from frame executed (Ok effect) next is = ap (λ e. Ok e) (moved_by frame executed effect next is)
+  moved_from frame executed (Err e) next is = cc
 
   set_on : (location address next : ℕ) (b : Bool) → nat_lt address location ≡ b → ◌≡◌ {A = Result (Effect T) Error} (cond b (Err (InvalidCfiSetLoc address)) (Ok (Move address))) (Ok (Move next)) → location ≤ next
   set_on location address next true test is = cc
@@ -78,8 +78,8 @@ module _ {T : Type 0} where
   goes_on factors location next instruction.NegateRaState is = cc
   goes_on factors location next instruction.Nop is = cc
 
-  step_goes_on : (frame : Frame T) (location next : ℕ) (past : List (Effect T)) (i : CallFrameInstruction T) → step_of frame location past i ≡ Moves next → location ≤ next
-  step_goes_on frame location next past i is = goes_on frame.factors location next i (moved_from frame past (effect_of frame.factors location i) next is)
+  step_goes_on : (frame : InstructionContext T) (location next : ℕ) (executed : List (Effect T)) (i : CallFrameInstruction T) → step_of frame location executed i ≡ Moves next → location ≤ next
+  step_goes_on frame location next executed i is = goes_on frame.factors location next i (moved_from frame executed (effect_of frame.factors location i) next is)
 
 -- ---- rows
 
@@ -117,34 +117,34 @@ module _ {T : Type 0} (address : ℕ) where
       at false test from to = let beyond : row.end ≤ address = grind (arith, nat_tests) in more row rows false (grind (arith, nat_tests)) ∙ others.inside beyond to
 
   -- what a step makes of rows
-  abbrev rows_by : Frame T → ℕ → ℕ → List (Effect T) → Instructions T → Step T → Rows T
-  rows_by frame end start past rest step = elim step [
-    | Moves location ↦ row_before (row_behind (unwrap_or frame.known empty) start location past) (rows_from frame end location past rest)
-    | Writes effect ↦ rows_from frame end start (effect ∷ past) rest
+  abbrev rows_by : InstructionContext T → ℕ → ℕ → List (Effect T) → Instructions T → InstructionStep T → RowList T
+  rows_by frame end start executed rest step = elim step [
+    | Moves location ↦ row_before (row_after (unwrap_or frame.initial_rules empty) start location executed) (rows_from frame end location executed rest)
+    | Writes effect ↦ rows_from frame end start (effect ∷ executed) rest
     | Refused e ↦ refused_rows e
   ]
 
-  rows_cover : (frame : Frame T) (end start : ℕ) (past : List (Effect T)) (instructions : Instructions T) → (rows_from frame end start past instructions).refusal ≡ None
-      → Covers start end (rows_from frame end start past instructions).rows
-  rows_cover frame end start past [] whole = last_covers (row_behind (unwrap_or frame.known empty) start end past)
-  rows_cover frame end start past (Err e ∷ rest) whole = cc
-  rows_cover frame end start past (Ok i ∷ rest) whole =
-      go (step_of frame start past i) refl (λ next. rows_cover frame end next past rest) (λ effect. rows_cover frame end start (effect ∷ past) rest) whole
+  rows_cover : (frame : InstructionContext T) (end start : ℕ) (executed : List (Effect T)) (instructions : Instructions T) → (rows_from frame end start executed instructions).refusal ≡ None
+      → Covers start end (rows_from frame end start executed instructions).rows
+  rows_cover frame end start executed [] whole = last_covers (row_after (unwrap_or frame.initial_rules empty) start end executed)
+  rows_cover frame end start executed (Err e ∷ rest) whole = cc
+  rows_cover frame end start executed (Ok i ∷ rest) whole =
+      go (step_of frame start executed i) refl (λ next. rows_cover frame end next executed rest) (λ effect. rows_cover frame end start (effect ∷ executed) rest) whole
     where
-      go : (step : Step T) → step_of frame start past i ≡ step
-          → ((next : ℕ) → (rows_from frame end next past rest).refusal ≡ None → Covers next end (rows_from frame end next past rest).rows)
-          → ((effect : Effect T) → (rows_from frame end start (effect ∷ past) rest).refusal ≡ None → Covers start end (rows_from frame end start (effect ∷ past) rest).rows)
-          → (rows_by frame end start past rest step).refusal ≡ None → Covers start end (rows_by frame end start past rest step).rows
-      go (Moves next) is moved wrote whole = moved_covers (row_behind (unwrap_or frame.known empty) start next past) end (rows_from frame end next past rest).rows (step_goes_on frame start next past i is) (moved next whole)
+      go : (step : InstructionStep T) → step_of frame start executed i ≡ step
+          → ((next : ℕ) → (rows_from frame end next executed rest).refusal ≡ None → Covers next end (rows_from frame end next executed rest).rows)
+          → ((effect : Effect T) → (rows_from frame end start (effect ∷ executed) rest).refusal ≡ None → Covers start end (rows_from frame end start (effect ∷ executed) rest).rows)
+          → (rows_by frame end start executed rest step).refusal ≡ None → Covers start end (rows_by frame end start executed rest step).rows
+      go (Moves next) is moved wrote whole = moved_covers (row_after (unwrap_or frame.initial_rules empty) start next executed) end (rows_from frame end next executed rest).rows (step_goes_on frame start next executed i is) (moved next whole)
       go (Writes effect) is moved wrote whole = wrote effect whole
       go (Refused e) is moved wrote whole = cc
 
   -- the rows of a program
-  pub one_row : (limits : Limits) (program : Program T) → (rows_of_program limits program).refusal ≡ None → program.initial_address ≤ address → address < program.end_address
+  pub one_row : (limits : Limits) (program : EntryProgram T) → (rows_of_program limits program).refusal ≡ None → program.initial_address ≤ address → address < program.end_address
       → count (rows_of_program limits program).rows ≡ 1
-  one_row limits program whole from to = go (past_left limits program.factors program.initial_instructions) whole
+  one_row limits program whole from to = go (executed_by_cie limits program.factors program.initial_instructions) whole
     where
-      go : (left : Result (List (Effect T)) Error) → (rows_behind limits program left).refusal ≡ None → count (rows_behind limits program left).rows ≡ 1
-      go (Ok past) whole =
-          (rows_cover (record { factors = program.factors; limits = limits; known = Some (rules_left past) }) program.end_address program.initial_address past program.instructions whole).inside from to
+      go : (left : Result (List (Effect T)) Error) → (rows_after_cie limits program left).refusal ≡ None → count (rows_after_cie limits program left).rows ≡ 1
+      go (Ok executed) whole =
+          (rows_cover (record { factors = program.factors; limits = limits; initial_rules = Some (rules_left executed) }) program.end_address program.initial_address executed program.instructions whole).inside from to
       go (Err e) whole = cc

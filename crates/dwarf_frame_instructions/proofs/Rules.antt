@@ -1,15 +1,13 @@
--- The map of the rules that a past leaves.
+-- The map of the rules that effects leave.
 use Rattle.std.proofs.Common.{◌≡◌, ℕ, zero, suc, ◌+◌, ◌%◌, Bool, true, false, cond, List, [], ◌∷◌, Option, Some, None, is_some, ◌==◌, refl, sym, ap, subst, ◌∙◌, arith}
 use Rattle.std.specs.Prelude.{◌||◌, unwrap_or}
 use Rattle.std.specs.Option.{option_or}
-use Rattle.std.specs.Bool.{Decides, one_answer}
-use Rattle.std.specs.Cmp.{unsigned_tied}
 use Rattle.std.specs.FinMap.{get, insert, remove, get-empty, get-insert, get-remove, nat_cmp-IsAntisymmetric, same_map}
 use Rattle.std.specs.List.{filter_map, list_any}
-use Rattle.std.specs.Ordering.{eq_by_cmp, nat_cmp}
+use Rattle.std.specs.Ordering.{nat_cmp}
 use Rattle.std.proofs.lemmas.Bool.{eqb-true, eq-eqb, false≢true}
-use Rattle.std.proofs.lemmas.Bool.Decides.{Decides-eqb}
 use Rattle.std.proofs.lemmas.Cmp.{nat_cmp_total}
+use Rattle.list_laws.specs.First.{first_value}
 use Rattle.list_laws.proofs.Laws.{by_case}
 use Rattle.dwarf_constants.specs.declared.common.Register.{Register}
 use Rattle.dwarf_frame_rows.specs.declared.effect.Effect.{Effect}
@@ -17,25 +15,16 @@ use Rattle.dwarf_frame_rows.specs.declared.effect.Effect.TheVariants.{Move, Cfa,
 use Rattle.dwarf_frame_rows.specs.declared.rules.RegisterRule.{RegisterRule}
 use Rattle.dwarf_frame_rows.specs.declared.rules.RegisterRule.TheVariants.{Constant}
 use Rattle.dwarf_frame_rows.specs.RuleMap.{RuleMap}
-use Rattle.dwarf_frame_instructions.specs.Parts.{latest, rule_by, written_rule, sign_state, is_turn, turns, constant_of, turned, rule_of, ruled_register, with_rule, rules_at, surviving_rules}
+use Rattle.dwarf_frame_rows.proofs.Laws.{eqb_sym, ties}
+use Rattle.dwarf_frame_instructions.specs.Parts.{rule_by, written_rule, sign_state, is_turn, turns, constant_of, turned, rule_of, ruled_register, with_rule, rules_at, surviving_rules}
 
 -- ---- tests of numbers
 
--- a test in the other order
-pub eqb_sym : (a b : ℕ) → (a == b) ≡ (b == a)
-eqb_sym a b = one_answer _ _ (Decides-eqb a b) (sym_test (Decides-eqb b a))
-  where
-    sym_test : Decides (b == a) (b ≡ a) → Decides (b == a) (a ≡ b)
-    sym_test h = (λ t. sym (h.0 t), λ e. h.1 (sym e))
-
--- the order of numbers ties equal numbers alone
-pub ties : (a b : ℕ) → eq_by_cmp nat_cmp a b ≡ (b == a)
-ties a b = unsigned_tied a b ∙ eqb_sym a b
-
+-- a number is itself
 pub same_number : (a : ℕ) → (a == a) ≡ true
 same_number a = eq-eqb a a refl
 
--- ---- the rule of a register behind one more effect
+-- ---- the rule of a register after one more effect
 
 -- the effect writes these rules, each register's by a test of its own
 module _ {T : Type 0} (initial : RuleMap (RegisterRule T)) (e : Effect T) (register : ℕ) (rule : Option (RegisterRule T)) where
@@ -44,42 +33,42 @@ module _ {T : Type 0} (initial : RuleMap (RegisterRule T)) (e : Effect T) (regis
     pub by : (q : ℕ) → rule_by initial q e ≡ cond (register == q) (Some rule) None
     pub still : is_turn e ≡ false
 
-  written_by : WritesRule → (q : ℕ) (past : List (Effect T)) → written_rule initial q (e ∷ past) ≡ cond (register == q) rule (written_rule initial q past)
-  written_by w q past = ap (λ o. unwrap_or (option_or o (latest (rule_by initial q) past)) None) (w.by q) ∙ chosen (register == q)
+  written_by : WritesRule → (q : ℕ) (executed : List (Effect T)) → written_rule initial q (e ∷ executed) ≡ cond (register == q) rule (written_rule initial q executed)
+  written_by w q executed = ap (λ o. unwrap_or (option_or o (first_value (rule_by initial q) executed)) None) (w.by q) ∙ chosen (register == q)
     where
-      chosen : (b : Bool) → unwrap_or (option_or (cond b (Some rule) None) (latest (rule_by initial q) past)) None ≡ cond b rule (written_rule initial q past)
+      chosen : (b : Bool) → unwrap_or (option_or (cond b (Some rule) None) (first_value (rule_by initial q) executed)) None ≡ cond b rule (written_rule initial q executed)
       chosen true = refl
       chosen false = refl
 
-  turns_by : WritesRule → (past : List (Effect T)) → turns initial (e ∷ past) ≡ cond (register == sign_state) zero (turns initial past)
-  turns_by w past =
-      ap (λ o. cond (is_some o) zero (cond (is_turn e) (suc (turns initial past)) (turns initial past))) (w.by sign_state)
-      ∙ ap (λ t. cond (is_some (cond (register == sign_state) (Some rule) None)) zero (cond t (suc (turns initial past)) (turns initial past))) w.still
+  turns_by : WritesRule → (executed : List (Effect T)) → turns initial (e ∷ executed) ≡ cond (register == sign_state) zero (turns initial executed)
+  turns_by w executed =
+      ap (λ o. cond (is_some o) zero (cond (is_turn e) (suc (turns initial executed)) (turns initial executed))) (w.by sign_state)
+      ∙ ap (λ t. cond (is_some (cond (register == sign_state) (Some rule) None)) zero (cond t (suc (turns initial executed)) (turns initial executed))) w.still
       ∙ chosen (register == sign_state)
     where
-      chosen : (b : Bool) → cond (is_some (cond b (Some rule) None)) zero (cond false (suc (turns initial past)) (turns initial past)) ≡ cond b zero (turns initial past)
+      chosen : (b : Bool) → cond (is_some (cond b (Some rule) None)) zero (cond false (suc (turns initial executed)) (turns initial executed)) ≡ cond b zero (turns initial executed)
       chosen true = refl
       chosen false = refl
 
   -- that register has the rule, and every other what it had
-  pub rule_of-written : WritesRule → (past : List (Effect T)) (q : ℕ) → rule_of initial (e ∷ past) q ≡ cond (register == q) rule (rule_of initial past q)
-  rule_of-written w past q =
+  pub rule_of-written : WritesRule → (executed : List (Effect T)) (q : ℕ) → rule_of initial (e ∷ executed) q ≡ cond (register == q) rule (rule_of initial executed q)
+  rule_of-written w executed q =
       by_case (q == sign_state)
       (λ is.
       let same : q ≡ sign_state = eqb-true q sign_state is in
-      let P : ℕ → Type 0 = λ n. rule_of initial (e ∷ past) n ≡ cond (register == n) rule (rule_of initial past n) in
+      let P : ℕ → Type 0 = λ n. rule_of initial (e ∷ executed) n ≡ cond (register == n) rule (rule_of initial executed n) in
       subst P (sym same) (at_sign_state (register == sign_state) refl))
-      (λ is. rw is (written_by w q past))
+      (λ is. rw is (written_by w q executed))
     where
-      at_sign_state : (b : Bool) → (register == sign_state) ≡ b → rule_of initial (e ∷ past) sign_state ≡ cond (register == sign_state) rule (rule_of initial past sign_state)
+      at_sign_state : (b : Bool) → (register == sign_state) ≡ b → rule_of initial (e ∷ executed) sign_state ≡ cond (register == sign_state) rule (rule_of initial executed sign_state)
       at_sign_state true is =
-          ap (λ n. turned n (written_rule initial sign_state (e ∷ past))) (turns_by w past ∙ ap (λ b. cond b zero (turns initial past)) is)
-          ∙ written_by w sign_state past ∙ ap (λ b. cond b rule (written_rule initial sign_state past)) is
-          ∙ sym (ap (λ b. cond b rule (rule_of initial past sign_state)) is)
+          ap (λ n. turned n (written_rule initial sign_state (e ∷ executed))) (turns_by w executed ∙ ap (λ b. cond b zero (turns initial executed)) is)
+          ∙ written_by w sign_state executed ∙ ap (λ b. cond b rule (written_rule initial sign_state executed)) is
+          ∙ sym (ap (λ b. cond b rule (rule_of initial executed sign_state)) is)
       at_sign_state false is =
-          ap (λ n. turned n (written_rule initial sign_state (e ∷ past))) (turns_by w past ∙ ap (λ b. cond b zero (turns initial past)) is)
-          ∙ ap (turned (turns initial past)) (written_by w sign_state past ∙ ap (λ b. cond b rule (written_rule initial sign_state past)) is)
-          ∙ sym (ap (λ b. cond b rule (rule_of initial past sign_state)) is)
+          ap (λ n. turned n (written_rule initial sign_state (e ∷ executed))) (turns_by w executed ∙ ap (λ b. cond b zero (turns initial executed)) is)
+          ∙ ap (turned (turns initial executed)) (written_by w sign_state executed ∙ ap (λ b. cond b rule (written_rule initial sign_state executed)) is)
+          ∙ sym (ap (λ b. cond b rule (rule_of initial executed sign_state)) is)
 
 pub rule_writes : {T : Type 0} (initial : RuleMap (RegisterRule T)) (register : Register) (rule : RegisterRule T) → WritesRule initial (Rule register rule) register.0 (Some rule)
 rule_writes initial register rule = record { by = λ q. refl; still = refl }
@@ -97,11 +86,11 @@ turned-suc : {T : Type 0} (n : ℕ) (rule : Option (RegisterRule T)) → turned 
 turned-suc zero rule = refl
 turned-suc (suc n) rule = let e : (constant_of rule + suc (suc n)) % 2 ≡ ((constant_of rule + suc n) % 2 + 1) % 2 = omega arith in ap (λ k. Some (Constant k)) e
 
-pub rule_of-turned : {T : Type 0} (initial : RuleMap (RegisterRule T)) (past : List (Effect T)) (q : ℕ)
-    → rule_of initial (NegateRaState ∷ past) q ≡ cond (sign_state == q) (turned_again (rule_of initial past sign_state)) (rule_of initial past q)
-rule_of-turned initial past q =
+pub rule_of-turned : {T : Type 0} (initial : RuleMap (RegisterRule T)) (executed : List (Effect T)) (q : ℕ)
+    → rule_of initial (NegateRaState ∷ executed) q ≡ cond (sign_state == q) (turned_again (rule_of initial executed sign_state)) (rule_of initial executed q)
+rule_of-turned initial executed q =
     by_case (q == sign_state)
-    (λ is. let back : (sign_state == q) ≡ true = eqb_sym sign_state q ∙ is in rw (is, back) (turned-suc (turns initial past) (written_rule initial sign_state past)))
+    (λ is. let back : (sign_state == q) ≡ true = eqb_sym sign_state q ∙ is in rw (is, back) (turned-suc (turns initial executed) (written_rule initial sign_state executed)))
     (λ is. let back : (sign_state == q) ≡ false = eqb_sym sign_state q ∙ is in rw (is, back) refl)
 
 -- ---- the map
@@ -142,51 +131,51 @@ either_false true b h = absurd (false≢true (sym h))
 either_false false b h = (refl, h)
 
 -- a register that no effect names has no rule
-unnamed : {T : Type 0} (initial : RuleMap (RegisterRule T)) (past : List (Effect T)) (q : ℕ) → list_any (λ r. r == q) (filter_map ruled_register past) ≡ false → rule_of initial past q ≡ None
+unnamed : {T : Type 0} (initial : RuleMap (RegisterRule T)) (executed : List (Effect T)) (q : ℕ) → list_any (λ r. r == q) (filter_map ruled_register executed) ≡ false → rule_of initial executed q ≡ None
 unnamed initial [] q h = by_case (q == sign_state) (λ is. rw is refl) (λ is. rw is refl)
-unnamed initial (Rule register rule ∷ past) q h =
-    let (apart, others) = either_false (register.0 == q) (list_any (λ r. r == q) (filter_map ruled_register past)) h in
-    rule_of-written initial (Rule register rule) register.0 (Some rule) (rule_writes initial register rule) past q ∙ ap (λ b. cond b (Some rule) (rule_of initial past q)) apart ∙ unnamed initial past q others
-unnamed initial (RestoreRule register ∷ past) q h =
-    let (apart, others) = either_false (register.0 == q) (list_any (λ r. r == q) (filter_map ruled_register past)) h in
-    rule_of-written initial (RestoreRule register) register.0 (get initial register.0) (restore_writes initial register) past q ∙ ap (λ b. cond b (get initial register.0) (rule_of initial past q)) apart ∙ unnamed initial past q others
-unnamed initial (NegateRaState ∷ past) q h =
-    let (apart, others) = either_false (sign_state == q) (list_any (λ r. r == q) (filter_map ruled_register past)) h in
-    rule_of-turned initial past q ∙ ap (λ b. cond b (turned_again (rule_of initial past sign_state)) (rule_of initial past q)) apart ∙ unnamed initial past q others
-unnamed initial (Move location ∷ past) q h = unnamed initial past q h
-unnamed initial (Cfa rule ∷ past) q h = unnamed initial past q h
-unnamed initial (CfaRegister register ∷ past) q h = unnamed initial past q h
-unnamed initial (CfaOffset offset ∷ past) q h = unnamed initial past q h
-unnamed initial (ArgsSize size ∷ past) q h = unnamed initial past q h
-unnamed initial (Remember ∷ past) q h = unnamed initial past q h
-unnamed initial (Restore ∷ past) q h = unnamed initial past q h
-unnamed initial (Nothing ∷ past) q h = unnamed initial past q h
+unnamed initial (Rule register rule ∷ executed) q h =
+    let (apart, others) = either_false (register.0 == q) (list_any (λ r. r == q) (filter_map ruled_register executed)) h in
+    rule_of-written initial (Rule register rule) register.0 (Some rule) (rule_writes initial register rule) executed q ∙ ap (λ b. cond b (Some rule) (rule_of initial executed q)) apart ∙ unnamed initial executed q others
+unnamed initial (RestoreRule register ∷ executed) q h =
+    let (apart, others) = either_false (register.0 == q) (list_any (λ r. r == q) (filter_map ruled_register executed)) h in
+    rule_of-written initial (RestoreRule register) register.0 (get initial register.0) (restore_writes initial register) executed q ∙ ap (λ b. cond b (get initial register.0) (rule_of initial executed q)) apart ∙ unnamed initial executed q others
+unnamed initial (NegateRaState ∷ executed) q h =
+    let (apart, others) = either_false (sign_state == q) (list_any (λ r. r == q) (filter_map ruled_register executed)) h in
+    rule_of-turned initial executed q ∙ ap (λ b. cond b (turned_again (rule_of initial executed sign_state)) (rule_of initial executed q)) apart ∙ unnamed initial executed q others
+unnamed initial (Move location ∷ executed) q h = unnamed initial executed q h
+unnamed initial (Cfa rule ∷ executed) q h = unnamed initial executed q h
+unnamed initial (CfaRegister register ∷ executed) q h = unnamed initial executed q h
+unnamed initial (CfaOffset offset ∷ executed) q h = unnamed initial executed q h
+unnamed initial (ArgsSize size ∷ executed) q h = unnamed initial executed q h
+unnamed initial (Remember ∷ executed) q h = unnamed initial executed q h
+unnamed initial (Restore ∷ executed) q h = unnamed initial executed q h
+unnamed initial (Nothing ∷ executed) q h = unnamed initial executed q h
 
 -- the map answers each register's rule
-pub get-rules_of : {T : Type 0} (initial : RuleMap (RegisterRule T)) (past : List (Effect T)) (q : ℕ) → get (surviving_rules initial past) q ≡ rule_of initial past q
-get-rules_of initial past q =
-    get-rules_at (rule_of initial past) (filter_map ruled_register past) q
-    ∙ by_case (list_any (λ r. r == q) (filter_map ruled_register past))
+pub get-rules_of : {T : Type 0} (initial : RuleMap (RegisterRule T)) (executed : List (Effect T)) (q : ℕ) → get (surviving_rules initial executed) q ≡ rule_of initial executed q
+get-rules_of initial executed q =
+    get-rules_at (rule_of initial executed) (filter_map ruled_register executed) q
+    ∙ by_case (list_any (λ r. r == q) (filter_map ruled_register executed))
     (λ is. rw is refl)
-    (λ is. rw is (sym (unnamed initial past q is)))
+    (λ is. rw is (sym (unnamed initial executed q is)))
 
 -- a map that answers so is this map
-pub map_of_rules : {T : Type 0} (initial : RuleMap (RegisterRule T)) (past : List (Effect T)) (m : RuleMap (RegisterRule T)) → ((q : ℕ) → get m q ≡ rule_of initial past q) → m ≡ surviving_rules initial past
-map_of_rules initial past m is = same_map nat_cmp_total nat_cmp-IsAntisymmetric m (surviving_rules initial past) (λ q. is q ∙ sym (get-rules_of initial past q))
+pub map_of_rules : {T : Type 0} (initial : RuleMap (RegisterRule T)) (executed : List (Effect T)) (m : RuleMap (RegisterRule T)) → ((q : ℕ) → get m q ≡ rule_of initial executed q) → m ≡ surviving_rules initial executed
+map_of_rules initial executed m is = same_map nat_cmp_total nat_cmp-IsAntisymmetric m (surviving_rules initial executed) (λ q. is q ∙ sym (get-rules_of initial executed q))
 
 -- a rule that is set, or taken away
-pub set_rules : {T : Type 0} (initial : RuleMap (RegisterRule T)) (e : Effect T) (past : List (Effect T)) (m : RuleMap (RegisterRule T)) (register : ℕ) (rule : RegisterRule T)
-    → m ≡ surviving_rules initial past → ((q : ℕ) → rule_of initial (e ∷ past) q ≡ cond (register == q) (Some rule) (rule_of initial past q)) → insert m register rule ≡ surviving_rules initial (e ∷ past)
-set_rules initial e past m register rule is written =
-    map_of_rules initial (e ∷ past) (insert m register rule)
+pub set_rules : {T : Type 0} (initial : RuleMap (RegisterRule T)) (e : Effect T) (executed : List (Effect T)) (m : RuleMap (RegisterRule T)) (register : ℕ) (rule : RegisterRule T)
+    → m ≡ surviving_rules initial executed → ((q : ℕ) → rule_of initial (e ∷ executed) q ≡ cond (register == q) (Some rule) (rule_of initial executed q)) → insert m register rule ≡ surviving_rules initial (e ∷ executed)
+set_rules initial e executed m register rule is written =
+    map_of_rules initial (e ∷ executed) (insert m register rule)
     (λ q. get-insert nat_cmp_total m register rule q ∙ ap (λ b. cond b (Some rule) (get m q)) (ties q register)
-    ∙ ap (λ o. cond (register == q) (Some rule) o) (ap (λ n. get n q) is ∙ get-rules_of initial past q) ∙ sym (written q))
+    ∙ ap (λ o. cond (register == q) (Some rule) o) (ap (λ n. get n q) is ∙ get-rules_of initial executed q) ∙ sym (written q))
 
-pub removed_rules : {T : Type 0} (initial : RuleMap (RegisterRule T)) (e : Effect T) (past : List (Effect T)) (m : RuleMap (RegisterRule T)) (register : ℕ)
-    → m ≡ surviving_rules initial past → ((q : ℕ) → rule_of initial (e ∷ past) q ≡ cond (register == q) None (rule_of initial past q)) → remove m register ≡ surviving_rules initial (e ∷ past)
-removed_rules initial e past m register is written =
-    map_of_rules initial (e ∷ past) (remove m register)
+pub removed_rules : {T : Type 0} (initial : RuleMap (RegisterRule T)) (e : Effect T) (executed : List (Effect T)) (m : RuleMap (RegisterRule T)) (register : ℕ)
+    → m ≡ surviving_rules initial executed → ((q : ℕ) → rule_of initial (e ∷ executed) q ≡ cond (register == q) None (rule_of initial executed q)) → remove m register ≡ surviving_rules initial (e ∷ executed)
+removed_rules initial e executed m register is written =
+    map_of_rules initial (e ∷ executed) (remove m register)
     (λ q. get-remove nat_cmp_total m register q ∙ ap (λ b. cond b None (get m q)) (ties q register)
-    ∙ ap (λ o. cond (register == q) None o) (ap (λ n. get n q) is ∙ get-rules_of initial past q) ∙ sym (written q))
+    ∙ ap (λ o. cond (register == q) None o) (ap (λ n. get n q) is ∙ get-rules_of initial executed q) ∙ sym (written q))
 
 pub ruleset get_rules = (get-rules_of)

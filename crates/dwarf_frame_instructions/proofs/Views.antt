@@ -1,4 +1,4 @@
--- What instructions, effects and states do is the same where the places of expressions are seen as numbers.
+-- What instructions, effects and states do is the same if the offsets of expressions are seen as numbers.
 use Rattle.std.proofs.Common.{◌≡◌, ℕ, ◌+◌, Bool, true, false, cond, List, [], ◌∷◌, map, length, Option, Some, None, option_map, Result, Ok, refl, sym, ap, subst, ◌∙◌}
 use Rattle.std.specs.Prelude.{ℤ, T, nat_le, ◌&&◌, ◌-◌, ◌%◌}
 use Rattle.std.specs.FinMap.{empty, entries, entries-from_sorted, entries_sorted, get, get-empty, get-entries, get-from_sorted, get-insert, get-remove, insert, is_sorted, len, len-entries, nat_cmp-IsAntisymmetric, remove, same_map}
@@ -10,7 +10,7 @@ use Rattle.dwarf_constants.specs.declared.arch.TheConstants.AArch64.{RA_SIGN_STA
 use Rattle.dwarf_constants.specs.declared.common.Register.{Register}
 use Rattle.dwarf_constants.specs.declared.error.Error.{Error}
 use Rattle.dwarf_constants.specs.declared.error.Error.TheVariants.{StackFull, TooManyRegisterRules}
-use Rattle.dwarf_readers.specs.Place.{◌>>=◌, requirement}
+use Rattle.dwarf_readers.specs.Stretch.{◌>>=◌, requirement}
 use Rattle.dwarf_frame_rows.specs.declared.effect.Effect.{Effect}
 use Rattle.dwarf_frame_rows.specs.declared.effect.Effect.TheVariants.{Move, Cfa, CfaRegister, CfaOffset, Rule, RestoreRule, NegateRaState, ArgsSize, Remember, Restore, Nothing}
 use Rattle.dwarf_frame_rows.specs.declared.rules.CfaRule.{CfaRule}
@@ -18,7 +18,7 @@ use Rattle.dwarf_frame_rows.specs.declared.rules.CfaRule.TheVariants as cfa
 use Rattle.dwarf_frame_rows.specs.declared.rules.RegisterRule.{RegisterRule}
 use Rattle.dwarf_frame_rows.specs.declared.rules.RegisterRule.TheVariants as rule
 use Rattle.dwarf_frame_rows.specs.CfaRules.{with_cfa_offset, with_cfa_register}
-use Rattle.dwarf_frame_rows.specs.Effects.{Limits, State, first_state, initial_rows, is_within, negated_rule, restored_state, ruled_state, state_after, state_by_rules, state_with_initial_rules, state_with_latest_of, with_cfa, with_rules}
+use Rattle.dwarf_frame_rows.specs.Effects.{Limits, ContextState, first_state, initial_rows, is_within, negated_rule, restored_state, ruled_state, state_after, state_by_rules, state_with_initial_rules, state_with_latest_of, with_cfa, with_rules}
 use Rattle.dwarf_frame_rows.specs.Row.{Row, first_row}
 use Rattle.dwarf_frame_rows.specs.RuleMap.{RuleMap}
 use Rattle.dwarf_frame_instructions.specs.InstructionViews.{answer_as}
@@ -81,15 +81,15 @@ pub first_as : {T U : Type 0} (number : T → U) → state_as number first_state
 first_as number = ap (λ m. record first_state { row = record first_row { rules = m } }) (empty_as (rule_as number))
 
 module _ {T U : Type 0} (number : T → U) (limits : Limits) where
-  abbrev views : Result (State T) Error → Result (State U) Error
+  abbrev views : Result (ContextState T) Error → Result (ContextState U) Error
   views = answer_as (state_as number)
 
-  required_as : (b d : Bool) (e : Error) (s : State T) (t : State U) → d ≡ b → t ≡ state_as number s
+  required_as : (b d : Bool) (e : Error) (s : ContextState T) (t : ContextState U) → d ≡ b → t ≡ state_as number s
       → (requirement d e >>= λ _. Ok t) ≡ views (requirement b e >>= λ _. Ok s)
   required_as true d e s t same is = ap (λ x. requirement x e >>= λ _. Ok t) same ∙ ap (λ x. Ok x) is
   required_as false d e s t same is = ap (λ x. requirement x e >>= λ _. Ok t) same
 
-  ruled_as : (register : ℕ) (v : RegisterRule T) (s : State T) → ruled_state limits register (rule_as number v) (state_as number s) ≡ views (ruled_state limits register v s)
+  ruled_as : (register : ℕ) (v : RegisterRule T) (s : ContextState T) → ruled_state limits register (rule_as number v) (state_as number s) ≡ views (ruled_state limits register v s)
   ruled_as register v s =
       let made = insert_as (rule_as number) s.row.rules register v in
       required_as (is_within limits.rules (len (insert s.row.rules register v))) (is_within limits.rules (len (insert (map_as (rule_as number) s.row.rules) register (rule_as number v)))) TooManyRegisterRules
@@ -97,16 +97,16 @@ module _ {T U : Type 0} (number : T → U) (limits : Limits) where
       (ap (λ n. is_within limits.rules n) (ap (λ m. len m) (sym made) ∙ len_as (rule_as number) (insert s.row.rules register v)))
       (ap (λ m. with_rules m (state_as number s)) (sym made))
 
-  restored_as : (register : ℕ) (o : Option (RegisterRule T)) (s : State T) → restored_state limits register (option_map (rule_as number) o) (state_as number s) ≡ views (restored_state limits register o s)
+  restored_as : (register : ℕ) (o : Option (RegisterRule T)) (s : ContextState T) → restored_state limits register (option_map (rule_as number) o) (state_as number s) ≡ views (restored_state limits register o s)
   restored_as register (Some v) s = ruled_as register v s
   restored_as register None s = ap (λ m. Ok (with_rules m (state_as number s))) (sym (remove_as (rule_as number) s.row.rules register))
 
-  by_rules_as : (o : Option (RuleMap (RegisterRule T))) (register : ℕ) (s : State T)
+  by_rules_as : (o : Option (RuleMap (RegisterRule T))) (register : ℕ) (s : ContextState T)
       → state_by_rules (option_map (map_as (rule_as number)) o) limits register (state_as number s) ≡ views (state_by_rules o limits register s)
   by_rules_as (Some rules) register s = ap (λ o. restored_state limits register o (state_as number s)) (get_as (rule_as number) rules register) ∙ restored_as register (get rules register) s
   by_rules_as None register s = refl
 
-  negated_as : (o : Option (RegisterRule T)) (s : State T)
+  negated_as : (o : Option (RegisterRule T)) (s : ContextState T)
       → (negated_rule (option_map (rule_as number) o) >>= λ v. ruled_state limits RA_SIGN_STATE.0 v (state_as number s)) ≡ views (negated_rule o >>= λ v. ruled_state limits RA_SIGN_STATE.0 v s)
   negated_as None s = ruled_as RA_SIGN_STATE.0 (rule.Constant 1) s
   negated_as (Some (rule.Constant n)) s = ruled_as RA_SIGN_STATE.0 (rule.Constant (1 - n % 2)) s
@@ -119,17 +119,17 @@ module _ {T U : Type 0} (number : T → U) (limits : Limits) where
   negated_as (Some (rule.ValExpression expression)) s = refl
   negated_as (Some rule.Architectural) s = refl
 
-  cfa_register_as : (register : Register) (c : CfaRule T) (s : State T)
+  cfa_register_as : (register : Register) (c : CfaRule T) (s : ContextState T)
       → (with_cfa_register register (cfa_as number c) >>= with_cfa (state_as number s)) ≡ views (with_cfa_register register c >>= with_cfa s)
   cfa_register_as register (cfa.RegisterAndOffset before offset) s = refl
   cfa_register_as register (cfa.Expression expression) s = refl
 
-  cfa_offset_as : (offset : ℤ) (c : CfaRule T) (s : State T)
+  cfa_offset_as : (offset : ℤ) (c : CfaRule T) (s : ContextState T)
       → (with_cfa_offset offset (cfa_as number c) >>= with_cfa (state_as number s)) ≡ views (with_cfa_offset offset c >>= with_cfa s)
   cfa_offset_as offset (cfa.RegisterAndOffset register before) s = refl
   cfa_offset_as offset (cfa.Expression expression) s = refl
 
-  popped_as : (rows : List (Row T)) (s : State T) → state_with_latest_of (map (row_as number) rows) (state_as number s) ≡ views (state_with_latest_of rows s)
+  popped_as : (rows : List (Row T)) (s : ContextState T) → state_with_latest_of (map (row_as number) rows) (state_as number s) ≡ views (state_with_latest_of rows s)
   popped_as [] s = refl
   popped_as (row ∷ rows) s = refl
 
@@ -137,12 +137,12 @@ module _ {T U : Type 0} (number : T → U) (limits : Limits) where
   initial_rows_as (Some rules) = ap (λ n. cond (nat_le 2 n) 1 0) (len_as (rule_as number) rules)
   initial_rows_as None = refl
 
-  rows_as : (s : State T) → is_within limits.rows (1 + length (map (row_as number) s.remembered_rows) + initial_rows (option_map (map_as (rule_as number)) s.initial_rules) + 1)
+  rows_as : (s : ContextState T) → is_within limits.rows (1 + length (map (row_as number) s.remembered_rows) + initial_rows (option_map (map_as (rule_as number)) s.initial_rules) + 1)
       ≡ is_within limits.rows (1 + length s.remembered_rows + initial_rows s.initial_rules + 1)
   rows_as s = λ i. is_within limits.rows (1 + length-map s.remembered_rows (row_as number) i + initial_rows_as s.initial_rules i + 1)
 
   -- an effect
-  pub effect_acts_as : (e : Effect T) (s : State T) → state_after limits (effect_as number e) (state_as number s) ≡ views (state_after limits e s)
+  pub effect_acts_as : (e : Effect T) (s : ContextState T) → state_after limits (effect_as number e) (state_as number s) ≡ views (state_after limits e s)
   effect_acts_as (Move location) s = refl
   effect_acts_as (Cfa c) s = refl
   effect_acts_as (CfaRegister register) s = cfa_register_as register s.row.cfa s
@@ -161,7 +161,7 @@ module _ {T U : Type 0} (number : T → U) (limits : Limits) where
   effect_acts_as Nothing s = refl
 
   -- the end of the CIE's own instructions
-  pub saving_as : (s : State T) → state_with_initial_rules limits (state_as number s) ≡ views (state_with_initial_rules limits s)
+  pub saving_as : (s : ContextState T) → state_with_initial_rules limits (state_as number s) ≡ views (state_with_initial_rules limits s)
   saving_as s =
       required_as (is_within limits.rows (1 + length s.remembered_rows + initial_rows (Some s.row.rules)))
       (is_within limits.rows (1 + length (map (row_as number) s.remembered_rows) + initial_rows (Some (map_as (rule_as number) s.row.rules)))) StackFull

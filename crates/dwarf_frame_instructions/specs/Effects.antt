@@ -17,11 +17,12 @@ use Rattle.dwarf_frame_instructions.specs.declared.instructions.CallFrameInstruc
 abbrev pub address_limit : ℕ → ℕ
 address_limit size = 2 ^ (8 * min size 8)
 
--- the location goes on by a delta, which is multiplied by the code alignment factor modulo 2^64
+-- the location moves forward to this one, if it is an address
 abbrev pub advanced_to : {T : Type 0} → Factors → ℕ → Result (Effect T) Error
-advanced_to factors location = if nat_lt location (address_limit factors.address_size) then Ok (Move location) else Err AddressOverflow
+advanced_to factors location =
+    if nat_lt location (address_limit factors.address_size) then Ok (Move location) else Err AddressOverflow
 
--- the location is set, and never goes back
+-- the location is set to an address that is not lower
 abbrev pub set_to : {T : Type 0} → ℕ → ℕ → Result (Effect T) Error
 set_to location address = if nat_lt address location then Err (InvalidCfiSetLoc address) else Ok (Move address)
 
@@ -29,11 +30,11 @@ set_to location address = if nat_lt address location then Err (InvalidCfiSetLoc 
 abbrev pub factored_offset : Factors → ℕ → ℤ
 factored_offset factors number = cast_signed w64 ((number * cast_unsigned w64 factors.data_alignment_factor) % 2 ^ 64)
 
--- the same of a signed number
+-- a signed number times the data alignment factor, modulo 2^64, as a signed number
 abbrev pub factored_signed : Factors → ℤ → ℤ
 factored_signed factors number = factored_offset factors (cast_unsigned w64 number)
 
--- what an instruction does where the location has come to this address
+-- what an instruction does at this location
 abbrev pub effect_of : {T : Type 0} → Factors → ℕ → CallFrameInstruction T → Result (Effect T) Error
 effect_of factors location (SetLoc address) = set_to location address
 effect_of factors location (AdvanceLoc delta) = advanced_to factors (location + (delta * factors.code_alignment_factor) % 2 ^ 64)

@@ -1,18 +1,18 @@
 -- Instructions of the code as those of the definitions: offsets and lengths are numbers.
-use Rattle.std.specs.Prelude.{ℕ, Option, option_map, Result, Ok, Err}
+use Rattle.std.specs.Prelude.{ℕ, List, Option, option_map, Result, Ok, Err}
 use Rattle.dwarf_constants.specs.declared.constants.DwEhPe.{DwEhPe}
 use Rattle.dwarf_constants.specs.declared.common.Vendor.{Vendor}
 use Rattle.dwarf_constants.specs.declared.error.Error.{Error}
-use Rattle.dwarf_readers.specs.Place.{Stretch}
+use Rattle.dwarf_readers.specs.Stretch.{Stretch}
 use Rattle.dwarf_frame_rows.specs.declared.expression.UnwindExpression.{UnwindExpression}
 use Rattle.dwarf_frame_rows.specs.declared.pointer.PointerEncodingParameters.{PointerEncodingParameters}
 use Rattle.dwarf_frame_rows.specs.EncodedPointer.{origins_of}
 use Rattle.dwarf_frame_instructions.specs.declared.instructions.CallFrameInstruction.{CallFrameInstruction}
 use Rattle.dwarf_frame_instructions.specs.declared.instructions.CallFrameInstruction.TheVariants.{SetLoc, AdvanceLoc, DefCfa, DefCfaSf, DefCfaRegister, DefCfaOffset, DefCfaOffsetSf, DefCfaExpression, Undefined, SameValue, Offset, OffsetExtendedSf, ValOffset, ValOffsetSf, Register as InRegister, Expression, ValExpression, Restore, RememberState, RestoreState, ArgsSize, NegateRaState, Nop}
 use Rattle.dwarf_frame_instructions.specs.declared.instructions.Coding.{Coding}
-use Rattle.dwarf_frame_instructions.specs.Instructions.{Conventions}
+use Rattle.dwarf_frame_instructions.specs.Instructions.{Conventions, instructions_of}
 
--- the place of an expression
+-- the offset and length of an expression
 abbrev pub expression_as : {T U : Type 0} → (T → U) → UnwindExpression T → UnwindExpression U
 expression_as number e = record { offset = number e.offset; length = number e.length }
 
@@ -51,16 +51,25 @@ conventions_of stretch limit encoding parameters vendor = record {
   limit = limit;
 }
 
--- the same of the code's record of them
+-- the conventions of the code's record of them
 abbrev pub conventions_by : {R : Type 0} → (R → Stretch) → ℕ → Coding R → Conventions
 conventions_by stretch limit coding = record {
   encoding = option_map (λ e. e.0) coding.address_encoding;
-  origins = record { bases = coding.bases.now; function = coding.func_base; section_place = (stretch coding.section).place; address_size = coding.address_size };
+  origins = record {
+    bases = coding.bases.now;
+    function = coding.func_base;
+    section_place = (stretch coding.section).offset;
+    address_size = coding.address_size;
+  };
   vendor = coding.vendor;
   limit = limit;
 }
 
--- an answer, with its value seen so
+-- the instructions that the code's record of conventions reads in a stretch
+abbrev pub instructions_by : {R : Type 0} → (R → Stretch) → ℕ → Coding R → R → List (Result (CallFrameInstruction ℕ) Error)
+instructions_by stretch limit coding input = instructions_of (conventions_by stretch limit coding) (stretch input)
+
+-- a result, its value by a view
 abbrev pub answer_as : {X Y : Type 0} → (X → Y) → Result X Error → Result Y Error
 answer_as view (Ok x) = Ok (view x)
 answer_as view (Err e) = Err e

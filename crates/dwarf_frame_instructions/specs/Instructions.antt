@@ -1,5 +1,5 @@
 -- Call frame instructions (DWARF 5, 6.4.2; their bytes 7.24, table 7.29).
-use Rattle.std.specs.Prelude.{ℕ, ◌-◌, ◌%◌, ◌^◌, ◌==◌, List, [], ◌∷◌, ◌++◌, Option, Some, None, Result, Ok, Err, nat_le, if◌then◌else◌}
+use Rattle.std.specs.Prelude.{ℕ, ◌-◌, ◌%◌, ◌^◌, List, [], ◌∷◌, ◌++◌, Option, Some, None, Result, Ok, Err, nat_le}
 use Rattle.list_laws.specs.Items.{items_of}
 use Rattle.dwarf_constants.specs.declared.common.Register.{Register}
 use Rattle.dwarf_constants.specs.declared.common.Vendor.{Vendor}
@@ -10,16 +10,17 @@ use Rattle.dwarf_constants.specs.declared.error.Error.{Error}
 use Rattle.dwarf_constants.specs.declared.error.Error.TheVariants.{OffsetOutOfBounds, UnknownCallFrameInstruction}
 use Rattle.dwarf_readers.specs.InitialLength.{address_at, as_offset}
 use Rattle.dwarf_readers.specs.Leb128.{signed_at, unsigned_at, unsigned_16_at}
+use Rattle.dwarf_readers.specs.Operands.{Parse, alone, look_up, one, two}
 use Rattle.dwarf_endianity.specs.Offset.{offset_below}
-use Rattle.dwarf_readers.specs.Place.{Stretch, ◌>>=◌, behind_at, byte_at, number_at, requirement}
+use Rattle.dwarf_readers.specs.Stretch.{Stretch, ◌>>=◌, behind_at, byte_at, number_at, requirement}
 use Rattle.dwarf_readers.specs.Remainder.{item_at, size_of}
 use Rattle.dwarf_frame_rows.specs.declared.expression.UnwindExpression.{UnwindExpression}
 use Rattle.dwarf_frame_rows.specs.EncodedPointer.{Origins, direct_address, pointer_at}
 use Rattle.dwarf_frame_instructions.specs.declared.instructions.CallFrameInstruction.{CallFrameInstruction}
 use Rattle.dwarf_frame_instructions.specs.declared.instructions.CallFrameInstruction.TheVariants.{SetLoc, AdvanceLoc, DefCfa, DefCfaSf, DefCfaRegister, DefCfaOffset, DefCfaOffsetSf, DefCfaExpression, Undefined, SameValue, Offset, OffsetExtendedSf, ValOffset, ValOffsetSf, Register as InRegister, Expression, ValExpression, Restore, RememberState, RestoreState, ArgsSize, NegateRaState, Nop}
 
--- what the bytes of instructions are read by: the encoding of addresses, where the entry says one; what pointers count from,
--- and the size of an address; whose instructions are taken; and what lengths are below
+-- how the bytes of instructions are read: the encoding of addresses, if the entry has one; what pointers are relative to, and the
+-- size of an address; whose instructions are taken; and what lengths are below
 pub record Conventions : Type 0 where
   pub encoding : Option ℕ
   pub origins : Origins
@@ -29,75 +30,64 @@ pub record Conventions : Type 0 where
 -- ---- operands
 
 -- a register's number
-abbrev pub register_at : Stretch → Result (Register × Stretch) Error
+abbrev pub register_at : Parse Register
 register_at s = do
   number ← unsigned_16_at s
   Ok (record { 0 = number.0 }, number.1)
 
--- an address in an encoding, which has to be direct, or else a whole address; no pointer stands before its section
-abbrev pub location_in : Option ℕ → Origins → Stretch → Result (ℕ × Stretch) Error
+-- an address in an encoding, which has to be direct; without an encoding, as many bytes as an address has. No pointer is before
+-- the start of its section
+abbrev pub location_in : Option ℕ → Origins → Parse ℕ
 location_in (Some encoding) origins s = do
-  _ ← requirement (nat_le origins.section_place s.place) OffsetOutOfBounds
+  _ ← requirement (nat_le origins.section_place s.offset) OffsetOutOfBounds
   pointer ← pointer_at origins encoding s
   address ← direct_address pointer.0
   Ok (address, pointer.1)
 location_in None origins s = address_at origins.address_size s
 
 -- an address (6.4.2.1)
-abbrev pub location_at : Conventions → Stretch → Result (ℕ × Stretch) Error
+abbrev pub location_at : Conventions → Parse ℕ
 location_at conventions s = location_in conventions.encoding conventions.origins s
 
--- an expression, by its place in the section and its length; its bytes are gone over (7.5.5, exprloc)
-abbrev pub expression_at : Conventions → Stretch → Result (UnwindExpression ℕ × Stretch) Error
+-- an expression: its length, and its offset in the section; its bytes are passed over (7.5.5, exprloc)
+abbrev pub expression_at : Conventions → Parse (UnwindExpression ℕ)
 expression_at conventions s = do
   read ← unsigned_at s
   count ← as_offset conventions.limit read
-  offset ← offset_below conventions.limit (count.1.place - conventions.origins.section_place)
+  offset ← offset_below conventions.limit (count.1.offset - conventions.origins.section_place)
   rest ← behind_at count.0 count.1
   Ok (record { offset = offset; length = count.0 }, rest)
 
--- ---- the tables
+-- ---- the opcodes (table 7.29)
 
--- how operands are read, and what instruction they make
+-- an instruction with its operands
 abbrev pub Operands : Type 0
-Operands = Stretch → Result (CallFrameInstruction ℕ × Stretch) Error
+Operands = Parse (CallFrameInstruction ℕ)
 
--- no operands
-abbrev pub alone : CallFrameInstruction ℕ → Operands
-alone instruction s = Ok (instruction, s)
+-- the number of an opcode
+abbrev pub opcode_number : DwCfa → ℕ
+opcode_number opcode = opcode.0
 
--- one operand
-abbrev pub one : {A : Type 0} → (Stretch → Result (A × Stretch) Error) → (A → CallFrameInstruction ℕ) → Operands
-one operand instruction s = do
-  value ← operand s
-  Ok (instruction value.0, value.1)
-
--- two operands
-abbrev pub two : {A B : Type 0} → (Stretch → Result (A × Stretch) Error) → (Stretch → Result (B × Stretch) Error) → (A → B → CallFrameInstruction ℕ) → Operands
-two first second instruction s = do
-  value ← first s
-  one second (instruction value.0) value.1
-
--- the instructions that the high two bits of an opcode tell; the low six are an operand
-abbrev pub by_high_bits : List (DwCfa × (ℕ → Operands))
-by_high_bits =
+-- the opcodes in the high two bits; the low six are the first operand
+abbrev pub primary_opcodes : List (DwCfa × (ℕ → Operands))
+primary_opcodes =
     (DW_CFA_advance_loc, λ low. alone (AdvanceLoc low))
     ∷ (DW_CFA_offset, λ low. one unsigned_at (Offset (record { 0 = low })))
     ∷ (DW_CFA_restore, λ low. alone (Restore (record { 0 = low })))
     ∷ []
 
--- those that all bits tell: where the next row starts (6.4.2.1)
-abbrev pub locations : Conventions → List (DwCfa × Operands)
-locations conventions =
+-- row creation (6.4.2.1)
+abbrev pub row_creation : Conventions → List (DwCfa × Operands)
+row_creation conventions =
     (DW_CFA_set_loc, one (location_at conventions) SetLoc)
     ∷ (DW_CFA_advance_loc1, one byte_at AdvanceLoc)
     ∷ (DW_CFA_advance_loc2, one (number_at 2) AdvanceLoc)
     ∷ (DW_CFA_advance_loc4, one (number_at 4) AdvanceLoc)
     ∷ []
 
--- how the CFA is found (6.4.2.2)
-abbrev pub cfa_definitions : Conventions → List (DwCfa × Operands)
-cfa_definitions conventions =
+-- definition of the CFA (6.4.2.2)
+abbrev pub cfa_definition : Conventions → List (DwCfa × Operands)
+cfa_definition conventions =
     (DW_CFA_def_cfa, two register_at unsigned_at DefCfa)
     ∷ (DW_CFA_def_cfa_sf, two register_at signed_at DefCfaSf)
     ∷ (DW_CFA_def_cfa_register, one register_at DefCfaRegister)
@@ -106,7 +96,7 @@ cfa_definitions conventions =
     ∷ (DW_CFA_def_cfa_expression, one (expression_at conventions) DefCfaExpression)
     ∷ []
 
--- how a register is found: not, or by an offset from the CFA (6.4.2.3)
+-- register rules without a value, or by an offset from the CFA (6.4.2.3)
 abbrev pub offset_rules : List (DwCfa × Operands)
 offset_rules =
     (DW_CFA_undefined, one register_at Undefined)
@@ -117,7 +107,7 @@ offset_rules =
     ∷ (DW_CFA_val_offset_sf, two register_at signed_at ValOffsetSf)
     ∷ []
 
--- in another register, by an expression, or as the CIE says
+-- register rules by another register, by an expression, or as the CIE says (6.4.2.3)
 abbrev pub other_rules : Conventions → List (DwCfa × Operands)
 other_rules conventions =
     (DW_CFA_register, two register_at register_at InRegister)
@@ -126,69 +116,67 @@ other_rules conventions =
     ∷ (DW_CFA_restore_extended, one register_at Restore)
     ∷ []
 
--- all ways to find a register
-abbrev pub register_rules : Conventions → List (DwCfa × Operands)
-register_rules conventions = offset_rules ++ other_rules conventions
-
--- those of a vendor alone
-abbrev pub vendors : Vendor → List (DwCfa × Operands)
-vendors vendor.Default = []
-vendors vendor.AArch64 = (DW_CFA_AARCH64_negate_ra_state, alone NegateRaState) ∷ []
-
--- what is kept and brought back, padding, and the sizes of arguments (6.4.2.4, 6.4.2.5)
-abbrev pub others : Conventions → List (DwCfa × Operands)
-others conventions =
+-- row state (6.4.2.4)
+abbrev pub row_state : List (DwCfa × Operands)
+row_state =
     (DW_CFA_remember_state, alone RememberState)
     ∷ (DW_CFA_restore_state, alone RestoreState)
-    ∷ (DW_CFA_nop, alone Nop)
+    ∷ []
+
+-- padding (6.4.2.5), and the size of arguments, an extension of GNU
+abbrev pub padding : List (DwCfa × Operands)
+padding =
+    (DW_CFA_nop, alone Nop)
     ∷ (DW_CFA_GNU_args_size, one unsigned_at ArgsSize)
-    ∷ vendors conventions.vendor
+    ∷ []
 
--- what a table has for an opcode
-abbrev pub look_up : {A : Type 0} → ℕ → List (DwCfa × A) → Option A
-look_up opcode [] = None
-look_up opcode ((code, x) ∷ rows) = if opcode == code.0 then Some x else look_up opcode rows
+-- extensions of one vendor alone
+abbrev pub vendor_opcodes : Vendor → List (DwCfa × Operands)
+vendor_opcodes vendor.Default = []
+vendor_opcodes vendor.AArch64 = (DW_CFA_AARCH64_negate_ra_state, alone NegateRaState) ∷ []
 
--- the instruction that was found, or none is known
-abbrev pub known_or_refused : ℕ → Option Operands → Operands
-known_or_refused opcode (Some operands) s = operands s
-known_or_refused opcode None s = Err (UnknownCallFrameInstruction (record { 0 = opcode }))
+-- the opcodes in all eight bits, in the order of the standard's sections
+abbrev pub extended_opcodes : Conventions → List (DwCfa × Operands)
+extended_opcodes conventions =
+    row_creation conventions
+    ++ cfa_definition conventions
+    ++ offset_rules
+    ++ other_rules conventions
+    ++ row_state
+    ++ padding
+    ++ vendor_opcodes conventions.vendor
 
--- the instruction that a table has for an opcode
+-- ---- instructions
+
+-- the operands that were found, if any were
+abbrev pub found_or_unknown : ℕ → Option Operands → Operands
+found_or_unknown opcode (Some operands) s = operands s
+found_or_unknown opcode None s = Err (UnknownCallFrameInstruction (record { 0 = opcode }))
+
+-- the instruction that a table has for an opcode, which is unknown without one
 abbrev pub listed_at : List (DwCfa × Operands) → ℕ → Operands
-listed_at rows opcode = known_or_refused opcode (look_up opcode rows)
+listed_at rows opcode = found_or_unknown opcode (look_up opcode_number opcode rows)
 
--- the tables behind that of the offsets from the CFA
-abbrev pub other_rules_and_others : Conventions → List (DwCfa × Operands)
-other_rules_and_others conventions = other_rules conventions ++ others conventions
+-- the instruction of an opcode in all eight bits
+abbrev pub extended_instruction : Conventions → ℕ → Operands
+extended_instruction conventions opcode = listed_at (extended_opcodes conventions) opcode
 
--- the tables behind that of the locations, and behind that of the CFA
-abbrev pub rules_and_others : Conventions → List (DwCfa × Operands)
-rules_and_others conventions = register_rules conventions ++ others conventions
+-- the instruction of an opcode in the high two bits, if there is one, or else in all eight
+abbrev pub instruction_by : Conventions → ℕ → ℕ → Option (ℕ → Operands) → Operands
+instruction_by conventions opcode low (Some operands) = operands low
+instruction_by conventions opcode low None = extended_instruction conventions opcode
 
--- all instructions but those that set or advance the location
-abbrev pub all_but_locations : Conventions → List (DwCfa × Operands)
-all_but_locations conventions = cfa_definitions conventions ++ rules_and_others conventions
+-- the instruction of an opcode
+abbrev pub instruction_of : Conventions → ℕ → Operands
+instruction_of conventions opcode =
+    instruction_by conventions opcode (opcode % 2 ^ 6) (look_up opcode_number (opcode - opcode % 2 ^ 6) primary_opcodes)
 
--- the instruction that all bits tell
-abbrev pub told_by_all_bits : Conventions → ℕ → Operands
-told_by_all_bits conventions = listed_at (locations conventions ++ all_but_locations conventions)
-
--- the instruction that the high two bits tell, or else all
-abbrev pub told_by : Conventions → ℕ → ℕ → Option (ℕ → Operands) → Operands
-told_by conventions opcode low (Some operands) = operands low
-told_by conventions opcode low None = told_by_all_bits conventions opcode
-
--- the instruction that an opcode tells, with its operands behind it
-abbrev pub told_at : Conventions → ℕ → Operands
-told_at conventions opcode = told_by conventions opcode (opcode % 2 ^ 6) (look_up (opcode - opcode % 2 ^ 6) by_high_bits)
-
--- the first instruction, and what is left behind it
+-- the instruction at the start of a stretch, and what is left after it
 abbrev pub instruction_at : Conventions → Operands
 instruction_at conventions s = do
   opcode ← byte_at s
-  told_at conventions opcode.0 opcode.1
+  instruction_of conventions opcode.0 opcode.1
 
--- the instructions of a stretch, in their order; a fault is the last
+-- the instructions of a stretch, in their order, up to the first that cannot be read, whose error is the last
 unfoldable pub instructions_of : Conventions → Stretch → List (Result (CallFrameInstruction ℕ) Error)
 instructions_of conventions s = items_of size_of (item_at (instruction_at conventions)) s

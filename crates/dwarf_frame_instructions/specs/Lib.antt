@@ -2,6 +2,7 @@ pub mod Effects
 pub mod Execution
 pub mod InstructionViews
 pub mod Instructions
+pub mod OpcodeTables
 pub mod Parts
 pub mod ProgramRows
 pub mod ProgramRowsLend

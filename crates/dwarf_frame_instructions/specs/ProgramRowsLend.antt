@@ -5,20 +5,21 @@ use mathlib.Core.Option.{none}
 use mir.Syntax.{named}
 use Rattle.dwarf_constants.specs.declared.error.Error.{Error}
 use Rattle.dwarf_storage.specs.declared.array_like.ArrayLike.{Ghosts}
-use Rattle.dwarf_readers.specs.Place.{Stretch}
+use Rattle.dwarf_readers.specs.Stretch.{Stretch}
 use Rattle.dwarf_frame_rows.specs.declared.row.UnwindTableRow.{UnwindTableRow}
 use Rattle.dwarf_frame_rows.specs.declared.rules.RegisterRule.{RegisterRule}
 use Rattle.dwarf_frame_rows.specs.declared.rules.RuledRegister.{RuledRegister}
 use Rattle.dwarf_frame_rows.specs.Effects.{Limits}
 use Rattle.dwarf_frame_instructions.specs.declared.rows.ProgramRows.{ProgramRows}
 use Rattle.dwarf_frame_instructions.specs.contracts.rows.ProgramRows.{the_row}
-use Rattle.dwarf_frame_instructions.specs.Programs.{Rows}
+use Rattle.dwarf_frame_instructions.specs.Programs.{RowList}
 use Rattle.dwarf_frame_instructions.specs.ProgramRows.{HasLeft, current_row, rows_left_by, row_given}
 
 module _ (R S E O L K : RattleType) (rules : Ghosts L.Denot (RuledRegister (RegisterRule O.Denot))) (stretch : R.Denot → Stretch) (limit : ℕ) (number : O.Denot → ℕ) (items : K.Denot → List (UnwindTableRow O.Denot L.Denot)) (limits : Limits) where
-  -- the rows behind the first are left, and the row that was given is the current one
-  abbrev pub LeavesRows : MutBor (ProgramRows R.Denot S.Denot E.Denot O.Denot L.Denot K.Denot) → Result (Option (Bor (UnwindTableRow O.Denot L.Denot))) Error → Fml
+  -- the rows after the first are left, and the row that was given is the current one
+  abbrev pub LeavesRows : MutBor (ProgramRows R.Denot S.Denot E.Denot O.Denot L.Denot K.Denot)
+      → Result (Option (Bor (UnwindTableRow O.Denot L.Denot))) Error → Fml
   LeavesRows rows result =
       let row = the_row (record { mir = named 0; lft = [] }) (record { mir = named 1; lft = [] }) R S E O L K rules in
       follows_so row row rows.ghost_name none (λ _ _. ⊤)
-      (λ last. ((left : Rows ℕ) → HasLeft stretch limit number items limits rows.now left → HasLeft stretch limit number items limits last (rows_left_by left result)) × (current_row number items limits last ≡ row_given number ⊤ result))
+      (λ last. ((left : RowList ℕ) → HasLeft stretch limit number items limits rows.now left → HasLeft stretch limit number items limits last (rows_left_by left result)) × (current_row number items limits last ≡ row_given number ⊤ result))

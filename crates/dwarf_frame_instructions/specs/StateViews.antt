@@ -1,4 +1,4 @@
--- The states of the code as those of the definitions: the places and lengths of expressions are numbers.
+-- The states of the code as those of the definitions: the offsets and lengths of expressions are numbers.
 use Rattle.std.specs.Prelude.{map, option_map}
 use Rattle.std.specs.FinMap.{entries, from_sorted}
 use Rattle.dwarf_frame_rows.specs.declared.effect.Effect.{Effect}
@@ -7,7 +7,7 @@ use Rattle.dwarf_frame_rows.specs.declared.rules.CfaRule.{CfaRule}
 use Rattle.dwarf_frame_rows.specs.declared.rules.CfaRule.TheVariants as cfa
 use Rattle.dwarf_frame_rows.specs.declared.rules.RegisterRule.{RegisterRule}
 use Rattle.dwarf_frame_rows.specs.declared.rules.RegisterRule.TheVariants as rule
-use Rattle.dwarf_frame_rows.specs.Effects.{State}
+use Rattle.dwarf_frame_rows.specs.Effects.{ContextState}
 use Rattle.dwarf_frame_rows.specs.Row.{Row}
 use Rattle.dwarf_frame_rows.specs.RuleMap.{RuleMap}
 use Rattle.dwarf_frame_instructions.specs.InstructionViews.{expression_as}
@@ -58,7 +58,7 @@ row_as number row = record {
 }
 
 -- a state
-abbrev pub state_as : {T U : Type 0} → (T → U) → State T → State U
+abbrev pub state_as : {T U : Type 0} → (T → U) → ContextState T → ContextState U
 state_as number s = record {
   row = row_as number s.row;
   remembered_rows = map (row_as number) s.remembered_rows;

@@ -1,4 +1,5 @@
 //! What each instruction does (DWARF 5, 6.4.2).
+
 ghost use Rattle.std.specs.Prelude.{◌≡◌, ◌+◌, ◌*◌, ◌%◌, ◌^◌, nat_lt};
 ghost use Rattle.dwarf_frame_instructions.specs.Effects.{address_limit, advanced_to, effect_of, factored_offset, set_to};
 
@@ -18,9 +19,9 @@ pub struct Factors {
 }
 
 impl Factors {
-    /// What an instruction does where the location has come to this address. Fails with
-    /// `AddressOverflow` where the location would go past the last address, and with
-    /// `InvalidCfiSetLoc` where it would go back.
+    /// What an instruction does at this location. Fails with `AddressOverflow` if it would move the
+    /// location to a number that is no address, and with `InvalidCfiSetLoc` if it would set the location
+    /// to a lower address.
     #[inline(always)]
     pub fn effect<T: Copy>(
         &self,
@@ -110,7 +111,7 @@ impl Factors {
         Ok(effect)
     }
 
-    // The number times the data alignment factor, modulo 2^64.
+    // The number times the data alignment factor, modulo 2^64, as a signed number.
     fn offset(&self, number: u64) -> i64
         ensures { result ≡ factored_offset self.now number }
     {
@@ -119,7 +120,7 @@ impl Factors {
             .cast_signed()
     }
 
-    // Goes on from a location.
+    // Moves a location forward by a delta.
     fn advance_location<T>(&self, location: u64, delta: u32) -> Result<Effect<T>>
         ensures { result ≡ advanced_to self.now
             (location + (delta * self.now.code_alignment_factor) % 2 ^ 64) }
@@ -143,7 +144,7 @@ fn is_address(number: u64, address_size: u8) -> bool
     address_size >= 8 || number < 1 << (8 * address_size)
 }
 
-// Sets the location, which never goes back.
+// Sets the location to an address that is not lower.
 fn set_location<T>(location: u64, address: u64) -> Result<Effect<T>>
     ensures { result ≡ set_to location address }
 {

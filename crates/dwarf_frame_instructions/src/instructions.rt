@@ -1,9 +1,11 @@
 //! Call frame instructions (DWARF 5, 6.4.2 and 7.24).
+
 ghost use Rattle.std.specs.Prelude.{◌≡◌};
 ghost use Rattle.list_laws.specs.Items.{GivesNext};
-ghost use Rattle.dwarf_readers.specs.Place.{Reads, ReadsAs};
-ghost use Rattle.dwarf_frame_instructions.specs.Instructions.{all_but_locations, expression_at, instruction_at, instructions_of, listed_at, location_at, other_rules_and_others, others, register_at, rules_and_others, told_by_all_bits};
-ghost use Rattle.dwarf_frame_instructions.specs.InstructionViews.{conventions_by, conventions_of, expression_as, instruction_as};
+ghost use Rattle.dwarf_readers.specs.Stretch.{Reads, ReadsAs};
+ghost use Rattle.dwarf_frame_instructions.specs.Instructions.{expression_at, extended_instruction, instruction_at, instructions_of, listed_at, location_at, register_at};
+ghost use Rattle.dwarf_frame_instructions.specs.OpcodeTables.{from_cfa_definition, from_offset_rules, from_other_rules, from_row_state};
+ghost use Rattle.dwarf_frame_instructions.specs.InstructionViews.{conventions_by, conventions_of, expression_as, instruction_as, instructions_by};
 
 use dwarf_constants::constants::{
     DW_CFA_AARCH64_negate_ra_state, DW_CFA_GNU_args_size, DW_CFA_advance_loc, DW_CFA_advance_loc1,
@@ -29,7 +31,7 @@ pub enum CallFrameInstruction<T> {
     SetLoc {
         address: u64,
     },
-    /// The next row starts `delta` times the code alignment factor behind the last.
+    /// The next row starts `delta` times the code alignment factor after the last one.
     AdvanceLoc {
         delta: u32,
     },
@@ -43,7 +45,7 @@ pub enum CallFrameInstruction<T> {
         register: Register,
         factored_offset: i64,
     },
-    /// The CFA keeps its offset, and is counted from this register.
+    /// The CFA keeps its offset, and is relative to this register.
     DefCfaRegister {
         register: Register,
     },
@@ -72,7 +74,7 @@ pub enum CallFrameInstruction<T> {
         register: Register,
         factored_offset: u64,
     },
-    /// The register is saved at the CFA plus a factored offset with a sign.
+    /// The register is saved at the CFA plus a signed factored offset.
     OffsetExtendedSf {
         register: Register,
         factored_offset: i64,
@@ -82,7 +84,7 @@ pub enum CallFrameInstruction<T> {
         register: Register,
         factored_offset: u64,
     },
-    /// The register is the CFA plus a factored offset with a sign.
+    /// The register is the CFA plus a signed factored offset.
     ValOffsetSf {
         register: Register,
         factored_offset: i64,
@@ -102,15 +104,15 @@ pub enum CallFrameInstruction<T> {
         register: Register,
         expression: UnwindExpression<T>,
     },
-    /// The register is found as the CIE's own instructions said.
+    /// The register has the rule that the CIE's own instructions left.
     Restore {
         register: Register,
     },
-    /// How all is found is kept for later.
+    /// The rules of all registers and of the CFA are pushed on a stack.
     RememberState,
-    /// What was kept last comes back.
+    /// The rules that were pushed last are popped from the stack.
     RestoreState,
-    /// The caller pushed arguments of so many bytes (`DW_CFA_GNU_args_size`).
+    /// The caller pushed arguments of this size in bytes (`DW_CFA_GNU_args_size`).
     ArgsSize {
         size: u64,
     },
@@ -120,8 +122,8 @@ pub enum CallFrameInstruction<T> {
     Nop,
 }
 
-/// What the bytes of instructions are read by. The section is a reader of its own: rows that hold a
-/// reference to it beside a context couldn't be asked for in a loop.
+// How the bytes of instructions are read. The section is a reader of its own: rows that hold a
+// reference to it beside a context couldn't be asked for in a loop.
 #[derive(Debug, Clone, Copy)]
 pub(crate) struct Coding<'a, R> {
     address_encoding: Option<DwEhPe>,
@@ -143,19 +145,17 @@ pub struct CallFrameInstructionIter<'a, R: Reader> {
 impl<'a, R: Reader> Model for CallFrameInstructionIter<'a, R> {
     ghost use Rattle.std.specs.Prelude.{ℕ, List, Result};
     ghost use Rattle.dwarf_constants.specs.declared.error.Error.{Error};
-    ghost use Rattle.dwarf_frame_instructions.specs.Instructions.{instructions_of};
-    ghost use Rattle.dwarf_frame_instructions.specs.InstructionViews.{conventions_by};
+    ghost use Rattle.dwarf_frame_instructions.specs.InstructionViews.{instructions_by};
     ghost use Rattle.dwarf_frame_instructions.specs.declared.instructions.CallFrameInstruction.{CallFrameInstruction};
 
     ghost Value = { List (Result (CallFrameInstruction ℕ) Error) };
 
-    ghost view = { λ iter. instructions_of (conventions_by R.stretch R.Offset.limit iter.coding)
-        (R.stretch iter.input) };
+    ghost view = { λ iter. instructions_by R.stretch R.Offset.limit iter.coding iter.input };
 }
 
 impl<'a, R: Reader> CallFrameInstructionIter<'a, R> {
-    /// The instructions of a stretch of a section. `address_encoding` says how addresses are written in
-    /// them, if the entry's augmentation does. The stretch is one of the parameters' section.
+    /// The instructions in the bytes of `input`, a part of the parameters' section. `address_encoding` is
+    /// the encoding of addresses, if the entry's augmentation has one.
     pub fn new(
         input: R,
         address_encoding: Option<DwEhPe>,
@@ -176,7 +176,8 @@ impl<'a, R: Reader> CallFrameInstructionIter<'a, R> {
         CallFrameInstructionIter { input, coding }
     }
 
-    /// The next instruction, or nothing behind the last. After an error it answers only `Ok(None)`.
+    /// The next instruction, or `None` after the last. Fails if the bytes are no instruction that is
+    /// known, or end in one. After an error it returns only `Ok(None)`.
     #[inline(always)]
     pub fn next(&mut self) -> Result<Option<CallFrameInstruction<R::Offset>>>
         ensures { GivesNext (instruction_as R.Offset.value) result self.old self.new }
@@ -184,16 +185,15 @@ impl<'a, R: Reader> CallFrameInstructionIter<'a, R> {
         self.coding.next(&mut self.input)
     }
 
-    /// What the instructions that are left are read by, and their bytes.
+    // How the instructions that are left are read, and their bytes.
     pub(crate) fn into_parts(self) -> (Coding<'a, R>, R)
-        ensures { self.entry ≡ instructions_of
-            (conventions_by R.stretch R.Offset.limit result.0) (R.stretch result.1) }
+        ensures { self.entry ≡ instructions_by R.stretch R.Offset.limit result.0 result.1 }
     {
         (self.coding, self.input)
     }
 }
 
-/// std's iterator over the same instructions, the error as the last item.
+/// The same instructions as `next` gives, an error as the last item.
 impl<'a, R: Reader> Iterator for CallFrameInstructionIter<'a, R> {
     ghost use Rattle.std.specs.Iterator.{YieldsFirstBy, item_count};
     ghost use Rattle.dwarf_frame_instructions.specs.InstructionViews.{answer_as, instruction_as};
@@ -210,18 +210,17 @@ impl<'a, R: Reader> Iterator for CallFrameInstructionIter<'a, R> {
     }
 }
 
-/// How many values the low six bits of an opcode have. They are an operand where the high two tell the
-/// instruction.
+/// How many values the low six bits of an opcode have. They are an operand if the opcode is in the
+/// high two.
 const LOW_VALUES: u8 = 1 << 6;
 
 impl<'a, R: Reader> Coding<'a, R> {
-    /// Reads the next instruction, if bytes are left. After an error none are.
+    // Reads the next instruction, if bytes are left. After an error none are.
     #[inline(always)]
     pub(crate) fn next(&self, input: &mut R) -> Result<Option<CallFrameInstruction<R::Offset>>>
-        ensures { let conventions = conventions_by R.stretch R.Offset.limit self.now in
-            GivesNext (instruction_as R.Offset.value) result
-            (instructions_of conventions (R.stretch input.old))
-            (instructions_of conventions (R.stretch input.new)) }
+        ensures { GivesNext (instruction_as R.Offset.value) result
+            (instructions_by R.stretch R.Offset.limit self.now input.old)
+            (instructions_by R.stretch R.Offset.limit self.now input.new) }
     {
         if input.is_empty() {
             return Ok(None);
@@ -235,7 +234,7 @@ impl<'a, R: Reader> Coding<'a, R> {
         }
     }
 
-    // Reads an instruction, which the high two bits of its opcode tell, or all.
+    // Reads an instruction, whose opcode is in the high two bits or in all eight.
     #[inline(always)]
     fn parse(&self, input: &mut R) -> Result<CallFrameInstruction<R::Offset>>
         ensures { ReadsAs (instruction_as R.Offset.value) result
@@ -260,8 +259,7 @@ impl<'a, R: Reader> Coding<'a, R> {
         }
     }
 
-    // Reads the operands of an instruction that all bits of its opcode tell: where the next row
-    // starts, or another.
+    // Reads the operands of an opcode in all eight bits: of row creation, or others.
     #[inline(always)]
     fn parse_operands(
         &self,
@@ -269,7 +267,7 @@ impl<'a, R: Reader> Coding<'a, R> {
         input: &mut R,
     ) -> Result<CallFrameInstruction<R::Offset>>
         ensures { ReadsAs (instruction_as R.Offset.value) result
-            (told_by_all_bits (conventions_by R.stretch R.Offset.limit self.now) opcode.0
+            (extended_instruction (conventions_by R.stretch R.Offset.limit self.now) opcode.0
             (R.stretch input.old)) (R.stretch input.new) }
     {
         let instruction = match opcode {
@@ -290,11 +288,11 @@ impl<'a, R: Reader> Coding<'a, R> {
         Ok(instruction)
     }
 
-    // The same of how the CFA is found, or another.
+    // Reads the operands of an opcode that defines the CFA, or of one after these.
     #[inline(always)]
     fn parse_cfa(&self, opcode: DwCfa, input: &mut R) -> Result<CallFrameInstruction<R::Offset>>
         ensures { ReadsAs (instruction_as R.Offset.value) result
-            (listed_at (all_but_locations (conventions_by R.stretch R.Offset.limit self.now))
+            (listed_at (from_cfa_definition (conventions_by R.stretch R.Offset.limit self.now))
             opcode.0
             (R.stretch input.old)) (R.stretch input.new) }
     {
@@ -324,11 +322,12 @@ impl<'a, R: Reader> Coding<'a, R> {
         Ok(instruction)
     }
 
-    // The same of how a register is found, or another.
+    // Reads the operands of a register rule without a value or by an offset, or of an opcode after
+    // these.
     #[inline(always)]
     fn parse_rule(&self, opcode: DwCfa, input: &mut R) -> Result<CallFrameInstruction<R::Offset>>
         ensures { ReadsAs (instruction_as R.Offset.value) result
-            (listed_at (rules_and_others (conventions_by R.stretch R.Offset.limit self.now))
+            (listed_at (from_offset_rules (conventions_by R.stretch R.Offset.limit self.now))
             opcode.0
             (R.stretch input.old)) (R.stretch input.new) }
     {
@@ -360,7 +359,7 @@ impl<'a, R: Reader> Coding<'a, R> {
         Ok(instruction)
     }
 
-    // The same of how a register is found, but not by an offset from the CFA, or another.
+    // Reads the operands of another register rule, or of an opcode after these.
     #[inline(always)]
     fn parse_other_rule(
         &self,
@@ -368,7 +367,7 @@ impl<'a, R: Reader> Coding<'a, R> {
         input: &mut R,
     ) -> Result<CallFrameInstruction<R::Offset>>
         ensures { ReadsAs (instruction_as R.Offset.value) result
-            (listed_at (other_rules_and_others
+            (listed_at (from_other_rules
             (conventions_by R.stretch R.Offset.limit self.now)) opcode.0
             (R.stretch input.old)) (R.stretch input.new) }
     {
@@ -393,11 +392,11 @@ impl<'a, R: Reader> Coding<'a, R> {
         Ok(instruction)
     }
 
-    // The same of all other instructions.
+    // Reads the operands of an opcode of row state, of padding, or of a vendor.
     #[inline(always)]
     fn parse_other(&self, opcode: DwCfa, input: &mut R) -> Result<CallFrameInstruction<R::Offset>>
         ensures { ReadsAs (instruction_as R.Offset.value) result
-            (listed_at (others (conventions_by R.stretch R.Offset.limit self.now)) opcode.0
+            (listed_at (from_row_state (conventions_by R.stretch R.Offset.limit self.now)) opcode.0
             (R.stretch input.old)) (R.stretch input.new) }
     {
         let instruction = match opcode {
@@ -436,7 +435,7 @@ impl<'a, R: Reader> Coding<'a, R> {
         parse_encoded_pointer(encoding, &parameters, input)?.direct()
     }
 
-    // Goes over an expression behind its length, and keeps its place.
+    // Passes over an expression after its length, and keeps its offset.
     #[inline(always)]
     fn parse_expression(&self, input: &mut R) -> Result<UnwindExpression<R::Offset>>
         ensures { ReadsAs (expression_as R.Offset.value) result (expression_at

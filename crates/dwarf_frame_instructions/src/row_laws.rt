@@ -1,26 +1,24 @@
 //! Laws of the rows of a program.
 
-ghost use Rattle.std.specs.Prelude.{◌≡◌, ◌≤◌, ◌<◌, ℕ, None, length, option_map};
+ghost use Rattle.std.specs.Prelude.{◌≡◌, ◌≤◌, ◌<◌, ℕ, length, option_map};
 ghost use Rattle.std.specs.FinMap.{get};
-ghost use Rattle.std.specs.List.{filter};
 ghost use Rattle.dwarf_frame_rows.specs.Effects.{Limits};
-ghost use Rattle.dwarf_frame_rows.specs.Row.{holds_at};
 ghost use Rattle.dwarf_frame_rows.specs.RuleMap.{RuleMap};
-ghost use Rattle.dwarf_frame_instructions.specs.Programs.{Program, rows_of_program};
+ghost use Rattle.dwarf_frame_instructions.specs.Programs.{EntryProgram, IsComplete, rows_at};
 ghost use Rattle.dwarf_frame_instructions.specs.StateViews.{map_as};
 
-/// In a program without a refusal each address of the code lies in exactly one row. It does nothing
-/// when the program runs.
+/// In a program that ends without an error each address of the code is in exactly one row. The
+/// function does nothing when the program runs.
 #[tactic(auto, using(crate::proofs::OneRow::one_row))]
 pub fn each_address_has_one_row<T>()
-    ensures { (limits : Limits) (program : Program T) (address : ℕ)
-        → (rows_of_program limits program).refusal ≡ None
+    ensures { (limits : Limits) (program : EntryProgram T) (address : ℕ)
+        → IsComplete limits program
         → program.initial_address ≤ address → address < program.end_address
-        → length (filter (holds_at address) (rows_of_program limits program).rows) ≡ 1 }
+        → length (rows_at limits program address) ≡ 1 }
 {}
 
-/// Where the rules of a row are seen in another way, as with numbers for the places of expressions,
-/// each register's rule is seen so. It does nothing when the program runs.
+/// If the rules of a row are viewed in another way, as with numbers for the offsets of expressions,
+/// each register's rule is viewed so. The function does nothing when the program runs.
 #[tactic(auto, using(crate::proofs::Views::get_as))]
 pub fn each_rule_is_seen_alike<V, W>()
     ensures { (view : V → W) (rules : RuleMap V) (register : ℕ)

@@ -1,13 +1,10 @@
 //! The rows that a program makes, one after the other (DWARF 5, 6.4.3).
-ghost use Rattle.std.specs.Prelude.{◌≡◌, ◌<◌, ℕ, List, length, IfErr, IfOk, OnSome, None, option_map, true};
-ghost use Rattle.dwarf_frame_rows.specs.Effects.{limits_of};
-ghost use Rattle.dwarf_frame_rows.specs.declared.effect.Effect.{Effect};
-ghost use Rattle.dwarf_frame_instructions.specs.Execution.{Executes, Runs, Starts, TakesNoMemory, instruction_frame, front_from, state_in};
-ghost use Rattle.dwarf_frame_instructions.specs.Instructions.{instructions_of};
-ghost use Rattle.dwarf_frame_instructions.specs.InstructionViews.{conventions_by, instruction_as};
+
+ghost use Rattle.std.specs.Prelude.{◌≡◌, ◌<◌, length, IfErr, IfOk, OnSome, None, option_map, true};
+ghost use Rattle.dwarf_frame_instructions.specs.Execution.{ExecutesAt, RunsFrom, Starts, state_in};
+ghost use Rattle.dwarf_frame_instructions.specs.InstructionViews.{instruction_as, instructions_by};
 ghost use Rattle.dwarf_frame_instructions.specs.ProgramRows.{IsRowFor, program_of};
-ghost use Rattle.dwarf_frame_instructions.specs.Programs.{destination_of, past_left, row_for, step_of};
-ghost use Rattle.dwarf_frame_instructions.specs.Standing.{Stands};
+ghost use Rattle.dwarf_frame_instructions.specs.Programs.{destination_of, executed_by_cie, row_for};
 
 use crate::instructions::Coding;
 use crate::{CallFrameInstruction, CallFrameInstructionIter, Factors};
@@ -16,7 +13,7 @@ use dwarf_frame_rows::{Effect, UnwindContext, UnwindContextStorage, UnwindTableR
 use dwarf_readers::{Reader, ReaderOffset};
 use dwarf_storage::ArrayLike;
 
-// Executes an instruction in a context. Answers the location that it moves to, if it does; any other
+// Executes an instruction in a context. Returns the location that it moves to, if it moves; any other
 // instruction has its effect on the row.
 #[inline(always)]
 fn execute<T: ReaderOffset, S: UnwindContextStorage<T>>(
@@ -25,13 +22,9 @@ fn execute<T: ReaderOffset, S: UnwindContextStorage<T>>(
     location: u64,
     instruction: CallFrameInstruction<T>,
 ) -> Result<Option<u64>>
-    ensures { let limits = limits_of S.Rules.capacity S.Stack.capacity in
-        let old = state_in T.value S.Stack.items context.old in
-        (past : List (Effect ℕ)) → Stands old past
-        → Executes (TakesNoMemory S.Rules.is_made_in_place limits) past
-        old (state_in T.value S.Stack.items context.new)
-        (step_of (instruction_frame limits factors.now old) location past
-        (instruction_as T.value instruction)) result }
+    ensures { ExecutesAt S.never_allocates S.limits factors.now location
+        (state_in T.value S.Stack.items context.old) (state_in T.value S.Stack.items context.new)
+        (instruction_as T.value instruction) result }
 {
     let effect = factors.effect(location, instruction)?;
     match destination(effect) {
@@ -53,8 +46,8 @@ fn destination<T: Copy>(effect: Effect<T>) -> Option<u64>
     }
 }
 
-// Executes instructions up to the first that moves the location, and answers where it leads; or all of
-// them.
+// Executes instructions up to the first that moves the location, and returns that location; or all of
+// them, and returns `None`.
 fn run<R: Reader, S: UnwindContextStorage<R::Offset>>(
     context: &mut UnwindContext<R::Offset, S>,
     factors: &Factors,
@@ -62,19 +55,14 @@ fn run<R: Reader, S: UnwindContextStorage<R::Offset>>(
     coding: &Coding<'_, R>,
     input: &mut R,
 ) -> Result<Option<u64>>
-    ensures front { let limits = limits_of S.Rules.capacity S.Stack.capacity in
-        let old = state_in R.Offset.value S.Stack.items context.old in
-        let conventions = conventions_by R.stretch R.Offset.limit coding.now in
-        (past : List (Effect ℕ)) → Stands old past
-        → Runs (TakesNoMemory S.Rules.is_made_in_place limits)
-        old (state_in R.Offset.value S.Stack.items context.new)
-        (instructions_of conventions (R.stretch input.new))
-        (front_from (instruction_frame limits factors.now old) location past
-        (instructions_of conventions (R.stretch input.old))) result }
-    ensures falls { let conventions = conventions_by R.stretch R.Offset.limit coding.now in
-        IfOk result (λ next. OnSome next
-        (length (instructions_of conventions (R.stretch input.new))
-        < length (instructions_of conventions (R.stretch input.old)))) }
+    ensures prefix { RunsFrom S.never_allocates S.limits factors.now location
+        (state_in R.Offset.value S.Stack.items context.old)
+        (state_in R.Offset.value S.Stack.items context.new)
+        (instructions_by R.stretch R.Offset.limit coding.now input.old)
+        (instructions_by R.stretch R.Offset.limit coding.now input.new) result }
+    ensures falls { IfOk result (λ next. OnSome next
+        (length (instructions_by R.stretch R.Offset.limit coding.now input.new)
+        < length (instructions_by R.stretch R.Offset.limit coding.now input.old))) }
 {
     while let Some(instruction) = coding.next(input)? {
         if let Some(next) = execute(context, factors, location, instruction)? {
@@ -84,19 +72,17 @@ fn run<R: Reader, S: UnwindContextStorage<R::Offset>>(
     Ok(None)
 }
 
-// Executes the CIE's own instructions in a context, whatever it held, and keeps the rules that they
-// leave. They move a location of their own.
+// Clears a context, executes the CIE's own instructions in it, and keeps the rules that they leave.
+// They move a location of their own.
 fn start<R: Reader, S: UnwindContextStorage<R::Offset>>(
     context: &mut UnwindContext<R::Offset, S>,
     factors: &Factors,
     coding: &Coding<'_, R>,
     input: R,
 ) -> Result<()>
-    ensures { let limits = limits_of S.Rules.capacity S.Stack.capacity in
-        Starts (TakesNoMemory S.Rules.is_made_in_place limits)
-        (state_in R.Offset.value S.Stack.items context.new)
-        (past_left limits factors.now (instructions_of
-        (conventions_by R.stretch R.Offset.limit coding.now) (R.stretch input))) result }
+    ensures { Starts S.never_allocates (state_in R.Offset.value S.Stack.items context.new)
+        (executed_by_cie S.limits factors.now
+        (instructions_by R.stretch R.Offset.limit coding.now input)) result }
 {
     context.clear();
     let mut location = 0;
@@ -107,14 +93,14 @@ fn start<R: Reader, S: UnwindContextStorage<R::Offset>>(
     context.save_initial_rules()
 }
 
-/// A program: the instructions of a CIE and of an FDE, and what they are executed by.
+/// A program: the instructions of a CIE and of an FDE, and what their execution depends on.
 #[derive(Debug, Drop)]
 pub struct FrameProgram<'a, R: Reader> {
     /// What operands are multiplied by, and the size of an address.
     pub factors: Factors,
     /// The first address of the code.
     pub initial_address: u64,
-    /// The address behind the code, where the last row ends.
+    /// The first address after the code, where the last row ends.
     pub end_address: u64,
     /// The CIE's own instructions.
     pub initial_instructions: CallFrameInstructionIter<'a, R>,
@@ -122,7 +108,7 @@ pub struct FrameProgram<'a, R: Reader> {
     pub instructions: CallFrameInstructionIter<'a, R>,
 }
 
-/// The rows of a program, the next one first. After an error none are left.
+/// The rows of a program that are left, in their order. After an error none are.
 #[derive(Drop)]
 pub struct ProgramRows<'a, 'ctx, R: Reader, S: UnwindContextStorage<R::Offset>> {
     context: &'ctx mut UnwindContext<R::Offset, S>,
@@ -141,28 +127,27 @@ pub struct ProgramRows<'a, 'ctx, R: Reader, S: UnwindContextStorage<R::Offset>> 
 impl<'a, 'ctx, R: Reader, S: UnwindContextStorage<R::Offset>> ProgramRows<'a, 'ctx, R, S> {
     ghost use Rattle.std.specs.Borrow.{sem};
     ghost use Rattle.std.specs.Bool.{OnTrue};
+    ghost use Rattle.dwarf_frame_rows.specs.Effects.{with_bounds};
     ghost use Rattle.dwarf_frame_rows.specs.Row.{holds_at};
     ghost use Rattle.dwarf_frame_instructions.specs.Execution.{IsRefusal, row_in};
-    ghost use Rattle.dwarf_frame_instructions.specs.Programs.{Rows, refused_rows, rows_of_program};
-    ghost use Rattle.dwarf_frame_instructions.specs.ProgramRows.{Advances, HasLeft, NextIs, current_row, is_given, rows_state, steps_left};
+    ghost use Rattle.dwarf_frame_instructions.specs.Programs.{refused_rows, rows_of_program};
+    ghost use Rattle.dwarf_frame_instructions.specs.ProgramRows.{AdvancesFrom, GivesNextRow, HasLeft, current_row, is_given, rows_state, steps_left};
     ghost use Rattle.dwarf_frame_instructions.specs.ProgramRowsLend.{LeavesRows};
 
-    /// Executes the CIE's own instructions, behind which the rows come. What the context held before
-    /// counts for nothing. Fails where one of these instructions is refused, with `StackFull` where
-    /// there is no room for the rules that they leave, and with `OutOfMemory` in a storage that grows.
+    /// Executes the CIE's own instructions, after which the rows are made. The context is cleared first.
+    /// Fails if one of these instructions does, with `StackFull` if there is no room for the rules that
+    /// they leave, and with `OutOfMemory` only in a storage that grows.
     pub fn new(
         context: &'ctx mut UnwindContext<R::Offset, S>,
         program: FrameProgram<'a, R>,
     ) -> Result<Self>
-        ensures rows { let limits = limits_of S.Rules.capacity S.Stack.capacity in
-            IfOk result (λ rows. HasLeft R.stretch R.Offset.limit R.Offset.value S.Stack.items
-            limits rows
-            (rows_of_program limits (program_of program.entry))) }
-        ensures refused { let limits = limits_of S.Rules.capacity S.Stack.capacity in
-            IfErr result (λ e. IsRefusal (TakesNoMemory S.Rules.is_made_in_place limits) e
-            → rows_of_program limits (program_of program.entry) ≡ refused_rows e) }
-        ensures none_yet { let limits = limits_of S.Rules.capacity S.Stack.capacity in
-            IfOk result (λ rows. current_row R.Offset.value S.Stack.items limits rows ≡ None) }
+        ensures rows { IfOk result (λ rows.
+            HasLeft R.stretch R.Offset.limit R.Offset.value S.Stack.items S.limits rows
+            (rows_of_program S.limits (program_of program.entry))) }
+        ensures refused { IfErr result (λ e. IsRefusal S.never_allocates e
+            → rows_of_program S.limits (program_of program.entry) ≡ refused_rows e) }
+        ensures none_yet { IfOk result (λ rows.
+            current_row R.Offset.value S.Stack.items S.limits rows ≡ None) }
     {
         let factors = program.factors;
         let (coding, input) = program.initial_instructions.into_parts();
@@ -180,16 +165,12 @@ impl<'a, 'ctx, R: Reader, S: UnwindContextStorage<R::Offset>> ProgramRows<'a, 'c
         })
     }
 
-    /// Goes on to the next row, if one is left, which is then the current one. After an error none is
-    /// left.
+    /// Goes on to the next row, which is then the current one, and returns whether there is one. Fails
+    /// if an instruction before the end of that row fails. After an error no row is left.
     pub fn advance(&mut self) -> Result<bool>
-        ensures row { let limits = limits_of S.Rules.capacity S.Stack.capacity in
-            (left : Rows ℕ) → HasLeft R.stretch R.Offset.limit R.Offset.value S.Stack.items limits
-            self.old left
-            → Advances R.stretch R.Offset.limit R.Offset.value S.Stack.items limits
-            (TakesNoMemory S.Rules.is_made_in_place limits) left left.rows result self.new }
-        ensures falls { let limits = limits_of S.Rules.capacity S.Stack.capacity in
-            IfOk result (λ more. OnTrue more (steps_left R.stretch R.Offset.limit self.new
+        ensures row { AdvancesFrom R.stretch R.Offset.limit R.Offset.value S.Stack.items S.limits
+            S.never_allocates self.old result self.new }
+        ensures falls { IfOk result (λ more. OnTrue more (steps_left R.stretch R.Offset.limit self.new
             < steps_left R.stretch R.Offset.limit self.old)) }
         ensures given { self.new.has_row ≡ is_given result }
         ensures same_reference { self.new.context.ghost_name ≡ self.old.context.ghost_name }
@@ -223,11 +204,9 @@ impl<'a, 'ctx, R: Reader, S: UnwindContextStorage<R::Offset>> ProgramRows<'a, 'c
 
     // Ends the row at this address, where the next one starts.
     fn end_row(&mut self, end: u64)
-        ensures row { let limits = limits_of S.Rules.capacity S.Stack.capacity in
-            let old = rows_state R.Offset.value S.Stack.items limits self.old in
-            rows_state R.Offset.value S.Stack.items limits self.new ≡ record old {
-              row = record old.row { start = self.old.next_start_address; end = end };
-            } }
+        ensures row { rows_state R.Offset.value S.Stack.items S.limits self.new
+            ≡ with_bounds self.old.next_start_address end
+            (rows_state R.Offset.value S.Stack.items S.limits self.old) }
         ensures kept { self.new ≡ record self.old {
           context = self.new.context;
           next_start_address = end;
@@ -240,16 +219,14 @@ impl<'a, 'ctx, R: Reader, S: UnwindContextStorage<R::Offset>> ProgramRows<'a, 'c
         self.has_row = true;
     }
 
-    /// The next row, or nothing behind the last. After an error none is left.
+    /// The next row, or `None` after the last. Fails as [`ProgramRows::advance`] does. After an error no
+    /// row is left.
     pub fn next_row(&mut self) -> Result<Option<&UnwindTableRow<R::Offset, S::Rules>>>
         ensures* leaves { sem 𝓛 (LeavesRows R.row S.row R.Endian.row R.Offset.row S.Rules.row
             S.Stack.row S.Rules.ArrayLike R.stretch R.Offset.limit R.Offset.value S.Stack.items
-            (limits_of S.Rules.capacity S.Stack.capacity) self.entry result) }
-        ensures row { let limits = limits_of S.Rules.capacity S.Stack.capacity in
-            (left : Rows ℕ) → HasLeft R.stretch R.Offset.limit R.Offset.value S.Stack.items limits
-            self.old left
-            → NextIs R.Offset.value (TakesNoMemory S.Rules.is_made_in_place limits)
-            left left.rows result }
+            S.limits self.entry result) }
+        ensures row { GivesNextRow R.stretch R.Offset.limit R.Offset.value S.Stack.items S.limits
+            S.never_allocates self.old result }
     {
         if self.advance()? {
             return Ok(Some(self.context.row()));
@@ -257,11 +234,10 @@ impl<'a, 'ctx, R: Reader, S: UnwindContextStorage<R::Offset>> ProgramRows<'a, 'c
         Ok(None)
     }
 
-    /// The row that was given last, if the last call gave one.
+    /// The current row: the one that the last call gave, if it gave one.
     pub fn current_row(&self) -> Option<&UnwindTableRow<R::Offset, S::Rules>>
-        ensures { let limits = limits_of S.Rules.capacity S.Stack.capacity in
-            option_map (λ row. row_in R.Offset.value row.now) result
-            ≡ current_row R.Offset.value S.Stack.items limits self.now }
+        ensures { option_map (λ row. row_in R.Offset.value row.now) result
+            ≡ current_row R.Offset.value S.Stack.items S.limits self.now }
     {
         if self.has_row {
             Some(self.context.row())
@@ -270,11 +246,10 @@ impl<'a, 'ctx, R: Reader, S: UnwindContextStorage<R::Offset>> ProgramRows<'a, 'c
         }
     }
 
-    /// The row that was given last, if the last call gave one.
+    /// The current row, for as long as the context is borrowed.
     pub fn into_current_row(self) -> Option<&'ctx UnwindTableRow<R::Offset, S::Rules>>
-        ensures { let limits = limits_of S.Rules.capacity S.Stack.capacity in
-            option_map (λ row. row_in R.Offset.value row.now) result
-            ≡ current_row R.Offset.value S.Stack.items limits self.entry }
+        ensures { option_map (λ row. row_in R.Offset.value row.now) result
+            ≡ current_row R.Offset.value S.Stack.items S.limits self.entry }
     {
         if !self.has_row {
             return None;
@@ -284,35 +259,32 @@ impl<'a, 'ctx, R: Reader, S: UnwindContextStorage<R::Offset>> ProgramRows<'a, 'c
 
     // Whether the row of the context contains the address.
     fn is_at(&self, address: u64) -> bool
-        ensures { let limits = limits_of S.Rules.capacity S.Stack.capacity in
-            result ≡ holds_at address
-            (rows_state R.Offset.value S.Stack.items limits self.now).row }
+        ensures { result ≡ holds_at address
+            (rows_state R.Offset.value S.Stack.items S.limits self.now).row }
     {
         self.context.row().contains(address)
     }
 
     // The row of the context.
     fn into_row(self) -> &'ctx UnwindTableRow<R::Offset, S::Rules>
-        ensures { let limits = limits_of S.Rules.capacity S.Stack.capacity in
-            row_in R.Offset.value result.now
-            ≡ (rows_state R.Offset.value S.Stack.items limits self.entry).row }
+        ensures { row_in R.Offset.value result.now
+            ≡ (rows_state R.Offset.value S.Stack.items S.limits self.entry).row }
     {
         let context = self.context;
         context.row()
     }
 }
 
-/// The row of a program for an address: the first that contains it. Fails with the refusal that stands
-/// before its end, with `NoUnwindInfoForAddress` where no row contains the address, and with
-/// `OutOfMemory` in a storage that grows. What the context held before counts for nothing.
+/// The row of a program for an address: the first that contains it. Fails with the error of an
+/// instruction before the end of that row, with `NoUnwindInfoForAddress` if no row contains the
+/// address, and with `OutOfMemory` only in a storage that grows. The context is cleared first.
 pub fn row_for_address<'a, 'ctx, R: Reader, S: UnwindContextStorage<R::Offset>>(
     context: &'ctx mut UnwindContext<R::Offset, S>,
     program: FrameProgram<'a, R>,
     address: u64,
 ) -> Result<&'ctx UnwindTableRow<R::Offset, S::Rules>>
-    ensures { let limits = limits_of S.Rules.capacity S.Stack.capacity in
-        IsRowFor R.Offset.value (TakesNoMemory S.Rules.is_made_in_place limits)
-        (row_for limits (program_of program.entry) address) result }
+    ensures { IsRowFor R.Offset.value S.never_allocates
+        (row_for S.limits (program_of program.entry) address) result }
 {
     let mut rows = ProgramRows::new(context, program)?;
     while rows.advance()? {

@@ -1,2 +1,3 @@
--- What the crates above cite. Each statement is the contract of a function of the crate.
+-- What the crates above cite: the contracts of functions of this crate, and tests of numbers.
 pub use Rattle.dwarf_frame_rows.proofs.Onward.{encoding_on, plain_value_on, pointer_on, value_on}
+pub use Rattle.dwarf_frame_rows.proofs.NumberTests.{eqb_sym, ties}

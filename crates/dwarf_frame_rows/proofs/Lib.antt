@@ -1,3 +1,4 @@
+pub mod NumberTests
 mod RuleMaps
 mod SameMaps
 mod SavedRows

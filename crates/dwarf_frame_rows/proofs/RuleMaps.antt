@@ -1,18 +1,16 @@
 -- Lists of pairs as maps: what a write, a push, and the removal of a pair make of the map.
 use Rattle.std.proofs.Common.{◌≡◌, ℕ, suc, ◌+◌, ◌-◌, ◌<◌, ◌≤◌, Bool, true, false, not, cond, List, [], ◌∷◌, ◌++◌, length, length-append, take, Option, Some, None, Result, Ok, Err, is_some, position, ◌==◌, ltb, slice_set, slice_index_or, refl, sym, ap, subst, ◌∙◌, arith, one-add, OnOk, OnErr}
 use Rattle.std.specs.FinMap.{get, insert, remove, len, get-empty, get-insert, get-remove, len-empty, len-insert, nat_cmp-IsAntisymmetric, same_map}
-use Rattle.std.specs.Bool.{Decides, one_answer}
-use Rattle.std.specs.Cmp.{unsigned_tied}
 use Rattle.std.specs.List.{position_or_len, swap_remove}
-use Rattle.std.specs.Ordering.{eq_by_cmp, nat_cmp}
+use Rattle.std.specs.Ordering.{nat_cmp}
 use Rattle.std.proofs.Math.ListN.{length-set}
 use Rattle.std.proofs.lemmas.Bool.{eqb-true, eq-eqb, false≢true, ltb-true, ltb-false}
-use Rattle.std.proofs.lemmas.Bool.Decides.{Decides-eqb}
 use Rattle.std.proofs.lemmas.Cmp.{nat_cmp_total}
 use Rattle.dwarf_constants.specs.declared.common.Register.{Register}
 use Rattle.dwarf_constants.specs.declared.error.Error.{Error}
 use Rattle.dwarf_storage.specs.Capacity.{IsWithin}
 use Rattle.dwarf_frame_rows.specs.declared.rules.RuledRegister.{RuledRegister}
+use Rattle.dwarf_frame_rows.proofs.NumberTests.{eqb_sym, ties}
 use Rattle.dwarf_frame_rows.specs.RuleMap.{HasEachOnce, HoldsRules, RuleMap, map_of, rule_in}
 
 -- a register with this rule
@@ -20,17 +18,6 @@ abbrev pub ruled_register : {V : Type 0} → Register → V → RuledRegister V
 ruled_register register v = record { register = register; rule = v }
 
 -- ---- tests of numbers
-
--- a test in the other order
-eqb_sym : (a b : ℕ) → (a == b) ≡ (b == a)
-eqb_sym a b = one_answer _ _ (Decides-eqb a b) (sym_test (Decides-eqb b a))
-  where
-    sym_test : Decides (b == a) (b ≡ a) → Decides (b == a) (a ≡ b)
-    sym_test h = (λ t. sym (h.0 t), λ e. h.1 (sym e))
-
--- the order of numbers ties equal numbers alone
-ties : (a b : ℕ) → eq_by_cmp nat_cmp a b ≡ (b == a)
-ties a b = unsigned_tied a b ∙ eqb_sym a b
 
 -- a test against the first of two numbers that are one
 eqb_along : (a b c : ℕ) → (a == b) ≡ true → (a == c) ≡ (b == c)
@@ -45,7 +32,7 @@ eqb_apart a b c h g = go (b == c) refl
 
 -- ---- the map of a list
 
--- the map answers the first rule of a register
+-- the map has the first rule of a register
 pub get-map_of : {V : Type 0} (pairs : List (RuledRegister V)) (q : ℕ) → get (map_of pairs) q ≡ rule_in q pairs
 get-map_of [] q = get-empty nat_cmp q
 get-map_of (pair ∷ pairs) q =
@@ -92,7 +79,7 @@ absent_first : {V : Type 0} (b : Bool) (x : V) (o : Option V) → cond b (Some x
 absent_first true x o h = cc
 absent_first false x o h = (refl, h)
 
--- a register that isn't there has its rule behind a push, and any other the rule that it had
+-- a register that isn't there has its rule after a push, and any other the rule that it had
 rule_in-push : {V : Type 0} (register : Register) (v : V) (pairs : List (RuledRegister V)) → rule_in register.0 pairs ≡ None → (q : ℕ) → rule_in q (pairs ++ ruled_register register v ∷ []) ≡ cond (register.0 == q) (Some v) (rule_in q pairs)
 rule_in-push register v [] none q = refl
 rule_in-push register v (pair ∷ pairs) none q =
@@ -106,16 +93,16 @@ HasEachOnce-push register v (pair ∷ pairs) once none =
     let there = absent_first (pair.register.0 == register.0) pair.rule (rule_in register.0 pairs) none in
     (rule_in-push register v pairs there.1 pair.register.0 ∙ ap (λ o. cond (register.0 == pair.register.0) (Some v) o) once.0 ∙ ap (λ b. cond b (Some v) None) (eqb_sym register.0 pair.register.0 ∙ there.0), HasEachOnce-push register v pairs once.1 there.1)
 
--- ---- a pair in the place of another
+-- ---- a pair written over another
 
--- where a register's pair stands
-abbrev pub place_of : {V : Type 0} → ℕ → List (RuledRegister V) → ℕ
-place_of k pairs = position_or_len (λ pair. pair.register.0 == k) pairs
+-- the index of a register's pair
+abbrev pub index_of : {V : Type 0} → ℕ → List (RuledRegister V) → ℕ
+index_of k pairs = position_or_len (λ pair. pair.register.0 == k) pairs
 
--- the head of a list is the pair, or a later one is
-at_place : {V : Type 0} (b : Bool) (x e : RuledRegister V) (j : ℕ) (xs : List (RuledRegister V)) → slice_set (x ∷ xs) (cond (not b) (1 + j) 0) e ≡ cond b (e ∷ xs) (x ∷ slice_set xs j e)
-at_place true x e j xs = refl
-at_place false x e j xs = rw one-add refl
+-- the first of a list is the pair, or a later one is
+at_index : {V : Type 0} (b : Bool) (x e : RuledRegister V) (j : ℕ) (xs : List (RuledRegister V)) → slice_set (x ∷ xs) (cond (not b) (1 + j) 0) e ≡ cond b (e ∷ xs) (x ∷ slice_set xs j e)
+at_index true x e j xs = refl
+at_index false x e j xs = rw one-add refl
 
 within : (b : Bool) (j n : ℕ) → cond (not b) (1 + j) 0 < suc n → b ≡ false → j < n
 within true j n h e = absurd (false≢true (sym e))
@@ -134,27 +121,27 @@ over false false true x v o w p q h = refl
 over false d false x v o w p q h = h refl
 
 -- a register whose pair is overwritten has the new rule, and any other the rule that it had
-rule_in-set : {V : Type 0} (register : Register) (v : V) (pairs : List (RuledRegister V)) → place_of register.0 pairs < length pairs → (q : ℕ) → rule_in q (slice_set pairs (place_of register.0 pairs) (ruled_register register v)) ≡ cond (register.0 == q) (Some v) (rule_in q pairs)
+rule_in-set : {V : Type 0} (register : Register) (v : V) (pairs : List (RuledRegister V)) → index_of register.0 pairs < length pairs → (q : ℕ) → rule_in q (slice_set pairs (index_of register.0 pairs) (ruled_register register v)) ≡ cond (register.0 == q) (Some v) (rule_in q pairs)
 rule_in-set register v [] h q = absurd (omega arith)
 rule_in-set register v (x ∷ xs) h q =
-    ap (rule_in q) (at_place (x.register.0 == register.0) x (ruled_register register v) (place_of register.0 xs) xs)
-    ∙ rule_in-cond q (x.register.0 == register.0) (ruled_register register v ∷ xs) (x ∷ slice_set xs (place_of register.0 xs) (ruled_register register v))
-    ∙ over (x.register.0 == register.0) (register.0 == q) (x.register.0 == q) x.rule v (rule_in q xs) (rule_in q (slice_set xs (place_of register.0 xs) (ruled_register register v)))
+    ap (rule_in q) (at_index (x.register.0 == register.0) x (ruled_register register v) (index_of register.0 xs) xs)
+    ∙ rule_in-cond q (x.register.0 == register.0) (ruled_register register v ∷ xs) (x ∷ slice_set xs (index_of register.0 xs) (ruled_register register v))
+    ∙ over (x.register.0 == register.0) (register.0 == q) (x.register.0 == q) x.rule v (rule_in q xs) (rule_in q (slice_set xs (index_of register.0 xs) (ruled_register register v)))
     (λ is. eqb_along x.register.0 register.0 q is) (λ other is. eqb_apart x.register.0 register.0 q other is)
-    (λ other. rule_in-set register v xs (within (x.register.0 == register.0) (place_of register.0 xs) (length xs) h other) q)
+    (λ other. rule_in-set register v xs (within (x.register.0 == register.0) (index_of register.0 xs) (length xs) h other) q)
 
-HasEachOnce-set : {V : Type 0} (register : Register) (v : V) (pairs : List (RuledRegister V)) → HasEachOnce pairs → place_of register.0 pairs < length pairs → HasEachOnce (slice_set pairs (place_of register.0 pairs) (ruled_register register v))
+HasEachOnce-set : {V : Type 0} (register : Register) (v : V) (pairs : List (RuledRegister V)) → HasEachOnce pairs → index_of register.0 pairs < length pairs → HasEachOnce (slice_set pairs (index_of register.0 pairs) (ruled_register register v))
 HasEachOnce-set register v [] once h = absurd (omega arith)
 HasEachOnce-set {V} register v (x ∷ xs) once h =
-    subst (λ (zs : List (RuledRegister V)). HasEachOnce zs) (sym (at_place (x.register.0 == register.0) x (ruled_register register v) (place_of register.0 xs) xs)) (go (x.register.0 == register.0) refl (HasEachOnce-set register v xs once.1))
+    subst (λ (zs : List (RuledRegister V)). HasEachOnce zs) (sym (at_index (x.register.0 == register.0) x (ruled_register register v) (index_of register.0 xs) xs)) (go (x.register.0 == register.0) refl (HasEachOnce-set register v xs once.1))
   where
-    go : (b : Bool) → (x.register.0 == register.0) ≡ b → (place_of register.0 xs < length xs → HasEachOnce (slice_set xs (place_of register.0 xs) (ruled_register register v))) → HasEachOnce (cond b (ruled_register register v ∷ xs) (x ∷ slice_set xs (place_of register.0 xs) (ruled_register register v)))
+    go : (b : Bool) → (x.register.0 == register.0) ≡ b → (index_of register.0 xs < length xs → HasEachOnce (slice_set xs (index_of register.0 xs) (ruled_register register v))) → HasEachOnce (cond b (ruled_register register v ∷ xs) (x ∷ slice_set xs (index_of register.0 xs) (ruled_register register v)))
     go true is rest = (ap (λ k. rule_in k xs) (sym (eqb-true x.register.0 register.0 is)) ∙ once.0, once.1)
     go false not_it rest =
-        let later = within (x.register.0 == register.0) (place_of register.0 xs) (length xs) h not_it in
+        let later = within (x.register.0 == register.0) (index_of register.0 xs) (length xs) h not_it in
         (rule_in-set register v xs later x.register.0 ∙ ap (λ b. cond b (Some v) (rule_in x.register.0 xs)) (eqb_sym register.0 x.register.0 ∙ not_it) ∙ once.0, rest later)
 
--- ---- a pair taken out, with the last in its place
+-- ---- a pair taken out, and the last put at its index
 
 -- one list has the rules of another, but none of this register, and each register once
 record IsWithout {V : Type 0} (k : ℕ) (xs ys : List (RuledRegister V)) : Type 0 where
@@ -169,7 +156,7 @@ record IsSame {V : Type 0} (xs ys : List (RuledRegister V)) : Type 0 where
 one_less : (n : ℕ) → suc n - 1 ≡ n
 one_less n = omega arith
 
--- the last goes to the front
+-- the last goes to the start
 rotated : {V : Type 0} (x : RuledRegister V) (xs : List (RuledRegister V)) (d : RuledRegister V) → HasEachOnce (x ∷ xs) → IsSame (x ∷ xs) (slice_index_or (x ∷ xs) (length xs) d ∷ take (length xs) (x ∷ xs))
 rotated x [] d once = record { rules = λ q. refl; once = once }
 rotated x (y ∷ ys) d once =
@@ -226,78 +213,78 @@ step_over {V} x d (y ∷ ys) j h =
     rw one-add (ap swapped (one_less (suc (length ys))) ∙ ap behind (sym (one_less (length ys))))
 
 -- a register whose pair is taken out has no rule, and any other the rule that it had
-removed : {V : Type 0} (k : ℕ) (d : RuledRegister V) (pairs : List (RuledRegister V)) → HasEachOnce pairs → place_of k pairs < length pairs → IsWithout k pairs (swap_remove pairs (place_of k pairs) d)
+removed : {V : Type 0} (k : ℕ) (d : RuledRegister V) (pairs : List (RuledRegister V)) → HasEachOnce pairs → index_of k pairs < length pairs → IsWithout k pairs (swap_remove pairs (index_of k pairs) d)
 removed k d [] once h = absurd (omega arith)
 removed {V} k d (x ∷ xs) once h = go (x.register.0 == k) refl (removed k d xs once.1)
   where
-    go : (b : Bool) → (x.register.0 == k) ≡ b → (place_of k xs < length xs → IsWithout k xs (swap_remove xs (place_of k xs) d)) → IsWithout k (x ∷ xs) (swap_remove (x ∷ xs) (cond (not b) (1 + place_of k xs) 0) d)
+    go : (b : Bool) → (x.register.0 == k) ≡ b → (index_of k xs < length xs → IsWithout k xs (swap_remove xs (index_of k xs) d)) → IsWithout k (x ∷ xs) (swap_remove (x ∷ xs) (cond (not b) (1 + index_of k xs) 0) d)
     go true is rest = removed_here k x d xs is once
     go false other rest =
-        let later = within (x.register.0 == k) (place_of k xs) (length xs) h other in
-        subst (λ (zs : List (RuledRegister V)). IsWithout k (x ∷ xs) zs) (sym (step_over x d xs (place_of k xs) later)) (later_without k x xs (swap_remove xs (place_of k xs) d) other once (rest later))
+        let later = within (x.register.0 == k) (index_of k xs) (length xs) h other in
+        subst (λ (zs : List (RuledRegister V)). IsWithout k (x ∷ xs) zs) (sym (step_over x d xs (index_of k xs) later)) (later_without k x xs (swap_remove xs (index_of k xs) d) other once (rest later))
 
 -- ---- what the code finds
 
--- a register that has no place has no rule
-absent : {V : Type 0} (k : ℕ) (pairs : List (RuledRegister V)) → length pairs ≤ place_of k pairs → rule_in k pairs ≡ None
+-- a register without an index has no rule
+absent : {V : Type 0} (k : ℕ) (pairs : List (RuledRegister V)) → length pairs ≤ index_of k pairs → rule_in k pairs ≡ None
 absent k [] h = refl
 absent k (x ∷ xs) h =
-    let later = beyond (x.register.0 == k) (place_of k xs) (length xs) h in
+    let later = beyond (x.register.0 == k) (index_of k xs) (length xs) h in
     ap (λ t. cond t (Some x.rule) (rule_in k xs)) later.0 ∙ absent k xs later.1
   where
     beyond : (b : Bool) (j n : ℕ) → suc n ≤ cond (not b) (1 + j) 0 → (b ≡ false) × (n ≤ j)
     beyond true j n h = absurd (omega arith)
     beyond false j n h = (refl, omega arith)
 
-some_is : (b : Bool) (k place : ℕ) → cond b (Some k) None ≡ Some place → (b ≡ true) × (k ≡ place)
-some_is true k place h = (refl, cc)
-some_is false k place h = cc
+some_is : (b : Bool) (k index : ℕ) → cond b (Some k) None ≡ Some index → (b ≡ true) × (k ≡ index)
+some_is true k index h = (refl, cc)
+some_is false k index h = cc
 
 none_is : (b : Bool) (k : ℕ) → cond b (Some k) None ≡ None → b ≡ false
 none_is true k h = cc
 none_is false k h = refl
 
-found : {V : Type 0} (k place : ℕ) (pairs : List (RuledRegister V)) → position (λ pair. pair.register.0 == k) pairs ≡ Some place → (place_of k pairs < length pairs) × (place_of k pairs ≡ place)
-found k place pairs h =
-    let is = some_is (ltb (place_of k pairs) (length pairs)) (place_of k pairs) place h in
-    (ltb-true (place_of k pairs) (length pairs) is.0, is.1)
+found : {V : Type 0} (k index : ℕ) (pairs : List (RuledRegister V)) → position (λ pair. pair.register.0 == k) pairs ≡ Some index → (index_of k pairs < length pairs) × (index_of k pairs ≡ index)
+found k index pairs h =
+    let is = some_is (ltb (index_of k pairs) (length pairs)) (index_of k pairs) index h in
+    (ltb-true (index_of k pairs) (length pairs) is.0, is.1)
 
--- what is left of a list of pairs behind a write: its map, and that it has each register once
+-- what is left of a list of pairs after a write: its map, and that it has each register once
 pub record IsMapOf {V : Type 0} (rules : RuleMap V) (pairs : List (RuledRegister V)) : Type 0 where
   pub same : map_of pairs ≡ rules
   pub once : HasEachOnce pairs
 
--- a rule in the place of the one that a register had
-pub set_found : {V : Type 0} (register : Register) (v : V) (place : ℕ) (pairs : List (RuledRegister V)) → HasEachOnce pairs → position (λ pair. pair.register.0 == register.0) pairs ≡ Some place → IsMapOf (insert (map_of pairs) register.0 v) (slice_set pairs place (ruled_register register v))
-set_found register v place pairs once h =
-    let there = found register.0 place pairs h in
+-- a rule instead of the one that a register had
+pub set_found : {V : Type 0} (register : Register) (v : V) (index : ℕ) (pairs : List (RuledRegister V)) → HasEachOnce pairs → position (λ pair. pair.register.0 == register.0) pairs ≡ Some index → IsMapOf (insert (map_of pairs) register.0 v) (slice_set pairs index (ruled_register register v))
+set_found register v index pairs once h =
+    let there = found register.0 index pairs h in
     subst (λ (i : ℕ). IsMapOf (insert (map_of pairs) register.0 v) (slice_set pairs i (ruled_register register v))) there.1 (record {
-      same = map_of-set pairs (slice_set pairs (place_of register.0 pairs) (ruled_register register v)) register.0 v (rule_in-set register v pairs there.0);
+      same = map_of-set pairs (slice_set pairs (index_of register.0 pairs) (ruled_register register v)) register.0 v (rule_in-set register v pairs there.0);
       once = HasEachOnce-set register v pairs once there.0;
     })
 
--- a rule at the end, where the register had none
+-- a rule at the end, if the register had none
 pub set_absent : {V : Type 0} (register : Register) (v : V) (pairs : List (RuledRegister V)) → HasEachOnce pairs → rule_in register.0 pairs ≡ None → IsMapOf (insert (map_of pairs) register.0 v) (pairs ++ ruled_register register v ∷ [])
 set_absent register v pairs once none = record {
   same = map_of-set pairs (pairs ++ ruled_register register v ∷ []) register.0 v (rule_in-push register v pairs none);
   once = HasEachOnce-push register v pairs once none;
 }
 
--- no rule, where a register had one
-pub removed_found : {V : Type 0} (k place : ℕ) (d : RuledRegister V) (pairs : List (RuledRegister V)) → HasEachOnce pairs → position (λ pair. pair.register.0 == k) pairs ≡ Some place → IsMapOf (remove (map_of pairs) k) (swap_remove pairs place d)
-removed_found k place d pairs once h =
-    let there = found k place pairs h in
+-- no rule, if a register had one
+pub removed_found : {V : Type 0} (k index : ℕ) (d : RuledRegister V) (pairs : List (RuledRegister V)) → HasEachOnce pairs → position (λ pair. pair.register.0 == k) pairs ≡ Some index → IsMapOf (remove (map_of pairs) k) (swap_remove pairs index d)
+removed_found k index d pairs once h =
+    let there = found k index pairs h in
     let without = removed k d pairs once there.0 in
     subst (λ (i : ℕ). IsMapOf (remove (map_of pairs) k) (swap_remove pairs i d)) there.1 (record {
-      same = map_of-removed pairs (swap_remove pairs (place_of k pairs) d) k without.rules;
+      same = map_of-removed pairs (swap_remove pairs (index_of k pairs) d) k without.rules;
       once = without.once;
     })
 
--- a register without a place has no rule, and to take its rule away changes nothing
+-- a register without an index has no rule, and to take its rule away changes nothing
 pub rule_in-absent : {V : Type 0} (k : ℕ) (pairs : List (RuledRegister V)) → position (λ pair. pair.register.0 == k) pairs ≡ None → rule_in k pairs ≡ None
-rule_in-absent k pairs h = absent k pairs (go (none_is (ltb (place_of k pairs) (length pairs)) (place_of k pairs) h))
+rule_in-absent k pairs h = absent k pairs (go (none_is (ltb (index_of k pairs) (length pairs)) (index_of k pairs) h))
   where
-    go : ltb (place_of k pairs) (length pairs) ≡ false → length pairs ≤ place_of k pairs
+    go : ltb (index_of k pairs) (length pairs) ≡ false → length pairs ≤ index_of k pairs
     go e = grind (arith, ltb-false)
 
 pub removed_absent : {V : Type 0} (k : ℕ) (pairs : List (RuledRegister V)) → rule_in k pairs ≡ None → map_of pairs ≡ remove (map_of pairs) k
@@ -317,17 +304,17 @@ pub holds_along : (capacity : Option ℕ) (n m : ℕ) (answer : Result (Unit {0}
 holds_along capacity n m answer h e = subst (λ (k : ℕ). HoldsRules capacity k answer) (sym e) h
 
 -- as many rules as a list has pairs, once one is set
-pub len-found : {V : Type 0} (register : Register) (v : V) (place : ℕ) (pairs : List (RuledRegister V)) → HasEachOnce pairs → position (λ pair. pair.register.0 == register.0) pairs ≡ Some place → len (insert (map_of pairs) register.0 v) ≡ length pairs
-len-found register v place pairs once h =
-    let set = set_found register v place pairs once h in
-    ap len (sym set.same) ∙ length-map_of (slice_set pairs place (ruled_register register v)) set.once ∙ length-set pairs place (ruled_register register v)
+pub len-found : {V : Type 0} (register : Register) (v : V) (index : ℕ) (pairs : List (RuledRegister V)) → HasEachOnce pairs → position (λ pair. pair.register.0 == register.0) pairs ≡ Some index → len (insert (map_of pairs) register.0 v) ≡ length pairs
+len-found register v index pairs once h =
+    let set = set_found register v index pairs once h in
+    ap len (sym set.same) ∙ length-map_of (slice_set pairs index (ruled_register register v)) set.once ∙ length-set pairs index (ruled_register register v)
 
 pub len-absent : {V : Type 0} (register : Register) (v : V) (pairs : List (RuledRegister V)) → HasEachOnce pairs → rule_in register.0 pairs ≡ None → len (insert (map_of pairs) register.0 v) ≡ length pairs + 1
 len-absent register v pairs once none =
     let set = set_absent register v pairs once none in
     ap len (sym set.same) ∙ length-map_of (pairs ++ ruled_register register v ∷ []) set.once ∙ length-append pairs (ruled_register register v ∷ [])
 
--- ---- either answer
+-- ---- either result
 
 pub on_ok : {A E : Type 0} {P Q : Type 0} (r : Result A E) → OnOk r P → (P → Q) → OnOk r Q
 on_ok (Ok x) h f = f h

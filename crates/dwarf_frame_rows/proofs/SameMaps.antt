@@ -1,4 +1,4 @@
--- Two lists of pairs are the same map where each register of either has an equal rule in the other.
+-- Two lists of pairs are the same map if each register of either has an equal rule in the other.
 use Rattle.std.proofs.Common.{◌≡◌, ℕ, Bool, true, false, cond, List, [], ◌∷◌, Option, Some, None, ◌==◌, refl, sym, ap, ◌∙◌}
 use Rattle.std.specs.Prelude.{◌&&◌}
 use Rattle.std.specs.Bool.{one_answer}

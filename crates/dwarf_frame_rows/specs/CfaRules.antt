@@ -10,12 +10,12 @@ use Rattle.dwarf_frame_rows.specs.declared.rules.CfaRule.TheVariants.{RegisterAn
 abbrev pub first_cfa : {T : Type 0} → CfaRule T
 first_cfa = RegisterAndOffset (record { 0 = 0 }) (pos 0)
 
--- the same offset from another register
+-- the rule's offset from another register
 abbrev pub with_cfa_register : {T : Type 0} → Register → CfaRule T → Result (CfaRule T) Error
 with_cfa_register register (RegisterAndOffset before offset) = Ok (RegisterAndOffset register offset)
 with_cfa_register register (Expression expression) = Err CfiInstructionInInvalidContext
 
--- another offset from the same register
+-- another offset from the rule's register
 abbrev pub with_cfa_offset : {T : Type 0} → ℤ → CfaRule T → Result (CfaRule T) Error
 with_cfa_offset offset (RegisterAndOffset register before) = Ok (RegisterAndOffset register offset)
 with_cfa_offset offset (Expression expression) = Err CfiInstructionInInvalidContext

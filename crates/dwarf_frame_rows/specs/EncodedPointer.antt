@@ -1,5 +1,5 @@
 -- Pointers of call frame information (LSB 5.0, 10.5). An encoding, one byte, says how a value is written (its format), what the
--- value counts from (its application), and whether the sum is the address that is meant or the place in memory where that stands.
+-- value is relative to (its application), and whether the sum is the address that is meant or the address of memory that has it.
 use Rattle.std.specs.Prelude.{ℕ, ◌+◌, ◌-◌, ◌*◌, ◌%◌, ◌^◌, ℤ, ◌==◌, ◌||◌, not, nat_lt, if◌then◌else◌, Bool, Option, Result, Ok, Err, is_ok}
 use Rattle.std.specs.Int.{w16, w32, w64, cast_unsigned}
 use Rattle.std.specs.List.{list_any}
@@ -10,7 +10,7 @@ use Rattle.dwarf_constants.specs.declared.error.Error.{Error}
 use Rattle.dwarf_constants.specs.declared.error.Error.TheVariants.{CannotParseOmitPointerEncoding, DataRelativePointerButDataBaseIsUndefined, FuncRelativePointerInBadContext, PcRelativePointerButSectionBaseIsUndefined, TextRelativePointerButTextBaseIsUndefined, UnknownPointerEncoding, UnsupportedAddressSize, UnsupportedPointerEncoding}
 use Rattle.dwarf_readers.specs.InitialLength.{address_at, is_size}
 use Rattle.dwarf_readers.specs.Leb128.{left_by_leb128, signed_at, unsigned_at}
-use Rattle.dwarf_readers.specs.Place.{Stretch, ◌>>=◌, byte_at, number_at, requirement, signed_number_at}
+use Rattle.dwarf_readers.specs.Stretch.{Stretch, ◌>>=◌, byte_at, number_at, requirement, signed_number_at}
 use Rattle.dwarf_frame_rows.specs.declared.base_addresses.SectionBaseAddresses.{SectionBaseAddresses}
 use Rattle.dwarf_frame_rows.specs.declared.pointer.Pointer.{Pointer}
 use Rattle.dwarf_frame_rows.specs.declared.pointer.Pointer.TheVariants.{Direct, Indirect}
@@ -33,7 +33,7 @@ encoding_at s = do
   _ ← known_encoding encoding.0
   Ok encoding
 
--- the encoding of a pointer that stands there: omit says that none does
+-- the encoding of a pointer that is there: omit says that none is
 abbrev pub taken_encoding : ℕ → Result (Unit {0}) Error
 taken_encoding encoding = do
   _ ← known_encoding encoding
@@ -59,36 +59,36 @@ value_at address_size format s =
     else if format == DW_EH_PE_sdata8.0 then signed_number_at w64 s >>= as_unsigned
     else Err (UnknownPointerEncoding (record { 0 = format }))
 
--- what a value that is refused leaves: a number of variable length is gone up to the byte that decides
+-- what a value that cannot be read leaves: a number of variable length is passed over up to the byte that decides
 abbrev pub left_by_value : ℕ → Stretch → Stretch
 left_by_value format s =
     if format == DW_EH_PE_uleb128.0 || format == DW_EH_PE_sleb128.0 then left_by_leb128 10 s else s
 
--- the value of a pointer of this encoding, whatever it counts from
+-- the value of a pointer of this encoding, relative to 0
 abbrev pub plain_value_at : ℕ → ℕ → Stretch → Result (ℕ × Stretch) Error
 plain_value_at address_size encoding s = do
   _ ← taken_encoding encoding
   value_at address_size (format_of encoding) s
 
--- what is left where it is refused
+-- what such a value leaves that cannot be read
 abbrev pub left_by_plain_value : ℕ → Stretch → Stretch
 left_by_plain_value encoding s = if is_ok (taken_encoding encoding) then left_by_value (format_of encoding) s else s
 
 -- ---- applications
 
--- what pointers may count from: the addresses that are known, the start of the function that they are about, and the place of
--- the section's first byte; and the size of an address in bytes
+-- what pointers may be relative to: the addresses that are known, the start of the function that they are about, and the offset
+-- of the section's first byte; and the size of an address in bytes
 pub record Origins : Type 0 where
   pub bases : SectionBaseAddresses
   pub function : Option ℕ
   pub section_place : ℕ
   pub address_size : ℕ
 
--- the address of what stands at a place of a section that starts at this address
+-- the address of an offset, in a section that starts at this address
 abbrev pub address_at_place : Origins → ℕ → ℕ → ℕ
 address_at_place origins start place = (start + (place - origins.section_place)) % 2 ^ 64
 
--- what a pointer at this place counts from, by its application: pcrel from the pointer's own address
+-- what a pointer at this offset is relative to, by its application: pcrel to the pointer's own address
 abbrev pub base_of : Origins → ℕ → ℕ → Result ℕ Error
 base_of origins application place =
     if application == DW_EH_PE_absptr.0 then Ok 0
@@ -100,7 +100,7 @@ base_of origins application place =
     else if application == DW_EH_PE_funcrel.0 then ok_or origins.function FuncRelativePointerInBadContext
     else Err UnsupportedPointerEncoding
 
--- the same for a whole encoding, and a size that addresses have
+-- what a pointer of this encoding at this offset is relative to; addresses have to have one of their sizes
 abbrev pub origin_of : Origins → ℕ → ℕ → Result ℕ Error
 origin_of origins encoding place = do
   _ ← taken_encoding encoding
@@ -118,29 +118,35 @@ in_address_size address_size n = n % 2 ^ (8 * address_size)
 abbrev pub pointer_of : ℕ → ℕ → Pointer
 pointer_of encoding address = if nat_lt encoding DW_EH_PE_indirect.0 then Direct address else Indirect address
 
--- the pointer at the front: what it counts from is found first, then the value is read; the sum is modulo the address size
+-- the pointer at the start: what it is relative to is found first, then the value is read; the sum has as many bits as an address
 abbrev pub pointer_at : Origins → ℕ → Stretch → Result (Pointer × Stretch) Error
 pointer_at origins encoding s = do
-  base ← origin_of origins encoding s.place
+  base ← origin_of origins encoding s.offset
   value ← value_at origins.address_size (format_of encoding) s
   Ok (pointer_of encoding (in_address_size origins.address_size (base + value.0)), value.1)
 
--- what a pointer that is refused leaves
+-- what a pointer that cannot be read leaves
 abbrev pub left_by_pointer : Origins → ℕ → Stretch → Stretch
-left_by_pointer origins encoding s = if is_ok (origin_of origins encoding s.place) then left_by_value (format_of encoding) s else s
+left_by_pointer origins encoding s =
+    if is_ok (origin_of origins encoding s.offset) then left_by_value (format_of encoding) s else s
 
 -- the address of a pointer of either kind
 abbrev pub pointer_address : Pointer → ℕ
 pointer_address (Direct address) = address
 pointer_address (Indirect address) = address
 
--- the address that is meant, where the pointer says it
+-- the address that is meant, if the pointer says it
 abbrev pub direct_address : Pointer → Result ℕ Error
 direct_address (Direct address) = Ok address
 direct_address (Indirect address) = Err UnsupportedPointerEncoding
 
 -- ---- the code's parameters
 
--- what the parameters of a read say
+-- the origins of the code's parameters
 abbrev pub origins_of : {R : Type 0} → (R → Stretch) → PointerEncodingParameters R → Origins
-origins_of stretch p = record { bases = p.bases.now; function = p.func_base; section_place = (stretch p.section.now).place; address_size = p.address_size }
+origins_of stretch p = record {
+  bases = p.bases.now;
+  function = p.func_base;
+  section_place = (stretch p.section.now).offset;
+  address_size = p.address_size;
+}

@@ -1,7 +1,7 @@
--- The bytes of an expression, by its place in the section (DWARF 5, 6.4.2).
+-- The bytes of an expression, by its offset and length (DWARF 5, 6.4.2).
 use Rattle.std.specs.Prelude.{ℕ, Result, Ok}
 use Rattle.dwarf_constants.specs.declared.error.Error.{Error}
-use Rattle.dwarf_readers.specs.Place.{Stretch, ◌>>=◌, behind_at, split_at}
+use Rattle.dwarf_readers.specs.Stretch.{Stretch, ◌>>=◌, behind_at, split_at}
 
 -- as many bytes of the section as the length says, from the offset on
 abbrev pub expression_in : Stretch → ℕ → ℕ → Result Stretch Error

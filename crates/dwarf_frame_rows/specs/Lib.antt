@@ -3,6 +3,7 @@ pub mod Contexts
 pub mod Effects
 pub mod EncodedPointer
 pub mod Expressions
+pub mod FrameSection
 pub mod Row
 pub mod RuleMap
 pub mod SameRules

@@ -7,7 +7,8 @@ use Rattle.dwarf_frame_rows.specs.declared.rules.RegisterRule.{RegisterRule}
 use Rattle.dwarf_frame_rows.specs.CfaRules.{first_cfa}
 use Rattle.dwarf_frame_rows.specs.RuleMap.{RuleMap}
 
--- from its start to its end the CFA and the registers of the caller are found so, and the caller pushed arguments of this size
+-- from its start up to its end: the rules of the CFA and of the caller's registers, and the size of the arguments that the caller
+-- pushed
 pub record Row (T : Type 0) : Type 0 where
   pub start : ℕ
   pub end : ℕ
@@ -17,7 +18,13 @@ pub record Row (T : Type 0) : Type 0 where
 
 -- a row of the code
 abbrev pub row_of : {T L : Type 0} → UnwindTableRow T L → Row T
-row_of row = record { start = row.start_address; end = row.end_address; saved_args_size = row.saved_args_size; cfa = row.cfa; rules = row.registers }
+row_of row = record {
+  start = row.start_address;
+  end = row.end_address;
+  saved_args_size = row.saved_args_size;
+  cfa = row.cfa;
+  rules = row.registers;
+}
 
 -- the row before any instruction
 abbrev pub first_row : {T : Type 0} → Row T

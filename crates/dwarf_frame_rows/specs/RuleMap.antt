@@ -20,12 +20,12 @@ abbrev pub rule_in : {V : Type 0} → ℕ → List (RuledRegister V) → Option 
 rule_in register [] = None
 rule_in register (pair ∷ pairs) = if pair.register.0 == register then Some pair.rule else rule_in register pairs
 
--- No register stands in two pairs.
+-- No register is in two pairs.
 abbrev pub HasEachOnce : {V : Type 0} → List (RuledRegister V) → Type 0
 HasEachOnce [] = Unit {0}
 HasEachOnce (pair ∷ pairs) = (rule_in pair.register.0 pairs ≡ None) × HasEachOnce pairs
 
--- what a list with this capacity answers that has to hold so many rules; one that grows is refused for want of memory alone
+-- what a list with this capacity returns that has to hold this many rules; one that grows fails only if memory runs out
 abbrev pub HoldsRules : Option ℕ → ℕ → Result (Unit {0}) Error → Type 0
 HoldsRules (Some capacity) count (Ok _) = count ≤ capacity
 HoldsRules (Some capacity) count (Err e) = (capacity < count) × (e ≡ TooManyRegisterRules)

@@ -11,7 +11,7 @@ use Rattle.std.proofs.lemmas.List.Folds.{list_all-append}
 use Rattle.dwarf_frame_rows.specs.RuleMap.{RuleMap}
 use Rattle.dwarf_frame_rows.specs.declared.rules.RuledRegister.{RuledRegister}
 
--- equal rules, or none twice
+-- two equal rules, or none in either
 abbrev pub same_rule : {V : Type 0} → (V → V → Bool) → Option V → Option V → Bool
 same_rule eq None None = true
 same_rule eq (Some a) (Some b) = eq a b
@@ -31,7 +31,7 @@ rules_are_in eq (pair ∷ pairs) m = same_rule eq (Some pair.rule) (get m pair.r
 abbrev pub AreSame : {V : Type 0} → (V → V → Bool) → RuleMap V → RuleMap V → Type 0
 AreSame eq m n = (register : ℕ) → same_rule eq (get m register) (get n register) ≡ true
 
--- ---- what the test says
+-- ---- what the test decides
 
 all_of : (p : ℕ → Bool) (xs : List ℕ) → ((x : ℕ) → p x ≡ true) → list_all p xs ≡ true
 all_of p [] h = refl
@@ -49,11 +49,12 @@ all_at : (p : ℕ → Bool) (xs : List ℕ) (q : ℕ) → list_all p xs ≡ true
 all_at p [] q all any = absurd (false≢true any)
 all_at p (x ∷ xs) q all any = go (eq_by_cmp nat_cmp q x) refl any (all_at p xs q (second_of_both (p x) (list_all p xs) all))
   where
-    go : (b : Bool) → eq_by_cmp nat_cmp q x ≡ b → (b || list_any (eq_by_cmp nat_cmp q) xs) ≡ true → (list_any (eq_by_cmp nat_cmp q) xs ≡ true → p q ≡ true) → p q ≡ true
+    go : (b : Bool) → eq_by_cmp nat_cmp q x ≡ b → (b || list_any (eq_by_cmp nat_cmp q) xs) ≡ true
+        → (list_any (eq_by_cmp nat_cmp q) xs ≡ true → p q ≡ true) → p q ≡ true
     go true tied h later = ap p (eqb-true q x (sym (unsigned_tied q x) ∙ tied)) ∙ first_of_both (p x) (list_all p xs) all
     go false tied h later = later h
 
--- it is true exactly where the maps are the same
+-- the test is true exactly if the maps are the same
 pub same_rules-Decides : {V : Type 0} (eq : V → V → Bool) (m n : RuleMap V) → Decides (same_rules eq m n) (AreSame eq m n)
 unfolding same_rules
 same_rules-Decides {V} eq m n = (λ all q. at (get m q) (get n q) q refl refl all, λ same. all_of (λ q. same_rule eq (get m q) (get n q)) (keys m ++ keys n) same)
@@ -61,7 +62,8 @@ same_rules-Decides {V} eq m n = (λ all q. at (get m q) (get n q) q refl refl al
     test : ℕ → Bool
     test q = same_rule eq (get m q) (get n q)
 
-    at : (a b : Option V) (q : ℕ) → get m q ≡ a → get n q ≡ b → list_all (λ q. same_rule eq (get m q) (get n q)) (keys m ++ keys n) ≡ true → same_rule eq (get m q) (get n q) ≡ true
+    at : (a b : Option V) (q : ℕ) → get m q ≡ a → get n q ≡ b
+        → list_all (λ q. same_rule eq (get m q) (get n q)) (keys m ++ keys n) ≡ true → same_rule eq (get m q) (get n q) ≡ true
     at None None q is_m is_n all = ap (λ o. same_rule eq o (get n q)) is_m ∙ ap (same_rule eq None) is_n
     at (Some v) b q is_m is_n all =
         all_at (λ q. same_rule eq (get m q) (get n q)) (keys m) q
@@ -74,13 +76,15 @@ same_rules-Decides {V} eq m n = (λ all q. at (get m q) (get n q) q refl refl al
 
 -- ---- its laws
 
-pub same_rule-symm : {V : Type 0} {eq : V → V → Bool} → IsPartialEquivalence eq → (a b : Option V) → same_rule eq a b ≡ true → same_rule eq b a ≡ true
+pub same_rule-symm : {V : Type 0} {eq : V → V → Bool} → IsPartialEquivalence eq → (a b : Option V) → same_rule eq a b ≡ true
+    → same_rule eq b a ≡ true
 same_rule-symm o None None h = h
 same_rule-symm o None (Some b) h = h
 same_rule-symm o (Some a) None h = h
 same_rule-symm o (Some a) (Some b) h = o.symm b a ∙ h
 
-same_rule-trans : {V : Type 0} {eq : V → V → Bool} → IsPartialEquivalence eq → (a b c : Option V) → same_rule eq a b ≡ true → same_rule eq b c ≡ true → same_rule eq a c ≡ true
+same_rule-trans : {V : Type 0} {eq : V → V → Bool} → IsPartialEquivalence eq → (a b c : Option V) → same_rule eq a b ≡ true
+    → same_rule eq b c ≡ true → same_rule eq a c ≡ true
 same_rule-trans o None None c h g = g
 same_rule-trans o None (Some b) c h g = absurd (false≢true h)
 same_rule-trans o (Some a) None c h g = absurd (false≢true h)
@@ -91,7 +95,7 @@ same_rule-refl : {V : Type 0} {eq : V → V → Bool} → IsEquivalence eq → (
 same_rule-refl o None = refl
 same_rule-refl o (Some a) = o.refl a
 
--- equality of maps is symmetric and transitive where that of rules is
+-- equality of maps is symmetric and transitive if that of rules is
 pub same_rules-partial : {V : Type 0} (eq : V → V → Bool) → IsPartialEquivalence eq → IsPartialEquivalence (same_rules eq)
 same_rules-partial eq o = record {
   symm = λ m n. one_answer _ _ (same_rules-Decides eq m n)
@@ -99,7 +103,7 @@ same_rules-partial eq o = record {
   trans = λ l m n p r. (same_rules-Decides eq l n).1 (λ q. same_rule-trans o (get l q) (get m q) (get n q) ((same_rules-Decides eq l m).0 p q) ((same_rules-Decides eq m n).0 r q));
 }
 
--- and an equivalence where that of rules is one
+-- and an equivalence if that of rules is one
 pub same_rules-equivalence : {V : Type 0} (eq : V → V → Bool) → IsEquivalence eq → IsEquivalence (same_rules eq)
 same_rules-equivalence eq o =
     let partial = same_rules-partial eq (partial_equiv_from_equiv o) in

@@ -4,14 +4,14 @@ use Rattle.dwarf_constants.specs.declared.common.Format.{Format}
 use Rattle.dwarf_frame_rows.specs.declared.section.CieOffsetEncoding.{CieOffsetEncoding}
 
 -- a kind of section
-pub record SectionKind : Type 0 where
+pub record FrameSectionKind : Type 0 where
   -- a length of 0 ends the section
   pub ends_at_zero : Bool
   -- the id, of an entry of this format, says that the entry is a CIE
   pub is_cie : Format → ℕ → Bool
   -- how wide the id is
   pub id_width : Format → CieOffsetEncoding
-  -- where the CIE of an FDE stands, by the place of the FDE's id and by the id
+  -- the offset of an FDE's CIE, by the offset of the FDE's id and the id itself
   pub cie_place : ℕ → ℕ → Option ℕ
   -- CIEs of this version say the sizes of addresses and of segments
   pub has_sizes : ℕ → Bool

@@ -1,25 +1,26 @@
-//! The addresses that pointers count from.
+//! The addresses that pointers are relative to.
+
 ghost use Rattle.std.specs.Prelude.{◌≡◌, Some};
 
-/// The addresses that the pointers of one section count from, as far as they are known. Each is an
+/// The addresses that the pointers of one section are relative to, as far as they are known. Each is an
 /// address in the memory in which the code runs or is looked up.
 #[derive(Debug, Clone, Copy, PartialEq, Eq, Default)]
 pub struct SectionBaseAddresses {
-    /// Where the section starts. A `DW_EH_PE_pcrel` pointer counts from its own place in it.
+    /// The start of the section. A `DW_EH_PE_pcrel` pointer is relative to its own address in it.
     pub section: Option<u64>,
-    /// Where the code starts, from which `DW_EH_PE_textrel` pointers count.
+    /// The start of the code, which `DW_EH_PE_textrel` pointers are relative to.
     pub text: Option<u64>,
-    /// What `DW_EH_PE_datarel` pointers count from: in `.eh_frame` the start of the global offset
+    /// What `DW_EH_PE_datarel` pointers are relative to: in `.eh_frame` the start of the global offset
     /// table, in `.eh_frame_hdr` the start of that section itself.
     pub data_base: Option<u64>,
 }
 
-/// The addresses that the pointers of call frame information count from. None is known at first.
+/// The addresses that the pointers of call frame information are relative to. None is known at first.
 #[derive(Debug, Clone, Copy, PartialEq, Eq, Default)]
 pub struct BaseAddresses {
     /// Those of `.eh_frame_hdr`.
     pub eh_frame_hdr: SectionBaseAddresses,
-    /// Those of `.eh_frame`, which serve `.debug_frame` too.
+    /// Those of `.eh_frame`, and of `.debug_frame`.
     pub eh_frame: SectionBaseAddresses,
 }
 

@@ -1,8 +1,9 @@
-//! What rows are worked out in.
-ghost use Rattle.std.specs.Prelude.{◌≡◌, ◌≢◌, ◌≤◌, ◌<◌, ◌+◌, ◌^◌, ◌++◌, ◌∷◌, [], ◌↔◌, IfErr, IfOk, IsOk, IsSome, IsTrue, OnErr, OnOk, length, map, take, slice_index_or};
+//! The context in which call frame instructions are executed (DWARF 5, 6.4.2).
+
+ghost use Rattle.std.specs.Prelude.{◌≡◌, ◌≢◌, ◌≤◌, ◌<◌, ◌+◌, ◌^◌, ◌++◌, ◌∷◌, [], ◌↔◌, IfErr, IfOk, IsOk, IsSome, IsTrue, Some, true, OnErr, OnOk, length, map, take, slice_index_or};
 ghost use Rattle.dwarf_storage.specs.Capacity.{HasRoom, IsWithin};
 ghost use Rattle.dwarf_frame_rows.specs.Row.{row_of, with_parts_of};
-ghost use Rattle.dwarf_frame_rows.specs.Effects.{initial_rows, negated_rule};
+ghost use Rattle.dwarf_frame_rows.specs.Effects.{Limits, TakesNoMemory, initial_rows, limits_of, negated_rule};
 
 use crate::rule_map::RegisterRuleMap;
 use crate::{Effect, RegisterRule, RuledRegister, UnwindTableRow};
@@ -12,12 +13,24 @@ use dwarf_readers::ReaderOffset;
 use dwarf_storage::{ArrayLike, ReservedVec, StoreOnHeap};
 use std::alloc::{AllocError, Global};
 
-/// Where the rows of a context lie, and the rules of a row.
+/// The lists in which the rows of a context are stored, and the rules of a row.
 pub trait UnwindContextStorage<T: ReaderOffset> {
     /// The rules of a row.
     type Rules: ArrayLike<Item = RuledRegister<RegisterRule<T>>>;
     /// The rows.
     type Stack: ArrayLike<Item = UnwindTableRow<T, Self::Rules>>;
+
+    /// How many rules a row has room for, and how many rows there is room for.
+    ghost limits: { Limits };
+
+    /// The limits are the capacities of the two lists.
+    ghost limited: { limits ≡ limits_of Self.Rules.capacity Self.Stack.capacity };
+
+    /// No call on a context fails because memory runs out.
+    ghost never_allocates: { Type 0 };
+
+    /// That is so if the rules of a row are made in place, and both lists have limits, and only then.
+    ghost allocates_never: { never_allocates ↔ TakesNoMemory Self.Rules.is_made_in_place limits };
 
     /// There is room for a row.
     ghost room: { HasRoom Self.Stack.capacity 0 };
@@ -32,28 +45,36 @@ const MAX_ROWS: usize = 4;
 /// A row of [`StoreOnHeap`].
 type HeapRow<T> = UnwindTableRow<T, ArrayVec<RuledRegister<RegisterRule<T>>, MAX_RULES>>;
 
-/// Rows of up to 192 rules each, and on the heap 4 of them.
+/// Up to 4 rows, which are on the heap, of up to 192 rules each.
 impl<T: ReaderOffset> UnwindContextStorage<T> for StoreOnHeap {
-    ghost use Rattle.std.proofs.Common.{lit≤};
+    ghost use Rattle.std.proofs.Common.{lit≤, refl};
 
     type Rules = ArrayVec<RuledRegister<RegisterRule<T>>, MAX_RULES>;
 
     type Stack = ReservedVec<HeapRow<T>, MAX_ROWS>;
 
+    ghost limits = { limits_of (Some 192) (Some 4) };
+
+    ghost limited = { refl };
+
+    ghost never_allocates = { TakesNoMemory true (limits_of (Some 192) (Some 4)) };
+
+    ghost allocates_never = { (λ t. t, λ t. t) };
+
     ghost room = { lit≤ tt };
 }
 
-/// The row that a program works on, the rows that it remembers, and the rules that its CIE left. It
-/// serves one program after another.
+/// The current row of a program, the rows on its stack, and the rules that its CIE's instructions left.
+/// A context can be used for one program after another.
 #[derive(Drop)]
 pub struct UnwindContext<T: ReaderOffset, S: UnwindContextStorage<T>> {
     row: UnwindTableRow<T, S::Rules>,
-    // The rows that are remembered, the latest last, and behind them some to be written over.
+    // The rows that are remembered, the latest last, and after them some to be written over.
     saved: S::Stack,
-    // How many of its rows are remembered; where it has not so many, all are.
+    // How many of its rows are remembered; if it has fewer, all are.
     depth: usize,
     initial_rules: RegisterRuleMap<RegisterRule<T>, S::Rules>,
-    // The CIE's own instructions are done.
+    // The CIE's own instructions are executed.
     is_initialized: bool,
     alloc: Global,
 }
@@ -62,7 +83,8 @@ impl<T: ReaderOffset> UnwindContext<T, StoreOnHeap> {
     ghost use Rattle.dwarf_frame_rows.specs.Contexts.{state_of};
     ghost use Rattle.dwarf_frame_rows.specs.Effects.{first_state};
 
-    /// A context with rows on the heap, before any instruction. No later call takes memory.
+    /// A context with rows on the heap, before any instruction. Fails only if it fails to allocate. No
+    /// later call allocates.
     pub fn new(alloc: Global) -> std::result::Result<Self, AllocError>
         ensures { IfOk result (λ context.
             state_of ⟦<ReservedVec<HeapRow<T>, MAX_ROWS> as ArrayLike>⟧.items context
@@ -74,9 +96,10 @@ impl<T: ReaderOffset> UnwindContext<T, StoreOnHeap> {
 
 impl<T: ReaderOffset, S: UnwindContextStorage<T>> UnwindContext<T, S> {
     ghost use Rattle.dwarf_frame_rows.specs.Contexts.{Acts, state_of};
-    ghost use Rattle.dwarf_frame_rows.specs.Effects.{first_state, limits_of, negated_state, popped_state, pushed_state, ruled_state, state_after, state_by_initial_rules, state_with_initial_rules};
+    ghost use Rattle.dwarf_frame_rows.specs.Effects.{first_state, negated_state, popped_state, pushed_state, ruled_state, state_after, state_by_initial_rules, state_with_initial_rules, with_bounds};
 
-    /// A context before any instruction. It takes memory only for lists that aren't made in place.
+    /// A context before any instruction. Allocates only for lists that aren't made in place, and fails
+    /// only if it fails to allocate.
     pub fn new_in(alloc: Global) -> std::result::Result<Self, AllocError>
         ensures empty { IfOk result (λ context. state_of S.Stack.items context ≡ first_state) }
         ensures memory { IsTrue S.Rules.is_made_in_place → IsTrue S.Stack.is_made_in_place
@@ -92,24 +115,22 @@ impl<T: ReaderOffset, S: UnwindContextStorage<T>> UnwindContext<T, S> {
         })
     }
 
-    /// The row that is worked on.
+    /// The current row.
     pub fn row(&self) -> &UnwindTableRow<T, S::Rules>
         ensures { row_of result.now ≡ (state_of S.Stack.items self.now).row }
     {
         &self.row
     }
 
-    /// Sets the bounds of the row.
+    /// Sets the bounds of the current row.
     pub fn set_bounds(&mut self, start_address: u64, end_address: u64)
-        ensures { let old = state_of S.Stack.items self.old in
-            state_of S.Stack.items self.new ≡ record old {
-              row = record old.row { start = start_address; end = end_address };
-            } }
+        ensures { state_of S.Stack.items self.new
+            ≡ with_bounds start_address end_address (state_of S.Stack.items self.old) }
     {
         self.row.set_bounds(start_address, end_address);
     }
 
-    /// Becomes a context before any instruction, whatever it held.
+    /// Becomes a context before any instruction.
     pub fn clear(&mut self)
         ensures { state_of S.Stack.items self.new ≡ first_state }
     {
@@ -118,11 +139,12 @@ impl<T: ReaderOffset, S: UnwindContextStorage<T>> UnwindContext<T, S> {
         self.is_initialized = false;
     }
 
-    /// Keeps the row's rules as those that the CIE's own instructions left, in place of any that were
-    /// kept before. Two rules or more count as a row; fails with `StackFull` where there is no room for
-    /// one. After an `Err` none are kept.
+    /// Keeps the current row's rules as those that the CIE's own instructions left, in place of any that
+    /// were kept before. Two rules or more count as a row. Fails with `StackFull` if there is no room for
+    /// that row, and with `OutOfMemory` only if the rules of a row have no limit. After an `Err` none are
+    /// kept.
     pub fn save_initial_rules(&mut self) -> Result<()>
-        ensures acts { Acts (state_with_initial_rules (limits_of S.Rules.capacity S.Stack.capacity))
+        ensures acts { Acts (state_with_initial_rules S.limits)
             (record (state_of S.Stack.items self.old) { initial_rules = None })
             (state_of S.Stack.items self.new) result }
         ensures memory { IsSome S.Rules.capacity
@@ -137,14 +159,15 @@ impl<T: ReaderOffset, S: UnwindContextStorage<T>> UnwindContext<T, S> {
         Ok(())
     }
 
-    /// Does what an instruction does. An `Err` changes nothing. Fails with `TooManyRegisterRules`
-    /// where a row has no room for a rule, with `StackFull` where there is no room for a row, and with
-    /// `OutOfMemory` in a storage that grows.
+    /// Applies the effect of an instruction. An `Err` changes nothing. Fails with
+    /// `TooManyRegisterRules` if a row has no room for a rule, with `StackFull` if there is no room for a
+    /// row, with `PopWithEmptyStack` if no row is remembered, with `CfiInstructionInInvalidContext` if
+    /// the effect needs a CFA rule or initial rules that there are not, or a sign state that is no
+    /// constant, and with `OutOfMemory` only in a storage that allocates.
     pub fn apply(&mut self, effect: Effect<T>) -> Result<()>
-        ensures acts { Acts (state_after (limits_of S.Rules.capacity S.Stack.capacity) effect)
+        ensures acts { Acts (state_after S.limits effect)
             (state_of S.Stack.items self.old) (state_of S.Stack.items self.new) result }
-        ensures memory { IsTrue S.Rules.is_made_in_place → IsSome S.Rules.capacity
-            → IsSome S.Stack.capacity → IfErr result (λ e. e ≢ Error.OutOfMemory) }
+        ensures memory { S.never_allocates → IfErr result (λ e. e ≢ Error.OutOfMemory) }
     {
         match effect {
             Effect::Move(_) | Effect::Nothing => Ok(()),
@@ -177,7 +200,7 @@ impl<T: ReaderOffset, S: UnwindContextStorage<T>> UnwindContext<T, S> {
     // Gives the register this rule.
     fn set_rule(&mut self, register: Register, rule: RegisterRule<T>) -> Result<()>
         ensures acts { Acts
-            (ruled_state (limits_of S.Rules.capacity S.Stack.capacity) register.0 rule)
+            (ruled_state S.limits register.0 rule)
             (state_of S.Stack.items self.old) (state_of S.Stack.items self.new) result }
         ensures memory { IsSome S.Rules.capacity
             → IfErr result (λ e. e ≢ Error.OutOfMemory) }
@@ -188,7 +211,7 @@ impl<T: ReaderOffset, S: UnwindContextStorage<T>> UnwindContext<T, S> {
     // Gives the register the rule that the CIE's own instructions left, or none.
     fn restore_rule(&mut self, register: Register) -> Result<()>
         ensures acts { Acts
-            (state_by_initial_rules (limits_of S.Rules.capacity S.Stack.capacity) register.0)
+            (state_by_initial_rules S.limits register.0)
             (state_of S.Stack.items self.old) (state_of S.Stack.items self.new) result }
         ensures memory { IsSome S.Rules.capacity
             → IfErr result (λ e. e ≢ Error.OutOfMemory) }
@@ -207,7 +230,7 @@ impl<T: ReaderOffset, S: UnwindContextStorage<T>> UnwindContext<T, S> {
 
     // Changes the return address between signed and not signed.
     fn negate_ra_state(&mut self) -> Result<()>
-        ensures acts { Acts (negated_state (limits_of S.Rules.capacity S.Stack.capacity))
+        ensures acts { Acts (negated_state S.limits)
             (state_of S.Stack.items self.old) (state_of S.Stack.items self.new) result }
         ensures memory { IsSome S.Rules.capacity
             → IfErr result (λ e. e ≢ Error.OutOfMemory) }
@@ -216,9 +239,9 @@ impl<T: ReaderOffset, S: UnwindContextStorage<T>> UnwindContext<T, S> {
         self.set_rule(AArch64::RA_SIGN_STATE, rule)
     }
 
-    // Keeps the row's parts for later.
+    // Pushes the current row on the stack.
     fn remember(&mut self) -> Result<()>
-        ensures acts { Acts (pushed_state (limits_of S.Rules.capacity S.Stack.capacity))
+        ensures acts { Acts (pushed_state S.limits)
             (state_of S.Stack.items self.old) (state_of S.Stack.items self.new) result }
         ensures memory { IsTrue S.Rules.is_made_in_place → IsSome S.Rules.capacity
             → IsSome S.Stack.capacity → IfErr result (λ e. e ≢ Error.OutOfMemory) }
@@ -226,15 +249,15 @@ impl<T: ReaderOffset, S: UnwindContextStorage<T>> UnwindContext<T, S> {
         if !self.has_room(2 + self.initial_rows()) {
             return Err(Error::StackFull);
         }
-        let place = self.remembered_rows();
-        self.depth = place;
-        make_room(&mut self.saved, place, self.alloc)?;
-        save(&mut self.saved, place, &self.row)?;
-        self.depth = place + 1;
+        let index = self.remembered_rows();
+        self.depth = index;
+        make_room(&mut self.saved, index, self.alloc)?;
+        save(&mut self.saved, index, &self.row)?;
+        self.depth = index + 1;
         Ok(())
     }
 
-    // Takes back the parts that were kept last.
+    // Pops a row from the stack. The current row keeps its bounds.
     fn restore(&mut self) -> Result<()>
         ensures acts { Acts popped_state
             (state_of S.Stack.items self.old) (state_of S.Stack.items self.new) result }
@@ -259,7 +282,7 @@ impl<T: ReaderOffset, S: UnwindContextStorage<T>> UnwindContext<T, S> {
         self.depth.min(self.saved.as_slice().len())
     }
 
-    // As how many rows the CIE's rules count.
+    // How many rows the CIE's rules count as.
     fn initial_rows(&self) -> usize
         ensures { result ≡ initial_rows (state_of S.Stack.items self.now).initial_rules }
     {
@@ -270,7 +293,7 @@ impl<T: ReaderOffset, S: UnwindContextStorage<T>> UnwindContext<T, S> {
         }
     }
 
-    // Whether there is room for so many rows beside those that are remembered.
+    // Whether there is room for this many rows beside those that are remembered.
     fn has_room(&self, more: usize) -> bool
         requires { more ≤ 3 }
         ensures { IsTrue result ↔ IsWithin S.Stack.capacity
@@ -281,7 +304,7 @@ impl<T: ReaderOffset, S: UnwindContextStorage<T>> UnwindContext<T, S> {
     }
 }
 
-// As how many rows rules count that are kept beside a row: two or more count as one.
+// How many rows the rules that are kept beside a row count as: one, if they are two or more.
 fn counted_rows<V: Copy, Rules: ArrayLike<Item = RuledRegister<V>>>(
     rules: &RegisterRuleMap<V, Rules>,
 ) -> usize
@@ -290,7 +313,7 @@ fn counted_rows<V: Copy, Rules: ArrayLike<Item = RuledRegister<V>>>(
     if rules.len() >= 2 { 1 } else { 0 }
 }
 
-// The rule of the sign state behind one that is there or not.
+// The rule of the sign state after it is negated, by its rule before, if it has one.
 fn negated<T: Copy>(rule: Option<RegisterRule<T>>) -> Result<RegisterRule<T>>
     ensures { result ≡ negated_rule rule }
 {
@@ -301,22 +324,22 @@ fn negated<T: Copy>(rule: Option<RegisterRule<T>>) -> Result<RegisterRule<T>>
     }
 }
 
-// Sees that there is a row at this place to be written over. A call of its own, so that what executes
-// instructions has no room for a row on its stack.
+// Makes sure that there is a row at this index to be written over. A call of its own, so that a
+// function that executes instructions has no room for a row on its stack.
 #[inline(never)]
 fn make_room<
     T: ReaderOffset,
     Rules: ArrayLike<Item = RuledRegister<RegisterRule<T>>>,
     Stack: ArrayLike<Item = UnwindTableRow<T, Rules>>,
->(saved: &mut Stack, place: usize, alloc: Global) -> Result<()>
-    requires place { place ≤ length (Stack.items saved.old) }
-    requires room { HasRoom Stack.capacity place }
-    ensures there { OnOk result (place < length (Stack.items saved.new)) }
-    ensures before { take place (Stack.items saved.new) ≡ take place (Stack.items saved.old) }
+>(saved: &mut Stack, index: usize, alloc: Global) -> Result<()>
+    requires index { index ≤ length (Stack.items saved.old) }
+    requires room { HasRoom Stack.capacity index }
+    ensures there { OnOk result (index < length (Stack.items saved.new)) }
+    ensures before { take index (Stack.items saved.new) ≡ take index (Stack.items saved.old) }
     ensures error { IfErr result (λ e. e ≡ Error.OutOfMemory) }
     ensures memory { IsTrue Rules.is_made_in_place → IsSome Stack.capacity → IsOk result }
 {
-    if place < saved.as_slice().len() {
+    if index < saved.as_slice().len() {
         return Ok(());
     }
     let Ok(row) = UnwindTableRow::new_in(alloc) else {
@@ -328,43 +351,43 @@ fn make_room<
     }
 }
 
-// Writes a row over the one at this place.
+// Writes a row over the one at this index.
 fn save<
     T: ReaderOffset,
     Rules: ArrayLike<Item = RuledRegister<RegisterRule<T>>>,
     Stack: ArrayLike<Item = UnwindTableRow<T, Rules>>,
->(saved: &mut Stack, place: usize, row: &UnwindTableRow<T, Rules>) -> Result<()>
-    requires { place < length (Stack.items saved.old) }
-    ensures there { OnOk result (map row_of (take (place + 1) (Stack.items saved.new))
-        ≡ map row_of (take place (Stack.items saved.old)) ++ row_of row.now ∷ []) }
-    ensures before { take place (Stack.items saved.new) ≡ take place (Stack.items saved.old) }
-    ensures fits { place + 1 < 2 ^ 64 }
+>(saved: &mut Stack, index: usize, row: &UnwindTableRow<T, Rules>) -> Result<()>
+    requires { index < length (Stack.items saved.old) }
+    ensures there { OnOk result (map row_of (take (index + 1) (Stack.items saved.new))
+        ≡ map row_of (take index (Stack.items saved.old)) ++ row_of row.now ∷ []) }
+    ensures before { take index (Stack.items saved.new) ≡ take index (Stack.items saved.old) }
+    ensures fits { index + 1 < 2 ^ 64 }
     ensures error { IfErr result (λ e. e ≡ Error.OutOfMemory) }
     ensures memory { IsSome Rules.capacity → IsOk result }
 {
-    // That there is such a row bounds the place.
+    // That there is such a row bounds the index.
     let _rows = saved.as_slice().len();
-    match saved.item_mut(place) {
-        Some(place) => place.copy_from(row),
+    match saved.item_mut(index) {
+        Some(saved_row) => saved_row.copy_from(row),
         None => Ok(()),
     }
 }
 
-// Gives a row the parts of the one at this place. Where there is no memory to copy them, that row
-// itself is taken out, and the last is put into its place.
+// Gives a row the parts of the one at this index. If there is no memory to copy them, that row itself
+// is taken out, and the last is put at its index.
 fn take_back<
     T: ReaderOffset,
     Rules: ArrayLike<Item = RuledRegister<RegisterRule<T>>>,
     Stack: ArrayLike<Item = UnwindTableRow<T, Rules>>,
->(saved: &mut Stack, place: usize, row: &mut UnwindTableRow<T, Rules>)
-    requires { place < length (Stack.items saved.old) }
+>(saved: &mut Stack, index: usize, row: &mut UnwindTableRow<T, Rules>)
+    requires { index < length (Stack.items saved.old) }
     ensures parts { row_of row.new ≡ with_parts_of
-        (row_of (slice_index_or (Stack.items saved.old) place row.old)) (row_of row.old) }
-    ensures before { take place (Stack.items saved.new) ≡ take place (Stack.items saved.old) }
+        (row_of (slice_index_or (Stack.items saved.old) index row.old)) (row_of row.old) }
+    ensures before { take index (Stack.items saved.new) ≡ take index (Stack.items saved.old) }
 {
     let (start, end) = (row.start_address(), row.end_address());
-    if row.copy_parts_from(&saved.as_slice()[place]).is_err() {
-        *row = saved.swap_remove(place);
+    if row.copy_parts_from(&saved.as_slice()[index]).is_err() {
+        *row = saved.swap_remove(index);
         row.set_bounds(start, end);
     }
 }

@@ -1,4 +1,5 @@
-//! Where the expressions of call frames stand (DWARF 5, 6.4.2).
+//! Expressions of call frames, by their offsets (DWARF 5, 6.4.2).
+
 ghost use Rattle.dwarf_endianity.specs.Answers.{Gives};
 ghost use Rattle.dwarf_frame_rows.specs.Expressions.{expression_in};
 
@@ -7,17 +8,17 @@ use dwarf_constants::Result;
 use dwarf_operations::Expression;
 use dwarf_readers::Reader;
 
-/// The place of an expression in its section.
+/// An expression, by its offset in its section and its length.
 #[derive(Debug, Clone, Copy, PartialEq, Eq)]
 pub struct UnwindExpression<T> {
-    /// Where its first byte stands, in bytes from the section's start.
+    /// The offset of its first byte from the section's start.
     pub offset: T,
-    /// How many bytes it has.
+    /// Its length in bytes.
     pub length: T,
 }
 
 impl<T: Copy> UnwindExpression<T> {
-    /// The expression's bytes, from its section. Fails where the section has not so many.
+    /// The expression's bytes, from its section. Fails if the section ends before they do.
     pub fn get<R: Reader<Offset = T>, S: _UnwindSectionPrivate<R>>(
         &self,
         section: &S,

@@ -1,6 +1,6 @@
 //! The lower part of call frame information (DWARF 5, 6.4; LSB 5.0, 10.5 and 10.6): the addresses
-//! that pointers count from, encoded pointers, what sections of call frames have in common, rows, and
-//! what rows are worked out in.
+//! that pointers are relative to, encoded pointers, what sections of call frames have in common, rows,
+//! and the contexts in which instructions make them.
 #![tactic(auto)]
 
 mod base_addresses;

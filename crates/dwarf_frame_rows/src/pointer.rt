@@ -1,8 +1,9 @@
 //! Encoded pointers (LSB 5.0, 10.5).
+
 ghost use Rattle.std.specs.Prelude.{◌≡◌, ◌≤◌, ◌+◌, ℕ, IsTrue, OnErr};
 ghost use Rattle.dwarf_readers.specs.InitialLength.{is_size, left_by};
 ghost use Rattle.dwarf_readers.specs.Onward.{ReadsOn};
-ghost use Rattle.dwarf_readers.specs.Place.{Reads, ReadsAs, Stretch, byte_at};
+ghost use Rattle.dwarf_readers.specs.Stretch.{Reads, ReadsAs, Stretch, byte_at};
 ghost use Rattle.dwarf_frame_rows.specs.EncodedPointer.{Origins, pointer_address, direct_address, encoding_at, in_address_size, is_encoding, left_by_plain_value, left_by_pointer, left_by_value, origin_of, origins_of, plain_value_at, pointer_at, pointer_of, taken_encoding, value_at};
 
 use crate::SectionBaseAddresses;
@@ -19,7 +20,7 @@ use dwarf_readers::Reader;
 pub enum Pointer {
     /// The address that is meant.
     Direct(u64),
-    /// The address at which the one that is meant stands in memory.
+    /// The address of the memory that has the address that is meant.
     Indirect(u64),
 }
 
@@ -36,7 +37,7 @@ impl Default for Pointer {
 }
 
 impl Pointer {
-    // The pointer to this address, direct or not as its encoding says.
+    // The pointer to this address, direct or indirect as its encoding says.
     fn new(encoding: DwEhPe, address: u64) -> Self
         ensures { result ≡ pointer_of encoding.0 address }
     {
@@ -68,10 +69,10 @@ impl Pointer {
     }
 }
 
-/// What a pointer may count from.
+/// What a pointer may be relative to.
 #[derive(Debug, Clone, Copy)]
 pub struct PointerEncodingParameters<'a, R> {
-    /// The addresses that the pointers of the section count from.
+    /// The addresses that the pointers of the section are relative to.
     pub bases: &'a SectionBaseAddresses,
     /// The start of the function that the pointer is about, if it is about one.
     pub func_base: Option<u64>,
@@ -81,8 +82,8 @@ pub struct PointerEncodingParameters<'a, R> {
     pub section: &'a R,
 }
 
-/// Reads the encoding of pointers that follow. Fails with `UnknownPointerEncoding` on a byte that
-/// is none.
+/// Reads the encoding of the pointers that follow, one byte. Fails with `UnknownPointerEncoding` if the
+/// byte is no encoding.
 #[inline(always)]
 pub fn parse_pointer_encoding<R: Reader>(input: &mut R) -> Result<DwEhPe>
     ensures read { ReadsAs (λ encoding. encoding.0) result (encoding_at (R.stretch input.old))
@@ -98,15 +99,16 @@ pub fn parse_pointer_encoding<R: Reader>(input: &mut R) -> Result<DwEhPe>
     }
 }
 
-/// Reads a pointer of this encoding: what it counts from is found first, and the value that is read
-/// is added modulo the size of an address. A refusal of the encoding or of the base reads nothing.
+/// Reads a pointer of this encoding: what it is relative to is found first, and the value that is read
+/// is added, in as many bits as an address has. Fails if the encoding is unknown or says that there is
+/// no pointer, or if the base is unknown, and then reads nothing; or if the value cannot be read.
 #[inline(always)]
 pub fn parse_encoded_pointer<R: Reader>(
     encoding: DwEhPe,
     parameters: &PointerEncodingParameters<'_, R>,
     input: &mut R,
 ) -> Result<Pointer>
-    requires { (R.stretch parameters.now.section.now).place ≤ (R.stretch input.old).place }
+    requires { (R.stretch parameters.now.section.now).offset ≤ (R.stretch input.old).offset }
     ensures read { Reads result (pointer_at (origins_of R.stretch parameters.now) encoding.0
         (R.stretch input.old)) (R.stretch input.new) }
     ensures refused { OnErr result (R.stretch input.new ≡ left_by_pointer
@@ -118,8 +120,8 @@ pub fn parse_encoded_pointer<R: Reader>(
     Ok(Pointer::new(encoding, address))
 }
 
-/// Reads the value of a pointer of this encoding, whatever it counts from, as the length of an FDE's
-/// code is read. A negative number is taken modulo 2^64.
+/// Reads the value of a pointer of this encoding, relative to 0, as the length of an FDE's code is
+/// read. A negative number is taken modulo 2^64.
 #[inline(always)]
 pub fn parse_encoded_value<R: Reader>(
     encoding: DwEhPe,
@@ -142,7 +144,7 @@ fn is_known(encoding: DwEhPe) -> bool
     encoding.is_valid_encoding()
 }
 
-// Refuses a byte that is no encoding, and the one that says that no pointer stands there.
+// Fails if the byte is no encoding, or is the one that says that there is no pointer.
 fn check_encoding(encoding: DwEhPe) -> Result<()>
     ensures { result ≡ taken_encoding encoding.0 }
 {
@@ -155,16 +157,16 @@ fn check_encoding(encoding: DwEhPe) -> Result<()>
     Ok(())
 }
 
-// What the pointer at the front counts from.
+// What the pointer at the start of the input is relative to.
 #[inline(always)]
 fn pointer_origin<R: Reader>(
     encoding: DwEhPe,
     parameters: &PointerEncodingParameters<'_, R>,
     input: &R,
 ) -> Result<u64>
-    requires { (R.stretch parameters.now.section.now).place ≤ (R.stretch input.now).place }
+    requires { (R.stretch parameters.now.section.now).offset ≤ (R.stretch input.now).offset }
     ensures { result ≡ origin_of (origins_of R.stretch parameters.now) encoding.0
-        (R.stretch input.now).place }
+        (R.stretch input.now).offset }
 {
     check_encoding(encoding)?;
     let base = match encoding.application() {
@@ -231,8 +233,8 @@ fn sum_in_address_size(base: u64, value: u64, address_size: u8) -> u64
     }
 }
 
-/// A law of encoded pointers: what is left behind one, or behind its encoding, doesn't begin before
-/// it. The function does nothing when the program runs.
+/// A law of encoded pointers: what is left after one, or after its encoding, doesn't begin before it.
+/// The function does nothing when the program runs.
 pub fn pointers_go_on()
     ensures encoding { (s : Stretch) → ReadsOn s (encoding_at s) }
     ensures value { (size format : ℕ) (s : Stretch) → ReadsOn s (value_at size format s) }

@@ -1,4 +1,5 @@
 //! A row of the table that call frame instructions describe (DWARF 5, 6.4.1).
+
 ghost use Rattle.std.specs.Prelude.{◌≡◌, IfErr, IfOk, IsOk, IsSome, IsTrue, OnErr, OnOk};
 ghost use Rattle.std.specs.Slice.Iter.{iter_rest};
 ghost use Rattle.std.specs.FinMap.{get, insert, len, remove};
@@ -31,7 +32,7 @@ pub struct UnwindTableRow<
     registers: RegisterRuleMap<RegisterRule<T>, Rules>,
 }
 
-/// What fills a place of a list that holds no row.
+/// An element of a list that holds no row yet.
 impl<T: ReaderOffset, Rules: ArrayLike<Item = RuledRegister<RegisterRule<T>>> + Default> Default
     for UnwindTableRow<T, Rules> {
     fn default() -> Self {
@@ -51,7 +52,7 @@ impl<T: ReaderOffset, Rules: ArrayLike<Item = RuledRegister<RegisterRule<T>>>> U
 > {
     ghost use Rattle.dwarf_frame_rows.specs.Row.{first_row, holds_at, row_of, with_parts_of};
 
-    /// A row before any instruction.
+    // A row before any instruction.
     pub(crate) fn new_in(alloc: Global) -> std::result::Result<Self, AllocError>
         ensures empty { IfOk result (λ row. row_of row ≡ first_row) }
         ensures memory { IsTrue Rules.is_made_in_place → IsOk result }
@@ -72,7 +73,7 @@ impl<T: ReaderOffset, Rules: ArrayLike<Item = RuledRegister<RegisterRule<T>>>> U
         self.start_address
     }
 
-    /// The address behind the row.
+    /// The first address after the row.
     pub fn end_address(&self) -> u64
         ensures { result ≡ (row_of self.now).end }
     {
@@ -115,7 +116,7 @@ impl<T: ReaderOffset, Rules: ArrayLike<Item = RuledRegister<RegisterRule<T>>>> U
         self.registers.pairs().iter()
     }
 
-    /// Sets the bounds.
+    // Sets the bounds.
     pub(crate) fn set_bounds(&mut self, start_address: u64, end_address: u64)
         ensures { row_of self.new ≡ record (row_of self.old) {
           start = start_address;
@@ -126,7 +127,7 @@ impl<T: ReaderOffset, Rules: ArrayLike<Item = RuledRegister<RegisterRule<T>>>> U
         self.end_address = end_address;
     }
 
-    /// Becomes the row before any instruction.
+    // Becomes the row before any instruction.
     pub(crate) fn clear(&mut self)
         ensures { row_of self.new ≡ first_row }
     {
@@ -137,7 +138,7 @@ impl<T: ReaderOffset, Rules: ArrayLike<Item = RuledRegister<RegisterRule<T>>>> U
         self.registers.clear();
     }
 
-    /// Takes the parts of another row, within its own bounds.
+    // Becomes another row, within its own bounds.
     pub(crate) fn copy_parts_from(&mut self, source: &Self) -> Result<()>
         ensures ok { OnOk result
             (row_of self.new ≡ with_parts_of (row_of source.now) (row_of self.old)) }
@@ -149,7 +150,7 @@ impl<T: ReaderOffset, Rules: ArrayLike<Item = RuledRegister<RegisterRule<T>>>> U
         self.registers.copy_from(&source.registers)
     }
 
-    /// Becomes the same row as another.
+    // Becomes the same row as another.
     pub(crate) fn copy_from(&mut self, source: &Self) -> Result<()>
         ensures ok { OnOk result (row_of self.new ≡ row_of source.now) }
         ensures memory { IsSome Rules.capacity → IsOk result }
@@ -159,19 +160,21 @@ impl<T: ReaderOffset, Rules: ArrayLike<Item = RuledRegister<RegisterRule<T>>>> U
         self.copy_parts_from(source)
     }
 
+    // Sets the rule of the CFA.
     pub(crate) fn set_cfa(&mut self, rule: CfaRule<T>)
         ensures { row_of self.new ≡ record (row_of self.old) { cfa = rule } }
     {
         self.cfa = rule;
     }
 
+    // Sets the size in bytes of the arguments that the caller pushed.
     pub(crate) fn set_saved_args_size(&mut self, size: u64)
         ensures { row_of self.new ≡ record (row_of self.old) { saved_args_size = size } }
     {
         self.saved_args_size = size;
     }
 
-    /// Gives the register this rule. An `Err` changes nothing.
+    // Gives the register this rule. An `Err` changes nothing.
     pub(crate) fn set_rule(&mut self, register: Register, rule: RegisterRule<T>) -> Result<()>
         ensures room { HoldsRules Rules.capacity
             (len (insert (row_of self.old).rules register.0 rule)) result }
@@ -183,7 +186,7 @@ impl<T: ReaderOffset, Rules: ArrayLike<Item = RuledRegister<RegisterRule<T>>>> U
         self.registers.set(register, rule)
     }
 
-    /// Takes the register's rule away, if it has one.
+    // Takes the register's rule away, if it has one.
     pub(crate) fn remove_rule(&mut self, register: Register)
         ensures { row_of self.new ≡ record (row_of self.old) {
           rules = remove (row_of self.old).rules register.0;
@@ -192,7 +195,7 @@ impl<T: ReaderOffset, Rules: ArrayLike<Item = RuledRegister<RegisterRule<T>>>> U
         self.registers.remove(register);
     }
 
-    /// The rules.
+    // The rules of the registers.
     pub(crate) fn rules(&self) -> &RegisterRuleMap<RegisterRule<T>, Rules>
         ensures { result.now ≡ (row_of self.now).rules }
     {

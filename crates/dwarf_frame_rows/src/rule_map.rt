@@ -1,4 +1,5 @@
 //! The rules of a row as a map.
+
 ghost use Rattle.std.specs.Prelude.{◌≡◌, ◌==◌, ◌+◌, [], ◌∷◌, ◌++◌, length, IfOk, IfErr, IsOk, IsSome, IsTrue, OnErr, OnOk, position, slice_set};
 ghost use Rattle.std.specs.FinMap as map;
 ghost use Rattle.dwarf_storage.specs.Capacity.{IsWithin};
@@ -35,7 +36,7 @@ impl<V, Rules: ArrayLike<Item = RuledRegister<V>>> Model for RegisterRuleMap<V, 
     ghost invariant = { λ m. HasEachOnce (Rules.items m.rules) };
 }
 
-/// What fills a place that holds no row's rules.
+/// The rules of no row.
 impl<V, Rules: ArrayLike<Item = RuledRegister<V>> + Default> Default for RegisterRuleMap<V, Rules> {
     fn default() -> Self {
         let mut rules = Rules::default();
@@ -70,7 +71,7 @@ impl<V: Eq + Copy, Rules: ArrayLike<Item = RuledRegister<V>>> Eq for RegisterRul
 }
 
 impl<V: Copy, Rules: ArrayLike<Item = RuledRegister<V>>> RegisterRuleMap<V, Rules> {
-    /// No rules.
+    // No rules.
     pub(crate) fn new_in(alloc: Global) -> std::result::Result<Self, AllocError>
         ensures empty { IfOk result (λ m. m ≡ map.empty) }
         ensures memory { IsTrue Rules.is_made_in_place → IsOk result }
@@ -81,28 +82,28 @@ impl<V: Copy, Rules: ArrayLike<Item = RuledRegister<V>>> RegisterRuleMap<V, Rule
         })
     }
 
-    /// The register's rule, if it has one.
+    // The register's rule, if it has one.
     pub(crate) fn get(&self, register: Register) -> Option<V>
         ensures { result ≡ map.get self.now register.0 }
     {
         rule_of(self.rules.as_slice(), register)
     }
 
-    /// How many registers have a rule.
+    // How many registers have a rule.
     pub(crate) fn len(&self) -> usize
         ensures { result ≡ map.len self.now }
     {
         self.rules.as_slice().len()
     }
 
-    /// Takes all rules away.
+    // Takes all rules away.
     pub(crate) fn clear(&mut self)
         ensures { self.new ≡ map.empty }
     {
         self.rules.clear();
     }
 
-    /// The registers that have a rule, each once, with their rules.
+    // The registers that have a rule, each once, with their rules.
     pub(crate) fn pairs(&self) -> &[RuledRegister<V>]
         ensures map { map_of result.now ≡ self.now }
         ensures once { HasEachOnce result.now }
@@ -110,16 +111,16 @@ impl<V: Copy, Rules: ArrayLike<Item = RuledRegister<V>>> RegisterRuleMap<V, Rule
         self.rules.as_slice()
     }
 
-    /// Takes the register's rule away, if it has one.
+    // Takes the register's rule away, if it has one.
     pub(crate) fn remove(&mut self, register: Register)
         ensures { self.new ≡ map.remove self.old register.0 }
     {
-        if let Some(place) = place_of(self.rules.as_slice(), register) {
-            let _ = self.rules.swap_remove(place);
+        if let Some(index) = index_of(self.rules.as_slice(), register) {
+            let _ = self.rules.swap_remove(index);
         }
     }
 
-    /// Gives the register this rule, in place of any that it has. An `Err` changes nothing.
+    // Gives the register this rule, in place of any that it has. An `Err` changes nothing.
     pub(crate) fn set(&mut self, register: Register, rule: V) -> Result<()>
         ensures room { HoldsRules Rules.capacity
             (map.len (map.insert self.old register.0 rule)) result }
@@ -127,16 +128,16 @@ impl<V: Copy, Rules: ArrayLike<Item = RuledRegister<V>>> RegisterRuleMap<V, Rule
         ensures err { OnErr result (self.new ≡ self.old) }
     {
         let ruled = RuledRegister { register, rule };
-        match place_of(self.rules.as_slice(), register) {
-            Some(place) => {
-                write(&mut self.rules, place, ruled);
+        match index_of(self.rules.as_slice(), register) {
+            Some(index) => {
+                write(&mut self.rules, index, ruled);
                 Ok(())
             }
             None => push(&mut self.rules, ruled),
         }
     }
 
-    /// Becomes the same map as another. An `Err` leaves no rules.
+    // Becomes the same map as another. An `Err` leaves no rules.
     pub(crate) fn copy_from(&mut self, source: &Self) -> Result<()>
         ensures ok { OnOk result (self.new ≡ source.now) }
         ensures memory { IsSome Rules.capacity → IsOk result }
@@ -184,22 +185,22 @@ fn rule_of<V: Copy>(pairs: &[RuledRegister<V>], register: Register) -> Option<V>
     None
 }
 
-// Where a register's pair stands.
-fn place_of<V>(pairs: &[RuledRegister<V>], register: Register) -> Option<usize>
+// The index of a register's pair.
+fn index_of<V>(pairs: &[RuledRegister<V>], register: Register) -> Option<usize>
     ensures { result ≡ position (λ pair. pair.register.0 == register.0) pairs.now }
 {
     pairs.iter().position(|pair| pair.register.0 == register.0)
 }
 
-// Puts a pair in the place of another.
+// Writes a pair over another.
 fn write<V: Copy, Rules: ArrayLike<Item = RuledRegister<V>>>(
     rules: &mut Rules,
-    place: usize,
+    index: usize,
     ruled: RuledRegister<V>,
 )
-    ensures { Rules.items rules.new ≡ slice_set (Rules.items rules.old) place ruled }
+    ensures { Rules.items rules.new ≡ slice_set (Rules.items rules.old) index ruled }
 {
-    if let Some(pair) = rules.item_mut(place) {
+    if let Some(pair) = rules.item_mut(index) {
         *pair = ruled;
     }
 }

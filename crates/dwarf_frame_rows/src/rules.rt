@@ -1,4 +1,5 @@
 //! How the CFA and the registers of a row are found (DWARF 5, 6.4.1).
+
 ghost use Rattle.std.specs.Prelude.{◌≡◌};
 ghost use Rattle.std.specs.Int.{w64, cast_signed};
 ghost use Rattle.dwarf_frame_rows.specs.CfaRules.{with_cfa_offset, with_cfa_register};
@@ -31,8 +32,8 @@ impl<T> Default for CfaRule<T> {
 }
 
 impl<T> CfaRule<T> {
-    /// The same offset from another register. Fails with `CfiInstructionInInvalidContext` on an
-    /// expression.
+    // The same offset from another register. Fails with `CfiInstructionInInvalidContext` on an
+    // expression.
     pub(crate) fn with_register(self, register: Register) -> Result<Self>
     where
         T: Copy,
@@ -46,8 +47,8 @@ impl<T> CfaRule<T> {
         }
     }
 
-    /// Another offset from the same register. Fails with `CfiInstructionInInvalidContext` on an
-    /// expression.
+    // Another offset from the same register. Fails with `CfiInstructionInInvalidContext` on an
+    // expression.
     pub(crate) fn with_offset(self, offset: i64) -> Result<Self>
     where
         T: Copy,
@@ -79,13 +80,13 @@ pub enum RegisterRule<T> {
     Expression(UnwindExpression<T>),
     /// It is the value of an expression.
     ValExpression(UnwindExpression<T>),
-    /// By what the architecture says.
+    /// As the architecture says.
     Architectural,
     /// It is this number.
     Constant(u64),
 }
 
-/// What fills a place that holds no rule.
+/// An element of a list that holds no rule yet.
 impl<T> Default for RegisterRule<T> {
     ghost use Rattle.std.specs.Prelude.{◌≡◌};
     ghost use Rattle.dwarf_frame_rows.specs.declared.rules.RegisterRule.TheVariants.{Undefined};
@@ -104,7 +105,7 @@ pub struct RuledRegister<V> {
     pub rule: V,
 }
 
-/// What fills a place of a list that holds no rule.
+/// An element of a list that holds no rule yet.
 impl<V: Default> Default for RuledRegister<V> {
     fn default() -> Self {
         RuledRegister {

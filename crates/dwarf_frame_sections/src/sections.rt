@@ -1,10 +1,12 @@
 //! `.eh_frame` and `.debug_frame`.
+
 ghost use Rattle.std.specs.Prelude.{◌≡◌, IsTrue};
 ghost use Rattle.dwarf_constants.specs.declared.common.SectionId.TheVariants as id;
 ghost use Rattle.dwarf_constants.specs.declared.common.Vendor.TheVariants as vendor;
 ghost use Rattle.dwarf_readers.specs.EndianSlice.{stretch_of};
 ghost use Rattle.dwarf_readers.specs.InitialLength.{is_size};
-ghost use Rattle.dwarf_readers.specs.Place.{whole};
+ghost use Rattle.dwarf_readers.specs.Stretch.{whole};
+ghost use Rattle.dwarf_frame_rows.specs.FrameSection.{frame_section};
 ghost use Rattle.dwarf_frame_sections.specs.Sections.{FrameData, debug_frame, eh_frame, plain_data};
 
 use dwarf_constants::{Format, SectionId, Vendor};
@@ -13,7 +15,7 @@ use dwarf_read_core::Section;
 use dwarf_readers::{EndianSlice, Endianity, Reader, ReaderOffset};
 use std::marker::Model;
 
-/// The size of an address in bytes where neither a CIE nor the user says it.
+/// The size of an address in bytes if neither a CIE nor the user says it.
 const DEFAULT_ADDRESS_SIZE: u8 = 8;
 
 /// The section `.eh_frame` (LSB 5.0, 10.6.1).
@@ -99,6 +101,8 @@ impl<R: Reader> Section<R> for EhFrame<R> {
 }
 
 impl<R: Reader> _UnwindSectionPrivate<R> for EhFrame<R> {
+    ghost use Rattle.std.proofs.Common.{refl};
+
     ghost reader = { λ s. s.reader };
 
     ghost kind = { eh_frame };
@@ -106,6 +110,11 @@ impl<R: Reader> _UnwindSectionPrivate<R> for EhFrame<R> {
     ghost size = { λ s. s.address_size };
 
     ghost extensions = { λ s. s.vendor };
+
+    ghost frame = { λ s bases. frame_section R.Offset.limit eh_frame s.address_size
+        (R.stretch s.reader) bases };
+
+    ghost framed = { λ section bases. refl };
 
     fn section(&self) -> &R {
         &self.section
@@ -123,7 +132,7 @@ impl<R: Reader> _UnwindSectionPrivate<R> for EhFrame<R> {
         CieOffsetEncoding::U32
     }
 
-    // The id counts back from its own place.
+    // The id is the distance back from its own offset.
     fn resolve_cie_offset(&self, base: R::Offset, offset: R::Offset) -> Option<R::Offset> {
         base.checked_sub(offset)
     }
@@ -166,7 +175,7 @@ impl<R> Model for DebugFrame<R> {
 }
 
 impl<'a, E: Endianity> DebugFrame<EndianSlice<'a, E>> {
-    /// The section with these bytes. Addresses have 8 bytes where no CIE says their size, and no vendor's
+    /// The section with these bytes. Addresses have 8 bytes if no CIE says their size, and no vendor's
     /// instructions are read.
     pub fn new(section: &'a [u8], endian: E) -> Self
         ensures section { stretch_of E.is_big result.reader
@@ -178,7 +187,7 @@ impl<'a, E: Endianity> DebugFrame<EndianSlice<'a, E>> {
 }
 
 impl<R> DebugFrame<R> {
-    /// Sets the size of an address in bytes where no CIE says it: 1, 2, 4 or 8.
+    /// Sets the size of an address in bytes if no CIE says it: 1, 2, 4 or 8.
     pub fn set_address_size(&mut self, address_size: u8)
         requires { IsTrue (is_size address_size) }
         ensures { self.new ≡ record self.old { address_size = address_size } }
@@ -225,6 +234,8 @@ impl<R: Reader> Section<R> for DebugFrame<R> {
 }
 
 impl<R: Reader> _UnwindSectionPrivate<R> for DebugFrame<R> {
+    ghost use Rattle.std.proofs.Common.{refl};
+
     ghost reader = { λ s. s.reader };
 
     ghost kind = { debug_frame };
@@ -232,6 +243,11 @@ impl<R: Reader> _UnwindSectionPrivate<R> for DebugFrame<R> {
     ghost size = { λ s. s.address_size };
 
     ghost extensions = { λ s. s.vendor };
+
+    ghost frame = { λ s bases. frame_section R.Offset.limit debug_frame s.address_size
+        (R.stretch s.reader) bases };
+
+    ghost framed = { λ section bases. refl };
 
     fn section(&self) -> &R {
         &self.section

@@ -1,4 +1,5 @@
-//! Offsets that say which section they count in, and what they count (DWARF 5, 7.5.5).
+//! Offsets with types that say which section they are into, and in what units they count (DWARF 5,
+//! 7.5.5).
 #![tactic(auto)]
 
 ghost use Rattle.std.specs.Prelude.{◌≡◌};
@@ -15,7 +16,7 @@ pub struct DebugAddrOffset<T = usize>(pub T);
 #[derive(Debug, Clone, Copy, PartialEq, Eq, PartialOrd, Ord, Hash)]
 pub struct DebugAddrBase<T = usize>(pub T);
 
-/// A place in a unit's addresses in `.debug_addr`, in addresses.
+/// The index of an address among a unit's in `.debug_addr`.
 #[derive(Debug, Clone, Copy, PartialEq, Eq, PartialOrd, Ord, Hash)]
 pub struct DebugAddrIndex<T = usize>(pub T);
 
@@ -43,7 +44,7 @@ pub struct LocationListsOffset<T = usize>(pub T);
 #[derive(Debug, Clone, Copy, PartialEq, Eq, PartialOrd, Ord, Hash)]
 pub struct DebugLocListsBase<T = usize>(pub T);
 
-/// A place in a unit's lists in `.debug_loclists`, in lists.
+/// The index of a list among a unit's in `.debug_loclists`.
 #[derive(Debug, Clone, Copy, PartialEq, Eq, PartialOrd, Ord, Hash)]
 pub struct DebugLocListsIndex<T = usize>(pub T);
 
@@ -71,7 +72,7 @@ pub struct RangeListsOffset<T = usize>(pub T);
 #[derive(Debug, Clone, Copy, PartialEq, Eq, PartialOrd, Ord, Hash)]
 pub struct DebugRngListsBase<T = usize>(pub T);
 
-/// A place in a unit's lists in `.debug_rnglists`, in lists.
+/// The index of a list among a unit's in `.debug_rnglists`.
 #[derive(Debug, Clone, Copy, PartialEq, Eq, PartialOrd, Ord, Hash)]
 pub struct DebugRngListsIndex<T = usize>(pub T);
 
@@ -79,7 +80,7 @@ pub struct DebugRngListsIndex<T = usize>(pub T);
 #[derive(Debug, Clone, Copy, PartialEq, Eq, PartialOrd, Ord, Hash)]
 pub struct DebugStrOffset<T = usize>(pub T);
 
-/// A place in a unit's entries in `.debug_str_offsets`, in entries.
+/// The index of an entry among a unit's in `.debug_str_offsets`.
 #[derive(Debug, Clone, Copy, PartialEq, Eq, PartialOrd, Ord, Hash)]
 pub struct DebugStrOffsetsIndex<T = usize>(pub T);
 

@@ -9,18 +9,19 @@ use Rattle.dwarf_constants.specs.declared.constants.TheConstants.{DW_OP_lit0, DW
 use Rattle.dwarf_constants.specs.declared.error.Error.{Error}
 use Rattle.dwarf_readers.specs.InitialLength.{address_at}
 use Rattle.dwarf_readers.specs.Leb128.{signed_at, unsigned_at}
-use Rattle.dwarf_readers.specs.Place.{Stretch, ◌>>=◌, byte_at, number_at, signed_byte_at, signed_number_at}
+use Rattle.dwarf_readers.specs.Operands.{Parse, look_up, one}
+use Rattle.dwarf_readers.specs.Stretch.{Stretch, ◌>>=◌, byte_at, number_at, signed_byte_at, signed_number_at}
 use Rattle.dwarf_readers.specs.Remainder.{Takes, item_at, size_of}
 use Rattle.dwarf_readers.proofs.Laws.{address_takes, byte_takes, item_takes, items_shrink, leaves_err, leaves_from, leaves_if, leaves_ok, leaves_then, number_takes, signed_byte_takes, signed_number_takes, signed_takes, unsigned_takes, unsigned_16_takes}
 use Rattle.dwarf_operations.specs.declared.op.Operation.{Operation}
 use Rattle.dwarf_operations.specs.declared.op.Operation.TheVariants.{Address, UnsignedConstant, SignedConstant, Pick, PlusConstant, Bra, Skip}
-use Rattle.dwarf_operations.specs.Operations.{Operands, one, offset_of, register_and_offset, with_operands, without_operands, look_up, listed_operation, is_between, operation_by, operation_at, operations_of}
+use Rattle.dwarf_operations.specs.Operations.{offset_of, register_and_offset, with_operands, without_operands, listed_operation, is_between, operation_by, operation_at, operations_of, opcode_number}
 
 -- operands leave no more than there was
-pub record GoOn (operands : Operands) : Type 0 where
+pub record GoOn (operands : Parse Operation) : Type 0 where
   pub takes : (s : Stretch) → Takes 0 s (operands s)
 
-one_goes_on : {A : Type 0} (n : ℕ) (operand : Stretch → Result (A × Stretch) Error) (operation : A → Operation) → ((s : Stretch) → Takes n s (operand s)) → GoOn (one operand operation)
+one_goes_on : {A : Type 0} (n : ℕ) (operand : Parse A) (operation : A → Operation) → ((s : Stretch) → Takes n s (operand s)) → GoOn (one operand operation)
 one_goes_on n operand operation takes = record { takes = λ s. leaves_then (takes s) (λ value le. leaves_ok (omega arith)) }
 
 offset_goes_on : (register : ℕ) → GoOn (offset_of register)
@@ -30,11 +31,11 @@ register_goes_on : GoOn register_and_offset
 register_goes_on = record { takes = λ s. leaves_then (unsigned_16_takes s) (λ register le. leaves_from {m = 0} ((offset_goes_on register.0).takes register.1) (omega arith)) }
 
 -- .. of each row
-pub data AllGoOn : List (DwOp × Operands) → Type 0 where
+pub data AllGoOn : List (DwOp × Parse Operation) → Type 0 where
   no_rows : AllGoOn []
-  one_more : (code : DwOp) (operands : Operands) (rows : List (DwOp × Operands)) → GoOn operands → AllGoOn rows → AllGoOn ((code, operands) ∷ rows)
+  one_more : (code : DwOp) (operands : Parse Operation) (rows : List (DwOp × Parse Operation)) → GoOn operands → AllGoOn rows → AllGoOn ((code, operands) ∷ rows)
 
-and_then : {code : DwOp} {operands : Operands} {rows : List (DwOp × Operands)} → GoOn operands → AllGoOn rows → AllGoOn ((code, operands) ∷ rows)
+and_then : {code : DwOp} {operands : Parse Operation} {rows : List (DwOp × Parse Operation)} → GoOn operands → AllGoOn rows → AllGoOn ((code, operands) ∷ rows)
 and_then {code} {operands} {rows} first others = one_more code operands rows first others
 
 table_goes_on : (size : ℕ) → AllGoOn (with_operands size)
@@ -62,7 +63,7 @@ module _ (opcode : ℕ) (plain : Option Operation) where
   plain_goes_on (Some operation) s = leaves_ok (omega arith)
   plain_goes_on None s = leaves_err
 
-  pub listed_goes_on : (rows : List (DwOp × Operands)) → AllGoOn rows → (s : Stretch) → Takes 0 s (listed_operation (look_up opcode rows) plain s)
+  pub listed_goes_on : (rows : List (DwOp × Parse Operation)) → AllGoOn rows → (s : Stretch) → Takes 0 s (listed_operation (look_up opcode_number opcode rows) plain s)
   listed_goes_on [] no_rows s = plain_goes_on plain s
   listed_goes_on ((code, operands) ∷ rows) (one_more _ _ _ first others) s =
       by_case (opcode == code.0)
@@ -73,7 +74,7 @@ said_takes : (size opcode : ℕ) (s : Stretch) → Takes 0 s (operation_by size 
 said_takes size opcode s =
     leaves_if (is_between DW_OP_lit0 DW_OP_lit31 opcode) (leaves_ok (omega arith))
     (leaves_if (is_between DW_OP_breg0 DW_OP_breg31 opcode) ((offset_goes_on (opcode - DW_OP_breg0.0)).takes s)
-    (listed_goes_on opcode (look_up opcode without_operands) (with_operands size) (table_goes_on size) s))
+    (listed_goes_on opcode (look_up opcode_number opcode without_operands) (with_operands size) (table_goes_on size) s))
 
 -- an operation takes a byte at least
 operation_takes : (size : ℕ) (s : Stretch) → Takes 1 s (operation_at size s)

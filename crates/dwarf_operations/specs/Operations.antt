@@ -1,5 +1,5 @@
--- The operations of an expression (DWARF 5, 2.5; their bytes 7.7.1, table 7.9). Taken are those on untyped values; any
--- other is refused.
+-- The operations of an expression (DWARF 5, 2.5; their bytes 7.7.1, table 7.9): those on values without a type. Any other is
+-- an error.
 use Rattle.std.specs.Prelude.{ℕ, ◌-◌, ◌==◌, ◌&&◌, List, [], ◌∷◌, Bool, Option, Some, None, Result, Ok, Err, nat_le, if◌then◌else◌}
 use Rattle.std.specs.Int.{w16, w32, w64}
 use Rattle.list_laws.specs.Items.{items_of}
@@ -9,33 +9,28 @@ use Rattle.dwarf_constants.specs.declared.error.Error.{Error}
 use Rattle.dwarf_constants.specs.declared.error.Error.TheVariants.{UnsupportedEvaluation}
 use Rattle.dwarf_readers.specs.InitialLength.{address_at}
 use Rattle.dwarf_readers.specs.Leb128.{signed_at, unsigned_at, unsigned_16_at}
-use Rattle.dwarf_readers.specs.Place.{Stretch, ◌>>=◌, byte_at, number_at, signed_byte_at, signed_number_at}
+use Rattle.dwarf_readers.specs.Operands.{Parse, look_up, one}
+use Rattle.dwarf_readers.specs.Stretch.{Stretch, ◌>>=◌, byte_at, number_at, signed_byte_at, signed_number_at}
 use Rattle.dwarf_readers.specs.Remainder.{item_at, size_of}
 use Rattle.dwarf_operations.specs.declared.op.Operation.{Operation}
 use Rattle.dwarf_operations.specs.declared.op.Operation.TheVariants.{Address, UnsignedConstant, SignedConstant, Pick, Drop, Swap, Rot, Abs, And, Div, Minus, Mod, Mul, Neg, Not, Or, Plus, PlusConstant, Shl, Shr, Shra, Xor, Bra, Eq, Ge, Gt, Le, Lt, Ne, Skip, RegisterOffset, Nop}
 
--- how operands are read, and what operation they make
-abbrev pub Operands : Type 0
-Operands = Stretch → Result (Operation × Stretch) Error
+-- the number of an opcode
+abbrev pub opcode_number : DwOp → ℕ
+opcode_number opcode = opcode.0
 
--- one operand of this form
-abbrev pub one : {A : Type 0} → (Stretch → Result (A × Stretch) Error) → (A → Operation) → Operands
-one operand operation s = do
-  value ← operand s
-  Ok (operation value.0, value.1)
-
--- an offset to a register's value (2.5.1.2)
-abbrev pub offset_of : ℕ → Operands
+-- a register's value plus an offset, which is the operand (2.5.1.2)
+abbrev pub offset_of : ℕ → Parse Operation
 offset_of register s = one signed_at (RegisterOffset (record { 0 = register })) s
 
--- a register, and an offset to its value
-abbrev pub register_and_offset : Operands
+-- a register's value plus an offset, both operands (2.5.1.2)
+abbrev pub register_and_offset : Parse Operation
 register_and_offset s = do
   register ← unsigned_16_at s
   offset_of register.0 register.1
 
--- the table of operations with operands; an address has this size in bytes
-abbrev pub with_operands : ℕ → List (DwOp × Operands)
+-- the operations with operands; an address has this size in bytes
+abbrev pub with_operands : ℕ → List (DwOp × Parse Operation)
 with_operands size =
     (DW_OP_addr, one (address_at size) Address)
     ∷ (DW_OP_const1u, one byte_at UnsignedConstant)
@@ -55,7 +50,7 @@ with_operands size =
     ∷ (DW_OP_bregx, register_and_offset)
     ∷ []
 
--- the table of those without operands
+-- the operations without operands
 abbrev pub without_operands : List (DwOp × Operation)
 without_operands =
     (DW_OP_dup, Pick 0)
@@ -86,39 +81,35 @@ without_operands =
     ∷ (DW_OP_nop, Nop)
     ∷ []
 
--- what a table has for an opcode
-abbrev pub look_up : {A : Type 0} → ℕ → List (DwOp × A) → Option A
-look_up opcode [] = None
-look_up opcode ((code, x) ∷ rows) = if opcode == code.0 then Some x else look_up opcode rows
-
--- the operation that the tables have, if they have one
-abbrev pub listed_operation : Option Operands → Option Operation → Operands
+-- an operation by its row in either table, if it has one
+abbrev pub listed_operation : Option (Parse Operation) → Option Operation → Parse Operation
 listed_operation (Some operands) plain s = operands s
 listed_operation None (Some operation) s = Ok (operation, s)
 listed_operation None None s = Err UnsupportedEvaluation
 
--- the operation that the tables have for an opcode
-abbrev pub tabled_operation : ℕ → ℕ → Operands
-tabled_operation size opcode = listed_operation (look_up opcode (with_operands size)) (look_up opcode without_operands)
+-- the operation of an opcode that is in one of the tables
+abbrev pub tabled_operation : ℕ → ℕ → Parse Operation
+tabled_operation size opcode =
+    listed_operation (look_up opcode_number opcode (with_operands size)) (look_up opcode_number opcode without_operands)
 
 -- the opcode is one of those from first to last
 abbrev pub is_between : DwOp → DwOp → ℕ → Bool
 is_between first last opcode = nat_le first.0 opcode && nat_le opcode last.0
 
--- the operation that an opcode says, with the operands behind it: DW_OP_lit0 to DW_OP_lit31 are numbers, DW_OP_breg0 to
--- DW_OP_breg31 registers, and all others stand in the tables
-abbrev pub operation_by : ℕ → ℕ → Operands
+-- the operation of an opcode, with the operands after it: DW_OP_lit0 to DW_OP_lit31 are numbers, DW_OP_breg0 to DW_OP_breg31
+-- registers, and all others are in the tables
+abbrev pub operation_by : ℕ → ℕ → Parse Operation
 operation_by size opcode s =
     if is_between DW_OP_lit0 DW_OP_lit31 opcode then Ok (UnsignedConstant (opcode - DW_OP_lit0.0), s)
     else if is_between DW_OP_breg0 DW_OP_breg31 opcode then offset_of (opcode - DW_OP_breg0.0) s
     else tabled_operation size opcode s
 
--- the first operation, and what is left behind it
-abbrev pub operation_at : ℕ → Operands
+-- the first operation, and what is left after it
+abbrev pub operation_at : ℕ → Parse Operation
 operation_at size s = do
   opcode ← byte_at s
   operation_by size opcode.0 opcode.1
 
--- the operations of a stretch, in their order; a fault is the last
+-- the operations of a stretch, in the order of their bytes; an error is the last
 unfoldable pub operations_of : ℕ → Stretch → List (Result Operation Error)
 operations_of size s = items_of size_of (item_at (operation_at size)) s

@@ -3,8 +3,9 @@
 ghost use Rattle.std.specs.Prelude.{◌≡◌, List, Result};
 ghost use Rattle.list_laws.specs.Items.{GivesNext};
 ghost use Rattle.dwarf_constants.specs.declared.error.Error.{Error};
-ghost use Rattle.dwarf_readers.specs.Place.{Reads};
-ghost use Rattle.dwarf_operations.specs.Operations.{look_up, operation_at, operations_of, operation_by, tabled_operation, without_operands};
+ghost use Rattle.dwarf_readers.specs.Operands.{look_up};
+ghost use Rattle.dwarf_readers.specs.Stretch.{Reads};
+ghost use Rattle.dwarf_operations.specs.Operations.{opcode_number, operation_at, operations_of, operation_by, tabled_operation, without_operands};
 ghost use Rattle.dwarf_operations.specs.declared.op.Operation.{Operation};
 
 use dwarf_constants::constants::*;
@@ -12,25 +13,25 @@ use dwarf_constants::{Encoding, Error, Register, Result};
 use dwarf_readers::Reader;
 use std::marker::Model;
 
-/// An operation of an expression (DWARF 5, 2.5), its operands as they are encoded. The values of the
-/// stack are counted from its top, which is 0.
+/// An operation of an expression (DWARF 5, 2.5), its operands as they are encoded. The top of the
+/// stack has index 0.
 #[derive(Debug, Clone, Copy, PartialEq, Eq)]
 pub enum Operation {
-    /// An address of the program. It is read, and not evaluated.
+    /// An address of the program. It can be read, and not evaluated.
     Address { address: u64 },
-    /// Puts a number on the stack, a literal too.
+    /// Pushes a number, also that of a literal.
     UnsignedConstant { value: u64 },
-    /// Puts a signed number on the stack.
+    /// Pushes a signed number.
     SignedConstant { value: i64 },
-    /// Puts a copy of the value at `index` on the stack: 0 of `DW_OP_dup`, 1 of `DW_OP_over`.
+    /// Pushes a copy of the value at `index`, which is 0 for `DW_OP_dup` and 1 for `DW_OP_over`.
     Pick { index: u8 },
-    /// Takes the top away.
+    /// Pops the top.
     Drop,
     /// Exchanges the top and the value below it.
     Swap,
     /// Moves the top below the two values under it.
     Rot,
-    /// The magnitude of the top, which is taken as signed.
+    /// The magnitude of the top, as a signed value.
     Abs,
     And,
     /// The signed quotient, rounded toward 0.
@@ -52,8 +53,7 @@ pub enum Operation {
     /// Shifts to the right, and fills with the sign.
     Shra,
     Xor,
-    /// Takes the top away, and where it isn't 0 goes on at `target`, in bytes from the operation's
-    /// end.
+    /// Pops the top, and if it isn't 0 goes on at `target`, in bytes from the operation's end.
     Bra { target: i16 },
     Eq,
     Ge,
@@ -63,15 +63,15 @@ pub enum Operation {
     Ne,
     /// Goes on at `target`, in bytes from the operation's end.
     Skip { target: i16 },
-    /// Puts a register's value plus an offset on the stack.
+    /// Pushes a register's value plus an offset.
     RegisterOffset { register: Register, offset: i64 },
     Nop,
 }
 
 impl Operation {
-    /// Reads the operation that the bytes begin with, and leaves what stands behind it. Fails with
-    /// `UnsupportedEvaluation` where the opcode isn't one of an operation on values without a type,
-    /// and else where an operand can't be read.
+    /// Reads the operation that the bytes begin with, and leaves what is after it. Fails with
+    /// `UnsupportedEvaluation` if the opcode isn't that of an operation on values without a type, and
+    /// if an operand can't be read.
     #[inline(always)]
     pub fn parse<R: Reader>(bytes: &mut R, encoding: Encoding) -> Result<Operation>
         ensures { Reads result (operation_at encoding.address_size (R.stretch bytes.old))
@@ -81,7 +81,7 @@ impl Operation {
         Operation::parse_operands(opcode, bytes, encoding)
     }
 
-    /// Reads the operands that stand behind an opcode.
+    // Reads the operands after an opcode.
     #[inline(always)]
     fn parse_operands<R: Reader>(opcode: u8, bytes: &mut R, encoding: Encoding) -> Result<Operation>
         ensures { Reads result (operation_by encoding.address_size opcode (R.stretch bytes.old))
@@ -99,7 +99,7 @@ impl Operation {
         Operation::parse_listed(opcode, bytes, encoding)
     }
 
-    /// Reads the operands behind an opcode that stands by itself, if it has any.
+    // Reads the operands after an opcode that is in a table of operations.
     #[inline(always)]
     fn parse_listed<R: Reader>(opcode: u8, bytes: &mut R, encoding: Encoding) -> Result<Operation>
         ensures { Reads result (tabled_operation encoding.address_size opcode (R.stretch bytes.old))
@@ -164,10 +164,10 @@ impl Operation {
         Ok(operation)
     }
 
-    /// The operation without operands that an opcode says, if it says one.
+    // The operation of an opcode without operands.
     #[inline(always)]
     fn without_operands(opcode: DwOp) -> Option<Operation>
-        ensures { result ≡ look_up opcode.0 without_operands }
+        ensures { result ≡ look_up opcode_number opcode.0 without_operands }
     {
         match opcode {
             DW_OP_dup => Some(Operation::Pick { index: 0 }),
@@ -206,7 +206,7 @@ impl Operation {
 pub struct Expression<R>(pub R);
 
 impl<R: Reader> Expression<R> {
-    /// The operations in the order of their bytes, which isn't the order that they run in.
+    /// The operations in the order of their bytes. An evaluation may run them in another order.
     pub fn operations(self, encoding: Encoding) -> OperationIter<R>
         ensures { result ≡ operations_of encoding.address_size (R.stretch self.0) }
     {
@@ -232,7 +232,7 @@ impl<R: Reader> Model for OperationIter<R> {
 }
 
 impl<R: Reader> OperationIter<R> {
-    /// The next operation, or nothing behind the last. After an error it answers only `Ok(None)`.
+    /// The next operation, or `None` after the last. After an error it returns only `Ok(None)`.
     #[inline(always)]
     pub fn next(&mut self) -> Result<Option<Operation>>
         ensures { GivesNext (λ operation. operation) result self.old self.new }

@@ -3,7 +3,7 @@ use Rattle.std.proofs.Common.{◌≡◌, ℕ, ◌+◌, ◌-◌, [], length, ◌=
 use Rattle.dwarf_constants.specs.declared.error.Error.{Error}
 use Rattle.dwarf_read_core.specs.AddressSets.{AddressSet, addresses_at, next_address, set_at, next_set, set_behind, set_step, sets_left}
 use Rattle.dwarf_readers.specs.InitialLength.{address_at}
-use Rattle.dwarf_readers.specs.Place.{Stretch}
+use Rattle.dwarf_readers.specs.Stretch.{Stretch}
 use Rattle.dwarf_readers.specs.Remainder.{Takes, size_of}
 use Rattle.dwarf_readers.proofs.Laws.{address_takes_one, initial_length_takes, item_takes, items_shrink, leaves_from, leaves_none, leaves_ok, leaves_then, split_takes}
 use Rattle.list_laws.specs.Items.{GivesNext, LeavesNone, Shrinks, step_taken}

@@ -20,7 +20,7 @@ use Rattle.dwarf_readers.specs.InitialLength.{address_at, initial_length_at, wor
 use Rattle.dwarf_readers.specs.Leb128.{signed_at, unsigned_16_at, unsigned_at}
 use Rattle.dwarf_readers.specs.More.{IsSteady, IsSteadyMove, IsSteadySearch, Stays, StaysAs, extended_stretch}
 use Rattle.dwarf_endianity.specs.Offset.{offset_below}
-use Rattle.dwarf_readers.specs.Place.{Stretch, ◌>>=◌, behind, behind_at, byte_at, end_of, ends_at, prefix_at, requirement, split_at, string_at}
+use Rattle.dwarf_readers.specs.Stretch.{Stretch, ◌>>=◌, behind, behind_at, byte_at, end_of, ends_at, prefix_at, requirement, split_at, string_at}
 use Rattle.dwarf_readers.proofs.Laws.{address_steady, behind_steady, byte_steady, cond_stays, front_steady, given_stays, initial_length_steady, refusal_stays, signed_steady, split_steady, steady_then, string_steady, then_stays, then_stays_as, unsigned_16_steady, unsigned_steady, value_stays, word_steady}
 
 -- the value alone of a read
@@ -179,4 +179,4 @@ table_behind true e s more after same = λ lasting. rw (same lasting) refl
 table_behind false e s more after same = rw same (table_stays more s)
 
 pub table_in_stays : (offset : ℕ) (more : List ℕ) (section : Stretch) → StaysIf (IsTrue (is_closed_in offset section)) (table_in offset section) (table_in offset (extended_stretch more section))
-table_in_stays offset more section = table_behind (nat_lt (length section.bytes) offset) (ends_at section.place) (behind offset section) more (behind_at offset (extended_stretch more section)) (behind_steady offset more section)
+table_in_stays offset more section = table_behind (nat_lt (length section.bytes) offset) (ends_at section.offset) (behind offset section) more (behind_at offset (extended_stretch more section)) (behind_steady offset more section)

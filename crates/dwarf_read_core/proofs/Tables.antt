@@ -3,7 +3,7 @@ use Rattle.std.proofs.Common.{◌≡◌, ℕ, zero, suc, ◌+◌, ◌<◌, ◌�
 use Rattle.dwarf_constants.specs.declared.error.Error.{Error}
 use Rattle.dwarf_constants.specs.declared.error.Error.TheVariants.{AbbreviationTagZero}
 use Rattle.dwarf_read_core.specs.AbbreviationTable.{Attribute, Declaration, attribute_at, attribute_of, attributes_at, attributes_within, children_at, children_of, declaration_of, next_declaration, next_of, table_at, table_of, tag_at, with_declaration}
-use Rattle.dwarf_readers.specs.Place.{Stretch, ◌>>=◌, requirement}
+use Rattle.dwarf_readers.specs.Stretch.{Stretch, ◌>>=◌, requirement}
 use Rattle.dwarf_readers.specs.Remainder.{Takes, TakesItem, size_of}
 use Rattle.dwarf_readers.proofs.Laws.{byte_takes, items_shrink, leaves_err, leaves_from, leaves_if, leaves_none, leaves_ok, leaves_then, signed_takes, unsigned_16_takes, unsigned_takes}
 use Rattle.list_laws.specs.Items.{Shrinks, items_from, items_of}

@@ -5,7 +5,7 @@ use Rattle.dwarf_constants.specs.declared.error.Error.TheVariants.{AbbreviationT
 use Rattle.dwarf_constants.specs.declared.constants.TheConstants.{DW_CHILDREN_no, DW_CHILDREN_yes}
 use Rattle.dwarf_constants.specs.declared.constants.form.TheConstants.{DW_FORM_implicit_const}
 use Rattle.dwarf_readers.specs.Leb128.{signed_at, unsigned_16_at, unsigned_at}
-use Rattle.dwarf_readers.specs.Place.{Stretch, ◌>>=◌, behind_at, byte_at, end_of, ends_at, requirement}
+use Rattle.dwarf_readers.specs.Stretch.{Stretch, ◌>>=◌, behind_at, byte_at, end_of, ends_at, requirement}
 use Rattle.dwarf_readers.specs.Remainder.{size_of}
 use Rattle.list_laws.specs.Items.{Answer, items_of}
 
@@ -23,7 +23,7 @@ pub record Declaration : Type 0 where
   pub children : Bool
   pub attributes : List Attribute
 
--- the attribute of this name and form, whose value stands behind it for DW_FORM_implicit_const
+-- the attribute of this name and form; the value of DW_FORM_implicit_const follows
 abbrev pub attribute_of : ℕ → ℕ × Stretch → Result (Option Attribute × Stretch) Error
 attribute_of name form =
     if form.0 == DW_FORM_implicit_const.0 then (do
@@ -39,13 +39,13 @@ attribute_at s = do
   if name.0 == 0 then (if form.0 == 0 then Ok (None, form.1) else Err AttributeNameZero)
       else (if form.0 == 0 then Err AttributeFormZero else attribute_of name.0 form)
 
--- what is next, if anything: the end answers one way, and an item goes on another way
+-- one answer at the end, and another by the next item
 abbrev pub next_of : {A B : Type 0} → (Stretch → Result B Error) → (A → Stretch → Result B Error)
     → Option A → Stretch → Result B Error
 next_of end item None s = end s
 next_of end item (Some a) s = item a s
 
--- the attributes before the pair of zeros behind those seen, in at most n steps
+-- the attributes seen and those before the pair of zeros, in at most n steps
 abbrev pub attributes_within : ℕ → List Attribute → Stretch
     → Result (List Attribute × Stretch) Error
 attributes_within zero seen s = Err (ends_at (end_of s))
@@ -97,7 +97,7 @@ coded_declaration s = do
     declaration ← declaration_of code.0 code.1
     Ok (Some declaration))
 
--- the next declaration, or none at code 0 or where the bytes end
+-- the next declaration, or none at code 0 or at the end of the bytes
 abbrev pub next_declaration : Stretch → Answer Stretch Declaration Error
 next_declaration s = if length s.bytes == 0 then Ok None else coded_declaration s
 
@@ -112,7 +112,7 @@ with_declaration table d = do
   _ ← requirement (not (has_code d.code table)) (DuplicateAbbreviationCode d.code)
   Ok (table ++ d ∷ [])
 
--- the table that these make behind the declarations seen, up to the first refusal
+-- the table of the declarations seen and of these, up to the first error
 abbrev pub table_of : List Declaration → List (Result Declaration Error)
     → Result (List Declaration) Error
 table_of seen [] = Ok seen
@@ -134,7 +134,7 @@ abbrev pub declaration_for : ℕ → List Declaration → Option Declaration
 declaration_for code [] = None
 declaration_for code (d ∷ ds) = if d.code == code then Some d else declaration_for code ds
 
--- the place of a code's declaration among these, counted from 0
+-- the index of a code's declaration among these
 abbrev pub place_among : ℕ → List Declaration → Option ℕ
 place_among code [] = None
 place_among code (d ∷ ds) = if d.code == code then Some 0 else option_map suc (place_among code ds)
@@ -143,7 +143,7 @@ place_among code (d ∷ ds) = if d.code == code then Some 0 else option_map suc 
 abbrev pub is_among_first : ℕ → ℕ → Bool
 is_among_first code n = nat_le 1 code && nat_le code n
 
--- what a read returned is this answer, unless memory ran out
+-- What a read returned is this answer, unless there was no memory.
 abbrev pub GivesOrMemory : {X Y : Type 0} → (X → Y) → Result X Error → Result Y Error → Type 0
 GivesOrMemory view (Ok x) answer = answer ≡ Ok (view x)
 GivesOrMemory view (Err e) answer = (answer ≡ Err e) ⊎ (e ≡ OutOfMemory)

@@ -1,4 +1,4 @@
--- What abbreviations in memory stand for.
+-- Abbreviations in memory, as their declarations.
 use Rattle.std.specs.Prelude.{◌==◌, map, Some, None, if◌then◌else◌}
 use Rattle.dwarf_constants.specs.declared.constants.form.TheConstants.{DW_FORM_implicit_const}
 use Rattle.dwarf_read_core.specs.AbbreviationTable.{Attribute, Declaration}

@@ -1,18 +1,19 @@
 -- What caches of abbreviation tables keep.
-use Rattle.std.specs.Prelude.{ℕ, ◌==◌, ◌≡◌, Bool, true, unwrap_or, List, Option, Some, None, Result, Ok, Err, count_by, if◌then◌else◌, nat_le, option_map}
+use Rattle.std.specs.Prelude.{ℕ, ◌==◌, ◌≡◌, Bool, true, unwrap_or, List, Option, Some, None, Result, Ok, Err, count_by, if◌then◌else◌, map, nat_le, option_map}
 use Rattle.std.specs.BTreeMap.{get}
 use Rattle.std.specs.Ordering.{nat_cmp}
 use Rattle.std.specs.declared.rc.Rc.{Rc}
 use Rattle.dwarf_constants.specs.declared.error.Error.{Error}
+use Rattle.dwarf_offsets.specs.declared.DebugAbbrevOffset.{DebugAbbrevOffset}
 use Rattle.dwarf_read_core.specs.AbbreviationTable.{Declaration, table_in}
 use Rattle.dwarf_read_core.specs.DebugAbbrev.{declarations}
 use Rattle.dwarf_read_core.specs.declared.abbrev.Abbreviations.{Abbreviations}
 use Rattle.dwarf_read_core.specs.declared.abbrev.cache.AbbreviationsCache.{AbbreviationsCache}
 use Rattle.dwarf_read_core.specs.declared.abbrev.cache.AbbreviationsCacheStrategy.{AbbreviationsCacheStrategy}
 use Rattle.dwarf_read_core.specs.declared.abbrev.cache.AbbreviationsCacheStrategy.TheVariants.{All, Duplicates}
-use Rattle.dwarf_readers.specs.Place.{Stretch}
+use Rattle.dwarf_readers.specs.Stretch.{Stretch}
 
--- the answer that a table or an error is
+-- a table in memory as its declarations, or an error
 abbrev pub table_answer : {Z : Type 0} → Result (Rc Abbreviations Z) Error
     → Result (List Declaration) Error
 table_answer (Ok table) = Ok (declarations table.value)
@@ -32,16 +33,22 @@ abbrev pub is_kept : AbbreviationsCacheStrategy → Bool → Bool
 is_kept Duplicates again = again
 is_kept All again = true
 
--- what is kept for an offset where these came: the section's answer, if the offset came often enough
+-- what is kept for an offset after these came: the section's answer, if the offset came often enough
 abbrev pub populated_answer : AbbreviationsCacheStrategy → List ℕ → Stretch → ℕ
     → Option (Result (List Declaration) Error)
 populated_answer strategy came section offset =
     if nat_le (least_count strategy) (count_by (λ o. o == offset) came) then Some (table_in offset section)
     else None
 
--- what a cache answers for an offset: what it keeps, or else what the section says
+-- the answer of a cache for an offset: what it keeps, or else what the section has
 abbrev pub cached_answer : AbbreviationsCache → Stretch → ℕ → Result (List Declaration) Error
 cached_answer cache section offset = unwrap_or (kept_answer cache offset) (table_in offset section)
+
+-- A cache keeps what is kept after these offsets came, whose numbers are their values.
+abbrev pub KeepsPopulated : {O : Type 0} → (value : O → ℕ) → AbbreviationsCacheStrategy → List (DebugAbbrevOffset O)
+    → Stretch → AbbreviationsCache → Type 0
+KeepsPopulated value strategy came section cache = (offset : ℕ)
+    → kept_answer cache offset ≡ populated_answer strategy (map (λ o. value o.0) came) section offset
 
 -- Both caches keep the same.
 abbrev pub KeepsSame : AbbreviationsCache → AbbreviationsCache → Type 0

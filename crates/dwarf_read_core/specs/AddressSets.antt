@@ -5,7 +5,7 @@ use Rattle.dwarf_constants.specs.declared.common.Format.{Format}
 use Rattle.dwarf_constants.specs.declared.error.Error.{Error}
 use Rattle.dwarf_constants.specs.declared.error.Error.TheVariants.{UnknownVersion, UnsupportedSegmentSize}
 use Rattle.dwarf_readers.specs.InitialLength.{address_at, address_size_at, initial_length_at}
-use Rattle.dwarf_readers.specs.Place.{Stretch, ◌>>=◌, byte_at, requirement, number_at, split_at}
+use Rattle.dwarf_readers.specs.Stretch.{Stretch, ◌>>=◌, byte_at, requirement, number_at, split_at}
 use Rattle.dwarf_readers.specs.Remainder.{item_at, size_of}
 use Rattle.list_laws.specs.Items.{Answer, items_of}
 
@@ -16,7 +16,7 @@ pub record AddressSet : Type 0 where
   pub encoding : Encoding
   pub addresses : Stretch
 
--- how the addresses of a set of this format are encoded
+-- the encoding of the addresses in a set of this format
 abbrev pub set_encoding_at : Format → Stretch → Result (Encoding × Stretch) Error
 set_encoding_at format s = do
   version ← number_at 2 s
@@ -26,13 +26,13 @@ set_encoding_at format s = do
   _ ← requirement (segment.0 == 0) UnsupportedSegmentSize
   Ok (record { address_size = size.0; format = format; version = version.0 }, segment.1)
 
--- what stands in a set behind its length
+-- the encoding and the addresses of a set, which follow its length
 abbrev pub set_behind : ℕ → ℕ → Format → Stretch → Result AddressSet Error
 set_behind offset length format s = do
   encoding ← set_encoding_at format s
   Ok (record { offset = offset; length = length; encoding = encoding.0; addresses = encoding.1 })
 
--- the set at this offset, and what is left behind it
+-- the set at this offset, and what is left after it
 abbrev pub set_at : ℕ → ℕ → Stretch → Result (AddressSet × Stretch) Error
 set_at limit offset s = do
   length ← initial_length_at limit s
@@ -48,11 +48,11 @@ next_set limit offset s = item_at (set_at limit offset) s
 abbrev pub next_address : ℕ → Stretch → Answer Stretch ℕ Error
 next_address size s = item_at (address_at size) s
 
--- the next set of a section that is so long: its offset is what stands before it
+-- the next set of a section of this length: its offset is the length of what is before it
 abbrev pub set_step : ℕ → ℕ → Stretch → Answer Stretch AddressSet Error
 set_step limit size s = next_set limit (size - length s.bytes) s
 
--- the sets that are left of a section that is so long, up to the first fault
+-- the sets that are left of a section of this length, up to the first error
 unfoldable pub sets_left : ℕ → ℕ → Stretch → List (Result AddressSet Error)
 sets_left limit size s = items_of size_of (set_step limit size) s
 
@@ -60,7 +60,7 @@ sets_left limit size s = items_of size_of (set_step limit size) s
 abbrev pub sets_in : ℕ → Stretch → List (Result AddressSet Error)
 sets_in limit section = sets_left limit (length section.bytes) section
 
--- the addresses of this size, up to the first fault
+-- the addresses of this size, up to the first error
 unfoldable pub addresses_at : ℕ → Stretch → List (Result ℕ Error)
 addresses_at size s = items_of size_of (next_address size) s
 

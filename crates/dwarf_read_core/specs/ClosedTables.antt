@@ -3,7 +3,7 @@ use Rattle.std.specs.Prelude.{◌≡◌, ℕ, length, ◌==◌, ◌&&◌, Bool, 
 use Rattle.dwarf_constants.specs.declared.error.Error.{Error}
 use Rattle.dwarf_read_core.specs.AbbreviationTable.{next_declaration}
 use Rattle.dwarf_readers.specs.More.{IsLasting}
-use Rattle.dwarf_readers.specs.Place.{Stretch, behind}
+use Rattle.dwarf_readers.specs.Stretch.{Stretch, behind}
 use Rattle.dwarf_readers.specs.Remainder.{size_of}
 use Rattle.list_laws.specs.Items.{Answer, rest_of}
 
@@ -13,11 +13,11 @@ is_end (Ok None) = true
 is_end (Ok (Some item)) = false
 is_end (Err fault) = false
 
--- code 0 stands at a stretch's start
+-- a stretch begins with code 0
 abbrev pub is_code_0 : Stretch → Bool
 is_code_0 s = not (length s.bytes == 0) && is_end (next_declaration s)
 
--- code 0 closes the table at a stretch's start: it stands behind the last declaration
+-- code 0 closes the table at a stretch's start: it follows the last declaration
 unfoldable pub is_closed_at : Stretch → Bool
 is_closed_at s = is_code_0 (rest_of size_of next_declaration s)
 
@@ -25,7 +25,7 @@ is_closed_at s = is_code_0 (rest_of size_of next_declaration s)
 abbrev pub is_closed_in : ℕ → Stretch → Bool
 is_closed_in offset section = is_closed_at (behind offset section)
 
--- An answer stays where this holds, and a refusal stays unless it was that the bytes end.
+-- An answer stays if this holds, and an error stays unless it was that the bytes end.
 abbrev pub StaysIf : {A : Type 0} → Type 0 → Result A Error → Result A Error → Type 0
 StaysIf Condition (Ok x) after = Condition → after ≡ Ok x
 StaysIf Condition (Err e) after = IsLasting e → after ≡ Err e

@@ -1,4 +1,4 @@
--- What tables of abbreviations in memory stand for.
+-- Tables of abbreviations in memory, as their declarations.
 use Rattle.std.specs.Prelude.{List, map}
 use Rattle.dwarf_read_core.specs.AbbreviationTable.{Declaration}
 use Rattle.dwarf_read_core.specs.Abbreviations.{declaration}

@@ -14,33 +14,33 @@ among form (f ∷ fs) = if form == f.0 then true else among form fs
 abbrev pub forms_of_0 : List DwForm
 forms_of_0 = DW_FORM_flag_present ∷ DW_FORM_implicit_const ∷ []
 
--- .. one byte
+-- the forms of values of one byte
 abbrev pub forms_of_1 : List DwForm
 forms_of_1 = DW_FORM_data1 ∷ DW_FORM_flag ∷ DW_FORM_ref1 ∷ DW_FORM_strx1 ∷ DW_FORM_addrx1 ∷ []
 
--- .. two
+-- the forms of values of two bytes
 abbrev pub forms_of_2 : List DwForm
 forms_of_2 = DW_FORM_data2 ∷ DW_FORM_ref2 ∷ DW_FORM_strx2 ∷ DW_FORM_addrx2 ∷ []
 
--- .. three
+-- the forms of values of three bytes
 abbrev pub forms_of_3 : List DwForm
 forms_of_3 = DW_FORM_strx3 ∷ DW_FORM_addrx3 ∷ []
 
--- .. four
+-- the forms of values of four bytes
 abbrev pub forms_of_4 : List DwForm
 forms_of_4 = DW_FORM_data4 ∷ DW_FORM_ref4 ∷ DW_FORM_ref_sup4 ∷ DW_FORM_strx4 ∷ DW_FORM_addrx4 ∷ []
 
--- .. eight
+-- the forms of values of eight bytes
 abbrev pub forms_of_8 : List DwForm
 forms_of_8 = DW_FORM_data8 ∷ DW_FORM_ref8 ∷ DW_FORM_ref_sig8 ∷ DW_FORM_ref_sup8 ∷ []
 
--- the forms of values that are offsets, as long as the format has them
+-- the forms of values that are offsets of the format's size
 abbrev pub forms_of_offsets : List DwForm
 forms_of_offsets =
     DW_FORM_strp ∷ DW_FORM_sec_offset ∷ DW_FORM_strp_sup ∷ DW_FORM_line_strp
     ∷ DW_FORM_GNU_ref_alt ∷ DW_FORM_GNU_strp_alt ∷ []
 
--- of the forms whose size is always the same
+-- the size of a form's values in bytes, if it is always the same
 abbrev pub fixed_size : ℕ → Option ℕ
 fixed_size form =
     if among form forms_of_0 then Some 0
@@ -51,7 +51,8 @@ fixed_size form =
     else (if among form forms_of_8 then Some 8
     else (if form == DW_FORM_data16.0 then Some 16 else None))))))
 
--- of all forms; DW_FORM_ref_addr has an address's size in version 2, and an offset's after it
+-- the size of a form's values in bytes, if the form decides it; DW_FORM_ref_addr has an address's size in version 2, and then
+-- an offset's
 abbrev pub form_size : Encoding → ℕ → Option ℕ
 form_size e form =
     if form == DW_FORM_addr.0 then Some e.address_size

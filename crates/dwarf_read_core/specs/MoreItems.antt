@@ -2,10 +2,10 @@
 use Rattle.std.specs.Prelude.{List, ℕ, option_map}
 use Rattle.dwarf_constants.specs.declared.error.Error.{Error}
 use Rattle.dwarf_readers.specs.More.{StaysAs, extended_stretch}
-use Rattle.dwarf_readers.specs.Place.{Stretch}
+use Rattle.dwarf_readers.specs.Stretch.{Stretch}
 use Rattle.list_laws.specs.Items.{Answer}
 
--- The next item stays, and more bytes follow what is left behind it.
+-- The next item stays, and more bytes follow what is left after it.
 abbrev pub StaysNext : {A : Type 0} → List ℕ → Answer Stretch A Error → Answer Stretch A Error
     → Type 0
 StaysNext more before after =

@@ -1,11 +1,11 @@
--- Strings, string offsets and addresses, found by their place in a section.
+-- Strings, string offsets and addresses, found by their offset in a section.
 use Rattle.std.specs.Prelude.{ℕ, ◌+◌, ◌*◌, Result, Ok}
 use Rattle.dwarf_constants.specs.Format.{word_size}
 use Rattle.dwarf_constants.specs.declared.common.Format.{Format}
 use Rattle.dwarf_constants.specs.declared.error.Error.{Error}
 use Rattle.dwarf_readers.specs.InitialLength.{address_at, word_at}
 use Rattle.dwarf_endianity.specs.Offset.{offset_below}
-use Rattle.dwarf_readers.specs.Place.{Stretch, ◌>>=◌, behind_at, prefix_at, string_at}
+use Rattle.dwarf_readers.specs.Stretch.{Stretch, ◌>>=◌, behind_at, prefix_at, string_at}
 
 -- a part of a section, by its offset and its size
 abbrev pub range_in : ℕ → ℕ → Stretch → Result Stretch Error
@@ -20,7 +20,7 @@ string_in offset section = do
   string ← string_at s
   Ok string.0
 
--- what is left behind the base and so many entries of this size, where that offset is below the limit
+-- what is left after the base and n entries of this size; an error if its offset isn't below the limit
 abbrev pub behind_entries : ℕ → ℕ → ℕ → ℕ → Stretch → Result Stretch Error
 behind_entries limit base index size section = do
   offset ← offset_below limit (base + index * size)

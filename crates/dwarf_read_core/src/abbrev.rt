@@ -1,4 +1,4 @@
-//! `.debug_abbrev`.
+//! `.debug_abbrev` (DWARF 5, 7.5.3).
 
 ghost use Rattle.std.specs.Prelude.{◌≡◌, ◌≤◌, ◌<◌, ◌+◌, ◌-◌, ◌==◌, ◌↔◌, ◌⊎◌, [], ℕ, false, if◌then◌else◌, IsSome, Some, None, Ok, Err, IfOk, IfErr, OnErr, OnOk, length, map, option_map};
 ghost use Rattle.std.specs.BTreeMap.{get};
@@ -8,7 +8,7 @@ ghost use Rattle.dwarf_constants.specs.declared.error.Error.TheVariants as error
 ghost use Rattle.dwarf_read_core.specs.AbbreviationTable.{GivesOrMemory, attribute_at, attributes_at, children_at, declaration_of, declaration_for, has_code, is_among_first, next_declaration, place_among, table_at, table_in, tag_at, with_declaration};
 ghost use Rattle.dwarf_read_core.specs.Abbreviations.{attribute, declaration};
 ghost use Rattle.dwarf_read_core.specs.Forms.{fixed_size, form_size};
-ghost use Rattle.dwarf_readers.specs.Place.{Reads, ReadsAs};
+ghost use Rattle.dwarf_readers.specs.Stretch.{Reads, ReadsAs};
 
 mod cache;
 
@@ -40,7 +40,7 @@ pub struct AttributeSpecification {
 }
 
 impl AttributeSpecification {
-    /// An attribute of this name and form. A value is given exactly for `DW_FORM_implicit_const`.
+    /// An attribute of this name and form, with a value exactly for `DW_FORM_implicit_const`.
     pub fn new(name: u16, form: DwForm, implicit_const_value: Option<i64>) -> AttributeSpecification
         requires { IsSome implicit_const_value ↔ (form.0 ≡ DW_FORM_implicit_const.0) }
         ensures { attribute result
@@ -60,7 +60,7 @@ impl AttributeSpecification {
         self.name
     }
 
-    /// How its values are spelled.
+    /// The encoding of its values.
     pub fn form(&self) -> DwForm
         ensures { result.0 ≡ (attribute self.now).form }
     {
@@ -234,7 +234,7 @@ fn read_declaration<R: Reader>(alloc: Global, input: &mut R, code: u64) -> Resul
     })
 }
 
-// Reads the next declaration, or `None` at code 0 or where the bytes end.
+// Reads the next declaration, or `None` at code 0 or at the end of the bytes.
 fn read_abbreviation<R: Reader>(alloc: Global, input: &mut R) -> Result<Option<Abbreviation>>
     ensures { GivesOrMemory (option_map (λ a. (declaration a, R.stretch input.new))) result
         (next_declaration (R.stretch input.old)) }
@@ -249,14 +249,14 @@ fn read_abbreviation<R: Reader>(alloc: Global, input: &mut R) -> Result<Option<A
     Ok(Some(read_declaration(alloc, input, code)?))
 }
 
-/// The abbreviations of a table. No two have one code.
+/// The abbreviations of a table. No two have the same code.
 #[derive(Debug, Drop)]
 pub struct Abbreviations {
     // In the section's order.
     declarations: Vec<Abbreviation>,
-    // So many first ones have the codes 1, 2, ..
+    // How many of the first have the codes 1, 2, ..
     dense: usize,
-    // The places of the others, by their codes.
+    // The indexes of the others, by their codes.
     sparse: BTreeMap<u64, usize>,
     ghost places: { (code : ℕ) → place_among code (map declaration declarations.items)
         ≡ (if is_among_first code dense then Some (code - 1) else get nat_cmp sparse code) },
@@ -266,7 +266,7 @@ impl Abbreviations {
     ghost use Rattle.std.specs.Prelude.{◌++◌, ◌∷◌, true};
     ghost use Rattle.dwarf_read_core.specs.DebugAbbrev.{declarations};
 
-    // The table of no abbreviations.
+    // A table without abbreviations.
     fn new(alloc: Global) -> Abbreviations
         ensures { declarations result ≡ [] }
     {
@@ -277,7 +277,7 @@ impl Abbreviations {
         }
     }
 
-    // Reads the table at the reader's place.
+    // Reads the table at the reader's offset.
     fn parse<R: Reader>(alloc: Global, input: &mut R) -> Result<Abbreviations>
         ensures { GivesOrMemory declarations result (table_at (R.stretch input.old)) }
     {
@@ -290,7 +290,7 @@ impl Abbreviations {
         }
     }
 
-    // The place of the abbreviation of a code.
+    // The index of the abbreviation of a code.
     fn place(&self, code: u64) -> Option<usize>
         ensures { result ≡ place_among code (declarations self.now) }
     {
@@ -307,7 +307,7 @@ impl Abbreviations {
         self.place(code).is_some()
     }
 
-    // Puts an abbreviation behind the others, if none has its code.
+    // Appends an abbreviation, if none has its code.
     fn insert(self, abbreviation: Abbreviation) -> Result<Abbreviations>
         ensures { GivesOrMemory declarations result
             (with_declaration (declarations self) (declaration abbreviation)) }
@@ -360,7 +360,7 @@ impl<R> Model for DebugAbbrev<R> {
 
 impl<'a, E: Endianity> DebugAbbrev<EndianSlice<'a, E>> {
     ghost use Rattle.dwarf_readers.specs.EndianSlice.{stretch_of};
-    ghost use Rattle.dwarf_readers.specs.Place.{whole};
+    ghost use Rattle.dwarf_readers.specs.Stretch.{whole};
 
     /// The section of these bytes.
     pub fn new(debug_abbrev_section: &'a [u8], endian: E) -> Self
@@ -374,7 +374,7 @@ impl<R: Reader> DebugAbbrev<R> {
     ghost use Rattle.dwarf_read_core.specs.DebugAbbrev.{declarations};
 
     /// The table at an offset: the declarations up to code 0 or the section's end. Fails with the
-    /// first fault.
+    /// first error.
     pub fn abbreviations(
         &self,
         alloc: Global,
@@ -392,7 +392,7 @@ impl<R: Reader> DebugAbbrev<R> {
 impl<T> DebugAbbrev<T> {
     ghost use Rattle.std.specs.Fn.{FnOnceReturnsAt, FnOnceTakesAt};
 
-    /// The section over what `borrow` makes of this one's.
+    /// The section over what `borrow` gives for this one's.
     pub fn borrow<'a, R, F: FnOnce(&'a T) -> R>(&'a self, borrow: F) -> DebugAbbrev<R>
         requires { FnOnceTakesAt F.FnOnce borrow self.now }
         ensures { FnOnceReturnsAt F.FnOnce borrow self.now result }

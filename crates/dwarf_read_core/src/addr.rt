@@ -1,10 +1,10 @@
-//! `.debug_addr`.
+//! `.debug_addr` (DWARF 5, 7.27).
 
 ghost use Rattle.std.specs.Prelude.{◌≡◌, ◌<◌, ◌+◌, ◌≤◌, length, Some, None, Ok, Err, OnOk};
 ghost use Rattle.dwarf_constants.specs.declared.common.SectionId.TheVariants as id;
 ghost use Rattle.dwarf_endianity.specs.Answers.{Gives};
 ghost use Rattle.dwarf_read_core.specs.AddressSets.{set_encoding_at};
-ghost use Rattle.dwarf_readers.specs.Place.{Reads};
+ghost use Rattle.dwarf_readers.specs.Stretch.{Reads};
 
 use crate::section::Section;
 use crate::str::entry_offset;
@@ -31,7 +31,7 @@ impl<R: Reader> DebugAddr<R> {
     ghost use Rattle.dwarf_read_core.specs.AddressSets.{sets_in};
     ghost use Rattle.dwarf_read_core.specs.Sections.{address_in};
 
-    /// The address of this index behind a base.
+    /// The address of this index from a base on.
     pub fn get_address(
         &self,
         address_size: u8,
@@ -50,7 +50,7 @@ impl<R: Reader> DebugAddr<R> {
     pub fn headers(&self) -> AddrHeaderIter<R>
         ensures { result ≡ sets_in R.Offset.limit (R.stretch self.now) }
     {
-        // Every place in the section fits the type of offsets, as its length does.
+        // Every offset in the section fits the type of offsets, as its length does.
         let _len = self.section.len();
         AddrHeaderIter {
             input: self.section,
@@ -62,7 +62,7 @@ impl<R: Reader> DebugAddr<R> {
 impl<T> DebugAddr<T> {
     ghost use Rattle.std.specs.Fn.{FnOnceReturnsAt, FnOnceTakesAt};
 
-    /// The section over what `borrow` makes of this one's.
+    /// The section over what `borrow` gives for this one's.
     pub fn borrow<'a, R, F: FnOnce(&'a T) -> R>(&'a self, borrow: F) -> DebugAddr<R>
         requires { FnOnceTakesAt F.FnOnce borrow self.now }
         ensures { FnOnceReturnsAt F.FnOnce borrow self.now result }
@@ -159,7 +159,7 @@ impl<R: Reader> Iterator for AddrHeaderIter<R> {
     }
 }
 
-// The offset behind what was read, where so many bytes were left before it and after it.
+// The offset after a read, by how many bytes were left before it and after it.
 fn offset_behind<O: ReaderOffset>(offset: O, before: O, after: O) -> O
     requires less { O.value after ≤ O.value before }
     requires fits { O.value offset + O.value before < O.limit }
@@ -171,7 +171,7 @@ fn offset_behind<O: ReaderOffset>(offset: O, before: O, after: O) -> O
     }
 }
 
-// Reads how the addresses of a set are encoded, in a set of this format.
+// Reads the encoding of the addresses in a set of this format.
 #[inline(always)]
 fn read_encoding<R: Reader>(input: &mut R, format: Format) -> Result<Encoding>
     ensures { Reads result (set_encoding_at format (R.stretch input.old)) (R.stretch input.new) }
@@ -244,7 +244,7 @@ impl<R: Reader> AddrHeader<R> {
         self.offset
     }
 
-    /// The length that the set says, in bytes.
+    /// The length of the set as its header gives it, in bytes.
     pub fn length(&self) -> R::Offset
         ensures { R.Offset.value result ≡ self.now.length }
     {

@@ -1,5 +1,5 @@
-//! Reading of DWARF sections: readers that know their place, and the tables that more than one
-//! section uses.
+//! Reading of DWARF sections: readers that know their offset, and the tables that more than one
+//! section uses. A user needs this crate alone: it re-exports the constants, offsets and readers.
 #![tactic(auto)]
 
 mod abbrev;

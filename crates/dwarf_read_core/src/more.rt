@@ -1,4 +1,4 @@
-//! What stays of an answer when more bytes follow a section: no byte behind those that decide
+//! What stays of an answer when more bytes follow a section: no byte after those that are read
 //! changes it.
 
 ghost use Rattle.std.specs.Prelude.{◌<◌, ℕ, List, length, IsTrue};
@@ -9,9 +9,9 @@ ghost use Rattle.dwarf_read_core.specs.ClosedTables.{StaysIf, is_closed_at, is_c
 ghost use Rattle.dwarf_read_core.specs.MoreItems.{StaysNext};
 ghost use Rattle.dwarf_read_core.specs.Sections.{address_in, range_in, string_in, string_offset_in};
 ghost use Rattle.dwarf_readers.specs.More.{IsSteady, IsSteadySearch, extended_stretch};
-ghost use Rattle.dwarf_readers.specs.Place.{Stretch};
+ghost use Rattle.dwarf_readers.specs.Stretch.{Stretch};
 
-/// What is found by its place in a section: strings, string offsets and addresses, and parts of the
+/// What is found by its offset in a section: strings, string offsets and addresses, and parts of the
 /// section.
 pub fn searches_stay()
     ensures string { (offset : ℕ) → IsSteadySearch (string_in offset) }
@@ -22,8 +22,8 @@ pub fn searches_stay()
     ensures range { (offset size : ℕ) → IsSteadySearch (range_in offset size) }
 {}
 
-/// Sets of addresses, and the addresses of a set (DWARF 5, 7.27). The next of them stays where bytes
-/// are left.
+/// Sets of addresses, and the addresses of a set (DWARF 5, 7.27). The next of them stays if bytes are
+/// left.
 pub fn address_sets_stay()
     ensures set { (limit offset : ℕ) → IsSteady (set_at limit offset) }
     ensures next_set { (limit offset : ℕ) (more : List ℕ) (s : Stretch) → 0 < length s.bytes

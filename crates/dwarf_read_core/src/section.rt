@@ -4,7 +4,7 @@ ghost use Rattle.std.specs.Prelude.{◌≡◌, ◌≤◌, List, ℕ, IfErr, IfOk
 ghost use Rattle.dwarf_constants.specs.Section.{dwo_section_name, section_name};
 ghost use Rattle.dwarf_constants.specs.declared.common.SectionId.{SectionId};
 ghost use Rattle.dwarf_endianity.specs.Answers.{Gives};
-ghost use Rattle.dwarf_readers.specs.Place.{place_within};
+ghost use Rattle.dwarf_readers.specs.Stretch.{relative_offset};
 
 use dwarf_constants::{ReaderOffsetId, Result, SectionId};
 use dwarf_readers::{Reader, ReaderOffset};
@@ -39,7 +39,7 @@ pub trait Section<R: Reader>: From<R> {
         Self::id().name()
     }
 
-    /// The section's name in a `.dwo` file, if it can stand in one.
+    /// The section's name in a `.dwo` file, if such a file can have it.
     final fn dwo_section_name() -> Option<&'static str>
     where
         Self: Sized,
@@ -77,13 +77,13 @@ pub trait Section<R: Reader>: From<R> {
         Ok(Self::from(reader))
     }
 
-    /// The offset of a place in this section, if the place is in it.
+    /// The offset in this section that an error names, if it is in it.
     final fn lookup_offset_id(&self, id: ReaderOffsetId) -> Option<(SectionId, R::Offset)>
     where
         Self: Sized,
         ensures which { IfSome result (λ found. found.0 ≡ which) }
         ensures offset { option_map (λ found. R.Offset.value found.1) result
-            ≡ place_within (R.stretch (section self.now)) id.0 }
+            ≡ relative_offset (R.stretch (section self.now)) id.0 }
     {
         match self.reader().lookup_offset_id(id) {
             Some(offset) => Some((Self::id(), offset)),

@@ -4,7 +4,7 @@ ghost use Rattle.std.specs.Prelude.{◌≡◌, ◌<◌, ◌+◌, ◌*◌};
 ghost use Rattle.dwarf_constants.specs.declared.common.SectionId.TheVariants as id;
 ghost use Rattle.dwarf_endianity.specs.Offset.{offset_below};
 ghost use Rattle.dwarf_endianity.specs.Answers.{Gives};
-ghost use Rattle.dwarf_readers.specs.Place.{whole};
+ghost use Rattle.dwarf_readers.specs.Stretch.{whole};
 
 use crate::section::Section;
 use dwarf_constants::{Error, Format, Result, SectionId};
@@ -54,7 +54,7 @@ impl<R: Reader> DebugStr<R> {
 impl<T> DebugStr<T> {
     ghost use Rattle.std.specs.Fn.{FnOnceReturnsAt, FnOnceTakesAt};
 
-    /// The section over what `borrow` makes of this one's.
+    /// The section over what `borrow` gives for this one's.
     pub fn borrow<'a, R, F: FnOnce(&'a T) -> R>(&'a self, borrow: F) -> DebugStr<R>
         requires { FnOnceTakesAt F.FnOnce borrow self.now }
         ensures { FnOnceReturnsAt F.FnOnce borrow self.now result }
@@ -131,7 +131,7 @@ impl<R: Reader> DebugLineStr<R> {
 impl<T> DebugLineStr<T> {
     ghost use Rattle.std.specs.Fn.{FnOnceReturnsAt, FnOnceTakesAt};
 
-    /// The section over what `borrow` makes of this one's.
+    /// The section over what `borrow` gives for this one's.
     pub fn borrow<'a, R, F: FnOnce(&'a T) -> R>(&'a self, borrow: F) -> DebugLineStr<R>
         requires { FnOnceTakesAt F.FnOnce borrow (self.now) }
         ensures { FnOnceReturnsAt F.FnOnce borrow (self.now) result }
@@ -166,7 +166,7 @@ impl<R: Reader> Section<R> for DebugLineStr<R> {
     }
 }
 
-// The offset of an entry of this size, counted from a base.
+// The offset of an entry of this size, from a base on.
 pub(crate) fn entry_offset<O: ReaderOffset>(base: O, index: O, size: u8) -> Result<O>
     ensures { Gives O.value result (offset_below O.limit (O.value base + O.value index * size)) }
 {
@@ -215,7 +215,7 @@ impl<R: Reader> DebugStrOffsets<R> {
 impl<T> DebugStrOffsets<T> {
     ghost use Rattle.std.specs.Fn.{FnOnceReturnsAt, FnOnceTakesAt};
 
-    /// The section over what `borrow` makes of this one's.
+    /// The section over what `borrow` gives for this one's.
     pub fn borrow<'a, R, F: FnOnce(&'a T) -> R>(&'a self, borrow: F) -> DebugStrOffsets<R>
         requires { FnOnceTakesAt F.FnOnce borrow self.now }
         ensures { FnOnceReturnsAt F.FnOnce borrow self.now result }

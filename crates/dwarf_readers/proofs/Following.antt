@@ -13,7 +13,7 @@ use Rattle.dwarf_readers.specs.InitialLength.{address_at, address_size_at, as_of
 use Rattle.dwarf_readers.specs.Leb128.{behind_string, leb128_within, signed_at, signed_in_range, string_of, unsigned_16_at, unsigned_32_at, unsigned_at, unsigned_below, value_behind}
 use Rattle.dwarf_readers.specs.More.{IsSteady, IsSteadyMove, IsSteadySearch, Stays, StaysAs, extended_stretch}
 use Rattle.dwarf_endianity.specs.Offset.{offset_below}
-use Rattle.dwarf_readers.specs.Place.{Stretch, ◌>>=◌, behind, behind_at, byte_at, bytes_at, count_before, end_of, ends_at, found_at, prefix, prefix_at, requirement, number_at, signed_byte_at, signed_number_at, split_at, string_at}
+use Rattle.dwarf_readers.specs.Stretch.{Stretch, ◌>>=◌, behind, behind_at, byte_at, bytes_at, count_before, end_of, ends_at, found_at, prefix, prefix_at, requirement, number_at, signed_byte_at, signed_number_at, split_at, string_at}
 use Rattle.dwarf_readers.proofs.Places.{count_before_lt}
 
 -- the same answer, whatever follows
@@ -56,8 +56,8 @@ behind_followed more n s enough = rw (drop-append-le n s.bytes more enough) refl
 pub front_followed : (more : List ℕ) (n : ℕ) (s : Stretch) → n ≤ length s.bytes → prefix n (extended_stretch more s) ≡ prefix n s
 front_followed more n s enough = rw (take-append-le n s.bytes more enough) refl
 
-behind_by : (test : Bool) (n : ℕ) (more : List ℕ) (s : Stretch) → nat_lt (length s.bytes) n ≡ test → StaysAs (extended_stretch more) (cond test (Err (ends_at s.place)) (Ok (behind n s))) (behind_at n (extended_stretch more s))
-behind_by true n more s is = λ lasting. absurd (lasting s.place refl)
+behind_by : (test : Bool) (n : ℕ) (more : List ℕ) (s : Stretch) → nat_lt (length s.bytes) n ≡ test → StaysAs (extended_stretch more) (cond test (Err (ends_at s.offset)) (Ok (behind n s))) (behind_at n (extended_stretch more s))
+behind_by true n more s is = λ lasting. absurd (lasting s.offset refl)
 behind_by false n more s is =
     let enough : n ≤ length s.bytes = grind (arith, nat_tests) in
     let test : nat_lt (length (s.bytes ++ more)) n ≡ false = grind (arith, nat_tests, length-append) in
@@ -66,8 +66,8 @@ behind_by false n more s is =
 pub behind_steady : (n : ℕ) → IsSteadyMove (behind_at n)
 behind_steady n = λ more s. behind_by (nat_lt (length s.bytes) n) n more s refl
 
-front_by : (test : Bool) (n : ℕ) (more : List ℕ) (s : Stretch) → nat_lt (length s.bytes) n ≡ test → StaysAs (λ (found : Stretch). found) (cond test (Err (ends_at s.place)) (Ok (prefix n s))) (prefix_at n (extended_stretch more s))
-front_by true n more s is = λ lasting. absurd (lasting s.place refl)
+front_by : (test : Bool) (n : ℕ) (more : List ℕ) (s : Stretch) → nat_lt (length s.bytes) n ≡ test → StaysAs (λ (found : Stretch). found) (cond test (Err (ends_at s.offset)) (Ok (prefix n s))) (prefix_at n (extended_stretch more s))
+front_by true n more s is = λ lasting. absurd (lasting s.offset refl)
 front_by false n more s is =
     let enough : n ≤ length s.bytes = grind (arith, nat_tests) in
     let test : nat_lt (length (s.bytes ++ more)) n ≡ false = grind (arith, nat_tests, length-append) in
@@ -77,14 +77,14 @@ pub front_steady : (n : ℕ) → IsSteadySearch (prefix_at n)
 front_steady n = λ more s. front_by (nat_lt (length s.bytes) n) n more s refl
 
 -- a read of n bytes, by the test of their count
-fixed_by : {A : Type 0} (test : Bool) (n : ℕ) (value : Stretch → A) (more : List ℕ) (s : Stretch) → nat_lt (length s.bytes) n ≡ test → (n ≤ length s.bytes → value (extended_stretch more s) ≡ value s) → Stays more (cond test (Err (ends_at s.place)) (Ok (value s, behind n s))) (cond (nat_lt (length (s.bytes ++ more)) n) (Err (ends_at s.place)) (Ok (value (extended_stretch more s), behind n (extended_stretch more s))))
-fixed_by true n value more s is same = λ lasting. absurd (lasting s.place refl)
+fixed_by : {A : Type 0} (test : Bool) (n : ℕ) (value : Stretch → A) (more : List ℕ) (s : Stretch) → nat_lt (length s.bytes) n ≡ test → (n ≤ length s.bytes → value (extended_stretch more s) ≡ value s) → Stays more (cond test (Err (ends_at s.offset)) (Ok (value s, behind n s))) (cond (nat_lt (length (s.bytes ++ more)) n) (Err (ends_at s.offset)) (Ok (value (extended_stretch more s), behind n (extended_stretch more s))))
+fixed_by true n value more s is same = λ lasting. absurd (lasting s.offset refl)
 fixed_by false n value more s is same =
     let enough : n ≤ length s.bytes = grind (arith, nat_tests) in
     let test : nat_lt (length (s.bytes ++ more)) n ≡ false = grind (arith, nat_tests, length-append) in
     rw (test, same enough, behind_followed more n s enough) refl
 
-fixed_stays : {A : Type 0} (n : ℕ) (value : Stretch → A) (more : List ℕ) (s : Stretch) → (n ≤ length s.bytes → value (extended_stretch more s) ≡ value s) → Stays more (cond (nat_lt (length s.bytes) n) (Err (ends_at s.place)) (Ok (value s, behind n s))) (cond (nat_lt (length (s.bytes ++ more)) n) (Err (ends_at s.place)) (Ok (value (extended_stretch more s), behind n (extended_stretch more s))))
+fixed_stays : {A : Type 0} (n : ℕ) (value : Stretch → A) (more : List ℕ) (s : Stretch) → (n ≤ length s.bytes → value (extended_stretch more s) ≡ value s) → Stays more (cond (nat_lt (length s.bytes) n) (Err (ends_at s.offset)) (Ok (value s, behind n s))) (cond (nat_lt (length (s.bytes ++ more)) n) (Err (ends_at s.offset)) (Ok (value (extended_stretch more s), behind n (extended_stretch more s))))
 fixed_stays n value more s same = fixed_by (nat_lt (length s.bytes) n) n value more s refl same
 
 first_followed : (bytes more : List ℕ) → 1 ≤ length bytes → slice_index (bytes ++ more) 0 ≡ slice_index bytes 0
@@ -168,8 +168,8 @@ value_behind_stays bad string more s (Some value) inside = rw (behind_followed m
 value_behind_stays bad string more s None inside = λ lasting. refl
 
 -- without a string the number is too long, or its bytes are missing
-missing_stays : {A : Type 0} (test : Bool) (n : ℕ) (bad : Error) (fitting : List ℕ → Option A) (more : List ℕ) (s : Stretch) → nat_lt (length s.bytes) n ≡ test → string_of (take n s.bytes) ≡ None → Stays {A = A} more (cond test (Err (ends_at (s.place + length s.bytes))) (Err bad)) (leb128_within n bad fitting (extended_stretch more s) (string_of (take n (s.bytes ++ more))))
-missing_stays true n bad fitting more s is none = λ lasting. absurd (lasting (s.place + length s.bytes) refl)
+missing_stays : {A : Type 0} (test : Bool) (n : ℕ) (bad : Error) (fitting : List ℕ → Option A) (more : List ℕ) (s : Stretch) → nat_lt (length s.bytes) n ≡ test → string_of (take n s.bytes) ≡ None → Stays {A = A} more (cond test (Err (ends_at (s.offset + length s.bytes))) (Err bad)) (leb128_within n bad fitting (extended_stretch more s) (string_of (take n (s.bytes ++ more))))
+missing_stays true n bad fitting more s is none = λ lasting. absurd (lasting (s.offset + length s.bytes) refl)
 missing_stays false n bad fitting more s is none =
     let enough : n ≤ length s.bytes = grind (arith, nat_tests) in
     let test : nat_lt (length (s.bytes ++ more)) n ≡ false = grind (arith, nat_tests, length-append) in
@@ -225,7 +225,7 @@ string_by : (more : List ℕ) (s : Stretch) (found : Option ℕ) → count_befor
 string_by more s (Some n) is =
     let inside : n < length s.bytes = count_before_lt 0 s.bytes n is in
     rw (count_followed 0 s.bytes more n is, front_followed more n s (omega arith), behind_followed more (n + 1) s (omega arith)) refl
-string_by more s None is = λ lasting. absurd (lasting s.place refl)
+string_by more s None is = λ lasting. absurd (lasting s.offset refl)
 
 -- strings that end with a zero
 pub string_steady : IsSteady string_at

@@ -11,7 +11,7 @@ use Rattle.dwarf_endianity.specs.ByteOrder.{number_of}
 use Rattle.dwarf_readers.specs.InitialLength.{address_at, address_size_at, as_offset, initial_length_at, is_size, length_behind, sized_offset_at, word_at}
 use Rattle.dwarf_readers.specs.Leb128.{behind_string, leb128_within, signed_at, signed_in_range, string_of, unsigned_16_at, unsigned_32_at, unsigned_at, unsigned_below, value_behind}
 use Rattle.dwarf_endianity.specs.Offset.{offset_below}
-use Rattle.dwarf_readers.specs.Place.{Stretch, ◌>>=◌, behind, behind_at, byte_at, bytes_at, count_before, ends_at, found_at, prefix, requirement, number_at, signed_byte_at, signed_number_at, split_at, string_at}
+use Rattle.dwarf_readers.specs.Stretch.{Stretch, ◌>>=◌, behind, behind_at, byte_at, bytes_at, count_before, ends_at, found_at, prefix, requirement, number_at, signed_byte_at, signed_number_at, split_at, string_at}
 use Rattle.dwarf_readers.specs.Remainder.{IsLessLeft, IsShorter, LeavesLess, Passes, Takes, TakesItem, item_at, size_of}
 use Rattle.dwarf_readers.proofs.Following.{string_inside, whole_inside}
 use Rattle.dwarf_readers.proofs.Places.{count_before_lt}
@@ -77,25 +77,25 @@ fixed_takes : {A : Type 0} (n : ℕ) (s : Stretch) (e : Error) (x : A) → Takes
 fixed_takes n s e x = where_there n s e (x, behind n s) (behind_less n s)
 
 pub bytes_takes : (n : ℕ) (s : Stretch) → Takes n s (bytes_at n s)
-bytes_takes n s = fixed_takes n s (ends_at s.place) (take n s.bytes)
+bytes_takes n s = fixed_takes n s (ends_at s.offset) (take n s.bytes)
 
 pub split_takes : (n : ℕ) (s : Stretch) → Takes n s (split_at n s)
-split_takes n s = fixed_takes n s (ends_at s.place) (prefix n s)
+split_takes n s = fixed_takes n s (ends_at s.offset) (prefix n s)
 
 pub number_takes : (n : ℕ) (s : Stretch) → Takes n s (number_at n s)
-number_takes n s = fixed_takes n s (ends_at s.place) (number_of s.big (take n s.bytes))
+number_takes n s = fixed_takes n s (ends_at s.offset) (number_of s.big (take n s.bytes))
 
 pub signed_number_takes : (w : Width) (s : Stretch) → Takes (byte_len w) s (signed_number_at w s)
-signed_number_takes w s = fixed_takes (byte_len w) s (ends_at s.place) (cast_signed w (number_of s.big (take (byte_len w) s.bytes)))
+signed_number_takes w s = fixed_takes (byte_len w) s (ends_at s.offset) (cast_signed w (number_of s.big (take (byte_len w) s.bytes)))
 
 pub byte_takes : (s : Stretch) → Takes 1 s (byte_at s)
-byte_takes s = fixed_takes 1 s (ends_at s.place) (slice_index s.bytes 0)
+byte_takes s = fixed_takes 1 s (ends_at s.offset) (slice_index s.bytes 0)
 
 pub signed_byte_takes : (s : Stretch) → Takes 1 s (signed_byte_at s)
-signed_byte_takes s = fixed_takes 1 s (ends_at s.place) (cast_signed w8 (slice_index s.bytes 0))
+signed_byte_takes s = fixed_takes 1 s (ends_at s.offset) (cast_signed w8 (slice_index s.bytes 0))
 
 pub behind_passes : (n : ℕ) (s : Stretch) → Passes n s (behind_at n s)
-behind_passes n s = where_there n s (ends_at s.place) (behind n s) (behind_less n s)
+behind_passes n s = where_there n s (ends_at s.offset) (behind n s) (behind_less n s)
 
 -- ---- offsets, lengths and addresses
 

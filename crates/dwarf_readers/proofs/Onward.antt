@@ -1,4 +1,4 @@
--- What is left behind a read doesn't begin before the place where the read began.
+-- What a read leaves doesn't begin before the offset at which the read began.
 use Rattle.std.proofs.Common.{◌≡◌, ℕ, ◌≤◌, Bool, true, false, cond, List, take, Option, Some, None, Result, Ok, Err, arith, subst}
 use Rattle.std.specs.Int.{Width, byte_len}
 use Rattle.dwarf_constants.specs.declared.error.Error.{Error}
@@ -6,55 +6,55 @@ use Rattle.dwarf_constants.specs.declared.error.Error.TheVariants.{BadSignedLeb1
 use Rattle.dwarf_readers.specs.InitialLength.{address_at, address_size_at}
 use Rattle.dwarf_readers.specs.Leb128.{leb128_within, signed_at, signed_in_range, string_of, unsigned_16_at, unsigned_at, unsigned_below, value_behind}
 use Rattle.dwarf_readers.specs.Onward.{GoesOn, IsOn, ReadsOn}
-use Rattle.dwarf_readers.specs.Place.{Stretch, ◌>>=◌, behind, byte_at, count_before, found_at, number_at, signed_number_at, split_at, string_at}
+use Rattle.dwarf_readers.specs.Stretch.{Stretch, ◌>>=◌, behind, byte_at, count_before, found_at, number_at, signed_number_at, split_at, string_at}
 
 -- ---- one after the other
 
-is_on-then : {X Y : Type 0} (left : X → Stretch) (other : Y → Stretch) (place : ℕ) (first : Result X Error) (next : X → Result Y Error)
-    → IsOn left place first → ((x : X) → place ≤ (left x).place → GoesOn other place (next x)) → IsOn other place (first >>= next)
-is_on-then left other place (Ok x) next h others = (others x h).on
-is_on-then left other place (Err e) next h others = tt
+is_on-then : {X Y : Type 0} (left : X → Stretch) (other : Y → Stretch) (offset : ℕ) (first : Result X Error) (next : X → Result Y Error)
+    → IsOn left offset first → ((x : X) → offset ≤ (left x).offset → GoesOn other offset (next x)) → IsOn other offset (first >>= next)
+is_on-then left other offset (Ok x) next h others = (others x h).on
+is_on-then left other offset (Err e) next h others = tt
 
-pub on_then : {X Y : Type 0} {left : X → Stretch} {other : Y → Stretch} {place : ℕ} {first : Result X Error} {next : X → Result Y Error}
-    → GoesOn left place first → ((x : X) → place ≤ (left x).place → GoesOn other place (next x)) → GoesOn other place (first >>= next)
-on_then {left = left} {other = other} {place = place} {first = first} {next = next} h others = record { on = is_on-then left other place first next h.on others }
+pub on_then : {X Y : Type 0} {left : X → Stretch} {other : Y → Stretch} {offset : ℕ} {first : Result X Error} {next : X → Result Y Error}
+    → GoesOn left offset first → ((x : X) → offset ≤ (left x).offset → GoesOn other offset (next x)) → GoesOn other offset (first >>= next)
+on_then {left = left} {other = other} {offset = offset} {first = first} {next = next} h others = record { on = is_on-then left other offset first next h.on others }
 
-is_on-value : {X Y : Type 0} (other : Y → Stretch) (place : ℕ) (value : Result X Error) (next : X → Result Y Error)
-    → ((x : X) → GoesOn other place (next x)) → IsOn other place (value >>= next)
-is_on-value other place (Ok x) next others = (others x).on
-is_on-value other place (Err e) next others = tt
+is_on-value : {X Y : Type 0} (other : Y → Stretch) (offset : ℕ) (value : Result X Error) (next : X → Result Y Error)
+    → ((x : X) → GoesOn other offset (next x)) → IsOn other offset (value >>= next)
+is_on-value other offset (Ok x) next others = (others x).on
+is_on-value other offset (Err e) next others = tt
 
 -- .. behind a value from which nothing is left
-pub on_value : {X Y : Type 0} {other : Y → Stretch} {place : ℕ} (value : Result X Error) {next : X → Result Y Error}
-    → ((x : X) → GoesOn other place (next x)) → GoesOn other place (value >>= next)
-on_value {other = other} {place = place} value {next = next} others = record { on = is_on-value other place value next others }
+pub on_value : {X Y : Type 0} {other : Y → Stretch} {offset : ℕ} (value : Result X Error) {next : X → Result Y Error}
+    → ((x : X) → GoesOn other offset (next x)) → GoesOn other offset (value >>= next)
+on_value {other = other} {offset = offset} value {next = next} others = record { on = is_on-value other offset value next others }
 
-pub on_if : {X : Type 0} {left : X → Stretch} {place : ℕ} {a b : Result X Error} (test : Bool) → GoesOn left place a → GoesOn left place b → GoesOn left place (cond test a b)
+pub on_if : {X : Type 0} {left : X → Stretch} {offset : ℕ} {a b : Result X Error} (test : Bool) → GoesOn left offset a → GoesOn left offset b → GoesOn left offset (cond test a b)
 on_if true p q = p
 on_if false p q = q
 
-pub on_err : {X : Type 0} {left : X → Stretch} {place : ℕ} {e : Error} → GoesOn left place (Err e)
+pub on_err : {X : Type 0} {left : X → Stretch} {offset : ℕ} {e : Error} → GoesOn left offset (Err e)
 on_err = record { on = tt }
 
-pub on_ok : {X : Type 0} {left : X → Stretch} {place : ℕ} {x : X} → place ≤ (left x).place → GoesOn left place (Ok x)
+pub on_ok : {X : Type 0} {left : X → Stretch} {offset : ℕ} {x : X} → offset ≤ (left x).offset → GoesOn left offset (Ok x)
 on_ok h = record { on = h }
 
-is_on-from : {X : Type 0} (left : X → Stretch) (place from : ℕ) (answer : Result X Error) → IsOn left from answer → place ≤ from → IsOn left place answer
-is_on-from left place from (Ok x) h le = omega arith
-is_on-from left place from (Err e) h le = tt
+is_on-from : {X : Type 0} (left : X → Stretch) (offset from : ℕ) (answer : Result X Error) → IsOn left from answer → offset ≤ from → IsOn left offset answer
+is_on-from left offset from (Ok x) h le = omega arith
+is_on-from left offset from (Err e) h le = tt
 
--- .. from a place that lies further on
-pub on_from : {X : Type 0} {left : X → Stretch} {place from : ℕ} {answer : Result X Error} → GoesOn left from answer → place ≤ from → GoesOn left place answer
-on_from {left = left} {place = place} {from = from} {answer = answer} h le = record { on = is_on-from left place from answer h.on le }
+-- an answer that leaves nothing before an offset leaves nothing before an earlier one
+pub on_from : {X : Type 0} {left : X → Stretch} {offset from : ℕ} {answer : Result X Error} → GoesOn left from answer → offset ≤ from → GoesOn left offset answer
+on_from {left = left} {offset = offset} {from = from} {answer = answer} h le = record { on = is_on-from left offset from answer h.on le }
 
 -- .. where the answer is known
-pub on_is : {X : Type 0} {left : X → Stretch} {place : ℕ} {answer : Result X Error} {x : X} → GoesOn left place answer → answer ≡ Ok x → place ≤ (left x).place
-on_is {X = X} {left = left} {place = place} h is = let P : Result X Error → Type 0 = IsOn left place in subst P is h.on
+pub on_is : {X : Type 0} {left : X → Stretch} {offset : ℕ} {answer : Result X Error} {x : X} → GoesOn left offset answer → answer ≡ Ok x → offset ≤ (left x).offset
+on_is {X = X} {left = left} {offset = offset} h is = let P : Result X Error → Type 0 = IsOn left offset in subst P is h.on
 
 -- ---- reads
 
 -- .. where the read is known
-pub onward : {A : Type 0} (s t : Stretch) (x : A) (read : Result (A × Stretch) Error) → ReadsOn s read → read ≡ Ok (x, t) → s.place ≤ t.place
+pub onward : {A : Type 0} (s t : Stretch) (x : A) (read : Result (A × Stretch) Error) → ReadsOn s read → read ≡ Ok (x, t) → s.offset ≤ t.offset
 onward s t x read h is = on_is h is
 
 fixed_on : {A : Type 0} (n : ℕ) (s : Stretch) (e : Error) (x : A) (test : Bool) → ReadsOn s (cond test (Err e) (Ok (x, behind n s)))

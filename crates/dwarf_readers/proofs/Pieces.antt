@@ -3,7 +3,7 @@ use Rattle.std.proofs.Common.{◌≡◌, ℕ, ◌+◌, ◌-◌, ◌≤◌, ◌==
 use Rattle.std.proofs.lemmas.Bool.{cases_lt}
 use Rattle.std.proofs.lemmas.List.{append-nil, drop-append-le, take-append-le}
 use Rattle.std.proofs.Math.Seq.{drop-append-add, drop-length, take-append-add, take-length}
-use Rattle.dwarf_readers.specs.Place.{count_before}
+use Rattle.dwarf_readers.specs.Stretch.{count_before}
 use Rattle.dwarf_readers.proofs.Places.{later}
 
 take_over : (n : ℕ) (xs ys : List ℕ) → length xs ≤ n → take n (xs ++ ys) ≡ xs ++ take (n - length xs) ys

@@ -3,7 +3,7 @@ use Rattle.std.proofs.Common.{◌≡◌, ℕ, ◌+◌, ◌-◌, ◌<◌, List, [
 use Rattle.std.proofs.lemmas.Bool.Decides.{nat_tests}
 use Rattle.std.proofs.lemmas.List.{drop-drop}
 use Rattle.dwarf_constants.specs.declared.error.Error.{Error}
-use Rattle.dwarf_readers.specs.Place.{Stretch, ends_at, behind, behind_at, count_before, found_at, prefix, split_at}
+use Rattle.dwarf_readers.specs.Stretch.{Stretch, ends_at, behind, behind_at, count_before, found_at, prefix, split_at}
 
 -- one byte more before the first of a value
 one_more : (here : Bool) (rest : Option ℕ) (k n : ℕ) → ((m : ℕ) → rest ≡ Some m → m < k) → cond here (Some 0) (option_map suc rest) ≡ Some n → n < suc k
@@ -34,7 +34,7 @@ taken_false false x y z h = refl
 
 -- behind a stretch behind another
 pub behind_behind : (m n : ℕ) (s : Stretch) → behind m (behind n s) ≡ behind (n + m) s
-behind_behind m n s = rw (drop-drop m n s.bytes, add_assoc s.place n m) refl
+behind_behind m n s = rw (drop-drop m n s.bytes, add_assoc s.offset n m) refl
 
 -- what is found can be split off
 pub split_found : (s : Stretch) (n : ℕ) (e : Error) → found_at s (count_before 0 s.bytes) ≡ Ok n → split_at n s ≡ Err e → ⊥
@@ -47,9 +47,9 @@ split_found s n e found refused =
 pub skip_found : (s rest part : Stretch) (n k : ℕ) (e : Error) → found_at s (count_before 0 s.bytes) ≡ Ok n → split_at n s ≡ Ok (part, rest) → k ≡ 1 → behind_at k rest ≡ Err e → ⊥
 skip_found s rest part n k e found split one refused =
     let inside : n < length s.bytes = count_before_lt 0 s.bytes n (found_some s _ n found) in
-    let is : (prefix n s, behind n s) ≡ (part, rest) = taken_test (nat_lt (length s.bytes) n) (ends_at s.place) (prefix n s, behind n s) (part, rest) split in
+    let is : (prefix n s, behind n s) ≡ (part, rest) = taken_test (nat_lt (length s.bytes) n) (ends_at s.offset) (prefix n s, behind n s) (part, rest) split in
     let left : length s.bytes - n ≡ length rest.bytes = sym (length-drop n s.bytes) ∙ ap (λ (p : Stretch × Stretch). length p.1.bytes) is in
-    let short : nat_lt (length rest.bytes) k ≡ true = refused_test (nat_lt (length rest.bytes) k) (ends_at rest.place) e (behind k rest) refused in
+    let short : nat_lt (length rest.bytes) k ≡ true = refused_test (nat_lt (length rest.bytes) k) (ends_at rest.offset) e (behind k rest) refused in
     grind (arith, nat_tests)
 
 -- a count from i bytes on, as one from the start

@@ -173,9 +173,9 @@ range_test (pos n) fits = grind (arith, ints, nat_tests)
 range_test (negsuc n) fits = grind (arith, ints, nat_tests)
 
 -- what is spelled so is read again, and leaves exactly what follows
-pub signed_again_lemma : (v : ℤ) (rest : List ℕ) (place : ℕ) (big : Bool) → neg_ℤ (pos (2 ^ 63)) ≤ℤ v → v <ℤ pos (2 ^ 63) → signed_at (record { bytes = signed_string v ++ rest; place = place; big = big }) ≡ Ok (v, record { bytes = rest; place = place + length (signed_string v); big = big })
+pub signed_again_lemma : (v : ℤ) (rest : List ℕ) (offset : ℕ) (big : Bool) → neg_ℤ (pos (2 ^ 63)) ≤ℤ v → v <ℤ pos (2 ^ 63) → signed_at (record { bytes = signed_string v ++ rest; offset = offset; big = big }) ≡ Ok (v, record { bytes = rest; offset = offset + length (signed_string v); big = big })
 unfolding signed_string
-signed_again_lemma v rest place big least most =
+signed_again_lemma v rest offset big least most =
     let fits : bits_of v < 2 ^ 63 = bits_in_range v least most in
     rw (signed_groups_again 9 v rest (omega arith), signed_groups_value 9 v (omega arith), range_test v fits, drop_at (signed_groups_of 9 v) rest (length (signed_groups_of 9 v)) refl) refl
 

@@ -10,7 +10,7 @@ use Rattle.dwarf_constants.specs.declared.error.Error.{Error}
 use Rattle.dwarf_constants.specs.declared.error.Error.TheVariants.{BadSignedLeb128}
 use Rattle.dwarf_readers.specs.Groups.{AreGroups, EndsInGroups}
 use Rattle.dwarf_readers.specs.Leb128.{signed_at, signed_in_range, signed_value}
-use Rattle.dwarf_readers.specs.Place.{Stretch}
+use Rattle.dwarf_readers.specs.Stretch.{Stretch}
 use Rattle.dwarf_readers.proofs.Strings.{Room, room, seven_bits, number_done, number_long, number_short, number_unfit, sign_of}
 use Rattle.dwarf_readers.proofs.Values.{end_of_groups, value_of}
 

@@ -69,9 +69,9 @@ groups_value (suc n) v fits = elim (cases_lt v 128) [
 ]
 
 -- what is spelled so is read again, and leaves exactly what follows
-pub unsigned_again_lemma : (v : ℕ) (rest : List ℕ) (place : ℕ) (big : Bool) → v < 2 ^ 64 → unsigned_at (record { bytes = unsigned_string v ++ rest; place = place; big = big }) ≡ Ok (v, record { bytes = rest; place = place + length (unsigned_string v); big = big })
+pub unsigned_again_lemma : (v : ℕ) (rest : List ℕ) (offset : ℕ) (big : Bool) → v < 2 ^ 64 → unsigned_at (record { bytes = unsigned_string v ++ rest; offset = offset; big = big }) ≡ Ok (v, record { bytes = rest; offset = offset + length (unsigned_string v); big = big })
 unfolding unsigned_string
-unsigned_again_lemma v rest place big fits =
+unsigned_again_lemma v rest offset big fits =
     let test : nat_lt v (2 ^ 64) ≡ true = grind (arith, nat_tests) in
     rw (groups_again 9 v rest (omega arith), groups_value 9 v (omega arith), test, drop_at (groups_of 9 v) rest (length (groups_of 9 v)) refl) refl
 

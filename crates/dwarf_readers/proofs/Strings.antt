@@ -6,7 +6,7 @@ use Rattle.std.proofs.lemmas.Nat.{pow-add}
 use Rattle.std.proofs.Math.Nat.{pow-le-pow_right, pow-suc, mul-le-mul_left}
 use Rattle.dwarf_constants.specs.declared.error.Error.{Error}
 use Rattle.dwarf_readers.specs.Leb128.{has_sign, leb128_within, string_of, unsigned_value}
-use Rattle.dwarf_readers.specs.Place.{Stretch, behind, byte_at, end_of, ends_at}
+use Rattle.dwarf_readers.specs.Stretch.{Stretch, behind, byte_at, end_of, ends_at}
 use Rattle.dwarf_readers.proofs.Places.{taken_test, taken_false, behind_behind}
 
 -- one byte more of a number
@@ -51,9 +51,9 @@ pub record ByteRead (s : Stretch) (i b : ℕ) (t : Stretch) : Type 0 where
 
 pub byte_read : (s : Stretch) (i b : ℕ) (t : Stretch) → byte_at (behind i s) ≡ Ok (b, t) → ByteRead s i b t
 byte_read s i b t h =
-    let test : nat_lt (length (drop i s.bytes)) 1 ≡ false = taken_false _ (ends_at (s.place + i)) _ _ h in
+    let test : nat_lt (length (drop i s.bytes)) 1 ≡ false = taken_false _ (ends_at (s.offset + i)) _ _ h in
     let size : length (drop i s.bytes) ≡ length s.bytes - i = length-drop i s.bytes in
-    let is : (slice_index (drop i s.bytes) 0, behind 1 (behind i s)) ≡ (b, t) = taken_test (nat_lt (length (drop i s.bytes)) 1) (ends_at (s.place + i)) _ _ h in
+    let is : (slice_index (drop i s.bytes) 0, behind 1 (behind i s)) ≡ (b, t) = taken_test (nat_lt (length (drop i s.bytes)) 1) (ends_at (s.offset + i)) _ _ h in
     let first : get_or (drop i s.bytes) 0 0 ≡ get_or s.bytes i 0 = get_or-drop i s.bytes 0 0 ∙ ap (λ (k : ℕ). get_or s.bytes k 0) (add-zero i) in
     record {
       inside = grind (arith, nat_tests);
@@ -63,8 +63,8 @@ byte_read s i b t h =
 
 pub first_read : (s : Stretch) (b : ℕ) (t : Stretch) → byte_at s ≡ Ok (b, t) → ByteRead s 0 b t
 first_read s b t h =
-    let test : nat_lt (length s.bytes) 1 ≡ false = taken_false _ (ends_at s.place) _ _ h in
-    let is : (slice_index s.bytes 0, behind 1 s) ≡ (b, t) = taken_test (nat_lt (length s.bytes) 1) (ends_at s.place) _ _ h in
+    let test : nat_lt (length s.bytes) 1 ≡ false = taken_false _ (ends_at s.offset) _ _ h in
+    let is : (slice_index s.bytes 0, behind 1 s) ≡ (b, t) = taken_test (nat_lt (length s.bytes) 1) (ends_at s.offset) _ _ h in
     record {
       inside = grind (arith, nat_tests);
       byte = sym (ap (λ (p : ℕ × Stretch). p.0) is);
@@ -72,10 +72,10 @@ first_read s b t h =
     }
 
 -- .. and isn't there
-pub byte_missing : (s : Stretch) (i : ℕ) (e : Error) → byte_at (behind i s) ≡ Err e → (length s.bytes ≤ i) × (e ≡ ends_at (s.place + i))
+pub byte_missing : (s : Stretch) (i : ℕ) (e : Error) → byte_at (behind i s) ≡ Err e → (length s.bytes ≤ i) × (e ≡ ends_at (s.offset + i))
 byte_missing s i e h =
     let size : length (drop i s.bytes) ≡ length s.bytes - i = length-drop i s.bytes in
-    let is = refused_by (nat_lt (length (drop i s.bytes)) 1) (ends_at (s.place + i)) e (slice_index (drop i s.bytes) 0, behind 1 (behind i s)) h in
+    let is = refused_by (nat_lt (length (drop i s.bytes)) 1) (ends_at (s.offset + i)) e (slice_index (drop i s.bytes) 0, behind 1 (behind i s)) h in
     let test = is.0 in
     (grind (arith, nat_tests), is.1)
   where

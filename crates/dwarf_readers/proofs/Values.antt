@@ -8,7 +8,7 @@ use Rattle.dwarf_constants.specs.declared.error.Error.TheVariants.{BadUnsignedLe
 use Rattle.dwarf_constants.specs.declared.error.Error.{Error}
 use Rattle.dwarf_readers.specs.Groups.{AreGroups, EndsInGroups}
 use Rattle.dwarf_readers.specs.Leb128.{unsigned_below, unsigned_value, unsigned_within}
-use Rattle.dwarf_readers.specs.Place.{Stretch}
+use Rattle.dwarf_readers.specs.Stretch.{Stretch}
 use Rattle.dwarf_readers.proofs.Strings.{number_done, number_long, number_short, number_unfit, seven_bits, value_more}
 
 -- the value of these bytes

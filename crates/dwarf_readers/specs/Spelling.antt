@@ -1,4 +1,4 @@
--- The bytes of a spelling in memory.
+-- Spellings in memory.
 use Rattle.std.specs.Prelude.{ℕ, List, take}
 use Rattle.dwarf_readers.specs.declared.leb128.write.Leb128.{Leb128}
 

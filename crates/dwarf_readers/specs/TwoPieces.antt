@@ -1,19 +1,19 @@
--- What two pieces of a section are as a reader.
+-- Two pieces of a section, as the stretch that they are for a reader.
 use Rattle.std.specs.Prelude.{◌≡◌, ℕ, ◌+◌, ◌<◌, Bool, List, ◌++◌, length}
 use Rattle.dwarf_readers.specs.declared.two_pieces.TwoPieces.{TwoPieces}
-use Rattle.dwarf_readers.specs.Place.{Stretch}
+use Rattle.dwarf_readers.specs.Stretch.{Stretch}
 
--- the bytes of the first piece, and behind them those of the second
+-- the bytes of the first piece and then those of the second
 abbrev pub joined_bytes : {E : Type 0} → TwoPieces E → List ℕ
 joined_bytes s = s.first.now ++ s.second.now
 
--- its bytes, its place and its byte order
-abbrev pub stretch_of : {E : Type 0} → (E → Bool) → TwoPieces E → Stretch
-stretch_of is_big s = record { bytes = joined_bytes s; place = s.place; big = is_big s.endian }
+-- the stretch of two pieces
+abbrev pub joined_stretch : {E : Type 0} → (E → Bool) → TwoPieces E → Stretch
+joined_stretch is_big s = record { bytes = joined_bytes s; offset = s.offset; big = is_big s.endian }
 
--- the joint: the place where the first piece ends and the second begins
+-- the joint: the offset at which the first piece ends and the second begins
 abbrev pub joint_of : {E : Type 0} → TwoPieces E → ℕ
-joint_of s = s.place + length s.first.now
+joint_of s = s.offset + length s.first.now
 
 -- There are bytes on both sides of the joint.
 abbrev pub CrossesJoint : {E : Type 0} → TwoPieces E → Type 0

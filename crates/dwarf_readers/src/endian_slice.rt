@@ -9,8 +9,8 @@ use std::alloc::{AllocError, Global};
 use std::borrow::{CowSlice, CowStr};
 use std::ops::{DerefSlice, Range, RangeFrom, RangeTo};
 
-/// Bytes of a section in one piece, their byte order, and the place of the first of them. Equality
-/// and hash look at the bytes and the byte order alone.
+/// Bytes of a section in one piece, their byte order, and the offset of the first of them. Equality
+/// and hash are those of the bytes and the byte order alone.
 #[derive_where(Debug, PartialEq, Eq, Hash; E)]
 pub struct EndianSlice<'a, E> {
     slice: &'a [u8],
@@ -43,9 +43,9 @@ impl<'a, E: Endianity> EndianSlice<'a, E> {
     ghost use Rattle.std.specs.Str.{IsUtf8};
     ghost use Rattle.dwarf_constants.specs.declared.error.Error.TheVariants.{BadUtf8, OutOfMemory};
     ghost use Rattle.dwarf_readers.specs.EndianSlice.{stretch_of};
-    ghost use Rattle.dwarf_readers.specs.Place.{whole, prefix, behind, end_of, count_before};
+    ghost use Rattle.dwarf_readers.specs.Stretch.{whole, prefix, behind, end_of, count_before};
 
-    /// A section as a whole: its first byte is at place 0.
+    /// A section as a whole: its first byte is at offset 0.
     pub fn new(slice: &'a [u8], endian: E) -> Self
         ensures { stretch_of E.is_big result ≡ whole (E.is_big endian) slice.now }
     {
@@ -56,11 +56,11 @@ impl<'a, E: Endianity> EndianSlice<'a, E> {
         }
     }
 
-    /// A part of a section, whose first byte is at this place.
+    /// A part of a section, whose first byte is at this offset.
     pub fn new_at(slice: &'a [u8], endian: E, first: u64) -> Self
         requires { first + length slice.now < 2 ^ 64 }
         ensures { stretch_of E.is_big result
-            ≡ record { bytes = slice.now; place = first; big = E.is_big endian } }
+            ≡ record { bytes = slice.now; offset = first; big = E.is_big endian } }
     {
         EndianSlice {
             slice,
@@ -85,7 +85,7 @@ impl<'a, E: Endianity> EndianSlice<'a, E> {
         (self.range_to(..idx), self.range_from(idx..))
     }
 
-    /// How many bytes stand before the first of this value, if there is one.
+    /// How many bytes are before the first of this value, if there is one.
     pub fn find(&self, byte: u8) -> Option<usize>
         ensures { result ≡ count_before byte (stretch_of E.is_big self.now).bytes }
     {
@@ -97,17 +97,17 @@ impl<'a, E: Endianity> EndianSlice<'a, E> {
         None
     }
 
-    /// How far this slice begins behind the start of `base`, in bytes.
+    /// How far this slice begins after the start of `base`, in bytes.
     pub fn offset_from(&self, base: EndianSlice<'a, E>) -> usize
-        requires from { (stretch_of E.is_big base).place ≤ (stretch_of E.is_big self.now).place }
-        requires to { (stretch_of E.is_big self.now).place ≤ end_of (stretch_of E.is_big base) }
-        ensures { result + (stretch_of E.is_big base.entry).place
-            ≡ (stretch_of E.is_big self.now).place }
+        requires from { (stretch_of E.is_big base).offset ≤ (stretch_of E.is_big self.now).offset }
+        requires to { (stretch_of E.is_big self.now).offset ≤ end_of (stretch_of E.is_big base) }
+        ensures { result + (stretch_of E.is_big base.entry).offset
+            ≡ (stretch_of E.is_big self.now).offset }
     {
         (self.first - base.first) as usize
     }
 
-    /// The bytes as a text. Fails with `BadUtf8` where they are none.
+    /// The bytes as a text. Fails with `BadUtf8` if they aren't UTF-8.
     pub fn to_string(&self) -> Result<&'a str>
         ensures text { IfOk result (λ text. text.now ≡ (stretch_of E.is_big self.now).bytes) }
         ensures valid { IfOk result (λ text. IsUtf8 (stretch_of E.is_big self.now).bytes) }
@@ -120,8 +120,8 @@ impl<'a, E: Endianity> EndianSlice<'a, E> {
         }
     }
 
-    /// The bytes as a text in which U+FFFD stands for what is no character. It is copied only where
-    /// there is such a part.
+    /// The bytes as a text with U+FFFD for what is no character. It is copied only if there is such a
+    /// part.
     pub fn to_string_lossy(&self, alloc: Global) -> Result<CowStr<'a, Global>>
         ensures text { IfOk result (λ text. IsUtf8 (stretch_of E.is_big self.now).bytes
             → cow_str_bytes text ≡ (stretch_of E.is_big self.now).bytes) }

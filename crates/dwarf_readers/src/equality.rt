@@ -1,16 +1,16 @@
-//! What equality of slices says.
+//! The meaning of equality of slices.
 
 ghost use Rattle.std.specs.Prelude.{◌≡◌, IsTrue};
 ghost use Rattle.dwarf_readers.specs.declared.endian_slice.EndianSlice.{EndianSlice};
 ghost use Rattle.dwarf_readers.specs.EndianSlice.{stretch_of};
-ghost use Rattle.dwarf_readers.specs.Place.{AreAlike};
+ghost use Rattle.dwarf_readers.specs.Stretch.{AreAlike};
 
 use crate::endian_slice::EndianSlice;
 use dwarf_endianity::Endianity;
 use std::hash::Hash;
 
-/// Two slices are equal exactly where their bytes and their byte orders are, wherever they stand, and
-/// then they hash alike.
+/// Two slices are equal exactly if their bytes and their byte orders are, at any offsets, and then
+/// they hash alike.
 pub fn equal_slices_are_alike<'a, E: Endianity + Hash>()
     ensures equal { (a b : EndianSlice E) → IsTrue (⟦<EndianSlice<'a, E> as PartialEq>⟧.eq a b)
         → AreAlike (stretch_of E.is_big a) (stretch_of E.is_big b) }

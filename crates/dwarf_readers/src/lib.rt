@@ -1,5 +1,5 @@
-//! Reading of a section's bytes: readers that know their place, and numbers of variable length. It
-//! hands on the byte orders and offsets of `dwarf_endianity`.
+//! Reading of a section's bytes: readers that know their offset, and numbers of variable length. It
+//! re-exports the byte orders and offsets of `dwarf_endianity`.
 #![tactic(auto)]
 
 mod endian_slice;

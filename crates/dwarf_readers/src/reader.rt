@@ -1,4 +1,4 @@
-//! Reading of a section's bytes, whatever holds them.
+//! Reading of a section's bytes, however they are stored.
 
 ghost use Rattle.std.specs.Prelude.{◌≡◌, ◌≤◌, ◌<◌, ◌+◌, ◌^◌, ◌==◌, ◌⊎◌, [], length, IfOk, IfErr, OnErr, OnOk, option_map};
 ghost use Rattle.std.specs.Cow.{cow_slice_items, cow_str_bytes};
@@ -9,7 +9,7 @@ ghost use Rattle.dwarf_constants.specs.Format.{word_size};
 ghost use Rattle.dwarf_readers.specs.InitialLength.{address_at, address_size_at, initial_length_at, left_by, left_by_initial_length, sized_number_at, sized_offset_at, word_at};
 ghost use Rattle.dwarf_readers.specs.Leb128.{behind_string, left_by_leb128, signed_at, string_of, unsigned_16_at, unsigned_32_at, unsigned_at};
 ghost use Rattle.dwarf_endianity.specs.Answers.{Gives};
-ghost use Rattle.dwarf_readers.specs.Place.{Moves, Reads, ReadsAs, Stretch, behind, behind_at, byte_at, bytes_at, count_before, empty_stretch, end_of, found_at, prefix_at, number_at, place_within, signed_byte_at, signed_number_at, split_at, string_at};
+ghost use Rattle.dwarf_readers.specs.Stretch.{Moves, Reads, ReadsAs, Stretch, behind, behind_at, byte_at, bytes_at, count_before, empty_stretch, end_of, found_at, prefix_at, number_at, relative_offset, signed_byte_at, signed_number_at, split_at, string_at};
 ghost use Rattle.dwarf_readers.specs.Remainder.{size_of};
 
 use crate::leb128;
@@ -19,15 +19,15 @@ use std::alloc::Global;
 use std::borrow::{CowSlice, CowStr};
 use std::fmt::Debug;
 
-/// What reads the bytes of a section, in order. It knows the place of its next byte in the section,
-/// which an error of missing bytes carries.
+/// What reads the bytes of a section, in order. It knows the offset of its next byte in the section,
+/// which the error carries if bytes are missing.
 pub trait Reader: Debug + Copy {
     /// The byte order of numbers.
     type Endian: Endianity;
     /// The type of offsets and lengths.
     type Offset: ReaderOffset;
 
-    /// The bytes left, the place of the first, and the byte order.
+    /// The bytes left, the offset of the first, and the byte order.
     ghost stretch: { Self → Stretch };
 
     /// The byte order.
@@ -39,60 +39,60 @@ pub trait Reader: Debug + Copy {
         ensures len { Self.Offset.value result ≡ size_of (stretch self.now) }
         ensures fits { size_of (stretch self.now) < Self.Offset.limit };
 
-    /// Lets go of all bytes that are left. The place stays.
+    /// Drops all bytes that are left. The offset stays.
     fn empty(&mut self)
         ensures { stretch self.new ≡ empty_stretch (stretch self.old) };
 
-    /// Lets go of all but the first `len` bytes.
+    /// Drops all but the first `len` bytes.
     fn truncate(&mut self, len: Self::Offset) -> Result<()>
         ensures moved { Moves result (prefix_at (Self.Offset.value len) (stretch self.old))
             (stretch self.new) }
         ensures unchanged { OnErr result (stretch self.new ≡ stretch self.old) };
 
-    /// How far this reader stands behind the start of `base`, in bytes.
+    /// How far this reader is after the start of `base`, in bytes.
     fn offset_from(&self, base: &Self) -> Self::Offset
-        requires from { (stretch base.now).place ≤ (stretch self.now).place }
-        requires to { (stretch self.now).place ≤ end_of (stretch base.now) }
-        ensures { Self.Offset.value result + (stretch base.now).place ≡ (stretch self.now).place };
+        requires from { (stretch base.now).offset ≤ (stretch self.now).offset }
+        requires to { (stretch self.now).offset ≤ end_of (stretch base.now) }
+        ensures { Self.Offset.value result + (stretch base.now).offset ≡ (stretch self.now).offset };
 
-    /// The place of the next byte.
+    /// The offset of the next byte in the section.
     fn offset_id(&self) -> ReaderOffsetId
-        ensures { result.0 ≡ (stretch self.now).place };
+        ensures { result.0 ≡ (stretch self.now).offset };
 
-    /// The offset of a place from the next byte, if the place is in what is left or at its end.
+    /// An offset in the section relative to the next byte, if it is in what is left or at its end.
     fn lookup_offset_id(&self, id: ReaderOffsetId) -> Option<Self::Offset>
-        ensures { option_map Self.Offset.value result ≡ place_within (stretch self.now) id.0 };
+        ensures { option_map Self.Offset.value result ≡ relative_offset (stretch self.now) id.0 };
 
-    /// How many bytes stand before the first of this value.
+    /// How many bytes are before the first of this value.
     fn find(&self, byte: u8) -> Result<Self::Offset>
         ensures { Gives Self.Offset.value result
             (found_at (stretch self.now) (count_before byte (stretch self.now).bytes)) };
 
-    /// Goes over the next `len` bytes.
+    /// Skips the next `len` bytes.
     fn skip(&mut self, len: Self::Offset) -> Result<()>
         ensures moved { Moves result (behind_at (Self.Offset.value len) (stretch self.old))
             (stretch self.new) }
         ensures unchanged { OnErr result (stretch self.new ≡ stretch self.old) };
 
-    /// A reader of the next `len` bytes. This one then stands behind them.
+    /// A reader of the next `len` bytes, which this one skips.
     fn split(&mut self, len: Self::Offset) -> Result<Self>
         ensures read { ReadsAs stretch result (split_at (Self.Offset.value len) (stretch self.old))
             (stretch self.new) }
         ensures unchanged { OnErr result (stretch self.new ≡ stretch self.old) };
 
-    /// The bytes that are left. They are copied only where they don't lie in one piece.
+    /// The bytes that are left. They are copied only if they aren't in one piece.
     fn to_slice(&self, alloc: Global) -> Result<CowSlice<'_, u8, Global>>
         ensures bytes { IfOk result (λ bytes. cow_slice_items bytes ≡ (stretch self.now).bytes) }
         ensures memory { IfErr result (λ e. e ≡ OutOfMemory) };
 
-    /// The bytes that are left, as a text. Fails with `BadUtf8` where they are none.
+    /// The bytes that are left, as a text. Fails with `BadUtf8` if they aren't UTF-8.
     fn to_string(&self, alloc: Global) -> Result<CowStr<'_, Global>>
         ensures text { IfOk result (λ text. cow_str_bytes text ≡ (stretch self.now).bytes) }
         ensures valid { IfOk result (λ text. IsUtf8 (stretch self.now).bytes) }
         ensures refused { IfErr result
             (λ e. (e ≡ BadUtf8) × ¬ (IsUtf8 (stretch self.now).bytes) ⊎ (e ≡ OutOfMemory)) };
 
-    /// The bytes that are left, as a text in which U+FFFD stands for what is no character.
+    /// The bytes that are left, as a text with U+FFFD for what is no character.
     fn to_string_lossy(&self, alloc: Global) -> Result<CowStr<'_, Global>>
         ensures text { IfOk result (λ text. IsUtf8 (stretch self.now).bytes
             → cow_str_bytes text ≡ (stretch self.now).bytes) }
@@ -207,8 +207,8 @@ pub trait Reader: Debug + Copy {
         Ok(string)
     }
 
-    /// Reads an initial length (DWARF 5, 7.2.2 and 7.4). Fails with `UnknownReservedLength` where the first
-    /// four bytes are a reserved value, and with `UnsupportedOffset` where the offset type is too small.
+    /// Reads an initial length (DWARF 5, 7.2.2 and 7.4). Fails with `UnknownReservedLength` if the first
+    /// four bytes are a reserved value, and with `UnsupportedOffset` if the offset type is too small.
     fn read_initial_length(&mut self) -> Result<(Self::Offset, Format)>
         ensures read { ReadsAs (λ r. (Self.Offset.value r.0, r.1)) result
             (initial_length_at Self.Offset.limit (stretch self.old)) (stretch self.new) }
@@ -297,7 +297,7 @@ pub trait Reader: Debug + Copy {
         }
     }
 
-    /// Goes over a number of variable length.
+    /// Skips a number of variable length.
     final fn skip_leb128(&mut self) -> Result<()>
     where
         Self: Sized,

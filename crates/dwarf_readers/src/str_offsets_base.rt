@@ -1,4 +1,4 @@
-//! Where string offsets begin.
+//! Where the string offsets of a unit begin.
 
 use dwarf_constants::{DwarfFileType, Encoding, Format};
 use dwarf_endianity::ReaderOffset;
@@ -11,8 +11,8 @@ impl<Offset: ReaderOffset> DebugStrOffsetsBase<Offset> {
     ghost use Rattle.std.specs.Prelude.{◌≡◌};
     ghost use Rattle.dwarf_constants.specs.Format.{default_str_offsets_base};
 
-    /// The base of a unit that names none: behind the header that version 5 put before the entries
-    /// of a `.dwo` file, else the section's start.
+    /// The base of a unit that has no attribute for it: in a `.dwo` file of version 5 after the header
+    /// of the entries (DWARF 5, 7.26), else the section's start.
     pub fn default_for_encoding_and_file(
         encoding: Encoding,
         file_type: DwarfFileType,

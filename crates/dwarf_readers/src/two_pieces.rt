@@ -9,20 +9,20 @@ use dwarf_endianity::Endianity;
 use std::alloc::{AllocError, Global};
 use std::borrow::{CowSlice, CowStr};
 
-/// Bytes of a section in two pieces, those of the first and behind them those of the second, their
-/// byte order, and the place of the first byte.
+/// Bytes of a section in two pieces, those of the first and then those of the second, their byte
+/// order, and the offset of the first byte.
 #[derive_where(Debug; E)]
 pub struct TwoPieces<'a, E> {
     first: &'a [u8],
     second: &'a [u8],
     endian: E,
-    place: u64,
-    ghost fits: { place + (length first.now + length second.now) < 2 ^ 64 },
+    offset: u64,
+    ghost fits: { offset + (length first.now + length second.now) < 2 ^ 64 },
 }
 
 impl<'a, E: Copy> Clone for TwoPieces<'a, E> {
     ghost is_clone = { λ s copy. (copy.first.now ≡ s.first.now) × (copy.second.now ≡ s.second.now)
-        × (copy.endian ≡ s.endian) × (copy.place ≡ s.place) };
+        × (copy.endian ≡ s.endian) × (copy.offset ≡ s.offset) };
 
     ghost is_infallible = { λ _. Unit {0} };
 
@@ -31,7 +31,7 @@ impl<'a, E: Copy> Clone for TwoPieces<'a, E> {
             first: self.first,
             second: self.second,
             endian: self.endian,
-            place: self.place,
+            offset: self.offset,
         })
     }
 }
@@ -42,13 +42,13 @@ impl<'a, E: Endianity> TwoPieces<'a, E> {
     ghost use Rattle.std.specs.Prelude.{IfOk, IfErr, IfSome, IfNone};
     ghost use Rattle.dwarf_constants.specs.declared.error.Error.TheVariants.{OutOfMemory};
     ghost use Rattle.dwarf_readers.specs.EndianSlice.{stretch_of as stretch_of_slice};
-    ghost use Rattle.dwarf_readers.specs.Place.{whole, prefix, behind, count_before};
-    ghost use Rattle.dwarf_readers.specs.TwoPieces.{stretch_of, joined_bytes, joint_of, CrossesJoint, KeepsJoint};
+    ghost use Rattle.dwarf_readers.specs.Stretch.{whole, prefix, behind, count_before};
+    ghost use Rattle.dwarf_readers.specs.TwoPieces.{joined_stretch, joined_bytes, joint_of, CrossesJoint, KeepsJoint};
 
-    /// A section as a whole: its first byte is at place 0.
+    /// A section as a whole: its first byte is at offset 0.
     pub fn new(first: &'a [u8], second: &'a [u8], endian: E) -> Self
         requires { length first.now + length second.now < 2 ^ 64 }
-        ensures stretch { stretch_of E.is_big result
+        ensures stretch { joined_stretch E.is_big result
             ≡ whole (E.is_big endian) (first.now ++ second.now) }
         ensures joint { joint_of result ≡ length first.now }
     {
@@ -56,7 +56,7 @@ impl<'a, E: Endianity> TwoPieces<'a, E> {
             first,
             second,
             endian,
-            place: 0,
+            offset: 0,
         }
     }
 
@@ -71,7 +71,7 @@ impl<'a, E: Endianity> TwoPieces<'a, E> {
     #[tactic(auto, using(crate::proofs::Pieces::take_pieces))]
     fn prefix(&self, len: usize) -> Self
         requires { len ≤ length (joined_bytes self.now) }
-        ensures stretch { stretch_of E.is_big result ≡ prefix len (stretch_of E.is_big self.now) }
+        ensures stretch { joined_stretch E.is_big result ≡ prefix len (joined_stretch E.is_big self.now) }
         ensures joint { KeepsJoint self.now result }
     {
         let of_first = len.min(self.first.len());
@@ -79,14 +79,14 @@ impl<'a, E: Endianity> TwoPieces<'a, E> {
             first: &self.first[..of_first],
             second: &self.second[..len - of_first],
             endian: self.endian,
-            place: self.place,
+            offset: self.offset,
         }
     }
 
-    // What is left behind the first `len` bytes.
+    // What is left after the first `len` bytes.
     fn behind(&self, len: usize) -> Self
         requires { len ≤ length (joined_bytes self.now) }
-        ensures stretch { stretch_of E.is_big result ≡ behind len (stretch_of E.is_big self.now) }
+        ensures stretch { joined_stretch E.is_big result ≡ behind len (joined_stretch E.is_big self.now) }
         ensures joint { KeepsJoint self.now result }
     {
         let of_first = len.min(self.first.len());
@@ -94,11 +94,11 @@ impl<'a, E: Endianity> TwoPieces<'a, E> {
             first: &self.first[of_first..],
             second: &self.second[len - of_first..],
             endian: self.endian,
-            place: self.place + len as u64,
+            offset: self.offset + len as u64,
         }
     }
 
-    // How many bytes stand before the first of this value, if there is one.
+    // How many bytes are before the first of this value, if there is one.
     #[tactic(auto, using(crate::proofs::Pieces::count_pieces, crate::proofs::Places::count_before_lt))]
     fn before(&self, byte: u8) -> Option<usize>
         ensures { result ≡ count_before byte (joined_bytes self.now) }
@@ -122,17 +122,17 @@ impl<'a, E: Endianity> TwoPieces<'a, E> {
         buf[joint..].copy_from_slice(self.second);
     }
 
-    // The same bytes as a slice, where they lie in one piece.
+    // The same bytes as a slice, if they are in one piece.
     fn one_piece(&self) -> Option<EndianSlice<'a, E>>
         ensures same { IfSome result (λ piece.
-            stretch_of_slice E.is_big piece ≡ stretch_of E.is_big self.now) }
+            stretch_of_slice E.is_big piece ≡ joined_stretch E.is_big self.now) }
         ensures joint { IfNone result (CrossesJoint self.now) }
     {
         if self.second.is_empty() {
-            return Some(EndianSlice::new_at(self.first, self.endian, self.place));
+            return Some(EndianSlice::new_at(self.first, self.endian, self.offset));
         }
         if self.first.is_empty() {
-            return Some(EndianSlice::new_at(self.second, self.endian, self.place));
+            return Some(EndianSlice::new_at(self.second, self.endian, self.offset));
         }
         None
     }
@@ -154,14 +154,14 @@ impl<'a, E: Endianity> Reader for TwoPieces<'a, E> {
     ghost use Rattle.std.specs.Cow.{cow_slice_items, cow_str_bytes};
     ghost use Rattle.std.specs.Str.{IsUtf8};
     ghost use Rattle.dwarf_constants.specs.declared.error.Error.TheVariants.{BadUtf8, OutOfMemory};
-    ghost use Rattle.dwarf_readers.specs.Place.{Moves, ReadsAs, behind_at, prefix_at, split_at};
-    ghost use Rattle.dwarf_readers.specs.TwoPieces.{stretch_of, joined_bytes, CrossesJoint, KeepsJoint};
+    ghost use Rattle.dwarf_readers.specs.Stretch.{Moves, ReadsAs, behind_at, prefix_at, split_at};
+    ghost use Rattle.dwarf_readers.specs.TwoPieces.{joined_stretch, joined_bytes, CrossesJoint, KeepsJoint};
 
     type Endian = E;
 
     type Offset = usize;
 
-    ghost stretch = { λ s. stretch_of E.is_big s };
+    ghost stretch = { λ s. joined_stretch E.is_big s };
 
     fn endian(&self) -> E {
         self.endian
@@ -176,10 +176,10 @@ impl<'a, E: Endianity> Reader for TwoPieces<'a, E> {
     }
 
     fn truncate(&mut self, len: usize) -> Result<()>
-        ensures moved { Moves result (prefix_at len (stretch_of E.is_big self.old))
-            (stretch_of E.is_big self.new) }
+        ensures moved { Moves result (prefix_at len (joined_stretch E.is_big self.old))
+            (joined_stretch E.is_big self.new) }
         ensures unchanged { OnErr result
-            (stretch_of E.is_big self.new ≡ stretch_of E.is_big self.old) }
+            (joined_stretch E.is_big self.new ≡ joined_stretch E.is_big self.old) }
         ensures joint { KeepsJoint self.old self.new }
     {
         if self.left() < len {
@@ -190,18 +190,18 @@ impl<'a, E: Endianity> Reader for TwoPieces<'a, E> {
     }
 
     fn offset_from(&self, base: &Self) -> usize {
-        (self.place - base.place) as usize
+        (self.offset - base.offset) as usize
     }
 
     fn offset_id(&self) -> ReaderOffsetId {
-        ReaderOffsetId(self.place)
+        ReaderOffsetId(self.offset)
     }
 
     fn lookup_offset_id(&self, id: ReaderOffsetId) -> Option<usize> {
-        if id.0 < self.place || self.place + (self.left() as u64) < id.0 {
+        if id.0 < self.offset || self.offset + (self.left() as u64) < id.0 {
             return None;
         }
-        Some((id.0 - self.place) as usize)
+        Some((id.0 - self.offset) as usize)
     }
 
     fn find(&self, byte: u8) -> Result<usize> {
@@ -212,10 +212,10 @@ impl<'a, E: Endianity> Reader for TwoPieces<'a, E> {
     }
 
     fn skip(&mut self, len: usize) -> Result<()>
-        ensures moved { Moves result (behind_at len (stretch_of E.is_big self.old))
-            (stretch_of E.is_big self.new) }
+        ensures moved { Moves result (behind_at len (joined_stretch E.is_big self.old))
+            (joined_stretch E.is_big self.new) }
         ensures unchanged { OnErr result
-            (stretch_of E.is_big self.new ≡ stretch_of E.is_big self.old) }
+            (joined_stretch E.is_big self.new ≡ joined_stretch E.is_big self.old) }
         ensures joint { KeepsJoint self.old self.new }
     {
         if self.left() < len {
@@ -226,10 +226,10 @@ impl<'a, E: Endianity> Reader for TwoPieces<'a, E> {
     }
 
     fn split(&mut self, len: usize) -> Result<Self>
-        ensures read { ReadsAs (stretch_of E.is_big) result
-            (split_at len (stretch_of E.is_big self.old)) (stretch_of E.is_big self.new) }
+        ensures read { ReadsAs (joined_stretch E.is_big) result
+            (split_at len (joined_stretch E.is_big self.old)) (joined_stretch E.is_big self.new) }
         ensures unchanged { OnErr result
-            (stretch_of E.is_big self.new ≡ stretch_of E.is_big self.old) }
+            (joined_stretch E.is_big self.new ≡ joined_stretch E.is_big self.old) }
         ensures joint { KeepsJoint self.old self.new }
         ensures joint_of_part { IfOk result (KeepsJoint self.old) }
     {
@@ -241,7 +241,7 @@ impl<'a, E: Endianity> Reader for TwoPieces<'a, E> {
         Ok(part)
     }
 
-    /// The bytes that are left. They are copied only where they lie on both sides of the joint.
+    // The bytes that are left. They are copied only if they are on both sides of the joint.
     fn to_slice(&self, alloc: Global) -> Result<CowSlice<'_, u8, Global>>
         ensures bytes { IfOk result (λ bytes. cow_slice_items bytes ≡ joined_bytes self.now) }
         ensures memory { IfErr result (λ e. e ≡ OutOfMemory) }
@@ -253,8 +253,8 @@ impl<'a, E: Endianity> Reader for TwoPieces<'a, E> {
         }
     }
 
-    /// The bytes that are left, as a text. They are copied only where they lie on both sides of the
-    /// joint. Fails with `BadUtf8` where they are none.
+    // The bytes that are left, as a text. They are copied only if they are on both sides of the
+    // joint. Fails with `BadUtf8` if they aren't UTF-8.
     fn to_string(&self, alloc: Global) -> Result<CowStr<'_, Global>>
         ensures text { IfOk result (λ text. cow_str_bytes text ≡ joined_bytes self.now) }
         ensures valid { IfOk result (λ text. IsUtf8 (joined_bytes self.now)) }

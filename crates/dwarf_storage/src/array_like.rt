@@ -14,24 +14,24 @@ use std::marker::Model;
 /// Why an item wasn't put at the end of a list.
 #[derive(Debug, Clone, Copy, PartialEq, Eq)]
 pub enum PushError {
-    /// The list has as many items as it has room for.
+    /// The list has as many items as its capacity.
     CapacityFull,
-    /// A list that grows found no memory.
+    /// A list that grows failed to allocate.
     OutOfMemory,
 }
 
-/// A list that may have a capacity: a vector of a fixed size, one with room that it took before, or
-/// a vector that grows.
+/// A list that may have a capacity: a vector of a fixed size, one that allocated its capacity when it
+/// was made, or one that grows.
 pub trait ArrayLike: Drop {
     type Item: Drop;
 
     /// The items, in order.
     ghost items: { Self → List Self.Item };
 
-    /// How many items there is room for; nothing for a list that grows.
+    /// How many items a list can have; nothing for a list that grows.
     ghost capacity: { Option ℕ };
 
-    /// Making a list takes no memory.
+    /// Making a list doesn't allocate.
     ghost is_made_in_place: { Bool };
 
     /// A list without items.
@@ -44,28 +44,28 @@ pub trait ArrayLike: Drop {
         ensures value { result.now ≡ items self.now }
         ensures within { IsWithin capacity (length (items self.now)) };
 
-    /// Whether there is room for so many items more. A list that grows has it always.
+    /// Whether there is room for `more` items. A list that grows always has it.
     fn has_room_for(&self, more: usize) -> bool
         ensures { IsTrue result ↔ IsWithin capacity (length (items self.now) + more) };
 
-    /// Puts an item at the end.
+    /// Appends an item.
     fn try_push(&mut self, item: Self::Item) -> Result<(), PushError>
         ensures room { Pushes capacity (length (items self.old)) result }
         ensures ok { OnOk result (items self.new ≡ items self.old ++ item ∷ []) }
         ensures err { OnErr result (items self.new ≡ items self.old) };
 
-    /// Takes the last item away, if there is one.
+    /// Removes the last item, if there is one.
     fn pop(&mut self) -> Option<Self::Item>
         ensures value { result ≡ slice_get (items self.old) (length (items self.old) - 1) }
         ensures rest { items self.new ≡ take (length (items self.old) - 1) (items self.old) };
 
-    /// Takes an item away, and puts the last one into its place.
+    /// Removes an item, and puts the last one in its stead.
     fn swap_remove(&mut self, index: usize) -> Self::Item
         requires { index < length (items self.old) }
         ensures value { result ≡ slice_index_or (items self.old) index result }
         ensures rest { items self.new ≡ swap_remove (items self.old) index result };
 
-    /// Takes all items away.
+    /// Removes all items.
     fn clear(&mut self)
         ensures { items self.new ≡ [] };
 
@@ -78,12 +78,12 @@ pub trait ArrayLike: Drop {
             (with_item self.old index) self.old) }
         ensures item { IsItemAtMut (items self.old) index result };
 
-    /// A write of an item changes that item alone.
+    /// A list with another item at an index differs at that index alone.
     ghost items_with: { (list : Self) (index : ℕ) (item : Self.Item)
         → items (with_item list index item) ≡ slice_set (items list) index item };
 }
 
-/// A vector of `N` places.
+/// A vector of at most `N` items, in place.
 impl<T: Default + Drop, const N: usize> ArrayLike for ArrayVec<T, N> {
     type Item = T;
 
@@ -134,8 +134,7 @@ impl<T: Default + Drop, const N: usize> ArrayLike for ArrayVec<T, N> {
     }
 }
 
-/// A vector with room on the heap for `N` items, which is taken when it is made, and isn't filled. No
-/// push takes memory.
+/// A vector of at most `N` items on the heap. It allocates when it is made, and no push does.
 #[derive(Drop)]
 pub struct ReservedVec<T, const N: usize> {
     list: Vec<T>,

@@ -1,4 +1,4 @@
-//! Lists with a capacity, and lists that grow: what values, rules and rows lie in.
+//! Lists with a capacity, and lists that grow, for values, rules and rows.
 #![tactic(auto)]
 
 mod array_like;

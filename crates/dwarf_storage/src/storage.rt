@@ -1,6 +1,6 @@
-//! Where what is made of a section lies.
+//! Storages of evaluations and of contexts.
 
-/// A storage on the heap. How much an evaluation or a context holds by it says the trait that
-/// either has for its storages.
+/// A storage on the heap. How much it holds for an evaluation or a context is said by the trait of
+/// their storages.
 #[derive(Debug, Clone, Copy)]
 pub struct StoreOnHeap;

@@ -8,20 +8,18 @@ mod process;
 
 use anyhow::{Result, bail};
 use framehop::x86_64::{CacheX86_64, UnwindRegsX86_64, UnwinderX86_64};
-use framehop::{DwarfUnwindContext, Generations, Unwinder};
+use framehop::{Generations, Unwinder};
 use process::{SAMPLES, Sample, library};
 use std::alloc::Global;
 
 /// A profiler gives up on a stack that is deeper.
 const MOST_FRAMES: usize = 128;
 
+// example: begin
 fn main(rt: HostRuntime) -> Result<()> {
     let unwinder = unwinder_of_process(rt.alloc())?;
-    let mut cache: CacheX86_64 = CacheX86_64::new(
-        rt.alloc(),
-        DwarfUnwindContext::new(rt.alloc())?,
-    )?;
-    print_samples(&rt, &unwinder, &mut cache)?;
+    let mut cache = CacheX86_64::new(rt.alloc())?;
+    print_samples(&rt, &unwinder, &mut cache.0)?;
     println!(rt; "{} rules found in the cache", cache.stats().hits())?;
     Ok(())
 }
@@ -38,6 +36,7 @@ fn unwinder_of_process(alloc: Global) -> Result<UnwinderX86_64<Vec<u8>>> {
     }
     Ok(unwinder)
 }
+// example: end
 
 /// Prints the code addresses of each sample's frames.
 fn print_samples<U: Unwinder<UnwindRegs = UnwindRegsX86_64>>(
@@ -53,6 +52,7 @@ fn print_samples<U: Unwinder<UnwindRegs = UnwindRegsX86_64>>(
     Ok(())
 }
 
+// example: begin
 /// The code addresses of a sample's frames, up to the end of its stack, or to a frame from which no step is known.
 fn code_addresses<U: Unwinder<UnwindRegs = UnwindRegsX86_64>>(
     alloc: Global,
@@ -72,3 +72,4 @@ fn code_addresses<U: Unwinder<UnwindRegs = UnwindRegsX86_64>>(
     }
     Ok(addresses)
 }
+// example: end

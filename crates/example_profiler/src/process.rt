@@ -1,7 +1,7 @@
 //! What a profiler knows of a process: a library, the stack of a thread, and the registers of two samples of it.
 
 use anyhow::Result;
-use framehop::{ExplicitModuleSectionInfo, Module, ModuleUnwindData};
+use framehop::{ExplicitModuleSectionInfo, Module, load_module};
 use std::alloc::Global;
 
 /// The registers of a thread that was stopped, and its stack.
@@ -13,7 +13,7 @@ pub struct Sample {
 }
 
 impl Sample {
-    /// The word of the stack at an address. `Err` where there is none. The stack begins at address 0.
+    /// The word of the stack at an address. `Err` if there is none. The stack begins at address 0.
     pub fn word_at(&self, address: u64) -> std::result::Result<u64, ()> {
         if address % 8 != 0 {
             return Err(());
@@ -28,7 +28,7 @@ const STACK: [u64; 16] = [
     0x0,
 ];
 
-/// A function of sixteen bytes at 0x101000: before it stores the caller's frame pointer, and behind.
+/// A function of sixteen bytes at 0x101000: before it stores the caller's frame pointer, and after.
 pub static SAMPLES: [Sample; 2] = [
     Sample {
         ip: 0x101000,
@@ -51,25 +51,15 @@ static EH_FRAME: [u8; 56] = [
     0x0d, 6, 0, 0, 0, 0,
 ];
 
+// example: begin
 /// The library, which is loaded at 0x100000.
 pub fn library(alloc: Global) -> Result<Module<Vec<u8>>> {
     let mut sections = ExplicitModuleSectionInfo {
         base_svma: 0,
-        text_svma: None,
-        text: None,
-        stubs_svma: None,
-        stub_helper_svma: None,
-        got_svma: None,
-        unwind_info: None,
-        eh_frame_svma: None,
         eh_frame: Some(EH_FRAME.to_vec(alloc)?),
-        eh_frame_hdr_svma: None,
-        eh_frame_hdr: None,
-        debug_frame: None,
-        text_segment_svma: None,
-        text_segment: None,
+        ..Default::default()
     };
-    let unwind_data = ModuleUnwindData::new(alloc, &mut sections)?;
     let name = String::from_str(alloc, "library")?;
-    Ok(Module::new(alloc, name, 0x100000..0x102000, 0x100000, unwind_data)?)
+    Ok(load_module(alloc, name, 0x100000..0x102000, 0x100000, &mut sections)?)
 }
+// example: end

@@ -3,49 +3,49 @@ use Rattle.std.proofs.Common.{◌≡◌, ℕ, List, ◌++◌, Option, Result, Ok
 use Rattle.std.specs.Prelude.{IfOk}
 use Rattle.std.specs.declared.alloc.AllocError.{AllocError}
 use Rattle.dwarf_constants.specs.declared.error.Error.{Error}
-use Rattle.dwarf_readers.specs.Place.{◌>>=◌}
-use Rattle.dwarf_frame_instructions.specs.Programs.{Program, rows_of_program}
+use Rattle.dwarf_readers.specs.Stretch.{◌>>=◌}
+use Rattle.dwarf_frame_instructions.specs.Programs.{EntryProgram, rows_of_program}
 use Rattle.dwarf_frame_rows.specs.Effects.{Limits}
 use Rattle.dwarf_frame_entries.specs.Entries.{Fde, PartialFde}
 use Rattle.frame_table.proofs.Appends.{then}
-use Rattle.frame_table.specs.Entries.{Part, Setting, fde_front, fde_part, front_text, part_or_fault, part_with, whole_fde_part}
+use Rattle.frame_table.specs.Entries.{Part, Setting, fde_prefix, fde_part, prefix_text, part_or_fault, part_with, whole_fde_part}
 use Rattle.frame_table.specs.EntryWrites.{WritesPart}
-use Rattle.frame_table.specs.Front.{Front}
+use Rattle.frame_table.specs.EntryPrefix.{EntryPrefix}
 use Rattle.frame_table_text.specs.Tables.{Table, table_text}
 
--- the front of a line, by equal numbers
-pub same_front : (size size' offset offset' length length' : ℕ) (front : Front) → size ≡ size' → offset ≡ offset' → length ≡ length'
-    → front_text size (record { offset = offset; length = length }) front ≡ front_text size' (record { offset = offset'; length = length' }) front
-same_front size size' offset offset' length length' front s o l =
-    ap (λ (n : ℕ). front_text n (record { offset = offset; length = length }) front) s
-    ∙ ap (λ (n : ℕ). front_text size' (record { offset = n; length = length }) front) o
-    ∙ ap (λ (n : ℕ). front_text size' (record { offset = offset'; length = n }) front) l
+-- the prefix of a line, by equal numbers
+pub same_prefix : (size size' offset offset' length length' : ℕ) (prefix : EntryPrefix) → size ≡ size' → offset ≡ offset' → length ≡ length'
+    → prefix_text size (record { offset = offset; length = length }) prefix ≡ prefix_text size' (record { offset = offset'; length = length' }) prefix
+same_prefix size size' offset offset' length length' prefix s o l =
+    ap (λ (n : ℕ). prefix_text n (record { offset = offset; length = length }) prefix) s
+    ∙ ap (λ (n : ℕ). prefix_text size' (record { offset = n; length = length }) prefix) o
+    ∙ ap (λ (n : ℕ). prefix_text size' (record { offset = offset'; length = n }) prefix) l
 
 -- a line and a table, ended as an entry ends
-pub whole_part : (limits : Limits) (result : Result (Option ℕ) AllocError) (before line t u new : List ℕ) (table shown : Table) (program meant : Program ℕ)
+pub whole_part : (limits : Limits) (result : Result (Option ℕ) AllocError) (before line t u new : List ℕ) (table shown : Table) (program meant : EntryProgram ℕ)
     (place offset end : ℕ) (refusal : Option Error)
     → t ≡ before ++ line
     → u ≡ t ++ table_text table (rows_of_program limits program)
     → refusal ≡ (rows_of_program limits program).refusal
     → table ≡ shown → program ≡ meant → place ≡ offset
-    → ((b body : List ℕ) → u ≡ b ++ body → IfOk result (λ given. WritesPart (part_with place end body refusal) b new given))
-    → IfOk result (λ given. WritesPart (part_with offset end (line ++ table_text shown (rows_of_program limits meant)) (rows_of_program limits meant).refusal) before new given)
+    → ((b body : List ℕ) → u ≡ b ++ body → WritesPart (part_with place end body refusal) b new result)
+    → WritesPart (part_with offset end (line ++ table_text shown (rows_of_program limits meant)) (rows_of_program limits meant).refusal) before new result
 whole_part limits result before line t u new table shown program meant place offset end refusal line_is lines_are refusal_is table_is program_is place_is ends =
     let body = line ++ table_text table (rows_of_program limits program) in
-    let Is : Part → Type 0 = λ part. IfOk result (λ given. WritesPart part before new given) in
+    let Is : Part → Type 0 = λ part. WritesPart part before new result in
     subst (λ (n : ℕ). Is (part_with n end (line ++ table_text shown (rows_of_program limits meant)) (rows_of_program limits meant).refusal)) place_is
-    (subst (λ (p : Program ℕ). Is (part_with place end (line ++ table_text shown (rows_of_program limits p)) (rows_of_program limits p).refusal)) program_is
+    (subst (λ (p : EntryProgram ℕ). Is (part_with place end (line ++ table_text shown (rows_of_program limits p)) (rows_of_program limits p).refusal)) program_is
     (subst (λ (s : Table). Is (part_with place end (line ++ table_text s (rows_of_program limits program)) (rows_of_program limits program).refusal)) table_is
     (subst (λ (r : Option Error). Is (part_with place end body r)) refusal_is
     (ends before body (then before t u line (table_text table (rows_of_program limits program)) line_is lines_are)))))
 
 -- an FDE that is read is listed so
-pub listed_fde : (s : Setting) (partial : PartialFde) (fde : Fde) (front : Front) (cie_offset : ℕ) (result : Result (Option ℕ) AllocError) (old new : List ℕ)
-    → fde_front s.section partial ≡ Ok (fde, front) → cie_offset ≡ partial.cie_offset
-    → IfOk result (λ end. WritesPart (whole_fde_part s cie_offset fde front) old new end)
-    → IfOk result (λ end. WritesPart (part_or_fault partial.head.offset (fde_part s partial)) old new end)
-listed_fde s partial fde front cie_offset result old new read offset_is writes =
-    let is : whole_fde_part s cie_offset fde front ≡ part_or_fault partial.head.offset (fde_part s partial) =
-    ap (λ (n : ℕ). whole_fde_part s n fde front) offset_is
-    ∙ sym (ap (λ (r : Result (Fde × Front) Error). part_or_fault partial.head.offset (r >>= (λ read. Ok (whole_fde_part s partial.cie_offset read.0 read.1)))) read) in
-    subst (λ (part : Part). IfOk result (λ end. WritesPart part old new end)) is writes
+pub listed_fde : (s : Setting) (partial : PartialFde) (fde : Fde) (prefix : EntryPrefix) (cie_offset : ℕ) (result : Result (Option ℕ) AllocError) (old new : List ℕ)
+    → fde_prefix s.section partial ≡ Ok (fde, prefix) → cie_offset ≡ partial.cie_offset
+    → WritesPart (whole_fde_part s cie_offset fde prefix) old new result
+    → WritesPart (part_or_fault partial.head.offset (fde_part s partial)) old new result
+listed_fde s partial fde prefix cie_offset result old new read offset_is writes =
+    let is : whole_fde_part s cie_offset fde prefix ≡ part_or_fault partial.head.offset (fde_part s partial) =
+    ap (λ (n : ℕ). whole_fde_part s n fde prefix) offset_is
+    ∙ sym (ap (λ (r : Result (Fde × EntryPrefix) Error). part_or_fault partial.head.offset (r >>= (λ read. Ok (whole_fde_part s partial.cie_offset read.0 read.1)))) read) in
+    subst (λ (part : Part). WritesPart part old new result) is writes

@@ -15,7 +15,7 @@ use Rattle.frame_table.specs.declared.document.SectionName.TheVariants.{EhFrame,
 use Rattle.frame_table_text.specs.declared.names.Machine.{Machine}
 use Rattle.frame_table_text.specs.declared.names.Machine.TheVariants.{X86_64, AArch64}
 
--- a section: its name, its machine, if that is stated, where it starts, how many bytes an address has where no CIE says it, and its bytes
+-- a section: its name, its machine, if that is stated, its start, the size of an address if no CIE states it, and its bytes
 pub record Stated : Type 0 where
   pub name : SectionName
   pub machine : Option Machine
@@ -30,7 +30,7 @@ named text =
     else if bytes_eq text (codes ".debug_frame") then Some DebugFrame
     else None
 
--- a value that has to be the name of one
+-- a value that has to be the name of a section
 abbrev pub name_value : Data → Checked SectionName
 name_value d = do
   text ← text_value d
@@ -43,7 +43,7 @@ machine_named text =
     else if bytes_eq text (codes "aarch64") then Some AArch64
     else None
 
--- a value that has to be the name of one
+-- a value that has to be the name of a machine
 abbrev pub machine_value : Data → Checked Machine
 machine_value d = do
   text ← text_value d
@@ -53,15 +53,15 @@ machine_value d = do
 abbrev pub size_of_addresses : ℕ → Checked ℕ
 size_of_addresses size = if is_size size then Ok size else Err BadNumber
 
--- a value that has to be one
+-- a value that has to be a size of addresses
 abbrev pub size_value : Data → Checked ℕ
 size_value d = do
   size ← number_value d
   size_of_addresses size
 
 -- the fields of a document
-abbrev pub document_names : List (List ℕ)
-document_names = codes "name" ∷ codes "machine" ∷ codes "start" ∷ codes "address_size" ∷ codes "bytes" ∷ []
+abbrev pub field_names : List (List ℕ)
+field_names = codes "name" ∷ codes "machine" ∷ codes "start" ∷ codes "address_size" ∷ codes "bytes" ∷ []
 
 -- the section of these parts
 abbrev pub stated_of : SectionName → Option Machine → ℕ → ℕ → List ℕ → Stated
@@ -80,8 +80,8 @@ fields_in d =
     ⊛ field address_value (codes "start") d ⊛ field size_value (codes "address_size") d ⊛ field bytes_value (codes "bytes") d
 
 -- the section that a value states
-abbrev pub section_in : Data → Checked Stated
-section_in d = if has_float d then Err FloatNumber else if has_only document_names d then fields_in d else Err BadCommand
+abbrev pub stated_by : Data → Checked Stated
+stated_by d = if has_float d then Err FloatNumber else if has_only field_names d then fields_in d else Err BadCommand
 
 -- a fault of a field is the document's
 abbrev pub of_document : FaultName → FaultName
@@ -95,7 +95,7 @@ in_document (Err name) = Err (record { name = of_document name; number = 0 })
 
 -- the section that bytes state
 abbrev pub stated_value : List ℕ → Checked Stated
-stated_value bytes = if nat_lt DOCUMENT_LIMIT (length bytes) then Err TooLong else ok_or (json_of bytes) NotJson >>= section_in
+stated_value bytes = if nat_lt DOCUMENT_LIMIT (length bytes) then Err TooLong else ok_or (json_of bytes) NotJson >>= stated_by
 
 -- what a document states, or its fault
 abbrev pub stated_in : List ℕ → Result Stated Fault

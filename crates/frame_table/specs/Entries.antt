@@ -5,18 +5,18 @@ use Rattle.json_program.specs.Lines.{hexadecimal, line}
 use Rattle.dwarf_constants.specs.Error.{variant_name}
 use Rattle.dwarf_constants.specs.declared.common.Vendor.{Vendor}
 use Rattle.dwarf_constants.specs.declared.error.Error.{Error}
-use Rattle.dwarf_readers.specs.Place.{◌>>=◌}
-use Rattle.dwarf_frame_instructions.specs.Programs.{Program, Instructions, Rows, rows_of_program}
+use Rattle.dwarf_readers.specs.Stretch.{◌>>=◌}
+use Rattle.dwarf_frame_instructions.specs.Programs.{EntryProgram, Instructions, RowList, rows_of_program}
 use Rattle.dwarf_frame_rows.specs.Effects.{Limits}
 use Rattle.dwarf_frame_rows.specs.declared.section.CieOffsetEncoding.{CieOffsetEncoding}
 use Rattle.dwarf_frame_rows.specs.declared.section.CieOffsetEncoding.TheVariants.{U32, U64}
-use Rattle.dwarf_frame_sections.specs.Sections.{FrameSection}
+use Rattle.dwarf_frame_rows.specs.FrameSection.{FrameSection}
 use Rattle.dwarf_frame_entries.specs.Entries.{AnyEntry, Cie, Fde, Head, PartialFde, end_address, fde_of}
 use Rattle.dwarf_frame_entries.specs.EntryPrograms.{cie_instructions, factors_of, fde_instructions, fde_program}
 use Rattle.dwarf_frame_entries.specs.declared.entries.Entry.TheVariants as which
 use Rattle.frame_table_text.specs.Cells.{hex_of}
 use Rattle.frame_table_text.specs.Columns.{all_nops, columns_with}
-use Rattle.frame_table.specs.Front.{Front, augmentation_text, front_at}
+use Rattle.frame_table.specs.EntryPrefix.{EntryPrefix, augmentation_text, entry_prefix_at}
 use Rattle.frame_table_text.specs.Tables.{Table, table_text}
 use Rattle.frame_table_text.specs.declared.names.Machine.{Machine}
 
@@ -27,16 +27,16 @@ pub record Setting : Type 0 where
   pub machine : Option Machine
   pub limits : Limits
 
--- the line of a fault: its name, and the place of the entry that has it
+-- the line of a fault: the error's name, and the offset of the entry that has it
 abbrev pub fault_text : Error → ℕ → List ℕ
-fault_text e place = line (codes "fault " ++ variant_name e ++ codes " at " ++ hexadecimal place)
+fault_text e offset = line (codes "fault " ++ variant_name e ++ codes " at " ++ hexadecimal offset)
 
--- what is listed of an entry: its text, and the place behind it, or none where a fault ends the listing
+-- the text of an entry, and the offset after it, or none if an error ends the listing
 pub record Part : Type 0 where
   pub text : List ℕ
   pub end : Option ℕ
 
--- a text, and the line of a fault, if there is one, of the entry at an offset, which ends at this place
+-- a text, and the line of the error, if there is one, of the entry at an offset, which ends at another
 abbrev pub part_with : ℕ → ℕ → List ℕ → Option Error → Part
 part_with offset end text None = record { text = text; end = Some end }
 part_with offset end text (Some e) = record { text = text ++ fault_text e offset; end = None }
@@ -53,11 +53,11 @@ abbrev pub id_digits : CieOffsetEncoding → ℕ
 id_digits U32 = 8
 id_digits U64 = 16
 
--- the front of an entry's line: where it stands, its length and its id
-abbrev pub front_text : ℕ → Head → Front → List ℕ
-front_text address_size head front =
+-- the beginning of an entry's line: its offset, its length and its id
+abbrev pub prefix_text : ℕ → Head → EntryPrefix → List ℕ
+prefix_text address_size head prefix =
     codes "\n" ++ hex_of 8 head.offset ++ codes " " ++ hex_of (2 * address_size) head.length ++ codes " "
-    ++ hex_of (id_digits front.width) front.id
+    ++ hex_of (id_digits prefix.width) prefix.id
 
 -- the table of an entry with a CIE: columns are named by both their instructions, and it is shown unless all of the entry's own are
 -- padding
@@ -73,7 +73,7 @@ entry_table machine cie columns own = record {
 -- ---- common information entries
 
 -- a program of the CIE's instructions alone, from 0 on
-abbrev pub cie_program : FrameSection → Vendor → Cie → Program ℕ
+abbrev pub cie_program : FrameSection → Vendor → Cie → EntryProgram ℕ
 cie_program section vendor cie = record {
   factors = factors_of cie;
   initial_address = 0;
@@ -83,14 +83,14 @@ cie_program section vendor cie = record {
 }
 
 -- the rows of a CIE
-abbrev pub cie_rows : Setting → Cie → Rows ℕ
+abbrev pub cie_rows : Setting → Cie → RowList ℕ
 cie_rows s cie = rows_of_program s.limits (cie_program s.section s.vendor cie)
 
 -- the table of a CIE
 abbrev pub cie_table : Setting → Cie → Table
 cie_table s cie = entry_table s.machine cie [] (cie_instructions s.section s.vendor cie)
 
--- the factors of a CIE, behind the text of its augmentation
+-- the factors of a CIE, which are after the text of its augmentation
 abbrev pub cie_factors : Cie → List ℕ
 cie_factors cie = codes "\" cf=" ++ decimal cie.code_alignment_factor ++ codes " df=" ++ signed_decimal cie.data_alignment_factor
 
@@ -99,33 +99,33 @@ abbrev pub cie_register : Cie → List ℕ
 cie_register cie = codes " ra=" ++ decimal cie.return_address_register.0 ++ codes "\n"
 
 -- the line of a CIE, with the text of its augmentation
-abbrev pub cie_line : Cie → Front → List ℕ → List ℕ
-cie_line cie front augmentation =
-    front_text cie.address_size cie.head front ++ codes " CIE \"" ++ augmentation ++ cie_factors cie ++ cie_register cie
+abbrev pub cie_line : Cie → EntryPrefix → List ℕ → List ℕ
+cie_line cie prefix augmentation =
+    prefix_text cie.address_size cie.head prefix ++ codes " CIE \"" ++ augmentation ++ cie_factors cie ++ cie_register cie
 
--- what is listed of a CIE behind its front
-abbrev pub whole_cie_part : Setting → Cie → Front → List ℕ → Part
-whole_cie_part s cie front augmentation =
-    part_with cie.head.offset front.end (cie_line cie front augmentation ++ table_text (cie_table s cie) (cie_rows s cie))
+-- the text of a CIE whose prefix is read
+abbrev pub whole_cie_part : Setting → Cie → EntryPrefix → List ℕ → Part
+whole_cie_part s cie prefix augmentation =
+    part_with cie.head.offset prefix.end (cie_line cie prefix augmentation ++ table_text (cie_table s cie) (cie_rows s cie))
     (cie_rows s cie).refusal
 
--- the front of the CIE at an offset, and the text of its augmentation
-abbrev pub cie_front : FrameSection → ℕ → Result (Front × List ℕ) Error
-cie_front section offset = do
-  front ← front_at section offset
-  augmentation ← augmentation_text front
-  Ok (front, augmentation)
+-- the prefix of the CIE at an offset, and the text of its augmentation
+abbrev pub cie_prefix : FrameSection → ℕ → Result (EntryPrefix × List ℕ) Error
+cie_prefix section offset = do
+  prefix ← entry_prefix_at section offset
+  augmentation ← augmentation_text prefix
+  Ok (prefix, augmentation)
 
--- what is listed of a CIE
+-- the text of a CIE, or the error of its prefix
 abbrev pub cie_part : Setting → Cie → Result Part Error
 cie_part s cie = do
-  read ← cie_front s.section cie.head.offset
+  read ← cie_prefix s.section cie.head.offset
   Ok (whole_cie_part s cie read.0 read.1)
 
 -- ---- frame description entries
 
 -- the rows of an FDE
-abbrev pub rows_of_fde : Setting → Fde → Rows ℕ
+abbrev pub rows_of_fde : Setting → Fde → RowList ℕ
 rows_of_fde s fde = rows_of_program s.limits (fde_program s.section s.vendor fde)
 
 -- the table of an FDE
@@ -133,40 +133,40 @@ abbrev pub fde_table : Setting → Fde → Table
 fde_table s fde =
     entry_table s.machine fde.cie (columns_with [] (cie_instructions s.section s.vendor fde.cie)) (fde_instructions s.section s.vendor fde)
 
--- where the CIE of an FDE stands, and its code, from its start to its end
+-- the offset of an FDE's CIE, and its code, from its start to its end
 abbrev pub fde_places : ℕ → ℕ → ℕ → ℕ → List ℕ
 fde_places address_size cie_offset start end =
     codes " FDE cie=" ++ hex_of 8 cie_offset ++ codes " pc=" ++ hex_of (2 * address_size) start ++ codes ".."
     ++ hex_of (2 * address_size) end ++ codes "\n"
 
 -- the line of an FDE
-abbrev pub fde_line : ℕ → Fde → Front → List ℕ
-fde_line cie_offset fde front =
-    front_text fde.cie.address_size fde.head front
+abbrev pub fde_line : ℕ → Fde → EntryPrefix → List ℕ
+fde_line cie_offset fde prefix =
+    prefix_text fde.cie.address_size fde.head prefix
     ++ fde_places fde.cie.address_size cie_offset fde.initial_address (end_address fde)
 
--- what is listed of an FDE behind its front
-abbrev pub whole_fde_part : Setting → ℕ → Fde → Front → Part
-whole_fde_part s cie_offset fde front =
-    part_with fde.head.offset front.end (fde_line cie_offset fde front ++ table_text (fde_table s fde) (rows_of_fde s fde))
+-- the text of an FDE whose prefix is read
+abbrev pub whole_fde_part : Setting → ℕ → Fde → EntryPrefix → Part
+whole_fde_part s cie_offset fde prefix =
+    part_with fde.head.offset prefix.end (fde_line cie_offset fde prefix ++ table_text (fde_table s fde) (rows_of_fde s fde))
     (rows_of_fde s fde).refusal
 
--- an FDE with its CIE, and its front
-abbrev pub fde_front : FrameSection → PartialFde → Result (Fde × Front) Error
-fde_front section partial = do
+-- an FDE with its CIE, and its prefix
+abbrev pub fde_prefix : FrameSection → PartialFde → Result (Fde × EntryPrefix) Error
+fde_prefix section partial = do
   fde ← fde_of section.limit section.kind partial
-  front ← front_at section partial.head.offset
-  Ok (fde, front)
+  prefix ← entry_prefix_at section partial.head.offset
+  Ok (fde, prefix)
 
--- what is listed of an FDE
+-- the text of an FDE, or the error of its parts
 abbrev pub fde_part : Setting → PartialFde → Result Part Error
 fde_part s partial = do
-  read ← fde_front s.section partial
+  read ← fde_prefix s.section partial
   Ok (whole_fde_part s partial.cie_offset read.0 read.1)
 
 -- ---- either
 
--- what is listed of an entry
-abbrev pub part_of : Setting → AnyEntry → Part
-part_of s (which.Cie cie) = part_or_fault cie.head.offset (cie_part s cie)
-part_of s (which.Fde partial) = part_or_fault partial.head.offset (fde_part s partial)
+-- the text of an entry
+abbrev pub listed_part : Setting → AnyEntry → Part
+listed_part s (which.Cie cie) = part_or_fault cie.head.offset (cie_part s cie)
+listed_part s (which.Fde partial) = part_or_fault partial.head.offset (fde_part s partial)

@@ -1,15 +1,22 @@
 -- What calls write of entries.
-use Rattle.std.specs.Prelude.{◌≡◌, ℕ, List, ◌++◌, Option}
+use Rattle.std.specs.Prelude.{◌≡◌, ℕ, Bool, List, ◌++◌, Option, Result, IfOk}
+use Rattle.json_program.specs.Stream.{WritesText}
 use Rattle.dwarf_constants.specs.declared.common.Vendor.{Vendor}
 use Rattle.dwarf_frame_rows.specs.Effects.{Limits}
-use Rattle.dwarf_frame_sections.specs.Sections.{FrameSection}
+use Rattle.dwarf_frame_rows.specs.FrameSection.{FrameSection}
 use Rattle.frame_table.specs.Entries.{Part, Setting}
+use Rattle.frame_table.specs.Listing.{Listing}
 use Rattle.frame_table_text.specs.declared.names.Machine.{Machine}
 
 -- a setting of these parts
-abbrev pub setting_with : Limits → FrameSection → Vendor → Option Machine → Setting
-setting_with limits section vendor machine = record { section = section; vendor = vendor; machine = machine; limits = limits }
+abbrev pub setting : Limits → FrameSection → Vendor → Option Machine → Setting
+setting limits section vendor machine = record { section = section; vendor = vendor; machine = machine; limits = limits }
 
--- A call wrote a part behind a text, and gave the place behind the entry, if a fault doesn't end the listing.
-abbrev pub WritesPart : Part → List ℕ → List ℕ → Option ℕ → Type 0
-WritesPart part old new end = (new ≡ old ++ part.text) × (end ≡ part.end)
+-- A call appended a part to a text, and returned the offset after its entry, or None if an error ends the listing there.
+abbrev pub WritesPart : {E : Type 0} → Part → List ℕ → List ℕ → Result (Option ℕ) E → Type 0
+WritesPart part old new result = IfOk result (λ end. (new ≡ old ++ part.text) × (end ≡ part.end))
+
+-- A call wrote a listing to a sink, and returned whether it has the whole section. After an error a prefix of the text is written.
+pub record WritesListing {E : Type 0} (listing : Listing) (old new : Option (List ℕ)) (result : Result Bool E) : Type 0 where
+  pub text : WritesText result old new listing.text
+  pub is_whole : IfOk result (λ is_whole. is_whole ≡ listing.is_whole)

@@ -2,8 +2,8 @@ pub mod Document
 pub mod DocumentViews
 pub mod Entries
 pub mod EntryWrites
-pub mod Front
-pub mod FrontViews
+pub mod EntryPrefix
+pub mod EntryPrefixViews
 pub mod Listing
 pub mod Text
 pub mod TooLong

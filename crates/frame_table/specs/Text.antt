@@ -5,12 +5,13 @@ use Rattle.json_program.specs.Lines.{line}
 use Rattle.json_program.specs.declared.fault.Fault.{Fault}
 use Rattle.dwarf_constants.specs.declared.common.Vendor.{Vendor}
 use Rattle.dwarf_constants.specs.declared.common.Vendor.TheVariants as vendor
-use Rattle.dwarf_readers.specs.Place.{whole}
+use Rattle.dwarf_readers.specs.Stretch.{whole}
 use Rattle.dwarf_frame_rows.specs.Effects.{limits_of}
-use Rattle.dwarf_frame_rows.specs.SectionKind.{SectionKind}
+use Rattle.dwarf_frame_rows.specs.SectionKind.{FrameSectionKind}
 use Rattle.dwarf_frame_rows.specs.declared.base_addresses.BaseAddresses.{BaseAddresses}
 use Rattle.dwarf_frame_rows.specs.declared.base_addresses.SectionBaseAddresses.{SectionBaseAddresses}
-use Rattle.dwarf_frame_sections.specs.Sections.{FrameSection, debug_frame, eh_frame, frame_section}
+use Rattle.dwarf_frame_rows.specs.FrameSection.{FrameSection, frame_section}
+use Rattle.dwarf_frame_sections.specs.Sections.{debug_frame, eh_frame}
 use Rattle.frame_table.specs.Document.{Stated, stated_in}
 use Rattle.frame_table.specs.Entries.{Setting}
 use Rattle.frame_table.specs.Listing.{Listing, listing_of}
@@ -22,15 +23,15 @@ use Rattle.frame_table.specs.declared.program.Ending.{Ending}
 use Rattle.frame_table.specs.declared.program.Ending.TheVariants.{Listed, Faulty}
 
 -- the kind of a section
-abbrev pub section_kind : SectionName → SectionKind
+abbrev pub section_kind : SectionName → FrameSectionKind
 section_kind EhFrame = eh_frame
 section_kind DebugFrame = debug_frame
 
--- the section's start is all that is known of the addresses that pointers count from
+-- no address that pointers are relative to
 abbrev pub no_bases : SectionBaseAddresses
 no_bases = record { section = None; text = None; data_base = None }
 
--- pointers in the section count from its start
+-- pointers are relative to the start of the section, and to nothing else
 abbrev pub bases_from : ℕ → BaseAddresses
 bases_from start = record { eh_frame_hdr = no_bases; eh_frame = record no_bases { section = Some start } }
 

@@ -1,16 +1,15 @@
 //! What a listing has of common information entries.
-ghost use Rattle.std.specs.Prelude.{◌≡◌, ◌++◌, IfOk, OnOk, []};
+
+ghost use Rattle.std.specs.Prelude.{◌≡◌, ◌++◌, OnOk, []};
 ghost use Rattle.dwarf_endianity.specs.Answers.{Gives};
 ghost use Rattle.dwarf_frame_entries.specs.EntryViews.{cie_view};
 ghost use Rattle.dwarf_frame_instructions.specs.ProgramRows.{program_of};
-ghost use Rattle.dwarf_frame_rows.specs.Effects.{limits_of};
-ghost use Rattle.dwarf_frame_sections.specs.Sections.{frame_section};
-ghost use Rattle.frame_table.specs.Entries.{cie_factors, cie_front, cie_line, cie_part, cie_program, cie_register, part_or_fault, whole_cie_part};
-ghost use Rattle.frame_table.specs.EntryWrites.{WritesPart, setting_with};
-ghost use Rattle.frame_table.specs.FrontViews.{front_view};
+ghost use Rattle.frame_table.specs.Entries.{cie_factors, cie_prefix, cie_line, cie_part, cie_program, cie_register, part_or_fault, whole_cie_part};
+ghost use Rattle.frame_table.specs.EntryWrites.{WritesPart, setting};
+ghost use Rattle.frame_table.specs.EntryPrefixViews.{prefix_view};
 
-use crate::front::{Front, augmentation_of, front_at};
-use crate::parts::{end_part, factors_of, push_fault, push_front, table_of};
+use crate::entry_prefix::{EntryPrefix, augmentation_of, entry_prefix_at};
+use crate::parts::{end_part, factors_of, push_fault, push_prefix, table_of};
 use dwarf_frame_entries::{
     BaseAddresses, CallFrameInstructionIter, CommonInformationEntry, UnwindContext,
     UnwindContextStorage, UnwindSection,
@@ -22,7 +21,7 @@ use frame_table_text::{Machine, push_bytes, push_decimal, push_signed};
 use std::alloc::{AllocError, Global};
 use std::collections::BTreeSet;
 
-/// No instructions.
+// No instructions.
 fn no_instructions<'a, R: Reader, Section: UnwindSection<R>>(
     section: &'a Section,
     bases: &'a BaseAddresses,
@@ -42,7 +41,7 @@ where
     CallFrameInstructionIter::new(none, None, parameters, section.vendor())
 }
 
-/// A program of a CIE's instructions alone, from 0 on.
+// A program of a CIE's instructions alone, from 0 on.
 fn cie_program<'a, R: Reader, Section: UnwindSection<R>>(
     section: &'a Section,
     bases: &'a BaseAddresses,
@@ -50,8 +49,7 @@ fn cie_program<'a, R: Reader, Section: UnwindSection<R>>(
 ) -> FrameProgram<'a, R>
 where
     R: 'a,
-    ensures { program_of result ≡ cie_program (frame_section R.Offset.limit Section.kind
-        (Section.size section.now) (R.stretch (Section.reader section.now)) bases.now)
+    ensures { program_of result ≡ cie_program (Section.frame section.now bases.now)
         (Section.extensions section.now) (cie_view R.stretch R.Offset.value cie.now) }
 {
     FrameProgram {
@@ -63,7 +61,7 @@ where
     }
 }
 
-/// Appends the factors of a CIE.
+// Appends the factors of a CIE.
 fn push_factors<R: Reader>(
     alloc: Global,
     cie: &CommonInformationEntry<R>,
@@ -78,7 +76,7 @@ fn push_factors<R: Reader>(
     push_signed(alloc, text, cie.data_alignment_factor())
 }
 
-/// Appends the column of the return address.
+// Appends the column of the return address.
 fn push_register<R: Reader>(
     alloc: Global,
     cie: &CommonInformationEntry<R>,
@@ -93,29 +91,29 @@ fn push_register<R: Reader>(
     push_bytes(text, b"\n")
 }
 
-/// Appends the line of a CIE.
+// Appends the line of a CIE.
 fn push_cie_line<R: Reader>(
     alloc: Global,
     cie: &CommonInformationEntry<R>,
-    front: &Front<R>,
+    prefix: &EntryPrefix<R>,
     augmentation: &R,
     text: &mut Vec<u8>,
 ) -> Result<(), AllocError>
     ensures { OnOk result (text.new.items ≡ text.old.items
-        ++ cie_line (cie_view R.stretch R.Offset.value cie.now) (front_view R.stretch front.now)
+        ++ cie_line (cie_view R.stretch R.Offset.value cie.now) (prefix_view R.stretch prefix.now)
         (R.stretch augmentation.now).bytes) }
 {
     let offset = cie.offset().into_u64();
     let length = cie.entry_len().into_u64();
     let size = cie.address_size();
-    push_front(alloc, size, offset, length, front, text)?;
+    push_prefix(alloc, size, offset, length, prefix, text)?;
     push_bytes(text, b" CIE \"")?;
     push_reader(alloc, augmentation, text)?;
     push_factors(alloc, cie, text)?;
     push_register(alloc, cie, text)
 }
 
-/// Appends the bytes of a reader.
+// Appends the bytes of a reader.
 fn push_reader<R: Reader>(alloc: Global, reader: &R, text: &mut Vec<u8>) -> Result<(), AllocError>
     ensures { OnOk result (text.new.items ≡ text.old.items ++ (R.stretch reader.now).bytes) }
 {
@@ -125,23 +123,22 @@ fn push_reader<R: Reader>(alloc: Global, reader: &R, text: &mut Vec<u8>) -> Resu
     }
 }
 
-/// The front of a CIE, and the text of its augmentation.
-fn cie_front<R: Reader, Section: UnwindSection<R>>(
+// The prefix of a CIE, and the text of its augmentation.
+fn cie_prefix<R: Reader, Section: UnwindSection<R>>(
     section: &Section,
     bases: &BaseAddresses,
     offset: R::Offset,
-) -> dwarf_constants::Result<(Front<R>, R)>
-    ensures { Gives (λ read. (front_view R.stretch read.0, (R.stretch read.1).bytes)) result
-        (cie_front (frame_section R.Offset.limit Section.kind
-        (Section.size section.now) (R.stretch (Section.reader section.now)) bases.now)
+) -> dwarf_constants::Result<(EntryPrefix<R>, R)>
+    ensures { Gives (λ read. (prefix_view R.stretch read.0, (R.stretch read.1).bytes)) result
+        (cie_prefix (Section.frame section.now bases.now)
         (R.Offset.value offset)) }
 {
-    let front = front_at(section, bases, offset)?;
-    let augmentation = augmentation_of(&front)?;
-    Ok((front, augmentation))
+    let prefix = entry_prefix_at(section, bases, offset)?;
+    let augmentation = augmentation_of(&prefix)?;
+    Ok((prefix, augmentation))
 }
 
-/// Appends what is listed of a CIE behind its front.
+// Appends the text of a CIE whose prefix is read.
 fn push_whole_cie<R: Reader, Section: UnwindSection<R>, S: UnwindContextStorage<R::Offset>>(
     alloc: Global,
     section: &Section,
@@ -149,26 +146,24 @@ fn push_whole_cie<R: Reader, Section: UnwindSection<R>, S: UnwindContextStorage<
     machine: Option<Machine>,
     context: &mut UnwindContext<R::Offset, S>,
     cie: &CommonInformationEntry<R>,
-    front: &Front<R>,
+    prefix: &EntryPrefix<R>,
     augmentation: &R,
     text: &mut Vec<u8>,
 ) -> Result<Option<u64>, AllocError>
-    ensures { let limits = limits_of S.Rules.capacity S.Stack.capacity in
-        let s = setting_with limits (frame_section R.Offset.limit Section.kind
-        (Section.size section.now) (R.stretch (Section.reader section.now)) bases.now)
+    ensures { let s = setting S.limits (Section.frame section.now bases.now)
         (Section.extensions section.now) machine in
-        IfOk result (λ end. WritesPart (whole_cie_part s (cie_view R.stretch R.Offset.value cie.now)
-        (front_view R.stretch front.now) (R.stretch augmentation.now).bytes)
-        text.old.items text.new.items end) }
+        WritesPart (whole_cie_part s (cie_view R.stretch R.Offset.value cie.now)
+        (prefix_view R.stretch prefix.now) (R.stretch augmentation.now).bytes)
+        text.old.items text.new.items result }
 {
-    push_cie_line(alloc, cie, front, augmentation, text)?;
+    push_cie_line(alloc, cie, prefix, augmentation, text)?;
     let none = BTreeSet::new(alloc);
     let table = table_of(alloc, machine, cie, none, cie.instructions(section, bases))?;
     let refusal = table.push(alloc, context, cie_program(section, bases, cie), text)?;
-    end_part(alloc, refusal, cie.offset().into_u64(), front.end, text)
+    end_part(alloc, refusal, cie.offset().into_u64(), prefix.end, text)
 }
 
-/// Appends what is listed of a CIE.
+/// Appends the text of a CIE.
 pub(crate) fn push_cie<R: Reader, Section: UnwindSection<R>, S: UnwindContextStorage<R::Offset>>(
     alloc: Global,
     section: &Section,
@@ -178,16 +173,14 @@ pub(crate) fn push_cie<R: Reader, Section: UnwindSection<R>, S: UnwindContextSto
     cie: &CommonInformationEntry<R>,
     text: &mut Vec<u8>,
 ) -> Result<Option<u64>, AllocError>
-    ensures { let limits = limits_of S.Rules.capacity S.Stack.capacity in
-        let s = setting_with limits (frame_section R.Offset.limit Section.kind
-        (Section.size section.now) (R.stretch (Section.reader section.now)) bases.now)
+    ensures { let s = setting S.limits (Section.frame section.now bases.now)
         (Section.extensions section.now) machine in
         let view = cie_view R.stretch R.Offset.value cie.now in
-        IfOk result (λ end. WritesPart (part_or_fault view.head.offset (cie_part s view))
-        text.old.items text.new.items end) }
+        WritesPart (part_or_fault view.head.offset (cie_part s view))
+        text.old.items text.new.items result }
 {
-    match cie_front(section, bases, cie.offset()) {
-        Ok((front, augmentation)) => {
+    match cie_prefix(section, bases, cie.offset()) {
+        Ok((prefix, augmentation)) => {
             push_whole_cie(
                 alloc,
                 section,
@@ -195,7 +188,7 @@ pub(crate) fn push_cie<R: Reader, Section: UnwindSection<R>, S: UnwindContextSto
                 machine,
                 context,
                 cie,
-                &front,
+                &prefix,
                 &augmentation,
                 text,
             )

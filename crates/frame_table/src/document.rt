@@ -1,19 +1,20 @@
 //! The document: JSON text in, a section or the document's fault out.
+
 ghost use Rattle.std.specs.Prelude.{◌≡◌, IfOk, IsTrue, codes, ok_or};
 ghost use Rattle.serde_json.specs.Find.{get};
 ghost use Rattle.serde_json.specs.View.{view};
 ghost use Rattle.dwarf_readers.specs.InitialLength.{is_size};
 ghost use Rattle.json_program.specs.Decoded.{Decodes};
 ghost use Rattle.json_program.specs.Json.{bytes_value, field, optional_value};
-ghost use Rattle.frame_table.specs.Document.{fields_in, in_document, machine_named, machine_value, name_value, named, of_document, section_in, size_of_addresses, size_value, stated_in, stated_value};
+ghost use Rattle.frame_table.specs.Document.{fields_in, machine_named, machine_value, name_value, named, of_document, size_of_addresses, size_value, stated_by, stated_in, stated_value};
 ghost use Rattle.frame_table.specs.DocumentViews.{stated_view};
 
 use frame_table_text::Machine;
-use json_program::check::{Checked, both, weighed};
-use json_program::field::{address_field, has_only, needed, number_field, text_field, text_in};
+use json_program::check::{Checked, both, keep_fault};
+use json_program::field::{address_field, find_field, has_only, number_field, text_field, text_in};
 use json_program::float::has_float;
 use json_program::json::{bytes_in, read};
-use json_program::{DOCUMENT_LIMIT, Fault, FaultName, Refusal};
+use json_program::{DOCUMENT_LIMIT, DecodeError, Fault, FaultName};
 use serde_json::Value;
 use std::alloc::Global;
 
@@ -31,12 +32,12 @@ pub(crate) struct Stated {
     pub(crate) machine: Option<Machine>,
     /// Where the section starts.
     pub(crate) start: u64,
-    /// The size of an address in bytes, where no CIE says it.
+    /// The size of an address in bytes, if no CIE states it.
     pub(crate) address_size: u8,
     pub(crate) bytes: Vec<u8>,
 }
 
-/// The section of a name.
+// The section of a name.
 fn named(text: &str) -> Option<SectionName>
     ensures { result ≡ named text.now }
 {
@@ -47,14 +48,14 @@ fn named(text: &str) -> Option<SectionName>
     }
 }
 
-/// The section that the document names.
+// The section that the document names.
 fn name_field(object: &Value) -> Checked<SectionName>
     ensures { result ≡ field name_value (codes "name") (view object.now) }
 {
     named(text_field(object, "name")?).ok_or(FaultName::BadCommand)
 }
 
-/// The machine of a name.
+// The machine of a name.
 fn machine_named(text: &str) -> Option<Machine>
     ensures { result ≡ machine_named text.now }
 {
@@ -65,14 +66,14 @@ fn machine_named(text: &str) -> Option<Machine>
     }
 }
 
-/// A value that has to be the name of a machine.
+// A value that has to be the name of a machine.
 fn machine_in(value: &Value) -> Checked<Machine>
     ensures { result ≡ machine_value (view value.now) }
 {
     machine_named(text_in(value)?).ok_or(FaultName::BadCommand)
 }
 
-/// The machine, where the document states one.
+// The machine, if the document states one.
 fn machine_field(object: &Value) -> Checked<Option<Machine>>
     ensures { result ≡ optional_value machine_value (get (codes "machine") (view object.now)) }
 {
@@ -82,7 +83,7 @@ fn machine_field(object: &Value) -> Checked<Option<Machine>>
     }
 }
 
-/// A size that addresses have, in bytes.
+// A size that addresses have, in bytes.
 fn size_of_addresses(size: u64) -> Checked<u8>
     ensures size { result ≡ size_of_addresses size }
     ensures valid { IfOk result (λ size. IsTrue (is_size size)) }
@@ -96,7 +97,7 @@ fn size_of_addresses(size: u64) -> Checked<u8>
     }
 }
 
-/// The size of addresses.
+// The size of addresses.
 fn size_field(object: &Value) -> Checked<u8>
     ensures size { result ≡ field size_value (codes "address_size") (view object.now) }
     ensures valid { IfOk result (λ size. IsTrue (is_size size)) }
@@ -104,16 +105,16 @@ fn size_field(object: &Value) -> Checked<u8>
     size_of_addresses(number_field(object, "address_size")?)
 }
 
-/// The bytes of the section.
-fn bytes_field(alloc: Global, object: &Value) -> Result<Vec<u8>, Refusal<FaultName>>
+// The bytes of the section.
+fn bytes_field(alloc: Global, object: &Value) -> Result<Vec<u8>, DecodeError<FaultName>>
     ensures { Decodes (λ bytes. bytes.items) result
         (field bytes_value (codes "bytes") (view object.now)) }
 {
-    bytes_in(alloc, needed(object, "bytes")?)
+    bytes_in(alloc, find_field(object, "bytes")?)
 }
 
-/// The section that the fields of an object state.
-fn fields_in(alloc: Global, object: &Value) -> Result<Stated, Refusal<FaultName>>
+// The section that the fields of an object state.
+fn fields_in(alloc: Global, object: &Value) -> Result<Stated, DecodeError<FaultName>>
     ensures stated { Decodes stated_view result (fields_in (view object.now)) }
     ensures size { IfOk result (λ stated. IsTrue (is_size stated.address_size)) }
 {
@@ -121,7 +122,7 @@ fn fields_in(alloc: Global, object: &Value) -> Result<Stated, Refusal<FaultName>
     let machine = machine_field(object);
     let start = address_field(object, "start");
     let size = size_field(object);
-    let bytes = weighed(bytes_field(alloc, object))?;
+    let bytes = keep_fault(bytes_field(alloc, object))?;
     let front = both(both(name, machine), start);
     let ((((name, machine), start), address_size), bytes) = both(both(front, size), bytes)?;
     Ok(Stated {
@@ -133,34 +134,34 @@ fn fields_in(alloc: Global, object: &Value) -> Result<Stated, Refusal<FaultName>
     })
 }
 
-/// The section that a value states.
-fn section_in(alloc: Global, value: &Value) -> Result<Stated, Refusal<FaultName>>
-    ensures stated { Decodes stated_view result (section_in (view value.now)) }
+// The section that a value states.
+fn stated_by(alloc: Global, value: &Value) -> Result<Stated, DecodeError<FaultName>>
+    ensures stated { Decodes stated_view result (stated_by (view value.now)) }
     ensures size { IfOk result (λ stated. IsTrue (is_size stated.address_size)) }
 {
     if has_float(value) {
-        return Err(Refusal::Fault(FaultName::FloatNumber));
+        return Err(DecodeError::Fault(FaultName::FloatNumber));
     }
     let names = ["name", "machine", "start", "address_size", "bytes"];
     if !has_only(value, &names) {
-        return Err(Refusal::Fault(FaultName::BadCommand));
+        return Err(DecodeError::Fault(FaultName::BadCommand));
     }
     fields_in(alloc, value)
 }
 
-/// The section that bytes state.
-fn stated_value(alloc: Global, text: &[u8]) -> Result<Stated, Refusal<FaultName>>
+// The section that bytes state.
+fn stated_value(alloc: Global, text: &[u8]) -> Result<Stated, DecodeError<FaultName>>
     ensures stated { Decodes stated_view result (stated_value text.now) }
     ensures size { IfOk result (λ stated. IsTrue (is_size stated.address_size)) }
 {
     if text.len() > DOCUMENT_LIMIT {
-        return Err(Refusal::Fault(FaultName::TooLong));
+        return Err(DecodeError::Fault(FaultName::TooLong));
     }
     let document = read(alloc, text)?;
-    section_in(alloc, &document)
+    stated_by(alloc, &document)
 }
 
-/// A fault of a field is the document's.
+// A fault of a field is the document's.
 fn of_document(name: FaultName) -> FaultName
     ensures { result ≡ of_document name }
 {
@@ -171,15 +172,17 @@ fn of_document(name: FaultName) -> FaultName
 }
 
 /// What a document's bytes state, or their fault: a text of JSON (RFC 8259) with the fields `name`,
-/// `start`, `address_size` and `bytes`, and `machine` if it is wanted. Of several faults the one of
+/// `start`, `address_size` and `bytes`, and optionally `machine`. Of several faults the one of
 /// the first class counts. Memory may run out on any document.
-pub(crate) fn decode(alloc: Global, text: &[u8]) -> Result<Stated, Refusal<Fault>>
+pub(crate) fn decode(alloc: Global, text: &[u8]) -> Result<Stated, DecodeError<Fault>>
     ensures stated { Decodes stated_view result (stated_in text.now) }
     ensures size { IfOk result (λ stated. IsTrue (is_size stated.address_size)) }
 {
     match stated_value(alloc, text) {
         Ok(stated) => Ok(stated),
-        Err(Refusal::Fault(name)) => Err(Refusal::Fault(Fault::of_document(of_document(name)))),
-        Err(Refusal::OutOfMemory) => Err(Refusal::OutOfMemory),
+        Err(DecodeError::Fault(name)) => Err(DecodeError::Fault(Fault::of_document(of_document(
+            name,
+        )))),
+        Err(DecodeError::OutOfMemory) => Err(DecodeError::OutOfMemory),
     }
 }

@@ -1,12 +1,11 @@
 //! The listing of a section, entry by entry.
-ghost use Rattle.std.specs.Prelude.{◌≡◌, ◌≢◌, ◌↔◌, false, IfErr, IfOk, IsErrOf, IsTrue, OnErr, OnOk};
-ghost use Rattle.std.specs.Io.KnownBytes.{Appends};
-ghost use Rattle.json_program.specs.Stream.{AppendsFront};
+
+ghost use Rattle.std.specs.Prelude.{◌≡◌, false};
+ghost use Rattle.json_program.specs.Errors.{ReportsFailures};
+ghost use Rattle.json_program.specs.Stream.{WritesText};
 ghost use Rattle.dwarf_frame_entries.specs.EntryViews.{entry_view};
-ghost use Rattle.dwarf_frame_rows.specs.Effects.{limits_of};
-ghost use Rattle.dwarf_frame_sections.specs.Sections.{frame_section};
-ghost use Rattle.frame_table.specs.Entries.{fault_text, part_of};
-ghost use Rattle.frame_table.specs.EntryWrites.{WritesPart, setting_with};
+ghost use Rattle.frame_table.specs.Entries.{fault_text, listed_part};
+ghost use Rattle.frame_table.specs.EntryWrites.{WritesListing, WritesPart, setting};
 ghost use Rattle.frame_table.specs.Listing.{listing_of};
 
 use crate::cies::push_cie;
@@ -22,8 +21,7 @@ use frame_table_text::Machine;
 use json_program::{RunError, Sink, write_all};
 use std::alloc::{AllocError, Global};
 
-/// Appends what is listed of an entry, and answers the place behind it, unless a fault ends the
-/// listing.
+// Appends the text of an entry, and returns the offset after it, unless an error ends the listing.
 fn push_entry<R: Reader, Section: UnwindSection<R>, S: UnwindContextStorage<R::Offset>>(
     alloc: Global,
     section: &Section,
@@ -33,12 +31,10 @@ fn push_entry<R: Reader, Section: UnwindSection<R>, S: UnwindContextStorage<R::O
     entry: &CieOrFde<'_, Section, R>,
     text: &mut Vec<u8>,
 ) -> Result<Option<u64>, AllocError>
-    ensures { let limits = limits_of S.Rules.capacity S.Stack.capacity in
-        let s = setting_with limits (frame_section R.Offset.limit Section.kind
-        (Section.size section.now) (R.stretch (Section.reader section.now)) bases.now)
+    ensures { let s = setting S.limits (Section.frame section.now bases.now)
         (Section.extensions section.now) machine in
-        IfOk result (λ end. WritesPart (part_of s (entry_view R.stretch R.Offset.value entry.now))
-        text.old.items text.new.items end) }
+        WritesPart (listed_part s (entry_view R.stretch R.Offset.value entry.now))
+        text.old.items text.new.items result }
 {
     match entry {
         Entry::Cie(cie) => push_cie(alloc, section, bases, machine, context, cie, text),
@@ -46,34 +42,31 @@ fn push_entry<R: Reader, Section: UnwindSection<R>, S: UnwindContextStorage<R::O
     }
 }
 
-/// The place at which a section starts.
+// The offset at which a section starts.
 fn start_of<R: Reader, Section: UnwindSection<R>>(section: &Section) -> u64
-    ensures { result ≡ (R.stretch (Section.reader section.now)).place }
+    ensures { result ≡ (R.stretch (Section.reader section.now)).offset }
 {
     section.section().offset_id().0
 }
 
-/// Writes the line of a fault.
+// Writes the line of a fault.
 fn write_fault<W: Sink>(
     alloc: Global,
     error: Error,
-    place: u64,
+    offset: u64,
     writer: &mut W,
 ) -> Result<(), RunError>
     requires { W.has_failed writer.old ≡ false }
-    ensures text { OnOk result (Appends (W.contents writer.old) (W.contents writer.new)
-        (fault_text error place)) }
-    ensures write { IsErrOf result RunError.Write ↔ IsTrue (W.has_failed writer.new) }
-    ensures no_read { IfErr result (λ error. error ≢ RunError.Read) }
-    ensures begun { OnErr result (AppendsFront (W.contents writer.old) (W.contents writer.new)
-        (fault_text error place)) }
+    ensures text { WritesText result (W.contents writer.old) (W.contents writer.new)
+        (fault_text error offset) }
+    ensures errors { ReportsFailures result false (W.has_failed writer.new) }
 {
-    let line = fault_text(alloc, error, place)?;
+    let line = fault_text(alloc, error, offset)?;
     write_all(writer, line.as_bytes())
 }
 
-/// Writes the entries of a section with their rows, up to the first fault, and answers whether these
-/// are all. What the context held before counts for nothing.
+/// Writes the entries of a section with their rows, up to the first error, and returns whether these
+/// are all. What the context held before has no effect.
 pub(crate) fn write_listing<
     R: Reader,
     Section: UnwindSection<R>,
@@ -88,26 +81,12 @@ pub(crate) fn write_listing<
     writer: &mut W,
 ) -> Result<bool, RunError>
     requires { W.has_failed writer.old ≡ false }
-    ensures text { let limits = limits_of S.Rules.capacity S.Stack.capacity in
-        let s = setting_with limits (frame_section R.Offset.limit Section.kind
-        (Section.size section.now) (R.stretch (Section.reader section.now)) bases.now)
+    ensures listing { let s = setting S.limits (Section.frame section.now bases.now)
         (Section.extensions section.now) machine in
-        OnOk result (Appends (W.contents writer.old) (W.contents writer.new) (listing_of s).text) }
-    ensures whole { let limits = limits_of S.Rules.capacity S.Stack.capacity in
-        let s = setting_with limits (frame_section R.Offset.limit Section.kind
-        (Section.size section.now) (R.stretch (Section.reader section.now)) bases.now)
-        (Section.extensions section.now) machine in
-        IfOk result (λ is_whole. is_whole ≡ (listing_of s).is_whole) }
-    ensures write { IsErrOf result RunError.Write ↔ IsTrue (W.has_failed writer.new) }
-    ensures no_read { IfErr result (λ error. error ≢ RunError.Read) }
-    ensures begun { let limits = limits_of S.Rules.capacity S.Stack.capacity in
-        let s = setting_with limits (frame_section R.Offset.limit Section.kind
-        (Section.size section.now) (R.stretch (Section.reader section.now)) bases.now)
-        (Section.extensions section.now) machine in
-        OnErr result (AppendsFront (W.contents writer.old) (W.contents writer.new)
-        (listing_of s).text) }
+        WritesListing (listing_of s) (W.contents writer.old) (W.contents writer.new) result }
+    ensures errors { ReportsFailures result false (W.has_failed writer.new) }
 {
-    let mut place = start_of(section);
+    let mut offset = start_of(section);
     let mut entries = section.entries(bases);
     'entries: loop {
         match entries.next() {
@@ -116,13 +95,13 @@ pub(crate) fn write_listing<
                 let end = push_entry(alloc, section, bases, machine, context, &entry, &mut text)?;
                 write_all(writer, text.as_slice())?;
                 match end {
-                    Some(end) => place = end,
+                    Some(end) => offset = end,
                     None => return Ok(false),
                 }
             }
             Ok(None) => return Ok(true),
             Err(error) => {
-                write_fault(alloc, error, place, writer)?;
+                write_fault(alloc, error, offset, writer)?;
                 return Ok(false);
             }
         }

@@ -1,14 +1,14 @@
 //! Lists the entries of one section of call frames with their rows: JSON on standard input, on
 //! standard output lines as those of `readelf --debug-dump=frames-interp`.
 //!
-//! The exit status is 0 where all entries were listed, 2 where the document or the section has a
-//! fault, and 1 where standard input or output failed or memory ran out.
+//! The exit status is 0 if all entries were listed, 2 if the document or the section has a fault, and 1
+//! if standard input or output failed or memory ran out.
 #![tactic(auto)]
 
 mod cies;
 mod document;
+mod entry_prefix;
 mod fdes;
-mod front;
 mod listing;
 mod parts;
 mod program;

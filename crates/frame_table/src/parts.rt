@@ -1,14 +1,15 @@
 //! What both kinds of entry have in a listing.
+
 ghost use Rattle.std.specs.Prelude.{◌≡◌, ◌*◌, ◌++◌, IfOk, OnOk, List, ℕ, Err, string_bytes};
-ghost use Rattle.dwarf_readers.specs.Place.{Stretch};
+ghost use Rattle.dwarf_readers.specs.Stretch.{Stretch};
 ghost use Rattle.dwarf_frame_entries.specs.EntryViews.{cie_view};
 ghost use Rattle.dwarf_frame_entries.specs.EntryPrograms.{factors_of};
-ghost use Rattle.frame_table.specs.Entries.{fault_text, front_text, id_digits, part_or_fault, part_with, entry_table};
+ghost use Rattle.frame_table.specs.Entries.{fault_text, prefix_text, id_digits, part_or_fault, part_with, entry_table};
 ghost use Rattle.frame_table.specs.EntryWrites.{WritesPart};
-ghost use Rattle.frame_table.specs.FrontViews.{front_view};
+ghost use Rattle.frame_table.specs.EntryPrefixViews.{prefix_view};
 ghost use Rattle.frame_table_text.specs.TableViews.{table_view};
 
-use crate::front::Front;
+use crate::entry_prefix::EntryPrefix;
 use dwarf_constants::Error;
 use dwarf_frame_entries::{CallFrameInstructionIter, CieOffsetEncoding, CommonInformationEntry};
 use dwarf_frame_instructions::Factors;
@@ -17,46 +18,46 @@ use frame_table_text::{Machine, Table, add_columns, push_bytes, push_hex};
 use std::alloc::{AllocError, Global};
 use std::collections::BTreeSet;
 
-/// The line of a fault: its name, and the place of the entry that has it.
-pub(crate) fn fault_text(alloc: Global, error: Error, place: u64) -> Result<String, AllocError>
-    ensures { IfOk result (λ text. string_bytes text ≡ fault_text error place) }
+/// The line of a fault: the error's name, and the offset of the entry that has it.
+pub(crate) fn fault_text(alloc: Global, error: Error, offset: u64) -> Result<String, AllocError>
+    ensures { IfOk result (λ text. string_bytes text ≡ fault_text error offset) }
 {
-    format!(in alloc; "fault {error} at 0x{place:x}\n")
+    format!(in alloc; "fault {error} at 0x{offset:x}\n")
 }
 
 /// Appends the line of a fault, which ends a listing.
 pub(crate) fn push_fault(
     alloc: Global,
     error: Error,
-    place: u64,
+    offset: u64,
     text: &mut Vec<u8>,
 ) -> Result<Option<u64>, AllocError>
-    ensures { IfOk result (λ end. WritesPart (part_or_fault place (Err error))
-        text.old.items text.new.items end) }
+    ensures { WritesPart (part_or_fault offset (Err error))
+        text.old.items text.new.items result }
 {
-    push_bytes(text, fault_text(alloc, error, place)?.as_bytes())?;
+    push_bytes(text, fault_text(alloc, error, offset)?.as_bytes())?;
     Ok(None)
 }
 
-/// Ends what is written of an entry: where there is a refusal with its line.
+/// Ends the text of an entry: with the line of the error that ends its rows, if there is one.
 pub(crate) fn end_part(
     alloc: Global,
     refusal: Option<Error>,
-    place: u64,
+    offset: u64,
     end: u64,
     text: &mut Vec<u8>,
 ) -> Result<Option<u64>, AllocError>
     ensures { (before body : List ℕ) → text.old.items ≡ before ++ body
-        → IfOk result (λ given. WritesPart (part_with place end body refusal)
-        before text.new.items given) }
+        → WritesPart (part_with offset end body refusal)
+        before text.new.items result }
 {
     match refusal {
         None => Ok(Some(end)),
-        Some(error) => push_fault(alloc, error, place, text),
+        Some(error) => push_fault(alloc, error, offset, text),
     }
 }
 
-/// How many digits an id has.
+// How many digits an id has.
 fn id_digits(width: CieOffsetEncoding) -> usize
     ensures { result ≡ id_digits width }
 {
@@ -66,25 +67,25 @@ fn id_digits(width: CieOffsetEncoding) -> usize
     }
 }
 
-/// Appends the front of an entry's line: where it stands, its length and its id.
-pub(crate) fn push_front<R>(
+/// Appends the beginning of an entry's line: its offset, its length and its id.
+pub(crate) fn push_prefix<R>(
     alloc: Global,
     address_size: u8,
     offset: u64,
     length: u64,
-    front: &Front<R>,
+    prefix: &EntryPrefix<R>,
     text: &mut Vec<u8>,
 ) -> Result<(), AllocError>
     ensures { (stretch : R → Stretch) → OnOk result (text.new.items ≡ text.old.items
-        ++ front_text address_size (record { offset = offset; length = length })
-        (front_view stretch front.now)) }
+        ++ prefix_text address_size (record { offset = offset; length = length })
+        (prefix_view stretch prefix.now)) }
 {
     push_bytes(text, b"\n")?;
     push_hex(alloc, text, 8, offset)?;
     push_bytes(text, b" ")?;
     push_hex(alloc, text, 2 * usize::from(address_size), length)?;
     push_bytes(text, b" ")?;
-    push_hex(alloc, text, id_digits(front.width), front.id)
+    push_hex(alloc, text, id_digits(prefix.width), prefix.id)
 }
 
 /// The table of an entry with a CIE: its columns are added to those of earlier instructions.

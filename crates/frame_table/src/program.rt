@@ -1,9 +1,10 @@
 //! One run of the program: a document in, the listing of its section out.
-ghost use Rattle.std.specs.Prelude.{◌≡◌, ◌≢◌, ◌↔◌, false, IsTrue, IfOk, IfErr, IfSome, IsErrOf, OnErr, OnOk};
-ghost use Rattle.std.specs.Io.KnownBytes.{Appends};
-ghost use Rattle.json_program.specs.Stream.{AppendsFront};
+
+ghost use Rattle.std.specs.Prelude.{◌≡◌, false, IsTrue};
+ghost use Rattle.json_program.specs.Errors.{ReportsFailures};
 ghost use Rattle.dwarf_readers.specs.InitialLength.{is_size};
 ghost use Rattle.frame_table.specs.DocumentViews.{stated_view};
+ghost use Rattle.frame_table.specs.EntryWrites.{WritesListing};
 ghost use Rattle.frame_table.specs.Listing.{listing_of};
 ghost use Rattle.frame_table.specs.Text.{bases_from, ending_by, ending_of, setting_of, text_of, vendor_of};
 
@@ -14,7 +15,7 @@ use dwarf_frame_entries::{BaseAddresses, DebugFrame, EhFrame, UnwindContext};
 use dwarf_frame_rows::{SectionBaseAddresses, StoreOnHeap};
 use dwarf_readers::{EndianSlice, LittleEndian};
 use frame_table_text::Machine;
-use json_program::{Program, Refusal, RunError, Sink, write_all};
+use json_program::{DecodeError, Program, RunError, Sink, write_all};
 use std::alloc::Global;
 
 /// How a run that wrote all its text ended.
@@ -39,7 +40,7 @@ impl Ending {
     }
 }
 
-/// How a run ends that wrote a whole listing, or one that ends at a fault.
+// How a run ends that wrote a whole listing, or one that ends at a fault.
 fn ending_by(is_whole: bool) -> Ending
     ensures { result ≡ ending_by is_whole }
 {
@@ -65,19 +66,19 @@ impl Program for FrameTables {
     fn answer<W: Sink>(alloc: Global, document: &[u8], writer: &mut W) -> Result<Ending, RunError> {
         match decode(alloc, document) {
             Ok(stated) => Ok(ending_by(list(alloc, &stated, writer)?)),
-            Err(Refusal::Fault(fault)) => {
+            Err(DecodeError::Fault(fault)) => {
                 let line = format!(in alloc; "{fault}\n")?;
                 write_all(writer, line.as_bytes())?;
                 Ok(Ending::Faulty)
             }
-            Err(Refusal::OutOfMemory) => Err(RunError::OutOfMemory),
+            Err(DecodeError::OutOfMemory) => Err(RunError::OutOfMemory),
         }
     }
 
     ghost too_long = { too_long };
 }
 
-/// Whose instructions are read.
+// Whose instructions are read.
 fn vendor_of(machine: Option<Machine>) -> Vendor
     ensures { result ≡ vendor_of machine }
 {
@@ -87,7 +88,7 @@ fn vendor_of(machine: Option<Machine>) -> Vendor
     }
 }
 
-/// The address at which the section starts is all that pointers count from.
+// Pointers are relative to the address at which the section starts, and to nothing else.
 fn bases_from(start: u64) -> BaseAddresses
     ensures { result ≡ bases_from start }
 {
@@ -103,18 +104,13 @@ fn bases_from(start: u64) -> BaseAddresses
     .set_eh_frame(start)
 }
 
-/// Writes the listing of a section, and answers whether it has all of it.
+// Writes the listing of a section, and returns whether it has the whole section.
 fn list<W: Sink>(alloc: Global, stated: &Stated, writer: &mut W) -> Result<bool, RunError>
     requires writer { W.has_failed writer.old ≡ false }
     requires size { IsTrue (is_size stated.now.address_size) }
-    ensures text { OnOk result (Appends (W.contents writer.old) (W.contents writer.new)
-        (listing_of (setting_of (stated_view stated.now))).text) }
-    ensures whole { IfOk result (λ is_whole. is_whole
-        ≡ (listing_of (setting_of (stated_view stated.now))).is_whole) }
-    ensures write { IsErrOf result RunError.Write ↔ IsTrue (W.has_failed writer.new) }
-    ensures no_read { IfErr result (λ error. error ≢ RunError.Read) }
-    ensures begun { OnErr result (AppendsFront (W.contents writer.old) (W.contents writer.new)
-        (listing_of (setting_of (stated_view stated.now))).text) }
+    ensures listing { WritesListing (listing_of (setting_of (stated_view stated.now)))
+        (W.contents writer.old) (W.contents writer.new) result }
+    ensures errors { ReportsFailures result false (W.has_failed writer.new) }
 {
     let bytes = stated.bytes.as_slice();
     let machine = stated.machine;

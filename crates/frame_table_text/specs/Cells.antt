@@ -6,11 +6,11 @@ use Rattle.std.specs.Fmt.{digits, signed_decimal}
 abbrev pub cell_of : ℕ → List ℕ → List ℕ
 cell_of width text = text ++ replicate (width - length text) 32 ++ codes " "
 
--- a number in hexadecimal digits, behind the zeros that bring it to a width
+-- a number in hexadecimal digits, after the zeros that bring it to a width
 abbrev pub hex_of : ℕ → ℕ → List ℕ
 hex_of width number = replicate (width - length (digits 16 false number)) 48 ++ digits 16 false number
 
--- a number with its sign, also where that is a plus
+-- a number with its sign, which may be a plus
 abbrev pub with_sign : ℤ → List ℕ
 with_sign (pos n) = codes "+" ++ decimal n
 with_sign (negsuc n) = signed_decimal (negsuc n)

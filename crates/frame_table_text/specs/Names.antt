@@ -14,7 +14,7 @@ general_names =
     ∷ codes "r8" ∷ codes "r9" ∷ codes "r10" ∷ codes "r11" ∷ codes "r12" ∷ codes "r13" ∷ codes "r14" ∷ codes "r15"
     ∷ codes "rip" ∷ []
 
--- the general registers, and the vectors behind them
+-- the general registers, and the vector registers from 17 on
 abbrev pub x86_64_name : ℕ → Option (List ℕ)
 x86_64_name n =
     if nat_le 17 n && nat_lt n 33 then Some (numbered (codes "xmm") (n - 17)) else slice_get general_names n
@@ -27,7 +27,7 @@ aarch64_name n =
     else if nat_le 64 n && nat_le n 95 then Some (numbered (codes "v") (n - 64))
     else None
 
--- the name that a machine has for a register, where one is stated
+-- the name that a machine has for a register, if a machine is stated
 abbrev pub known_name : Option Machine → ℕ → Option (List ℕ)
 known_name None n = None
 known_name (Some X86_64) n = x86_64_name n
@@ -41,11 +41,11 @@ register_name machine n = unwrap_or (known_name machine n) (numbered (codes "r")
 abbrev pub bracketed : List ℕ → List ℕ
 bracketed name = codes " (" ++ name ++ codes ")"
 
--- r and a register's number, and behind it the name in brackets, if there is one
+-- r and a register's number, and then the name in brackets, if there is one
 abbrev pub in_full : ℕ → Option (List ℕ) → List ℕ
 in_full n None = numbered (codes "r") n
 in_full n (Some name) = numbered (codes "r") n ++ bracketed name
 
--- the same of a machine's register
+-- r and the number of a machine's register, and then its name, if it has one
 abbrev pub register_in_full : Option Machine → ℕ → List ℕ
 register_in_full machine n = in_full n (known_name machine n)

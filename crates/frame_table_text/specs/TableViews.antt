@@ -1,7 +1,7 @@
 -- Tables as contracts see them, and what a call shows of rows.
 use Rattle.std.specs.Prelude.{◌≡◌, ℕ, List, ◌++◌, Bool, true, false, Some, None, Result, Ok, Err}
 use Rattle.dwarf_constants.specs.declared.error.Error.{Error}
-use Rattle.dwarf_frame_instructions.specs.Programs.{Rows}
+use Rattle.dwarf_frame_instructions.specs.Programs.{RowList}
 use Rattle.frame_table_text.specs.Tables.{Table, row_lines}
 use Rattle.frame_table_text.specs.declared.tables.Table.{Table as Made}
 
@@ -15,11 +15,11 @@ table_view table = record {
   is_shown = table.is_shown;
 }
 
--- A call appended the line of the first of the rows, and others are left; or all lines are there, and it answered the refusal that ends the
--- rows, if one does.
-abbrev pub ShowsNext : (Rows ℕ → Type 0) → Table → Rows ℕ → List ℕ → List ℕ → Result Bool Error → Type 0
+-- A call appended the line of the first of the rows, and others are left; or all lines are there, and it returned the error that ends
+-- the rows, if one does.
+abbrev pub ShowsNext : (RowList ℕ → Type 0) → Table → RowList ℕ → List ℕ → List ℕ → Result Bool Error → Type 0
 ShowsNext IsLeft table left old new (Ok true) =
-    (others : Rows ℕ) × IsLeft others × (others.refusal ≡ left.refusal)
+    (others : RowList ℕ) × IsLeft others × (others.refusal ≡ left.refusal)
     × (new ++ row_lines table others.rows ≡ old ++ row_lines table left.rows)
 ShowsNext IsLeft table left old new (Ok false) = (left.refusal ≡ None) × (new ≡ old ++ row_lines table left.rows)
 ShowsNext IsLeft table left old new (Err refusal) = (left.refusal ≡ Some refusal) × (new ≡ old ++ row_lines table left.rows)

@@ -3,7 +3,7 @@ use Rattle.std.specs.Prelude.{ℕ, ◌*◌, ◌==◌, Bool, List, [], ◌++◌, 
 use Rattle.std.specs.FinMap.{get}
 use Rattle.std.specs.List.{flat_map}
 use Rattle.json_program.specs.Lines.{line}
-use Rattle.dwarf_frame_instructions.specs.Programs.{Rows}
+use Rattle.dwarf_frame_instructions.specs.Programs.{RowList}
 use Rattle.dwarf_frame_rows.specs.Row.{Row}
 use Rattle.dwarf_frame_rows.specs.declared.rules.CfaRule.{CfaRule}
 use Rattle.dwarf_frame_rows.specs.declared.rules.CfaRule.TheVariants as cfa
@@ -27,7 +27,7 @@ abbrev pub cfa_text : {T : Type 0} → Option Machine → CfaRule T → List ℕ
 cfa_text machine (cfa.RegisterAndOffset register offset) = register_name machine register.0 ++ with_sign offset
 cfa_text machine (cfa.Expression expression) = codes "exp"
 
--- how a register is found: u where it can't be recovered, s where it has its own value, c and v behind the CFA
+-- how a register is found: u if it can't be recovered, s if it has its own value, c and v with an offset from the CFA
 abbrev pub rule_text : {T : Type 0} → Option Machine → RegisterRule T → List ℕ
 rule_text machine rule.Undefined = codes "u"
 rule_text machine rule.SameValue = codes "s"
@@ -39,7 +39,7 @@ rule_text machine (rule.ValExpression expression) = codes "vexp"
 rule_text machine rule.Architectural = codes "arch"
 rule_text machine (rule.Constant n) = decimal n
 
--- the same of a register that may have no rule, and then can't be recovered either
+-- how a register is found that may have no rule: without one it can't be recovered
 abbrev pub found_text : {T : Type 0} → Option Machine → Option (RegisterRule T) → List ℕ
 found_text machine None = codes "u"
 found_text machine (Some rule) = rule_text machine rule
@@ -61,19 +61,19 @@ abbrev pub heading_line : Table → List ℕ
 heading_line table = line_of_cells table (codes "   LOC") (codes "CFA") (column_name table)
 
 -- how a row finds a register
-abbrev pub found_in : {T : Type 0} → Table → Row T → ℕ → List ℕ
-found_in table row register = found_text table.machine (get row.rules register)
+abbrev pub rule_text_in : {T : Type 0} → Table → Row T → ℕ → List ℕ
+rule_text_in table row register = found_text table.machine (get row.rules register)
 
--- the line of a row: where it starts, the CFA, and how each column is found
+-- the line of a row: its start, the CFA, and how each column is found
 abbrev pub row_line : {T : Type 0} → Table → Row T → List ℕ
 row_line table row =
-    line_of_cells table (hex_of (2 * table.address_size) row.start) (cfa_text table.machine row.cfa) (found_in table row)
+    line_of_cells table (hex_of (2 * table.address_size) row.start) (cfa_text table.machine row.cfa) (rule_text_in table row)
 
 -- a line, in a table that is shown
 abbrev pub if_shown : Table → List ℕ → List ℕ
 if_shown table text = if table.is_shown then text else []
 
--- the same of a row that may not be given
+-- the line of a row, if there is one
 abbrev pub line_if_given : {T : Type 0} → Table → Option (Row T) → List ℕ
 line_if_given table None = []
 line_if_given table (Some row) = if_shown table (row_line table row)
@@ -83,5 +83,5 @@ abbrev pub row_lines : {T : Type 0} → Table → List (Row T) → List ℕ
 row_lines table rows = flat_map (λ row. if_shown table (row_line table row)) rows
 
 -- the lines of a table
-abbrev pub table_text : Table → Rows ℕ → List ℕ
+abbrev pub table_text : Table → RowList ℕ → List ℕ
 table_text table rows = if_shown table (heading_line table) ++ row_lines table rows.rows

@@ -1,12 +1,13 @@
-//! Parts of lines, which go to the end of a text. An `Err` is for want of memory, and may leave a
-//! part behind.
+//! Parts of lines, which are appended to a text. They fail if memory runs out, and may have appended a
+//! part then.
+
 ghost use Rattle.std.specs.Prelude.{◌≡◌, ◌++◌, IfOk, OnOk, decimal, replicate, string_bytes};
 ghost use Rattle.std.specs.Fmt.{signed_decimal};
 ghost use Rattle.frame_table_text.specs.Cells.{cell_of, hex_of, with_sign};
 
 use std::alloc::{AllocError, Global};
 
-/// Appends a byte so many times.
+// Appends a byte `count` times.
 fn push_times(text: &mut Vec<u8>, byte: u8, count: usize) -> Result<(), AllocError>
     ensures { OnOk result (text.new.items ≡ text.old.items ++ replicate count byte) }
 {
@@ -32,7 +33,7 @@ pub(crate) fn push_cell(text: &mut Vec<u8>, width: usize, cell: &[u8]) -> Result
     push_times(text, b' ', 1)
 }
 
-/// Appends a number in hexadecimal digits, with so many digits at least.
+/// Appends a number in hexadecimal digits, with `width` digits at least.
 pub fn push_hex(
     alloc: Global,
     text: &mut Vec<u8>,
@@ -54,7 +55,7 @@ pub fn push_decimal(alloc: Global, text: &mut Vec<u8>, number: u64) -> Result<()
     push_bytes(text, digits.as_bytes())
 }
 
-/// Appends a number in decimal digits, with a minus where it is negative.
+/// Appends a number in decimal digits, with a minus if it is negative.
 pub fn push_signed(alloc: Global, text: &mut Vec<u8>, number: i64) -> Result<(), AllocError>
     ensures { OnOk result (text.new.items ≡ text.old.items ++ signed_decimal number) }
 {
@@ -62,7 +63,7 @@ pub fn push_signed(alloc: Global, text: &mut Vec<u8>, number: i64) -> Result<(),
     push_bytes(text, digits.as_bytes())
 }
 
-/// A number with its sign, also where that is a plus.
+/// A number with its sign, which may be a plus.
 pub(crate) fn signed_text(alloc: Global, number: i64) -> Result<String, AllocError>
     ensures { IfOk result (λ text. string_bytes text ≡ with_sign number) }
 {

@@ -1,4 +1,5 @@
 //! The columns of an entry's table.
+
 ghost use Rattle.std.specs.Prelude.{◌≡◌, IfOk, OnOk};
 ghost use Rattle.frame_table_text.specs.Columns.{all_nops, columns_with, is_nop, register_named, with_column};
 
@@ -7,7 +8,7 @@ use dwarf_readers::Reader;
 use std::alloc::AllocError;
 use std::collections::BTreeSet;
 
-/// The register whose rule an instruction sets or restores, if it does.
+// The register whose rule an instruction sets or restores, if it does.
 fn register_named<T>(instruction: &CallFrameInstruction<T>) -> Option<u16>
     ensures { result ≡ register_named instruction.now }
 {
@@ -29,14 +30,14 @@ fn register_named<T>(instruction: &CallFrameInstruction<T>) -> Option<u16>
     }
 }
 
-/// Whether an instruction is padding.
+// Whether an instruction is padding.
 fn is_nop<T>(instruction: &CallFrameInstruction<T>) -> bool
     ensures { result ≡ is_nop instruction.now }
 {
     matches!(instruction, CallFrameInstruction::Nop)
 }
 
-/// Adds the column of a register, if there is one.
+// Adds the column of a register, if there is one.
 fn add_column(columns: &mut BTreeSet<u16>, register: Option<u16>) -> Result<(), AllocError>
     ensures { OnOk result (columns.new.keys ≡ with_column columns.old.keys register) }
 {
@@ -46,8 +47,8 @@ fn add_column(columns: &mut BTreeSet<u16>, register: Option<u16>) -> Result<(), 
     Ok(())
 }
 
-/// Adds the columns of the registers that instructions name, and answers whether all of them are
-/// padding. An instruction that is refused is none.
+/// Adds the columns of the registers that instructions name, and returns whether all of them are
+/// padding. An instruction that can't be read is none.
 pub fn add_columns<'a, R: Reader>(
     columns: &mut BTreeSet<u16>,
     mut instructions: CallFrameInstructionIter<'a, R>,

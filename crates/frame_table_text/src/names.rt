@@ -1,4 +1,5 @@
 //! The names of registers.
+
 ghost use Rattle.std.specs.Prelude.{◌≡◌, IfOk, option_map, slice_get, string_bytes};
 ghost use Rattle.frame_table_text.specs.Names.{aarch64_name, general_names, known_name, register_in_full, register_name, x86_64_name};
 
@@ -11,7 +12,7 @@ pub enum Machine {
     AArch64,
 }
 
-/// The name of a general register of x86_64.
+// The name of a general register of x86_64.
 fn general_name(register: u16) -> Option<&'static str>
     ensures { option_map (λ name. name.now) result ≡ slice_get general_names register }
 {
@@ -23,7 +24,7 @@ fn general_name(register: u16) -> Option<&'static str>
     .copied()
 }
 
-/// The name of a register of x86_64, if it is a general one or a vector.
+// The name of a register of x86_64, if it is a general one or a vector.
 fn x86_64_name(alloc: Global, register: u16) -> Result<Option<String>, AllocError>
     ensures { IfOk result (λ name. option_map string_bytes name ≡ x86_64_name register) }
 {
@@ -36,7 +37,7 @@ fn x86_64_name(alloc: Global, register: u16) -> Result<Option<String>, AllocErro
     }
 }
 
-/// The name of a register of AArch64, if it is a general one or a vector.
+// The name of a register of AArch64, if it is a general one or a vector.
 fn aarch64_name(alloc: Global, register: u16) -> Result<Option<String>, AllocError>
     ensures { IfOk result (λ name. option_map string_bytes name ≡ aarch64_name register) }
 {
@@ -48,7 +49,7 @@ fn aarch64_name(alloc: Global, register: u16) -> Result<Option<String>, AllocErr
     }
 }
 
-/// The name that a machine has for a register, where one is stated.
+// The name that a machine has for a register, if a machine is stated.
 fn known_name(
     alloc: Global,
     machine: Option<Machine>,
@@ -77,7 +78,7 @@ pub(crate) fn register_name(
     }
 }
 
-/// `r` and the number of a register, and behind it the name, if it has one.
+/// `r` and the number of a register, and then the name, if it has one.
 pub(crate) fn register_in_full(
     alloc: Global,
     machine: Option<Machine>,

@@ -1,12 +1,12 @@
 //! The table of an entry: a line of headings, and one for each row.
+
 ghost use Rattle.std.specs.Prelude.{◌≡◌, ◌≢◌, ◌<◌, ◌*◌, ◌++◌, ℕ, IfErr, IfOk, OnOk, string_bytes};
 ghost use Rattle.std.specs.Bool.{OnTrue};
 ghost use Rattle.dwarf_frame_instructions.specs.ProgramRows.{HasLeft, current_row, program_of, steps_left};
-ghost use Rattle.dwarf_frame_instructions.specs.Programs.{Rows, rows_of_program};
-ghost use Rattle.dwarf_frame_rows.specs.Effects.{limits_of};
+ghost use Rattle.dwarf_frame_instructions.specs.Programs.{RowList, rows_of_program};
 ghost use Rattle.dwarf_frame_rows.specs.Row.{row_of};
 ghost use Rattle.frame_table_text.specs.TableViews.{ShowsNext, table_view};
-ghost use Rattle.frame_table_text.specs.Tables.{cfa_text, column_cells, column_name, found_in, found_text, heading_line, if_shown, line_if_given, row_line, row_lines, rule_text, table_text};
+ghost use Rattle.frame_table_text.specs.Tables.{cfa_text, column_cells, column_name, rule_text_in, found_text, heading_line, if_shown, line_if_given, row_line, row_lines, rule_text, table_text};
 
 use crate::cells::{push_bytes, push_cell, push_hex, signed_text};
 use crate::names::{Machine, register_in_full, register_name};
@@ -34,7 +34,7 @@ pub struct Table {
     pub is_shown: bool,
 }
 
-/// How the CFA is found.
+// How the CFA is found.
 fn cfa_text<T>(
     alloc: Global,
     machine: Option<Machine>,
@@ -52,7 +52,7 @@ fn cfa_text<T>(
     }
 }
 
-/// How a register is found.
+// How a register is found.
 fn rule_text<T>(
     alloc: Global,
     machine: Option<Machine>,
@@ -79,7 +79,7 @@ fn rule_text<T>(
     }
 }
 
-/// How a register is found that may have no rule.
+// How a register is found that may have no rule.
 fn found_text<T>(
     alloc: Global,
     machine: Option<Machine>,
@@ -94,7 +94,7 @@ fn found_text<T>(
 }
 
 impl Table {
-    /// The heading of a column.
+    // The heading of a column.
     fn column_name(&self, alloc: Global, register: u16) -> Result<String, AllocError>
         ensures { IfOk result (λ text. string_bytes text
             ≡ column_name (table_view self.now) register) }
@@ -106,14 +106,14 @@ impl Table {
         }
     }
 
-    /// How many digits an address has.
+    // How many digits an address has.
     fn digits(&self) -> usize
         ensures { result ≡ 2 * (table_view self.now).address_size }
     {
         2 * usize::from(self.address_size)
     }
 
-    /// Appends the headings of the columns.
+    // Appends the headings of the columns.
     fn push_names(&self, alloc: Global, text: &mut Vec<u8>) -> Result<(), AllocError>
         ensures { OnOk result (text.new.items ≡ text.old.items
             ++ column_cells (table_view self.now) (column_name (table_view self.now))) }
@@ -125,7 +125,7 @@ impl Table {
         Ok(())
     }
 
-    /// Appends the line of headings, where the table is shown.
+    // Appends the line of headings, if the table is shown.
     fn push_headings(&self, alloc: Global, text: &mut Vec<u8>) -> Result<(), AllocError>
         ensures { OnOk result (text.new.items ≡ text.old.items
             ++ if_shown (table_view self.now) (heading_line (table_view self.now))) }
@@ -139,7 +139,7 @@ impl Table {
         push_bytes(text, b"\n")
     }
 
-    /// Appends how each column is found.
+    // Appends how each column is found.
     fn push_rules<T: ReaderOffset, Rules: ArrayLike<Item = RuledRegister<RegisterRule<T>>>>(
         &self,
         alloc: Global,
@@ -148,7 +148,7 @@ impl Table {
     ) -> Result<(), AllocError>
         ensures { OnOk result (text.new.items ≡ text.old.items
             ++ column_cells (table_view self.now)
-            (found_in (table_view self.now) (row_of row.now))) }
+            (rule_text_in (table_view self.now) (row_of row.now))) }
     {
         for register in &self.columns {
             let rule = row.register(Register(*register));
@@ -158,7 +158,7 @@ impl Table {
         Ok(())
     }
 
-    /// Appends the line of a row, where the table is shown.
+    // Appends the line of a row, if the table is shown.
     fn push_row<T: ReaderOffset, Rules: ArrayLike<Item = RuledRegister<RegisterRule<T>>>>(
         &self,
         alloc: Global,
@@ -180,16 +180,16 @@ impl Table {
         push_bytes(text, b"\n")
     }
 
-    /// Appends the line of the row that was given last, if the last call gave one.
+    // Appends the line of the row that was given last, if the last call gave one.
     fn push_current<R: Reader, S: UnwindContextStorage<R::Offset>>(
         &self,
         alloc: Global,
         rows: &ProgramRows<'_, '_, R, S>,
         text: &mut Vec<u8>,
     ) -> Result<(), AllocError>
-        ensures { let limits = limits_of S.Rules.capacity S.Stack.capacity in
-            OnOk result (text.new.items ≡ text.old.items ++ line_if_given (table_view self.now)
-            (current_row R.Offset.value S.Stack.items limits rows.now)) }
+        ensures { OnOk result (text.new.items ≡ text.old.items ++ line_if_given
+            (table_view self.now)
+            (current_row R.Offset.value S.Stack.items S.limits rows.now)) }
     {
         match rows.current_row() {
             Some(row) => self.push_row(alloc, row, text),
@@ -197,18 +197,17 @@ impl Table {
         }
     }
 
-    /// Appends the line of the next row, and answers whether there is one, or the refusal.
+    // Appends the line of the next row, and returns whether there is one, or the error of the rows.
     fn push_next<R: Reader, S: UnwindContextStorage<R::Offset>>(
         &self,
         alloc: Global,
         rows: &mut ProgramRows<'_, '_, R, S>,
         text: &mut Vec<u8>,
     ) -> Result<dwarf_constants::Result<bool>, AllocError>
-        ensures next { let limits = limits_of S.Rules.capacity S.Stack.capacity in
-            (left : Rows ℕ) → HasLeft R.stretch R.Offset.limit R.Offset.value S.Stack.items limits
-            rows.old left
-            → IfOk result (ShowsNext
-            (HasLeft R.stretch R.Offset.limit R.Offset.value S.Stack.items limits rows.new)
+        ensures next { let IsLeft =
+            HasLeft R.stretch R.Offset.limit R.Offset.value S.Stack.items S.limits in
+            (left : RowList ℕ) → IsLeft rows.old left
+            → IfOk result (ShowsNext (IsLeft rows.new)
             (table_view self.now) left text.old.items text.new.items) }
         ensures falls { IfOk result (λ answer. IfOk answer (λ more. OnTrue more
             (steps_left R.stretch R.Offset.limit rows.new
@@ -220,7 +219,7 @@ impl Table {
         Ok(answer)
     }
 
-    /// Appends the lines of a program's rows, up to its first refusal, which it answers.
+    // Appends the lines of a program's rows, up to its first error, which it returns.
     fn push_rows<R: Reader, S: UnwindContextStorage<R::Offset>>(
         &self,
         alloc: Global,
@@ -228,12 +227,10 @@ impl Table {
         program: FrameProgram<'_, R>,
         text: &mut Vec<u8>,
     ) -> Result<Option<Error>, AllocError>
-        ensures refusal { let limits = limits_of S.Rules.capacity S.Stack.capacity in
-            IfOk result (λ refusal.
-            refusal ≡ (rows_of_program limits (program_of program.entry)).refusal) }
-        ensures rows { let limits = limits_of S.Rules.capacity S.Stack.capacity in
-            OnOk result (text.new.items ≡ text.old.items ++ row_lines (table_view self.now)
-            (rows_of_program limits (program_of program.entry)).rows) }
+        ensures refusal { IfOk result (λ refusal.
+            refusal ≡ (rows_of_program S.limits (program_of program.entry)).refusal) }
+        ensures rows { OnOk result (text.new.items ≡ text.old.items ++ row_lines (table_view self.now)
+            (rows_of_program S.limits (program_of program.entry)).rows) }
     {
         let mut rows = match wanted(ProgramRows::new(context, program))? {
             Ok(rows) => rows,
@@ -248,10 +245,10 @@ impl Table {
         }
     }
 
-    /// Appends the table with the rows of a program, up to its first refusal, which it answers.
+    /// Appends the table with the rows of a program, up to its first error, which it returns.
     ///
-    /// What the context held before counts for nothing. An `Err` is for want of memory, and may
-    /// leave a part of the table behind.
+    /// What the context held before has no effect. The call fails if memory runs out, and may have
+    /// appended a part of the table then.
     pub fn push<R: Reader, S: UnwindContextStorage<R::Offset>>(
         &self,
         alloc: Global,
@@ -259,19 +256,17 @@ impl Table {
         program: FrameProgram<'_, R>,
         text: &mut Vec<u8>,
     ) -> Result<Option<Error>, AllocError>
-        ensures refusal { let limits = limits_of S.Rules.capacity S.Stack.capacity in
-            IfOk result (λ refusal.
-            refusal ≡ (rows_of_program limits (program_of program.entry)).refusal) }
-        ensures lines { let limits = limits_of S.Rules.capacity S.Stack.capacity in
-            OnOk result (text.new.items ≡ text.old.items ++ table_text (table_view self.now)
-            (rows_of_program limits (program_of program.entry))) }
+        ensures refusal { IfOk result (λ refusal.
+            refusal ≡ (rows_of_program S.limits (program_of program.entry)).refusal) }
+        ensures lines { OnOk result (text.new.items ≡ text.old.items ++ table_text (table_view self.now)
+            (rows_of_program S.limits (program_of program.entry))) }
     {
         self.push_headings(alloc, text)?;
         self.push_rows(alloc, context, program, text)
     }
 }
 
-/// What a call answered, where memory wasn't wanting.
+// The result of a call that didn't run out of memory.
 fn wanted<T>(answer: dwarf_constants::Result<T>) -> Result<dwarf_constants::Result<T>, AllocError>
     ensures same { IfOk result (λ given. given ≡ answer) }
     ensures memory { OnOk result (IfErr answer (λ e. e ≢ Error.OutOfMemory)) }

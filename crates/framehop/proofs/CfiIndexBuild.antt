@@ -1,6 +1,6 @@
 -- An index that is sorted from the FDEs of a section finds what the section's index has.
-use Rattle.std.proofs.Common.{◌≡◌, ◌≢◌, ℕ, ◌+◌, ◌-◌, ◌<◌, ◌≤◌, Bool, true, false, cond, List, [], ◌∷◌, ◌++◌, map, reverse, Option, Some, None, Result, Ok, Err, nat_cmp, is_lt, refl, sym, ap, ◌∙◌, arith, subst}
-use Rattle.std.specs.Prelude.{nat_le, nat_lt, ◌&&◌, is_none, option_map}
+use Rattle.std.proofs.Common.{◌≡◌, ◌≢◌, ℕ, ◌+◌, ◌-◌, ◌^◌, ◌<◌, ◌≤◌, Bool, true, false, cond, List, [], ◌∷◌, ◌++◌, map, reverse, Option, Some, None, Result, Ok, Err, nat_cmp, is_lt, refl, sym, ap, ◌∙◌, arith, subst}
+use Rattle.std.specs.Prelude.{nat_le, nat_lt, is_none, option_map}
 use Rattle.std.specs.List.{All, cons_option, filter, filter_map, find, list_all}
 use Rattle.std.specs.Result.{IsErr, IsErrAnd, result_ok}
 use Rattle.std.specs.Option.{option_or}
@@ -10,27 +10,39 @@ use Rattle.std.proofs.lemmas.Bool.Decides.{nat_tests}
 use Rattle.std.proofs.lemmas.List.{append_assoc, length-map, length-reverse}
 use Rattle.std.proofs.lemmas.List.Elements.{All-nil, All-cons, All-head, All-tail}
 use Rattle.std.proofs.lemmas.List.Sorted.{All-permutation, IsPermutation-sym, IsPermutation-reverse, length_permutation}
+use Rattle.list_laws.specs.First.{first_value}
 use Rattle.dwarf_constants.specs.declared.error.Error.{Error}
-use Rattle.dwarf_frame_sections.specs.Sections.{FrameSection}
+use Rattle.dwarf_frame_rows.specs.FrameSection.{FrameSection}
 use Rattle.framehop.specs.declared.cfi_index.IndexedFde.{IndexedFde}
 use Rattle.framehop.specs.declared.cfi_index.DwarfCfiIndexError.{DwarfCfiIndexError}
 use Rattle.framehop.specs.declared.cfi_index.DwarfCfiIndexError.TheVariants.{OutOfMemory}
 use Rattle.dwarf_frame_entries.specs.Entries.{AnyEntry, Cie, Fde, PartialFde, fde_of}
 use Rattle.dwarf_frame_entries.specs.EntryLists.{entries_of}
-use Rattle.dwarf_frame_entries.specs.SectionFdes.{IsOfSection, fde_in, whole_fdes}
+use Rattle.dwarf_frame_entries.specs.SectionFdes.{IsOfSection, fde_in, whole_fdes, nearest_fde}
 use Rattle.dwarf_frame_entries.specs.declared.entries.Entry.TheVariants as which
-use Rattle.framehop.specs.EntryFor.{indexed_among, fits_index, fde_fits, item_fits, has_index, indexed_entry}
+use Rattle.framehop.specs.EntryFor.{index_refusal, entry_error, fde_error, index_error, indexed_entry}
 use Rattle.list_laws.specs.Greatest.{is_greatest, greater}
 use Rattle.list_laws.specs.Last.{last_of}
-use Rattle.framehop.specs.CfiIndex.{index_refusal, fde_error, item_error, first_value, index_error, index_entry, IsKept, IsMadeOf, offset_by_index, Indexes}
-use Rattle.list_laws.proofs.Laws.{by_case, by_option}
+use Rattle.framehop.specs.CfiIndex.{index_entry, IsKept, IsMadeOf, offset_by_index, Indexes}
+use Rattle.list_laws.proofs.Laws.{by_case}
 use Rattle.framehop.proofs.EntryIndex.{later_of, find-has, indexed-cons}
 use Rattle.framehop.proofs.CfiIndexOrder.{none-passes, last-passes, none-higher, last-alike, find-back}
 
--- ---- of the FDEs, the one with the greatest start
+-- ---- what an index can hold
 
+-- an index can hold the FDE
+abbrev pub fits_index : (base : ℕ) → Fde → Bool
+fits_index base f = is_none (index_refusal base f)
+
+-- its start isn't below the base
 starts-above : (base : ℕ) (f : Fde) → fits_index base f ≡ true → base ≤ f.initial_address
-starts-above base f h = let first : nat_le base f.initial_address ≡ true = (and_parts _ _ (and_parts _ _ h).0).0 in grind arith
+starts-above base f h = grind (arith, nat_tests)
+
+-- and its offset has 32 bits
+pub offset-fits : (base : ℕ) (f : Fde) → fits_index base f ≡ true → nat_lt f.head.offset (2 ^ 32) ≡ true
+offset-fits base f h = grind (arith, nat_tests)
+
+-- ---- of the FDEs, the one with the greatest start
 
 -- no FDE at or below the address starts above a bound
 all-under : (base a bound : ℕ) (fs : List Fde) → list_all (fits_index base) fs ≡ true
@@ -51,7 +63,7 @@ all-under base a bound (f ∷ fs) fit all =
 
 under : (base a bound : ℕ) (fs : List Fde) (g : Fde) → list_all (fits_index base) fs ≡ true
     → All (λ y. nat_le y.start a ≡ true → y.start ≤ bound) (map (index_entry base) fs)
-    → indexed_among (base + a) fs ≡ Some g → g.initial_address ≤ base + bound
+    → nearest_fde (base + a) fs ≡ Some g → g.initial_address ≤ base + bound
 under base a bound fs g fit all found =
     let within : List Fde = filter (λ f. nat_le f.initial_address (base + a)) fs in
     find-has (λ f. f.initial_address ≤ base + bound) (is_greatest (λ f. f.initial_address) within) within g (all-under base a bound fs fit all) found
@@ -61,14 +73,14 @@ pub first-greatest : (base a : ℕ) (fs : List Fde) (x : IndexedFde) (p : Indexe
     → ((y : IndexedFde) → p y ≡ true → y.start ≡ x.start) → ((y : IndexedFde) → y.start ≡ x.start → p y ≡ true)
     → x.start ≤ a → list_all (fits_index base) fs ≡ true → find p (map (index_entry base) fs) ≡ Some x
     → All (λ y. nat_le y.start a ≡ true → y.start ≤ x.start) (map (index_entry base) fs)
-    → (g : Fde) × (indexed_among (base + a) fs ≡ Some g) × (g.initial_address ≡ base + x.start) × (g.head.offset ≡ x.offset)
+    → (g : Fde) × (nearest_fde (base + a) fs ≡ Some g) × (g.initial_address ≡ base + x.start) × (g.head.offset ≡ x.offset)
 first-greatest base a [] x p only all low fit found greatest = cc
 first-greatest base a (f ∷ fs) x p only all low fit found greatest =
     let (here, others) = and_parts (fits_index base f) (list_all (fits_index base) fs) fit in
     let above : base ≤ f.initial_address = starts-above base f here in
     let rest = All-tail (λ y. nat_le y.start a ≡ true → y.start ≤ x.start) (index_entry base f) (map (index_entry base) fs) greatest in
     let first = All-head (λ y. nat_le y.start a ≡ true → y.start ≤ x.start) (index_entry base f) (map (index_entry base) fs) greatest in
-    let made : indexed_among (base + a) (f ∷ fs) ≡ later_of (cond (nat_le f.initial_address (base + a)) (Some f) None) (indexed_among (base + a) fs) = indexed-cons (base + a) f fs in
+    let made : nearest_fde (base + a) (f ∷ fs) ≡ later_of (cond (nat_le f.initial_address (base + a)) (Some f) None) (nearest_fde (base + a) fs) = indexed-cons (base + a) f fs in
     by_case (p (index_entry base f))
     (λ is.
     let same : Some (index_entry base f) ≡ Some x = rw is at found in
@@ -77,8 +89,8 @@ first-greatest base a (f ∷ fs) x p only all low fit found greatest =
     let place : f.head.offset ≡ x.offset = ap (λ y. y.offset) it in
     let near : nat_le f.initial_address (base + a) ≡ true = grind arith in
     let equal : f.initial_address ≡ base + x.start = omega arith in
-    let stays : later_of (Some f) (indexed_among (base + a) fs) ≡ Some f = none-later (indexed_among (base + a) fs) (λ g e. let le = under base a x.start fs g others rest e in omega arith) in
-    (f, made ∙ ap (λ b. later_of (cond b (Some f) None) (indexed_among (base + a) fs)) near ∙ stays, equal, place))
+    let stays : later_of (Some f) (nearest_fde (base + a) fs) ≡ Some f = none-later (nearest_fde (base + a) fs) (λ g e. let le = under base a x.start fs g others rest e in omega arith) in
+    (f, made ∙ ap (λ b. later_of (cond b (Some f) None) (nearest_fde (base + a) fs)) near ∙ stays, equal, place))
     (λ is.
     let (g, found_, start, place) = first-greatest base a fs x p only all low others (rw is at found) rest in
     by_case (nat_le f.initial_address (base + a))
@@ -86,8 +98,8 @@ first-greatest base a (f ∷ fs) x p only all low fit found greatest =
     let le : nat_le (f.initial_address - base) a ≡ true = grind arith in
     let under : f.initial_address - base ≤ x.start = first le in
     let before : f.initial_address < g.initial_address = before_if g x.start above under start (λ e. let yes = all (index_entry base f) e in cc) in
-    (g, made ∙ ap (λ b. later_of (cond b (Some f) None) (indexed_among (base + a) fs)) near ∙ ap (later_of (Some f)) found_ ∙ ap (λ h. Some h) (goes-later g before), start, place))
-    (λ far. (g, made ∙ ap (λ b. later_of (cond b (Some f) None) (indexed_among (base + a) fs)) far ∙ found_, start, place)))
+    (g, made ∙ ap (λ b. later_of (cond b (Some f) None) (nearest_fde (base + a) fs)) near ∙ ap (later_of (Some f)) found_ ∙ ap (λ h. Some h) (goes-later g before), start, place))
+    (λ far. (g, made ∙ ap (λ b. later_of (cond b (Some f) None) (nearest_fde (base + a) fs)) far ∙ found_, start, place)))
   where
     none-later : (o : Option Fde) → ((g : Fde) → o ≡ Some g → g.initial_address ≤ f.initial_address) → later_of (Some f) o ≡ Some f
     none-later None h = refl
@@ -119,21 +131,26 @@ same_start m n = (λ h. grind (arith, nat_tests), λ h. grind (arith, nat_tests)
 abbrev pub whole_among : FrameSection → List (Result AnyEntry Error) → List Fde
 whole_among section items = filter_map result_ok (filter_map (fde_in section) items)
 
--- where each item fits, each FDE does
-pub whole-fit : (base : ℕ) (section : FrameSection) (items : List (Result AnyEntry Error)) → list_all (item_fits base section) items ≡ true → list_all (fits_index base) (whole_among section items) ≡ true
+-- if no entry has an error, an index can hold each FDE
+pub whole-fit : (base : ℕ) (section : FrameSection) (items : List (Result AnyEntry Error)) → first_value (entry_error base section) items ≡ None
+    → list_all (fits_index base) (whole_among section items) ≡ true
 whole-fit base section [] h = refl
 whole-fit base section (Ok (which.Cie cie) ∷ items) h = whole-fit base section items h
 whole-fit base section (Err e ∷ items) h = cc
-whole-fit base section (Ok (which.Fde partial) ∷ items) h =
-    let (here, others) = and_parts (fde_fits base (fde_of section.limit section.kind partial)) (list_all (item_fits base section) items) h in
-    by_fde (fde_of section.limit section.kind partial) here (whole-fit base section items others)
+whole-fit base section (Ok (which.Fde partial) ∷ items) h = by_fde (fde_of section.limit section.kind partial) (λ none. whole-fit base section items none) h
   where
-    by_fde : (fde : Result Fde Error) → fde_fits base fde ≡ true → list_all (fits_index base) (whole_among section items) ≡ true
-        → list_all (fits_index base) (cons_option (result_ok fde) (whole_among section items)) ≡ true
-    by_fde (Ok fde) fits others = rw fits others
-    by_fde (Err e) fits others = cc
+    by_refusal : (fde : Fde) (refusal : Option DwarfCfiIndexError) → index_refusal base fde ≡ refusal
+        → (first_value (entry_error base section) items ≡ None → list_all (fits_index base) (whole_among section items) ≡ true)
+        → option_or refusal (first_value (entry_error base section) items) ≡ None → list_all (fits_index base) (fde ∷ whole_among section items) ≡ true
+    by_refusal fde None is others h = rw is (others h)
+    by_refusal fde (Some e) is others h = cc
 
-module _ (base : ℕ) (section : FrameSection) (ys : List IndexedFde) (has : has_index base section ≡ true) (up : IsNonDecreasingBy (λ y. y.start) ys)
+    by_fde : (fde : Result Fde Error) → (first_value (entry_error base section) items ≡ None → list_all (fits_index base) (whole_among section items) ≡ true)
+        → option_or (fde_error base fde) (first_value (entry_error base section) items) ≡ None → list_all (fits_index base) (cons_option (result_ok fde) (whole_among section items)) ≡ true
+    by_fde (Ok fde) others h = by_refusal fde (index_refusal base fde) refl others h
+    by_fde (Err e) others h = cc
+
+module _ (base : ℕ) (section : FrameSection) (ys : List IndexedFde) (has : index_error base section ≡ None) (up : IsNonDecreasingBy (λ y. y.start) ys)
     (moved : IsPermutation (reverse (map (index_entry base) (whole_fdes section))) ys) (stable : IsStableByKey (λ y. y.start) nat_cmp (reverse (map (index_entry base) (whole_fdes section))) ys) where
   -- what all have in the list that is sorted, all have in the section
   unsorted : (P : IndexedFde → Type 0) → All P ys → All P (map (index_entry base) (whole_fdes section))
@@ -143,10 +160,10 @@ module _ (base : ℕ) (section : FrameSection) (ys : List IndexedFde) (has : has
       (All-permutation P ys (reverse xs) (IsPermutation-sym (reverse xs) ys moved) all)
 
   fitting : list_all (fits_index base) (whole_fdes section) ≡ true
-  unfolding has_index whole_fdes
+  unfolding index_error whole_fdes
   fitting = whole-fit base section (entries_of section) has
 
-  found-some : (a : ℕ) (x : IndexedFde) → last_of (filter (λ y. nat_le y.start a) ys) ≡ Some x → Some x.offset ≡ option_map (λ f. f.head.offset) (indexed_among (base + a) (whole_fdes section))
+  found-some : (a : ℕ) (x : IndexedFde) → last_of (filter (λ y. nat_le y.start a) ys) ≡ Some x → Some x.offset ≡ option_map (λ f. f.head.offset) (nearest_fde (base + a) (whole_fdes section))
   found-some a x last =
       let p : IndexedFde → Bool = ties (λ u v. is_lt (nat_cmp u.start v.start)) x in
       let xs : List IndexedFde = map (index_entry base) (whole_fdes section) in
@@ -159,7 +176,7 @@ module _ (base : ℕ) (section : FrameSection) (ys : List IndexedFde) (has : has
       let (g, same, start, place) = first-greatest base a (whole_fdes section) x p only all low fitting found (unsorted (λ y. nat_le y.start a ≡ true → y.start ≤ x.start) (none-higher (λ y. y.start) a ys x up last)) in
       ap (λ n. Some n) (sym place) ∙ sym (ap (option_map (λ f. f.head.offset)) same)
 
-  found-none : (a : ℕ) → last_of (filter (λ y. nat_le y.start a) ys) ≡ None → indexed_among (base + a) (whole_fdes section) ≡ None
+  found-none : (a : ℕ) → last_of (filter (λ y. nat_le y.start a) ys) ≡ None → nearest_fde (base + a) (whole_fdes section) ≡ None
   found-none a last =
       let empty = none-indexed base a (whole_fdes section) fitting (unsorted (λ y. nat_le y.start a ≡ false) (none-passes (λ y. nat_le y.start a) ys last)) in
       rw empty refl
@@ -167,70 +184,28 @@ module _ (base : ℕ) (section : FrameSection) (ys : List IndexedFde) (has : has
   -- the sorted list is an index of the section
   pub indexes-sorted : Indexes ys base section
   unfolding indexed_entry
-  indexes-sorted = (has, λ a. rw has (by a (last_of (filter (λ y. nat_le y.start a) ys)) refl), length_permutation (reverse kept) ys moved ∙ length-reverse kept ∙ length-map (whole_fdes section) (index_entry base))
+  indexes-sorted = (ap is_none has, λ a. rw has (by a (last_of (filter (λ y. nat_le y.start a) ys)) refl), length_permutation (reverse kept) ys moved ∙ length-reverse kept ∙ length-map (whole_fdes section) (index_entry base))
     where
       kept : List IndexedFde
       kept = map (index_entry base) (whole_fdes section)
 
-      by : (a : ℕ) (o : Option IndexedFde) → last_of (filter (λ y. nat_le y.start a) ys) ≡ o → offset_by_index ys a ≡ option_map (λ f. f.head.offset) (indexed_among (base + a) (whole_fdes section))
+      by : (a : ℕ) (o : Option IndexedFde) → last_of (filter (λ y. nat_le y.start a) ys) ≡ o → offset_by_index ys a ≡ option_map (λ f. f.head.offset) (nearest_fde (base + a) (whole_fdes section))
       by a (Some x) e = ap (option_map (λ y. y.offset)) e ∙ found-some a x e
       by a None e = ap (option_map (λ y. y.offset)) e ∙ sym (ap (option_map (λ f. f.head.offset)) (found-none a e))
-
--- ---- the error of the first entry against an index
-
-fits-all : (base : ℕ) (f : Fde) → index_refusal base f ≡ None → fits_index base f ≡ true
-fits-all base f h = grind (arith, nat_tests)
-
-fits-not : (base : ℕ) (f : Fde) (e : DwarfCfiIndexError) → index_refusal base f ≡ Some e → fits_index base f ≡ false
-fits-not base f e h = grind (arith, nat_tests)
-
--- an FDE, an item and a list of items fit exactly where there is no error
-fits-as : (base : ℕ) (f : Fde) → fits_index base f ≡ is_none (index_refusal base f)
-fits-as base f = by_option (index_refusal base f) (λ e is. rw is (fits-not base f e is)) (λ is. rw is (fits-all base f is))
-
-fde-fits-as : (base : ℕ) (fde : Result Fde Error) → fde_fits base fde ≡ is_none (fde_error base fde)
-fde-fits-as base (Ok fde) = fits-as base fde
-fde-fits-as base (Err e) = refl
-
-item-fits-as : (base : ℕ) (section : FrameSection) (item : Result AnyEntry Error) → item_fits base section item ≡ is_none (item_error base section item)
-item-fits-as base section (Ok (which.Cie cie)) = refl
-item-fits-as base section (Ok (which.Fde partial)) = fde-fits-as base (fde_of section.limit section.kind partial)
-item-fits-as base section (Err e) = refl
-
-both-none : {A : Type 0} (a b : Option A) → (is_none a && is_none b) ≡ is_none (option_or a b)
-both-none None b = refl
-both-none (Some x) b = refl
-
-all-fit-as : (base : ℕ) (section : FrameSection) (items : List (Result AnyEntry Error)) → list_all (item_fits base section) items ≡ is_none (first_value (item_error base section) items)
-all-fit-as base section [] = refl
-all-fit-as base section (item ∷ items) =
-    ap (λ b. b && list_all (item_fits base section) items) (item-fits-as base section item)
-    ∙ ap (λ b. is_none (item_error base section item) && b) (all-fit-as base section items)
-    ∙ both-none (item_error base section item) (first_value (item_error base section) items)
-
--- a section without an error has an index
-pub has-index : (base : ℕ) (section : FrameSection) → index_error base section ≡ None → has_index base section ≡ true
-unfolding has_index
-has-index base section h = all-fit-as base section (entries_of section) ∙ ap is_none h
-
--- a section with one has none
-pub has-no-index : (base : ℕ) (section : FrameSection) (error : DwarfCfiIndexError) → index_error base section ≡ Some error → has_index base section ≡ false
-unfolding has_index
-has-no-index base section error h = all-fit-as base section (entries_of section) ∙ ap is_none h
 
 -- ---- the pass over the entries
 
 -- what a pass has gathered, where these of the section's entries are left: an error is that of the rest, and what is kept of
 -- the FDEs is what was gathered and what is kept of the rest
 pub record Gathered (section : FrameSection) (base : ℕ) (kept : List IndexedFde) (left : List (Result AnyEntry Error)) : Type 0 where
-  pub error : index_error base section ≡ first_value (item_error base section) left
+  pub error : index_error base section ≡ first_value (entry_error base section) left
   pub fdes : map (index_entry base) (whole_fdes section) ≡ kept ++ map (index_entry base) (whole_among section left)
 
 -- nothing is gathered at the start
 pub none-gathered : (section : FrameSection) (base : ℕ) (kept : List IndexedFde) (left : List (Result AnyEntry Error)) → kept ≡ [] → left ≡ entries_of section → Gathered section base kept left
-unfolding whole_fdes
+unfolding index_error whole_fdes
 none-gathered section base kept left none is = record {
-  error = ap (first_value (item_error base section)) (sym is);
+  error = ap (first_value (entry_error base section)) (sym is);
   fdes = rw (none, is) refl;
 }
 
@@ -238,7 +213,7 @@ none-gathered section base kept left none is = record {
 pub cie-gathered : (section : FrameSection) (base : ℕ) (kept : List IndexedFde) (all left : List (Result AnyEntry Error)) (cie : Cie) → all ≡ Ok (which.Cie cie) ∷ left → Gathered section base kept all
     → Gathered section base kept left
 cie-gathered section base kept all left cie is before = record {
-  error = before.error ∙ ap (first_value (item_error base section)) is;
+  error = before.error ∙ ap (first_value (entry_error base section)) is;
   fdes = before.fdes ∙ ap (λ entries. kept ++ map (index_entry base) (whole_among section entries)) is;
 }
 
@@ -246,18 +221,18 @@ cie-gathered section base kept all left cie is before = record {
 pub fde-gathered : (section : FrameSection) (base : ℕ) (before after : List IndexedFde) (all left : List (Result AnyEntry Error)) (partial : PartialFde) (fde : Result Fde Error) → all ≡ Ok (which.Fde partial) ∷ left
     → fde_of section.limit section.kind partial ≡ fde → IsKept (Ok tt) base fde before after → Gathered section base before all → Gathered section base after left
 fde-gathered section base before after all left partial (Ok fde) is whole (fits, kept) gathered = record {
-  error = gathered.error ∙ ap (first_value (item_error base section)) is ∙ rw (whole, fits) refl;
+  error = gathered.error ∙ ap (first_value (entry_error base section)) is ∙ rw (whole, fits) refl;
   fdes = gathered.fdes ∙ ap (λ entries. before ++ map (index_entry base) (whole_among section entries)) is ∙ rw (whole, kept) (sym (append_assoc before (index_entry base fde ∷ []) (map (index_entry base) (whole_among section left))));
 }
 fde-gathered section base before after all left partial (Err e) is whole kept gathered = absurd kept
 
--- the first of the entries that are left is against an index
+-- the first of the entries that are left has an error
 pub first-against : (section : FrameSection) (base : ℕ) (kept : List IndexedFde) (all left : List (Result AnyEntry Error)) (item : Result AnyEntry Error) (error : DwarfCfiIndexError) → all ≡ item ∷ left
-    → item_error base section item ≡ Some error → Gathered section base kept all → index_error base section ≡ Some error
+    → entry_error base section item ≡ Some error → Gathered section base kept all → index_error base section ≡ Some error
 first-against section base kept all left item error is against gathered =
-    gathered.error ∙ ap (first_value (item_error base section)) is ∙ ap (λ first. option_or first (first_value (item_error base section) left)) against
+    gathered.error ∙ ap (first_value (entry_error base section)) is ∙ ap (λ first. option_or first (first_value (entry_error base section) left)) against
 
--- where an entry is against an index, its error is what is returned
+-- if an entry has an error, it is the one that is returned
 pub refused : {X : Type 0} (r : Result X DwarfCfiIndexError) (Is : X → ℕ → FrameSection → Type 0) (base : ℕ) (section : FrameSection) (error : DwarfCfiIndexError) → IsErr r → IsErrAnd r (λ e. e ≡ error)
     → (error ≢ OutOfMemory → index_error base section ≡ Some error) → IsMadeOf r Is base section
 refused (Ok made) Is base section error err same why = absurd cc

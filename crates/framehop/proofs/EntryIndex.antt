@@ -6,7 +6,7 @@ use Rattle.std.proofs.lemmas.List.Elements.{All-head, All-tail}
 use Rattle.list_laws.specs.Greatest.{greater_of}
 use Rattle.list_laws.proofs.Laws.{by_case, first_greatest-cons}
 use Rattle.dwarf_frame_entries.specs.Entries.{Fde}
-use Rattle.framehop.specs.EntryFor.{indexed_among}
+use Rattle.dwarf_frame_entries.specs.SectionFdes.{nearest_fde}
 
 -- what is found has what all have
 pub find-has : {X : Type 0} (P : X → Type 0) (p : X → Bool) (xs : List X) (x : X) → All P xs → find p xs ≡ Some x → P x
@@ -22,7 +22,7 @@ later_of first second = greater_of (λ fde. fde.initial_address) first second
 
 -- the entry for an address among a list with one more at its front
 pub indexed-cons : (address : ℕ) (f : Fde) (fs : List Fde)
-    → indexed_among address (f ∷ fs) ≡ later_of (cond (nat_le f.initial_address address) (Some f) None) (indexed_among address fs)
+    → nearest_fde address (f ∷ fs) ≡ later_of (cond (nat_le f.initial_address address) (Some f) None) (nearest_fde address fs)
 indexed-cons address f fs =
     by_case (nat_le f.initial_address address)
     (λ is. rw is (first_greatest-cons (λ fde. fde.initial_address) f (filter (λ fde. nat_le fde.initial_address address) fs)))

@@ -5,14 +5,14 @@ use Rattle.std.specs.List.{filter}
 use Rattle.std.specs.Result.{result_ok}
 use Rattle.std.proofs.lemmas.List.Elements.{All-filter}
 use Rattle.dwarf_constants.specs.declared.error.Error.{Error}
-use Rattle.dwarf_frame_sections.specs.Sections.{FrameSection}
+use Rattle.dwarf_frame_rows.specs.FrameSection.{FrameSection}
 use Rattle.dwarf_endianity.specs.Answers.{Gives}
 use Rattle.dwarf_frame_entries.specs.Entries.{Fde, fde_from_offset}
-use Rattle.dwarf_frame_entries.specs.SectionFdes.{StandsAtItsOffset, whole_fdes}
+use Rattle.dwarf_frame_entries.specs.SectionFdes.{StandsAtItsOffset, whole_fdes, nearest_fde}
 use Rattle.dwarf_frame_entries.proofs.Laws.{fdes_there}
 use Rattle.list_laws.specs.Greatest.{is_greatest}
 use Rattle.list_laws.proofs.Laws.{by_case}
-use Rattle.framehop.specs.EntryFor.{has_index, indexed_among, indexed_entry}
+use Rattle.framehop.specs.EntryFor.{has_index, indexed_entry}
 use Rattle.framehop.proofs.EntryIndex.{find-has}
 
 -- the indexed entry is what stands at its offset
@@ -20,7 +20,7 @@ pub indexed-there : (section : FrameSection) (base relative : ℕ) (g : Fde) →
 unfolding indexed_entry
 indexed-there section base relative g h =
     by_case (has_index base section)
-    (λ is. let found : indexed_among (base + relative) (whole_fdes section) ≡ Some g = rw is at h in
+    (λ is. let found : nearest_fde (base + relative) (whole_fdes section) ≡ Some g = rw is at h in
     let within : List Fde = filter (λ fde. nat_le fde.initial_address (base + relative)) (whole_fdes section) in
     find-has (StandsAtItsOffset section) (is_greatest (λ fde. fde.initial_address) within) within g
     (All-filter (λ fde. nat_le fde.initial_address (base + relative)) (StandsAtItsOffset section) (whole_fdes section) (fdes_there section)) found)

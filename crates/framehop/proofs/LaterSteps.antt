@@ -3,7 +3,7 @@ use Rattle.std.proofs.Common.{◌≡◌, ℕ, ◌-◌, ◌^◌, ◌<◌, Bool, t
 use Rattle.std.specs.Prelude.{ℤ, pos, negsuc, ◌+ℤ◌, nat_le, nat_lt, if◌then◌else◌, option_and_then}
 use Rattle.std.specs.Result.{result_ok}
 use Rattle.std.proofs.lemmas.Bool.{leb-false}
-use Rattle.dwarf_readers.specs.Place.{Stretch}
+use Rattle.dwarf_readers.specs.Stretch.{Stretch}
 use Rattle.dwarf_frame_rows.specs.Expressions.{expression_in}
 use Rattle.dwarf_frame_rows.specs.Row.{Row}
 use Rattle.dwarf_frame_rows.specs.declared.rules.CfaRule.{CfaRule}
@@ -31,13 +31,9 @@ use Rattle.framehop_unwinder.specs.Attempt.{attempt_of}
 use Rattle.framehop_unwinder.specs.Frames.{later_frame}
 use Rattle.framehop_unwinder.specs.Judge.{by_attempt, or_else, judge}
 use Rattle.framehop_unwinder.specs.Modules.{Loaded, module_found}
+use Rattle.framehop.specs.WalkLengths.{IsRaised}
 use Rattle.framehop.specs.WalksAarch64.{meanings_in}
 use Rattle.framehop.proofs.WalkValues.{expression-fits}
-
--- A stack pointer is above another, and keeps to 64 bits.
-pub record IsRaised (low high : ℕ) : Type 0 where
-  pub higher : low < high
-  pub fits : high < 2 ^ 64
 
 -- ---- direct rows
 

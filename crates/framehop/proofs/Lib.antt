@@ -7,7 +7,7 @@ pub mod Halves
 pub mod LaterSteps
 pub mod RowTrials
 pub mod SectionsMade
-pub mod TruthfulRoads
+pub mod TruthfulLookups
 pub mod WalkEnds
 pub mod WalkValues
 pub mod WholeFdes

@@ -10,11 +10,11 @@ use Rattle.framehop_unwinder.specs.WalkViews.{walk_from}
 use Rattle.framehop.specs.WalkLengths.{GivesFrames, IsFrame, RaisesSp}
 
 module _ {Registers : Type 0} (judgment : Judgment Registers) (words : Words) (sp : Registers → ℕ) (Known Made : Frame → Registers → Type 0) (raises : RaisesSp judgment words sp Known Made) where
-  -- Where a move from a frame answers one, the caller was answered, and the walk goes on from there.
+  -- If a move from a frame gives one, its step gave a caller, and the walk goes on from there.
   record GoesOn (frame : Frame) (registers : Registers) (count : ℕ) : Type 0 where
     caller : Caller Registers
     answered : judgment frame registers words ≡ Answers caller
-    more : GivesFrames judgment words Made count (record { place = At (later_frame caller.return_address); registers = caller.registers })
+    more : GivesFrames judgment words Made count (record { position = At (later_frame caller.return_address); registers = caller.registers })
 
   abbrev Goes : Frame → Registers → ℕ → Outcome (Caller Registers) → Type 0
   Goes frame registers count outcome = IsFrame (move_by frame registers outcome).answer × GivesFrames judgment words Made count (move_by frame registers outcome).walk
@@ -32,15 +32,16 @@ module _ {Registers : Type 0} (judgment : Judgment Registers) (words : Words) (s
       by false goes = record { caller = caller; answered = is; more = goes.1 }
 
   -- from a later frame on
-  later-frames : (count to : ℕ) (registers : Registers) → Known (later_frame to) registers → GivesFrames judgment words Made (suc count) (record { place = At (later_frame to); registers = registers }) → sp registers + suc count < 2 ^ 64
+  later-frames : (count to : ℕ) (registers : Registers) → Known (later_frame to) registers → GivesFrames judgment words Made (suc count) (record { position = At (later_frame to); registers = registers }) → sp registers + suc count < 2 ^ 64
   later-frames zero to registers known goes =
       let on = goes-on (later_frame to) registers 0 (judgment (later_frame to) registers words) refl goes.1 in
-      let up = raises.higher to registers on.caller known goes.0 on.answered in
-      let fits = raises.fits to registers on.caller known goes.0 on.answered in
+      let up = raises.raised to registers on.caller known goes.0 on.answered in
+      let higher = up.higher in
+      let fits = up.fits in
       omega arith
   later-frames (suc count) to registers known goes =
       let on = goes-on (later_frame to) registers (suc count) (judgment (later_frame to) registers words) refl goes.1 in
-      let up = raises.higher to registers on.caller known goes.0 on.answered in
+      let up = (raises.raised to registers on.caller known goes.0 on.answered).higher in
       let further = later-frames count on.caller.return_address on.caller.registers (raises.known (later_frame to) registers on.caller known goes.0 on.answered) on.more in
       omega arith
 

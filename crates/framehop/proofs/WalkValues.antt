@@ -9,9 +9,9 @@ use Rattle.dwarf_constants.specs.declared.common.Register.{Register}
 use Rattle.dwarf_constants.specs.declared.error.Error.{Error}
 use Rattle.dwarf_constants.specs.declared.error.Error.TheVariants.{NotEnoughStackItems, StackFull, TooManyIterations}
 use Rattle.dwarf_readers.specs.InitialLength.{is_size}
-use Rattle.dwarf_readers.specs.Place.{Stretch, ◌>>=◌, behind, requirement}
+use Rattle.dwarf_readers.specs.Stretch.{Stretch, ◌>>=◌, behind, requirement}
 use Rattle.dwarf_expressions.specs.Effects.{Stack, stack_with, stack_without_top, swapped_stack, rotated_stack, with_top, with_two, of_top, of_two, stack_after, has_room, stack_within}
-use Rattle.dwarf_expressions.specs.Evaluation.{Machine, Program, State, Ready, Asking, Finished, Refused, state_behind, branch_of, place_by, machine_after, machine_with, state_by_operation, last_step, operation_step, step, run_within, run, state_reached, state_reached_with, first_machine, operations_left}
+use Rattle.dwarf_expressions.specs.Evaluation.{StackMachine, EvaluationInput, EvaluationState, Ready, Asking, Finished, Refused, state_behind, branch_of, offset_by, machine_after, machine_with, state_by_operation, last_step, operation_step, step, run_within, run, state_reached, state_reached_with, first_machine, operations_left}
 use Rattle.dwarf_operations.specs.Operations.{operation_at}
 use Rattle.dwarf_expressions.specs.Values.{modulus, value_of}
 use Rattle.dwarf_operations.specs.declared.op.Operation.{Operation}
@@ -116,21 +116,21 @@ with-room capacity (Err e) h = tt
 
 -- ---- machines
 
-abbrev SmallState : State → Type 0
+abbrev SmallState : EvaluationState → Type 0
 SmallState (Ready m) = Small m.stack
 SmallState (Asking register offset m) = Small m.stack
 SmallState (Finished value) = value < 2 ^ 64
 SmallState (Refused e) = Unit {0}
 
-abbrev SmallStep : Result State Error → Type 0
+abbrev SmallStep : Result EvaluationState Error → Type 0
 SmallStep (Ok state) = SmallState state
 SmallStep (Err e) = Unit {0}
 
-either : (b : Bool) (x y : Result State Error) → SmallStep x → SmallStep y → SmallStep (cond b x y)
+either : (b : Bool) (x y : Result EvaluationState Error) → SmallStep x → SmallStep y → SmallStep (cond b x y)
 either true x y h k = h
 either false x y h k = k
 
-step-behind : {A : Type 0} (first : Result A Error) (next : A → Result State Error) → ((x : A) → SmallStep (next x)) → SmallStep (first >>= next)
+step-behind : {A : Type 0} (first : Result A Error) (next : A → Result EvaluationState Error) → ((x : A) → SmallStep (next x)) → SmallStep (first >>= next)
 step-behind (Ok x) next k = k x
 step-behind (Err e) next k = tt
 
@@ -138,59 +138,59 @@ ended : (stack : List ℕ) → Small stack → SmallStep (last_step stack)
 ended (top ∷ rest) h = h.0
 ended [] h = tt
 
-module _ (p : Program) (sized : is_size p.address_size ≡ true) where
-  changed : (m : Machine) (operation : Operation) → Small m.stack → SmallStep (machine_after p m operation >>= λ next. Ok (Ready next))
+module _ (p : EvaluationInput) (sized : is_size p.address_size ≡ true) where
+  changed : (m : StackMachine) (operation : Operation) → Small m.stack → SmallStep (machine_after p m operation >>= λ next. Ok (Ready next))
   changed m operation h =
       let stack = stack_within p.capacity (stack_after p.address_size operation m.stack) in
       let small = with-room p.capacity (stack_after p.address_size operation m.stack) (left-by p.address_size (value-fits p.address_size sized) operation m.stack h) in
-      by stack small (place_by (length p.expression.bytes) m.place (branch_of operation m.stack))
+      by stack small (offset_by (length p.expression.bytes) m.offset (branch_of operation m.stack))
     where
       by : (stack : Stack) → SmallStack stack → (place : Result ℕ Error)
-          → SmallStep ((stack >>= λ values. place >>= λ at. Ok (let next : Machine = record { stack = values; place = at; left = m.left } in next)) >>= λ next. Ok (Ready next))
+          → SmallStep ((stack >>= λ values. place >>= λ at. Ok (let next : StackMachine = record { stack = values; offset = at; left = m.left } in next)) >>= λ next. Ok (Ready next))
       by (Ok values) h (Ok at) = h
       by (Ok values) h (Err e) = tt
       by (Err e) h place = tt
 
-  performed : (m : Machine) (operation : Operation) → Small m.stack → SmallStep (state_by_operation p m operation)
+  performed : (m : StackMachine) (operation : Operation) → Small m.stack → SmallStep (state_by_operation p m operation)
   performed m (RegisterOffset register offset) h = h
   performed m operation h = changed m operation h
 
-  stepped : (m : Machine) → Small m.stack → SmallStep (step p m)
+  stepped : (m : StackMachine) → Small m.stack → SmallStep (step p m)
   stepped m h =
-      either (m.place == length p.expression.bytes) (last_step m.stack) (operation_step p m) (ended m.stack h)
+      either (m.offset == length p.expression.bytes) (last_step m.stack) (operation_step p m) (ended m.stack h)
       (either (m.left == 0) (Err TooManyIterations) _ tt
-      (step-behind (operation_at p.address_size (behind m.place p.expression)) _
-      (λ operation. performed (record { stack = m.stack; place = operation.1.place - p.expression.place; left = m.left - 1 }) operation.0 h)))
+      (step-behind (operation_at p.address_size (behind m.offset p.expression)) _
+      (λ operation. performed (record { stack = m.stack; offset = operation.1.offset - p.expression.offset; left = m.left - 1 }) operation.0 h)))
 
-  behind-step : (go_on : Machine → State) → ((m : Machine) → Small m.stack → SmallState (go_on m)) → (s : Result State Error) → SmallStep s → SmallState (state_behind go_on s)
+  behind-step : (go_on : StackMachine → EvaluationState) → ((m : StackMachine) → Small m.stack → SmallState (go_on m)) → (s : Result EvaluationState Error) → SmallStep s → SmallState (state_behind go_on s)
   behind-step go_on later (Ok (Ready m)) h = later m h
   behind-step go_on later (Ok (Asking register offset m)) h = h
   behind-step go_on later (Ok (Finished value)) h = h
   behind-step go_on later (Ok (Refused e)) h = tt
   behind-step go_on later (Err e) h = tt
 
-  few-steps : (n : ℕ) (m : Machine) → Small m.stack → SmallState (run_within n p m)
+  few-steps : (n : ℕ) (m : StackMachine) → Small m.stack → SmallState (run_within n p m)
   few-steps zero m h = h
   few-steps (suc n) m h = behind-step (run_within n p) (few-steps n) (step p m) (stepped m h)
 
-  ran : (m : Machine) → Small m.stack → SmallState (run p m)
+  ran : (m : StackMachine) → Small m.stack → SmallState (run p m)
   unfolding run
   ran m h = few-steps (suc m.left) m h
 
-  resumed : (value : ℕ) (register : Register) (offset : ℤ) (m : Machine) → Small m.stack → SmallState (state_reached_with p value (Asking register offset m))
+  resumed : (value : ℕ) (register : Register) (offset : ℤ) (m : StackMachine) → Small m.stack → SmallState (state_reached_with p value (Asking register offset m))
   resumed value register offset m h =
       behind-step (run p) ran (machine_with p value offset m >>= λ next. Ok (Ready next))
       (by (stack_within p.capacity (stack_with p.address_size (pos value +ℤ offset) m.stack))
       (with-room p.capacity (stack_with p.address_size (pos value +ℤ offset) m.stack) (value-fits p.address_size sized (pos value +ℤ offset), h)))
     where
       by : (stack : Stack) → SmallStack stack
-          → SmallStep ((stack >>= λ values. Ok (let next : Machine = record { stack = values; place = m.place; left = m.left } in next)) >>= λ next. Ok (Ready next))
+          → SmallStep ((stack >>= λ values. Ok (let next : StackMachine = record { stack = values; offset = m.offset; left = m.left } in next)) >>= λ next. Ok (Ready next))
       by (Ok values) h = h
       by (Err e) h = tt
 
   -- ---- expressions
 
-  within-fits : (n : ℕ) (registers : RegisterValues) (state : State) → SmallState state → (value : ℕ) → value_within n p registers state ≡ Some value → value < 2 ^ 64
+  within-fits : (n : ℕ) (registers : RegisterValues) (state : EvaluationState) → SmallState state → (value : ℕ) → value_within n p registers state ≡ Some value → value < 2 ^ 64
   within-fits n registers (Ready m) h value is = cc
   within-fits n registers (Finished found) h value is = let same : found ≡ value = cc in subst (λ (v : ℕ). v < 2 ^ 64) same h
   within-fits n registers (Refused e) h value is = cc

@@ -4,9 +4,9 @@ pub mod Coverage
 pub mod EntryFor
 pub mod FrameSections
 pub mod LastCie
-pub mod RoadViews
-pub mod Roads
-pub mod TruthfulRoads
+pub mod LookupViews
+pub mod Lookups
+pub mod TruthfulLookups
 pub mod UnwindData
 pub mod WalkLengths
 pub mod WalksAarch64

@@ -7,7 +7,7 @@ use Rattle.framehop_rules.specs.declared.x86_64.unwind_rule.UnwindRuleX86_64.{Un
 use Rattle.framehop_unwinder.specs.Frames.{Frame}
 use Rattle.framehop_unwinder.specs.Walk.{Judgment}
 
--- What is judged of a frame is what a rule means.
+-- The step of a frame is that of an unwind rule.
 pub record IsRuleStep (judgment : Judgment UnwindRegsX86_64) (words : Words) (frame : Frame) (registers : UnwindRegsX86_64)
     : Type 0 where
   pub rule : UnwindRuleX86_64

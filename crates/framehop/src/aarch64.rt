@@ -1,20 +1,55 @@
 //! The unwinder of aarch64.
 
+ghost use Rattle.std.specs.Prelude.{◌≡◌, IfOk, None, replicate};
+ghost use Rattle.framehop_rules.specs.Slots.{no_counts};
+ghost use Rattle.framehop_unwinder.specs.CacheViews.{rules_of};
+
 use crate::arch::BySections;
-use crate::cache::MayAllocateDuringUnwind;
+use crate::cache::{AllocationPolicy, MayAllocateDuringUnwind};
 use crate::dwarf::DwarfUnwindContext;
 pub use framehop_rows::aarch64::rule_answers_as_its_row;
+use framehop_rules::CacheStats;
 pub use framehop_rules::aarch64::{ArchAarch64, PtrAuthMask, UnwindRegsAarch64, UnwindRuleAarch64};
 use framehop_unwinder::{Cache, UnwinderInternal};
+use std::alloc::{AllocError, Global};
 
-/// The unwinder of a process on aarch64, whose modules are unwound by sections, which are values of `D`,
-/// under the policy `P`.
+/// The unwinder of a process on aarch64. Its modules are unwound by their sections, which are values of
+/// `D`; `P` says whether a step may allocate.
 pub type UnwinderAarch64<D, P = MayAllocateDuringUnwind> = UnwinderInternal<
     BySections<ArchAarch64, D, P>,
 >;
 
-/// What steps on aarch64 keep and reuse under the policy `P`.
-pub type CacheAarch64<P = MayAllocateDuringUnwind> = Cache<
-    UnwindRuleAarch64,
-    DwarfUnwindContext<P>,
->;
+/// What steps on aarch64 keep and reuse: a cache of unwind rules, and storage that steps evaluate rows in.
+/// A step or a walk takes the [`Cache`] in it.
+#[derive(Drop)]
+pub struct CacheAarch64<P: AllocationPolicy = MayAllocateDuringUnwind>(
+    pub Cache<UnwindRuleAarch64, DwarfUnwindContext<P>>,
+);
+
+impl CacheAarch64<MayAllocateDuringUnwind> {
+    /// A new cache for steps that may allocate. Fails if it fails to allocate.
+    pub fn new(alloc: Global) -> Result<Self, AllocError>
+        ensures slots { IfOk result (λ cache. (rules_of cache.0).slots ≡ replicate 509 None) }
+        ensures counts { IfOk result (λ cache. (rules_of cache.0).counts ≡ no_counts) }
+    {
+        CacheAarch64::new_in(alloc)
+    }
+}
+
+impl<P: AllocationPolicy> CacheAarch64<P> {
+    /// A new cache for steps under the policy `P`. Fails if it fails to allocate.
+    pub fn new_in(alloc: Global) -> Result<Self, AllocError>
+        ensures slots { IfOk result (λ cache. (rules_of cache.0).slots ≡ replicate 509 None) }
+        ensures counts { IfOk result (λ cache. (rules_of cache.0).counts ≡ no_counts) }
+    {
+        let unwind_context = DwarfUnwindContext::new(alloc)?;
+        Ok(CacheAarch64(Cache::new(alloc, unwind_context)?))
+    }
+
+    /// How many look-ups found a rule so far, and why the others found none.
+    pub fn stats(&self) -> CacheStats
+        ensures { result ≡ (rules_of self.now.0).counts }
+    {
+        self.0.stats()
+    }
+}

@@ -1,16 +1,13 @@
-//! Architectures whose modules are unwound by their sections.
+//! Architectures, if modules are unwound by their sections.
 
-ghost use Rattle.std.specs.Prelude.{◌≡◌, true, false, ℕ};
-ghost use Rattle.dwarf_frame_rows.specs.Effects.{limits_of};
-ghost use Rattle.framehop_registers.specs.Callback.{OverWords};
-ghost use Rattle.framehop_unwinder.specs.RulesKept.{rule_of_attempt};
-ghost use Rattle.framehop_unwinder.specs.Trials.{trial, has_wanted, rule_of_result, HasValidRule, KeepsUnlessDirect};
+ghost use Rattle.std.specs.Prelude.{refl};
+ghost use Rattle.framehop_unwinder.specs.Attempt.{meanings_of};
 ghost use Rattle.framehop.specs.Coverage.{row_meanings};
-ghost use Rattle.framehop_rows.specs.Memory.{takes_memory, TakesMemory};
+ghost use Rattle.framehop_rows.specs.Memory.{takes_memory};
 ghost use Rattle.framehop.specs.UnwindData.{AsksExpression, attempt, room_of};
 
 use crate::cache::AllocationPolicy;
-use crate::dwarf::{DwarfUnwindContext, unwind_frame_by_road};
+use crate::dwarf::{DwarfUnwindContext, unwind_frame_by_lookup};
 use crate::unwind_data::ModuleUnwindData;
 use dwarf_frame_entries::{DebugFrame, EhFrame};
 use dwarf_read_core::{EndianSlice, LittleEndian};
@@ -20,8 +17,8 @@ use framehop_rules::Arch;
 use framehop_unwinder::{UnwindFailure, UnwindResult, Unwinding};
 use std::marker::PhantomData;
 
-/// The architecture `A`, whose modules are unwound by their sections, which are values of `D`, under
-/// the policy `P`.
+/// The architecture `A`, if modules are unwound by their sections. Sections are values of `D`; `P` says
+/// whether a step may allocate.
 pub struct BySections<A, D, P> {
     arch: PhantomData<A>,
     sections: PhantomData<D>,
@@ -40,16 +37,21 @@ impl<A: DwarfUnwinding, D: SectionBytes + Drop, P: AllocationPolicy> Unwinding
 
     type UnwindContext = DwarfUnwindContext<P>;
 
-    ghost attempt = { let room = room_of (limits_of P.GimliUnwindContextStorage.Rules.capacity
-        P.GimliUnwindContextStorage.Stack.capacity) P.GimliEvaluationStorage.Stack.capacity in
-        attempt (row_meanings A.row_attempt A.uncovered) room };
+    ghost meanings = { let room = room_of P.GimliUnwindContextStorage.limits
+        P.GimliEvaluationStorage.Stack.capacity in
+        meanings_of A.UnwindRule.meaning A.UnwindRule.fallback
+        (attempt (row_meanings A.row_attempt A.uncovered) room) };
+
+    ghost meaning_is = { refl };
+
+    ghost fallback_is = { refl };
 
     ghost takes_memory = { takes_memory P.GimliEvaluationStorage.Stack.is_made_in_place
         P.GimliEvaluationStorage.Stack.capacity };
 
     ghost asks_memory = { λ given relative first.
-        let room = room_of (limits_of P.GimliUnwindContextStorage.Rules.capacity
-        P.GimliUnwindContextStorage.Stack.capacity) P.GimliEvaluationStorage.Stack.capacity in
+        let room = room_of P.GimliUnwindContextStorage.limits
+        P.GimliEvaluationStorage.Stack.capacity in
         AsksExpression A.MeetsExpression room given relative };
 
     fn unwind_frame<F: FnMut(u64) -> Result<u64, ()>>(
@@ -60,7 +62,7 @@ impl<A: DwarfUnwinding, D: SectionBytes + Drop, P: AllocationPolicy> Unwinding
         unwind_context: &mut DwarfUnwindContext<P>,
         read_stack: &mut F,
     ) -> Result<UnwindResult<A::UnwindRule>, UnwindFailure> {
-        let Some(road) = unwind_data.road() else {
+        let Some(lookup) = unwind_data.lookup() else {
             return Err(UnwindFailure::OfModule);
         };
         let bases = unwind_data.bases();
@@ -68,10 +70,10 @@ impl<A: DwarfUnwinding, D: SectionBytes + Drop, P: AllocationPolicy> Unwinding
         match unwind_data.sections() {
             ModuleSections::EhFrame { eh_frame, .. } => {
                 let section = EhFrame::new(eh_frame.bytes(), LittleEndian);
-                unwind_frame_by_road::<A, P, EndianSlice<'_, LittleEndian>, _, F>(
+                unwind_frame_by_lookup::<A, P, EndianSlice<'_, LittleEndian>, _, F>(
                     &section,
                     bases,
-                    &road,
+                    &lookup,
                     base_svma,
                     relative_address,
                     is_first_frame,
@@ -82,10 +84,10 @@ impl<A: DwarfUnwinding, D: SectionBytes + Drop, P: AllocationPolicy> Unwinding
             }
             ModuleSections::DebugFrame { debug_frame } => {
                 let section = DebugFrame::new(debug_frame.bytes(), LittleEndian);
-                unwind_frame_by_road::<A, P, EndianSlice<'_, LittleEndian>, _, F>(
+                unwind_frame_by_lookup::<A, P, EndianSlice<'_, LittleEndian>, _, F>(
                     &section,
                     bases,
-                    &road,
+                    &lookup,
                     base_svma,
                     relative_address,
                     is_first_frame,

@@ -1,8 +1,7 @@
-//! Whether a step may take memory.
+//! Whether a step may allocate.
 
-ghost use Rattle.std.specs.Prelude.{◌≡◌, false, Some};
-ghost use Rattle.dwarf_frame_instructions.specs.Execution.{TakesNoMemory};
-ghost use Rattle.dwarf_frame_rows.specs.Effects.{limits_of};
+ghost use Rattle.std.specs.Prelude.{◌≡◌, false, true, Some};
+ghost use Rattle.dwarf_frame_rows.specs.Effects.{TakesNoMemory, limits_of};
 ghost use Rattle.framehop_rows.specs.Memory.{TakesMemory, takes_memory};
 
 use arrayvec::ArrayVec;
@@ -11,22 +10,20 @@ use dwarf_frame_rows::{RegisterRule, RuledRegister, UnwindContextStorage, Unwind
 use dwarf_read_core::ReaderOffset;
 use dwarf_storage::{ArrayLike, StoreOnHeap};
 
-/// Whether a step may take memory: where rows and the values of an expression lie.
+/// Whether a step may allocate: the storage of rows and of the values of expressions.
 pub trait AllocationPolicy {
-    /// Where rows and their rules lie.
+    /// The storage of rows and their rules.
     type GimliUnwindContextStorage: UnwindContextStorage<usize>;
 
-    /// Where the values of an expression lie.
+    /// The storage of the values of an expression.
     type GimliEvaluationStorage: EvaluationStorage;
 
-    /// Rows are worked out in room that was made before.
-    ghost rows_take_none: { TakesNoMemory Self.GimliUnwindContextStorage.Rules.is_made_in_place
-        (limits_of Self.GimliUnwindContextStorage.Rules.capacity
-        Self.GimliUnwindContextStorage.Stack.capacity) };
+    /// A step allocates no rows: their storage is made before.
+    ghost rows_take_none: { Self.GimliUnwindContextStorage.never_allocates };
 }
 
-/// A step takes memory for the values of an expression alone, and has room for any number of them,
-/// for 4 rows and for 192 rules of a row.
+/// A step allocates the values of expressions alone. There is room for any number of them, for 4 rows, and
+/// for 192 rules of a row.
 #[derive(Debug, Clone, Copy)]
 pub struct MayAllocateDuringUnwind;
 
@@ -40,8 +37,8 @@ impl AllocationPolicy for MayAllocateDuringUnwind {
     ghost rows_take_none = { record { in_place = refl; rules = refl; rows = refl } };
 }
 
-/// A step takes no memory, and has room for 64 values of an expression, for 4 rows and for 192 rules
-/// of a row.
+/// A step never allocates. There is room for 64 values of an expression, for 4 rows, and for 192 rules of a
+/// row.
 #[derive(Debug, Clone, Copy)]
 pub struct MustNotAllocateDuringUnwind;
 
@@ -55,46 +52,54 @@ impl AllocationPolicy for MustNotAllocateDuringUnwind {
     ghost rows_take_none = { record { in_place = refl; rules = refl; rows = refl } };
 }
 
-/// Rows and values that lie in place: at most 4 rows of 192 rules, and 64 values.
+/// Rows and values in place: at most 4 rows of 192 rules, and 64 values.
 #[derive(Debug, Clone, Copy)]
 pub struct StoreOnStack;
 
-/// How many rules a row of [`StoreOnStack`] holds.
+// How many rules a row of `StoreOnStack` holds.
 const MAX_RULES: usize = 192;
 
-/// How many rows [`StoreOnStack`] holds.
+// How many rows `StoreOnStack` holds.
 const MAX_ROWS: usize = 4;
 
-/// The rules of a row of [`StoreOnStack`].
+// The rules of a row of `StoreOnStack`.
 type StackRules<T> = ArrayVec<RuledRegister<RegisterRule<T>>, MAX_RULES>;
 
 impl<T: ReaderOffset> UnwindContextStorage<T> for StoreOnStack {
-    ghost use Rattle.std.proofs.Common.{lit≤};
+    ghost use Rattle.std.proofs.Common.{lit≤, refl};
 
     type Rules = StackRules<T>;
 
     type Stack = ArrayVec<UnwindTableRow<T, StackRules<T>>, MAX_ROWS>;
 
+    ghost limits = { limits_of (Some 192) (Some 4) };
+
+    ghost limited = { refl };
+
+    ghost never_allocates = { TakesNoMemory true (limits_of (Some 192) (Some 4)) };
+
+    ghost allocates_never = { (λ t. t, λ t. t) };
+
     ghost room = { lit≤ tt };
 }
 
-/// How many values [`StoreOnStack`] holds.
+// How many values `StoreOnStack` holds.
 const MAX_VALUES: usize = 64;
 
 impl EvaluationStorage for StoreOnStack {
     type Stack = ArrayVec<u64, MAX_VALUES>;
 }
 
-/// The list that the values of an expression lie in under a policy.
+// The list of the values of an expression under a policy.
 type Values<P> = <<P as AllocationPolicy>::GimliEvaluationStorage as EvaluationStorage>::Stack;
 
-/// Where rows lie under a policy.
+// The list of rows under a policy.
 type Rows<P> = <<P as AllocationPolicy>::GimliUnwindContextStorage as UnwindContextStorage<
     usize,
 >>::Stack;
 
 /// A law of [`MustNotAllocateDuringUnwind`]: there is room for 64 values of an expression and for 4
-/// rows, and no step takes memory. The function does nothing when the program runs.
+/// rows, and no step allocates. The function does nothing when the program runs.
 pub fn must_not_allocate_takes_no_memory()
     ensures limit { ⟦<Values<MustNotAllocateDuringUnwind> as ArrayLike>⟧.capacity ≡ Some 64 }
     ensures rows { ⟦<Rows<MustNotAllocateDuringUnwind> as ArrayLike>⟧.capacity ≡ Some 4 }

@@ -1,16 +1,16 @@
-//! The index of a section of call frames: which entry is for an address.
+//! The index of a section of call frames, by which the FDE for an address is found.
 
 ghost use Rattle.std.specs.Prelude.{◌≡◌, ◌<◌, ◌≤◌, ◌^◌, ◌+◌, ◌*◌, ℕ, suc, None, Some, option_map, map, length, codes, nat_le, if◌then◌else◌, Result, Ok, Err, IfOk, IfErr};
 ghost use Rattle.std.specs.List.Sorted.{IsNonDecreasingBy, IsPartitionPoint};
 ghost use Rattle.dwarf_endianity.specs.Answers.{Gives};
-ghost use Rattle.dwarf_frame_sections.specs.Sections.{FrameSection, frame_section, section_data};
+ghost use Rattle.dwarf_frame_rows.specs.FrameSection.{FrameSection};
 ghost use Rattle.dwarf_frame_entries.specs.Entries.{cie_from_offset, cie_of, fde_of};
 ghost use Rattle.dwarf_frame_entries.specs.EntryViews.{cie_view};
 ghost use Rattle.framehop.specs.LastCie.{IsLastCie};
 ghost use Rattle.dwarf_frame_entries.specs.SectionFdes.{whole_fdes};
-ghost use Rattle.framehop.specs.EntryFor.{indexed_entry};
+ghost use Rattle.framehop.specs.EntryFor.{index_refusal, indexed_entry};
 ghost use Rattle.framehop.specs.FrameSections.{eh_frame_of, debug_frame_of};
-ghost use Rattle.framehop.specs.CfiIndex.{index_refusal, index_entry, IsKept, IsMadeOf};
+ghost use Rattle.framehop.specs.CfiIndex.{index_entry, IsKept, IsMadeOf};
 ghost use Rattle.framehop.specs.declared.cfi_index.DwarfCfiIndexError.TheVariants.{OutOfMemory};
 
 use dwarf_frame_entries::{
@@ -30,9 +30,9 @@ pub enum DwarfCfiIndexError {
     CouldNotSubtractBaseAddress,
     /// An FDE's code starts 2^32 bytes or more above the base.
     RelativeAddressTooBig,
-    /// An FDE stands 2^32 bytes or more from the section's start.
+    /// An FDE is 2^32 bytes or more from the section's start.
     FdeOffsetTooBig,
-    /// Memory was refused.
+    /// Out of memory.
     OutOfMemory,
 }
 
@@ -78,17 +78,17 @@ impl From<AllocError> for DwarfCfiIndexError {
     }
 }
 
-/// What the index keeps of an FDE.
+// What the index keeps of an FDE.
 #[derive(Debug, Clone, Copy, PartialEq, Eq)]
 struct IndexedFde {
-    /// The first address of the code, relative to the base.
+    // The first address of the code, relative to the base.
     start: u32,
-    /// Where the FDE stands, in bytes from the section's start.
+    // The FDE's offset in the section, in bytes.
     offset: u32,
 }
 
-/// What the index keeps of an FDE, if it can have it.
-fn indexed<R: Reader>(
+// What the index keeps of an FDE. Fails if the index can't hold it.
+fn index_entry<R: Reader>(
     fde: &FrameDescriptionEntry<R>,
     base_svma: u64,
 ) -> Result<IndexedFde, DwarfCfiIndexError>
@@ -109,21 +109,20 @@ fn indexed<R: Reader>(
     Ok(IndexedFde { start, offset })
 }
 
-/// The CIE that was read last, and its offset in the section.
+// The CIE that was read last, and its offset in the section.
 #[derive(Drop)]
 struct LastCie<R: Reader> {
     offset: u64,
     cie: CommonInformationEntry<R>,
 }
 
-/// An FDE with this CIE, which is its own.
+// An FDE with this CIE, which is the one that it names.
 #[inline(always)]
 fn fde_with<R: Reader, Section: UnwindSection<R>>(
     partial: &PartialFrameDescriptionEntry<'_, Section, R>,
     cie: &CommonInformationEntry<R>,
 ) -> dwarf_read_core::Result<FrameDescriptionEntry<R>>
-    requires { cie_of R.Offset.limit Section.kind partial.now
-        ≡ Ok (cie_view R.stretch R.Offset.value cie.now) }
+    requires { cie_of R.Offset.limit Section.kind partial.now ≡ Ok (cie_view R.stretch R.Offset.value cie.now) }
     ensures { Gives (λ fde. fde) result (fde_of R.Offset.limit Section.kind partial.now) }
 {
     let get_cie =
@@ -135,8 +134,7 @@ fn fde_with<R: Reader, Section: UnwindSection<R>>(
     partial.parse(get_cie)
 }
 
-/// Reads the CIE at an offset of a section and keeps it. A call of its own, so that what comes to it
-/// for few FDEs is small.
+// Reads the CIE at an offset of a section and keeps it. It isn't inlined, since few FDEs need it.
 #[inline(never)]
 fn read_cie<R: Reader, Section: UnwindSection<R>>(
     section: &Section,
@@ -144,13 +142,10 @@ fn read_cie<R: Reader, Section: UnwindSection<R>>(
     offset: Section::Offset,
     last: &mut Option<LastCie<R>>,
 ) -> dwarf_read_core::Result<CommonInformationEntry<R>>
-    requires { IsLastCie R.stretch R.Offset.value (frame_section R.Offset.limit Section.kind
-        (Section.size section.now) (R.stretch (Section.reader section.now)) bases.now) last.old }
+    requires { IsLastCie R.stretch R.Offset.value (Section.frame section.now bases.now) last.old }
     ensures cie { Gives (cie_view R.stretch R.Offset.value) result (cie_from_offset
-        (frame_section R.Offset.limit Section.kind (Section.size section.now)
-        (R.stretch (Section.reader section.now)) bases.now) (Section.Offset.number offset)) }
-    ensures last { IsLastCie R.stretch R.Offset.value (frame_section R.Offset.limit Section.kind
-        (Section.size section.now) (R.stretch (Section.reader section.now)) bases.now) last.new }
+        (Section.frame section.now bases.now) (Section.Offset.number offset)) }
+    ensures last { IsLastCie R.stretch R.Offset.value (Section.frame section.now bases.now) last.new }
 {
     let cie = section.cie_from_offset(bases, offset)?;
     *last = Some(LastCie {
@@ -160,7 +155,7 @@ fn read_cie<R: Reader, Section: UnwindSection<R>>(
     Ok(cie)
 }
 
-/// The CIE at an offset of a section, which is read only where it isn't the one that was read last.
+// The CIE at an offset of a section, which is read only if it isn't the one that was read last.
 #[inline(always)]
 fn cie_by_last<R: Reader, Section: UnwindSection<R>>(
     section: &Section,
@@ -168,13 +163,10 @@ fn cie_by_last<R: Reader, Section: UnwindSection<R>>(
     offset: Section::Offset,
     last: &mut Option<LastCie<R>>,
 ) -> dwarf_read_core::Result<CommonInformationEntry<R>>
-    requires { IsLastCie R.stretch R.Offset.value (frame_section R.Offset.limit Section.kind
-        (Section.size section.now) (R.stretch (Section.reader section.now)) bases.now) last.old }
+    requires { IsLastCie R.stretch R.Offset.value (Section.frame section.now bases.now) last.old }
     ensures cie { Gives (cie_view R.stretch R.Offset.value) result (cie_from_offset
-        (frame_section R.Offset.limit Section.kind (Section.size section.now)
-        (R.stretch (Section.reader section.now)) bases.now) (Section.Offset.number offset)) }
-    ensures last { IsLastCie R.stretch R.Offset.value (frame_section R.Offset.limit Section.kind
-        (Section.size section.now) (R.stretch (Section.reader section.now)) bases.now) last.new }
+        (Section.frame section.now bases.now) (Section.Offset.number offset)) }
+    ensures last { IsLastCie R.stretch R.Offset.value (Section.frame section.now bases.now) last.new }
 {
     if let Some(last) = last
         && last.offset == UnwindOffset::into(offset).into_u64()
@@ -184,7 +176,7 @@ fn cie_by_last<R: Reader, Section: UnwindSection<R>>(
     read_cie(section, bases, offset, last)
 }
 
-/// An FDE of a section with its CIE, which is read only where it isn't the one that was read last.
+// An FDE of a section with its CIE, which is read only if it isn't the one that was read last.
 #[inline(always)]
 fn fde_by_last<R: Reader, Section: UnwindSection<R>>(
     section: &Section,
@@ -192,20 +184,17 @@ fn fde_by_last<R: Reader, Section: UnwindSection<R>>(
     partial: &PartialFrameDescriptionEntry<'_, Section, R>,
     last: &mut Option<LastCie<R>>,
 ) -> dwarf_read_core::Result<FrameDescriptionEntry<R>>
-    requires within { partial.now.within ≡ section_data (Section.size section.now)
-        (R.stretch (Section.reader section.now)) bases.now }
-    requires last { IsLastCie R.stretch R.Offset.value (frame_section R.Offset.limit Section.kind
-        (Section.size section.now) (R.stretch (Section.reader section.now)) bases.now) last.old }
+    requires within { partial.now.within ≡ (Section.frame section.now bases.now).within }
+    requires last { IsLastCie R.stretch R.Offset.value (Section.frame section.now bases.now) last.old }
     ensures fde { Gives (λ fde. fde) result (fde_of R.Offset.limit Section.kind partial.now) }
-    ensures last { IsLastCie R.stretch R.Offset.value (frame_section R.Offset.limit Section.kind
-        (Section.size section.now) (R.stretch (Section.reader section.now)) bases.now) last.new }
+    ensures last { IsLastCie R.stretch R.Offset.value (Section.frame section.now bases.now) last.new }
 {
     let cie = cie_by_last(section, bases, partial.cie_offset(), last)?;
     fde_with(partial, &cie)
 }
 
-/// Adds what the index keeps of an FDE of a section to what it keeps of those before it, if it can have
-/// it. The FDE's CIE is read only where it isn't the one that was read last.
+// Adds what the index keeps of an FDE of a section to what it keeps of those before it. Fails if the FDE
+// doesn't parse or the index can't hold it. The FDE's CIE is read only if it isn't the one that was read last.
 #[inline(always)]
 fn keep_fde<R: Reader, Section: UnwindSection<R>>(
     section: &Section,
@@ -215,24 +204,21 @@ fn keep_fde<R: Reader, Section: UnwindSection<R>>(
     last: &mut Option<LastCie<R>>,
     fdes: &mut Vec<IndexedFde>,
 ) -> Result<(), DwarfCfiIndexError>
-    requires within { partial.now.within ≡ section_data (Section.size section.now)
-        (R.stretch (Section.reader section.now)) bases.now }
-    requires last { IsLastCie R.stretch R.Offset.value (frame_section R.Offset.limit Section.kind
-        (Section.size section.now) (R.stretch (Section.reader section.now)) bases.now) last.old }
+    requires within { partial.now.within ≡ (Section.frame section.now bases.now).within }
+    requires last { IsLastCie R.stretch R.Offset.value (Section.frame section.now bases.now) last.old }
     ensures kept { IsKept result base_svma (fde_of R.Offset.limit Section.kind partial.now)
         fdes.old.items fdes.new.items }
-    ensures last { IsLastCie R.stretch R.Offset.value (frame_section R.Offset.limit Section.kind
-        (Section.size section.now) (R.stretch (Section.reader section.now)) bases.now) last.new }
+    ensures last { IsLastCie R.stretch R.Offset.value (Section.frame section.now bases.now) last.new }
 {
     let fde = fde_by_last(section, bases, partial, last)?;
-    let kept = indexed(&fde, base_svma)?;
+    let kept = index_entry(&fde, base_svma)?;
     if fdes.push(kept).is_err() {
         return Err(DwarfCfiIndexError::OutOfMemory);
     }
     Ok(())
 }
 
-/// What the index keeps of a section's FDEs, in their order.
+// What the index keeps of a section's FDEs, in their order.
 fn indexed_fdes<R: Reader, Section: UnwindSection<R>>(
     alloc: Global,
     section: &Section,
@@ -241,8 +227,7 @@ fn indexed_fdes<R: Reader, Section: UnwindSection<R>>(
 ) -> Result<Vec<IndexedFde>, DwarfCfiIndexError>
     ensures { IsMadeOf result
         (λ kept base section. kept.items ≡ map (index_entry base) (whole_fdes section)) base_svma
-        (frame_section R.Offset.limit Section.kind (Section.size section.now)
-        (R.stretch (Section.reader section.now)) bases.now) }
+        (Section.frame section.now bases.now) }
 {
     let mut fdes = Vec::new(alloc);
     let mut last = None;
@@ -258,19 +243,18 @@ fn indexed_fdes<R: Reader, Section: UnwindSection<R>>(
     }
 }
 
-/// How many FDEs of an index start at or below an address, and how many starts were read to find it.
+// How many FDEs of an index start at or below an address, and how many starts were read to find out.
 #[derive(Clone, Copy)]
 struct Halved {
     at_or_below: usize,
     reads: u32,
 }
 
-/// How many FDEs are so near to one another that all of them soon lie in a cache. Among more, a branch
-/// lets the processor go ahead and fetch what it guesses.
+// Half of the most FDEs among which no branch is taken: 4,096 of them are soon in the processor's cache.
+// Among more, a branch lets the processor guess, and fetch ahead.
 const NEAR: usize = 2048;
 
-/// How many of one start are at or below an address: a number, where no processor could foresee a
-/// branch.
+// 1 if a start is at or below an address, else 0, without a branch, which no processor could foresee.
 #[inline(always)]
 fn count_at_or_below(start: u32, address: u32) -> usize
     ensures { result ≡ (if nat_le start address then 1 else 0) }
@@ -278,10 +262,10 @@ fn count_at_or_below(start: u32, address: u32) -> usize
     ((u64::from(address) + (1 << 32) - u64::from(start)) >> 32) as usize
 }
 
-/// Where to go on from a place: behind a half of the FDEs, if the first one behind it starts at or below
-/// the address.
+// The first of the FDEs that are left: after a half of them, if the one there starts at or below the
+// address.
 #[inline(always)]
-fn passed(low: usize, half: usize, start: u32, address: u32) -> usize
+fn first_left(low: usize, half: usize, start: u32, address: u32) -> usize
     requires { low + half < 2 ^ 64 }
     ensures { result ≡ low + half * (if nat_le start address then 1 else 0) }
 {
@@ -291,7 +275,7 @@ fn passed(low: usize, half: usize, start: u32, address: u32) -> usize
     if start <= address { low + half } else { low }
 }
 
-/// Halves an index's FDEs until it is known how many start at or below an address.
+// Halves an index's FDEs until it is known how many start at or below an address.
 fn halve(fdes: &[IndexedFde], address: u32) -> Halved
     requires ordered { IsNonDecreasingBy (λ fde. fde.start) fdes.now }
     ensures bound { result.at_or_below ≤ length fdes.now }
@@ -311,7 +295,7 @@ fn halve(fdes: &[IndexedFde], address: u32) -> Halved
     let mut reads: u32 = 0;
     'halves: while len > 1 {
         let half = len / 2;
-        low = passed(low, half, fdes[low + half].start, address);
+        low = first_left(low, half, fdes[low + half].start, address);
         reads += 1;
         len -= half;
     }
@@ -323,15 +307,15 @@ fn halve(fdes: &[IndexedFde], address: u32) -> Halved
 
 /// What a look-up in an index found.
 #[derive(Debug, Clone, Copy, PartialEq, Eq)]
-pub struct LookUp {
-    /// Where the FDE stands, in bytes from the section's start.
+pub struct IndexLookup {
+    /// The FDE's offset in the section, in bytes.
     pub fde_offset: Option<u32>,
     /// How many of the index's starts were read.
     pub starts_read: u32,
 }
 
 /// An index of a section's FDEs, sorted by the starts of their code. Of equal starts the first in
-/// the section is the last here, so that it is the last that starts at or below an address.
+/// the section is the last here, so that the last that starts at or below an address is the one to find.
 #[derive(Drop)]
 pub struct DwarfCfiIndex {
     fdes: Vec<IndexedFde>,
@@ -341,9 +325,9 @@ pub struct DwarfCfiIndex {
 impl DwarfCfiIndex {
     ghost use Rattle.framehop.specs.CfiIndexView.{IsIndexOf};
 
-    /// The index of a section, whose starts count from `base_svma`; the section's pointers count from
-    /// `bases`. Fails at the first entry that doesn't parse or that an index can't have, and where
-    /// memory is refused.
+    /// The index of a section. Its starts are relative to `base_svma`; the section's pointers are relative
+    /// to `bases`. Fails at the first entry that doesn't parse or that an index can't hold, and if it
+    /// fails to allocate.
     pub fn try_new<R: Reader, Section: UnwindSection<R>>(
         alloc: Global,
         section: &Section,
@@ -351,8 +335,7 @@ impl DwarfCfiIndex {
         base_svma: u64,
     ) -> Result<Self, DwarfCfiIndexError>
         ensures { IsMadeOf result IsIndexOf base_svma
-            (frame_section R.Offset.limit Section.kind (Section.size section.now)
-            (R.stretch (Section.reader section.now)) bases.now) }
+            (Section.frame section.now bases.now) }
     {
         let mut fdes = indexed_fdes(alloc, section, bases, base_svma)?;
         fdes.reverse();
@@ -360,8 +343,8 @@ impl DwarfCfiIndex {
         Ok(DwarfCfiIndex { fdes })
     }
 
-    /// The index of a section `.eh_frame` of these bytes, as `try_new` makes it. The low byte of a number
-    /// comes first, and addresses have 8 bytes.
+    /// The index of a section `.eh_frame` of these bytes, as `try_new` makes it. Numbers are
+    /// little-endian, and addresses have 8 bytes.
     pub fn try_new_eh_frame(
         alloc: Global,
         eh_frame_data: &[u8],
@@ -375,8 +358,8 @@ impl DwarfCfiIndex {
         DwarfCfiIndex::try_new(alloc, &section, bases, base_svma)
     }
 
-    /// The index of a section `.debug_frame` of these bytes, as `try_new` makes it. The low byte of a
-    /// number comes first, and addresses have 8 bytes where no CIE says another size.
+    /// The index of a section `.debug_frame` of these bytes, as `try_new` makes it. Numbers are
+    /// little-endian, and addresses have 8 bytes unless a CIE says another size.
     pub fn try_new_debug_frame(
         alloc: Global,
         debug_frame_data: &[u8],
@@ -390,9 +373,9 @@ impl DwarfCfiIndex {
         DwarfCfiIndex::try_new(alloc, &section, bases, base_svma)
     }
 
-    /// Where the FDE for an address relative to the base stands, in bytes from the section's start:
-    /// of those with the greatest start at or below it the first in the section. `None` where each
-    /// starts above. Reads at most ceil(log2(n)) + 1 of the n starts.
+    /// The offset in the section, in bytes, of the FDE for an address relative to the base: of those with
+    /// the greatest start at or below it, the first in the section. `None` if each starts above. Reads at
+    /// most ceil(log2(n)) + 1 of the n starts.
     pub fn fde_offset_for_relative_address(&self, rel_lookup_address: u32) -> Option<u32>
         ensures { (base_svma : ℕ) (section : FrameSection) → IsIndexOf self.now base_svma section
             → result ≡ option_map (λ fde. fde.head.offset)
@@ -403,7 +386,7 @@ impl DwarfCfiIndex {
 
     /// As `fde_offset_for_relative_address`, with the number of starts that were read: of n at most
     /// ceil(log2(n)) + 1, and at least floor(log2(n + 1)).
-    pub fn look_up(&self, rel_lookup_address: u32) -> LookUp
+    pub fn look_up(&self, rel_lookup_address: u32) -> IndexLookup
         ensures found { (base_svma : ℕ) (section : FrameSection)
             → IsIndexOf self.now base_svma section
             → result.fde_offset ≡ option_map (λ fde. fde.head.offset)
@@ -420,7 +403,7 @@ impl DwarfCfiIndex {
             0 => None,
             count => Some(self.fdes[count - 1].offset),
         };
-        LookUp {
+        IndexLookup {
             fde_offset,
             starts_read: halved.reads,
         }

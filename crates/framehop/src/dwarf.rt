@@ -1,26 +1,22 @@
-//! What the row of a section of call frames for an address comes to.
+//! A step by the row of a section of call frames for an address.
 
-ghost use Rattle.std.specs.Prelude.{◌≡◌, ℕ, ◌+◌, ◌^◌, ◌≤◌, true, false, Option, Some, Err, IfOk, IfErr};
-ghost use Rattle.dwarf_frame_rows.specs.Effects.{limits_of};
-ghost use Rattle.dwarf_frame_sections.specs.Sections.{frame_section};
-ghost use Rattle.framehop_registers.specs.Callback.{OverWords};
-ghost use Rattle.framehop_unwinder.specs.RulesKept.{rule_of_attempt};
-ghost use Rattle.framehop_unwinder.specs.Trials.{trial, has_wanted, rule_of_result, HasValidRule, KeepsUnlessDirect};
-ghost use Rattle.framehop.specs.Coverage.{by_fde, by_road, row_meanings, attempt_by, EvaluatesExpression};
-ghost use Rattle.framehop.specs.RoadViews.{road_view, LeadsInto};
-ghost use Rattle.framehop_rows.specs.Memory.{TakesMemory};
+ghost use Rattle.std.specs.Prelude.{◌≡◌, ◌+◌, ◌^◌, ◌≤◌, IfOk, IfErr};
+ghost use Rattle.framehop_unwinder.specs.Memory.{WantsMemoryOnlyIf};
+ghost use Rattle.framehop_unwinder.specs.Trials.{AnswersAttempt, HasValidRule, has_wanted};
+ghost use Rattle.framehop.specs.Coverage.{by_fde, by_lookup, row_meanings, attempt_by, EvaluatesExpression};
+ghost use Rattle.framehop.specs.LookupViews.{lookup_view, LeadsInto};
+ghost use Rattle.framehop_rows.specs.Memory.{takes_memory};
 ghost use Rattle.framehop_rows.specs.RowAttempt.{failure_of};
-ghost use Rattle.framehop.specs.UnwindData.{room_of};
 
 use crate::cache::AllocationPolicy;
-use crate::roads::{NoFde, Road, fde_by_road};
+use crate::lookups::{Lookup, NoFde, fde_by_lookup};
 use dwarf_frame_entries::{BaseAddresses, FrameDescriptionEntry, UnwindContext, UnwindSection};
 use dwarf_read_core::Reader;
 use framehop_rows::{DwarfUnwinderError, DwarfUnwinding};
 use framehop_unwinder::{UnwindFailure, UnwindResult};
 use std::alloc::{AllocError, Global};
 
-/// The address of a section at a relative address. Fails where it doesn't fit 64 bits.
+// The address that a section has for a relative address. Fails if it doesn't fit 64 bits.
 pub(crate) fn lookup_address(
     base_svma: u64,
     relative_address: u32,
@@ -34,25 +30,25 @@ pub(crate) fn lookup_address(
         .ok_or(DwarfUnwinderError::LookupAddressOverflow)
 }
 
-/// What steps reuse: the place where rows are worked out. No answer depends on what was worked out
+/// What steps reuse: the storage that rows are evaluated in. No result depends on what was evaluated
 /// there before.
 #[derive(Drop)]
 pub struct DwarfUnwindContext<P: AllocationPolicy> {
-    // on the heap, so that it isn't copied where the cache is handed on
+    // on the heap, so that it isn't copied when the cache is moved
     rows: Box<UnwindContext<usize, P::GimliUnwindContextStorage>>,
-    // where the values of an expression take memory, if they take some
+    // allocates the values of expressions, if their storage allocates
     alloc: Global,
 }
 
 impl<P: AllocationPolicy> DwarfUnwindContext<P> {
-    /// A place for the rows of any number of steps.
+    /// Storage for the rows of any number of steps. Fails if it fails to allocate.
     pub fn new(alloc: Global) -> Result<Self, AllocError> {
         let rows = Box::new(alloc, UnwindContext::new_in(alloc)?)?;
         Ok(DwarfUnwindContext { rows, alloc })
     }
 }
 
-/// What is left of a row that gave no caller.
+// Why a step by a row that gave no caller fails.
 fn failure_of(error: DwarfUnwinderError) -> UnwindFailure
     ensures { result ≡ failure_of error }
 {
@@ -67,8 +63,8 @@ fn failure_of(error: DwarfUnwinderError) -> UnwindFailure
     }
 }
 
-/// What an entry of a section says of a frame at an address of its code: what its row for the
-/// address comes to; and where no row is for it, the rule for code that no row covers.
+// The step by an FDE from a frame at an address of its code: that of its row for the address, or the rule
+// for code that no row covers if it has none.
 fn unwind_frame_by_fde<
     A: DwarfUnwinding,
     P: AllocationPolicy,
@@ -87,34 +83,18 @@ fn unwind_frame_by_fde<
 ) -> Result<UnwindResult<A::UnwindRule>, UnwindFailure>
     requires { F.IsAlwaysCallable read_stack.old }
     ensures callable { F.IsAlwaysCallable read_stack.new }
-    ensures trial { let room = room_of (limits_of P.GimliUnwindContextStorage.Rules.capacity
-        P.GimliUnwindContextStorage.Stack.capacity) P.GimliEvaluationStorage.Stack.capacity in
-        let m = row_meanings A.row_attempt A.uncovered in
-        let s = frame_section (2 ^ 64) Section.kind (Section.size section.now)
-        (R.stretch (Section.reader section.now)) bases.now in
-        let coverage = by_fde room.rows s (Section.extensions section.now) address fde.now in
-        OverWords F.step read_stack.old read_stack.new (λ words. has_wanted result ≡ false
-        → (result, regs.new)
-        ≡ trial regs.old words (attempt_by m is_first_frame room.values coverage)) }
-    ensures kept { let room = room_of (limits_of P.GimliUnwindContextStorage.Rules.capacity
-        P.GimliUnwindContextStorage.Stack.capacity) P.GimliEvaluationStorage.Stack.capacity in
-        let m = row_meanings A.row_attempt A.uncovered in
-        let s = frame_section (2 ^ 64) Section.kind (Section.size section.now)
-        (R.stretch (Section.reader section.now)) bases.now in
-        let coverage = by_fde room.rows s (Section.extensions section.now) address fde.now in
-        (fallback : A.UnwindRule) → has_wanted result ≡ false → rule_of_result fallback result
-        ≡ rule_of_attempt fallback (attempt_by m is_first_frame room.values coverage) }
-    ensures keeps { KeepsUnlessDirect result regs.old regs.new }
+    ensures answers { AnswersAttempt F.step read_stack.old read_stack.new regs.old regs.new result
+        (attempt_by (row_meanings A.row_attempt A.uncovered) is_first_frame
+        P.GimliEvaluationStorage.Stack.capacity
+        (by_fde P.GimliUnwindContextStorage.limits (Section.frame section.now bases.now)
+        (Section.extensions section.now) address fde.now)) }
     ensures valid { HasValidRule A.UnwindRule.is_valid result }
-    ensures expression { let limits = limits_of P.GimliUnwindContextStorage.Rules.capacity
-        P.GimliUnwindContextStorage.Stack.capacity in
-        let s = frame_section (2 ^ 64) Section.kind (Section.size section.now)
-        (R.stretch (Section.reader section.now)) bases.now in
-        let coverage = by_fde limits s (Section.extensions section.now) address fde.now in
-        has_wanted result ≡ true → EvaluatesExpression A.MeetsExpression coverage }
-    ensures memory { has_wanted result ≡ true
-        → TakesMemory P.GimliEvaluationStorage.Stack.is_made_in_place
-        P.GimliEvaluationStorage.Stack.capacity }
+    ensures memory { WantsMemoryOnlyIf (takes_memory
+        P.GimliEvaluationStorage.Stack.is_made_in_place P.GimliEvaluationStorage.Stack.capacity)
+        (has_wanted result)
+        (EvaluatesExpression A.MeetsExpression
+        (by_fde P.GimliUnwindContextStorage.limits (Section.frame section.now bases.now)
+        (Section.extensions section.now) address fde.now)) }
 {
     let encoding = fde.cie().encoding();
     let row = match fde.unwind_info_for_address(section, bases, &mut *context.rows, address) {
@@ -135,10 +115,10 @@ fn unwind_frame_by_fde<
     }
 }
 
-/// What a section says of a frame at an address relative to a base, by a road to its entries: where no
-/// entry contains the address, the rule for code that no row covers; and nothing where the road says
-/// nothing of the address, or where it doesn't fit 64 bits.
-pub(crate) fn unwind_frame_by_road<
+// The step by a section from a frame at an address relative to a base, by a lookup of its FDEs: the rule
+// for code that no row covers, if it is known that no FDE contains the address; and none, if the lookup
+// doesn't tell, or if the address doesn't fit 64 bits.
+pub(crate) fn unwind_frame_by_lookup<
     A: DwarfUnwinding,
     P: AllocationPolicy,
     R: Reader<Offset = usize>,
@@ -147,7 +127,7 @@ pub(crate) fn unwind_frame_by_road<
 >(
     section: &Section,
     bases: &BaseAddresses,
-    road: &Road<'_>,
+    lookup: &Lookup<'_>,
     base_svma: u64,
     relative_address: u32,
     is_first_frame: bool,
@@ -155,47 +135,26 @@ pub(crate) fn unwind_frame_by_road<
     context: &mut DwarfUnwindContext<P>,
     read_stack: &mut F,
 ) -> Result<UnwindResult<A::UnwindRule>, UnwindFailure>
-    requires road { LeadsInto base_svma (frame_section (2 ^ 64) Section.kind
-        (Section.size section.now) (R.stretch (Section.reader section.now)) bases.now) road.now }
+    requires lookup { LeadsInto base_svma (Section.frame section.now bases.now) lookup.now }
     requires callable { F.IsAlwaysCallable read_stack.old }
     ensures callable { F.IsAlwaysCallable read_stack.new }
-    ensures trial { let room = room_of (limits_of P.GimliUnwindContextStorage.Rules.capacity
-        P.GimliUnwindContextStorage.Stack.capacity) P.GimliEvaluationStorage.Stack.capacity in
-        let m = row_meanings A.row_attempt A.uncovered in
-        let s = frame_section (2 ^ 64) Section.kind (Section.size section.now)
-        (R.stretch (Section.reader section.now)) bases.now in
-        let coverage = by_road room.rows (road_view road.now) bases.now s
-        (Section.extensions section.now) base_svma relative_address in
-        OverWords F.step read_stack.old read_stack.new (λ words. has_wanted result ≡ false
-        → (result, regs.new)
-        ≡ trial regs.old words (attempt_by m is_first_frame room.values coverage)) }
-    ensures kept { let room = room_of (limits_of P.GimliUnwindContextStorage.Rules.capacity
-        P.GimliUnwindContextStorage.Stack.capacity) P.GimliEvaluationStorage.Stack.capacity in
-        let m = row_meanings A.row_attempt A.uncovered in
-        let s = frame_section (2 ^ 64) Section.kind (Section.size section.now)
-        (R.stretch (Section.reader section.now)) bases.now in
-        let coverage = by_road room.rows (road_view road.now) bases.now s
-        (Section.extensions section.now) base_svma relative_address in
-        (fallback : A.UnwindRule) → has_wanted result ≡ false → rule_of_result fallback result
-        ≡ rule_of_attempt fallback (attempt_by m is_first_frame room.values coverage) }
-    ensures keeps { KeepsUnlessDirect result regs.old regs.new }
+    ensures answers { AnswersAttempt F.step read_stack.old read_stack.new regs.old regs.new result
+        (attempt_by (row_meanings A.row_attempt A.uncovered) is_first_frame
+        P.GimliEvaluationStorage.Stack.capacity (by_lookup P.GimliUnwindContextStorage.limits
+        (lookup_view lookup.now) bases.now (Section.frame section.now bases.now)
+        (Section.extensions section.now) base_svma relative_address)) }
     ensures valid { HasValidRule A.UnwindRule.is_valid result }
-    ensures expression { let limits = limits_of P.GimliUnwindContextStorage.Rules.capacity
-        P.GimliUnwindContextStorage.Stack.capacity in
-        let s = frame_section (2 ^ 64) Section.kind (Section.size section.now)
-        (R.stretch (Section.reader section.now)) bases.now in
-        let coverage = by_road limits (road_view road.now) bases.now s
-        (Section.extensions section.now)
-        base_svma relative_address in
-        has_wanted result ≡ true → EvaluatesExpression A.MeetsExpression coverage }
-    ensures memory { has_wanted result ≡ true
-        → TakesMemory P.GimliEvaluationStorage.Stack.is_made_in_place
-        P.GimliEvaluationStorage.Stack.capacity }
+    ensures memory { WantsMemoryOnlyIf (takes_memory
+        P.GimliEvaluationStorage.Stack.is_made_in_place P.GimliEvaluationStorage.Stack.capacity)
+        (has_wanted result)
+        (EvaluatesExpression A.MeetsExpression (by_lookup P.GimliUnwindContextStorage.limits
+        (lookup_view lookup.now) bases.now (Section.frame section.now bases.now)
+        (Section.extensions section.now) base_svma relative_address)) }
 {
     let Ok(address) = lookup_address(base_svma, relative_address) else {
         return Err(UnwindFailure::OfModule);
     };
-    match fde_by_road(section, bases, road, relative_address, address) {
+    match fde_by_lookup(section, bases, lookup, relative_address, address) {
         Ok(fde) => unwind_frame_by_fde::<A, P, R, Section, F>(
             section,
             bases,

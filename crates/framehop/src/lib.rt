@@ -1,4 +1,7 @@
-//! A stack unwinder: modules with their unwind sections, and the step from a frame to its caller.
+//! A stack unwinder: modules with their unwind sections, the step from a frame to its caller, and walks.
+//!
+//! A user makes an unwinder ([`x86_64::UnwinderX86_64`], [`aarch64::UnwinderAarch64`]), adds a module for each
+//! file that is loaded ([`load_module`]), makes a cache, and takes the frames of [`Unwinder::iter_frames`].
 #![tactic(auto)]
 
 pub mod aarch64;
@@ -6,8 +9,10 @@ mod arch;
 mod cache;
 mod cfi_index;
 mod dwarf;
-pub mod road_laws;
-mod roads;
+pub mod histories;
+pub mod lookup_laws;
+mod lookups;
+mod module;
 mod unwind_data;
 pub mod walk_laws;
 pub mod x86_64;
@@ -17,7 +22,7 @@ pub use cache::{
     AllocationPolicy, MayAllocateDuringUnwind, MustNotAllocateDuringUnwind, StoreOnStack,
     must_not_allocate_takes_no_memory,
 };
-pub use cfi_index::{DwarfCfiIndex, DwarfCfiIndexError, LookUp};
+pub use cfi_index::{DwarfCfiIndex, DwarfCfiIndexError, IndexLookup};
 pub use dwarf::DwarfUnwindContext;
 pub use dwarf_frame_entries::BaseAddresses;
 pub use framehop_modules::{
@@ -25,9 +30,13 @@ pub use framehop_modules::{
     SectionBytes,
 };
 pub use framehop_rows::{DwarfUnwindRegs, DwarfUnwinderError, DwarfUnwinding};
-pub use framehop_rules::{Arch, CacheStats, Error, FrameAddress, HexNum, UnwindRule};
-pub use framehop_unwinder::{UnwindIterator, Unwinder};
+pub use framehop_rules::{
+    AddSigned, Arch, CacheHandle, CacheResult, CacheStats, Error, FrameAddress, HexNum, RuleCache,
+    UnwindRule, checked_add_signed, wrapping_add_signed,
+};
+pub use framehop_unwinder::{
+    AddUnwinderError, Cache, Session, StackWalk, UnwindFailure, UnwindIterator, UnwindResult,
+    Unwinder, UnwinderInternal, Unwinding, laws,
+};
+pub use module::{Module, load_module};
 pub use unwind_data::ModuleUnwindData;
-
-/// A module that is unwound by its sections, which are values of `D`.
-pub type Module<D> = framehop_unwinder::Module<ModuleUnwindData<D>>;

@@ -1,27 +1,26 @@
-//! What a module is unwound by.
+//! The unwind data of a module.
 
 ghost use Rattle.std.specs.Prelude.{◌≡◌, ℕ, Some, IfOk, IfSome, IfNone, false};
 ghost use Rattle.std.specs.Option.{ForSome};
 ghost use Rattle.framehop_modules.specs.ChosenViews.{sections_bytes};
-ghost use Rattle.dwarf_frame_sections.specs.Sections.{FrameSection};
+ghost use Rattle.dwarf_frame_rows.specs.FrameSection.{FrameSection};
 ghost use Rattle.framehop.specs.CfiIndex.{IsMadeOf};
 ghost use Rattle.framehop.specs.CfiIndexView.{IsIndexOf, IsIndexed, IsUnindexed};
 ghost use Rattle.framehop.specs.EntryFor.{has_index};
-ghost use Rattle.framehop.specs.RoadViews.{road_view, LeadsInto};
-ghost use Rattle.framehop.specs.Roads.{ByIndex, ByHeader};
-ghost use Rattle.framehop.specs.UnwindData.{bases_of, road_among, road_of, scanned_data_of, section_among, section_of, unwind_data_of};
+ghost use Rattle.framehop.specs.LookupViews.{lookup_view, LeadsInto};
+ghost use Rattle.framehop.specs.Lookups.{ByIndex, ByHeader};
+ghost use Rattle.framehop.specs.UnwindData.{bases_of, lookup_among, lookup_of, scanned_data_of, section_among, section_of, unwind_data_of};
 
 use crate::cfi_index::{DwarfCfiIndex, DwarfCfiIndexError};
-use crate::roads::Road;
+use crate::lookups::Lookup;
 use dwarf_frame_entries::BaseAddresses;
 use framehop_modules::{BaseSvmas, ModuleSectionInfo, ModuleSections, SectionBytes};
 use std::alloc::{AllocError, Global};
 use std::marker::Model;
 
-/// What a module is unwound by: the sections that were taken of it, the addresses that pointers in
-/// them count from, the address that relative addresses count from, as the sections call it, and how
-/// the entry for an address is found: by the header of its call frame information, or where it has none
-/// by an index, or else by reading the section at each step.
+/// The unwind data of a module: its sections, the base addresses of their pointers, the module's base as
+/// the file states it, and the index of its FDEs, unless they are found by a header or by reading the
+/// section at each step.
 #[derive(Drop)]
 pub struct ModuleUnwindData<D: SectionBytes> {
     sections: ModuleSections<D>,
@@ -35,8 +34,8 @@ impl<D: SectionBytes> Model for ModuleUnwindData<D> {
     ghost use Rattle.framehop_modules.specs.ChosenViews.{sections_bytes};
     ghost use Rattle.framehop.specs.CfiIndexView.{IsIndexed, IsUnindexed};
     ghost use Rattle.std.specs.Prelude.{◌≡◌, false};
-    ghost use Rattle.framehop.specs.Roads.{ByIndex};
-    ghost use Rattle.framehop.specs.UnwindData.{UnwindData, section_among, road_among};
+    ghost use Rattle.framehop.specs.Lookups.{ByIndex};
+    ghost use Rattle.framehop.specs.UnwindData.{UnwindData, section_among, lookup_among};
 
     ghost Value = { UnwindData };
 
@@ -47,17 +46,17 @@ impl<D: SectionBytes> Model for ModuleUnwindData<D> {
       is_scanned = given.is_scanned;
     } };
 
-    // the index is that of the section; and where the entries are to be found by it, there is none only
-    // where no section is, or one without an index
+    // the index is that of the section; and if FDEs are found by an index, there is none only if there is
+    // no section of call frames, or one that has no index
     ghost invariant = { λ given.
         let sections = sections_bytes D.content given.sections in
         let section = section_among given.bases sections in
         IsIndexed given.index given.base_svma section
-        × (given.is_scanned ≡ false → road_among sections ≡ ByIndex
+        × (given.is_scanned ≡ false → lookup_among sections ≡ ByIndex
         → IsUnindexed given.index given.base_svma section) };
 }
 
-/// The addresses that pointers count from, by the starts of sections.
+// The addresses that pointers are relative to, by the starts of sections.
 fn base_addresses(starts: &BaseSvmas) -> BaseAddresses
     ensures { result ≡ bases_of starts.now }
 {
@@ -68,7 +67,7 @@ fn base_addresses(starts: &BaseSvmas) -> BaseAddresses
         .set_got(starts.got)
 }
 
-/// The index of a section, if it has one: only want of memory for it is refused.
+// The index of a section, if it has one. Fails if it failed to allocate.
 fn index_made(
     index: Result<DwarfCfiIndex, DwarfCfiIndexError>,
 ) -> Result<Option<DwarfCfiIndex>, AllocError>
@@ -88,8 +87,8 @@ fn index_made(
     }
 }
 
-/// The index of the call frame information among a module's sections, if there is some without a header,
-/// and that has an index. Sections of other kinds have none yet.
+// The index of the call frame information among a module's sections, if there is some, it has no header,
+// and it has an index. Sections of other kinds have none yet.
 fn index_among<D: SectionBytes>(
     alloc: Global,
     sections: &ModuleSections<D>,
@@ -100,7 +99,7 @@ fn index_among<D: SectionBytes>(
         (section_among bases.now (sections_bytes D.content sections.now))) }
     ensures unindexed { IfOk result (λ index.
         let sections = sections_bytes D.content sections.now in
-        road_among sections ≡ ByIndex
+        lookup_among sections ≡ ByIndex
         → IsUnindexed index base_svma (section_among bases.now sections)) }
 {
     match sections {
@@ -126,10 +125,10 @@ fn index_among<D: SectionBytes>(
 }
 
 impl<D: SectionBytes + Drop> ModuleUnwindData<D> {
-    /// What is taken of a module's sections: those of the first of `__unwind_info`, `.pdata`,
-    /// `.eh_frame` and `.debug_frame` that it has. Entries of `.eh_frame` are found by its header, where
-    /// there is one, and by an index else; call frame information without either says nothing of any
-    /// address. Fails where memory for the index is refused.
+    /// The unwind data of a module with these sections: of `__unwind_info`, `.pdata`, `.eh_frame` and
+    /// `.debug_frame` the first that it has. FDEs of `.eh_frame` are found by its header, if there is one,
+    /// else by an index; call frame information that has neither isn't used. Fails if it fails to allocate
+    /// the index.
     pub fn new<I: ModuleSectionInfo<D>>(alloc: Global, info: &mut I) -> Result<Self, AllocError>
         ensures { IfOk result (λ given. given ≡ unwind_data_of (I.sections info.old)) }
     {
@@ -146,8 +145,8 @@ impl<D: SectionBytes + Drop> ModuleUnwindData<D> {
         })
     }
 
-    /// As `new`, with neither index nor header: each step reads the call frame information from its first
-    /// entry to one that contains the address.
+    /// As `new`, but with neither index nor header: each step reads the call frame information from its
+    /// first entry to the first FDE that contains the address.
     pub fn scanning<I: ModuleSectionInfo<D>>(info: &mut I) -> Self
         ensures { result ≡ scanned_data_of (I.sections info.old) }
     {
@@ -164,11 +163,11 @@ impl<D: SectionBytes + Drop> ModuleUnwindData<D> {
     }
 }
 
-/// The bytes of the header that goes with a module's call frame information, if there is one.
+// The bytes of the header of a module's call frame information, if there is one.
 fn header_among<D: SectionBytes>(sections: &ModuleSections<D>) -> Option<&[u8]>
     ensures some { IfSome result (λ header.
-        road_among (sections_bytes D.content sections.now) ≡ ByHeader header.now) }
-    ensures none { IfNone result (road_among (sections_bytes D.content sections.now) ≡ ByIndex) }
+        lookup_among (sections_bytes D.content sections.now) ≡ ByHeader header.now) }
+    ensures none { IfNone result (lookup_among (sections_bytes D.content sections.now) ≡ ByIndex) }
 {
     match sections {
         ModuleSections::EhFrame {
@@ -180,44 +179,44 @@ fn header_among<D: SectionBytes>(sections: &ModuleSections<D>) -> Option<&[u8]>
 }
 
 impl<D: SectionBytes> ModuleUnwindData<D> {
-    /// The sections.
+    // The sections.
     pub(crate) fn sections(&self) -> &ModuleSections<D>
         ensures { sections_bytes D.content result.now ≡ self.now.sections }
     {
         &self.sections
     }
 
-    /// The addresses that pointers count from.
+    // The addresses that pointers are relative to.
     pub(crate) fn bases(&self) -> &BaseAddresses
         ensures { result.now ≡ self.now.bases }
     {
         &self.bases
     }
 
-    /// The address that relative addresses count from, as the sections call it.
+    // The address that relative addresses are relative to, as the file states it.
     pub(crate) fn base_svma(&self) -> u64
         ensures { result ≡ self.now.base_svma }
     {
         self.base_svma
     }
 
-    /// How the entry for an address is found, where it can be.
-    pub(crate) fn road(&self) -> Option<Road<'_>>
-        ensures some { IfSome result (λ road. road_view road ≡ road_of self.now) }
-        ensures into { IfSome result (λ road.
-            ForSome (section_of self.now) (λ section. LeadsInto self.now.base_svma section road)) }
-        ensures none { IfNone result (road_of self.now ≡ ByIndex) }
+    // How the FDE for an address is found, if there is a way.
+    pub(crate) fn lookup(&self) -> Option<Lookup<'_>>
+        ensures some { IfSome result (λ lookup. lookup_view lookup ≡ lookup_of self.now) }
+        ensures into { IfSome result (λ lookup.
+            ForSome (section_of self.now) (λ section. LeadsInto self.now.base_svma section lookup)) }
+        ensures none { IfNone result (lookup_of self.now ≡ ByIndex) }
         ensures unindexed { IfNone result (ForSome (section_of self.now)
             (λ section. has_index self.now.base_svma section ≡ false)) }
     {
         if self.is_scanned {
-            return Some(Road::Scan);
+            return Some(Lookup::Scan);
         }
         if let Some(header) = header_among(&self.sections) {
-            return Some(Road::Header(header));
+            return Some(Lookup::Header(header));
         }
         match &self.index {
-            Some(index) => Some(Road::Index(index)),
+            Some(index) => Some(Lookup::Index(index)),
             None => None,
         }
     }

@@ -1,4 +1,4 @@
-//! Laws of how long walks are. The functions do nothing when the program runs.
+//! Laws of how many frames a walk has. The functions do nothing when the program runs.
 
 pub mod aarch64;
 pub mod x86_64;

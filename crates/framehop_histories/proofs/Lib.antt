@@ -1,3 +1,3 @@
-mod CommandTurns
+mod CommandResults
 mod CommandLists
-mod CommandProgress
+mod CommandModels

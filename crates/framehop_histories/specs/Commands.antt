@@ -15,7 +15,7 @@ use Rattle.framehop_histories.specs.declared.commands.Command.TheVariants.{NewUn
 
 -- What commands are answered from: the modules of each unwinder, how many caches there are, each walk, and how many more lists of
 -- modules can be told apart.
-pub record Scene (Data Registers : Type 0) : Type 0 where
+pub record HistoryState (Data Registers : Type 0) : Type 0 where
   pub unwinders : List (List (Loaded Data))
   pub caches : ℕ
   pub walks : List (Walk Registers)
@@ -31,101 +31,101 @@ pub data Reply (Registers : Type 0) : Type 0 where
   Stepped : Result (Option ℕ) Error → Registers → Reply Registers
   Moved : Result (Option Frame) Error → Registers → Reply Registers
 
--- What a command comes to: the reply, and what the next command is answered from.
-pub record Turn (Data Registers : Type 0) : Type 0 where
+-- What a command does: the reply, and the state that the next command is answered from.
+pub record CommandResult (Data Registers : Type 0) : Type 0 where
   pub reply : Reply Registers
-  pub scene : Scene Data Registers
+  pub state : HistoryState Data Registers
 
--- a reply, and the scene afterwards
-abbrev pub turn_to : {Data Registers : Type 0} → Reply Registers → Scene Data Registers → Turn Data Registers
-turn_to reply scene = record { reply = reply; scene = scene }
+-- a reply, and the state afterwards
+abbrev pub result_with : {Data Registers : Type 0} → Reply Registers → HistoryState Data Registers → CommandResult Data Registers
+result_with reply state = record { reply = reply; state = state }
 
 -- what is done with an unwinder's modules, or a walk, if it is there
-abbrev pub if_known : {X Data Registers : Type 0} → Option X → Scene Data Registers → (X → Turn Data Registers) → Turn Data Registers
-if_known None scene next = turn_to Unknown scene
-if_known (Some known) scene next = next known
+abbrev pub if_known : {X Data Registers : Type 0} → Option X → HistoryState Data Registers → (X → CommandResult Data Registers) → CommandResult Data Registers
+if_known None state next = result_with Unknown state
+if_known (Some known) state next = next known
 
--- the modules of an unwinder; the same where a cache is there too
-abbrev pub modules_of : {Data Registers : Type 0} → Scene Data Registers → ℕ → Option (List (Loaded Data))
-modules_of scene unwinder = slice_get scene.unwinders unwinder
+-- the modules of an unwinder, if the unwinder is there
+abbrev pub modules_of : {Data Registers : Type 0} → HistoryState Data Registers → ℕ → Option (List (Loaded Data))
+modules_of state unwinder = slice_get state.unwinders unwinder
 
--- the modules of an unwinder, where the unwinder and the cache are there
-abbrev pub modules_with_cache : {Data Registers : Type 0} → Scene Data Registers → ℕ → ℕ → Option (List (Loaded Data))
-modules_with_cache scene unwinder cache = if nat_lt cache scene.caches then modules_of scene unwinder else None
+-- the modules of an unwinder, if the unwinder and the cache are there
+abbrev pub modules_with_cache : {Data Registers : Type 0} → HistoryState Data Registers → ℕ → ℕ → Option (List (Loaded Data))
+modules_with_cache state unwinder cache = if nat_lt cache state.caches then modules_of state unwinder else None
 
 -- with other unwinders, if one more list of modules can be told apart
-abbrev pub with_new_list : {Data Registers : Type 0} → Reply Registers → List (List (Loaded Data)) → Scene Data Registers
-    → Turn Data Registers
-with_new_list reply unwinders scene =
-    if scene.left == 0 then turn_to Exhausted scene
-    else turn_to reply (record scene { unwinders = unwinders; left = scene.left - 1 })
+abbrev pub with_new_list : {Data Registers : Type 0} → Reply Registers → List (List (Loaded Data)) → HistoryState Data Registers
+    → CommandResult Data Registers
+with_new_list reply unwinders state =
+    if state.left == 0 then result_with Exhausted state
+    else result_with reply (record state { unwinders = unwinders; left = state.left - 1 })
 
 -- a new unwinder has no module, and needs a list that can be told apart
-abbrev pub turn_of_unwinder : {Data Registers : Type 0} → Scene Data Registers → Turn Data Registers
-turn_of_unwinder scene = with_new_list Added (scene.unwinders ++ [] ∷ []) scene
+abbrev pub result_of_unwinder : {Data Registers : Type 0} → HistoryState Data Registers → CommandResult Data Registers
+result_of_unwinder state = with_new_list Added (state.unwinders ++ [] ∷ []) state
 
 -- a new cache
-abbrev pub turn_of_cache : {Data Registers : Type 0} → Scene Data Registers → Turn Data Registers
-turn_of_cache scene = turn_to Added (record scene { caches = scene.caches + 1 })
+abbrev pub result_of_cache : {Data Registers : Type 0} → HistoryState Data Registers → CommandResult Data Registers
+result_of_cache state = result_with Added (record state { caches = state.caches + 1 })
 
 -- a load adds the module to those of its unwinder, which are a new list
-abbrev pub turn_of_load : {Data Registers : Type 0} → ℕ → Loaded Data → Scene Data Registers → Turn Data Registers
-turn_of_load unwinder module_ scene = if_known (modules_of scene unwinder) scene (λ modules.
-    with_new_list Added (slice_set scene.unwinders unwinder (with_module (λ m. m.start) module_ modules)) scene)
+abbrev pub result_of_load : {Data Registers : Type 0} → ℕ → Loaded Data → HistoryState Data Registers → CommandResult Data Registers
+result_of_load unwinder module_ state = if_known (modules_of state unwinder) state (λ modules.
+    with_new_list Added (slice_set state.unwinders unwinder (with_module (λ m. m.start) module_ modules)) state)
 
--- where no module starts at the address, nothing is taken away
-abbrev pub turn_of_unload : {Data Registers : Type 0} → ℕ → ℕ → Scene Data Registers → Turn Data Registers
-turn_of_unload unwinder start scene = if_known (modules_of scene unwinder) scene (λ modules.
+-- if no module starts at the address, nothing is taken away
+abbrev pub result_of_unload : {Data Registers : Type 0} → ℕ → ℕ → HistoryState Data Registers → CommandResult Data Registers
+result_of_unload unwinder start state = if_known (modules_of state unwinder) state (λ modules.
     if has_start (λ m. m.start) start modules
-    then with_new_list Removed (slice_set scene.unwinders unwinder (without_module (λ m. m.start) start modules)) scene
-    else turn_to Removed scene)
+    then with_new_list Removed (slice_set state.unwinders unwinder (without_module (λ m. m.start) start modules)) state
+    else result_with Removed state)
 
 -- a clone has the same modules, and shares their list
-abbrev pub turn_of_clone : {Data Registers : Type 0} → ℕ → Scene Data Registers → Turn Data Registers
-turn_of_clone unwinder scene = if_known (modules_of scene unwinder) scene (λ modules.
-    turn_to Added (record scene { unwinders = scene.unwinders ++ modules ∷ [] }))
+abbrev pub result_of_clone : {Data Registers : Type 0} → ℕ → HistoryState Data Registers → CommandResult Data Registers
+result_of_clone unwinder state = if_known (modules_of state unwinder) state (λ modules.
+    result_with Added (record state { unwinders = state.unwinders ++ modules ∷ [] }))
 
 -- a judged step: its answer, and the registers that it leaves
 abbrev pub stepped : {Registers : Type 0} → Registers → Outcome (Caller Registers) → Reply Registers
 stepped registers judged = Stepped (answer_of_outcome judged) (registers_after registers judged)
 
 -- a step is the judge's from the modules of its unwinder, through any cache that is there
-abbrev pub turn_of_step : {Data Rule Registers : Type 0} → Meanings Data Rule Registers → ℕ → ℕ → Frame → Registers → Words
-    → Scene Data Registers → Turn Data Registers
-turn_of_step m unwinder cache frame registers words scene = if_known (modules_with_cache scene unwinder cache) scene (λ modules.
-    turn_to (stepped registers (judge m modules frame registers words)) scene)
+abbrev pub result_of_step : {Data Rule Registers : Type 0} → Meanings Data Rule Registers → ℕ → ℕ → Frame → Registers → Words
+    → HistoryState Data Registers → CommandResult Data Registers
+result_of_step m unwinder cache frame registers words state = if_known (modules_with_cache state unwinder cache) state (λ modules.
+    result_with (stepped registers (judge m modules frame registers words)) state)
 
--- a new walk stands before its instruction pointer
-abbrev pub turn_of_walk : {Data Registers : Type 0} → ℕ → Registers → Scene Data Registers → Turn Data Registers
-turn_of_walk pc registers scene =
-    turn_to Added (record scene { walks = scene.walks ++ (record { place = Starts pc; registers = registers }) ∷ [] })
+-- a new walk is before its first frame, the instruction pointer
+abbrev pub result_of_walk : {Data Registers : Type 0} → ℕ → Registers → HistoryState Data Registers → CommandResult Data Registers
+result_of_walk pc registers state =
+    result_with Added (record state { walks = state.walks ++ (record { position = Starts pc; registers = registers }) ∷ [] })
 
 -- a walk that has made a move
-abbrev pub moved : {Data Registers : Type 0} → ℕ → Move Registers → Scene Data Registers → Turn Data Registers
-moved walk made scene =
-    turn_to (Moved made.answer made.walk.registers) (record scene { walks = slice_set scene.walks walk made.walk })
+abbrev pub moved : {Data Registers : Type 0} → ℕ → Move Registers → HistoryState Data Registers → CommandResult Data Registers
+moved walk made state =
+    result_with (Moved made.answer made.walk.registers) (record state { walks = slice_set state.walks walk made.walk })
 
 -- the next frame of a walk is the move's by the judge, from the modules of an unwinder
-abbrev pub turn_of_frame : {Data Rule Registers : Type 0} → Meanings Data Rule Registers → ℕ → ℕ → ℕ → Words
-    → Scene Data Registers → Turn Data Registers
-turn_of_frame m unwinder cache walk words scene = if_known (modules_with_cache scene unwinder cache) scene (λ modules.
-    if_known (slice_get scene.walks walk) scene (λ there. moved walk (move (judge m modules) words there) scene))
+abbrev pub result_of_frame : {Data Rule Registers : Type 0} → Meanings Data Rule Registers → ℕ → ℕ → ℕ → Words
+    → HistoryState Data Registers → CommandResult Data Registers
+result_of_frame m unwinder cache walk words state = if_known (modules_with_cache state unwinder cache) state (λ modules.
+    if_known (slice_get state.walks walk) state (λ there. moved walk (move (judge m modules) words there) state))
 
--- What a command comes to. A callback answers by words.
-abbrev pub turn : {Data Rule Registers Context Callback : Type 0} → Meanings Data Rule Registers → (Callback → Words)
-    → Command Data Context Registers Callback → Scene Data Registers → Turn Data Registers
-turn m words NewUnwinder scene = turn_of_unwinder scene
-turn m words (NewCache unwind_context) scene = turn_of_cache scene
-turn m words (Load unwinder module_) scene = turn_of_load unwinder module_ scene
-turn m words (Unload unwinder start) scene = turn_of_unload unwinder start scene
-turn m words (Clone unwinder) scene = turn_of_clone unwinder scene
-turn m words (Step unwinder cache address regs read_stack) scene =
-    turn_of_step m unwinder cache (frame_of address) regs (words read_stack) scene
-turn m words (NewWalk pc regs) scene = turn_of_walk pc regs scene
-turn m words (NextFrame unwinder cache walk read_stack) scene =
-    turn_of_frame m unwinder cache walk (words read_stack) scene
+-- What a command does. A callback answers by words.
+abbrev pub command_result : {Data Rule Registers Context Callback : Type 0} → Meanings Data Rule Registers → (Callback → Words)
+    → Command Data Context Registers Callback → HistoryState Data Registers → CommandResult Data Registers
+command_result m words NewUnwinder state = result_of_unwinder state
+command_result m words (NewCache unwind_context) state = result_of_cache state
+command_result m words (Load unwinder module_) state = result_of_load unwinder module_ state
+command_result m words (Unload unwinder start) state = result_of_unload unwinder start state
+command_result m words (Clone unwinder) state = result_of_clone unwinder state
+command_result m words (Step unwinder cache address regs read_stack) state =
+    result_of_step m unwinder cache (frame_of address) regs (words read_stack) state
+command_result m words (NewWalk pc regs) state = result_of_walk pc regs state
+command_result m words (NextFrame unwinder cache walk read_stack) state =
+    result_of_frame m unwinder cache walk (words read_stack) state
 
--- memory may be refused where something is added, and for a step or a move where modules may take memory
+-- a command may be out of memory if it adds something, and a step or a move if modules may take memory
 abbrev pub can_want : {Registers : Type 0} → Bool → Reply Registers → Bool
 can_want takes_memory Added = true
 can_want takes_memory Removed = false
@@ -134,41 +134,41 @@ can_want takes_memory Exhausted = false
 can_want takes_memory (Stepped answer registers) = takes_memory
 can_want takes_memory (Moved answer registers) = takes_memory
 
--- a command is answered as it comes out, or that memory was refused, where it may be
-abbrev pub IsReply : {Data Registers : Type 0} → Bool → Turn Data Registers → Option (Reply Registers) → Type 0
+-- a command is answered by its reply, or that it is out of memory, if it may be
+abbrev pub IsReply : {Data Registers : Type 0} → Bool → CommandResult Data Registers → Option (Reply Registers) → Type 0
 IsReply takes_memory comes_to None = can_want takes_memory comes_to.reply ≡ true
 IsReply takes_memory comes_to (Some reply) = reply ≡ comes_to.reply
 
--- what the next command is answered from: as before, where memory was refused
-abbrev pub scene_after : {Data Registers : Type 0} → Scene Data Registers → Turn Data Registers → Option (Reply Registers)
-    → Scene Data Registers
-scene_after scene comes_to None = scene
-scene_after scene comes_to (Some reply) = comes_to.scene
+-- the state that the next command is answered from: as before, if this one was out of memory
+abbrev pub state_after : {Data Registers : Type 0} → HistoryState Data Registers → CommandResult Data Registers → Option (Reply Registers)
+    → HistoryState Data Registers
+state_after state comes_to None = state
+state_after state comes_to (Some reply) = comes_to.state
 
--- a turn that was made, from one scene to another
-abbrev pub IsTurn : {Data Registers : Type 0} → Bool → Scene Data Registers → Turn Data Registers → Option (Reply Registers)
-    → Scene Data Registers → Type 0
-IsTurn takes_memory old comes_to reply new =
-    IsReply takes_memory comes_to reply × (new ≡ scene_after old comes_to reply)
+-- a command that was answered so leads from one state to another
+abbrev pub IsResult : {Data Registers : Type 0} → Bool → HistoryState Data Registers → CommandResult Data Registers → Option (Reply Registers)
+    → HistoryState Data Registers → Type 0
+IsResult takes_memory old comes_to reply new =
+    IsReply takes_memory comes_to reply × (new ≡ state_after old comes_to reply)
 
--- The answers to commands, in their order. None stands where memory was refused.
+-- The answers to commands, in their order. None is that a command was out of memory.
 abbrev pub AreReplies : {Data Rule Registers Context Callback : Type 0} → Bool → Meanings Data Rule Registers → (Callback → Words)
-    → Scene Data Registers → List (Command Data Context Registers Callback) → List (Option (Reply Registers)) → Type 0
-AreReplies takes_memory m words scene [] [] = Unit {0}
-AreReplies takes_memory m words scene [] (reply ∷ replies) = ⊥
-AreReplies takes_memory m words scene (command ∷ commands) [] = ⊥
-AreReplies takes_memory m words scene (command ∷ commands) (reply ∷ replies) =
-    IsReply takes_memory (turn m words command scene) reply
-    × AreReplies takes_memory m words (scene_after scene (turn m words command scene) reply) commands replies
+    → HistoryState Data Registers → List (Command Data Context Registers Callback) → List (Option (Reply Registers)) → Type 0
+AreReplies takes_memory m words state [] [] = Unit {0}
+AreReplies takes_memory m words state [] (reply ∷ replies) = ⊥
+AreReplies takes_memory m words state (command ∷ commands) [] = ⊥
+AreReplies takes_memory m words state (command ∷ commands) (reply ∷ replies) =
+    IsReply takes_memory (command_result m words command state) reply
+    × AreReplies takes_memory m words (state_after state (command_result m words command state) reply) commands replies
 
--- what a command after all of these is answered from
-abbrev pub scene_after_all : {Data Rule Registers Context Callback : Type 0} → Meanings Data Rule Registers → (Callback → Words)
-    → Scene Data Registers → List (Command Data Context Registers Callback) → List (Option (Reply Registers))
-    → Scene Data Registers
-scene_after_all m words scene [] replies = scene
-scene_after_all m words scene (command ∷ commands) [] = scene
-scene_after_all m words scene (command ∷ commands) (reply ∷ replies) =
-    scene_after_all m words (scene_after scene (turn m words command scene) reply) commands replies
+-- the state that a command after all of these is answered from
+abbrev pub state_after_all : {Data Rule Registers Context Callback : Type 0} → Meanings Data Rule Registers → (Callback → Words)
+    → HistoryState Data Registers → List (Command Data Context Registers Callback) → List (Option (Reply Registers))
+    → HistoryState Data Registers
+state_after_all m words state [] replies = state
+state_after_all m words state (command ∷ commands) [] = state
+state_after_all m words state (command ∷ commands) (reply ∷ replies) =
+    state_after_all m words (state_after state (command_result m words command state) reply) commands replies
 
 -- a statement about the callback of a command, if it has one
 abbrev pub OfCallback : {Data Context Registers Callback : Type 0} → (Callback → Type 0)

@@ -1,3 +1,4 @@
 pub mod Commands
 pub mod CommandViews
+pub mod Performs
 pub mod Progress

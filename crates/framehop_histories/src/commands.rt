@@ -1,12 +1,13 @@
 //! Lists of commands, with their answers.
+
 ghost use Rattle.std.specs.Prelude.{◌≡◌, ◌∷◌, ◌++◌, true, false, Some, None, [], List, length, map, IfOk, OnOk, OnErr};
 ghost use Rattle.std.specs.List.{All};
 ghost use Rattle.framehop_registers.specs.Callback.{Words, AnswersBy};
-ghost use Rattle.framehop_unwinder.specs.Attempt.{meanings};
-ghost use Rattle.framehop_histories.specs.Commands.{AreReplies, scene_after_all, Stepped, Moved, IsTurn, OfCallback, turn, turn_of_unwinder, turn_of_cache, turn_of_load, turn_of_unload, turn_of_clone, turn_of_step, turn_of_frame};
-ghost use Rattle.framehop_histories.specs.CommandViews.{reply_of, scene_of};
-ghost use Rattle.framehop_unwinder.specs.Progress.{Progress, IsAt};
-ghost use Rattle.framehop_histories.specs.Progress.{progress_of_unwinder, progress_of_cache, progress_of_load, progress_of_unload, progress_of_clone, progress_of_step, progress_of_frame, progress_after, progress_after_all};
+ghost use Rattle.framehop_histories.specs.Commands.{Stepped, Moved, IsResult, OfCallback, command_result, result_of_unwinder, result_of_cache, result_of_load, result_of_unload, result_of_clone, result_of_step, result_of_frame};
+ghost use Rattle.framehop_histories.specs.CommandViews.{reply_of, state_of};
+ghost use Rattle.framehop_histories.specs.Performs.{AnswerBy, Performs};
+ghost use Rattle.framehop_unwinder.specs.Progress.{SessionModel, IsAt};
+ghost use Rattle.framehop_histories.specs.Progress.{model_after_unwinder, model_after_cache, model_after_load, model_after_unload, model_after_clone, model_after_step, model_after_frame, model_after};
 ghost use Rattle.framehop_unwinder.specs.Frames.{frame_of};
 ghost use Rattle.framehop_unwinder.specs.Trials.{wants_memory};
 ghost use Rattle.framehop_unwinder.specs.Walk.{Walk};
@@ -51,16 +52,16 @@ pub enum Answer<R> {
     Unknown,
     /// The counter of generations gave all its numbers. Nothing was done.
     GenerationsExhausted,
-    /// Memory was refused. Nothing was done.
+    /// Out of memory. Nothing was done.
     OutOfMemory,
-    /// What the step answers, and the registers that it leaves.
+    /// What the step returns, and the registers that it leaves.
     Stepped(Result<Option<u64>, Error>, R),
-    /// What the move of a walk answers, and the registers of the walk then.
+    /// What the move of a walk returns, and the registers of the walk then.
     Moved(Result<Option<FrameAddress>, Error>, R),
 }
 
 impl<R: Copy> Answer<R> {
-    /// The answer of a step that leaves these registers.
+    // The answer of a step that leaves these registers.
     fn of_step(answer: Result<Option<u64>, Error>, regs: R) -> Self
         ensures wanted { wants_memory answer ≡ true → reply_of result ≡ None }
         ensures answered { wants_memory answer ≡ false
@@ -72,7 +73,7 @@ impl<R: Copy> Answer<R> {
         }
     }
 
-    /// The answer of a move of a walk that leaves these registers.
+    // The answer of a move of a walk that leaves these registers.
     fn of_move(answer: Result<Option<FrameAddress>, Error>, regs: R) -> Self
         ensures wanted { wants_memory answer ≡ true → reply_of result ≡ None }
         ensures answered { wants_memory answer ≡ false
@@ -86,11 +87,11 @@ impl<R: Copy> Answer<R> {
 }
 
 fn new_unwinder<A: Unwinding>(session: &mut Session<A>, alloc: Global) -> Answer<A::UnwindRegs>
-    ensures turn { (walks : List (Walk A.UnwindRegs)) → let scene = scene_of session.old walks in
-        IsTurn A.takes_memory scene (turn_of_unwinder scene) (reply_of result)
-        (scene_of session.new walks) }
-    ensures progress { (progress : Progress A.UnwindData) → IsAt progress session.old
-        → IsAt (progress_of_unwinder (reply_of result) progress) session.new }
+    ensures reply { (walks : List (Walk A.UnwindRegs)) → let state = state_of session.old walks in
+        IsResult A.takes_memory state (result_of_unwinder state) (reply_of result)
+        (state_of session.new walks) }
+    ensures model { (model : SessionModel A.UnwindData) → IsAt model session.old
+        → IsAt (model_after_unwinder (reply_of result) model) session.new }
 {
     match session.add_unwinder(alloc) {
         Ok(()) => Answer::Added,
@@ -104,11 +105,11 @@ fn new_cache<A: Unwinding>(
     alloc: Global,
     unwind_context: A::UnwindContext,
 ) -> Answer<A::UnwindRegs>
-    ensures turn { (walks : List (Walk A.UnwindRegs)) → let scene = scene_of session.old walks in
-        IsTurn A.takes_memory scene (turn_of_cache scene) (reply_of result)
-        (scene_of session.new walks) }
-    ensures progress { (progress : Progress A.UnwindData) → IsAt progress session.old
-        → IsAt (progress_of_cache (reply_of result) progress) session.new }
+    ensures reply { (walks : List (Walk A.UnwindRegs)) → let state = state_of session.old walks in
+        IsResult A.takes_memory state (result_of_cache state) (reply_of result)
+        (state_of session.new walks) }
+    ensures model { (model : SessionModel A.UnwindData) → IsAt model session.old
+        → IsAt (model_after_cache (reply_of result) model) session.new }
 {
     match session.add_cache(alloc, unwind_context) {
         Ok(()) => Answer::Added,
@@ -121,11 +122,11 @@ fn load<A: Unwinding>(
     unwinder: usize,
     module: Module<A::UnwindData>,
 ) -> Answer<A::UnwindRegs>
-    ensures turn { (walks : List (Walk A.UnwindRegs)) → let scene = scene_of session.old walks in
-        IsTurn A.takes_memory scene (turn_of_load unwinder «module» scene) (reply_of result)
-        (scene_of session.new walks) }
-    ensures progress { (progress : Progress A.UnwindData) → IsAt progress session.old
-        → IsAt (progress_of_load unwinder «module» (reply_of result) progress) session.new }
+    ensures reply { (walks : List (Walk A.UnwindRegs)) → let state = state_of session.old walks in
+        IsResult A.takes_memory state (result_of_load unwinder «module» state) (reply_of result)
+        (state_of session.new walks) }
+    ensures model { (model : SessionModel A.UnwindData) → IsAt model session.old
+        → IsAt (model_after_load unwinder «module» (reply_of result) model) session.new }
 {
     if unwinder >= session.unwinders() {
         return Answer::Unknown;
@@ -142,11 +143,11 @@ fn unload<A: Unwinding>(
     unwinder: usize,
     start: u64,
 ) -> Answer<A::UnwindRegs>
-    ensures turn { (walks : List (Walk A.UnwindRegs)) → let scene = scene_of session.old walks in
-        IsTurn A.takes_memory scene (turn_of_unload unwinder start scene) (reply_of result)
-        (scene_of session.new walks) }
-    ensures progress { (progress : Progress A.UnwindData) → IsAt progress session.old
-        → IsAt (progress_of_unload unwinder start (reply_of result) progress) session.new }
+    ensures reply { (walks : List (Walk A.UnwindRegs)) → let state = state_of session.old walks in
+        IsResult A.takes_memory state (result_of_unload unwinder start state) (reply_of result)
+        (state_of session.new walks) }
+    ensures model { (model : SessionModel A.UnwindData) → IsAt model session.old
+        → IsAt (model_after_unload unwinder start (reply_of result) model) session.new }
 {
     if unwinder >= session.unwinders() {
         return Answer::Unknown;
@@ -162,11 +163,11 @@ fn clone<A: Unwinding>(
     alloc: Global,
     unwinder: usize,
 ) -> Answer<A::UnwindRegs>
-    ensures turn { (walks : List (Walk A.UnwindRegs)) → let scene = scene_of session.old walks in
-        IsTurn A.takes_memory scene (turn_of_clone unwinder scene) (reply_of result)
-        (scene_of session.new walks) }
-    ensures progress { (progress : Progress A.UnwindData) → IsAt progress session.old
-        → IsAt (progress_of_clone unwinder (reply_of result) progress) session.new }
+    ensures reply { (walks : List (Walk A.UnwindRegs)) → let state = state_of session.old walks in
+        IsResult A.takes_memory state (result_of_clone unwinder state) (reply_of result)
+        (state_of session.new walks) }
+    ensures model { (model : SessionModel A.UnwindData) → IsAt model session.old
+        → IsAt (model_after_clone unwinder (reply_of result) model) session.new }
 {
     if unwinder >= session.unwinders() {
         return Answer::Unknown;
@@ -186,14 +187,12 @@ fn step<A: Unwinding, F: FnMut(u64) -> Result<u64, ()> + Drop>(
     read_stack: F,
 ) -> Answer<A::UnwindRegs>
     requires { F.IsAlwaysCallable read_stack }
-    ensures turn { (words : Words) → AnswersBy F.step read_stack words
-        → (walks : List (Walk A.UnwindRegs)) → let scene = scene_of session.old walks in
-        let m = meanings A.UnwindRule.meaning A.UnwindRule.fallback A.attempt in
-        let turn = turn_of_step m unwinder cache (frame_of address) regs words scene in
-        IsTurn A.takes_memory scene turn (reply_of result) (scene_of session.new walks) }
-    ensures progress { let m = meanings A.UnwindRule.meaning A.UnwindRule.fallback A.attempt in
-        (progress : Progress A.UnwindData) → IsAt progress session.old
-        → IsAt (progress_of_step m unwinder cache (frame_of address) (reply_of result) progress)
+    ensures reply { (words : Words) → AnswersBy F.step read_stack words
+        → (walks : List (Walk A.UnwindRegs)) → let state = state_of session.old walks in
+        let command_result = result_of_step A.meanings unwinder cache (frame_of address) regs words state in
+        IsResult A.takes_memory state command_result (reply_of result) (state_of session.new walks) }
+    ensures model { (model : SessionModel A.UnwindData) → IsAt model session.old
+        → IsAt (model_after_step A.meanings unwinder cache (frame_of address) (reply_of result) model)
         session.new }
 {
     if unwinder >= session.unwinders() || cache >= session.caches() {
@@ -223,15 +222,13 @@ fn next_frame<A: Unwinding, F: FnMut(u64) -> Result<u64, ()> + Drop>(
     read_stack: F,
 ) -> Answer<A::UnwindRegs>
     requires { F.IsAlwaysCallable read_stack }
-    ensures turn { (words : Words) → AnswersBy F.step read_stack words
-        → let scene = scene_of session.old (map walk_of walks.old.items) in
-        let m = meanings A.UnwindRule.meaning A.UnwindRule.fallback A.attempt in
-        IsTurn A.takes_memory scene (turn_of_frame m unwinder cache walk words scene)
-        (reply_of result) (scene_of session.new (map walk_of walks.new.items)) }
-    ensures progress { let m = meanings A.UnwindRule.meaning A.UnwindRule.fallback A.attempt in
-        let there = map walk_of walks.old.items in
-        (progress : Progress A.UnwindData) → IsAt progress session.old
-        → IsAt (progress_of_frame m there unwinder cache walk (reply_of result) progress)
+    ensures reply { (words : Words) → AnswersBy F.step read_stack words
+        → let state = state_of session.old (map walk_of walks.old.items) in
+        IsResult A.takes_memory state (result_of_frame A.meanings unwinder cache walk words state)
+        (reply_of result) (state_of session.new (map walk_of walks.new.items)) }
+    ensures model { let there = map walk_of walks.old.items in
+        (model : SessionModel A.UnwindData) → IsAt model session.old
+        → IsAt (model_after_frame A.meanings there unwinder cache walk (reply_of result) model)
         session.new }
 {
     if unwinder >= session.unwinders() || cache >= session.caches() || walk >= walks.len() {
@@ -243,7 +240,7 @@ fn next_frame<A: Unwinding, F: FnMut(u64) -> Result<u64, ()> + Drop>(
     Answer::of_move(answer, walk.regs())
 }
 
-/// Does what a command asks.
+// Does what a command asks.
 fn obey<A: Unwinding, F: FnMut(u64) -> Result<u64, ()> + Drop>(
     session: &mut Session<A>,
     alloc: Global,
@@ -251,16 +248,14 @@ fn obey<A: Unwinding, F: FnMut(u64) -> Result<u64, ()> + Drop>(
     command: Command<A::UnwindData, A::UnwindContext, A::UnwindRegs, F>,
 ) -> Answer<A::UnwindRegs>
     requires { OfCallback F.IsAlwaysCallable command }
-    ensures turn { (words : F → Words)
+    ensures reply { (words : F → Words)
         → OfCallback (λ read_stack. AnswersBy F.step read_stack (words read_stack)) command
-        → let scene = scene_of session.old (map walk_of walks.old.items) in
-        let m = meanings A.UnwindRule.meaning A.UnwindRule.fallback A.attempt in
-        IsTurn A.takes_memory scene (turn m words command scene) (reply_of result)
-        (scene_of session.new (map walk_of walks.new.items)) }
-    ensures progress { let m = meanings A.UnwindRule.meaning A.UnwindRule.fallback A.attempt in
-        let there = map walk_of walks.old.items in
-        (progress : Progress A.UnwindData) → IsAt progress session.old
-        → IsAt (progress_after m there command (reply_of result) progress) session.new }
+        → let state = state_of session.old (map walk_of walks.old.items) in
+        IsResult A.takes_memory state (command_result A.meanings words command state) (reply_of result)
+        (state_of session.new (map walk_of walks.new.items)) }
+    ensures model { let there = map walk_of walks.old.items in
+        (model : SessionModel A.UnwindData) → IsAt model session.old
+        → IsAt (model_after A.meanings there command (reply_of result) model) session.new }
 {
     match command {
         Command::NewUnwinder => new_unwinder(session, alloc),
@@ -281,38 +276,21 @@ fn obey<A: Unwinding, F: FnMut(u64) -> Result<u64, ()> + Drop>(
     }
 }
 
-/// Does what the commands ask, one after the other, and answers each. Whatever was loaded, unloaded,
-/// cloned and walked before, and through whichever caches, each step and each move of a walk is
-/// answered as by a judge who remembers nothing, from the modules that are loaded then. Each looks up
-/// in the cache that its command names: there alone it is counted, and there alone a rule is kept.
+/// Does what the commands ask, one after the other, and answers each. After any loads, unloads, clones
+/// and walks, and through any of the caches, each step and each move of a walk is answered as by a
+/// judge who remembers nothing, from the modules that are loaded then. Each looks up in the cache that
+/// its command names: there alone it is counted, and there alone a rule is kept.
 ///
-/// Where memory for the list of answers is refused, no command was taken, and nothing was done.
+/// Fails if there is no memory for the list of answers: no command is taken then, and nothing done.
 pub fn perform<A: Unwinding, F: FnMut(u64) -> Result<u64, ()> + Drop>(
     alloc: Global,
     session: &mut Session<A>,
     commands: &mut VecDeque<Command<A::UnwindData, A::UnwindContext, A::UnwindRegs, F>>,
 ) -> Result<Vec<Answer<A::UnwindRegs>>, AllocError>
     requires { All (OfCallback F.IsAlwaysCallable) commands.old.items }
-    ensures answers { let m = meanings A.UnwindRule.meaning A.UnwindRule.fallback A.attempt in
-        (words : F → Words)
-        → All (OfCallback (λ read_stack. AnswersBy F.step read_stack (words read_stack)))
-        commands.old.items
-        → IfOk result (λ answers. AreReplies A.takes_memory m words (scene_of session.old [])
-        commands.old.items (map reply_of answers.items)) }
-    ensures scene { let m = meanings A.UnwindRule.meaning A.UnwindRule.fallback A.attempt in
-        (words : F → Words)
-        → All (OfCallback (λ read_stack. AnswersBy F.step read_stack (words read_stack)))
-        commands.old.items
-        → IfOk result (λ answers. let after = scene_after_all m words (scene_of session.old [])
-        commands.old.items (map reply_of answers.items) in
-        scene_of session.new after.walks ≡ after) }
-    ensures progress { let m = meanings A.UnwindRule.meaning A.UnwindRule.fallback A.attempt in
-        (words : F → Words)
-        → All (OfCallback (λ read_stack. AnswersBy F.step read_stack (words read_stack)))
-        commands.old.items
-        → (progress : Progress A.UnwindData) → IsAt progress session.old
-        → IfOk result (λ answers. IsAt (progress_after_all m words (scene_of session.old [])
-        commands.old.items (map reply_of answers.items) progress) session.new) }
+    ensures performs { (words : F → Words) → AnswerBy F.step words commands.old.items
+        → IfOk result (λ answers. Performs A.takes_memory A.meanings words
+        session.old commands.old.items session.new answers.items) }
     ensures performed { OnOk result (commands.new.items ≡ []) }
     ensures refused { OnErr result (session.new ≡ session.old) }
     ensures waiting { OnErr result (commands.new ≡ commands.old) }

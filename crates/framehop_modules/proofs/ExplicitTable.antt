@@ -1,9 +1,10 @@
 -- The names of sections that are given one by one: which are of one section, and what is left of the others.
 use Rattle.std.proofs.Common.{◌≡◌, ◌∙◌, ap, sym, refl, ℕ, List, Bool, true, false, Option, Some, None}
-use Rattle.std.specs.Prelude.{codes, bytes_eq, ◌||◌, if◌then◌else◌, IfSome}
+use Rattle.std.specs.Prelude.{codes, bytes_eq, ◌||◌, if◌then◌else◌, option_and_then, IfSome}
 use Rattle.std.proofs.lemmas.Slice.Eq.{bytes_eq-Decides}
 use Rattle.framehop_modules.specs.Sections.{bare_name, may_be_one}
-use Rattle.framehop_modules.specs.ExplicitTable.{kind_named, by_kind}
+use Rattle.framehop_modules.specs.ExplicitTable.{kind_named, data_of}
+use Rattle.framehop_modules.specs.declared.module_section_info.ExplicitModuleSectionInfo.{ExplicitModuleSectionInfo}
 use Rattle.framehop_modules.specs.declared.module_section_info.SectionKind.{SectionKind}
 use Rattle.framehop_modules.specs.declared.module_section_info.SectionKind.TheVariants.{Text, Got, EhFrame, EhFrameHdr, DebugFrame, Stubs, StubHelper, UnwindInfo}
 
@@ -61,8 +62,9 @@ pub in_any_case : {A : Type 0} (o : Option A) (P : Type 0) → P → IfSome o (�
 in_any_case (Some x) P p = p
 in_any_case None P p = tt
 
-module _ {A : Type 0} (text got eh_frame eh_frame_hdr debug_frame stubs stub_helper unwind_info left : Option A) where
-  pub text-apart : (o : Option SectionKind) → (o ≡ Some Text → ⊥) → by_kind o left got eh_frame eh_frame_hdr debug_frame stubs stub_helper unwind_info ≡ by_kind o text got eh_frame eh_frame_hdr debug_frame stubs stub_helper unwind_info
+-- the data of the other sections stays when that of one is handed out
+module _ {D : Type 0} (info : ExplicitModuleSectionInfo D) (left : Option D) where
+  pub text-apart : (o : Option SectionKind) → (o ≡ Some Text → ⊥) → option_and_then (data_of (record info { text = left })) o ≡ option_and_then (data_of info) o
   text-apart None differs = refl
   text-apart (Some Text) differs = absurd (differs refl)
   text-apart (Some Got) differs = refl
@@ -73,7 +75,7 @@ module _ {A : Type 0} (text got eh_frame eh_frame_hdr debug_frame stubs stub_hel
   text-apart (Some StubHelper) differs = refl
   text-apart (Some UnwindInfo) differs = refl
 
-  pub eh_frame-apart : (o : Option SectionKind) → (o ≡ Some EhFrame → ⊥) → by_kind o text got left eh_frame_hdr debug_frame stubs stub_helper unwind_info ≡ by_kind o text got eh_frame eh_frame_hdr debug_frame stubs stub_helper unwind_info
+  pub eh_frame-apart : (o : Option SectionKind) → (o ≡ Some EhFrame → ⊥) → option_and_then (data_of (record info { eh_frame = left })) o ≡ option_and_then (data_of info) o
   eh_frame-apart None differs = refl
   eh_frame-apart (Some Text) differs = refl
   eh_frame-apart (Some Got) differs = refl
@@ -84,7 +86,7 @@ module _ {A : Type 0} (text got eh_frame eh_frame_hdr debug_frame stubs stub_hel
   eh_frame-apart (Some StubHelper) differs = refl
   eh_frame-apart (Some UnwindInfo) differs = refl
 
-  pub eh_frame_hdr-apart : (o : Option SectionKind) → (o ≡ Some EhFrameHdr → ⊥) → by_kind o text got eh_frame left debug_frame stubs stub_helper unwind_info ≡ by_kind o text got eh_frame eh_frame_hdr debug_frame stubs stub_helper unwind_info
+  pub eh_frame_hdr-apart : (o : Option SectionKind) → (o ≡ Some EhFrameHdr → ⊥) → option_and_then (data_of (record info { eh_frame_hdr = left })) o ≡ option_and_then (data_of info) o
   eh_frame_hdr-apart None differs = refl
   eh_frame_hdr-apart (Some Text) differs = refl
   eh_frame_hdr-apart (Some Got) differs = refl
@@ -95,7 +97,7 @@ module _ {A : Type 0} (text got eh_frame eh_frame_hdr debug_frame stubs stub_hel
   eh_frame_hdr-apart (Some StubHelper) differs = refl
   eh_frame_hdr-apart (Some UnwindInfo) differs = refl
 
-  pub debug_frame-apart : (o : Option SectionKind) → (o ≡ Some DebugFrame → ⊥) → by_kind o text got eh_frame eh_frame_hdr left stubs stub_helper unwind_info ≡ by_kind o text got eh_frame eh_frame_hdr debug_frame stubs stub_helper unwind_info
+  pub debug_frame-apart : (o : Option SectionKind) → (o ≡ Some DebugFrame → ⊥) → option_and_then (data_of (record info { debug_frame = left })) o ≡ option_and_then (data_of info) o
   debug_frame-apart None differs = refl
   debug_frame-apart (Some Text) differs = refl
   debug_frame-apart (Some Got) differs = refl
@@ -106,7 +108,7 @@ module _ {A : Type 0} (text got eh_frame eh_frame_hdr debug_frame stubs stub_hel
   debug_frame-apart (Some StubHelper) differs = refl
   debug_frame-apart (Some UnwindInfo) differs = refl
 
-  pub unwind_info-apart : (o : Option SectionKind) → (o ≡ Some UnwindInfo → ⊥) → by_kind o text got eh_frame eh_frame_hdr debug_frame stubs stub_helper left ≡ by_kind o text got eh_frame eh_frame_hdr debug_frame stubs stub_helper unwind_info
+  pub unwind_info-apart : (o : Option SectionKind) → (o ≡ Some UnwindInfo → ⊥) → option_and_then (data_of (record info { unwind_info = left })) o ≡ option_and_then (data_of info) o
   unwind_info-apart None differs = refl
   unwind_info-apart (Some Text) differs = refl
   unwind_info-apart (Some Got) differs = refl

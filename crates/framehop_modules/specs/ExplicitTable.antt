@@ -1,12 +1,12 @@
--- What sections that are given one by one answer under a name.
-use Rattle.std.specs.Prelude.{ℕ, List, Option, Some, None, option_map, codes, bytes_eq, Bool, ◌||◌, if◌then◌else◌}
+-- The sections of a module that are given one by one, by their names.
+use Rattle.std.specs.Prelude.{ℕ, List, Option, Some, None, option_and_then, option_map, codes, bytes_eq, Bool, ◌||◌, if◌then◌else◌}
 use Rattle.std.specs.declared.ops.Range.{Range}
 use Rattle.framehop_modules.specs.Sections.{Sections}
 use Rattle.framehop_modules.specs.declared.module_section_info.ExplicitModuleSectionInfo.{ExplicitModuleSectionInfo}
 use Rattle.framehop_modules.specs.declared.module_section_info.SectionKind.{SectionKind}
 use Rattle.framehop_modules.specs.declared.module_section_info.SectionKind.TheVariants.{Text, Got, EhFrame, EhFrameHdr, DebugFrame, Stubs, StubHelper, UnwindInfo}
 
--- it is one of two names
+-- a name is one of two
 abbrev pub is_either : List ℕ → List ℕ → List ℕ → Bool
 is_either name one other = bytes_eq name one || bytes_eq name other
 
@@ -22,33 +22,41 @@ kind_named name =
     else (if bytes_eq name (codes "__stub_helper") then Some StubHelper
     else (if bytes_eq name (codes "__unwind_info") then Some UnwindInfo else None)))))))
 
--- of what the sections have, what the section of a name has
-abbrev pub by_kind : {A : Type 0} → Option SectionKind → (text got eh_frame eh_frame_hdr debug_frame stubs stub_helper unwind_info : Option A) → Option A
-by_kind None text got eh_frame eh_frame_hdr debug_frame stubs stub_helper unwind_info = None
-by_kind (Some Text) text got eh_frame eh_frame_hdr debug_frame stubs stub_helper unwind_info = text
-by_kind (Some Got) text got eh_frame eh_frame_hdr debug_frame stubs stub_helper unwind_info = got
-by_kind (Some EhFrame) text got eh_frame eh_frame_hdr debug_frame stubs stub_helper unwind_info = eh_frame
-by_kind (Some EhFrameHdr) text got eh_frame eh_frame_hdr debug_frame stubs stub_helper unwind_info = eh_frame_hdr
-by_kind (Some DebugFrame) text got eh_frame eh_frame_hdr debug_frame stubs stub_helper unwind_info = debug_frame
-by_kind (Some Stubs) text got eh_frame eh_frame_hdr debug_frame stubs stub_helper unwind_info = stubs
-by_kind (Some StubHelper) text got eh_frame eh_frame_hdr debug_frame stubs stub_helper unwind_info = stub_helper
-by_kind (Some UnwindInfo) text got eh_frame eh_frame_hdr debug_frame stubs stub_helper unwind_info = unwind_info
+-- the stated range of a section
+abbrev pub range_of : {D : Type 0} → ExplicitModuleSectionInfo D → SectionKind → Option (Range ℕ)
+range_of info Text = info.text_svma
+range_of info Got = info.got_svma
+range_of info EhFrame = info.eh_frame_svma
+range_of info EhFrameHdr = info.eh_frame_hdr_svma
+range_of info DebugFrame = None
+range_of info Stubs = info.stubs_svma
+range_of info StubHelper = info.stub_helper_svma
+range_of info UnwindInfo = None
 
--- the stated range of the section of a name
+-- the data of a section, if it was not handed out yet
+abbrev pub data_of : {D : Type 0} → ExplicitModuleSectionInfo D → SectionKind → Option D
+data_of info Text = info.text
+data_of info Got = None
+data_of info EhFrame = info.eh_frame
+data_of info EhFrameHdr = info.eh_frame_hdr
+data_of info DebugFrame = info.debug_frame
+data_of info Stubs = None
+data_of info StubHelper = None
+data_of info UnwindInfo = info.unwind_info
+
+-- the stated range of the section with a name
 abbrev pub range_named : {D : Type 0} → ExplicitModuleSectionInfo D → List ℕ → Option (Range ℕ)
-range_named info name =
-    by_kind (kind_named name) info.text_svma info.got_svma info.eh_frame_svma info.eh_frame_hdr_svma None info.stubs_svma info.stub_helper_svma None
+range_named info name = option_and_then (range_of info) (kind_named name)
 
--- the data of the section of a name, where it was not handed out yet
+-- the data of the section with a name, if it was not handed out yet
 abbrev pub data_named : {D : Type 0} → ExplicitModuleSectionInfo D → List ℕ → Option D
-data_named info name =
-    by_kind (kind_named name) info.text None info.eh_frame info.eh_frame_hdr info.debug_frame None None info.unwind_info
+data_named info name = option_and_then (data_of info) (kind_named name)
 
 -- the only segment that is asked for
 abbrev pub text_segment : List ℕ
 text_segment = codes "__TEXT"
 
--- sections that are given one by one, by their names
+-- the sections of a module, given one by one
 abbrev pub sections_given : {D : Type 0} → (D → List ℕ) → ExplicitModuleSectionInfo D → Sections
 sections_given content info = record {
   base_svma = info.base_svma;

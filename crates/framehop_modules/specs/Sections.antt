@@ -3,7 +3,7 @@ use Rattle.std.specs.Prelude.{ℕ, ◌≡◌, Bool, false, List, Option, drop, c
 use Rattle.std.specs.List.{starts_with}
 use Rattle.std.specs.declared.ops.Range.{Range}
 
--- What a module's sections and segments are: the address that its stated addresses count from, and, by name, the stated
+-- What a module's sections and segments are: the address that its stated addresses are relative to, and, by name, the stated
 -- ranges of addresses and the data that was not handed out yet.
 pub record Sections : Type 0 where
   pub base_svma : ℕ
@@ -18,11 +18,11 @@ bare_name name =
     if starts_with nat_eq name (codes "__") then drop 2 name
     else (if starts_with nat_eq name (codes ".") then drop 1 name else name)
 
--- two names may be those of one section where they differ in that alone
+-- two names may be those of one section if they differ in that alone
 abbrev pub may_be_one : List ℕ → List ℕ → Bool
 may_be_one name other = bytes_eq (bare_name name) (bare_name other)
 
--- What is left where data was handed out under the name of a section: ranges and segments are as before, and so is the
+-- What is left after data was handed out under the name of a section: ranges and segments are as before, and so is the
 -- data of every other section.
 pub record SectionLeft (name : List ℕ) (old new : Sections) : Type 0 where
   pub base_svma : new.base_svma ≡ old.base_svma
@@ -31,7 +31,7 @@ pub record SectionLeft (name : List ℕ) (old new : Sections) : Type 0 where
   pub segment_range : new.segment_range ≡ old.segment_range
   pub segment_data : new.segment_data ≡ old.segment_data
 
--- The same where it was that of a segment.
+-- What is left after data was handed out under the name of a segment.
 pub record SegmentLeft (name : List ℕ) (old new : Sections) : Type 0 where
   pub base_svma : new.base_svma ≡ old.base_svma
   pub section_range : new.section_range ≡ old.section_range

@@ -1,4 +1,5 @@
 //! The numbers that lists of modules are told apart by.
+
 ghost use Rattle.std.specs.Prelude.{◌≡◌, ◌≢◌, ◌≤◌, ◌-◌, ◌+◌, ◌^◌, IfOk, IsErr, OnOk, OnErr};
 
 use std::marker::Model;
@@ -32,7 +33,7 @@ pub struct GenerationsExhausted;
 pub enum LoadError<M> {
     /// The counter gave all its numbers.
     GenerationsExhausted(M),
-    /// Memory for the list of modules was refused.
+    /// There is no memory for the list of modules.
     OutOfMemory(M),
 }
 
@@ -58,7 +59,7 @@ impl Generations {
         u64::MAX - self.next
     }
 
-    /// Takes the next number, where one is left.
+    /// Takes the next number, if one is left.
     pub fn take(&mut self) -> u64
         requires { self.old ≢ 2 ^ 64 - 1 }
         ensures taken { result ≡ self.old }
@@ -69,7 +70,7 @@ impl Generations {
         number
     }
 
-    /// Takes the next number, or is refused where none is left, and changes nothing then.
+    /// Takes the next number. Fails if none is left, and changes nothing then.
     pub fn try_take(&mut self) -> Result<u64, GenerationsExhausted>
         ensures taken { IfOk result (λ number. number ≡ self.old) }
         ensures more { OnOk result (self.new ≡ self.old + 1) }

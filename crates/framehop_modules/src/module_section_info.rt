@@ -1,4 +1,5 @@
 //! Where the sections of a module come from.
+
 ghost use Rattle.std.specs.Prelude.{◌≡◌, IfSome, IfNone, option_map};
 ghost use Rattle.framehop_modules.specs.Sections.{Sections, SectionLeft, SegmentLeft};
 ghost use Rattle.framehop_modules.specs.ExplicitTable.{kind_named, is_either};
@@ -14,11 +15,11 @@ use std::ops::Range;
 pub trait ModuleSectionInfo<D: SectionBytes> {
     ghost sections: { Self → Sections };
 
-    /// The address that the module's stated addresses count from.
+    /// The address that the module's stated addresses are relative to.
     fn base_svma(&self) -> u64
         ensures { result ≡ (sections self.now).base_svma };
 
-    /// The addresses that a section has, where they are known.
+    /// The addresses of a section, if they are known.
     fn section_svma_range(&mut self, name: &[u8]) -> Option<Range<u64>>
         ensures range { result ≡ (sections self.old).section_range name.now }
         ensures same { sections self.new ≡ sections self.old };
@@ -30,7 +31,7 @@ pub trait ModuleSectionInfo<D: SectionBytes> {
             SectionLeft name.now (sections self.old) (sections self.new)) }
         ensures none { IfNone result (sections self.new ≡ sections self.old) };
 
-    /// The addresses that a segment has, where they are known.
+    /// The addresses of a segment, if they are known.
     fn segment_svma_range(&mut self, name: &[u8]) -> Option<Range<u64>>
         ensures range { result ≡ (sections self.old).segment_range name.now }
         ensures same { sections self.new ≡ sections self.old };
@@ -44,9 +45,9 @@ pub trait ModuleSectionInfo<D: SectionBytes> {
 }
 
 /// The sections of a module, given one by one. Names other than those below have none.
-#[derive(Debug, Drop, Default, PartialEq, Eq)]
+#[derive(Debug, Drop, PartialEq, Eq)]
 pub struct ExplicitModuleSectionInfo<D> {
-    /// The address that the module's stated addresses count from.
+    /// The address that the module's stated addresses are relative to.
     pub base_svma: u64,
     /// The range of `__text` or `.text`.
     pub text_svma: Option<Range<u64>>,
@@ -76,6 +77,47 @@ pub struct ExplicitModuleSectionInfo<D> {
     pub text_segment: Option<D>,
 }
 
+/// No section, and stated addresses that are relative to 0.
+impl<D> Default for ExplicitModuleSectionInfo<D> {
+    ghost use Rattle.std.specs.Prelude.{None};
+
+    ghost is_default = { λ info. info ≡ record {
+      base_svma = 0;
+      text_svma = None;
+      text = None;
+      stubs_svma = None;
+      stub_helper_svma = None;
+      got_svma = None;
+      unwind_info = None;
+      eh_frame_svma = None;
+      eh_frame = None;
+      eh_frame_hdr_svma = None;
+      eh_frame_hdr = None;
+      debug_frame = None;
+      text_segment_svma = None;
+      text_segment = None;
+    } };
+
+    fn default() -> Self {
+        ExplicitModuleSectionInfo {
+            base_svma: 0,
+            text_svma: None,
+            text: None,
+            stubs_svma: None,
+            stub_helper_svma: None,
+            got_svma: None,
+            unwind_info: None,
+            eh_frame_svma: None,
+            eh_frame: None,
+            eh_frame_hdr_svma: None,
+            eh_frame_hdr: None,
+            debug_frame: None,
+            text_segment_svma: None,
+            text_segment: None,
+        }
+    }
+}
+
 /// A section that can be given.
 #[derive(Debug, Clone, Copy, PartialEq, Eq)]
 enum SectionKind {
@@ -90,7 +132,7 @@ enum SectionKind {
 }
 
 impl SectionKind {
-    /// The section of a name.
+    // The section of a name.
     fn named(name: &[u8]) -> Option<Self>
         ensures { result ≡ kind_named name.now }
     {
@@ -116,15 +158,15 @@ impl SectionKind {
     }
 }
 
-/// Whether a name is one of two.
+// Whether a name is one of two.
 fn is_one_of(name: &[u8], one: &[u8], other: &[u8]) -> bool
     ensures { result ≡ is_either name.now one.now other.now }
 {
     name == one || name == other
 }
 
-/// The same range.
-fn copied(range: &Option<Range<u64>>) -> Option<Range<u64>>
+// The same range.
+fn copy_of(range: &Option<Range<u64>>) -> Option<Range<u64>>
     ensures { result ≡ range.now }
 {
     match range {
@@ -144,12 +186,12 @@ impl<D: SectionBytes> ModuleSectionInfo<D> for ExplicitModuleSectionInfo<D> {
 
     fn section_svma_range(&mut self, name: &[u8]) -> Option<Range<u64>> {
         match SectionKind::named(name)? {
-            SectionKind::Text => copied(&self.text_svma),
-            SectionKind::Got => copied(&self.got_svma),
-            SectionKind::EhFrame => copied(&self.eh_frame_svma),
-            SectionKind::EhFrameHdr => copied(&self.eh_frame_hdr_svma),
-            SectionKind::Stubs => copied(&self.stubs_svma),
-            SectionKind::StubHelper => copied(&self.stub_helper_svma),
+            SectionKind::Text => copy_of(&self.text_svma),
+            SectionKind::Got => copy_of(&self.got_svma),
+            SectionKind::EhFrame => copy_of(&self.eh_frame_svma),
+            SectionKind::EhFrameHdr => copy_of(&self.eh_frame_hdr_svma),
+            SectionKind::Stubs => copy_of(&self.stubs_svma),
+            SectionKind::StubHelper => copy_of(&self.stub_helper_svma),
             SectionKind::DebugFrame | SectionKind::UnwindInfo => None,
         }
     }
@@ -167,7 +209,7 @@ impl<D: SectionBytes> ModuleSectionInfo<D> for ExplicitModuleSectionInfo<D> {
 
     fn segment_svma_range(&mut self, name: &[u8]) -> Option<Range<u64>> {
         if name == b"__TEXT".as_slice() {
-            copied(&self.text_segment_svma)
+            copy_of(&self.text_segment_svma)
         } else {
             None
         }

@@ -1,4 +1,5 @@
 //! What is taken of a module's sections.
+
 ghost use Rattle.std.specs.Prelude.{◌≡◌, List, ℕ, option_map, IfSome, IfNone, codes};
 ghost use Rattle.framehop_modules.specs.Sections.{Sections, SectionLeft, SegmentLeft, bare_name};
 ghost use Rattle.framehop_modules.specs.Chosen.{either_data, text, chosen_sections, compact_sections, pe_sections, eh_frame_sections, whole_section, whole_segment, base_svmas, start_of};
@@ -33,7 +34,7 @@ pub enum ModuleSections<D> {
         xdata: Option<SectionData<D>>,
         text: Option<SectionData<D>>,
     },
-    /// `.eh_frame`, with `.eh_frame_hdr` where there is one.
+    /// `.eh_frame`, with `.eh_frame_hdr` if there is one.
     EhFrame {
         eh_frame: D,
         eh_frame_hdr: Option<D>,
@@ -56,7 +57,7 @@ pub struct BaseSvmas {
     pub got: u64,
 }
 
-/// The data of a section; what is left is said whether there is some or not.
+// The data of a section; what is left is said whether there is some or not.
 fn data_of<D: SectionBytes, I: ModuleSectionInfo<D>>(info: &mut I, name: &[u8]) -> Option<D>
     ensures data_ { option_map D.content result ≡ (I.sections info.old).section_data name.now }
     ensures left { SectionLeft name.now (I.sections info.old) (I.sections info.new) }
@@ -64,7 +65,7 @@ fn data_of<D: SectionBytes, I: ModuleSectionInfo<D>>(info: &mut I, name: &[u8]) 
     info.section_data(name)
 }
 
-/// A section that has data and a range.
+// A section that has data and a range.
 fn whole_section<D: SectionBytes, I: ModuleSectionInfo<D>>(
     info: &mut I,
     name: &[u8],
@@ -78,7 +79,7 @@ fn whole_section<D: SectionBytes, I: ModuleSectionInfo<D>>(
     Some(SectionData { bytes, svma_range })
 }
 
-/// A segment that has data and a range.
+// A segment that has data and a range.
 fn whole_segment<D: SectionBytes, I: ModuleSectionInfo<D>>(
     info: &mut I,
     name: &[u8],
@@ -92,7 +93,7 @@ fn whole_segment<D: SectionBytes, I: ModuleSectionInfo<D>>(
     Some(SectionData { bytes, svma_range })
 }
 
-/// The data under the first of two names that has some.
+// The data under the first of two names that has some.
 fn either_section<D: SectionBytes, I: ModuleSectionInfo<D>>(
     info: &mut I,
     name: &[u8],
@@ -110,7 +111,7 @@ fn either_section<D: SectionBytes, I: ModuleSectionInfo<D>>(
     }
 }
 
-/// The code of a Mach-O file: the segment `__TEXT`, else the section `__text`.
+// The code of a Mach-O file: the segment `__TEXT`, else the section `__text`.
 fn text_of<D: SectionBytes, I: ModuleSectionInfo<D>>(info: &mut I) -> Option<SectionData<D>>
     ensures { option_map (section_bytes D.content) result ≡ text (I.sections info.old) }
 {
@@ -142,7 +143,7 @@ impl<D: SectionBytes> ModuleSections<D> {
         }
     }
 
-    /// What goes with `__unwind_info`, which was handed out before.
+    // What goes with `__unwind_info`, which was handed out before.
     fn with_compact_unwind_info<I: ModuleSectionInfo<D>>(info: &mut I, unwind_info: D) -> Self
         ensures { (before : Sections)
             → SectionLeft (codes "__unwind_info") before (I.sections info.old)
@@ -161,7 +162,7 @@ impl<D: SectionBytes> ModuleSections<D> {
         }
     }
 
-    /// What goes with `.pdata`, which was handed out before.
+    // What goes with `.pdata`, which was handed out before.
     fn with_pdata<I: ModuleSectionInfo<D>>(info: &mut I, pdata: D) -> Self
         ensures { (before : Sections) → SectionLeft (codes ".pdata") before (I.sections info.old)
             → sections_bytes D.content result ≡ pe_sections before (D.content pdata) }
@@ -177,7 +178,7 @@ impl<D: SectionBytes> ModuleSections<D> {
         }
     }
 
-    /// What goes with `.eh_frame` or `__eh_frame`, which was handed out before.
+    // What goes with `.eh_frame` or `__eh_frame`, which was handed out before.
     fn with_eh_frame<I: ModuleSectionInfo<D>>(info: &mut I, eh_frame: D) -> Self
         ensures { (before : Sections) → SectionLeft (codes ".eh_frame") before (I.sections info.old)
             → sections_bytes D.content result ≡ eh_frame_sections before (D.content eh_frame) }
@@ -190,7 +191,7 @@ impl<D: SectionBytes> ModuleSections<D> {
     }
 }
 
-/// The start of a section that may have either of two names: of the first that has a range, else 0.
+// The start of a section that may have either of two names: of the first that has a range, else 0.
 fn start_of<D: SectionBytes, I: ModuleSectionInfo<D>>(
     info: &mut I,
     name: &[u8],

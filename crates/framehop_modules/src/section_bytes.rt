@@ -1,4 +1,5 @@
 //! The bytes of a section.
+
 ghost use Rattle.std.specs.Prelude.{◌≡◌, ℕ, List};
 
 /// What holds the bytes of a section: the same at each call, for as long as it lives.

@@ -1,7 +1,7 @@
 -- The callback that reads the stack, as one partial map from addresses to words.
 use Rattle.std.specs.Prelude.{ℕ, ◌≡◌, ◌<◌, ◌^◌, List, [], ◌∷◌, Option, Some, None, Result, Ok, Err}
 
--- The words of the stack: what stands at an address, None where it can't be read.
+-- The words of the stack: the word at an address, None if it can't be read.
 abbrev pub Words : Type 0
 Words = ℕ → Option ℕ
 

@@ -15,7 +15,7 @@ pub record IsPopList (registers : List Reg) : Type 0 where
   pub saved : All (λ register. Contains callee_saved register) registers
   pub distinct : AllPairs (λ earlier later. earlier ≢ later) registers
 
--- The place of a register in a list, or the list's length where it isn't there.
+-- The index of a register in a list, or the list's length if it isn't there.
 abbrev pub place_in_list : Reg → List Reg → ℕ
 place_in_list register registers = position_or_len (λ other. dwarf_number other == dwarf_number register) registers
 

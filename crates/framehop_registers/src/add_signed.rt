@@ -1,4 +1,5 @@
 //! Sums of an unsigned and a signed number.
+
 ghost use Rattle.std.specs.Prelude.{◌≡◌, ℤ, pos, ◌^◌, ◌+ℤ◌, ◌≤ℤ◌, ◌<ℤ◌, IfSome, IfNone};
 ghost use Rattle.std.specs.Int.{int_rem_euclid};
 
@@ -17,7 +18,7 @@ pub trait AddSigned: Sized {
     fn wrapping_add_signed(self, rhs: Self::Signed) -> Self
         ensures { value result ≡ int_rem_euclid (sum self rhs) limit };
 
-    /// The sum, or `None` where it is no unsigned number of this width.
+    /// The sum, or `None` if it is no unsigned number of this width.
     fn checked_add_signed(self, rhs: Self::Signed) -> Option<Self>
         ensures fits { IfSome result (λ total. value total ≡ sum self rhs) }
         ensures none { IfNone result (¬ ((pos 0 ≤ℤ sum self rhs) × (sum self rhs <ℤ limit))) };
@@ -30,7 +31,7 @@ pub fn wrapping_add_signed<T: AddSigned>(lhs: T, rhs: T::Signed) -> T
     lhs.wrapping_add_signed(rhs)
 }
 
-/// The sum, or `None` where it is no unsigned number of this width.
+/// The sum, or `None` if it is no unsigned number of this width.
 pub fn checked_add_signed<T: AddSigned>(lhs: T, rhs: T::Signed) -> Option<T>
     ensures fits { IfSome result (λ total. T.value total ≡ T.sum lhs rhs) }
     ensures none { IfNone result (¬ ((pos 0 ≤ℤ T.sum lhs rhs) × (T.sum lhs rhs <ℤ T.limit))) }

@@ -1,5 +1,6 @@
 //! Laws of calls that may read the stack. The functions do nothing when the program runs: what they
 //! ensure is what proofs over several reads stand on.
+
 ghost use Rattle.std.specs.Prelude.{◌≡◌, ◌<◌, ◌^◌, ℕ, Result};
 ghost use Rattle.framehop_registers.specs.Callback.{Words, read_answer, OverWords};
 

@@ -1,4 +1,5 @@
 //! The code address of a frame.
+
 ghost use Rattle.std.specs.Prelude.{◌≡◌, ◌≢◌, ◌↔◌, IsTrue, IsNone, IfSome};
 ghost use Rattle.framehop_registers.specs.FrameAddress.{address_of, lookup_address_of, IsReturnAddress};
 

@@ -2,7 +2,7 @@
 
 use thiserror::Error;
 
-/// Why a step of a stack walk answers no frame.
+/// Why a step of a stack walk gives no frame.
 #[derive(Debug, Clone, Copy, PartialEq, Eq, Error)]
 pub enum Error {
     /// The word of the stack at this address could not be read.
@@ -21,11 +21,11 @@ pub enum Error {
     #[error("Unwinding caused integer overflow")]
     IntegerOverflow,
 
-    /// The return address of a frame is 0 where it must not be.
+    /// The return address of a frame is 0, which must not be.
     #[error("Return address is null")]
     ReturnAddressIsNull,
 
-    /// Memory for the step was refused.
+    /// The step is out of memory.
     #[error("Out of memory")]
     OutOfMemory,
 }

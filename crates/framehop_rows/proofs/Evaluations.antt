@@ -4,32 +4,32 @@ use Rattle.std.specs.Prelude.{option_and_then}
 use Rattle.dwarf_constants.specs.declared.common.Register.{Register}
 use Rattle.dwarf_constants.specs.declared.error.Error.{Error}
 use Rattle.dwarf_constants.specs.declared.error.Error.TheVariants.{OutOfMemory}
-use Rattle.dwarf_expressions.specs.Evaluation.{Answers, ComesTo, Program, State, Ready, Asking, Finished, Refused, operations_left, state_reached_with, value_in}
+use Rattle.dwarf_expressions.specs.Evaluation.{Answers, ComesTo, EvaluationInput, EvaluationState, Ready, Asking, Finished, Refused, operations_left, state_reached_with, value_in}
 use Rattle.dwarf_expressions.specs.declared.evaluation.EvaluationResult.{EvaluationResult}
 use Rattle.dwarf_expressions.specs.declared.evaluation.EvaluationResult.TheVariants.{Complete, RequiresRegister}
 use Rattle.framehop_rows.specs.ExpressionValue.{RegisterValues, value_within, value_by_requests}
 
 -- as many requests are left as there can be
-abbrev pub Suffices : ℕ → State → Type 0
+abbrev pub Suffices : ℕ → EvaluationState → Type 0
 Suffices n (Asking register offset m) = m.left < n
 Suffices n (Ready m) = Unit {0}
 Suffices n (Finished value) = Unit {0}
 Suffices n (Refused e) = Unit {0}
 
 -- the state comes to the value; or memory was wanted, which a stack that grows takes
-pub record LeadsTo (p : Program) (registers : RegisterValues) (value : Option ℕ) (state : State) : Type 0 where
+pub record LeadsTo (p : EvaluationInput) (registers : RegisterValues) (value : Option ℕ) (state : EvaluationState) : Type 0 where
   pub count : ℕ
   pub suffices : Suffices count state
   pub is : value_within count p registers state ≡ value
 
-abbrev pub LeadsOn : Program → RegisterValues → Option ℕ → State → Type 0
+abbrev pub LeadsOn : EvaluationInput → RegisterValues → Option ℕ → EvaluationState → Type 0
 LeadsOn p registers value state = LeadsTo p registers value state ⊎ ((p.capacity ≡ None) × (state ≡ Refused OutOfMemory))
 
 -- it does at the start
-pub leads_from : (p : Program) (registers : RegisterValues) (expected state : State) → ComesTo p.capacity expected state → LeadsOn p registers (value_by_requests p registers expected) state
+pub leads_from : (p : EvaluationInput) (registers : RegisterValues) (expected state : EvaluationState) → ComesTo p.capacity expected state → LeadsOn p registers (value_by_requests p registers expected) state
 leads_from p registers expected state (inl is) = inl (rw is (record { count = suc (operations_left expected); suffices = enough expected; is = refl }))
   where
-    enough : (s : State) → Suffices (suc (operations_left s)) s
+    enough : (s : EvaluationState) → Suffices (suc (operations_left s)) s
     enough (Asking register offset m) = omega arith
     enough (Ready m) = tt
     enough (Finished value) = tt
@@ -37,8 +37,8 @@ leads_from p registers expected state (inl is) = inl (rw is (record { count = su
 leads_from p registers expected state (inr wanted) = inr wanted
 
 -- where a register is asked for, its state says so
-pub asked : (state : State) (register : Register) (answer : Result EvaluationResult Error) → Answers state answer → answer ≡ Ok (RequiresRegister register)
-    → (p : Program) (registers : RegisterValues) (value : Option ℕ) → LeadsOn p registers value state
+pub asked : (state : EvaluationState) (register : Register) (answer : Result EvaluationResult Error) → Answers state answer → answer ≡ Ok (RequiresRegister register)
+    → (p : EvaluationInput) (registers : RegisterValues) (value : Option ℕ) → LeadsOn p registers value state
     → registers register ≡ None → None ≡ value
 asked (Asking other offset m) register answer h is p registers value (inl leads) none = by leads.count leads.suffices leads.is
   where
@@ -54,15 +54,15 @@ asked (Finished found) register answer h is p registers value leads none = let e
 asked (Refused e) register answer h is p registers value leads none = let f : ◌≡◌ {A = Result EvaluationResult Error} (Err e) (Ok (RequiresRegister register)) = sym h ∙ is in cc
 
 -- where the register has a value, the evaluation leads on with it
-pub leads_on : (s t : State) (register : Register) (found : ℕ) (answer next : Result EvaluationResult Error) → Answers s answer → answer ≡ Ok (RequiresRegister register) → Answers t next
+pub leads_on : (s t : EvaluationState) (register : Register) (found : ℕ) (answer next : Result EvaluationResult Error) → Answers s answer → answer ≡ Ok (RequiresRegister register) → Answers t next
     → ((other : Register) → next ≡ Ok (RequiresRegister other) → operations_left t < operations_left s)
-    → (p : Program) (registers : RegisterValues) (value : Option ℕ) → LeadsOn p registers value s → registers register ≡ Some found → ComesTo p.capacity (state_reached_with p found s) t → LeadsOn p registers value t
+    → (p : EvaluationInput) (registers : RegisterValues) (value : Option ℕ) → LeadsOn p registers value s → registers register ≡ Some found → ComesTo p.capacity (state_reached_with p found s) t → LeadsOn p registers value t
 leads_on (Asking other offset m) t register found answer next h is k fewer p registers value (inl leads) has (inl comes) = inl (by leads.count leads.suffices leads.is)
   where
     same : other ≡ register
     same = let e : ◌≡◌ {A = Result EvaluationResult Error} (Ok (RequiresRegister other)) (Ok (RequiresRegister register)) = sym h ∙ is in cc
 
-    enough : (n : ℕ) → m.left < suc n → (state : State) → Answers state next → ((last : Register) → next ≡ Ok (RequiresRegister last) → operations_left state < m.left) → Suffices n state
+    enough : (n : ℕ) → m.left < suc n → (state : EvaluationState) → Answers state next → ((last : Register) → next ≡ Ok (RequiresRegister last) → operations_left state < m.left) → Suffices n state
     enough n less (Asking last o final) answers falls = let below = falls last answers in omega arith
     enough n less (Ready final) answers falls = tt
     enough n less (Finished v) answers falls = tt
@@ -87,7 +87,7 @@ leads_on (Refused e) t register found answer next h is k fewer p registers value
     let f : ◌≡◌ {A = Result EvaluationResult Error} (Err e) (Ok (RequiresRegister register)) = sym h ∙ is in cc
 
 -- an evaluation that is over has the value
-pub finished_with : (s : State) (answer : Result EvaluationResult Error) → Answers s answer → answer ≡ Ok Complete → (p : Program) (registers : RegisterValues) (value : Option ℕ) → LeadsOn p registers value s → value_in s ≡ value
+pub finished_with : (s : EvaluationState) (answer : Result EvaluationResult Error) → Answers s answer → answer ≡ Ok Complete → (p : EvaluationInput) (registers : RegisterValues) (value : Option ℕ) → LeadsOn p registers value s → value_in s ≡ value
 finished_with (Finished v) answer h is p registers value (inl leads) = leads.is
 finished_with (Finished v) answer h is p registers value (inr wanted) = let e = wanted.1 in cc
 finished_with (Ready m) answer h is p registers value leads = absurd h
@@ -95,7 +95,7 @@ finished_with (Asking register offset m) answer h is p registers value leads = l
 finished_with (Refused e) answer h is p registers value leads = let f : ◌≡◌ {A = Result EvaluationResult Error} (Err e) (Ok Complete) = sym h ∙ is in cc
 
 -- one that is refused has none
-pub refused_with : (s : State) (answer : Result EvaluationResult Error) (e : Error) → Answers s answer → answer ≡ Err e → (e ≡ OutOfMemory → ⊥) → (p : Program) (registers : RegisterValues) (value : Option ℕ)
+pub refused_with : (s : EvaluationState) (answer : Result EvaluationResult Error) (e : Error) → Answers s answer → answer ≡ Err e → (e ≡ OutOfMemory → ⊥) → (p : EvaluationInput) (registers : RegisterValues) (value : Option ℕ)
     → LeadsOn p registers value s → None ≡ value
 refused_with (Refused why) answer e h is other p registers value (inl leads) = leads.is
 refused_with (Refused why) answer e h is other p registers value (inr wanted) =
@@ -105,26 +105,26 @@ refused_with (Asking register offset m) answer e h is other p registers value le
 refused_with (Finished v) answer e h is other p registers value leads = let f : ◌≡◌ {A = Result EvaluationResult Error} (Ok Complete) (Err e) = sym h ∙ is in cc
 
 -- a state that asks for a register isn't refused
-pub asks_on : (s : State) (register : Register) (answer : Result EvaluationResult Error) (e : Error) → Answers s answer → answer ≡ Ok (RequiresRegister register) → s ≡ Refused e → ⊥
+pub asks_on : (s : EvaluationState) (register : Register) (answer : Result EvaluationResult Error) (e : Error) → Answers s answer → answer ≡ Ok (RequiresRegister register) → s ≡ Refused e → ⊥
 asks_on (Asking other offset m) register answer e h is same = cc
 asks_on (Ready m) register answer e h is same = cc
 asks_on (Finished v) register answer e h is same = cc
 asks_on (Refused why) register answer e h is same = let f : ◌≡◌ {A = Result EvaluationResult Error} (Err why) (Ok (RequiresRegister register)) = sym h ∙ is in cc
 
 -- where memory was wanted at a register's value, the stack grows
-pub grows : (capacity : Option ℕ) (s : State) (register : Register) (answer : Result EvaluationResult Error) → Answers s answer → answer ≡ Ok (RequiresRegister register)
+pub grows : (capacity : Option ℕ) (s : EvaluationState) (register : Register) (answer : Result EvaluationResult Error) → Answers s answer → answer ≡ Ok (RequiresRegister register)
     → (capacity ≡ None) ⊎ (s ≡ Refused OutOfMemory) → capacity ≡ None
 grows capacity s register answer h is (inl none) = none
 grows capacity s register answer h is (inr refused) = absurd (asks_on s register answer OutOfMemory h is refused)
 
 -- how many requests there can be from an answer on
-abbrev pub requests_left : Result EvaluationResult Error → State → ℕ
+abbrev pub requests_left : Result EvaluationResult Error → EvaluationState → ℕ
 requests_left (Ok (RequiresRegister register)) state = suc (operations_left state)
 requests_left (Ok Complete) state = 0
 requests_left (Err e) state = 0
 
 -- each is one fewer
-pub fewer_requests : (s t : State) (register : Register) (answer next : Result EvaluationResult Error) → answer ≡ Ok (RequiresRegister register)
+pub fewer_requests : (s t : EvaluationState) (register : Register) (answer next : Result EvaluationResult Error) → answer ≡ Ok (RequiresRegister register)
     → ((other : Register) → next ≡ Ok (RequiresRegister other) → operations_left t < operations_left s) → requests_left next t < requests_left answer s
 fewer_requests s t register answer next is fewer = let P : Result EvaluationResult Error → Type 0 = λ a. requests_left next t < requests_left a s in subst P (sym is) (by next fewer)
   where

@@ -3,7 +3,7 @@ use Rattle.std.proofs.Common.{◌≡◌, ℕ, ◌+◌, ◌*◌, ◌<◌, ◌^◌
 use Rattle.std.specs.Prelude.{ℤ, pos, negsuc, ◌+ℤ◌, ◌-ℤ◌, ◌*ℤ◌, option_and_then, option_map, unwrap_or, nat_le, ◌==◌, ◌&&◌, if◌then◌else◌}
 use Rattle.std.proofs.lemmas.Int.{ints}
 use Rattle.std.specs.Ordering.{int_eq}
-use Rattle.std.proofs.lemmas.Bool.{eqb-true}
+use Rattle.std.proofs.lemmas.Bool.{and_parts, eqb-true}
 use Rattle.std.proofs.lemmas.Bool.Decides.{Decides-int_eq}
 use Rattle.dwarf_constants.specs.declared.common.Register.{Register}
 use Rattle.framehop_registers.specs.Callback.{Words}
@@ -21,10 +21,10 @@ use Rattle.dwarf_frame_rows.specs.declared.rules.RegisterRule.TheVariants as rul
 use Rattle.framehop_rows.specs.Columns.{column_by}
 use Rattle.framehop_rows.specs.RowAnswer.{register_value, caller_at, row_answer}
 use Rattle.framehop_rows.specs.RowSources.{plus, whole_sources}
-use Rattle.framehop_rows.specs.RuleFields.{words_of, signed_words_of}
+use Rattle.framehop_rows.specs.RuleFields.{as_words, as_signed_words}
 use Rattle.framehop_rows.specs.ScaledRow.{scaled_rule, from_return_address, from_register, from_sp, from_bp, raised_sp}
 use Rattle.framehop_rows.specs.declared.parts.Parts.{Parts}
-use Rattle.framehop_rows.proofs.RuleParts.{and_then-gives, address-gives, in_range-is, in_range-fits, in_range-at, past-test, word-gives, option_map-some, and_then-some, by_test, both-true, words-is, signed_words-is}
+use Rattle.framehop_rows.proofs.RuleParts.{and_then-gives, address-gives, in_range-is, in_range-fits, in_range-at, past-test, word-gives, option_map-some, and_then-some, by_test, words-is, signed_words-is}
 
 -- ---- what a part of a rule gives
 
@@ -148,7 +148,7 @@ law-raised : (first : Bool) (registers : UnwindRegsX86_64) (words : Words) (regi
     → register.0 ≡ 7 → Stays registers words bp → raised_sp offset ≡ Some how → rule_meaning how first registers words ≡ Answers caller
     → row_answer registers words (row_at register offset bp) ≡ Some caller
 law-raised first registers words register offset bp how caller at_7 stays says h =
-    let (x, scaled, is) = option_map-some OffsetSp (words_of offset) how says in
+    let (x, scaled, is) = option_map-some OffsetSp (as_words offset) how says in
     let P : UnwindRuleX86_64 → Type 0 = λ r. rule_meaning r first registers words ≡ Answers caller in
     raised-gives registers words register offset bp x caller at_7 (words-is offset x scaled) stays (subst P (sym is) h)
 
@@ -166,9 +166,9 @@ law-sp first registers words register offset (Some (rule.ValExpression expressio
 law-sp first registers words register offset (Some rule.Architectural) how caller at_7 says h = cc
 law-sp first registers words register offset (Some (rule.Constant n)) how caller at_7 says h = cc
 law-sp first registers words register offset (Some (rule.Offset stored)) how caller at_7 says h =
-    let f : ℕ → Option UnwindRuleX86_64 = λ x. option_map (OffsetSpAndRestoreBp x) (signed_words_of (offset +ℤ stored)) in
-    let (x, scaled, on) = and_then-some f (words_of offset) how says in
-    let (y, both, is) = option_map-some (OffsetSpAndRestoreBp x) (signed_words_of (offset +ℤ stored)) how on in
+    let f : ℕ → Option UnwindRuleX86_64 = λ x. option_map (OffsetSpAndRestoreBp x) (as_signed_words (offset +ℤ stored)) in
+    let (x, scaled, on) = and_then-some f (as_words offset) how says in
+    let (y, both, is) = option_map-some (OffsetSpAndRestoreBp x) (as_signed_words (offset +ℤ stored)) how on in
     let P : UnwindRuleX86_64 → Type 0 = λ r. rule_meaning r first registers words ≡ Answers caller in
     restored-gives first registers words register offset stored x y caller at_7 (words-is offset x scaled) (signed_words-is (offset +ℤ stored) y both) (subst P (sym is) h)
 
@@ -176,7 +176,7 @@ law-sp first registers words register offset (Some (rule.Offset stored)) how cal
 from_bp-is : (offset stored : ℤ) (how : UnwindRuleX86_64) → from_bp {T = ℕ} offset (Some (rule.Offset stored)) ≡ Some how → (offset ≡ pos 16) × (stored ≡ negsuc 15) × (how ≡ UseFramePointer)
 from_bp-is offset stored how says =
     by_test (int_eq offset (pos 16) && int_eq stored (negsuc 15)) (Some UseFramePointer) None how
-    (λ are is. let (high, low) = both-true (int_eq offset (pos 16)) (int_eq stored (negsuc 15)) are in
+    (λ are is. let (high, low) = and_parts (int_eq offset (pos 16)) (int_eq stored (negsuc 15)) are in
     ((Decides-int_eq offset (pos 16)).0 high, (Decides-int_eq stored (negsuc 15)).0 low, cc))
     (λ _ is. cc)
     says

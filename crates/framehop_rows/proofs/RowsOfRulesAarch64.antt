@@ -3,7 +3,7 @@ use Rattle.std.proofs.Common.{◌≡◌, ℕ, ◌*◌, refl, sym, ap, subst, ari
 use Rattle.std.specs.Prelude.{ℤ, pos, negsuc, ◌+ℤ◌, ◌*ℤ◌, option_and_then, option_map, ◌==◌, ◌&&◌, ◌||◌, not, nat_le, if◌then◌else◌}
 use Rattle.std.proofs.lemmas.Int.{ints}
 use Rattle.std.specs.Ordering.{int_eq}
-use Rattle.std.proofs.lemmas.Bool.{eqb-true}
+use Rattle.std.proofs.lemmas.Bool.{and_parts, eqb-true}
 use Rattle.std.proofs.lemmas.Bool.Decides.{Decides-int_eq}
 use Rattle.dwarf_constants.specs.declared.common.Register.{Register}
 use Rattle.dwarf_frame_rows.specs.declared.rules.CfaRule.{CfaRule}
@@ -20,12 +20,12 @@ use Rattle.framehop_rules.specs.declared.aarch64.unwind_rule.UnwindRuleAarch64.{
 use Rattle.framehop_rules.specs.declared.aarch64.unwind_rule.UnwindRuleAarch64.TheVariants.{OffsetSp, OffsetSpIfFirstFrameOtherwiseStackEndsHere, OffsetSpAndRestoreLr, OffsetSpAndRestoreFpAndLr, UseFramePointer, UseFramepointerWithOffsets}
 use Rattle.framehop_rows.specs.RowAnswerAarch64.{register_value, caller_with, given_or_kept, row_answer}
 use Rattle.framehop_rows.specs.RowSources.{plus}
-use Rattle.framehop_rows.specs.RuleFields.{words_of, signed_words_of, pairs_of}
+use Rattle.framehop_rows.specs.RuleFields.{as_words, as_signed_words, pairs_of}
 use Rattle.framehop_rows.specs.ScaledRowAarch64.{saved_by, raised_sp, from_sp, followed_fp, from_fp, from_cfa, scaled_rule}
 use Rattle.framehop_rows.specs.declared.aarch64.dwarf.Saved.{Saved}
 use Rattle.framehop_rows.specs.declared.aarch64.dwarf.Saved.TheVariants.{InRegister, FromCfa}
 use Rattle.framehop_rows.specs.declared.parts.Parts.{Parts}
-use Rattle.framehop_rows.proofs.RuleParts.{and_then-gives, address-gives, in_range-is, word-gives, option_map-some, and_then-some, by_test, both-true, words-is, signed_words-is, pairs-is}
+use Rattle.framehop_rows.proofs.RuleParts.{and_then-gives, address-gives, in_range-is, word-gives, option_map-some, and_then-some, by_test, words-is, signed_words-is, pairs-is}
 
 -- ---- what columns give
 
@@ -236,16 +236,16 @@ module _ (registers : UnwindRegsAarch64) (words : Words) (first : Bool) (how : U
   law-sp register offset fp ra InRegister InRegister at_31 fp_saved ra_saved says h = law-in-registers register offset fp ra at_31 fp_saved ra_saved says h
   law-sp register offset fp ra (FromCfa m) InRegister at_31 fp_saved ra_saved says h = cc
   law-sp register offset fp ra InRegister (FromCfa n) at_31 fp_saved ra_saved says h =
-      let f : ℕ → Option UnwindRuleAarch64 = λ x. option_map (OffsetSpAndRestoreLr x) (signed_words_of (offset +ℤ n)) in
+      let f : ℕ → Option UnwindRuleAarch64 = λ x. option_map (OffsetSpAndRestoreLr x) (as_signed_words (offset +ℤ n)) in
       let (x, scaled, on) = and_then-some f (pairs_of offset) how says in
-      let (y, both, is) = option_map-some (OffsetSpAndRestoreLr x) (signed_words_of (offset +ℤ n)) how on in
+      let (y, both, is) = option_map-some (OffsetSpAndRestoreLr x) (as_signed_words (offset +ℤ n)) how on in
       restored_lr-gives registers words register offset n fp ra x y first caller at_31 (pairs-is offset x scaled) (signed_words-is (offset +ℤ n) y both) fp_saved ra_saved (subst Means (sym is) h)
   law-sp register offset fp ra (FromCfa m) (FromCfa n) at_31 fp_saved ra_saved says h =
-      let g : ℕ → ℤ → Option UnwindRuleAarch64 = λ x y. option_map (OffsetSpAndRestoreFpAndLr x y) (signed_words_of (offset +ℤ n)) in
-      let f : ℕ → Option UnwindRuleAarch64 = λ x. option_and_then (g x) (signed_words_of (offset +ℤ m)) in
+      let g : ℕ → ℤ → Option UnwindRuleAarch64 = λ x y. option_map (OffsetSpAndRestoreFpAndLr x y) (as_signed_words (offset +ℤ n)) in
+      let f : ℕ → Option UnwindRuleAarch64 = λ x. option_and_then (g x) (as_signed_words (offset +ℤ m)) in
       let (x, scaled, on) = and_then-some f (pairs_of offset) how says in
-      let (y, fp_at, further) = and_then-some (g x) (signed_words_of (offset +ℤ m)) how on in
-      let (z, ra_at, is) = option_map-some (OffsetSpAndRestoreFpAndLr x y) (signed_words_of (offset +ℤ n)) how further in
+      let (y, fp_at, further) = and_then-some (g x) (as_signed_words (offset +ℤ m)) how on in
+      let (z, ra_at, is) = option_map-some (OffsetSpAndRestoreFpAndLr x y) (as_signed_words (offset +ℤ n)) how further in
       let (moved, up, back) = and_then-gives (stored_frame words (sp_of registers) (16 * x) y z) (returned_caller registers first) caller (subst Means (sym is) h) in
       stored-gives registers words register offset m n fp ra (sp_of registers) (16 * x) y z first moved caller (value-at-31 registers register at_31) (pairs-is offset x scaled)
       (signed_words-is (offset +ℤ m) y fp_at) (signed_words-is (offset +ℤ n) z ra_at) fp_saved ra_saved up back
@@ -254,21 +254,21 @@ module _ (registers : UnwindRegsAarch64) (words : Words) (first : Bool) (how : U
   law-followed : (register : Register) (offset m n : ℤ) (fp ra : Option (RegisterRule ℕ)) → register.0 ≡ 29 → saved_by fp ≡ Some (FromCfa m) → saved_by ra ≡ Some (FromCfa n)
       → followed_fp offset m n ≡ Some how → Means how → row_answer registers words (row_at register offset fp ra) ≡ Some caller
   law-followed register offset m n fp ra at_29 fp_saved ra_saved says h =
-      let g : ℕ → ℤ → Option UnwindRuleAarch64 = λ x y. option_map (UseFramepointerWithOffsets x y) (signed_words_of (offset +ℤ n)) in
-      let f : ℕ → Option UnwindRuleAarch64 = λ x. option_and_then (g x) (signed_words_of (offset +ℤ m)) in
-      by_test (int_eq offset (pos 16) && (int_eq m (negsuc 15) && int_eq n (negsuc 7))) (Some UseFramePointer) (option_and_then f (words_of offset)) how
+      let g : ℕ → ℤ → Option UnwindRuleAarch64 = λ x y. option_map (UseFramepointerWithOffsets x y) (as_signed_words (offset +ℤ n)) in
+      let f : ℕ → Option UnwindRuleAarch64 = λ x. option_and_then (g x) (as_signed_words (offset +ℤ m)) in
+      by_test (int_eq offset (pos 16) && (int_eq m (negsuc 15) && int_eq n (negsuc 7))) (Some UseFramePointer) (option_and_then f (as_words offset)) how
       (λ are chain.
-      let (high, stored) = both-true (int_eq offset (pos 16)) (int_eq m (negsuc 15) && int_eq n (negsuc 7)) are in
-      let (low, last) = both-true (int_eq m (negsuc 15)) (int_eq n (negsuc 7)) stored in
+      let (high, stored) = and_parts (int_eq offset (pos 16)) (int_eq m (negsuc 15) && int_eq n (negsuc 7)) are in
+      let (low, last) = and_parts (int_eq m (negsuc 15)) (int_eq n (negsuc 7)) stored in
       let o : offset ≡ pos 16 = (Decides-int_eq offset (pos 16)).0 high in
       let p : m ≡ negsuc 15 = (Decides-int_eq m (negsuc 15)).0 low in
       let q : n ≡ negsuc 7 = (Decides-int_eq n (negsuc 7)).0 last in
       let is : UseFramePointer ≡ how = cc in
       followed-gives registers words register offset m n fp ra 16 (pos 0) (pos 1) first caller at_29 o (rw (o, p) refl) (rw (o, q) refl) fp_saved ra_saved (subst Means (sym is) h))
       (λ _ offsets.
-      let (x, scaled, on) = and_then-some f (words_of offset) how offsets in
-      let (y, fp_at, further) = and_then-some (g x) (signed_words_of (offset +ℤ m)) how on in
-      let (z, ra_at, is) = option_map-some (UseFramepointerWithOffsets x y) (signed_words_of (offset +ℤ n)) how further in
+      let (x, scaled, on) = and_then-some f (as_words offset) how offsets in
+      let (y, fp_at, further) = and_then-some (g x) (as_signed_words (offset +ℤ m)) how on in
+      let (z, ra_at, is) = option_map-some (UseFramepointerWithOffsets x y) (as_signed_words (offset +ℤ n)) how further in
       followed-gives registers words register offset m n fp ra (8 * x) y z first caller at_29 (words-is offset x scaled)
       (signed_words-is (offset +ℤ m) y fp_at) (signed_words-is (offset +ℤ n) z ra_at) fp_saved ra_saved (subst Means (sym is) h))
       says

@@ -1,10 +1,10 @@
 -- The parts of rules and of scaled rows, on any architecture.
 use Rattle.std.proofs.Common.{◌≡◌, ℕ, ◌*◌, ◌<◌, ◌^◌, refl, arith, Option, Some, None, Bool, true, false}
-use Rattle.std.specs.Prelude.{ℤ, pos, negsuc, ◌*ℤ◌, option_and_then, option_map, ◌&&◌, if◌then◌else◌}
+use Rattle.std.specs.Prelude.{ℤ, pos, negsuc, ◌*ℤ◌, option_and_then, option_map, if◌then◌else◌}
 use Rattle.framehop_registers.specs.declared.error.Error.{Error}
 use Rattle.framehop_rules.specs.Outcome.{Outcome, Ends, Refuses, Answers, and_then, address, word}
 use Rattle.framehop_rows.specs.RowSources.{in_range}
-use Rattle.framehop_rows.specs.RuleFields.{eighth_of, sixteenth_of, as_u16, as_i16, words_of, signed_words_of, pairs_of}
+use Rattle.framehop_rows.specs.RuleFields.{eighth_of, sixteenth_of, as_u16, as_i16, as_words, as_signed_words, pairs_of}
 
 -- ---- what a part of a rule gives
 
@@ -56,10 +56,6 @@ pub by_test : {A P : Type 0} (b : Bool) (x y : Option A) (c : A) → (b ≡ true
 by_test true x y c passes fails h = passes refl h
 by_test false x y c passes fails h = fails refl h
 
-pub both-true : (a b : Bool) → (a && b) ≡ true → (a ≡ true) × (b ≡ true)
-both-true true b h = (refl, h)
-both-true false b h = cc
-
 -- eight times the eighth of a number is the number
 pub eighth-is : (n q : ℤ) → eighth_of n ≡ Some q → n ≡ pos 8 *ℤ q
 eighth-is (pos a) q h = grind arith
@@ -79,10 +75,10 @@ i16-is (pos a) x h = grind arith
 i16-is (negsuc a) x h = grind arith
 
 -- a number that is as many words, with a sign or without one, or pairs of words
-pub words-is : (offset : ℤ) (x : ℕ) → words_of offset ≡ Some x → offset ≡ pos (8 * x)
+pub words-is : (offset : ℤ) (x : ℕ) → as_words offset ≡ Some x → offset ≡ pos (8 * x)
 words-is offset x h = let (q, eighth, fits) = and_then-some as_u16 (eighth_of offset) x h in rw (eighth-is offset q eighth, u16-is q x fits) refl
 
-pub signed_words-is : (offset y : ℤ) → signed_words_of offset ≡ Some y → offset ≡ pos 8 *ℤ y
+pub signed_words-is : (offset y : ℤ) → as_signed_words offset ≡ Some y → offset ≡ pos 8 *ℤ y
 signed_words-is offset y h = let (q, eighth, fits) = and_then-some as_i16 (eighth_of offset) y h in rw (eighth-is offset q eighth, i16-is q y fits) refl
 
 pub pairs-is : (offset : ℤ) (x : ℕ) → pairs_of offset ≡ Some x → offset ≡ pos (16 * x)

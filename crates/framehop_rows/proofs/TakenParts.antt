@@ -1,30 +1,36 @@
 -- Rows of any architecture: what their parts come to is what the row comes to.
-use Rattle.std.proofs.Common.{◌≡◌, ℕ, Bool, Option, Some, None, Result, Ok, Err, refl, sym, ap, subst, ◌∙◌}
+use Rattle.std.proofs.Common.{◌≡◌, ◌≢◌, ℕ, Bool, Option, Some, None, Result, Ok, Err, refl, sym, ap, subst, ◌∙◌}
 use Rattle.dwarf_constants.specs.declared.common.Register.{Register}
-use Rattle.dwarf_readers.specs.Place.{Stretch}
+use Rattle.dwarf_readers.specs.Stretch.{Stretch}
 use Rattle.dwarf_frame_instructions.specs.Execution.{row_in}
 use Rattle.dwarf_frame_instructions.specs.StateViews.{rule_as}
 use Rattle.dwarf_frame_instructions.proofs.Laws.{rule_seen}
 use Rattle.dwarf_frame_rows.specs.Row.{Row, row_of}
 use Rattle.dwarf_frame_rows.specs.declared.row.UnwindTableRow.{UnwindTableRow}
-use Rattle.framehop_registers.specs.Callback.{Words}
+use Rattle.framehop_registers.specs.Callback.{Words, OverWords}
+use Rattle.framehop_registers.proofs.Laws.{over_none, over_weaker}
 use Rattle.framehop_rules.specs.Outcome.{Caller}
-use Rattle.framehop_unwinder.specs.declared.unwinding.UnwindResult.TheVariants.{Uncacheable}
+use Rattle.framehop_unwinder.specs.declared.unwinding.UnwindResult.TheVariants.{ExecRule, Uncacheable}
 use Rattle.framehop_rows.specs.Memory.{HasExpressionPart}
-use Rattle.framehop_rows.specs.RowAttempt.{DirectAnswer, MeetsExpressionPart, RowAttempt, RowTrial, Translates, attempt_by_parts, direct_trial, row_trial, rule_of_row, said_or_given}
+use Rattle.framehop_rows.specs.RowAttempt.{AnswersRow, DirectAnswer, MeetsExpressionPart, RowAttempt, RowTrial, Translates, attempt_by_parts, direct_trial, row_trial, rule_of_row, said_or_given}
 use Rattle.framehop_rows.specs.RowParts.{parts_as, parts_of}
 use Rattle.framehop_rows.specs.declared.dwarf.DwarfUnwinderError.{DwarfUnwinderError}
+use Rattle.framehop_rows.specs.declared.dwarf.DwarfUnwinderError.TheVariants.{OutOfMemory}
 use Rattle.framehop_rows.specs.declared.parts.Parts.{Parts}
 
 -- the parts of a row whose expressions' places are numbers
 pub parts-alike : {T L : Type 0} (number : T → ℕ) (fp ra : Register) (row : UnwindTableRow T L) → parts_as number (parts_of fp ra (row_of row)) ≡ parts_of fp ra (row_in number row)
 parts-alike number fp ra row = rw (rule_seen (rule_as number) (row_of row).rules fp.0, rule_seen (rule_as number) (row_of row).rules ra.0) refl
 
--- the parts that are taken are those of the row, where the columns that are asked for are the right ones
-pub parts-taken : (fp ra asked_fp asked_ra : Register) (row : Row ℕ) (taken : Parts ℕ) → asked_fp ≡ fp → asked_ra ≡ ra → taken ≡ parts_of asked_fp asked_ra row → taken ≡ parts_of fp ra row
-parts-taken fp ra asked_fp asked_ra row taken same_fp same_ra is = is ∙ ap (λ f. parts_of f asked_ra row) same_fp ∙ ap (λ r. parts_of fp r row) same_ra
+-- A row's parts are taken by the columns of the frame pointer and of the return address.
+module _ {Rule Registers : Type 0} (scaled_rule : Parts ℕ → Option Rule) (direct_answer : DirectAnswer Registers) (first : Bool) (values : Option ℕ) (size : ℕ) (section : Stretch)
+    (fp ra asked_fp asked_ra : Register) (row : Row ℕ) (taken : Parts ℕ) (same_fp : asked_fp ≡ fp) (same_ra : asked_ra ≡ ra) (is : taken ≡ parts_of asked_fp asked_ra row) where
+  abbrev parts : Parts ℕ
+  parts = parts_of fp ra row
 
-module _ {Rule Registers : Type 0} (scaled_rule : Parts ℕ → Option Rule) (direct_answer : DirectAnswer Registers) (first : Bool) (values : Option ℕ) (size : ℕ) (section : Stretch) (taken parts : Parts ℕ) (shown : taken ≡ parts) where
+  shown : taken ≡ parts
+  shown = is ∙ ap (λ f. parts_of f asked_ra row) same_fp ∙ ap (λ r. parts_of fp r row) same_ra
+
   abbrev attempt : RowAttempt Rule Registers
   attempt = attempt_by_parts scaled_rule direct_answer first values size section parts
 
@@ -35,7 +41,7 @@ module _ {Rule Registers : Type 0} (scaled_rule : Parts ℕ → Option Rule) (di
   by-taken o is = ap (said_or_given given) is ∙ ap (attempt_by_parts scaled_rule direct_answer first values size section) shown
 
   -- a rule says the row
-  pub said-by : (rule : Rule) → Some rule ≡ scaled_rule taken → Translates rule ≡ attempt
+  said-by : (rule : Rule) → Some rule ≡ scaled_rule taken → Translates rule ≡ attempt
   said-by rule is = by-taken (Some rule) is
 
   -- no rule says it, and one of its parts is an expression
@@ -47,11 +53,11 @@ module _ {Rule Registers : Type 0} (scaled_rule : Parts ℕ → Option Rule) (di
     given-by = by-taken None unsaid
 
     -- no rule says it
-    pub none-said : None ≡ rule_of_row attempt
+    none-said : None ≡ rule_of_row attempt
     none-said = ap rule_of_row given-by
 
     -- what it gives by itself is what is said of the frame
-    pub answer-given : (registers left : Registers) (words : Words) (to : ℕ) → ◌≡◌ {A = Result ℕ DwarfUnwinderError × Registers} (Ok to, left) (direct_trial registers (given registers words))
+    answer-given : (registers left : Registers) (words : Words) (to : ℕ) → ◌≡◌ {A = Result ℕ DwarfUnwinderError × Registers} (Ok to, left) (direct_trial registers (given registers words))
         → ◌≡◌ {A = RowTrial Rule Registers} (Ok (Uncacheable to), left) (row_trial registers words attempt)
     answer-given registers left words to is = by (given registers words) is ∙ ap (row_trial registers words) given-by
       where
@@ -64,7 +70,7 @@ module _ {Rule Registers : Type 0} (scaled_rule : Parts ℕ → Option Rule) (di
             ap (λ (z : ℕ). (Ok (Uncacheable z), left)) same ∙ ap (λ (q : Registers). (Ok (Uncacheable caller.return_address), q)) there
         by (Err e) h = let never : ◌≡◌ {A = Result ℕ DwarfUnwinderError} (Ok to) (Err e) = ap (λ (t : Result ℕ DwarfUnwinderError × Registers). t.0) h in absurd cc
 
-    pub refusal-given : (registers left : Registers) (words : Words) (e : DwarfUnwinderError) → ◌≡◌ {A = Result ℕ DwarfUnwinderError × Registers} (Err e, left) (direct_trial registers (given registers words))
+    refusal-given : (registers left : Registers) (words : Words) (e : DwarfUnwinderError) → ◌≡◌ {A = Result ℕ DwarfUnwinderError × Registers} (Err e, left) (direct_trial registers (given registers words))
         → ◌≡◌ {A = RowTrial Rule Registers} (Err e, left) (row_trial registers words attempt)
     refusal-given registers left words e is = by (given registers words) is ∙ ap (row_trial registers words) given-by
       where
@@ -76,3 +82,33 @@ module _ {Rule Registers : Type 0} (scaled_rule : Parts ℕ → Option Rule) (di
             let same : e ≡ f = cc in
             let there : left ≡ registers = ap (λ (t : Result ℕ DwarfUnwinderError × Registers). t.1) h in
             ap (λ (z : DwarfUnwinderError). (Err z, left)) same ∙ ap (λ (q : Registers). (Err f, q)) there
+
+  module _ {S : Type 0} {step : S → ℕ → Result ℕ (Unit {0}) → S → Type 0} where
+    -- the step is the rule that says the row
+    pub answers-by_rule : (state : S) (registers : Registers) (rule : Rule) → Some rule ≡ scaled_rule taken
+        → AnswersRow step state state registers registers (Ok (ExecRule rule)) attempt
+    answers-by_rule state registers rule is = record {
+      answer = over_none (λ words _. ap (row_trial registers words) (said-by rule is));
+      rule = λ _. ap rule_of_row (said-by rule is);
+      registers = refl;
+    }
+
+    -- the step is the caller that the row gives
+    pub answers-by_caller : (old new : S) (registers left : Registers) (to : ℕ) → None ≡ scaled_rule taken
+        → OverWords step old new (λ words. ◌≢◌ {A = Result ℕ DwarfUnwinderError} (Ok to) (Err OutOfMemory) → (Ok to, left) ≡ direct_trial registers (given registers words))
+        → AnswersRow step old new registers left (Ok (Uncacheable to)) attempt
+    answers-by_caller old new registers left to unsaid call = record {
+      answer = over_weaker call (λ words is _. answer-given unsaid registers left words to (is (λ h. cc)));
+      rule = λ _. none-said unsaid;
+      registers = tt;
+    }
+
+    -- the row gives none
+    pub answers-by_refusal : (old new : S) (registers left : Registers) (e : DwarfUnwinderError) → None ≡ scaled_rule taken → left ≡ registers
+        → OverWords step old new (λ words. ◌≢◌ {A = Result ℕ DwarfUnwinderError} (Err e) (Err OutOfMemory) → (Err e, left) ≡ direct_trial registers (given registers words))
+        → AnswersRow step old new registers left (Err e) attempt
+    answers-by_refusal old new registers left e unsaid same call = record {
+      answer = over_weaker call (λ words is other. refusal-given unsaid registers left words e (is (λ h. other (let out : e ≡ OutOfMemory = cc in ap (λ e. Err e) out))));
+      rule = λ _. none-said unsaid;
+      registers = same;
+    }

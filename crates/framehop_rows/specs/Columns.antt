@@ -1,4 +1,4 @@
--- What the parts of a row say of values (DWARF 5, 6.4.1), by how numbers are added and expressions have values.
+-- The values that the CFA rule and the register rules of a row give (DWARF 5, 6.4.1).
 use Rattle.std.specs.Prelude.{ℕ, ℤ, Option, Some, None, option_and_then, option_map}
 use Rattle.framehop_registers.specs.Callback.{Words}
 use Rattle.dwarf_frame_rows.specs.declared.expression.UnwindExpression.{UnwindExpression}
@@ -10,7 +10,7 @@ use Rattle.framehop_rows.specs.declared.evaluation.Found.{Found}
 use Rattle.framehop_rows.specs.declared.evaluation.Found.TheVariants.{Value, Word}
 use Rattle.framehop_rows.specs.ExpressionValue.{RegisterValues}
 
--- what a row is worked out by: how a base and an offset are added, the registers that have values, and the values of expressions
+-- what a row is evaluated by: the sum of a base and an offset, the registers that have values, and the values of expressions
 pub record Sources : Type 0 where
   pub sum : ℕ → ℤ → Option ℕ
   pub registers : RegisterValues
@@ -22,7 +22,7 @@ cfa_by sources (cfa.RegisterAndOffset register offset) =
     option_and_then (λ base. sources.sum base offset) (sources.registers register)
 cfa_by sources (cfa.Expression expression) = sources.value expression
 
--- where a column's value is found, by the CFA and the value that the column's register has in the frame
+-- where the value that a register rule gives is found, by the CFA and the register's own value in the frame
 abbrev pub found_by : Sources → (cfa own : ℕ) → RegisterRule ℕ → Option Found
 found_by sources cfa own rule.Undefined = None
 found_by sources cfa own rule.SameValue = Some (Value own)
@@ -34,11 +34,11 @@ found_by sources cfa own (rule.ValExpression expression) = option_map Value (sou
 found_by sources cfa own rule.Architectural = None
 found_by sources cfa own (rule.Constant n) = None
 
--- what is found: a number by itself, or the word at an address, if there is one
+-- the value that was found: a number, or the word at an address, if it can be read
 abbrev pub found_in : Words → Found → Option ℕ
 found_in words (Value value) = Some value
 found_in words (Word at) = words at
 
--- what a column gives
+-- the value that a register rule gives, if it gives one
 abbrev pub column_by : Sources → Words → (cfa own : ℕ) → RegisterRule ℕ → Option ℕ
 column_by sources words cfa own column = option_and_then (found_in words) (found_by sources cfa own column)

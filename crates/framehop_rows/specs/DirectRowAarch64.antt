@@ -1,6 +1,6 @@
--- What a row that no rule says exactly comes to, in whole numbers (DWARF 5, 6.4.1), on aarch64.
+-- The caller that a row gives by itself, if no unwind rule says the row (DWARF 5, 6.4.1), on aarch64.
 use Rattle.std.specs.Prelude.{ℕ, Bool, not, ◌&&◌, Option, Some, None, option_and_then, Result, Ok, Err, nat_le, if◌then◌else◌}
-use Rattle.dwarf_readers.specs.Place.{Stretch}
+use Rattle.dwarf_readers.specs.Stretch.{Stretch}
 use Rattle.framehop_registers.specs.Callback.{Words}
 use Rattle.framehop_registers.specs.RegistersAarch64.{lr_of, sp_of, fp_of}
 use Rattle.framehop_registers.specs.declared.aarch64.unwindregs.UnwindRegsAarch64.{UnwindRegsAarch64}
@@ -12,7 +12,7 @@ use Rattle.framehop_rows.specs.declared.dwarf.DwarfUnwinderError.{DwarfUnwinderE
 use Rattle.framehop_rows.specs.declared.dwarf.DwarfUnwinderError.TheVariants.{CouldNotRecoverCfa, CouldNotRecoverFramePointer, CouldNotRecoverReturnAddress, StackPointerMovedBackwards}
 use Rattle.framehop_rows.specs.declared.parts.Parts.{Parts}
 
--- a register of the caller: what its column gives, or else, in a first frame, what it has there
+-- a register of the caller: what its rule gives, or else, in a first frame, its value in the frame
 abbrev pub restored : Bool → (own : ℕ) → Option ℕ → Option ℕ
 restored first own (Some value) = Some value
 restored first own None = if first then Some own else None
@@ -37,11 +37,11 @@ direct_by_cfa sources first registers words parts (Some cfa) =
     (restored first (lr_of registers) (option_and_then (column_by sources words cfa (lr_of registers)) parts.ra))
     (restored first (fp_of registers) (option_and_then (column_by sources words cfa (fp_of registers)) parts.fp))
 
--- the same from what the row is worked out by
+-- the caller by what the row is evaluated by
 abbrev pub direct_by : Sources → Bool → UnwindRegsAarch64 → Words → Parts ℕ → Result (Caller UnwindRegsAarch64) DwarfUnwinderError
 direct_by sources first registers words parts = direct_by_cfa sources first registers words parts (cfa_by sources parts.cfa)
 
--- the caller that a row of a section gives in a first or a later frame, or the first refusal
+-- the caller that a row of a section gives in a first or a later frame, or the first error
 abbrev pub direct_answer : (limit : Option ℕ) → (address_size : ℕ) → Bool → UnwindRegsAarch64 → Words → Stretch → Parts ℕ
     → Result (Caller UnwindRegsAarch64) DwarfUnwinderError
 direct_answer limit address_size first registers words section parts =

@@ -13,5 +13,6 @@ pub mod RowAttemptX86_64
 pub mod RowParts
 pub mod RowSources
 pub mod RuleFields
+pub mod RuleLaws
 pub mod ScaledRow
 pub mod ScaledRowAarch64

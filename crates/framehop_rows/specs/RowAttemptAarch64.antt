@@ -1,6 +1,6 @@
--- What a row of call frames comes to on aarch64.
+-- The attempt at a step by a row of call frames, on aarch64.
 use Rattle.std.specs.Prelude.{ℕ, Bool, Option}
-use Rattle.dwarf_readers.specs.Place.{Stretch}
+use Rattle.dwarf_readers.specs.Stretch.{Stretch}
 use Rattle.dwarf_frame_rows.specs.Row.{Row}
 use Rattle.framehop_registers.specs.declared.aarch64.unwindregs.UnwindRegsAarch64.{UnwindRegsAarch64}
 use Rattle.framehop_rules.specs.declared.aarch64.unwind_rule.UnwindRuleAarch64.{UnwindRuleAarch64}
@@ -9,7 +9,7 @@ use Rattle.framehop_rows.specs.RowAttempt.{RowAttempt, attempt_by_parts, MeetsEx
 use Rattle.framehop_rows.specs.RowParts.{parts_of}
 use Rattle.framehop_rows.specs.ScaledRowAarch64.{X29, X30, scaled_rule}
 
--- what a row comes to
+-- the attempt by a row
 abbrev pub row_attempt : Bool → Option ℕ → ℕ → Stretch → Row ℕ → RowAttempt UnwindRuleAarch64 UnwindRegsAarch64
 row_attempt first values address_size section row =
     attempt_by_parts scaled_rule direct_answer first values address_size section (parts_of X29 X30 row)

@@ -1,6 +1,6 @@
--- What a row of call frames comes to on x86_64.
+-- The attempt at a step by a row of call frames, on x86_64.
 use Rattle.std.specs.Prelude.{ℕ, Bool, Option}
-use Rattle.dwarf_readers.specs.Place.{Stretch}
+use Rattle.dwarf_readers.specs.Stretch.{Stretch}
 use Rattle.dwarf_frame_rows.specs.Row.{Row}
 use Rattle.framehop_registers.specs.declared.x86_64.unwindregs.UnwindRegsX86_64.{UnwindRegsX86_64}
 use Rattle.framehop_rules.specs.declared.x86_64.unwind_rule.UnwindRuleX86_64.{UnwindRuleX86_64}
@@ -9,7 +9,7 @@ use Rattle.framehop_rows.specs.RowAttempt.{RowAttempt, attempt_by_parts, MeetsEx
 use Rattle.framehop_rows.specs.RowParts.{parts_of}
 use Rattle.framehop_rows.specs.ScaledRow.{RBP, RA, scaled_rule}
 
--- what a row comes to
+-- the attempt by a row
 abbrev pub row_attempt : Bool → Option ℕ → ℕ → Stretch → Row ℕ → RowAttempt UnwindRuleX86_64 UnwindRegsX86_64
 row_attempt first values address_size section row =
     attempt_by_parts scaled_rule direct_answer first values address_size section (parts_of RBP RA row)

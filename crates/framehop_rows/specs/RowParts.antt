@@ -6,11 +6,11 @@ use Rattle.dwarf_frame_instructions.specs.StateViews.{cfa_as, rule_as}
 use Rattle.dwarf_frame_rows.specs.Row.{Row}
 use Rattle.framehop_rows.specs.declared.parts.Parts.{Parts}
 
--- the parts of a row, by the columns of the frame pointer and of the return address
+-- the parts of a row, by the registers of the frame pointer and of the return address
 abbrev pub parts_of : {T : Type 0} → (fp ra : Register) → Row T → Parts T
 parts_of fp ra row = record { cfa = row.cfa; fp = get row.rules fp.0; ra = get row.rules ra.0 }
 
--- parts, the places of expressions seen so
+-- the parts with the offsets of their expressions as numbers
 abbrev pub parts_as : {T U : Type 0} → (T → U) → Parts T → Parts U
 parts_as number parts = record {
   cfa = cfa_as number parts.cfa;

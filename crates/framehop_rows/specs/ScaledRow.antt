@@ -8,7 +8,7 @@ use Rattle.dwarf_frame_rows.specs.declared.rules.CfaRule.{CfaRule}
 use Rattle.dwarf_frame_rows.specs.declared.rules.CfaRule.TheVariants.{RegisterAndOffset, Expression}
 use Rattle.dwarf_frame_rows.specs.declared.rules.RegisterRule.{RegisterRule}
 use Rattle.dwarf_frame_rows.specs.declared.rules.RegisterRule.TheVariants as rule
-use Rattle.framehop_rows.specs.RuleFields.{words_of, signed_words_of}
+use Rattle.framehop_rows.specs.RuleFields.{as_words, as_signed_words}
 use Rattle.framehop_rows.specs.declared.parts.Parts.{Parts}
 
 -- the frame pointer
@@ -19,25 +19,25 @@ RBP = record { 0 = 6 }
 abbrev pub RSP : Register
 RSP = record { 0 = 7 }
 
--- the column of the return address
+-- the number of the return address
 abbrev pub RA : Register
 RA = record { 0 = 16 }
 
--- the column is stored at the CFA plus this offset
+-- the register is stored at the CFA plus this offset
 abbrev pub is_at : {T : Type 0} → ℤ → RegisterRule T → Bool
 is_at offset (rule.Offset stored) = int_eq stored offset
 is_at offset _ = false
 
 -- the CFA is RSP plus an offset, and RBP stays
 abbrev pub raised_sp : ℤ → Option UnwindRuleX86_64
-raised_sp offset = option_map OffsetSp (words_of offset)
+raised_sp offset = option_map OffsetSp (as_words offset)
 
 -- the CFA is RSP plus an offset, and RBP is stored at an offset from the CFA
 abbrev pub restored_bp : ℤ → ℤ → Option UnwindRuleX86_64
 restored_bp offset stored =
-    option_and_then (λ x. option_map (OffsetSpAndRestoreBp x) (signed_words_of (offset +ℤ stored))) (words_of offset)
+    option_and_then (λ x. option_map (OffsetSpAndRestoreBp x) (as_signed_words (offset +ℤ stored))) (as_words offset)
 
--- the CFA is RSP plus an offset: RBP stays where its column has no rule, is undefined or the same, or it is stored
+-- the CFA is RSP plus an offset: RBP stays if it has no rule, is undefined or the same, or it is stored
 abbrev pub from_sp : {T : Type 0} → ℤ → Option (RegisterRule T) → Option UnwindRuleX86_64
 from_sp offset None = raised_sp offset
 from_sp offset (Some rule.Undefined) = raised_sp offset
@@ -57,13 +57,12 @@ from_register register offset bp =
     else if register.0 == RBP.0 then from_bp offset bp
     else None
 
--- the CFA and RBP
+-- the rule by the CFA and RBP, if the return address is stored at the CFA less 8
 abbrev pub from_cfa : {T : Type 0} → CfaRule T → Option (RegisterRule T) → Option UnwindRuleX86_64
 from_cfa (RegisterAndOffset register offset) bp = from_register register offset bp
 from_cfa (Expression expression) bp = None
 
--- the rule by the column of the return address: it is stored at the CFA less 8; without one, or where it is undefined, the stack
--- ends
+-- the rule by the return address: it is stored at the CFA less 8; if it has no rule or is undefined, the stack ends
 abbrev pub from_return_address : {T : Type 0} → CfaRule T → (bp ra : Option (RegisterRule T)) → Option UnwindRuleX86_64
 from_return_address cfa bp None = Some EndOfStack
 from_return_address cfa bp (Some rule.Undefined) = Some EndOfStack

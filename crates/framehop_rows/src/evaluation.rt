@@ -1,4 +1,4 @@
-//! The values of a row's CFA and columns, where no unwind rule says the row (DWARF 5, 6.4.1).
+//! The values of a row's CFA and register rules, if no unwind rule says the row (DWARF 5, 6.4.1).
 
 ghost use Rattle.std.specs.Prelude.{◌≡◌, ◌≢◌, ℕ, true, None, Some, Option, IfErr, IfOk, option_and_then, option_map};
 ghost use Rattle.dwarf_constants.specs.declared.common.Register.{Register};
@@ -21,7 +21,7 @@ use std::alloc::{AllocError, Global};
 
 /// The registers of a frame, by their DWARF numbers.
 pub trait DwarfUnwindRegs {
-    /// The registers that have values.
+    /// The registers that have values, with these.
     ghost register_value: { Self → Register → Option ℕ };
 
     /// The value of a register, if it has one.
@@ -29,7 +29,7 @@ pub trait DwarfUnwindRegs {
         ensures { result ≡ register_value self.now register };
 }
 
-/// A base plus an offset in bytes. `None` where the base or the sum isn't from 0 to below 2^63.
+// A base plus an offset in bytes. `None` if the base or the sum isn't from 0 to below 2^63.
 fn offset_sum(base: u64, offset: i64) -> Option<u64>
     ensures { result ≡ sum_of base offset }
 {
@@ -37,14 +37,14 @@ fn offset_sum(base: u64, offset: i64) -> Option<u64>
     u64::try_from(base.checked_add(offset)?).ok()
 }
 
-/// Whether this is the size of an address in bytes.
+// Whether an address can have this size in bytes.
 fn is_address_size(size: u8) -> bool
     ensures { result ≡ is_size size }
 {
     size == 1 || size == 2 || size == 4 || size == 8
 }
 
-/// What is left of an evaluation that was refused: no value, or want of memory.
+// The result of an evaluation that failed: no value, or out of memory.
 fn refused_value(error: Error) -> Result<Option<u64>, AllocError>
     ensures none { IfOk result (λ value. value ≡ None) }
     ensures other { IfOk result (λ value. error ≢ Error.OutOfMemory) }
@@ -56,8 +56,8 @@ fn refused_value(error: Error) -> Result<Option<u64>, AllocError>
     }
 }
 
-/// The value of an expression, each register that it asks for having its value in the frame. There
-/// is none where the evaluation is refused, or asks for a register that has none.
+// The value of an expression. Each register that it asks for has its value in the frame. There is none
+// if the evaluation fails, or asks for a register that has none.
 fn eval_expression<S: EvaluationStorage, R: Reader, G: DwarfUnwindRegs>(
     alloc: Global,
     expression: Expression<R>,
@@ -89,8 +89,8 @@ fn eval_expression<S: EvaluationStorage, R: Reader, G: DwarfUnwindRegs>(
     }
 }
 
-/// The value of an expression of a section, each register that it asks for having its value in the
-/// frame. There is none where its bytes aren't there, or where `eval_expression` has none.
+// The value of an expression of a section. Each register that it asks for has its value in the frame. There
+// is none if its bytes aren't in the section, or `eval_expression` gives none.
 fn eval_expression_in<
     S: EvaluationStorage,
     R: Reader,
@@ -118,15 +118,14 @@ fn eval_expression_in<
     }
 }
 
-/// A register's value plus an offset in bytes, where it has a value.
+// A register's value plus an offset in bytes, if it has a value.
 fn offset_value<G: DwarfUnwindRegs>(register: Register, offset: i64, regs: &G) -> Option<u64>
     ensures { result ≡ option_and_then (λ base. sum_of base offset) (G.register_value regs.now register) }
 {
     offset_sum(regs.get(register)?, offset)
 }
 
-/// The canonical frame address, where it has a value. Only the values of an expression may want
-/// memory.
+// The canonical frame address, if it has a value. Only the values of an expression may allocate.
 pub(crate) fn eval_cfa_rule<
     S: EvaluationStorage,
     R: Reader,
@@ -154,18 +153,18 @@ pub(crate) fn eval_cfa_rule<
     }
 }
 
-/// Where the value of a column is found.
+// Where the value of a register of the caller is found.
 #[derive(Debug, Clone, Copy, PartialEq, Eq)]
 pub(crate) enum Found {
-    /// It is this number.
+    // It is this number.
     Value(u64),
-    /// It is the word of the stack at this address.
+    // It is the word of the stack at this address.
     Word(u64),
 }
 
-/// Where the value of a column is found, if it has one, at a CFA; `own` is the value that the
-/// column's register has in the frame. Only the values of an expression may want memory.
-fn find_column<
+// Where the value that a register rule gives at a CFA is found, if it gives one; `own` is the register's
+// value in the frame. Only the values of an expression may allocate.
+fn find_value<
     S: EvaluationStorage,
     R: Reader,
     Section: _UnwindSectionPrivate<R>,
@@ -210,7 +209,7 @@ fn find_column<
     }
 }
 
-/// What is found, if the word can be read.
+// The value that was found, if its word can be read.
 fn read_found<F: FnMut(u64) -> Result<u64, ()>>(found: Found, read_stack: &mut F) -> Option<u64>
     requires { F.IsAlwaysCallable read_stack.old }
     ensures callable { F.IsAlwaysCallable read_stack.new }
@@ -223,8 +222,8 @@ fn read_found<F: FnMut(u64) -> Result<u64, ()>>(found: Found, read_stack: &mut F
     }
 }
 
-/// What a column gives at a CFA, where it gives a value; `own` is the value that the column's
-/// register has in the frame. Only the values of an expression may want memory.
+// The value that a register rule gives at a CFA, if there is a rule and it gives one; `own` is the
+// register's value in the frame. Only the values of an expression may allocate.
 pub(crate) fn eval_register_rule<
     S: EvaluationStorage,
     R: Reader,
@@ -255,13 +254,13 @@ pub(crate) fn eval_register_rule<
     let Some(rule) = rule else {
         return Ok(None);
     };
-    match find_column::<S, R, Section, G>(alloc, section, rule, cfa, own, encoding, regs)? {
+    match find_value::<S, R, Section, G>(alloc, section, rule, cfa, own, encoding, regs)? {
         Some(found) => Ok(read_found(found, read_stack)),
         None => Ok(None),
     }
 }
 
-/// The word below a CFA, if there is one.
+// The word below a CFA, if it can be read.
 pub(crate) fn read_below<F: FnMut(u64) -> Result<u64, ()>>(
     cfa: u64,
     read_stack: &mut F,
@@ -275,7 +274,7 @@ pub(crate) fn read_below<F: FnMut(u64) -> Result<u64, ()>>(
     read_at(read_stack, at)
 }
 
-/// The word of the stack at an address, if it can be read.
+// The word of the stack at an address, if it can be read.
 fn read_at<F: FnMut(u64) -> Result<u64, ()>>(read_stack: &mut F, at: u64) -> Option<u64>
     requires { F.IsAlwaysCallable read_stack.old }
     ensures callable { F.IsAlwaysCallable read_stack.new }

@@ -1,5 +1,5 @@
-//! Rows of call frames: the unwind rule that says a row exactly, or else the caller that the row gives by
-//! itself, on each architecture.
+//! Steps by rows of call frames: the unwind rule that says a row exactly, or else the caller that the row
+//! gives by itself, on each architecture.
 #![tactic(auto)]
 
 pub mod aarch64;

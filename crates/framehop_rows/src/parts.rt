@@ -9,18 +9,18 @@ use dwarf_frame_rows::{CfaRule, RegisterRule, RuledRegister, UnwindTableRow};
 use dwarf_readers::ReaderOffset;
 use dwarf_storage::ArrayLike;
 
-/// The parts of a row that a step asks for.
+// The parts of a row that a step asks for.
 #[derive(Clone, Copy)]
 pub(crate) struct Parts<T> {
-    /// The canonical frame address.
+    // The rule of the canonical frame address.
     pub(crate) cfa: CfaRule<T>,
-    /// The column of the frame pointer, if it has a rule.
+    // The rule of the frame pointer, if it has one.
     pub(crate) fp: Option<RegisterRule<T>>,
-    /// The column of the return address, if it has a rule.
+    // The rule of the return address, if it has one.
     pub(crate) ra: Option<RegisterRule<T>>,
 }
 
-/// The parts of a row, by the columns of the frame pointer and of the return address.
+// The parts of a row, by the registers of the frame pointer and of the return address.
 pub(crate) fn parts_of_row<
     T: ReaderOffset,
     Rules: ArrayLike<Item = RuledRegister<RegisterRule<T>>>,

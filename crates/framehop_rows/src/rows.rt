@@ -1,12 +1,12 @@
-//! What the rows of an architecture come to, by their parts.
+//! Steps by the parts of rows, on any architecture.
 
 ghost use Rattle.std.specs.Prelude.{◌≡◌, ◌≢◌, ℕ, Option, Err, IfSome, OnErr};
 ghost use Rattle.dwarf_constants.specs.declared.common.Register.{Register};
 ghost use Rattle.dwarf_frame_instructions.specs.Execution.{row_in};
 ghost use Rattle.framehop_registers.specs.Callback.{OverWords};
-ghost use Rattle.framehop_unwinder.specs.Trials.{HasValidRule, KeepsUnlessDirect};
+ghost use Rattle.framehop_unwinder.specs.Trials.{HasValidRule};
 ghost use Rattle.framehop_rows.specs.Memory.{HasExpressionPart, TakesMemory};
-ghost use Rattle.framehop_rows.specs.RowAttempt.{DirectAnswer, MeetsExpressionPart, attempt_by_parts, direct_trial, row_trial, rule_answered, rule_of_row};
+ghost use Rattle.framehop_rows.specs.RowAttempt.{AnswersRow, DirectAnswer, MeetsExpressionPart, attempt_by_parts, direct_trial};
 ghost use Rattle.framehop_rows.specs.RowParts.{parts_as, parts_of};
 ghost use Rattle.framehop_rows.specs.declared.dwarf.DwarfUnwinderError.TheVariants.{OutOfMemory};
 ghost use Rattle.framehop_rows.specs.declared.parts.Parts.{Parts};
@@ -22,35 +22,35 @@ use framehop_rules::Arch;
 use framehop_unwinder::UnwindResult;
 use std::alloc::Global;
 
-/// An architecture, by what it makes of the parts of a row.
+// An architecture, by the steps that it makes by the parts of a row.
 pub(crate) trait PartsUnwinding: Arch {
-    /// The registers whose columns are asked for.
+    // The registers whose rules are asked for.
     ghost frame_pointer: { Register };
 
     ghost return_address: { Register };
 
-    /// The rule that says parts exactly, if one does.
+    // The rule that says parts of a row exactly, if one does.
     ghost scaled_rule: { Parts ℕ → Option Self.UnwindRule };
 
-    /// The caller that parts of a row give by themselves.
+    // The caller that parts of a row give by themselves.
     ghost direct_answer: { DirectAnswer Self.UnwindRegs };
 
-    /// The frame pointer.
+    // The frame pointer.
     fn frame_pointer() -> Register
         ensures { result ≡ frame_pointer };
 
-    /// The register, or the column, of the return address.
+    // The register of the return address, as DWARF numbers it.
     fn return_address() -> Register
         ensures { result ≡ return_address };
 
-    /// The rule that says parts of a row exactly, if one does. Offsets that are no multiples of a
-    /// rule's unit are never rounded.
+    // The rule that says parts of a row exactly, if one does. Offsets that are no multiples of a rule's
+    // unit are never rounded.
     fn rule_for_parts<T: ReaderOffset>(parts: &Parts<T>) -> Option<Self::UnwindRule>
         ensures rule { result ≡ scaled_rule (parts_as T.value parts.now) }
         ensures valid { IfSome result Self.UnwindRule.is_valid };
 
-    /// The return address that parts of a row give by themselves, the registers being the caller's
-    /// then. An `Err` leaves them as they were.
+    // The return address that parts of a row give by themselves; the registers are the caller's then. An
+    // `Err` leaves them as they were.
     fn unwind_by_parts<
         S: EvaluationStorage,
         R: Reader,
@@ -78,9 +78,8 @@ pub(crate) trait PartsUnwinding: Arch {
             → TakesMemory S.Stack.is_made_in_place S.Stack.capacity };
 }
 
-/// What a row of a section says of a frame: the unwind rule that says the row exactly, or else the
-/// return address by the row itself, the registers being the caller's then. An `Err` leaves them as
-/// they were.
+// The step by a row of a section: the unwind rule that says the row exactly, or else the return address by
+// the row itself, and then the registers are the caller's. An `Err` leaves the registers as they were.
 pub(crate) fn unwind_frame_by_row<
     A: PartsUnwinding,
     S: EvaluationStorage,
@@ -99,23 +98,13 @@ pub(crate) fn unwind_frame_by_row<
 ) -> Result<UnwindResult<A::UnwindRule>, DwarfUnwinderError>
     requires { F.IsAlwaysCallable read_stack.old }
     ensures callable { F.IsAlwaysCallable read_stack.new }
-    ensures trial { let section_bytes = R.stretch (Section.reader section.now) in
-        let parts = parts_of A.frame_pointer A.return_address (row_in R.Offset.value row.now) in
-        let attempt = attempt_by_parts A.scaled_rule A.direct_answer is_first_frame S.Stack.capacity
-        encoding.address_size section_bytes parts in
-        OverWords F.step read_stack.old read_stack.new (λ words.
-        result ≢ Err OutOfMemory
-        → (result, regs.new) ≡ row_trial regs.old words attempt) }
-    ensures rule { let section_bytes = R.stretch (Section.reader section.now) in
-        let parts = parts_of A.frame_pointer A.return_address (row_in R.Offset.value row.now) in
-        let attempt = attempt_by_parts A.scaled_rule A.direct_answer is_first_frame S.Stack.capacity
-        encoding.address_size section_bytes parts in
-        result ≢ Err OutOfMemory → rule_answered result ≡ rule_of_row attempt }
-    ensures keeps { KeepsUnlessDirect result regs.old regs.new }
+    ensures answers { AnswersRow F.step read_stack.old read_stack.new regs.old regs.new result
+        (attempt_by_parts A.scaled_rule A.direct_answer is_first_frame S.Stack.capacity
+        encoding.address_size (R.stretch (Section.reader section.now))
+        (parts_of A.frame_pointer A.return_address (row_in R.Offset.value row.now))) }
     ensures valid { HasValidRule A.UnwindRule.is_valid result }
-    ensures expression { let parts = parts_of A.frame_pointer A.return_address
-        (row_in R.Offset.value row.now) in
-        result ≡ Err OutOfMemory → MeetsExpressionPart A.scaled_rule parts }
+    ensures expression { result ≡ Err OutOfMemory → MeetsExpressionPart A.scaled_rule
+        (parts_of A.frame_pointer A.return_address (row_in R.Offset.value row.now)) }
     ensures memory { result ≡ Err OutOfMemory
         → TakesMemory S.Stack.is_made_in_place S.Stack.capacity }
 {

@@ -1,10 +1,10 @@
-//! Offsets in bytes as the fields of unwind rules. An offset that is no exact multiple is never
-//! rounded.
+//! Offsets in bytes as the fields of unwind rules. An offset that is no multiple of the field's unit is
+//! never rounded.
 
 ghost use Rattle.std.specs.Prelude.{◌≡◌, ◌+ℤ◌};
-ghost use Rattle.framehop_rows.specs.RuleFields.{eighth_of, sixteenth_of, words_of, signed_words_of, pairs_of};
+ghost use Rattle.framehop_rows.specs.RuleFields.{eighth_of, sixteenth_of, as_words, as_signed_words, pairs_of};
 
-/// The eighth of a multiple of 8.
+// The eighth of a multiple of 8.
 fn exact_eighth(offset: i64) -> Option<i64>
     ensures { result ≡ eighth_of offset }
 {
@@ -15,7 +15,7 @@ fn exact_eighth(offset: i64) -> Option<i64>
     }
 }
 
-/// The sixteenth of a multiple of 16.
+// The sixteenth of a multiple of 16.
 fn exact_sixteenth(offset: i64) -> Option<i64>
     ensures { result ≡ sixteenth_of offset }
 {
@@ -26,31 +26,31 @@ fn exact_sixteenth(offset: i64) -> Option<i64>
     }
 }
 
-/// An offset in bytes as a number of words without a sign.
+// An offset in bytes as an unsigned number of words of 8 bytes.
 pub(crate) fn unsigned_words(offset: i64) -> Option<u16>
-    ensures { result ≡ words_of offset }
+    ensures { result ≡ as_words offset }
 {
     u16::try_from(exact_eighth(offset)?).ok()
 }
 
-/// An offset in bytes as a number of words with a sign.
+// An offset in bytes as a signed number of words of 8 bytes.
 fn signed_words(offset: i64) -> Option<i16>
-    ensures { result ≡ signed_words_of offset }
+    ensures { result ≡ as_signed_words offset }
 {
     i16::try_from(exact_eighth(offset)?).ok()
 }
 
-/// An offset in bytes as a number of pairs of words without a sign.
+// An offset in bytes as an unsigned number of pairs of words.
 pub(crate) fn unsigned_pairs(offset: i64) -> Option<u16>
     ensures { result ≡ pairs_of offset }
 {
     u16::try_from(exact_sixteenth(offset)?).ok()
 }
 
-/// An offset from the CFA, which is at an offset from a register itself, as a number of words from
-/// that register.
+// The offset of what is stored at an offset from the CFA, from the register that the CFA is itself at an
+// offset from, as a signed number of words.
 pub(crate) fn words_from_base(offset: i64, stored: i64) -> Option<i16>
-    ensures { result ≡ signed_words_of (offset +ℤ stored) }
+    ensures { result ≡ as_signed_words (offset +ℤ stored) }
 {
     signed_words(offset.checked_add(stored)?)
 }

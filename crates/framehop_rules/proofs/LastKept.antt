@@ -8,14 +8,14 @@ use Rattle.std.proofs.lemmas.List.{get_or-set_same, get_or-set_other, length-set
 use Rattle.std.proofs.lemmas.List.Elements.{filter-append}
 use Rattle.list_laws.specs.Last.{last_of}
 use Rattle.list_laws.proofs.Laws.{last_of-push}
-use Rattle.framehop_rules.specs.Slots.{Key, Entry, Hits, OtherModules, OtherAddress, slot_of, entry_in, with_kept, finding_for, counts_after}
+use Rattle.framehop_rules.specs.Slots.{Key, KeptRule, Hits, OtherModules, OtherAddress, slot_of, entry_in, with_kept, finding_for, counts_after}
 use Rattle.framehop_rules.specs.LastKept.{last_entry, last_key, HasLast}
 use Rattle.framehop_rules.specs.declared.rule_cache.CacheStats.{CacheStats}
 use Rattle.framehop_rules.proofs.Parts.{differ, equal}
 
 module _ {Rule : Type 0} where
   -- nothing was kept in empty slots
-  nothing_in : (count slot : ℕ) → get_or (replicate {A = Option (Entry Rule)} count None) slot None ≡ None
+  nothing_in : (count slot : ℕ) → get_or (replicate {A = Option (KeptRule Rule)} count None) slot None ≡ None
   nothing_in zero slot = refl
   nothing_in (suc count) zero = refl
   nothing_in (suc count) (suc slot) = nothing_in count slot
@@ -24,31 +24,31 @@ module _ {Rule : Type 0} where
   new_last = record { count = refl; each = nothing_in 509 }
 
   -- one more entry of a slot, or of another
-  last-more : (kept : List (Entry Rule)) (entry : Entry Rule) (slot : ℕ)
+  last-more : (kept : List (KeptRule Rule)) (entry : KeptRule Rule) (slot : ℕ)
       → last_entry (kept ++ entry ∷ []) slot ≡ (if slot_of entry.key.address == slot then Some entry else last_entry kept slot)
   last-more kept entry slot =
-      let here : Entry Rule → Bool = λ e. slot_of e.key.address == slot in
+      let here : KeptRule Rule → Bool = λ e. slot_of e.key.address == slot in
       ap last_of (filter-append here kept (entry ∷ [])) ∙ by (filter here kept) (slot_of entry.key.address == slot)
     where
-      by : (before : List (Entry Rule)) (is_here : Bool)
+      by : (before : List (KeptRule Rule)) (is_here : Bool)
           → last_of (before ++ (if is_here then entry ∷ [] else [])) ≡ (if is_here then Some entry else last_of before)
       by before true = last_of-push before entry
       by before false = ap last_of (append-nil before)
 
-  in-slot : (slots : List (Option (Entry Rule))) (key : Key) (rule : Rule) (slot : ℕ) (test : Bool) → length slots ≡ 509
+  in-slot : (slots : List (Option (KeptRule Rule))) (key : Key) (rule : Rule) (slot : ℕ) (test : Bool) → length slots ≡ 509
       → (slot_of key.address == slot) ≡ test
       → entry_in (with_kept slots key rule) slot ≡ (if test then Some (record { key = key; rule = rule }) else entry_in slots slot)
   in-slot slots key rule slot true count is =
-      let entry : Option (Entry Rule) = Some (record { key = key; rule = rule }) in
+      let entry : Option (KeptRule Rule) = Some (record { key = key; rule = rule }) in
       let same : slot_of key.address ≡ slot = (Decides-eqb (slot_of key.address) slot).0 is in
       let there : slot_of key.address < length slots = omega arith in
       subst (λ s. entry_in (with_kept slots key rule) s ≡ entry) same (get_or-set_same slots (slot_of key.address) entry None there)
   in-slot slots key rule slot false count is =
-      let entry : Option (Entry Rule) = Some (record { key = key; rule = rule }) in
+      let entry : Option (KeptRule Rule) = Some (record { key = key; rule = rule }) in
       get_or-set_other slots (slot_of key.address) slot entry None (λ same. differ (slot_of key.address) slot is (sym same))
 
   -- what is kept is the last of its slot, and no other slot changes
-  pub kept_last : (kept : List (Entry Rule)) (slots : List (Option (Entry Rule))) (key : Key) (rule : Rule) → HasLast kept slots
+  pub kept_last : (kept : List (KeptRule Rule)) (slots : List (Option (KeptRule Rule))) (key : Key) (rule : Rule) → HasLast kept slots
       → HasLast (kept ++ (record { key = key; rule = rule }) ∷ []) (with_kept slots key rule)
   kept_last kept slots key rule has = record {
     count = length-set slots (slot_of key.address) (Some (record { key = key; rule = rule })) ∙ has.count;
@@ -59,23 +59,23 @@ module _ {Rule : Type 0} where
   }
 
   -- the keys of what is kept in a slot
-  keys-filter : (slot : ℕ) (kept : List (Entry Rule))
+  keys-filter : (slot : ℕ) (kept : List (KeptRule Rule))
       → filter (λ key. slot_of key.address == slot) (map (λ e. e.key) kept) ≡ map (λ e. e.key) (filter (λ e. slot_of e.key.address == slot) kept)
   keys-filter slot [] = refl
   keys-filter slot (e ∷ es) = by (slot_of e.key.address == slot) _ _ (keys-filter slot es)
     where
-      by : (test : Bool) (keys : List Key) (entries : List (Entry Rule)) → keys ≡ map (λ e. e.key) entries
+      by : (test : Bool) (keys : List Key) (entries : List (KeptRule Rule)) → keys ≡ map (λ e. e.key) entries
           → (if test then e.key ∷ keys else keys) ≡ map (λ e. e.key) (if test then e ∷ entries else entries)
       by true keys entries same = ap (λ keys. e.key ∷ keys) same
       by false keys entries same = same
 
-  last-map : (es : List (Entry Rule)) → last_of (map (λ e. e.key) es) ≡ option_map (λ e. e.key) (last_of es)
+  last-map : (es : List (KeptRule Rule)) → last_of (map (λ e. e.key) es) ≡ option_map (λ e. e.key) (last_of es)
   last-map [] = refl
   last-map (e ∷ []) = refl
   last-map (e ∷ f ∷ es) = last-map (f ∷ es)
 
   -- the last of the keys is the key of the last
-  pub last_key_is : (kept : List (Entry Rule)) (slot : ℕ) → last_key (map (λ e. e.key) kept) slot ≡ option_map (λ e. e.key) (last_entry kept slot)
+  pub last_key_is : (kept : List (KeptRule Rule)) (slot : ℕ) → last_key (map (λ e. e.key) kept) slot ≡ option_map (λ e. e.key) (last_entry kept slot)
   last_key_is kept slot = ap last_of (keys-filter slot kept) ∙ last-map (filter (λ e. slot_of e.key.address == slot) kept)
 
   -- what a look-up counts doesn't ask which rule it finds
@@ -87,7 +87,7 @@ module _ {Rule : Type 0} where
   counted-any false same_key one other counts = refl
 
   -- what a look-up counts is decided by the key that it finds
-  pub counted_by_key : (key : Key) (one other : Option (Entry Rule)) (counts : CacheStats)
+  pub counted_by_key : (key : Key) (one other : Option (KeptRule Rule)) (counts : CacheStats)
       → option_map (λ e. e.key) one ≡ option_map (λ e. e.key) other → counts_after (finding_for key one) counts ≡ counts_after (finding_for key other) counts
   counted_by_key key None None counts same = refl
   counted_by_key key None (Some other) counts same = cc
@@ -116,13 +116,13 @@ same_key a b addresses kinds generations =
     ap with_address addresses ∙ ap with_kind kinds ∙ ap with_generation generations
 
 module _ {Rule : Type 0} (key : Key) (rule : Rule) where
-  same_entry : (e : Entry Rule) → e.key ≡ key → e.rule ≡ rule → e ≡ record { key = key; rule = rule }
+  same_entry : (e : KeptRule Rule) → e.key ≡ key → e.rule ≡ rule → e ≡ record { key = key; rule = rule }
   same_entry e keys rules =
-      let with_key : Key → Entry Rule = λ x. record { key = x; rule = e.rule } in
-      let with_rule : Rule → Entry Rule = λ x. record { key = key; rule = x } in
+      let with_key : Key → KeptRule Rule = λ x. record { key = x; rule = e.rule } in
+      let with_rule : Rule → KeptRule Rule = λ x. record { key = key; rule = x } in
       ap with_key keys ∙ ap with_rule rules
 
-  hit-is : (e : Entry Rule) (g a k : Bool) → (e.key.generation == key.generation) ≡ g → (e.key.address == key.address) ≡ a
+  hit-is : (e : KeptRule Rule) (g a k : Bool) → (e.key.generation == key.generation) ≡ g → (e.key.address == key.address) ≡ a
       → beq e.key.is_first key.is_first ≡ k → (if g then (if a && k then Hits e.rule else OtherAddress) else OtherModules) ≡ Hits rule
       → e ≡ record { key = key; rule = rule }
   hit-is e true true true generation address kind is =
@@ -135,7 +135,7 @@ module _ {Rule : Type 0} (key : Key) (rule : Rule) where
   hit-is e false a k generation address kind is = cc
 
   -- a rule that is found stands there under this very key
-  hit-there : (there : Option (Entry Rule)) → finding_for key there ≡ Hits rule → there ≡ Some (record { key = key; rule = rule })
+  hit-there : (there : Option (KeptRule Rule)) → finding_for key there ≡ Hits rule → there ≡ Some (record { key = key; rule = rule })
   hit-there None is = cc
   hit-there (Some e) is =
       ap Some (hit-is e (e.key.generation == key.generation) (e.key.address == key.address) (beq e.key.is_first key.is_first) refl refl refl is)
@@ -144,5 +144,5 @@ module _ {Rule : Type 0} (key : Key) (rule : Rule) where
   there-hit : finding_for key (Some (record { key = key; rule = rule })) ≡ Hits rule
   there-hit = rw (equal key.generation key.generation refl, equal key.address key.address refl, is_same_kind key.is_first)
 
-  pub hits_exactly : (there : Option (Entry Rule)) → (finding_for key there ≡ Hits rule) ↔ (there ≡ Some (record { key = key; rule = rule }))
+  pub hits_exactly : (there : Option (KeptRule Rule)) → (finding_for key there ≡ Hits rule) ↔ (there ≡ Some (record { key = key; rule = rule }))
   hits_exactly there = (hit-there there, λ is. ap (finding_for key) is ∙ there-hit)

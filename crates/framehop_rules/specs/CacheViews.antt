@@ -1,20 +1,20 @@
 -- The entries of a rule cache, and what a look-up answers, as contracts see them.
 use Rattle.std.specs.Prelude.{List, map, Option, option_map, IfSome}
 use Rattle.std.specs.List.{All}
-use Rattle.framehop_rules.specs.Slots.{Key, Entry, Finding, Hits, EmptySlot, OtherModules, OtherAddress}
+use Rattle.framehop_rules.specs.Slots.{Key, KeptRule, Finding, Hits, EmptySlot, OtherModules, OtherAddress}
 use Rattle.framehop_rules.specs.declared.rule_cache.CacheEntry.{CacheEntry}
 use Rattle.framehop_rules.specs.declared.rule_cache.CacheResult.{CacheResult}
 use Rattle.framehop_rules.specs.declared.rule_cache.CacheResult.TheVariants.{Miss, Hit}
 
 -- An entry.
-abbrev pub entry_shown : {Rule : Type 0} → CacheEntry Rule → Entry Rule
+abbrev pub entry_shown : {Rule : Type 0} → CacheEntry Rule → KeptRule Rule
 entry_shown entry = record {
   key = record { address = entry.address; is_first = entry.is_first_frame; generation = entry.modules_generation };
   rule = entry.unwind_rule;
 }
 
 -- The slots.
-abbrev pub slots_shown : {Rule : Type 0} → List (Option (CacheEntry Rule)) → List (Option (Entry Rule))
+abbrev pub slots_shown : {Rule : Type 0} → List (Option (CacheEntry Rule)) → List (Option (KeptRule Rule))
 slots_shown entries = map (option_map entry_shown) entries
 
 -- The rules in the slots can be executed.

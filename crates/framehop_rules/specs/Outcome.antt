@@ -1,10 +1,10 @@
--- What executing an unwind rule comes to, on any architecture.
-use Rattle.std.specs.Prelude.{ℕ, ◌≡◌, ◌^◌, ℤ, pos, negsuc, nat_lt, if◌then◌else◌, Option, Some, None, Result, Ok, Err}
+-- The outcome of executing an unwind rule, on any architecture.
+use Rattle.std.specs.Prelude.{ℕ, ◌≡◌, ◌^◌, ℤ, pos, negsuc, nat_lt, if◌then◌else◌, Option, Some, None, Result, Ok, Err, OnErr}
 use Rattle.framehop_registers.specs.Callback.{Words}
 use Rattle.framehop_registers.specs.declared.error.Error.{Error}
 use Rattle.framehop_registers.specs.declared.error.Error.TheVariants.{CouldNotReadStack, FramepointerUnwindingMovedBackwards, DidNotAdvance, IntegerOverflow, ReturnAddressIsNull, OutOfMemory}
 
--- What a rule, or a part of one, comes to: the end of the stack, a refusal, or a value.
+-- The outcome of a rule, or of a part of one: the end of the stack, an error, or a value.
 pub data Outcome (A : Type 0) : Type 0 where
   Ends : Outcome A
   Refuses : Error → Outcome A
@@ -30,36 +30,41 @@ pub record Caller (Registers : Type 0) : Type 0 where
   pub return_address : ℕ
   pub registers : Registers
 
--- What `exec` answers: none at the end of the stack, the refusal, or the return address.
+-- What `exec` returns: `None` at the end of the stack, the error, or the return address.
 abbrev pub answer_of_outcome : {Registers : Type 0} → Outcome (Caller Registers) → Result (Option ℕ) Error
 answer_of_outcome Ends = Ok None
 answer_of_outcome (Refuses error) = Err error
 answer_of_outcome (Answers caller) = Ok (Some caller.return_address)
 
--- The registers that `exec` leaves: the caller's, or those from before where there is none.
+-- The registers that `exec` leaves: the caller's, or those from before if there is none.
 abbrev pub registers_after : {Registers : Type 0} → Registers → Outcome (Caller Registers) → Registers
 registers_after before Ends = before
 registers_after before (Refuses error) = before
 registers_after before (Answers caller) = caller.registers
 
--- A step that comes to an outcome: its answer, and the registers that it leaves.
+-- A step of an outcome: its answer, and the registers that it leaves.
 pub record IsStep {Registers : Type 0} (result : Result (Option ℕ) Error) (old new : Registers)
     (outcome : Outcome (Caller Registers)) : Type 0 where
   pub answer : result ≡ answer_of_outcome outcome
   pub registers : new ≡ registers_after old outcome
 
--- What a part of a rule comes to, from what the code answers for it.
+-- The registers change only if a return address is answered.
+pub record StaysUnlessAnswered {Registers : Type 0} (result : Result (Option ℕ) Error) (old new : Registers) : Type 0 where
+  pub none : result ≡ Ok None → new ≡ old
+  pub error : OnErr result (new ≡ old)
+
+-- The outcome of a part of a rule, from what the code returns for it.
 abbrev pub outcome_of : {A : Type 0} → Result A Error → Outcome A
 outcome_of (Ok value) = Answers value
 outcome_of (Err error) = Refuses error
 
--- The same, where the code may answer the end of the stack.
+-- The outcome of a part of a rule, from what the code returns if it may return the end of the stack.
 abbrev pub outcome_or_end_of : {A : Type 0} → Result (Option A) Error → Outcome A
 outcome_or_end_of (Ok None) = Ends
 outcome_or_end_of (Ok (Some value)) = Answers value
 outcome_or_end_of (Err error) = Refuses error
 
--- An error that a rule can refuse with.
+-- An error of a rule.
 abbrev pub IsOfRule : Error → Type 0
 IsOfRule (CouldNotReadStack address) = Unit {0}
 IsOfRule FramepointerUnwindingMovedBackwards = Unit {0}

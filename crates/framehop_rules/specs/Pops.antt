@@ -27,7 +27,7 @@ registers_after_pops (register ∷ more) registers words =
     and_then (registers_after_pop register registers words) (λ next.
     registers_after_pops more next words)
 
--- So many words, one after the other from an address on, and the address behind them.
+-- The n words from an address on, one after the other, and the address after them.
 unfoldable pub words_from : Words → ℕ → ℕ → Outcome (List ℕ × ℕ)
 words_from words zero at = Answers ([], at)
 words_from words (suc count) at =

@@ -1,6 +1,6 @@
 -- The meaning of the unwind rules of x86_64, over a map of words and unbounded numbers.
 --
--- Checks and reads go in the written order, and the first one that fails is the refusal.
+-- Checks and reads go in the written order, and the first one that fails is the error.
 use Rattle.std.specs.Prelude.{ℕ, ◌≡◌, ◌≢◌, ◌*◌, ◌<◌, ◌≤◌, ℤ, pos, ◌+ℤ◌, ◌-ℤ◌, ◌*ℤ◌, Bool, ◌&&◌, ◌==◌, nat_lt, nat_le, if◌then◌else◌, Some, None}
 use Rattle.framehop_registers.specs.Callback.{Words}
 use Rattle.framehop_rules.specs.Outcome.{Outcome, Ends, Refuses, Answers, and_then, address, word, Caller}
@@ -66,7 +66,7 @@ moves UseFramePointer is_first registers words =
 moves (OffsetSpAndPopRegisters x count number) is_first registers words = raised_frame registers 8
 
 -- The return address is the word below the caller's stack pointer. A 0 there ends the stack, and
--- a step that would change neither stack pointer nor code address is refused.
+-- a step that would change neither stack pointer nor code address is an error.
 abbrev pub return_address : UnwindRegsX86_64 → Words → ℕ → Outcome ℕ
 return_address registers words sp =
     and_then (address (pos sp -ℤ pos 8)) (λ at.
@@ -95,7 +95,7 @@ rule_meaning rule is_first registers words =
 abbrev pub word_below : Words → ℕ → Outcome ℕ
 word_below words sp = and_then (address (pos sp -ℤ pos 8)) (word words)
 
--- The registers behind a call: the instruction pointer isn't 0, and is the word below the stack pointer.
+-- The registers after a call: the instruction pointer isn't 0, and is the word below the stack pointer.
 pub record IsAtReturn (registers : UnwindRegsX86_64) (words : Words) : Type 0 where
   pub not_null : ip_of registers ≢ 0
   pub returned_to : word_below words (sp_of registers) ≡ Answers (ip_of registers)

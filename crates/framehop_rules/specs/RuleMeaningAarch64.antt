@@ -1,6 +1,6 @@
 -- The meaning of the unwind rules of aarch64, over a map of words and unbounded numbers.
 --
--- Checks and reads go in the written order, and the first one that fails is the refusal.
+-- Checks and reads go in the written order, and the first one that fails is the error.
 use Rattle.std.specs.Prelude.{ℕ, ◌*◌, ℤ, pos, ◌+ℤ◌, ◌*ℤ◌, Bool, not, ◌&&◌, ◌||◌, ◌==◌, nat_le, if◌then◌else◌}
 use Rattle.framehop_registers.specs.Callback.{Words}
 use Rattle.framehop_rules.specs.Outcome.{Outcome, Ends, Refuses, Answers, and_then, address, word, Caller}
@@ -75,7 +75,7 @@ moves (UseFramepointerWithOffsets x y z) is_first registers words =
     and_then (stored_frame words (fp_of registers) (8 * x) y z) (if_chained registers)
 
 -- The return address is the link register's. A 0 there ends the stack, and a step from a later frame that would leave the
--- stack pointer is refused.
+-- stack pointer is an error.
 abbrev pub return_address : UnwindRegsAarch64 → Bool → CallerFrame → Outcome ℕ
 return_address registers is_first (lr, sp, fp) =
     let to = stripped_address (mask_of registers) lr in

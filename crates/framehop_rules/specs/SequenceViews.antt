@@ -5,5 +5,5 @@ use Rattle.framehop_rules.specs.declared.x86_64.offset_or_pop.OffsetOrPop.{Offse
 use Rattle.framehop_rules.specs.declared.x86_64.sequence.OffsetThenPops.{OffsetThenPops}
 
 -- The operations that were taken.
-abbrev pub operations_of : OffsetThenPops → List OffsetOrPop
-operations_of taken = offset_then_pops taken.offset (take taken.count taken.registers)
+abbrev pub taken_operations : OffsetThenPops → List OffsetOrPop
+taken_operations taken = offset_then_pops taken.offset (take taken.count taken.registers)

@@ -25,7 +25,7 @@ registers_after_operations (first ∷ more) registers words =
     and_then (registers_after_operation first registers words) (λ next.
     registers_after_operations more next words)
 
--- What a sequence comes to: its operations are done, and then the function returns.
+-- The outcome of a sequence: its operations are done, and then the function returns.
 abbrev pub sequence_meaning : List OffsetOrPop → Bool → UnwindRegsX86_64 → Words → Outcome (Caller UnwindRegsX86_64)
 sequence_meaning operations is_first registers words =
     and_then (registers_after_operations operations registers words) (λ next.
@@ -54,7 +54,7 @@ abbrev pub HasNoRule : List OffsetOrPop → Type 0
 HasNoRule operations = (offset : Option ℕ) (registers : List Reg)
     → operations ≡ offset_then_pops offset registers → IsPopList registers → ⊥
 
--- The rule of a sequence, where it has one.
+-- The rule of a sequence, if it has one.
 abbrev pub IsRuleFor : List OffsetOrPop → Option UnwindRuleX86_64 → Type 0
 IsRuleFor operations None = HasNoRule operations
 IsRuleFor operations (Some rule) = IsRuleOf operations rule

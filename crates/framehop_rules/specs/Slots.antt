@@ -1,4 +1,4 @@
--- The slots of a rule cache: what stands in each, what a look-up finds there, and what is counted.
+-- The slots of a rule cache: what is in each, what a look-up finds there, and what is counted.
 use Rattle.std.specs.Prelude.{ℕ, ◌+◌, ◌^◌, ◌-◌, ◌%◌, min, Bool, ◌&&◌, ◌==◌, List, Option, Some, None, slice_set, if◌then◌else◌}
 use Rattle.std.specs.Bool.{beq}
 use Rattle.std.specs.List.{slice_index_or}
@@ -12,13 +12,13 @@ pub record Key : Type 0 where
   pub generation : ℕ
 
 -- A rule that was kept, and what for.
-pub record Entry (Rule : Type 0) : Type 0 where
+pub record KeptRule (Rule : Type 0) : Type 0 where
   pub key : Key
   pub rule : Rule
 
--- A cache as contracts see it: what stands in each of its slots, and its counts.
+-- A cache as contracts see it: what is in each of its slots, and its counts.
 pub record Kept (Rule : Type 0) : Type 0 where
-  pub slots : List (Option (Entry Rule))
+  pub slots : List (Option (KeptRule Rule))
   pub counts : CacheStats
 
 -- The key of a look-up.
@@ -29,24 +29,24 @@ key_of address is_first generation = record { address = address; is_first = is_f
 abbrev pub slot_of : ℕ → ℕ
 slot_of address = address % 509
 
--- What stands in a slot, if anything does.
-abbrev pub entry_in : {Rule : Type 0} → List (Option (Entry Rule)) → ℕ → Option (Entry Rule)
+-- What is in a slot, if anything is.
+abbrev pub entry_in : {Rule : Type 0} → List (Option (KeptRule Rule)) → ℕ → Option (KeptRule Rule)
 entry_in slots slot = slice_index_or slots slot None
 
 -- The slots with a rule kept under a key: only the key's slot changes.
-abbrev pub with_kept : {Rule : Type 0} → List (Option (Entry Rule)) → Key → Rule → List (Option (Entry Rule))
+abbrev pub with_kept : {Rule : Type 0} → List (Option (KeptRule Rule)) → Key → Rule → List (Option (KeptRule Rule))
 with_kept slots key rule = slice_set slots (slot_of key.address) (Some (record { key = key; rule = rule }))
 
--- What a look-up comes to.
+-- What a look-up finds.
 pub data Finding (Rule : Type 0) : Type 0 where
   Hits : Rule → Finding Rule
   EmptySlot : Finding Rule
   OtherModules : Finding Rule
   OtherAddress : Finding Rule
 
--- What a look-up for a key comes to, by what stands in the key's slot: nothing, an entry of another generation, an entry of
+-- What a look-up for a key finds, by what is in the key's slot: nothing, an entry of another generation, an entry of
 -- another address or kind of frame, or the rule.
-abbrev pub finding_for : {Rule : Type 0} → Key → Option (Entry Rule) → Finding Rule
+abbrev pub finding_for : {Rule : Type 0} → Key → Option (KeptRule Rule) → Finding Rule
 finding_for key None = EmptySlot
 finding_for key (Some entry) =
     if entry.key.generation == key.generation

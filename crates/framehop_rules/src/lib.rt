@@ -3,7 +3,7 @@
 //!
 //! An unwind rule is one step of a stack walk in a compact form: how the caller's registers follow
 //! from those of a frame and from words of the stack. What each rule means is in
-//! `specs/RuleMeaning.antt`; `exec` answers it for every rule, register file and stack.
+//! `specs/RuleMeaning.antt`; `exec` returns it for every rule, register file and stack.
 #![tactic(auto)]
 
 pub mod aarch64;

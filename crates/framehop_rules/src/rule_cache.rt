@@ -1,4 +1,5 @@
 //! The cache of unwind rules.
+
 ghost use Rattle.std.specs.Prelude.{◌≡◌, ◌+◌, ◌-◌, ◌^◌, min, None, IfOk, replicate};
 
 use crate::unwind_rule::UnwindRule;
@@ -21,11 +22,11 @@ struct CacheEntry<R> {
 pub struct CacheStats {
     /// The look-ups that found a rule.
     pub hit_count: u64,
-    /// Those where nothing was in the slot.
+    /// Those that found nothing in the slot.
     pub miss_empty_slot_count: u64,
-    /// Those where the slot had a rule for another generation of the modules.
+    /// Those that found a rule for another generation of the modules.
     pub miss_wrong_modules_count: u64,
-    /// Those where the slot had a rule for another address or another kind of frame.
+    /// Those that found a rule for another address or another kind of frame.
     pub miss_wrong_address_count: u64,
 }
 
@@ -86,7 +87,7 @@ impl Model for CacheHandle {
     ghost invariant = { λ handle. handle.slot ≡ slot_of handle.address };
 }
 
-/// What a look-up answers.
+/// What a look-up returns.
 #[derive(Drop)]
 pub enum CacheResult<R> {
     /// No rule. One may be inserted with the handle.
@@ -116,7 +117,7 @@ impl<R: UnwindRule> Model for RuleCache<R> {
         × AllValid R.is_valid cache.entries.items };
 }
 
-/// Counts one more, up to 2^64 - 1.
+// Counts one more, up to 2^64 - 1.
 fn count(number: &mut u64)
     ensures { number.new ≡ min (number.old + 1) (2 ^ 64 - 1) }
 {
@@ -210,25 +211,25 @@ impl<R: UnwindRule> RuleCache<R> {
 
 impl<R: UnwindRule> RuleCache<R> {
     ghost use Rattle.std.specs.Prelude.{◌↔◌, ◌++◌, [], ◌∷◌, ℕ, List, Option, Some, map, option_map};
-    ghost use Rattle.framehop_rules.specs.Slots.{Key, Entry, Hits, slot_of, entry_in, with_kept, finding_for, counts_after};
+    ghost use Rattle.framehop_rules.specs.Slots.{Key, KeptRule, Hits, slot_of, entry_in, with_kept, finding_for, counts_after};
     ghost use Rattle.framehop_rules.specs.LastKept.{last_entry, last_key, HasLast};
 
-    /// Laws of the slots; the function does nothing when the program runs. In each slot stands the
-    /// last of what was kept for it. A rule is found exactly where it stands under the very key of
-    /// the look-up, and what is counted is decided by the key that stands there.
+    /// Laws of the slots; the function does nothing when the program runs. Each slot has the
+    /// last of what was kept for it. A rule is found if and only if it was kept under the very key of
+    /// the look-up, and what is counted is decided by the key in the slot.
     pub fn slots_have_the_last()
         ensures new { HasLast {Rule = R} [] (replicate 509 None) }
-        ensures kept { (kept : List (Entry R)) (slots : List (Option (Entry R)))
+        ensures kept { (kept : List (KeptRule R)) (slots : List (Option (KeptRule R)))
             (key : Key) (rule : R) → HasLast kept slots
             → HasLast (kept ++ (record { key = key; rule = rule }) ∷ [])
             (with_kept slots key rule) }
-        ensures keys { (kept : List (Entry R)) (slot : ℕ)
+        ensures keys { (kept : List (KeptRule R)) (slot : ℕ)
             → last_key (map (λ entry. entry.key) kept) slot
             ≡ option_map (λ entry. entry.key) (last_entry kept slot) }
-        ensures hits { (key : Key) (there : Option (Entry R)) (rule : R)
+        ensures hits { (key : Key) (there : Option (KeptRule R)) (rule : R)
             → (finding_for key there ≡ Hits rule)
             ↔ (there ≡ Some (record { key = key; rule = rule })) }
-        ensures counts { (key : Key) (one other : Option (Entry R)) (counts : CacheStats)
+        ensures counts { (key : Key) (one other : Option (KeptRule R)) (counts : CacheStats)
             → option_map (λ entry. entry.key) one ≡ option_map (λ entry. entry.key) other
             → counts_after (finding_for key one) counts
             ≡ counts_after (finding_for key other) counts }

@@ -1,7 +1,8 @@
 //! What the unwind rules of every architecture have.
-ghost use Rattle.std.specs.Prelude.{◌≡◌, ◌↔◌, ◌*◌, pos, ◌+ℤ◌, ℕ, Bool, Option, IsTrue, IfErr, OnErr};
+
+ghost use Rattle.std.specs.Prelude.{◌≡◌, ◌↔◌, ◌*◌, pos, ◌+ℤ◌, ℕ, Bool, Option, IsTrue, IfErr};
 ghost use Rattle.framehop_registers.specs.Callback.{Words, OverWords};
-ghost use Rattle.framehop_rules.specs.Outcome.{Outcome, Caller, IsStep, outcome_of, address, word, IsOfRule};
+ghost use Rattle.framehop_rules.specs.Outcome.{Outcome, Caller, IsStep, StaysUnlessAnswered, outcome_of, address, word, IsOfRule};
 
 use framehop_registers::Error;
 use std::fmt::Debug;
@@ -26,8 +27,8 @@ pub trait UnwindRule: Copy + Debug {
     fn is_valid(self) -> bool
         ensures { IsTrue result ↔ is_valid self };
 
-    /// Makes the step from a frame with these registers: answers the return address and leaves the
-    /// caller's registers, or answers `None` at the end of the stack. `None` and an error leave the
+    /// Makes the step from a frame with these registers: returns the return address and leaves the
+    /// caller's registers, or returns `None` at the end of the stack. `None` and an error leave the
     /// registers as they were. `read_stack` reads a word of the stack at an address.
     fn exec<F: FnMut(u64) -> Result<u64, ()>>(
         self,
@@ -40,8 +41,7 @@ pub trait UnwindRule: Copy + Debug {
         ensures callable { F.IsAlwaysCallable read_stack.new }
         ensures step { OverWords F.step read_stack.old read_stack.new (λ words.
             IsStep result regs.old regs.new (meaning self is_first_frame regs.old words)) }
-        ensures none_keeps { result ≡ Ok None → regs.new ≡ regs.old }
-        ensures error_keeps { OnErr result (regs.new ≡ regs.old) }
+        ensures stays { StaysUnlessAnswered result regs.old regs.new }
         ensures refusals { IfErr result IsOfRule };
 
     /// The rule inside a stub of a linker, where nothing is on the stack but the return address.
@@ -54,13 +54,13 @@ pub trait UnwindRule: Copy + Debug {
         ensures rule { result ≡ start_rule }
         ensures valid { is_valid result };
 
-    /// The rule where nothing else is known.
+    /// The rule if nothing else is known.
     fn fallback_rule() -> Self
         ensures rule { result ≡ fallback }
         ensures valid { is_valid result };
 }
 
-/// The word at an address; where it can't be read, the error says so.
+/// The word at an address; an error if it can't be read.
 #[inline(always)]
 pub(crate) fn read_word<F: FnMut(u64) -> Result<u64, ()>>(
     read_stack: &mut F,
@@ -85,7 +85,7 @@ pub(crate) fn bytes_of(words: u16) -> u64
     u64::from(words) * 8
 }
 
-/// The address so many bytes above another.
+/// The address `bytes` above another.
 #[inline(always)]
 pub(crate) fn address_above(base: u64, bytes: u64) -> Result<u64, Error>
     ensures sum { outcome_of result ≡ address (pos base +ℤ pos bytes) }

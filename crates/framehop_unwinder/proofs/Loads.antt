@@ -4,22 +4,22 @@ use Rattle.std.specs.Prelude.{slice_set, Result, Ok, Err, OnOk, OnErr}
 use Rattle.std.proofs.lemmas.List.{get_or_default, set-get_or}
 use Rattle.framehop_rules.specs.Slots.{Kept}
 use Rattle.framehop_unwinder.specs.Modules.{Loaded, Loads}
-use Rattle.framehop_unwinder.specs.State.{State, unwinder_at, loads_with}
+use Rattle.framehop_unwinder.specs.State.{SessionState, unwinder_at, loads_with}
 
 -- a session of these parts
-abbrev pub holding : {D R : Type 0} → List (Loads (Loaded D)) → ℕ → List (Kept R) → State D R
+abbrev pub holding : {D R : Type 0} → List (Loads (Loaded D)) → ℕ → List (Kept R) → SessionState D R
 holding loads next caches = record { unwinders = loads; next = next; caches = caches }
 
-module _ {D R : Type 0} (loads : List (Loads (Loaded D))) (next : ℕ) (caches : List (Kept R)) (s : State D R) (is : holding loads next caches ≡ s)
+module _ {D R : Type 0} (loads : List (Loads (Loaded D))) (next : ℕ) (caches : List (Kept R)) (s : SessionState D R) (is : holding loads next caches ≡ s)
     (i : ℕ) (within : i < length s.unwinders) (old : Loads (Loaded D)) (read : old ≡ get_or loads i old) where
   there : i < length loads
-  there = subst (λ (x : State D R). i < length x.unwinders) (sym is) within
+  there = subst (λ (x : SessionState D R). i < length x.unwinders) (sym is) within
 
   -- the unwinder that was read is the session's
   pub read-is : old ≡ unwinder_at s.unwinders i
   read-is =
       let none : Loads (Loaded D) = record { modules = []; generation = 0 } in
-      read ∙ get_or_default loads i old none there ∙ ap (λ (x : State D R). unwinder_at x.unwinders i) is
+      read ∙ get_or_default loads i old none there ∙ ap (λ (x : SessionState D R). unwinder_at x.unwinders i) is
 
   -- an unwinder and a number that didn't change leave the session as it was
   pub put-same : (new : Loads (Loaded D)) (after : ℕ) → new ≡ old → after ≡ next → holding (slice_set loads i new) after caches ≡ s
@@ -37,7 +37,7 @@ module _ {D R : Type 0} (loads : List (Loads (Loaded D))) (next : ℕ) (caches :
       let made : new ≡ loads_with modules next =
       ap (λ ms. loads_with ms new.generation) (changed ∙ ap (λ (u : Loads (Loaded D)). change u.modules) read-is)
       ∙ ap (loads_with modules) told in
-      let put : State D R → State D R = λ x. record x { unwinders = slice_set x.unwinders i (loads_with modules x.next); next = x.next + 1 } in
+      let put : SessionState D R → SessionState D R = λ x. record x { unwinders = slice_set x.unwinders i (loads_with modules x.next); next = x.next + 1 } in
       ap (λ (u : Loads (Loaded D)). holding (slice_set loads i u) after caches) made
       ∙ ap (λ n. holding (slice_set loads i (loads_with modules next)) n caches) taken
       ∙ ap put is

@@ -8,7 +8,7 @@ use Rattle.framehop_registers.specs.declared.code_address.FrameAddress.TheVarian
 use Rattle.framehop_registers.specs.declared.error.Error.{Error}
 use Rattle.framehop_registers.specs.declared.error.Error.TheVariants.{CouldNotReadStack, FramepointerUnwindingMovedBackwards, DidNotAdvance, IntegerOverflow, ReturnAddressIsNull, OutOfMemory}
 use Rattle.framehop_rules.specs.Outcome.{IsOfRule}
-use Rattle.framehop_rules.specs.Slots.{Key, Entry, Finding, Hits, EmptySlot, OtherModules, OtherAddress, key_of}
+use Rattle.framehop_rules.specs.Slots.{Key, KeptRule, Finding, Hits, EmptySlot, OtherModules, OtherAddress, key_of}
 use Rattle.framehop_rules.specs.CacheViews.{result_of}
 use Rattle.framehop_rules.specs.declared.rule_cache.CacheResult.TheVariants.{Miss, Hit}
 use Rattle.framehop_unwinder.specs.Attempt.{Attempt, Says, Evaluates, SaysNothing, Meanings, attempt_at}
@@ -72,7 +72,7 @@ module _ {Data Rule Registers : Type 0} (m : Meanings Data Rule Registers) (firs
   pub kept-judged : (modules : List (Loaded Data)) (address generation : ℕ) (rule : Rule) → rule_kept m modules (key_of address first generation) ≡ Some rule → judge_at m modules first address registers words ≡ m.meaning rule first registers words
   kept-judged modules address generation rule is = kept-attempt (attempt_at m modules first address) rule is
 
-module _ {Rule : Type 0} (kept : Key → Option Rule) (key : Key) (slots : List (Option (Entry Rule))) where
+module _ {Rule : Type 0} (kept : Key → Option Rule) (key : Key) (slots : List (Option (KeptRule Rule))) where
   hit-of : (look_up : Finding Rule) (rule : Rule) → Hit rule ≡ result_of key look_up → look_up ≡ Hits rule
   hit-of (Hits r) rule is = let e : rule ≡ r = cc in ap (λ x. Hits x) (sym e)
   hit-of EmptySlot rule is = absurd cc

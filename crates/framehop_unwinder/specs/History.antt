@@ -1,14 +1,14 @@
 -- A cache by the list of all keys that were kept in it.
 use Rattle.std.specs.Prelude.{ℕ, ◌≡◌, List, [], ◌∷◌, ◌++◌, length, Bool, Option, Some, None, option_map, slice_set, slice_index_or, if◌then◌else◌}
 use Rattle.framehop_rules.specs.LastKept.{last_key}
-use Rattle.framehop_rules.specs.Slots.{Key, Entry, Kept, Finding, Hits, EmptySlot, OtherModules, OtherAddress, finding_for, slot_of, entry_in, no_counts, counts_after}
+use Rattle.framehop_rules.specs.Slots.{Key, KeptRule, Kept, Finding, Hits, EmptySlot, OtherModules, OtherAddress, finding_for, slot_of, entry_in, no_counts, counts_after}
 use Rattle.framehop_rules.specs.declared.rule_cache.CacheStats.{CacheStats}
 
--- a key as it stands in a slot, whatever its rule
-abbrev pub bare_entry : Key → Entry (Unit {0})
+-- a key in a slot, without its rule
+abbrev pub bare_entry : Key → KeptRule (Unit {0})
 bare_entry key = record { key = key; rule = tt }
 
--- what a look-up comes to after these keys were kept: the last of the slot decides
+-- what a look-up finds after these keys were kept: the last of the slot decides
 abbrev pub finding_after : List Key → Key → Finding (Unit {0})
 finding_after keys key = finding_for key (option_map bare_entry (last_key keys (slot_of key.address)))
 
@@ -24,13 +24,13 @@ with_missed_key keys key kept EmptySlot = with_key keys key kept
 with_missed_key keys key kept OtherModules = with_key keys key kept
 with_missed_key keys key kept OtherAddress = with_key keys key kept
 
--- the keys kept after a step under a key: one more exactly where the look-up missed and there is a rule to keep. Where memory was
--- wanted nothing is kept
+-- the keys kept after a step under a key: one more if and only if the look-up missed and there is a rule to keep. Nothing is kept
+-- if the step was out of memory
 abbrev pub keys_after : {Rule : Type 0} → Bool → (Key → Option Rule) → Key → List Key → List Key
 keys_after wanted kept key keys = if wanted then keys else with_missed_key keys key (kept key) (finding_after keys key)
 
 -- Of 509 slots, each has the last of the keys that were kept in it.
-pub record HasLastKeys {Rule : Type 0} (keys : List Key) (slots : List (Option (Entry Rule))) : Type 0 where
+pub record HasLastKeys {Rule : Type 0} (keys : List Key) (slots : List (Option (KeptRule Rule))) : Type 0 where
   pub count : length slots ≡ 509
   pub each : (slot : ℕ) → option_map (λ entry. entry.key) (entry_in slots slot) ≡ last_key keys slot
 

@@ -7,12 +7,12 @@ use Rattle.framehop_unwinder.specs.Attempt.{Attempt, Says, Evaluates, SaysNothin
 use Rattle.framehop_unwinder.specs.Frames.{Frame, lookup_address}
 use Rattle.framehop_unwinder.specs.Modules.{Loaded}
 
--- the caller of this frame, or what is done where there is none
+-- the caller of this frame, or what is done if there is none
 abbrev pub or_else : {Registers : Type 0} → Option (Caller Registers) → Outcome (Caller Registers) → Outcome (Caller Registers)
 or_else (Some caller) otherwise = Answers caller
 or_else None otherwise = otherwise
 
--- what an attempt comes to: a rule is executed, the frame's caller is answered, and without either the fallback is executed
+-- the outcome of an attempt: a rule is executed, the frame's caller is the answer, and without either the fallback is executed
 abbrev pub by_attempt : {Data Rule Registers : Type 0} → Meanings Data Rule Registers → Bool → Registers → Words
     → Attempt Rule Registers → Outcome (Caller Registers)
 by_attempt m first registers words (Says rule) = m.meaning rule first registers words

@@ -2,21 +2,21 @@
 use Rattle.std.specs.Prelude.{ℕ, ◌≡◌, List}
 use Rattle.framehop_unwinder.specs.History.{KeyHistory, HaveHistories}
 use Rattle.framehop_unwinder.specs.Modules.{Loaded, Loads}
-use Rattle.framehop_unwinder.specs.State.{State, unwinder_at}
+use Rattle.framehop_unwinder.specs.State.{SessionState, unwinder_at}
 
 -- How far commands have come: the unwinders with their modules and generations, the counter's next number, and for each cache the
 -- keys that were kept in it, and its counts.
-pub record Progress (Data : Type 0) : Type 0 where
+pub record SessionModel (Data : Type 0) : Type 0 where
   pub unwinders : List (Loads (Loaded Data))
   pub next : ℕ
   pub histories : List KeyHistory
 
 -- A session that is so far: its unwinders and its counter, and caches that these histories have made.
-pub record IsAt {Data Rule : Type 0} (progress : Progress Data) (state : State Data Rule) : Type 0 where
+pub record IsAt {Data Rule : Type 0} (progress : SessionModel Data) (state : SessionState Data Rule) : Type 0 where
   pub unwinders : state.unwinders ≡ progress.unwinders
   pub next : state.next ≡ progress.next
   pub histories : HaveHistories progress.histories state.caches
 
 -- the modules of an unwinder
-abbrev pub modules_in : {Data : Type 0} → ℕ → Progress Data → List (Loaded Data)
+abbrev pub modules_in : {Data : Type 0} → ℕ → SessionModel Data → List (Loaded Data)
 modules_in unwinder progress = (unwinder_at progress.unwinders unwinder).modules

@@ -1,19 +1,19 @@
 -- What is kept after a step, and what a cache then holds.
 use Rattle.std.specs.Prelude.{ℕ, ◌≡◌, ◌<◌, List, Bool, Option, Some, None, IfSome, if◌then◌else◌}
 use Rattle.std.specs.List.{All}
-use Rattle.framehop_rules.specs.Slots.{Key, Entry, Finding, Hits, EmptySlot, OtherModules, OtherAddress, key_of, finding_for, entry_in, slot_of, with_kept}
+use Rattle.framehop_rules.specs.Slots.{Key, KeptRule, Kept, Finding, Hits, EmptySlot, OtherModules, OtherAddress, key_of, finding_for, entry_in, slot_of, with_kept, counts_after}
 use Rattle.framehop_unwinder.specs.Attempt.{Attempt, Says, Evaluates, SaysNothing, Meanings, attempt_at}
 use Rattle.framehop_unwinder.specs.Frames.{Frame, lookup_address}
-use Rattle.framehop_unwinder.specs.Modules.{Loaded}
+use Rattle.framehop_unwinder.specs.Modules.{Loaded, Loads}
 
--- the rule that is kept after an attempt: its own, or the fallback where it says nothing at any registers. A caller that was
--- found by registers and words is not kept, nor is anything where they gave none
+-- the rule that is kept after an attempt: its own, or the fallback if it says nothing for any registers. A caller that was
+-- found by registers and words is not kept, nor is anything if they gave none
 abbrev pub rule_of_attempt : {Rule Registers : Type 0} → Rule → Attempt Rule Registers → Option Rule
 rule_of_attempt fallback (Says rule) = Some rule
 rule_of_attempt fallback (Evaluates caller) = None
 rule_of_attempt fallback SaysNothing = Some fallback
 
--- the rule that is kept for a key where these modules are loaded
+-- the rule that is kept for a key while these modules are loaded
 abbrev pub rule_kept : {Data Rule Registers : Type 0} → Meanings Data Rule Registers → List (Loaded Data) → Key → Option Rule
 rule_kept m modules key = rule_of_attempt m.fallback (attempt_at m modules key.is_first key.address)
 
@@ -22,35 +22,44 @@ abbrev pub key_for : Frame → ℕ → Key
 key_for frame generation = key_of (lookup_address frame) frame.is_first generation
 
 -- the slots with a rule kept, if there is one to keep
-abbrev pub with_any : {Rule : Type 0} → List (Option (Entry Rule)) → Key → Option Rule → List (Option (Entry Rule))
+abbrev pub with_any : {Rule : Type 0} → List (Option (KeptRule Rule)) → Key → Option Rule → List (Option (KeptRule Rule))
 with_any slots key None = slots
 with_any slots key (Some rule) = with_kept slots key rule
 
 -- a look-up that found its rule keeps nothing
-abbrev pub with_missed : {Rule : Type 0} → List (Option (Entry Rule)) → Key → Option Rule → Finding Rule
-    → List (Option (Entry Rule))
+abbrev pub with_missed : {Rule : Type 0} → List (Option (KeptRule Rule)) → Key → Option Rule → Finding Rule
+    → List (Option (KeptRule Rule))
 with_missed slots key kept (Hits rule) = slots
 with_missed slots key kept EmptySlot = with_any slots key kept
 with_missed slots key kept OtherModules = with_any slots key kept
 with_missed slots key kept OtherAddress = with_any slots key kept
 
--- what a look-up for a key comes to
-abbrev pub finding_in : {Rule : Type 0} → List (Option (Entry Rule)) → Key → Finding Rule
+-- what a look-up for a key finds
+abbrev pub finding_in : {Rule : Type 0} → List (Option (KeptRule Rule)) → Key → Finding Rule
 finding_in slots key = finding_for key (entry_in slots (slot_of key.address))
 
--- the slots after a step under a key. Where memory was wanted nothing is kept
-abbrev pub slots_after : {Rule : Type 0} → Bool → (Key → Option Rule) → Key → List (Option (Entry Rule))
-    → List (Option (Entry Rule))
+-- the slots after a step under a key. Nothing is kept if the step was out of memory
+abbrev pub slots_after : {Rule : Type 0} → Bool → (Key → Option Rule) → Key → List (Option (KeptRule Rule))
+    → List (Option (KeptRule Rule))
 slots_after wanted kept key slots = if wanted then slots else with_missed slots key (kept key) (finding_in slots key)
 
+-- A cache before and after a step under a key: its slots, and its counts.
+pub record StepsCache {Rule : Type 0} (kept : Key → Option Rule) (key : Key) (wanted : Bool) (old new : Kept Rule) : Type 0 where
+  pub slots : new.slots ≡ slots_after wanted kept key old.slots
+  pub counts : new.counts ≡ counts_after (finding_in old.slots key) old.counts
+
 -- an entry of this generation holds the rule that is kept for its key
-abbrev pub FitsEntry : {Rule : Type 0} → (Key → Option Rule) → ℕ → Entry Rule → Type 0
+abbrev pub FitsEntry : {Rule : Type 0} → (Key → Option Rule) → ℕ → KeptRule Rule → Type 0
 FitsEntry kept generation entry = entry.key.generation ≡ generation → kept entry.key ≡ Some entry.rule
 
--- Each entry of this generation does.
-pub record Fits {Rule : Type 0} (kept : Key → Option Rule) (generation : ℕ) (slots : List (Option (Entry Rule))) : Type 0 where
+-- Each entry of this generation holds the rule that is kept for its key.
+pub record Fits {Rule : Type 0} (kept : Key → Option Rule) (generation : ℕ) (slots : List (Option (KeptRule Rule))) : Type 0 where
   pub each : All (λ slot. IfSome slot (FitsEntry kept generation)) slots
 
--- Each key that stands in a slot is of a generation below this one.
-pub record KeysBelow {Rule : Type 0} (generation : ℕ) (slots : List (Option (Entry Rule))) : Type 0 where
+-- the cache fits an unwinder: for its generation it holds the rules that are kept for its modules
+abbrev pub FitsLoads : {Data Rule Registers : Type 0} → Meanings Data Rule Registers → Loads (Loaded Data) → Kept Rule → Type 0
+FitsLoads m loads cache = Fits (rule_kept m loads.modules) loads.generation cache.slots
+
+-- Each key in a slot is of a generation below this one.
+pub record KeysBelow {Rule : Type 0} (generation : ℕ) (slots : List (Option (KeptRule Rule))) : Type 0 where
   pub each : All (λ slot. IfSome slot (λ entry. entry.key.generation < generation)) slots

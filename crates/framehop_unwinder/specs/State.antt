@@ -1,33 +1,37 @@
 -- Unwinders and caches under one counter.
-use Rattle.std.specs.Prelude.{ℕ, ◌≡◌, ◌<◌, List, [], map, Bool, Option, None, replicate, slice_index_or}
+use Rattle.std.specs.Prelude.{ℕ, ◌≡◌, ◌<◌, ◌+◌, List, [], length, map, Bool, Option, None, replicate, slice_index_or, slice_set}
 use Rattle.std.specs.List.{All}
-use Rattle.framehop_rules.specs.Slots.{Entry, Kept, no_counts}
+use Rattle.framehop_rules.specs.Slots.{KeptRule, Kept, no_counts}
 use Rattle.framehop_unwinder.specs.Attempt.{Meanings}
 use Rattle.framehop_unwinder.specs.Frames.{Frame}
-use Rattle.framehop_unwinder.specs.History.{KeyHistory, histories_after}
+use Rattle.framehop_unwinder.specs.History.{KeyHistory, HaveHistories, histories_after}
 use Rattle.framehop_unwinder.specs.Modules.{Loaded, Loads}
 use Rattle.framehop_unwinder.specs.RulesKept.{Fits, KeysBelow, rule_kept, key_for}
-use Rattle.framehop_unwinder.specs.Walk.{Place, Starts, At, Over}
+use Rattle.framehop_unwinder.specs.Walk.{WalkPosition, Starts, At, Over}
 
--- The unwinders with their modules and generations, the next generation, and what stands in each cache.
-pub record State (Data Rule : Type 0) : Type 0 where
+-- The unwinders with their modules and generations, the next generation, and what is in each cache.
+pub record SessionState (Data Rule : Type 0) : Type 0 where
   pub unwinders : List (Loads (Loaded Data))
   pub next : ℕ
   pub caches : List (Kept Rule)
 
 -- nothing, and the first generation
-abbrev pub empty_state : {Data Rule : Type 0} → ℕ → State Data Rule
+abbrev pub empty_state : {Data Rule : Type 0} → ℕ → SessionState Data Rule
 empty_state next = record { unwinders = []; next = next; caches = [] }
 
 -- an unwinder of a list
 abbrev pub unwinder_at : {Data : Type 0} → List (Loads (Loaded Data)) → ℕ → Loads (Loaded Data)
 unwinder_at unwinders i = slice_index_or unwinders i (record { modules = []; generation = 0 })
 
+-- the modules of an unwinder of a session
+abbrev pub modules_at : {Data Rule : Type 0} → SessionState Data Rule → ℕ → List (Loaded Data)
+modules_at session unwinder = (unwinder_at session.unwinders unwinder).modules
+
 -- a cache of a list
 abbrev pub cache_at : {Rule : Type 0} → List (Kept Rule) → ℕ → Kept Rule
 cache_at caches i = slice_index_or caches i (record { slots = []; counts = no_counts })
 
--- a new cache, and an unwinder with modules and a generation
+-- a new cache
 abbrev pub new_cache : {Rule : Type 0} → Kept Rule
 new_cache = record { slots = replicate 509 None; counts = no_counts }
 
@@ -35,21 +39,35 @@ new_cache = record { slots = replicate 509 None; counts = no_counts }
 abbrev pub loads_with : {Data : Type 0} → List (Loaded Data) → ℕ → Loads (Loaded Data)
 loads_with modules generation = record { modules = modules; generation = generation }
 
+-- a session in which an unwinder was given these modules, which takes a generation
+abbrev pub with_modules : {Data Rule : Type 0} → SessionState Data Rule → ℕ → List (Loaded Data) → SessionState Data Rule
+with_modules session unwinder modules = record session {
+  unwinders = slice_set session.unwinders unwinder (loads_with modules session.next);
+  next = session.next + 1;
+}
+
 -- the histories of caches after a step of an unwinder from a frame through one of them
 abbrev pub histories_after_step : {Data Rule Registers : Type 0} → Meanings Data Rule Registers → Bool → Frame
     → Loads (Loaded Data) → ℕ → List KeyHistory → List KeyHistory
 histories_after_step m wanted frame loads cache histories =
     histories_after wanted (rule_kept m loads.modules) (key_for frame loads.generation) cache histories
 
--- the same for a move of a walk: only from a frame a step is made
-abbrev pub histories_after_move : {Data Rule Registers : Type 0} → Meanings Data Rule Registers → Bool → Place
+-- the histories of caches after a move of a walk: only from a frame a step is made
+abbrev pub histories_after_move : {Data Rule Registers : Type 0} → Meanings Data Rule Registers → Bool → WalkPosition
     → Loads (Loaded Data) → ℕ → List KeyHistory → List KeyHistory
 histories_after_move m wanted (Starts pc) loads cache histories = histories
 histories_after_move m wanted (At frame) loads cache histories = histories_after_step m wanted frame loads cache histories
 histories_after_move m wanted Over loads cache histories = histories
 
+-- Only what is in the caches changes, and their histories change so.
+pub record ChangesCaches {Data Rule : Type 0} (after : List KeyHistory → List KeyHistory) (old new : SessionState Data Rule) : Type 0 where
+  pub unwinders : new.unwinders ≡ old.unwinders
+  pub next : new.next ≡ old.next
+  pub count : length new.caches ≡ length old.caches
+  pub histories : (histories : List KeyHistory) → HaveHistories histories old.caches → HaveHistories (after histories) new.caches
+
 -- the slots of each cache
-abbrev pub slots_of_all : {Rule : Type 0} → List (Kept Rule) → List (List (Option (Entry Rule)))
+abbrev pub slots_of_all : {Rule : Type 0} → List (Kept Rule) → List (List (Option (KeptRule Rule)))
 slots_of_all caches = map (λ cache. cache.slots) caches
 
 -- two unwinders of one generation have the same modules
@@ -59,7 +77,7 @@ AreOneBook one other = one.generation ≡ other.generation → one.modules ≡ o
 -- Why caches can be shared: generations and the keys that were kept are below the next number, unwinders of one generation
 -- have the same modules, and each cache fits each unwinder.
 pub record IsSound {Data Rule Registers : Type 0} (m : Meanings Data Rule Registers) (next : ℕ) (unwinders : List (Loads (Loaded Data)))
-    (caches : List (List (Option (Entry Rule)))) : Type 0 where
+    (caches : List (List (Option (KeptRule Rule)))) : Type 0 where
   pub older : All (λ unwinder. unwinder.generation < next) unwinders
   pub same : All (λ one. All (AreOneBook one) unwinders) unwinders
   pub below : All (KeysBelow next) caches

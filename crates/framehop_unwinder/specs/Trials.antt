@@ -1,10 +1,11 @@
 -- What a module's attempt answers and leaves, before any rule is executed.
-use Rattle.std.specs.Prelude.{◌≡◌, Bool, true, false, Option, Some, None, Result, Ok, Err}
-use Rattle.framehop_registers.specs.Callback.{Words}
+use Rattle.std.specs.Prelude.{◌≡◌, ℕ, Bool, true, false, Option, Some, None, Result, Ok, Err}
+use Rattle.framehop_registers.specs.Callback.{Words, OverWords}
 use Rattle.framehop_registers.specs.declared.error.Error.{Error}
 use Rattle.framehop_registers.specs.declared.error.Error.TheVariants.{CouldNotReadStack, FramepointerUnwindingMovedBackwards, DidNotAdvance, IntegerOverflow, ReturnAddressIsNull, OutOfMemory}
-use Rattle.framehop_rules.specs.Outcome.{Caller}
+use Rattle.framehop_rules.specs.Outcome.{Outcome, Caller, IsStep}
 use Rattle.framehop_unwinder.specs.Attempt.{Attempt, Says, Evaluates, SaysNothing}
+use Rattle.framehop_unwinder.specs.RulesKept.{rule_of_attempt}
 use Rattle.framehop_unwinder.specs.declared.unwinding.UnwindFailure.{UnwindFailure}
 use Rattle.framehop_unwinder.specs.declared.unwinding.UnwindFailure.TheVariants as failure
 use Rattle.framehop_unwinder.specs.declared.unwinding.UnwindResult.{UnwindResult}
@@ -25,7 +26,7 @@ trial registers words (Says rule) = (Ok (ExecRule rule), registers)
 trial registers words (Evaluates caller) = trial_of_caller registers (caller registers words)
 trial registers words SaysNothing = (Err failure.OfModule, registers)
 
--- memory was wanted and refused
+-- the attempt is out of memory
 abbrev pub has_wanted : {Rule : Type 0} → Result (UnwindResult Rule) UnwindFailure → Bool
 has_wanted (Ok answer) = false
 has_wanted (Err failure.OfModule) = false
@@ -52,7 +53,15 @@ KeepsUnlessDirect (Ok (ExecRule rule)) before after = after ≡ before
 KeepsUnlessDirect (Ok (Uncacheable return_address)) before after = Unit {0}
 KeepsUnlessDirect (Err failure) before after = after ≡ before
 
--- memory for a step was wanted and refused
+-- A call answers an attempt, unless it is out of memory: for all words of the stack, the answer and the registers are those of the
+-- attempt's trial; the rule that the answer has kept is the attempt's; and only the answer of a caller changes the registers.
+pub record AnswersAttempt {Stack Rule Registers : Type 0} (step : Stack → ℕ → Result ℕ (Unit {0}) → Stack → Type 0) (old_stack new_stack : Stack)
+    (old new : Registers) (result : Result (UnwindResult Rule) UnwindFailure) (attempt : Attempt Rule Registers) : Type 0 where
+  pub answer : OverWords step old_stack new_stack (λ words. has_wanted result ≡ false → (result, new) ≡ trial old words attempt)
+  pub kept : (fallback : Rule) → has_wanted result ≡ false → rule_of_result fallback result ≡ rule_of_attempt fallback attempt
+  pub registers : KeepsUnlessDirect result old new
+
+-- the step is out of memory
 abbrev pub wants_memory : {A : Type 0} → Result A Error → Bool
 wants_memory (Ok answer) = false
 wants_memory (Err (CouldNotReadStack address)) = false
@@ -62,7 +71,11 @@ wants_memory (Err IntegerOverflow) = false
 wants_memory (Err ReturnAddressIsNull) = false
 wants_memory (Err OutOfMemory) = true
 
--- an error that a step can answer: one of a rule's, or that memory was refused
+-- unless it is out of memory, a step is the one of this outcome
+abbrev pub StepsAs : {Registers : Type 0} → Result (Option ℕ) Error → Registers → Registers → Outcome (Caller Registers) → Type 0
+StepsAs result old new outcome = wants_memory result ≡ false → IsStep result old new outcome
+
+-- an error of a step: one of a rule's, or that it is out of memory
 abbrev pub IsOfStep : Error → Type 0
 IsOfStep (CouldNotReadStack address) = Unit {0}
 IsOfStep FramepointerUnwindingMovedBackwards = Unit {0}

@@ -1,15 +1,17 @@
--- The place of an iterator over frames, and its answers, as contracts see them.
-use Rattle.std.specs.Prelude.{ℕ, Option, Result, Ok, Err, option_map}
+-- The position of an iterator over frames, and its answers, as contracts see them.
+use Rattle.std.specs.Prelude.{ℕ, ◌≡◌, false, Option, Result, Ok, Err, option_map}
+use Rattle.framehop_registers.specs.Callback.{Words}
 use Rattle.framehop_registers.specs.declared.code_address.FrameAddress.{FrameAddress}
 use Rattle.framehop_registers.specs.declared.error.Error.{Error}
 use Rattle.framehop_unwinder.specs.Frames.{Frame, frame_of}
-use Rattle.framehop_unwinder.specs.Walk.{Place, Starts, At, Over, Walk, Move}
+use Rattle.framehop_unwinder.specs.Trials.{wants_memory}
+use Rattle.framehop_unwinder.specs.Walk.{Judgment, WalkPosition, Starts, At, Over, Walk, Move, move}
 use Rattle.framehop_unwinder.specs.declared.iterator.StackWalk.{StackWalk}
 use Rattle.framehop_unwinder.specs.declared.iterator.UnwindIteratorState.{UnwindIteratorState}
 use Rattle.framehop_unwinder.specs.declared.iterator.UnwindIteratorState.TheVariants.{Initial, Unwinding, Done}
 
--- the place that the state of an iterator says
-abbrev pub place_of : UnwindIteratorState → Place
+-- the position of an iterator in this state
+abbrev pub place_of : UnwindIteratorState → WalkPosition
 place_of (Initial pc) = Starts pc
 place_of (Unwinding address) = At (frame_of address)
 place_of Done = Over
@@ -21,11 +23,20 @@ frame_answer (Err error) = Err error
 
 -- a walk that is made move by move
 abbrev pub walk_of : {Registers : Type 0} → StackWalk Registers → Walk Registers
-walk_of walk = record { place = place_of walk.state; registers = walk.regs }
+walk_of walk = record { position = place_of walk.state; registers = walk.regs }
 
 -- a walk that has not begun
 abbrev pub walk_from : {Registers : Type 0} → ℕ → Registers → Walk Registers
-walk_from pc registers = record { place = Starts pc; registers = registers }
+walk_from pc registers = record { position = Starts pc; registers = registers }
+
+-- the walk of an iterator in this state, with these registers
+abbrev pub walk_at : {Registers : Type 0} → UnwindIteratorState → Registers → Walk Registers
+walk_at state registers = record { position = place_of state; registers = registers }
+
+-- unless it is out of memory, a move from one walk to another is the one that these judgments give
+abbrev pub MovesAs : {Registers : Type 0} → Judgment Registers → Words → Walk Registers → Result (Option FrameAddress) Error → Walk Registers → Type 0
+MovesAs judgment words old result new =
+    wants_memory result ≡ false → record { answer = frame_answer result; walk = new } ≡ move judgment words old
 
 -- an answer, and where the walk is then
 abbrev pub move_made : {Registers : Type 0} → Result (Option Frame) Error → StackWalk Registers → Move Registers

@@ -1,4 +1,5 @@
 //! What steps keep and reuse.
+
 ghost use Rattle.std.specs.Prelude.{◌≡◌, IfOk, None, replicate};
 ghost use Rattle.framehop_rules.specs.Slots.{no_counts};
 ghost use Rattle.framehop_unwinder.specs.CacheViews.{rules_of};

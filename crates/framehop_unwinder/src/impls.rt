@@ -1,9 +1,9 @@
 //! The unwinders of all architectures are unwinders.
-ghost use Rattle.framehop_unwinder.specs.Attempt.{meanings};
+
 ghost use Rattle.framehop_unwinder.specs.CacheViews.{rules_of};
 ghost use Rattle.framehop_unwinder.specs.Judge.{judge};
 ghost use Rattle.framehop_unwinder.specs.Memory.{AsksMemory};
-ghost use Rattle.framehop_unwinder.specs.RulesKept.{Fits, rule_kept};
+ghost use Rattle.framehop_unwinder.specs.RulesKept.{FitsLoads};
 
 use crate::cache::Cache;
 use crate::module::Module;
@@ -28,11 +28,10 @@ impl<A: Unwinding> Unwinder for UnwinderInternal<A> {
     ghost end = { λ module_. module_.end };
 
     ghost judgment = { λ unwinder.
-        judge (meanings A.UnwindRule.meaning A.UnwindRule.fallback A.attempt) unwinder.modules };
+        judge A.meanings unwinder.modules };
 
     ghost fits = { λ unwinder cache.
-        let m = meanings A.UnwindRule.meaning A.UnwindRule.fallback A.attempt in
-        Fits (rule_kept m unwinder.modules) unwinder.generation (rules_of cache).slots };
+        FitsLoads A.meanings unwinder (rules_of cache) };
 
     ghost takes_memory = { A.takes_memory };
 

@@ -1,10 +1,11 @@
 //! A walk over the frames of a stack.
+
 ghost use Rattle.std.specs.Prelude.{◌≡◌, ◌≢◌, false, true, Ok, Err, Some, None, IfErr, IfSome};
 ghost use Rattle.framehop_registers.specs.Callback.{OverWords};
 ghost use Rattle.framehop_unwinder.specs.Frames.{first_frame, frame_of, later_frame};
 ghost use Rattle.framehop_unwinder.specs.Trials.{wants_memory};
-ghost use Rattle.framehop_unwinder.specs.Walk.{At, Over, Starts, Walk, move};
-ghost use Rattle.framehop_unwinder.specs.WalkViews.{place_of, frame_answer};
+ghost use Rattle.framehop_unwinder.specs.Walk.{At, Over, Starts};
+ghost use Rattle.framehop_unwinder.specs.WalkViews.{MovesAs, place_of, frame_answer, walk_at};
 
 use crate::unwinders::Unwinder;
 use framehop_rules::{Error, FrameAddress};
@@ -29,8 +30,8 @@ impl UnwindIteratorState {
         first
     }
 
-    /// Goes to the frame of a step's return address, or to the end where the stack ends. It stays
-    /// where the return address is 0.
+    /// Goes to the frame of a step's return address, or to the end if the stack ends. It stays
+    /// if the return address is 0.
     #[inline(always)]
     pub(crate) fn go_on(&mut self, step: Option<u64>) -> Result<Option<FrameAddress>, Error>
         ensures end { step ≡ None → (result ≡ Ok None) × (place_of self.new ≡ Over) }
@@ -92,13 +93,9 @@ impl<'u, 'c, 'r, U: Unwinder, F: FnMut(u64) -> Result<u64, ()>> UnwindIterator<'
         requires { F.IsAlwaysCallable self.old.read_stack.now }
         ensures callable { F.IsAlwaysCallable self.new.read_stack.now }
         ensures moved { OverWords F.step self.old.read_stack.now self.new.read_stack.now (λ words.
-            U.fits self.old.unwinder.now self.old.cache.now → wants_memory result ≡ false
-            → record {
-              answer = frame_answer result;
-              walk = record { place = place_of self.new.state; registers = self.new.regs };
-            }
-            ≡ move (U.judgment self.old.unwinder.now) words
-            (record { place = place_of self.old.state; registers = self.old.regs })) }
+            U.fits self.old.unwinder.now self.old.cache.now
+            → MovesAs (U.judgment self.old.unwinder.now) words
+            (walk_at self.old.state self.old.regs) result (walk_at self.new.state self.new.regs)) }
         ensures fits { U.fits self.old.unwinder.now self.old.cache.now
             → U.fits self.new.unwinder.now self.new.cache.now }
         ensures wanting { wants_memory result ≡ true

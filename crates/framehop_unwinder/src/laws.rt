@@ -1,18 +1,17 @@
 //! Laws of caches that are shared. The functions do nothing when the program runs.
+
 ghost use Rattle.std.specs.Prelude.{◌≡◌, ◌≢◌, ◌<◌, ◌+◌, ℕ, Bool, List, [], Option, None, Some, Result, replicate};
-ghost use Rattle.std.specs.List.{All};
-ghost use Rattle.std.specs.List.Sorted.{IsNonDecreasingBy};
 ghost use Rattle.framehop_registers.specs.Callback.{Words};
 ghost use Rattle.framehop_registers.specs.declared.error.Error.{Error};
 ghost use Rattle.framehop_rules.specs.Outcome.{Outcome, Caller, IsStep};
-ghost use Rattle.framehop_rules.specs.Slots.{Key, Entry, counts_after};
+ghost use Rattle.framehop_rules.specs.Slots.{Key, KeptRule, counts_after};
 ghost use Rattle.framehop_rules.specs.declared.rule_cache.CacheStats.{CacheStats};
 ghost use Rattle.framehop_unwinder.specs.Attempt.{Meanings};
 ghost use Rattle.framehop_unwinder.specs.Frames.{Frame, lookup_address};
 ghost use Rattle.framehop_unwinder.specs.History.{HasLastKeys, finding_after, keys_after};
 ghost use Rattle.framehop_unwinder.specs.Judge.{judge};
-ghost use Rattle.framehop_unwinder.specs.Modules.{Loaded, module_found, with_module};
-ghost use Rattle.framehop_unwinder.specs.ModulesApart.{StartsOutside};
+ghost use Rattle.framehop_unwinder.specs.Modules.{Loaded, module_found, with_loaded};
+ghost use Rattle.framehop_unwinder.specs.ModulesApart.{IsApart};
 ghost use Rattle.framehop_unwinder.specs.RulesKept.{Fits, KeysBelow, finding_in, slots_after};
 
 use crate::unwinding::Unwinding;
@@ -22,21 +21,21 @@ use framehop_rules::{Arch, UnwindRule};
 /// generation differs or which keeps the same rule for the key of the step.
 pub fn fits_after_step<R: UnwindRule>()
     ensures fits { (wanted : Bool) (mine theirs : Key → Option R) (generation : ℕ)
-        (key : Key) (slots : List (Option (Entry R)))
+        (key : Key) (slots : List (Option (KeptRule R)))
         → (key.generation ≡ generation → theirs key ≡ mine key)
         → Fits theirs generation slots
         → Fits theirs generation (slots_after wanted mine key slots) }
     ensures below { (wanted : Bool) (mine : Key → Option R) (next : ℕ)
-        (key : Key) (slots : List (Option (Entry R)))
+        (key : Key) (slots : List (Option (KeptRule R)))
         → key.generation < next → KeysBelow next slots
         → KeysBelow next (slots_after wanted mine key slots) }
 {}
 
 /// A cache fits an unwinder with a generation that none of its keys has, and a new cache fits all.
 pub fn fits_if_new<R: UnwindRule>()
-    ensures fits { (theirs : Key → Option R) (generation : ℕ) (slots : List (Option (Entry R)))
+    ensures fits { (theirs : Key → Option R) (generation : ℕ) (slots : List (Option (KeptRule R)))
         → KeysBelow generation slots → Fits theirs generation slots }
-    ensures more { (next : ℕ) (slots : List (Option (Entry R)))
+    ensures more { (next : ℕ) (slots : List (Option (KeptRule R)))
         → KeysBelow next slots → KeysBelow (next + 1) slots }
     ensures empty { (theirs : Key → Option R) (generation : ℕ)
         → Fits theirs generation (replicate 509 None) }
@@ -49,9 +48,9 @@ pub fn fits_if_new<R: UnwindRule>()
 pub fn keys_after_step<R: UnwindRule>()
     ensures empty { HasLastKeys {Rule = R} [] (replicate 509 None) }
     ensures kept { (wanted : Bool) (kept : Key → Option R) (key : Key) (keys : List Key)
-        (slots : List (Option (Entry R))) → HasLastKeys keys slots
+        (slots : List (Option (KeptRule R))) → HasLastKeys keys slots
         → HasLastKeys (keys_after wanted kept key keys) (slots_after wanted kept key slots) }
-    ensures counts { (key : Key) (keys : List Key) (slots : List (Option (Entry R)))
+    ensures counts { (key : Key) (keys : List Key) (slots : List (Option (KeptRule R)))
         (counts : CacheStats) → HasLastKeys keys slots
         → counts_after (finding_in slots key) counts
         ≡ counts_after (finding_after keys key) counts }
@@ -73,11 +72,8 @@ pub fn modules_elsewhere_change_no_step<A: Unwinding>()
     ensures { (m : Meanings A.UnwindData A.UnwindRule A.UnwindRegs) (module_ : Loaded A.UnwindData)
         (modules : List (Loaded A.UnwindData)) (frame : Frame) (registers : A.UnwindRegs)
         (words : Words)
-        → IsNonDecreasingBy (λ m. m.start) modules
-        → IsNonDecreasingBy (λ m. m.start) (with_module (λ m. m.start) module_ modules)
-        → All (StartsOutside module_) modules
-        → module_found (with_module (λ m. m.start) module_ modules) (lookup_address frame)
-        ≢ Some module_
-        → judge m (with_module (λ m. m.start) module_ modules) frame registers words
+        → IsApart module_ modules
+        → module_found (with_loaded module_ modules) (lookup_address frame) ≢ Some module_
+        → judge m (with_loaded module_ modules) frame registers words
         ≡ judge m modules frame registers words }
 {}

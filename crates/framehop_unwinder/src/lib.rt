@@ -1,5 +1,5 @@
 //! The step of a stack walk through a cache of rules, walks, and unwinders that share caches, on any
-//! architecture and whatever modules are unwound by.
+//! architecture and for all that modules are unwound by.
 #![tactic(auto)]
 
 mod cache;

@@ -1,4 +1,5 @@
 //! A module, and lists of modules.
+
 ghost use Rattle.std.specs.Prelude.{◌≡◌, ◌≤◌, ◌-◌, ◌+◌, length, List, IfSome, IfNone, IfOk, MatchOption, Some, None};
 ghost use Rattle.std.specs.String.{string_bytes};
 ghost use Rattle.framehop_unwinder.specs.Modules.{nearest_module, is_inside, if_inside};
@@ -118,15 +119,15 @@ impl<D> Module<D> {
         self.inner.avma_range.end
     }
 
-    /// Whether an address is in the module. At its very start its end isn't asked, so that a
-    /// module of no bytes contains its start.
+    // Whether an address is in the module. At its very start its end isn't asked, so that a
+    // module of no bytes contains its start.
     fn contains(&self, address: u64) -> bool
         ensures { result ≡ is_inside address self.now }
     {
         address == self.start() || address < self.end()
     }
 
-    /// The distance of an address from the module's base, where the module contains the address.
+    /// The distance of an address from the module's base, if the module contains the address.
     pub(crate) fn relative_address(&self, address: u64) -> Option<u32>
         ensures none { IfNone result (if_inside address self.now ≡ None) }
         ensures inside { IfSome result (λ _. if_inside address self.now ≡ Some self.now) }

@@ -1,18 +1,17 @@
 //! Many unwinders, which share caches under one counter of generations.
-ghost use Rattle.std.specs.Prelude.{◌≡◌, ◌<◌, ◌≤◌, ◌+◌, ◌^◌, ◌-◌, ◌∷◌, ◌++◌, [], true, false, Ok, Err, None, length, List, replicate, slice_set, IfOk, IfErr, IsErr, OnOk, OnErr};
+
+ghost use Rattle.std.specs.Prelude.{◌≡◌, ◌<◌, ◌≤◌, ◌+◌, ◌^◌, ◌-◌, ◌∷◌, ◌++◌, [], true, false, Ok, Err, None, length, List, IfOk, IfErr, IsErr, OnOk, OnErr};
 ghost use Rattle.framehop_registers.specs.Callback.{OverWords};
-ghost use Rattle.framehop_rules.specs.Outcome.{IsStep};
+ghost use Rattle.framehop_rules.specs.Outcome.{StaysUnlessAnswered};
 ghost use Rattle.framehop_modules.specs.LoadErrors.{module_returned, is_exhausted};
-ghost use Rattle.framehop_unwinder.specs.Attempt.{meanings};
 ghost use Rattle.framehop_unwinder.specs.Frames.{frame_of};
 ghost use Rattle.framehop_unwinder.specs.Judge.{judge};
-ghost use Rattle.framehop_unwinder.specs.Memory.{AsksMemory};
-ghost use Rattle.framehop_unwinder.specs.Modules.{with_module, without_module, has_start};
+ghost use Rattle.framehop_unwinder.specs.Memory.{AsksMemory, WantsMemoryOnlyIf};
+ghost use Rattle.framehop_unwinder.specs.Modules.{is_loaded_at, with_loaded, without_loaded};
 ghost use Rattle.framehop_unwinder.specs.History.{KeyHistory, HaveHistories, history_at, no_history};
-ghost use Rattle.framehop_unwinder.specs.State.{empty_state, unwinder_at, cache_at, histories_after_step, histories_after_move, new_cache, loads_with};
-ghost use Rattle.framehop_unwinder.specs.Trials.{wants_memory, IsOfStep};
-ghost use Rattle.framehop_unwinder.specs.Walk.{move};
-ghost use Rattle.framehop_unwinder.specs.WalkViews.{frame_answer, move_made, place_of, walk_of};
+ghost use Rattle.framehop_unwinder.specs.State.{ChangesCaches, empty_state, unwinder_at, cache_at, histories_after_step, histories_after_move, new_cache, loads_with, modules_at, with_modules};
+ghost use Rattle.framehop_unwinder.specs.Trials.{StepsAs, wants_memory, IsOfStep};
+ghost use Rattle.framehop_unwinder.specs.WalkViews.{MovesAs, place_of, walk_of};
 
 use crate::cache::Cache;
 use crate::iterator::{StackWalk, UnwindIteratorState};
@@ -24,9 +23,9 @@ use framehop_rules::{CacheStats, Error, FrameAddress};
 use std::alloc::{AllocError, Global};
 use std::marker::Model;
 
-/// Unwinders and caches under one counter of generations. Any cache serves any of the unwinders,
-/// whatever was loaded, unloaded and cloned before: each step is the one that the modules loaded now
-/// give without a cache.
+/// Unwinders and caches under one counter of generations. Any cache serves any of the unwinders, after
+/// any loads, unloads and clones: each step is the one that the modules loaded now give without a
+/// cache.
 #[derive(Drop)]
 pub struct Session<A: Unwinding> {
     unwinders: Vec<UnwinderInternal<A>>,
@@ -36,11 +35,10 @@ pub struct Session<A: Unwinding> {
 
 impl<A: Unwinding> Model for Session<A> {
     ghost use Rattle.std.specs.Prelude.{map};
-    ghost use Rattle.framehop_unwinder.specs.Attempt.{meanings};
     ghost use Rattle.framehop_unwinder.specs.CacheViews.{rules_of};
-    ghost use Rattle.framehop_unwinder.specs.State.{State, IsSound, slots_of_all};
+    ghost use Rattle.framehop_unwinder.specs.State.{SessionState, IsSound, slots_of_all};
 
-    ghost Value = { State A.UnwindData A.UnwindRule };
+    ghost Value = { SessionState A.UnwindData A.UnwindRule };
 
     ghost view = { λ session. record {
       unwinders = session.unwinders.items;
@@ -49,7 +47,7 @@ impl<A: Unwinding> Model for Session<A> {
     } };
 
     ghost invariant = { λ session.
-        IsSound (meanings A.UnwindRule.meaning A.UnwindRule.fallback A.attempt) session.generations
+        IsSound A.meanings session.generations
         session.unwinders.items (slots_of_all (map rules_of session.caches.items)) };
 }
 
@@ -58,7 +56,7 @@ impl<A: Unwinding> Model for Session<A> {
 pub enum AddUnwinderError {
     /// The counter gave all its numbers.
     GenerationsExhausted,
-    /// Memory for the list of unwinders was refused.
+    /// There is no memory for the list of unwinders.
     OutOfMemory,
 }
 
@@ -149,12 +147,8 @@ impl<A: Unwinding> Session<A> {
         module: Module<A::UnwindData>,
     ) -> Result<(), LoadError<Module<A::UnwindData>>>
         requires { unwinder < length self.old.unwinders }
-        ensures ok { let modules = (unwinder_at self.old.unwinders unwinder).modules in
-            let loads = loads_with (with_module (λ m. m.start) «module» modules) self.old.next in
-            OnOk result (self.new ≡ record self.old {
-              unwinders = slice_set self.old.unwinders unwinder loads;
-              next = self.old.next + 1;
-            }) }
+        ensures ok { OnOk result (self.new ≡ with_modules self.old unwinder
+            (with_loaded «module» (modules_at self.old unwinder))) }
         ensures exhausted { 2 ^ 64 - 1 ≤ self.old.next
             → result ≡ Err (LoadError.GenerationsExhausted «module») }
         ensures only { IfErr result (λ error. is_exhausted error ≡ true
@@ -168,19 +162,13 @@ impl<A: Unwinding> Session<A> {
     /// Unloads the last of the modules of an unwinder that start at an address, if one does.
     pub fn unload(&mut self, unwinder: usize, start: u64) -> Result<(), GenerationsExhausted>
         requires { unwinder < length self.old.unwinders }
-        ensures unknown { let modules = (unwinder_at self.old.unwinders unwinder).modules in
-            has_start (λ m. m.start) start modules ≡ false
+        ensures unknown { is_loaded_at start (modules_at self.old unwinder) ≡ false
             → (result ≡ Ok tt) × (self.new ≡ self.old) }
-        ensures ok { let modules = (unwinder_at self.old.unwinders unwinder).modules in
-            let loads = loads_with (without_module (λ m. m.start) start modules) self.old.next in
-            has_start (λ m. m.start) start modules ≡ true
-            → OnOk result (self.new ≡ record self.old {
-              unwinders = slice_set self.old.unwinders unwinder loads;
-              next = self.old.next + 1;
-            }) }
-        ensures exhausted { let modules = (unwinder_at self.old.unwinders unwinder).modules in
-            has_start (λ m. m.start) start modules ≡ true → 2 ^ 64 - 1 ≤ self.old.next
-            → IsErr result }
+        ensures ok { is_loaded_at start (modules_at self.old unwinder) ≡ true
+            → OnOk result (self.new ≡ with_modules self.old unwinder
+            (without_loaded start (modules_at self.old unwinder))) }
+        ensures exhausted { is_loaded_at start (modules_at self.old unwinder) ≡ true
+            → 2 ^ 64 - 1 ≤ self.old.next → IsErr result }
         ensures only { OnErr result (self.old.next ≡ 2 ^ 64 - 1) }
         ensures refused { OnErr result (self.new ≡ self.old) }
     {
@@ -210,31 +198,21 @@ impl<A: Unwinding> Session<A> {
         requires unwinder { unwinder < length self.old.unwinders }
         requires cache { cache < length self.old.caches }
         ensures callable { F.IsAlwaysCallable read_stack.new }
-        ensures step { let m = meanings A.UnwindRule.meaning A.UnwindRule.fallback A.attempt in
-            let modules = (unwinder_at self.old.unwinders unwinder).modules in
-            OverWords F.step read_stack.old read_stack.new (λ words. wants_memory result ≡ false
-            → IsStep result regs.old regs.new (judge m modules (frame_of address) regs.old words)) }
-        ensures unwinders { self.new.unwinders ≡ self.old.unwinders }
-        ensures next { self.new.next ≡ self.old.next }
-        ensures caches { length self.new.caches ≡ length self.old.caches }
-        ensures histories { let m = meanings A.UnwindRule.meaning A.UnwindRule.fallback A.attempt in
-            let loads = unwinder_at self.old.unwinders unwinder in
-            (histories : List KeyHistory) → HaveHistories histories self.old.caches
-            → HaveHistories
-            (histories_after_step m (wants_memory result) (frame_of address) loads cache histories)
-            self.new.caches }
-        ensures none_keeps { result ≡ Ok None → regs.new ≡ regs.old }
-        ensures error_keeps { OnErr result (regs.new ≡ regs.old) }
+        ensures step { OverWords F.step read_stack.old read_stack.new (λ words.
+            StepsAs result regs.old regs.new
+            (judge A.meanings (modules_at self.old unwinder) (frame_of address) regs.old words)) }
+        ensures caches { ChangesCaches (histories_after_step A.meanings (wants_memory result)
+            (frame_of address) (unwinder_at self.old.unwinders unwinder) cache) self.old self.new }
+        ensures stays { StaysUnlessAnswered result regs.old regs.new }
         ensures refusals { IfErr result IsOfStep }
-        ensures memory { A.takes_memory ≡ false → wants_memory result ≡ false }
-        ensures asked { let modules = (unwinder_at self.old.unwinders unwinder).modules in
-            wants_memory result ≡ true → AsksMemory A.asks_memory modules (frame_of address) }
+        ensures memory { WantsMemoryOnlyIf A.takes_memory (wants_memory result)
+            (AsksMemory A.asks_memory (modules_at self.old unwinder) (frame_of address)) }
     {
         let cache = &mut self.caches[cache];
         self.unwinders[unwinder].unwind_frame(address, regs, cache, read_stack)
     }
 
-    /// Makes the next move of a walk over an unwinder's frames, with any of the caches: answers the
+    /// Makes the next move of a walk over an unwinder's frames, with any of the caches: returns the
     /// next frame, or `None` at the end of the stack and from then on. The first frame is the
     /// instruction pointer. After an error the walk is where it was.
     pub fn next_frame<F: FnMut(u64) -> Result<u64, ()>>(
@@ -248,22 +226,13 @@ impl<A: Unwinding> Session<A> {
         requires unwinder { unwinder < length self.old.unwinders }
         requires cache { cache < length self.old.caches }
         ensures callable { F.IsAlwaysCallable read_stack.new }
-        ensures moved { let m = meanings A.UnwindRule.meaning A.UnwindRule.fallback A.attempt in
-            let modules = (unwinder_at self.old.unwinders unwinder).modules in
-            OverWords F.step read_stack.old read_stack.new (λ words. wants_memory result ≡ false
-            → move_made (frame_answer result) walk.new
-            ≡ move (judge m modules) words (walk_of walk.old)) }
+        ensures moved { OverWords F.step read_stack.old read_stack.new (λ words.
+            MovesAs (judge A.meanings (modules_at self.old unwinder)) words
+            (walk_of walk.old) result (walk_of walk.new)) }
         ensures wanting { wants_memory result ≡ true → walk.new ≡ walk.old }
-        ensures unwinders { self.new.unwinders ≡ self.old.unwinders }
-        ensures next { self.new.next ≡ self.old.next }
-        ensures caches { length self.new.caches ≡ length self.old.caches }
-        ensures histories { let m = meanings A.UnwindRule.meaning A.UnwindRule.fallback A.attempt in
-            let loads = unwinder_at self.old.unwinders unwinder in
-            let place = place_of walk.old.state in
-            (histories : List KeyHistory) → HaveHistories histories self.old.caches
-            → HaveHistories
-            (histories_after_move m (wants_memory result) place loads cache histories)
-            self.new.caches }
+        ensures caches { ChangesCaches (histories_after_move A.meanings (wants_memory result)
+            (place_of walk.old.state) (unwinder_at self.old.unwinders unwinder) cache)
+            self.old self.new }
         ensures memory { A.takes_memory ≡ false → wants_memory result ≡ false }
     {
         let address = match walk.state {

@@ -1,18 +1,19 @@
 //! The modules of a process, and the step of a stack walk.
+
 ghost use Rattle.std.specs.Prelude.{◌≡◌, ◌+◌, ◌-◌, ◌^◌, ◌<◌, ◌≤◌, [], true, false, Some, None, Ok, Err, List, length, insert, remove, IfOk, IfErr, IsErr, OnOk, OnErr, IfNone, IfSome};
 ghost use Rattle.std.specs.List.Sorted.{IsNonDecreasingBy};
 ghost use Rattle.framehop_registers.specs.Callback.{OverWords};
-ghost use Rattle.framehop_rules.specs.Outcome.{IsStep};
-ghost use Rattle.framehop_rules.specs.Slots.{key_of, counts_after};
+ghost use Rattle.framehop_rules.specs.Outcome.{IsStep, StaysUnlessAnswered};
+ghost use Rattle.framehop_rules.specs.Slots.{key_of};
 ghost use Rattle.framehop_modules.specs.LoadErrors.{module_returned, is_exhausted};
-ghost use Rattle.framehop_unwinder.specs.Attempt.{Attempt, meanings, attempt_at};
+ghost use Rattle.framehop_unwinder.specs.Attempt.{Attempt, attempt_at};
 ghost use Rattle.framehop_unwinder.specs.CacheViews.{rules_of};
 ghost use Rattle.framehop_unwinder.specs.Frames.{frame_of};
 ghost use Rattle.framehop_unwinder.specs.Judge.{by_attempt, judge, judge_at};
-ghost use Rattle.framehop_unwinder.specs.Memory.{AsksMemory, AsksMemoryAt};
-ghost use Rattle.framehop_unwinder.specs.Modules.{Loaded, nearest_module, module_found, with_module, without_module, has_start, last_end};
-ghost use Rattle.framehop_unwinder.specs.RulesKept.{Fits, rule_kept, key_for, finding_in, slots_after, with_any};
-ghost use Rattle.framehop_unwinder.specs.Trials.{trial, has_wanted, rule_of_result, HasValidRule, KeepsUnlessDirect, wants_memory, IsOfStep};
+ghost use Rattle.framehop_unwinder.specs.Memory.{AsksMemory, AsksMemoryAt, WantsMemoryOnlyIf};
+ghost use Rattle.framehop_unwinder.specs.Modules.{ChangesNothing, Loaded, TakesNumber, nearest_module, module_found, is_loaded_at, with_loaded, without_loaded, last_end};
+ghost use Rattle.framehop_unwinder.specs.RulesKept.{FitsLoads, StepsCache, rule_kept, key_for, with_any};
+ghost use Rattle.framehop_unwinder.specs.Trials.{AnswersAttempt, StepsAs, trial, has_wanted, rule_of_result, HasValidRule, KeepsUnlessDirect, wants_memory, IsOfStep};
 
 use crate::cache::Cache;
 use crate::module::Module;
@@ -22,8 +23,8 @@ use framehop_rules::{CacheHandle, CacheResult, Error, FrameAddress, RuleCache, U
 use std::alloc::{AllocError, Global};
 use std::marker::Model;
 
-/// The modules of a process, in the order of their starts. Modules of equal starts stand with the
-/// last loaded first.
+/// The modules of a process, in the order of their starts. Of modules of equal starts the
+/// last loaded comes first.
 #[derive(Drop)]
 pub struct UnwinderInternal<A: Unwinding> {
     modules: Vec<Module<A::UnwindData>>,
@@ -45,7 +46,7 @@ impl<A: Unwinding> Model for UnwinderInternal<A> {
         unwinder.modules.items };
 }
 
-/// The last of the modules that start at or below an address.
+// The last of the modules that start at or below an address.
 fn nearest_module<D>(modules: &[Module<D>], address: u64) -> Option<&Module<D>>
     requires { IsNonDecreasingBy (λ module_. module_.start) modules.now }
     ensures none { IfNone result (nearest_module modules.now address ≡ None) }
@@ -58,7 +59,7 @@ fn nearest_module<D>(modules: &[Module<D>], address: u64) -> Option<&Module<D>>
     Some(&modules[index])
 }
 
-/// The module that an address is in, and the address relative to its base.
+// The module that an address is in, and the address relative to its base.
 fn module_for_address<D>(modules: &[Module<D>], address: u64) -> Option<(&Module<D>, u32)>
     requires { IsNonDecreasingBy (λ module_. module_.start) modules.now }
     ensures none { IfNone result (module_found modules.now address ≡ None) }
@@ -70,26 +71,26 @@ fn module_for_address<D>(modules: &[Module<D>], address: u64) -> Option<(&Module
     Some((module, relative_address))
 }
 
-/// Where a module with this start goes: before those of an equal or a greater one.
+// Where a module with this start goes: before those of an equal or a greater one.
 fn place_for<D>(modules: &[Module<D>], start: u64) -> usize
     requires { IsNonDecreasingBy (λ module_. module_.start) modules.now }
     ensures inside { result ≤ length modules.now }
     ensures place { (module_ : Loaded D) → module_.start ≡ start
-        → insert modules.now result module_ ≡ with_module (λ m. m.start) module_ modules.now }
+        → insert modules.now result module_ ≡ with_loaded module_ modules.now }
     ensures order { (module_ : Loaded D) → module_.start ≡ start
         → IsNonDecreasingBy (λ m. m.start) (insert modules.now result module_) }
 {
     modules.partition_point(|other| other.start() < start)
 }
 
-/// Where the last of the modules with this start is.
+// Where the last of the modules with this start is.
 fn last_with_start<D>(modules: &[Module<D>], start: u64) -> Option<usize>
     requires { IsNonDecreasingBy (λ module_. module_.start) modules.now }
-    ensures none { IfNone result (has_start (λ m. m.start) start modules.now ≡ false) }
-    ensures some { IfSome result (λ _. has_start (λ m. m.start) start modules.now ≡ true) }
+    ensures none { IfNone result (is_loaded_at start modules.now ≡ false) }
+    ensures some { IfSome result (λ _. is_loaded_at start modules.now ≡ true) }
     ensures inside { IfSome result (λ index. index < length modules.now) }
     ensures without { IfSome result (λ index. remove modules.now index
-        ≡ without_module (λ m. m.start) start modules.now) }
+        ≡ without_loaded start modules.now) }
     ensures order { IfSome result
         (λ index. IsNonDecreasingBy (λ m. m.start) (remove modules.now index)) }
 {
@@ -103,7 +104,7 @@ fn last_with_start<D>(modules: &[Module<D>], start: u64) -> Option<usize>
     }
 }
 
-/// The same modules, shared.
+// Clones of the modules, which share what they have.
 fn clones_of<D: Drop>(alloc: Global, modules: &[Module<D>]) -> Result<Vec<Module<D>>, AllocError>
     ensures { IfOk result (λ clones. clones.items ≡ modules.now) }
 {
@@ -114,7 +115,7 @@ fn clones_of<D: Drop>(alloc: Global, modules: &[Module<D>]) -> Result<Vec<Module
     Ok(clones)
 }
 
-/// Keeps the rule that a module's answer gives to be kept, if it gives one.
+// Keeps the rule that a module's answer gives to be kept, if it gives one.
 #[inline(always)]
 fn keep<R: UnwindRule>(
     cache: &mut RuleCache<R>,
@@ -134,7 +135,7 @@ fn keep<R: UnwindRule>(
     }
 }
 
-/// Makes the step that a module's answer comes to.
+// Makes the step that a module's answer gives.
 #[inline(always)]
 #[tactic(auto, using(crate::proofs::Steps::rules_want_none))]
 fn execute<A: Unwinding, F: FnMut(u64) -> Result<u64, ()>>(
@@ -146,15 +147,12 @@ fn execute<A: Unwinding, F: FnMut(u64) -> Result<u64, ()>>(
     requires valid { HasValidRule A.UnwindRule.is_valid answer }
     requires callable { F.IsAlwaysCallable read_stack.old }
     ensures callable { F.IsAlwaysCallable read_stack.new }
-    ensures step { let m = meanings A.UnwindRule.meaning A.UnwindRule.fallback A.attempt in
-        OverWords F.step read_stack.old read_stack.new (λ words. (before : A.UnwindRegs)
+    ensures step { OverWords F.step read_stack.old read_stack.new (λ words. (before : A.UnwindRegs)
         → (attempt : Attempt A.UnwindRule A.UnwindRegs) → has_wanted answer ≡ false
         → (answer, regs.old) ≡ trial before words attempt
-        → IsStep result before regs.new (by_attempt m is_first_frame before words attempt)) }
-    ensures none_keeps { (before : A.UnwindRegs) → KeepsUnlessDirect answer before regs.old
-        → result ≡ Ok None → regs.new ≡ before }
-    ensures error_keeps { (before : A.UnwindRegs) → KeepsUnlessDirect answer before regs.old
-        → OnErr result (regs.new ≡ before) }
+        → IsStep result before regs.new (by_attempt A.meanings is_first_frame before words attempt)) }
+    ensures stays { (before : A.UnwindRegs) → KeepsUnlessDirect answer before regs.old
+        → StaysUnlessAnswered result before regs.new }
     ensures refusals { IfErr result IsOfStep }
     ensures wanted { wants_memory result ≡ has_wanted answer }
 {
@@ -169,7 +167,7 @@ fn execute<A: Unwinding, F: FnMut(u64) -> Result<u64, ()>>(
 }
 
 impl<A: Unwinding> UnwinderInternal<A> {
-    /// An unwinder without a module. Takes a generation, or is refused where none is left.
+    /// An unwinder without a module. Takes a generation, and fails if none is left.
     pub fn new(alloc: Global, generations: &mut Generations) -> Result<Self, GenerationsExhausted>
         ensures ok { IfOk result (λ unwinder.
             unwinder ≡ record { modules = []; generation = generations.old }) }
@@ -201,25 +199,24 @@ impl<A: Unwinding> UnwinderInternal<A> {
         })
     }
 
-    /// Puts a module before those of an equal or a greater start, and takes a generation. Where no
-    /// generation is left, or else memory for the list is refused, the module comes back and nothing
-    /// changes.
+    /// Puts a module before those of an equal or a greater start, and takes a generation. If no
+    /// generation is left, or else there is no memory for the list, the error has the module and
+    /// nothing changes.
     pub fn add_module(
         &mut self,
         generations: &mut Generations,
         module: Module<A::UnwindData>,
     ) -> Result<(), LoadError<Module<A::UnwindData>>>
         ensures modules { OnOk result
-            (self.new.modules ≡ with_module (λ m. m.start) «module» self.old.modules) }
-        ensures generation { OnOk result (self.new.generation ≡ generations.old) }
-        ensures taken { OnOk result (generations.new ≡ generations.old + 1) }
+            (self.new.modules ≡ with_loaded «module» self.old.modules) }
+        ensures number { TakesNumber result self.new generations.old generations.new }
         ensures exhausted { 2 ^ 64 - 1 ≤ generations.old
             → result ≡ Err (LoadError.GenerationsExhausted «module») }
         ensures only { IfErr result (λ error. is_exhausted error ≡ true
             → generations.old ≡ 2 ^ 64 - 1) }
         ensures returned { IfErr result (λ error. module_returned error ≡ «module») }
-        ensures same { OnErr result (self.new ≡ self.old) }
-        ensures untaken { OnErr result (generations.new ≡ generations.old) }
+        ensures failure { ChangesNothing result self.old self.new
+            generations.old generations.new }
     {
         if generations.left() == 0 {
             return Err(LoadError::GenerationsExhausted(module));
@@ -234,27 +231,25 @@ impl<A: Unwinding> UnwinderInternal<A> {
         }
     }
 
-    /// Takes out the last of the modules that start at an address, and takes a generation. Where
-    /// none starts there, nothing changes and no generation is taken; where none is left, nothing
-    /// changes.
+    /// Takes out the last of the modules that start at an address, and takes a generation. If none
+    /// starts there, nothing changes and no generation is taken. Fails if none is left, and changes
+    /// nothing then.
     pub fn remove_module(
         &mut self,
         generations: &mut Generations,
         module_avma_range_start: u64,
     ) -> Result<(), GenerationsExhausted>
-        ensures unknown { has_start (λ m. m.start) module_avma_range_start self.old.modules ≡ false
+        ensures unknown { is_loaded_at module_avma_range_start self.old.modules ≡ false
             → (result ≡ Ok tt) × (self.new ≡ self.old) × (generations.new ≡ generations.old) }
         ensures modules { OnOk result (self.new.modules
-            ≡ without_module (λ m. m.start) module_avma_range_start self.old.modules) }
-        ensures generation { has_start (λ m. m.start) module_avma_range_start self.old.modules ≡ true
-            → OnOk result (self.new.generation ≡ generations.old) }
-        ensures taken { has_start (λ m. m.start) module_avma_range_start self.old.modules ≡ true
-            → OnOk result (generations.new ≡ generations.old + 1) }
-        ensures exhausted { has_start (λ m. m.start) module_avma_range_start self.old.modules
+            ≡ without_loaded module_avma_range_start self.old.modules) }
+        ensures number { is_loaded_at module_avma_range_start self.old.modules ≡ true
+            → TakesNumber result self.new generations.old generations.new }
+        ensures exhausted { is_loaded_at module_avma_range_start self.old.modules
             ≡ true → 2 ^ 64 - 1 ≤ generations.old → IsErr result }
         ensures refused { OnErr result (generations.old ≡ 2 ^ 64 - 1) }
-        ensures same { OnErr result (self.new ≡ self.old) }
-        ensures untaken { OnErr result (generations.new ≡ generations.old) }
+        ensures failure { ChangesNothing result self.old self.new
+            generations.old generations.new }
     {
         let Some(index) = last_with_start(&self.modules, module_avma_range_start) else {
             return Ok(());
@@ -274,15 +269,15 @@ impl<A: Unwinding> UnwinderInternal<A> {
         }
     }
 
-    /// The number that the list of modules is told by.
+    // The number that the list of modules is told by.
     fn generation(&self) -> u64
         ensures { result ≡ self.now.generation }
     {
         self.generation
     }
 
-    /// What the module that an address is in says of a frame that is looked up by it. Without a
-    /// module nothing is said.
+    // What the module that an address is in says of a frame that is looked up by it. Without a
+    // module nothing is said.
     fn attempt<F: FnMut(u64) -> Result<u64, ()>>(
         &self,
         address: u64,
@@ -293,18 +288,11 @@ impl<A: Unwinding> UnwinderInternal<A> {
     ) -> Result<UnwindResult<A::UnwindRule>, UnwindFailure>
         requires { F.IsAlwaysCallable read_stack.old }
         ensures callable { F.IsAlwaysCallable read_stack.new }
-        ensures trial { let m = meanings A.UnwindRule.meaning A.UnwindRule.fallback A.attempt in
-            OverWords F.step read_stack.old read_stack.new (λ words.
-            has_wanted result ≡ false → (result, regs.new)
-            ≡ trial regs.old words (attempt_at m self.now.modules is_first_frame address)) }
-        ensures kept { let m = meanings A.UnwindRule.meaning A.UnwindRule.fallback A.attempt in
-            has_wanted result ≡ false → rule_of_result A.UnwindRule.fallback result
-            ≡ rule_kept m self.now.modules (key_of address is_first_frame self.now.generation) }
-        ensures keeps { KeepsUnlessDirect result regs.old regs.new }
+        ensures answers { AnswersAttempt F.step read_stack.old read_stack.new regs.old regs.new
+            result (attempt_at A.meanings self.now.modules is_first_frame address) }
         ensures valid { HasValidRule A.UnwindRule.is_valid result }
-        ensures memory { A.takes_memory ≡ false → has_wanted result ≡ false }
-        ensures asked { has_wanted result ≡ true
-            → AsksMemoryAt A.asks_memory self.now.modules is_first_frame address }
+        ensures memory { WantsMemoryOnlyIf A.takes_memory (has_wanted result)
+            (AsksMemoryAt A.asks_memory self.now.modules is_first_frame address) }
     {
         match module_for_address(&self.modules, address) {
             Some((module, relative_address)) => A::unwind_frame(
@@ -319,7 +307,7 @@ impl<A: Unwinding> UnwinderInternal<A> {
         }
     }
 
-    /// Makes the step from a frame that is looked up by an address.
+    // Makes the step from a frame that is looked up by an address.
     #[tactic(auto, using(crate::proofs::Steps::rules_want_none))]
     fn step<F: FnMut(u64) -> Result<u64, ()>>(
         &self,
@@ -331,25 +319,16 @@ impl<A: Unwinding> UnwinderInternal<A> {
     ) -> Result<Option<u64>, Error>
         requires { F.IsAlwaysCallable read_stack.old }
         ensures callable { F.IsAlwaysCallable read_stack.new }
-        ensures step { let m = meanings A.UnwindRule.meaning A.UnwindRule.fallback A.attempt in
-            OverWords F.step read_stack.old read_stack.new (λ words.
-            Fits (rule_kept m self.now.modules) self.now.generation (rules_of cache.old).slots
-            → wants_memory result ≡ false → IsStep result regs.old regs.new
-            (judge_at m self.now.modules is_first_frame address regs.old words)) }
-        ensures slots { let m = meanings A.UnwindRule.meaning A.UnwindRule.fallback A.attempt in
-            let key = key_of address is_first_frame self.now.generation in
-            let kept = rule_kept m self.now.modules in
-            (rules_of cache.new).slots
-            ≡ slots_after (wants_memory result) kept key (rules_of cache.old).slots }
-        ensures counts { let key = key_of address is_first_frame self.now.generation in
-            (rules_of cache.new).counts
-            ≡ counts_after (finding_in (rules_of cache.old).slots key) (rules_of cache.old).counts }
-        ensures none_keeps { result ≡ Ok None → regs.new ≡ regs.old }
-        ensures error_keeps { OnErr result (regs.new ≡ regs.old) }
+        ensures step { OverWords F.step read_stack.old read_stack.new (λ words.
+            FitsLoads A.meanings self.now (rules_of cache.old) → StepsAs result regs.old regs.new
+            (judge_at A.meanings self.now.modules is_first_frame address regs.old words)) }
+        ensures cache { StepsCache (rule_kept A.meanings self.now.modules)
+            (key_of address is_first_frame self.now.generation) (wants_memory result)
+            (rules_of cache.old) (rules_of cache.new) }
+        ensures stays { StaysUnlessAnswered result regs.old regs.new }
         ensures refusals { IfErr result IsOfStep }
-        ensures memory { A.takes_memory ≡ false → wants_memory result ≡ false }
-        ensures asked { wants_memory result ≡ true
-            → AsksMemoryAt A.asks_memory self.now.modules is_first_frame address }
+        ensures memory { WantsMemoryOnlyIf A.takes_memory (wants_memory result)
+            (AsksMemoryAt A.asks_memory self.now.modules is_first_frame address) }
     {
         let handle = match cache
             .rule_cache
@@ -364,13 +343,12 @@ impl<A: Unwinding> UnwinderInternal<A> {
         execute::<A, F>(answer, is_first_frame, regs, read_stack)
     }
 
-    /// Makes the step from a frame with these registers: answers the return address and leaves the
-    /// caller's registers, or answers `None` at the end of the stack. `None` and an error leave the
+    /// Makes the step from a frame with these registers: returns the return address and leaves the
+    /// caller's registers, or returns `None` at the end of the stack. `None` and an error leave the
     /// registers as they were. `read_stack` reads a word of the stack at an address.
     ///
-    /// The rule that the cache has for the frame is executed, and where it has none, what the
-    /// module says of the frame is done and kept. Where no module says anything, the fallback rule
-    /// is executed. Through a cache that fits the unwinder the step is the one without a cache.
+    /// The rule that the cache has for the frame is executed; if it has none, what the module says
+    /// of the frame is done and kept. If no module says anything, the fallback rule is executed. Through a cache that fits the unwinder the step is the one without a cache.
     pub fn unwind_frame<F: FnMut(u64) -> Result<u64, ()>>(
         &self,
         address: FrameAddress,
@@ -380,25 +358,16 @@ impl<A: Unwinding> UnwinderInternal<A> {
     ) -> Result<Option<u64>, Error>
         requires { F.IsAlwaysCallable read_stack.old }
         ensures callable { F.IsAlwaysCallable read_stack.new }
-        ensures step { let m = meanings A.UnwindRule.meaning A.UnwindRule.fallback A.attempt in
-            OverWords F.step read_stack.old read_stack.new (λ words.
-            Fits (rule_kept m self.now.modules) self.now.generation (rules_of cache.old).slots
-            → wants_memory result ≡ false → IsStep result regs.old regs.new
-            (judge m self.now.modules (frame_of address) regs.old words)) }
-        ensures slots { let m = meanings A.UnwindRule.meaning A.UnwindRule.fallback A.attempt in
-            let key = key_for (frame_of address) self.now.generation in
-            let kept = rule_kept m self.now.modules in
-            (rules_of cache.new).slots
-            ≡ slots_after (wants_memory result) kept key (rules_of cache.old).slots }
-        ensures counts { let key = key_for (frame_of address) self.now.generation in
-            (rules_of cache.new).counts
-            ≡ counts_after (finding_in (rules_of cache.old).slots key) (rules_of cache.old).counts }
-        ensures none_keeps { result ≡ Ok None → regs.new ≡ regs.old }
-        ensures error_keeps { OnErr result (regs.new ≡ regs.old) }
+        ensures step { OverWords F.step read_stack.old read_stack.new (λ words.
+            FitsLoads A.meanings self.now (rules_of cache.old) → StepsAs result regs.old regs.new
+            (judge A.meanings self.now.modules (frame_of address) regs.old words)) }
+        ensures cache { StepsCache (rule_kept A.meanings self.now.modules)
+            (key_for (frame_of address) self.now.generation) (wants_memory result)
+            (rules_of cache.old) (rules_of cache.new) }
+        ensures stays { StaysUnlessAnswered result regs.old regs.new }
         ensures refusals { IfErr result IsOfStep }
-        ensures memory { A.takes_memory ≡ false → wants_memory result ≡ false }
-        ensures asked { wants_memory result ≡ true
-            → AsksMemory A.asks_memory self.now.modules (frame_of address) }
+        ensures memory { WantsMemoryOnlyIf A.takes_memory (wants_memory result)
+            (AsksMemory A.asks_memory self.now.modules (frame_of address)) }
     {
         let lookup_address = address.address_for_lookup();
         let is_first_frame = !address.is_return_address();

@@ -1,11 +1,13 @@
 //! What the unwinders of all architectures have.
+
 ghost use Rattle.std.specs.Prelude.{◌≡◌, ◌≤◌, ◌+◌, ◌-◌, ◌^◌, ℕ, Bool, true, false, Ok, Err, None, IfOk, IfErr, IsErr, OnOk, OnErr};
 ghost use Rattle.framehop_registers.specs.Callback.{Words, OverWords};
-ghost use Rattle.framehop_rules.specs.Outcome.{Outcome, Caller, IsStep};
+ghost use Rattle.framehop_rules.specs.Outcome.{Outcome, Caller, StaysUnlessAnswered};
 ghost use Rattle.framehop_modules.specs.LoadErrors.{module_returned, is_exhausted};
 ghost use Rattle.framehop_unwinder.specs.Frames.{Frame, frame_of};
-ghost use Rattle.framehop_unwinder.specs.Modules.{Loads, with_module, without_module, has_start, last_end};
-ghost use Rattle.framehop_unwinder.specs.Trials.{wants_memory, IsOfStep};
+ghost use Rattle.framehop_unwinder.specs.Memory.{WantsMemoryOnlyIf};
+ghost use Rattle.framehop_unwinder.specs.Modules.{ChangesNothing, Loads, TakesNumber, with_module, without_module, has_start, last_end};
+ghost use Rattle.framehop_unwinder.specs.Trials.{StepsAs, wants_memory, IsOfStep};
 ghost use Rattle.framehop_unwinder.specs.Walk.{Starts};
 ghost use Rattle.framehop_unwinder.specs.WalkViews.{place_of};
 
@@ -44,7 +46,7 @@ pub trait Unwinder {
     /// The frames from which one may.
     ghost asks_memory: { Self → Frame → Type 0 };
 
-    /// Loads a module, and takes a generation. A refusal hands the module back and changes nothing.
+    /// Loads a module, and takes a generation. An error has the module, and nothing changes then.
     fn add_module(
         &mut self,
         generations: &mut Generations,
@@ -52,18 +54,17 @@ pub trait Unwinder {
     ) -> Result<(), LoadError<Self::Module>>
         ensures modules { OnOk result ((loads self.new).modules
             ≡ with_module start «module» (loads self.old).modules) }
-        ensures generation { OnOk result ((loads self.new).generation ≡ generations.old) }
-        ensures taken { OnOk result (generations.new ≡ generations.old + 1) }
+        ensures number { TakesNumber result (loads self.new) generations.old generations.new }
         ensures exhausted { 2 ^ 64 - 1 ≤ generations.old
             → result ≡ Err (LoadError.GenerationsExhausted «module») }
         ensures only { IfErr result (λ error. is_exhausted error ≡ true
             → generations.old ≡ 2 ^ 64 - 1) }
         ensures returned { IfErr result (λ error. module_returned error ≡ «module») }
-        ensures same { OnErr result (self.new ≡ self.old) }
-        ensures untaken { OnErr result (generations.new ≡ generations.old) };
+        ensures failure { ChangesNothing result self.old self.new
+            generations.old generations.new };
 
-    /// Unloads the last of the modules that start at an address, and takes a generation. Where none
-    /// starts there, nothing changes; a refusal changes nothing either.
+    /// Unloads the last of the modules that start at an address, and takes a generation. If none
+    /// starts there, or if it fails, nothing changes.
     fn remove_module(
         &mut self,
         generations: &mut Generations,
@@ -73,15 +74,13 @@ pub trait Unwinder {
             → (result ≡ Ok tt) × (self.new ≡ self.old) × (generations.new ≡ generations.old) }
         ensures modules { OnOk result ((loads self.new).modules
             ≡ without_module start module_avma_range_start (loads self.old).modules) }
-        ensures generation { has_start start module_avma_range_start (loads self.old).modules ≡ true
-            → OnOk result ((loads self.new).generation ≡ generations.old) }
-        ensures taken { has_start start module_avma_range_start (loads self.old).modules ≡ true
-            → OnOk result (generations.new ≡ generations.old + 1) }
+        ensures number { has_start start module_avma_range_start (loads self.old).modules ≡ true
+            → TakesNumber result (loads self.new) generations.old generations.new }
         ensures exhausted { has_start start module_avma_range_start (loads self.old).modules ≡ true
             → 2 ^ 64 - 1 ≤ generations.old → IsErr result }
         ensures refused { OnErr result (generations.old ≡ 2 ^ 64 - 1) }
-        ensures same { OnErr result (self.new ≡ self.old) }
-        ensures untaken { OnErr result (generations.new ≡ generations.old) };
+        ensures failure { ChangesNothing result self.old self.new
+            generations.old generations.new };
 
     /// The end of the last module, else 0.
     fn max_known_code_address(&self) -> u64
@@ -93,8 +92,8 @@ pub trait Unwinder {
         Self: Sized,
         ensures { IfOk result (λ unwinder. unwinder ≡ self.now) };
 
-    /// Makes the step from a frame with these registers: answers the return address and leaves the
-    /// caller's registers, or answers `None` at the end of the stack. `None` and an error leave the
+    /// Makes the step from a frame with these registers: returns the return address and leaves the
+    /// caller's registers, or returns `None` at the end of the stack. `None` and an error leave the
     /// registers as they were. `read_stack` reads a word of the stack at an address.
     fn unwind_frame<F: FnMut(u64) -> Result<u64, ()>>(
         &self,
@@ -106,14 +105,13 @@ pub trait Unwinder {
         requires { F.IsAlwaysCallable read_stack.old }
         ensures callable { F.IsAlwaysCallable read_stack.new }
         ensures step { OverWords F.step read_stack.old read_stack.new (λ words.
-            fits self.now cache.old → wants_memory result ≡ false → IsStep result regs.old regs.new
+            fits self.now cache.old → StepsAs result regs.old regs.new
             (judgment self.now (frame_of address) regs.old words)) }
         ensures fits { fits self.now cache.old → fits self.now cache.new }
-        ensures none_keeps { result ≡ Ok None → regs.new ≡ regs.old }
-        ensures error_keeps { OnErr result (regs.new ≡ regs.old) }
+        ensures stays { StaysUnlessAnswered result regs.old regs.new }
         ensures refusals { IfErr result IsOfStep }
-        ensures memory { takes_memory ≡ false → wants_memory result ≡ false }
-        ensures asked { wants_memory result ≡ true → asks_memory self.now (frame_of address) };
+        ensures memory { WantsMemoryOnlyIf takes_memory (wants_memory result)
+            (asks_memory self.now (frame_of address)) };
 
     /// A walk from a frame at the instruction pointer `pc` with these registers.
     final fn iter_frames<'u, 'c, 'r, F: FnMut(u64) -> Result<u64, ()>>(

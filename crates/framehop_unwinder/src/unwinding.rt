@@ -1,9 +1,9 @@
 //! What the modules of an architecture say of a frame.
-ghost use Rattle.std.specs.Prelude.{◌≡◌, ℕ, Bool, true, false};
-ghost use Rattle.framehop_registers.specs.Callback.{Words, OverWords};
-ghost use Rattle.framehop_unwinder.specs.Attempt.{Attempt};
-ghost use Rattle.framehop_unwinder.specs.Trials.{trial, has_wanted, rule_of_result, HasValidRule, KeepsUnlessDirect};
-ghost use Rattle.framehop_unwinder.specs.RulesKept.{rule_of_attempt};
+
+ghost use Rattle.std.specs.Prelude.{◌≡◌, ℕ, Bool};
+ghost use Rattle.framehop_unwinder.specs.Attempt.{Meanings};
+ghost use Rattle.framehop_unwinder.specs.Memory.{WantsMemoryOnlyIf};
+ghost use Rattle.framehop_unwinder.specs.Trials.{AnswersAttempt, has_wanted, HasValidRule};
 
 use framehop_rules::Arch;
 use std::fmt::Debug;
@@ -17,16 +17,16 @@ pub enum UnwindResult<R> {
     Uncacheable(u64),
 }
 
-/// Why a module says nothing of a frame. The fallback rule is executed then, unless memory was
-/// refused.
+/// Why a module says nothing of a frame. The fallback rule is executed then, unless the step is out
+/// of memory.
 #[derive(Debug, Clone, Copy, PartialEq, Eq)]
 pub enum UnwindFailure {
-    /// The module says nothing of the address, whatever the registers and the words of the stack
-    /// are. The fallback rule is kept.
+    /// The module says nothing of the address, for all registers and words of the stack. The
+    /// fallback rule is kept.
     OfModule,
     /// What the module says gives nothing for these registers and words. Nothing is kept.
     OfFrame,
-    /// Memory was refused. The step is.
+    /// Out of memory, and so is the step.
     OutOfMemory,
 }
 
@@ -38,17 +38,19 @@ pub trait Unwinding: Arch {
     /// Room that attempts reuse from step to step. No answer depends on what was left in it.
     type UnwindContext: Drop;
 
-    ghost attempt: { Self.UnwindData → ℕ → Bool → Attempt Self.UnwindRule Self.UnwindRegs };
+    /// What steps go by: the meanings of the rules, the fallback rule, and what a module with this
+    /// data says of a frame.
+    ghost meanings: { Meanings Self.UnwindData Self.UnwindRule Self.UnwindRegs };
 
     /// Whether an attempt may take memory.
     ghost takes_memory: { Bool };
 
-    /// The modules' data, relative addresses and kinds of frames where one may.
+    /// The modules' data, relative addresses and kinds of frames for which one may.
     ghost asks_memory: { Self.UnwindData → ℕ → Bool → Type 0 };
 
-    /// What a module says of a frame at an address that counts from the module's base: a rule, or
-    /// the return address where the registers are the caller's already; or why it says nothing, with
-    /// the registers as they were.
+    /// What a module says of a frame at an address relative to the module's base: a rule, or the
+    /// return address, with the registers of the caller; or why it says nothing, with the registers
+    /// as they were.
     fn unwind_frame<F: FnMut(u64) -> Result<u64, ()>>(
         unwind_data: &Self::UnwindData,
         relative_address: u32,
@@ -59,15 +61,13 @@ pub trait Unwinding: Arch {
     ) -> Result<UnwindResult<Self::UnwindRule>, UnwindFailure>
         requires { F.IsAlwaysCallable read_stack.old }
         ensures callable { F.IsAlwaysCallable read_stack.new }
-        ensures trial { OverWords F.step read_stack.old read_stack.new (λ words.
-            has_wanted result ≡ false → (result, regs.new)
-            ≡ trial regs.old words (attempt unwind_data.now relative_address is_first_frame)) }
-        ensures kept { (fallback : Self.UnwindRule) → has_wanted result ≡ false
-            → rule_of_result fallback result
-            ≡ rule_of_attempt fallback (attempt unwind_data.now relative_address is_first_frame) }
-        ensures keeps { KeepsUnlessDirect result regs.old regs.new }
+        ensures answers { AnswersAttempt F.step read_stack.old read_stack.new regs.old regs.new
+            result (meanings.attempt unwind_data.now relative_address is_first_frame) }
         ensures valid { HasValidRule Self.UnwindRule.is_valid result }
-        ensures memory { takes_memory ≡ false → has_wanted result ≡ false }
-        ensures asked { has_wanted result ≡ true
-            → asks_memory unwind_data.now relative_address is_first_frame };
+        ensures memory { WantsMemoryOnlyIf takes_memory (has_wanted result)
+            (asks_memory unwind_data.now relative_address is_first_frame) };
+
+    ghost meaning_is: { meanings.meaning ≡ Self.UnwindRule.meaning };
+
+    ghost fallback_is: { meanings.fallback ≡ Self.UnwindRule.fallback };
 }

@@ -1,6 +1,6 @@
 -- Laws of checks, of lists that are checked, and of lines that are written. Each is the contract of a function of `decoding` or `writing`.
 use Rattle.std.proofs.Common.{◌≡◌, ℕ, suc, ◌+◌, ◌<◌, List, [], ◌∷◌, ◌++◌, length, get_or, take, drop, Option, Some, None, Result, Ok, Err, refl, sym, ap, subst, ◌∙◌, arith, append_assoc, add-one}
-use Rattle.std.specs.Prelude.{IsErrAnd}
+use Rattle.std.specs.Prelude.{IsErr, IsErrAnd}
 use Rattle.std.specs.Io.KnownBytes.{Appends}
 use Rattle.std.proofs.Math.Seq.{drop-cons, take-append_seam}
 use Rattle.std.proofs.lemmas.List.{append-nil, take-append-drop}
@@ -9,13 +9,13 @@ use Rattle.serde_json.specs.Data.{Data}
 use Rattle.serde_json.specs.View.{view, items_view}
 use Rattle.serde_json.specs.declared.value.Value.{Value}
 use Rattle.json_program.specs.declared.fault.FaultName.{FaultName}
-use Rattle.json_program.specs.declared.fault.Refusal.{Refusal}
-use Rattle.json_program.specs.declared.fault.Refusal.TheVariants as refusal
+use Rattle.json_program.specs.declared.fault.DecodeError.{DecodeError}
+use Rattle.json_program.specs.declared.fault.DecodeError.TheVariants as decode_error
 use Rattle.json_program.specs.Decoded.{Decodes, result_map}
-use Rattle.json_program.specs.Elements.{so_far, joined, first}
-use Rattle.json_program.specs.Faults.{Checked, first_fault, with_fault, unit_answer, weighed, ◌⊛◌, both, in_unit}
+use Rattle.json_program.specs.Elements.{SoFar, completed, first, joined, so_far, with_element}
+use Rattle.json_program.specs.Faults.{Checked, first_fault, with_fault, unit_answer, keep_fault, ◌⊛◌, both, in_unit}
 use Rattle.json_program.specs.Json.{list_of}
-use Rattle.json_program.specs.Stream.{AppendsFront, IsWritten}
+use Rattle.json_program.specs.Stream.{AppendsPrefix, IsWritten, WritesText}
 
 -- two checks of values in memory are the checks of what the values show
 pub both-views : {A B C D : Type 0} (f : A → C) (g : B → D) (a : Checked A) (b : Checked B)
@@ -43,7 +43,7 @@ ok_is x y is = cc
 pub first_fault-assoc : (a b c : FaultName) → first_fault (first_fault a b) c ≡ first_fault a (first_fault b c)
 first_fault-assoc a b c = grind (arith, nat_tests)
 
--- one more value goes behind those so far
+-- one more value goes after those so far
 pub joined-good : {A : Type 0} (fault : Option FaultName) (xs : List A) (x : A) (rest : Checked (List A))
     → joined (so_far fault xs) (first (Ok x) rest) ≡ joined (so_far fault (xs ++ x ∷ [])) rest
 joined-good None xs x (Ok ys) = ap (λ zs. Ok zs) (sym (append_assoc xs (x ∷ []) ys))
@@ -63,42 +63,42 @@ pub joined-end : {A : Type 0} (checked : Checked (List A)) → joined checked (O
 joined-end (Ok xs) = ap (λ zs. Ok zs) (append-nil xs)
 joined-end (Err n) = refl
 
--- ---- refusals
+-- ---- errors
 
--- what was weighed is what is decoded
-pub weighed-decoded : {A B : Type 0} (view : A → B) (answer : Result A (Refusal FaultName)) (checked : Checked A) (decoded : Checked B)
-    → Decodes view answer decoded → weighed answer ≡ Ok checked → result_map view checked ≡ decoded
-weighed-decoded view (Ok value) checked decoded is same = ap (result_map view) (sym (ok_is _ _ same)) ∙ sym is
-weighed-decoded view (Err (refusal.Fault name)) checked decoded is same = ap (result_map view) (sym (ok_is _ _ same)) ∙ sym is
-weighed-decoded view (Err refusal.OutOfMemory) checked decoded is same = absurd cc
+-- a value or fault that is kept is what is decoded
+pub keep_fault-decoded : {A B : Type 0} (view : A → B) (answer : Result A (DecodeError FaultName)) (checked : Checked A) (decoded : Checked B)
+    → Decodes view answer decoded → keep_fault answer ≡ Ok checked → result_map view checked ≡ decoded
+keep_fault-decoded view (Ok value) checked decoded is same = ap (result_map view) (sym (ok_is _ _ same)) ∙ sym is
+keep_fault-decoded view (Err (decode_error.Fault name)) checked decoded is same = ap (result_map view) (sym (ok_is _ _ same)) ∙ sym is
+keep_fault-decoded view (Err decode_error.OutOfMemory) checked decoded is same = absurd cc
 
--- a fault that ends the check, as it is passed on
-pub passed_on : {A B : Type 0} (view : A → B) (answer : Result A (Refusal FaultName)) (name : FaultName) (decoded : Checked B)
-    → IsErrAnd answer (λ given. given ≡ refusal.Fault name) → Err name ≡ decoded → Decodes view answer decoded
+-- a fault that ends the check, as it is returned
+pub passed_on : {A B : Type 0} (view : A → B) (answer : Result A (DecodeError FaultName)) (name : FaultName) (decoded : Checked B)
+    → IsErrAnd answer (λ given. given ≡ decode_error.Fault name) → Err name ≡ decoded → Decodes view answer decoded
 passed_on view (Ok value) name decoded given is = absurd given
 passed_on view (Err given) name decoded same is = subst (λ r. Decodes view (Err r) decoded) (sym same) (sym is)
 
--- a refusal that ends the check, as it is passed on
-pub same_refusal : {A B F : Type 0} (view : A → B) (answer : Result A (Refusal F)) (why : Refusal F) (decoded : Result B F)
+-- an error that ends the check, as it is returned
+pub same_error : {A B F : Type 0} (view : A → B) (answer : Result A (DecodeError F)) (why : DecodeError F) (decoded : Result B F)
     → IsErrAnd answer (λ given. given ≡ why) → Decodes view (Err why) decoded → Decodes view answer decoded
-same_refusal view (Ok value) why decoded given is = absurd given
-same_refusal view (Err given) why decoded same is = subst (λ r. Decodes view (Err r) decoded) (sym same) is
+same_error view (Ok value) why decoded given is = absurd given
+same_error view (Err given) why decoded same is = subst (λ r. Decodes view (Err r) decoded) (sym same) is
 
--- what the check of a unit answers
-pub unit_answer-decoded : {A B : Type 0} (view : A → B) (n : ℕ) (answer : Result A (Refusal FaultName)) (decoded : Checked B)
+-- the result of a unit's check is decoded as the unit's
+pub unit_answer-decoded : {A B : Type 0} (view : A → B) (n : ℕ) (answer : Result A (DecodeError FaultName)) (decoded : Checked B)
     → Decodes view answer decoded → Decodes view (unit_answer n answer) (in_unit n decoded)
 unit_answer-decoded view n (Ok value) decoded is = ap (in_unit n) is
-unit_answer-decoded view n (Err (refusal.Fault name)) decoded is = ap (in_unit n) is
-unit_answer-decoded view n (Err refusal.OutOfMemory) decoded is = tt
+unit_answer-decoded view n (Err (decode_error.Fault name)) decoded is = ap (in_unit n) is
+unit_answer-decoded view n (Err decode_error.OutOfMemory) decoded is = tt
 
 -- a unit's value is what is decoded
-pub unit_answer-good : {A B : Type 0} (view : A → B) (n : ℕ) (answer : Result A (Refusal FaultName)) (decoded : Checked B) (value : A)
+pub unit_answer-good : {A B : Type 0} (view : A → B) (n : ℕ) (answer : Result A (DecodeError FaultName)) (decoded : Checked B) (value : A)
     → Decodes view answer decoded → unit_answer n answer ≡ Ok value → decoded ≡ Ok (view value)
 unit_answer-good view n (Ok given) decoded value is same = is ∙ ap (λ v. Ok (view v)) (ok_is _ _ same)
-unit_answer-good view n (Err (refusal.Fault name)) decoded value is same = absurd cc
-unit_answer-good view n (Err refusal.OutOfMemory) decoded value is same = absurd cc
+unit_answer-good view n (Err (decode_error.Fault name)) decoded value is same = absurd cc
+unit_answer-good view n (Err decode_error.OutOfMemory) decoded value is same = absurd cc
 
--- the same, where no memory is taken
+-- a fault that ends the check of a value that takes no memory
 pub same_fault : {A : Type 0} (answer : Checked A) (name : FaultName) (decoded : Checked A)
     → IsErrAnd answer (λ given. given ≡ name) → Err name ≡ decoded → answer ≡ decoded
 same_fault (Ok value) name decoded given is = absurd given
@@ -132,7 +132,7 @@ and-field f g x y z a b before here is =
 
 -- ---- elements by their index
 
--- the element at an index, before those behind it
+-- the element at an index, before those after it
 pub drop-element : (vs : List Value) (i : ℕ) (v : Value) → i < length vs → v ≡ get_or vs i v → drop i vs ≡ v ∷ drop (i + 1) vs
 drop-element vs i v within is = rw (add-one, drop-cons vs i v) (ap (λ w. w ∷ drop (suc i) vs) (sym is))
 
@@ -140,7 +140,7 @@ pub list_of-drop : {A : Type 0} (value_in : Data → Checked A) (vs : List Value
     → list_of value_in (items_view (drop i vs)) ≡ first (value_in (view v)) (list_of value_in (items_view (drop (i + 1) vs)))
 list_of-drop value_in vs i v within is = ap (λ ws. list_of value_in (items_view ws)) (drop-element vs i v within is)
 
--- After i elements `fault` and `xs` stand for what they gave. One more gives a value, which goes behind those.
+-- After i elements `fault` and `xs` are what they gave. One more gives a value, which goes after those.
 pub kept-good : {A : Type 0} (value_in : Data → Checked A) (vs : List Value) (i : ℕ) (v : Value) (fault later : Option FaultName) (xs ys : List A) (x : A)
     (all : Checked (List A)) → i < length vs → v ≡ get_or vs i v
     → all ≡ joined (so_far fault xs) (list_of value_in (items_view (drop i vs)))
@@ -161,6 +161,12 @@ kept-bad value_in vs i v fault later xs ys name all within is before gives same 
     let rest = list_of value_in (items_view (drop (i + 1) vs)) in
     before ∙ ap (joined (so_far fault xs)) (list_of-drop value_in vs i v within is ∙ ap (λ r. first r rest) gives) ∙ joined-bad fault xs name rest
     ∙ ap (λ zs. joined (so_far (with_fault fault name) zs) rest) (sym same) ∙ ap (λ f. joined (so_far f ys) rest) (sym more)
+
+-- One more element, whatever it gives.
+pub kept-more : {A : Type 0} (value_in : Data → Checked A) (vs : List Value) (i : ℕ) (v : Value) (s : SoFar A) (given : Checked A) → i < length vs → v ≡ get_or vs i v
+    → value_in (view v) ≡ given → completed value_in vs i s ≡ completed value_in vs (i + 1) (with_element s given)
+kept-more value_in vs i v s (Ok x) within is gives = kept-good value_in vs i v s.fault s.fault s.values _ x _ within is refl gives refl refl
+kept-more value_in vs i v s (Err name) within is gives = kept-bad value_in vs i v s.fault _ s.values s.values name _ within is refl gives refl refl
 
 -- ---- lines
 
@@ -184,17 +190,27 @@ written_more old mid new line left all (front, added, whole) h = (front ++ line,
 pub written_all : (old new : Option (List ℕ)) (all : List ℕ) → IsWritten old new [] all → Appends old new all
 written_all old new all (front, added, whole) = subst (λ (xs : List ℕ). Appends old new xs) (sym (append-nil front) ∙ whole) added
 
--- a front is written
-pub written_front : (old new : Option (List ℕ)) (left all : List ℕ) → IsWritten old new left all → AppendsFront old new all
-written_front old new left all (front, added, whole) = (length front, subst (λ (xs : List ℕ). Appends old new xs) (sym (take-append_seam front left) ∙ ap (take (length front)) whole) added)
+-- a prefix is written
+pub written_prefix : (old new : Option (List ℕ)) (left all : List ℕ) → IsWritten old new left all → AppendsPrefix old new all
+written_prefix old new left all (front, added, whole) = (length front, subst (λ (xs : List ℕ). Appends old new xs) (sym (take-append_seam front left) ∙ ap (take (length front)) whole) added)
 
--- a front of a line is written before the rest
-pub begun_line : (old mid new : Option (List ℕ)) (line left all : List ℕ) → IsWritten old mid (line ++ left) all → AppendsFront mid new line → AppendsFront old new all
+-- a prefix of a line is written, and then of all
+pub begun_line : (old mid new : Option (List ℕ)) (line left all : List ℕ) → IsWritten old mid (line ++ left) all → AppendsPrefix mid new line → AppendsPrefix old new all
 begun_line old mid new line left all written (count, added) =
-    written_front old new (drop count line ++ left) all
+    written_prefix old new (drop count line ++ left) all
     (written_more old mid new (take count line) (drop count line ++ left) all
     (subst (λ (xs : List ℕ). IsWritten old mid xs all) (ap (λ (xs : List ℕ). xs ++ left) (sym (take-append-drop count line)) ∙ append_assoc (take count line) (drop count line) left) written) added)
 
--- nothing is a front of anything
-pub begun_none : (old : Option (List ℕ)) (all : List ℕ) → AppendsFront old old all
-begun_none old all = written_front old old all all (written_none old all)
+-- nothing is a prefix of any text
+pub begun_none : (old : Option (List ℕ)) (all : List ℕ) → AppendsPrefix old old all
+begun_none old all = written_prefix old old all all (written_none old all)
+
+-- a call that fails after it wrote a prefix of a text
+pub fails_after : {T E : Type 0} (result : Result T E) (old new : Option (List ℕ)) (text : List ℕ) → IsErr result → AppendsPrefix old new text
+    → WritesText result old new text
+fails_after (Ok value) old new text failed begun = absurd cc
+fails_after (Err error) old new text failed begun = record { whole = tt; prefix = begun }
+
+-- a call that fails before it writes
+pub writes_nothing : {T E : Type 0} (result : Result T E) (old : Option (List ℕ)) (text : List ℕ) → IsErr result → WritesText result old old text
+writes_nothing result old text failed = fails_after result old old text failed (begun_none old text)

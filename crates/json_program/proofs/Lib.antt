@@ -1,5 +1,5 @@
 mod Digits
 pub mod Laws
 mod Members
-mod Runs
+pub mod Runs
 mod Texts

@@ -1,4 +1,4 @@
--- Names of members, and lists of texts behind references.
+-- Names of members, and lists of references to texts.
 use Rattle.std.proofs.Common.{◌≡◌, List, [], ◌∷◌, map, Bool, ◌&&◌, ◌||◌, String, Global, Bor, string_bytes, refl, sym, ap, ◌∙◌, ℕ}
 use Rattle.std.specs.Prelude.{bytes_eq}
 use Rattle.std.specs.List.{list_any}

@@ -1,10 +1,11 @@
--- What a run comes to: the part of a document that is read says what the whole does.
-use Rattle.std.proofs.Common.{◌≡◌, ◌+◌, ◌<◌, ℕ, List, length, take, Option, Some, None, Result, Ok, Err, inl, inr, ap, arith}
-use Rattle.std.specs.Prelude.{IfSome, OnErr}
+-- Runs: the part of a document that is read has the text of the whole, and a write that succeeds leaves a sink that hasn't failed.
+use Rattle.std.proofs.Common.{◌≡◌, ◌+◌, ◌<◌, ◌↔◌, ℕ, Bool, true, false, IsTrue, List, length, take, Option, Some, None, Result, Ok, Err, inl, inr, refl, ap, arith}
+use Rattle.std.specs.Prelude.{IfSome, IsErrOf}
 use Rattle.std.proofs.lemmas.List.{length-take, take_all}
 use Rattle.std.proofs.lemmas.Bool.{cases_lt}
 use Rattle.json_program.specs.declared.transfer.TheConstants.{DOCUMENT_LIMIT}
-use Rattle.json_program.specs.Stream.{part_read}
+use Rattle.json_program.specs.declared.status.RunError.{RunError}
+use Rattle.json_program.specs.declared.status.RunError.TheVariants.{Write}
 
 -- what holds of a value holds of it in another way
 pub if_some_map : {A : Type 0} (o : Option A) (P Q : A → Type 0) → ((x : A) → P x → Q x) → IfSome o P → IfSome o Q
@@ -16,16 +17,19 @@ pub if_some_always : {A : Type 0} (o : Option A) (P : A → Type 0) → ((x : A)
 if_some_always (Some x) P f = f x
 if_some_always None P f = tt
 
--- what holds in any case holds after an error
-pub on_err : {T E P : Type 0} (r : Result T E) → P → OnErr r P
-on_err (Ok value) holds = tt
-on_err (Err error) holds = holds
+-- what a write that succeeds returns
+abbrev pub succeeded : Result (Unit {0}) RunError
+succeeded = Ok tt
 
--- where documents that are too long are answered alike, the front that is read says what the whole does
+-- after a write that succeeds the sink hasn't failed
+pub not_failed : (failed : Bool) → (IsErrOf succeeded Write ↔ IsTrue failed) → failed ≡ false
+not_failed true h = let e : succeeded ≡ Err Write = h.1 refl in cc
+not_failed false h = refl
+
+-- if every document that is too long has one text, the part that is read has the text of the whole
 pub part_says : {A : Type 0} (says : List ℕ → A)
     → ((one other : List ℕ) → DOCUMENT_LIMIT < length one → DOCUMENT_LIMIT < length other → says one ≡ says other)
-    → (all : List ℕ) → says (part_read all) ≡ says all
-unfolding part_read
+    → (all : List ℕ) → says (take (DOCUMENT_LIMIT + 1) all) ≡ says all
 part_says says alike all = elim (cases_lt DOCUMENT_LIMIT (length all)) [
   | inl more ↦ alike (take (DOCUMENT_LIMIT + 1) all) all (omega (arith, length-take (DOCUMENT_LIMIT + 1) all)) more
   | inr short ↦ ap says (take_all (DOCUMENT_LIMIT + 1) all (omega arith))

@@ -3,12 +3,12 @@ use Rattle.std.specs.Prelude.{ℕ, List, ◌++◌, codes, decimal, nat_le, if◌
 use Rattle.json_program.specs.declared.fault.FaultName.{FaultName}
 use Rattle.json_program.specs.declared.fault.FaultName.TheVariants.{TooLong, NotJson, FloatNumber, BadDocument, BadCommand, BadNumber, BadHex, UnknownNumber}
 use Rattle.json_program.specs.declared.fault.Fault.{Fault}
-use Rattle.json_program.specs.declared.fault.Refusal.{Refusal}
-use Rattle.json_program.specs.declared.fault.Refusal.TheVariants as refusal
+use Rattle.json_program.specs.declared.fault.DecodeError.{DecodeError}
+use Rattle.json_program.specs.declared.fault.DecodeError.TheVariants as decode_error
 use Rattle.std.specs.declared.alloc.AllocError.{AllocError}
 use Rattle.std.specs.Allocator.{alloc_error}
 
--- the place of a fault in the order of the classes
+-- the position of a fault in the order of the classes
 abbrev pub class : FaultName → ℕ
 class TooLong = 0
 class NotJson = 1
@@ -23,12 +23,12 @@ class UnknownNumber = 7
 abbrev pub first_fault : FaultName → FaultName → FaultName
 first_fault a b = if nat_le (class a) (class b) then a else b
 
--- the same, where there may be no fault so far
+-- the fault that counts, of those so far, if there is one, and one more
 abbrev pub with_fault : Option FaultName → FaultName → Option FaultName
 with_fault None b = Some b
 with_fault (Some a) b = Some (first_fault a b)
 
--- a value, or the fault that stands in its place
+-- a value, or the fault that there is in place of it
 abbrev pub Checked : Type 0 → Type 0
 Checked A = Result A FaultName
 
@@ -40,29 +40,29 @@ abbrev pub ◌⊛◌ : {A B : Type 0} → Checked (A → B) → Checked A → Ch
 (Err a) ⊛ (Ok x) = Err a
 (Err a) ⊛ (Err b) = Err (first_fault a b)
 
--- what the check of a unit answers: a fault is that of the unit of this number
-abbrev pub unit_answer : {A : Type 0} → ℕ → Result A (Refusal FaultName) → Result A (Refusal Fault)
+-- the result of a unit's check: a fault gets the number of the unit
+abbrev pub unit_answer : {A : Type 0} → ℕ → Result A (DecodeError FaultName) → Result A (DecodeError Fault)
 unit_answer number (Ok value) = Ok value
-unit_answer number (Err (refusal.Fault name)) = Err (refusal.Fault (record { name = name; number = number }))
-unit_answer number (Err refusal.OutOfMemory) = Err refusal.OutOfMemory
+unit_answer number (Err (decode_error.Fault name)) = Err (decode_error.Fault (record { name = name; number = number }))
+unit_answer number (Err decode_error.OutOfMemory) = Err decode_error.OutOfMemory
 
--- a fault is that of the unit of this number
+-- a value, or the fault with the number of its unit
 abbrev pub in_unit : {A : Type 0} → ℕ → Checked A → Result A Fault
 in_unit n (Ok x) = Ok x
 in_unit n (Err name) = Err (record { name = name; number = n })
 
--- a fault waits to be weighed with others, want of memory does not
-abbrev pub weighed : {A : Type 0} → Result A (Refusal FaultName) → Result (Checked A) AllocError
-weighed (Ok value) = Ok (Ok value)
-weighed (Err (refusal.Fault name)) = Ok (Err name)
-weighed (Err refusal.OutOfMemory) = Err alloc_error
+-- a fault is kept to be compared with others, but running out of memory ends the check
+abbrev pub keep_fault : {A : Type 0} → Result A (DecodeError FaultName) → Result (Checked A) AllocError
+keep_fault (Ok value) = Ok (Ok value)
+keep_fault (Err (decode_error.Fault name)) = Ok (Err name)
+keep_fault (Err decode_error.OutOfMemory) = Err alloc_error
 
 -- both values, or the fault that counts
 abbrev pub both : {A B : Type 0} → Checked A → Checked B → Checked (A × B)
 both a b = Ok (λ x y. (x, y)) ⊛ a ⊛ b
 
 infixl 10 ◌>>=◌
--- what follows from the value, or the fault in its place
+-- a check that goes on with the value; the first error ends it
 abbrev pub ◌>>=◌ : {A B E : Type 0} → Result A E → (A → Result B E) → Result B E
 (Ok x) >>= f = f x
 (Err a) >>= f = Err a

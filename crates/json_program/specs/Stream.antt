@@ -1,7 +1,6 @@
--- What a clause reads of a stream.
-use Rattle.std.specs.Prelude.{◌≡◌, Bool, ℕ, ◌+◌, List, ◌++◌, take, Option}
-use Rattle.std.specs.Io.KnownBytes.{Appends}
-use Rattle.json_program.specs.declared.transfer.TheConstants.{DOCUMENT_LIMIT}
+-- Streams as contracts see them, and what calls read and write.
+use Rattle.std.specs.Prelude.{◌≡◌, Bool, ℕ, ◌+◌, ◌<◌, ◌≤◌, List, ◌++◌, length, take, Option, Result, IfSome, OnErr, OnOk}
+use Rattle.std.specs.Io.KnownBytes.{Appends, Consumes}
 use Rattle.json_program.specs.declared.stream.Streamed.{Streamed}
 
 -- the reader or writer that a stream carries
@@ -12,14 +11,30 @@ inner_of stream = stream.inner
 abbrev pub has_broken : {T : Type 0} → Streamed T → Bool
 has_broken stream = stream.failed
 
--- what is read of a document: all of it, or one byte more than the limit
-unfoldable pub part_read : List ℕ → List ℕ
-part_read all = take (DOCUMENT_LIMIT + 1) all
+-- if a stream's bytes are known, a prefix of these bytes was added at the end
+abbrev pub AppendsPrefix : Option (List ℕ) → Option (List ℕ) → List ℕ → Type 0
+AppendsPrefix old new bytes = (count : ℕ) × Appends old new (take count bytes)
 
--- where a stream's bytes are known, a front of these bytes was added at the end
-abbrev pub AppendsFront : Option (List ℕ) → Option (List ℕ) → List ℕ → Type 0
-AppendsFront old new bytes = (count : ℕ) × Appends old new (take count bytes)
+-- After Ok a whole text was added at the end, after an error a prefix of it.
+pub record WritesText {T E : Type 0} (result : Result T E) (old new : Option (List ℕ)) (text : List ℕ) : Type 0 where
+  pub whole : OnOk result (Appends old new text)
+  pub prefix : OnErr result (AppendsPrefix old new text)
 
--- a front of all the lines is written, and these are left
+-- The bytes are those that a source had left, up to a limit, and are consumed; fewer than the limit are all of them.
+pub record ReadsUpTo (most : ℕ) (old new : Option (List ℕ)) (bytes : List ℕ) : Type 0 where
+  pub prefix : IfSome old (λ all. bytes ≡ take most all)
+  pub whole : length bytes < most → IfSome old (λ all. bytes ≡ all)
+  pub rest : Consumes old new bytes
+  pub bound : length bytes ≤ most
+
+-- One read took a count of bytes of a source, at most as many as there is room for, and appended them to a document.
+pub record ReadsPiece (room count : ℕ) (old new : Option (List ℕ)) (before after : List ℕ) : Type 0 where
+  pub bound : count ≤ room
+  pub piece : List ℕ
+  pub appended : after ≡ before ++ piece
+  pub consumed : Consumes old new piece
+  pub grows : length after ≡ length before + count
+
+-- a prefix of all the lines is written, and these are left
 abbrev pub IsWritten : Option (List ℕ) → Option (List ℕ) → List ℕ → List ℕ → Type 0
-IsWritten old now left all = (front : List ℕ) × Appends old now front × (front ++ left ≡ all)
+IsWritten old now left all = (written : List ℕ) × Appends old now written × (written ++ left ≡ all)

@@ -1,9 +1,10 @@
 //! Addresses as texts.
+
 ghost use Rattle.std.specs.Prelude.{◌≡◌, ◌<◌, ◌≤◌, length, IfSome};
 ghost use Rattle.hex.specs.Hex.{hex_digit_value};
 ghost use Rattle.json_program.specs.Json.{hex_number, spelled_address};
 
-/// The value of a hexadecimal digit of either case.
+// The value of a hexadecimal digit of either case.
 fn digit_of(c: u8) -> Option<u8>
     ensures value { result ≡ hex_digit_value c }
     ensures small { IfSome result (λ d. d < 16) }
@@ -16,7 +17,7 @@ fn digit_of(c: u8) -> Option<u8>
     }
 }
 
-/// The number that up to 16 hexadecimal digits spell.
+// The number that up to 16 hexadecimal digits spell.
 fn number_of(digits: &[u8]) -> Option<u64>
     requires { length digits.now ≤ 16 }
     ensures { result ≡ hex_number 0 digits.now }

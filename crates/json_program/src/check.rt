@@ -1,11 +1,12 @@
 //! Checks of values, and which of several faults counts.
-ghost use Rattle.std.specs.Prelude.{◌≡◌};
-ghost use Rattle.json_program.specs.Faults.{both, unit_answer, weighed, with_fault};
 
-use crate::fault::{Fault, FaultName, Refusal};
+ghost use Rattle.std.specs.Prelude.{◌≡◌};
+ghost use Rattle.json_program.specs.Faults.{both, keep_fault, unit_answer, with_fault};
+
+use crate::fault::{DecodeError, Fault, FaultName};
 use std::alloc::AllocError;
 
-/// A value, or the fault that stands in its place.
+/// A value, or the fault that there is in place of it.
 pub type Checked<T> = Result<T, FaultName>;
 
 /// Both values, or the fault that counts.
@@ -30,24 +31,28 @@ pub fn with_fault(fault: Option<FaultName>, name: FaultName) -> Option<FaultName
     }
 }
 
-/// What the check of a unit answers: its fault is that unit's.
-pub fn in_unit<T>(number: u64, answer: Result<T, Refusal<FaultName>>) -> Result<T, Refusal<Fault>>
+/// The result of a unit's check: a fault gets the number of the unit.
+pub fn in_unit<T>(
+    number: u64,
+    answer: Result<T, DecodeError<FaultName>>,
+) -> Result<T, DecodeError<Fault>>
     ensures { result ≡ unit_answer number answer }
 {
     match answer {
         Ok(value) => Ok(value),
-        Err(Refusal::Fault(name)) => Err(Refusal::Fault(Fault { name, number })),
-        Err(Refusal::OutOfMemory) => Err(Refusal::OutOfMemory),
+        Err(DecodeError::Fault(name)) => Err(DecodeError::Fault(Fault { name, number })),
+        Err(DecodeError::OutOfMemory) => Err(DecodeError::OutOfMemory),
     }
 }
 
-/// Want of memory ends a check at once. A fault waits, to be weighed with those of other fields.
-pub fn weighed<T>(answer: Result<T, Refusal<FaultName>>) -> Result<Checked<T>, AllocError>
-    ensures { result ≡ weighed answer }
+/// Keeps a fault as a value, to be compared with those of other fields. Fails if memory ran out,
+/// which ends a check at once.
+pub fn keep_fault<T>(answer: Result<T, DecodeError<FaultName>>) -> Result<Checked<T>, AllocError>
+    ensures { result ≡ keep_fault answer }
 {
     match answer {
         Ok(value) => Ok(Ok(value)),
-        Err(Refusal::Fault(name)) => Ok(Err(name)),
-        Err(Refusal::OutOfMemory) => Err(AllocError),
+        Err(DecodeError::Fault(name)) => Ok(Err(name)),
+        Err(DecodeError::OutOfMemory) => Err(AllocError),
     }
 }

@@ -1,4 +1,5 @@
 //! The faults of a document.
+
 ghost use Rattle.std.specs.Prelude.{◌≡◌};
 ghost use Rattle.json_program.specs.Faults.{class, first_fault, fault_name};
 
@@ -6,7 +7,7 @@ use std::alloc::{AllocError, AllocFailed};
 use std::fmt;
 
 /// What is wrong with a document or a command. In one unit, the document's own
-/// fields or one command, the fault counts whose name stands first here.
+/// fields or one command, the fault that counts is the one that is listed first here.
 #[derive(Clone, Copy, Debug, PartialEq, Eq)]
 pub enum FaultName {
     /// More bytes than a document may have.
@@ -44,7 +45,7 @@ impl FaultName {
         }
     }
 
-    /// The place of the fault in the order of the classes.
+    // The position of the fault in the order of the classes.
     fn class(self) -> u8
         ensures { result ≡ class self }
     {
@@ -60,7 +61,7 @@ impl FaultName {
         }
     }
 
-    /// Of two faults of one unit the one that counts.
+    // Of two faults of one unit the one that counts.
     pub(crate) fn first_fault(self, other: FaultName) -> FaultName
         ensures { result ≡ first_fault self other }
     {
@@ -97,57 +98,57 @@ impl fmt::Display for Fault {
 
     ghost output = { λ f. Some (fault_line f) };
 
-    /// The line of a fault, without its line feed.
+    // The line of a fault, without its line feed.
     fn fmt<W: fmt::Write>(&self, f: &mut fmt::Formatter<W>) -> fmt::Result {
         write!(f, "fault {} {}", self.name.name(), self.number)
     }
 }
 
-/// Why there is no value.
+/// Why nothing is decoded.
 #[derive(Clone, Copy, Debug, PartialEq, Eq)]
-pub enum Refusal<F> {
+pub enum DecodeError<F> {
     /// There is a fault.
     Fault(F),
     /// Memory ran out.
     OutOfMemory,
 }
 
-impl From<FaultName> for Refusal<FaultName> {
-    ghost use Rattle.json_program.specs.declared.fault.Refusal.TheVariants as refusal;
+impl From<FaultName> for DecodeError<FaultName> {
+    ghost use Rattle.json_program.specs.declared.fault.DecodeError.TheVariants as decode_error;
 
-    ghost from_gives = { λ name given. given ≡ refusal.Fault name };
+    ghost from_gives = { λ name given. given ≡ decode_error.Fault name };
 
-    fn from(name: FaultName) -> Refusal<FaultName> {
-        Refusal::Fault(name)
+    fn from(name: FaultName) -> DecodeError<FaultName> {
+        DecodeError::Fault(name)
     }
 }
 
-impl From<Fault> for Refusal<Fault> {
-    ghost use Rattle.json_program.specs.declared.fault.Refusal.TheVariants as refusal;
+impl From<Fault> for DecodeError<Fault> {
+    ghost use Rattle.json_program.specs.declared.fault.DecodeError.TheVariants as decode_error;
 
-    ghost from_gives = { λ fault given. given ≡ refusal.Fault fault };
+    ghost from_gives = { λ fault given. given ≡ decode_error.Fault fault };
 
-    fn from(fault: Fault) -> Refusal<Fault> {
-        Refusal::Fault(fault)
+    fn from(fault: Fault) -> DecodeError<Fault> {
+        DecodeError::Fault(fault)
     }
 }
 
-impl<F> From<AllocError> for Refusal<F> {
-    ghost use Rattle.json_program.specs.declared.fault.Refusal.TheVariants.{OutOfMemory};
+impl<F> From<AllocError> for DecodeError<F> {
+    ghost use Rattle.json_program.specs.declared.fault.DecodeError.TheVariants.{OutOfMemory};
 
-    ghost from_gives = { λ _ refusal. refusal ≡ OutOfMemory };
+    ghost from_gives = { λ _ error. error ≡ OutOfMemory };
 
-    fn from(_error: AllocError) -> Refusal<F> {
-        Refusal::OutOfMemory
+    fn from(_error: AllocError) -> DecodeError<F> {
+        DecodeError::OutOfMemory
     }
 }
 
-impl<F, T: Drop> From<AllocFailed<T>> for Refusal<F> {
-    ghost use Rattle.json_program.specs.declared.fault.Refusal.TheVariants.{OutOfMemory};
+impl<F, T: Drop> From<AllocFailed<T>> for DecodeError<F> {
+    ghost use Rattle.json_program.specs.declared.fault.DecodeError.TheVariants.{OutOfMemory};
 
-    ghost from_gives = { λ _ refusal. refusal ≡ OutOfMemory };
+    ghost from_gives = { λ _ error. error ≡ OutOfMemory };
 
-    fn from(_error: AllocFailed<T>) -> Refusal<F> {
-        Refusal::OutOfMemory
+    fn from(_error: AllocFailed<T>) -> DecodeError<F> {
+        DecodeError::OutOfMemory
     }
 }

@@ -1,4 +1,5 @@
 //! The fields of a JSON value.
+
 ghost use Rattle.std.specs.Prelude.{◌≡◌, map, ok_or};
 ghost use Rattle.serde_json.specs.View.{view, members_view};
 ghost use Rattle.serde_json.specs.Find.{get};
@@ -11,7 +12,7 @@ use crate::check::Checked;
 use crate::fault::FaultName;
 use serde_json::{Map, Value};
 
-/// Whether each member has one of these names.
+// Whether each member has one of these names.
 fn are_among(members: &Map<String, Value>, names: &[&str]) -> bool
     ensures { result ≡ are_among (map (λ n. n.now) names.now) (members_view members.now.entries) }
 {
@@ -23,7 +24,7 @@ fn are_among(members: &Map<String, Value>, names: &[&str]) -> bool
     true
 }
 
-/// Whether the value is an object that has no field but these.
+/// Whether the value is an object without any other field than these.
 pub fn has_only(value: &Value, names: &[&str]) -> bool
     ensures { result ≡ has_only (map (λ n. n.now) names.now) (view value.now) }
 {
@@ -33,47 +34,48 @@ pub fn has_only(value: &Value, names: &[&str]) -> bool
     }
 }
 
-/// A field that has to be there.
-pub fn needed<'a>(object: &'a Value, name: &str) -> Checked<&'a Value>
+/// A field that an object must have, or `BadCommand`.
+pub fn find_field<'a>(object: &'a Value, name: &str) -> Checked<&'a Value>
     ensures { result_map (λ v. view v.now) result
         ≡ ok_or (get name.now (view object.now)) BadCommand }
 {
     object.get(name).ok_or(FaultName::BadCommand)
 }
 
-/// A value that has to be a text.
+/// The text of a value, or `BadCommand` for any other value.
 pub fn text_in(value: &Value) -> Checked<&str>
     ensures { result_map (λ s. s.now) result ≡ text_value (view value.now) }
 {
     value.as_str().ok_or(FaultName::BadCommand)
 }
 
-/// A value that has to be the text of an address.
+/// The address that a value's text spells: `BadCommand` for a value that is no text, `BadNumber` for
+/// a text that spells no address.
 pub fn address_in(value: &Value) -> Checked<u64>
     ensures { result ≡ address_value (view value.now) }
 {
     address_of(text_in(value)?).ok_or(FaultName::BadNumber)
 }
 
-/// The text in a field.
+/// The text of a field, or `BadCommand`.
 pub fn text_field<'a>(object: &'a Value, name: &str) -> Checked<&'a str>
     ensures { result_map (λ s. s.now) result ≡ field text_value name.now (view object.now) }
 {
-    text_in(needed(object, name)?)
+    text_in(find_field(object, name)?)
 }
 
-/// The address in a field.
+/// The address of a field: `BadCommand` for a field that is missing or no text, else `BadNumber`.
 pub fn address_field(object: &Value, name: &str) -> Checked<u64>
     ensures { result ≡ field address_value name.now (view object.now) }
 {
-    address_in(needed(object, name)?)
+    address_in(find_field(object, name)?)
 }
 
-/// The whole number in a field.
+/// The whole number of a field: `BadNumber` if it is negative.
 pub fn number_field(object: &Value, name: &str) -> Checked<u64>
     ensures { result ≡ field number_value name.now (view object.now) }
 {
-    let number = needed(object, name)?
+    let number = find_field(object, name)?
         .as_number()
         .ok_or(FaultName::BadCommand)?;
     number.as_u64().ok_or(FaultName::BadNumber)

@@ -1,4 +1,5 @@
 //! Numbers that are no whole numbers of 64 bits.
+
 ghost use Rattle.std.specs.Prelude.{◌≡◌};
 ghost use Rattle.serde_json.specs.View.{view, items_view, members_view};
 ghost use Rattle.serde_json.specs.Written.{has_float, items_have_float, members_have_float};
@@ -18,7 +19,7 @@ pub fn has_float(value: &Value) -> bool
     }
 }
 
-/// Whether an element has one.
+// Whether an element has one.
 #[cycle(float)]
 fn items_have_float(items: &Vec<Value>) -> bool
     ensures { result ≡ items_have_float (items_view items.now.items) }
@@ -31,7 +32,7 @@ fn items_have_float(items: &Vec<Value>) -> bool
     false
 }
 
-/// Whether a member has one.
+// Whether a member has one.
 #[cycle(float)]
 fn members_have_float(members: &Map<String, Value>) -> bool
     ensures { result ≡ members_have_float (members_view members.now.entries) }

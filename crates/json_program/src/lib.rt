@@ -15,7 +15,7 @@ mod stream;
 mod transfer;
 pub mod writing;
 
-pub use fault::{Fault, FaultName, Refusal};
+pub use fault::{DecodeError, Fault, FaultName};
 pub use program::Program;
 pub use status::{Ending, RunError};
 pub use stream::{Sink, Source, StreamError, Streamed};

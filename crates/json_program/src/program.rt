@@ -1,7 +1,8 @@
 //! A program: one document in, text out.
-ghost use Rattle.std.specs.Prelude.{◌≡◌, ◌≢◌, ◌↔◌, ◌<◌, ℕ, List, length, false, IsTrue, IfOk, IfErr, IfSome, IsErrOf, OnErr, OnOk};
-ghost use Rattle.std.specs.Io.KnownBytes.{Appends};
-ghost use Rattle.json_program.specs.Stream.{AppendsFront};
+
+ghost use Rattle.std.specs.Prelude.{◌≡◌, ◌<◌, ℕ, List, length, false, IfOk, IfSome, IsErrOf};
+ghost use Rattle.json_program.specs.Errors.{ReportsFailures};
+ghost use Rattle.json_program.specs.Stream.{WritesText};
 ghost use Rattle.json_program.specs.declared.transfer.TheConstants.{DOCUMENT_LIMIT};
 
 use crate::status::RunError;
@@ -11,7 +12,7 @@ use std::alloc::Global;
 
 /// What a program writes for a document, and how its run ends.
 pub trait Program {
-    /// How a run ends that wrote all its text.
+    /// How a run ends that wrote its whole text.
     type Ending;
 
     /// The text for a document of these bytes.
@@ -20,30 +21,27 @@ pub trait Program {
     /// How the run over such a document ends.
     ghost ending_of: { List ℕ → Self.Ending };
 
-    /// Writes what a document's bytes ask for.
+    /// Writes the text for a document of these bytes, and returns how the run ends.
     fn answer<W: Sink>(
         alloc: Global,
         document: &[u8],
         writer: &mut W,
     ) -> Result<Self::Ending, RunError>
         requires { W.has_failed writer.old ≡ false }
-        ensures text { OnOk result (Appends (W.contents writer.old) (W.contents writer.new)
-            (text_of document.now)) }
+        ensures text { WritesText result (W.contents writer.old) (W.contents writer.new)
+            (text_of document.now) }
         ensures ending { IfOk result (λ ending. ending ≡ ending_of document.now) }
-        ensures write { IsErrOf result RunError.Write ↔ IsTrue (W.has_failed writer.new) }
-        ensures no_read { IfErr result (λ error. error ≢ RunError.Read) }
-        ensures begun { OnErr result (AppendsFront (W.contents writer.old) (W.contents writer.new)
-            (text_of document.now)) };
+        ensures errors { ReportsFailures result false (W.has_failed writer.new) };
 
-    /// Documents that are too long are answered alike, whatever their bytes are.
+    /// For all documents that are too long the text and the ending are the same.
     ghost too_long: { (one other : List ℕ)
         → DOCUMENT_LIMIT < length one → DOCUMENT_LIMIT < length other
         → (text_of one ≡ text_of other) × (ending_of one ≡ ending_of other) };
 
     /// Reads a document, and writes the program's text for it.
     ///
-    /// A run that stops before its end has written a front of the whole text, and nothing where
-    /// the document couldn't be read.
+    /// A run that fails has written a prefix of the whole text, and nothing if the document couldn't
+    /// be read.
     final fn run<R: Source, W: Sink>(
         alloc: Global,
         reader: &mut R,
@@ -51,16 +49,12 @@ pub trait Program {
     ) -> Result<Self::Ending, RunError>
         requires reader { R.has_failed reader.old ≡ false }
         requires writer { W.has_failed writer.old ≡ false }
-
-        ensures text { OnOk result (IfSome (R.remaining reader.old) (λ document.
-            Appends (W.contents writer.old) (W.contents writer.new) (text_of document))) }
+        ensures text { IfSome (R.remaining reader.old) (λ document. WritesText result
+            (W.contents writer.old) (W.contents writer.new) (text_of document)) }
         ensures ending { IfOk result (λ ending.
             IfSome (R.remaining reader.old) (λ document. ending ≡ ending_of document)) }
-
-        ensures read { IsErrOf result RunError.Read ↔ IsTrue (R.has_failed reader.new) }
-        ensures write { IsErrOf result RunError.Write ↔ IsTrue (W.has_failed writer.new) }
-        ensures begun { OnErr result (IfSome (R.remaining reader.old) (λ document.
-            AppendsFront (W.contents writer.old) (W.contents writer.new) (text_of document))) }
+        ensures errors { ReportsFailures result
+            (R.has_failed reader.new) (W.has_failed writer.new) }
         ensures unwritten { IsErrOf result RunError.Read
             → W.contents writer.new ≡ W.contents writer.old }
     {

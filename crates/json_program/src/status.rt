@@ -1,4 +1,5 @@
 //! How a run of the program ends.
+
 ghost use Rattle.std.specs.Prelude.{◌≡◌, Some, codes};
 ghost use Rattle.json_program.specs.declared.status.RunError.TheVariants.{OutOfMemory};
 
@@ -11,7 +12,7 @@ use std::fmt;
 pub enum RunError {
     /// The document couldn't be read to its end.
     Read,
-    /// An answer couldn't be written.
+    /// The text couldn't be written to its end.
     Write,
     /// Memory ran out.
     OutOfMemory,
@@ -53,7 +54,7 @@ impl<T: Drop> From<AllocFailed<T>> for RunError {
     }
 }
 
-/// How a run that wrote all its answers ended.
+/// How a run that wrote its whole text ended.
 #[derive(Clone, Copy, Debug, PartialEq, Eq, Hash)]
 pub enum Ending {
     /// Each command of the document was run.

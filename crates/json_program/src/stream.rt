@@ -1,4 +1,5 @@
-//! Where a document comes from and where its answers go.
+//! The source that a document is read from, and the sink that text is written to.
+
 ghost use Rattle.std.specs.Prelude.{◌≡◌, ◌<◌, ◌||◌, ℕ, List, length, Bool, false, Option, Some, IfOk, codes, is_err};
 ghost use Rattle.std.specs.Io.{ReadsAtMost, WritesAtMost};
 ghost use Rattle.std.specs.Io.KnownBytes.{ReadConsumes, WriteAppends};
@@ -7,7 +8,7 @@ ghost use Rattle.json_program.specs.Stream.{inner_of, has_broken};
 use std::io::{Read, Write};
 use std::{fmt, io};
 
-/// That a call of a [`Source`] or [`Sink`] failed. The cause isn't kept.
+/// A call of a [`Source`] or [`Sink`] failed. The error doesn't tell the cause.
 #[derive(Clone, Copy, Debug, PartialEq, Eq)]
 pub struct StreamError;
 
@@ -19,16 +20,16 @@ impl fmt::Display for StreamError {
     }
 }
 
-/// Where a document comes from.
+/// What a document is read from.
 pub trait Source {
-    /// The bytes that are still to come, or `None` where they aren't known.
+    /// The bytes that are still to come, or `None` if they aren't known.
     ghost remaining: { Self → Option (List ℕ) };
 
     /// Whether a call has failed.
     ghost has_failed: { Self → Bool };
 
-    /// Reads bytes into the front of `buffer`, and answers how many: fewer than there is room for
-    /// at any call, and 0 only at the end or where `buffer` is empty. A call that fails reads
+    /// Reads bytes into the beginning of `buffer`, and returns how many: any call may read fewer than
+    /// there is room for, but 0 only at the end or if `buffer` is empty. A call that fails reads
     /// nothing.
     fn read_some(&mut self, buffer: &mut [u8]) -> Result<usize, StreamError>
         ensures bound { ReadsAtMost result buffer.new }
@@ -41,16 +42,16 @@ pub trait Source {
         ensures { result ≡ has_failed self.now };
 }
 
-/// Where answers go.
+/// What text is written to.
 pub trait Sink {
-    /// All bytes that were written, or `None` where they aren't known.
+    /// All bytes that were written, or `None` if they aren't known.
     ghost contents: { Self → Option (List ℕ) };
 
     /// Whether a call has failed.
     ghost has_failed: { Self → Bool };
 
-    /// Writes a front of `bytes`, and answers how many. It fails, and writes nothing, where not
-    /// one of several bytes can be written.
+    /// Writes a prefix of `bytes`, and returns its length. It fails, and writes nothing, if `bytes` isn't
+    /// empty and not one of them can be written.
     fn write_some(&mut self, bytes: &[u8]) -> Result<usize, StreamError>
         ensures bound { WritesAtMost result bytes.now }
         ensures bytes { WriteAppends (contents self.old) (contents self.new) result bytes.now }
@@ -125,7 +126,7 @@ impl<T: Write> Sink for Streamed<T> {
     }
 }
 
-/// One read, again where a signal interrupted it.
+// One read, which is tried again if a signal interrupts it.
 fn read_retrying<R: Read>(reader: &mut R, buffer: &mut [u8]) -> Result<usize, StreamError>
     ensures bound { ReadsAtMost result buffer.new }
     ensures bytes { ReadConsumes (R.remaining reader.old) (R.remaining reader.new)
@@ -144,7 +145,8 @@ fn read_retrying<R: Read>(reader: &mut R, buffer: &mut [u8]) -> Result<usize, St
     Err(StreamError)
 }
 
-/// One write, again where a signal interrupted it. To take none of several bytes is to fail.
+// One write, which is tried again if a signal interrupts it. It fails if a writer takes none of the
+// bytes.
 fn write_retrying<W: Write>(writer: &mut W, bytes: &[u8]) -> Result<usize, StreamError>
     ensures bound { WritesAtMost result bytes.now }
     ensures bytes { WriteAppends (W.contents writer.old) (W.contents writer.new) result bytes.now }

@@ -1,7 +1,9 @@
-//! Reads a whole document, and writes a whole answer.
-ghost use Rattle.std.specs.Prelude.{◌≡◌, ◌≢◌, ◌+◌, ◌<◌, ◌≤◌, ◌↔◌, ◌++◌, ℕ, List, take, length, vec_len, false, IsTrue, IfOk, IfErr, IfSome, OnOk, OnErr, IsErrOf, IsOkUnless};
-ghost use Rattle.std.specs.Io.KnownBytes.{Appends, Consumes, IsAtEnd};
-ghost use Rattle.json_program.specs.Stream.{AppendsFront, part_read};
+//! Reads a whole document, and writes a whole text.
+
+ghost use Rattle.std.specs.Prelude.{◌≡◌, ◌+◌, ◌<◌, ◌≤◌, ◌↔◌, length, vec_len, false, IsTrue, IfOk, IsErrOf, IsOkUnless};
+ghost use Rattle.std.specs.Io.KnownBytes.{IsAtEnd};
+ghost use Rattle.json_program.specs.Errors.{ReportsFailures};
+ghost use Rattle.json_program.specs.Stream.{ReadsPiece, ReadsUpTo, WritesText};
 ghost use Rattle.json_program.specs.declared.transfer.TheConstants.{DOCUMENT_LIMIT};
 
 use crate::status::RunError;
@@ -11,38 +13,26 @@ use std::alloc::{AllocError, Global};
 /// The most bytes that a document may have.
 pub const DOCUMENT_LIMIT: usize = 16_777_216;
 
-/// How many bytes one read asks for.
+// How many bytes one read asks for.
 const CHUNK: usize = 65_536;
 
 /// Reads a document to its end. Of one that is longer than [`DOCUMENT_LIMIT`] it reads one byte
 /// more than that.
 pub fn read_document<S: Source>(alloc: Global, source: &mut S) -> Result<Vec<u8>, RunError>
     requires { S.has_failed source.old ≡ false }
-    ensures document { IfOk result (λ document.
-        IfSome (S.remaining source.old) (λ all. document.items ≡ part_read all)) }
-    ensures whole { IfOk result (λ document. vec_len document ≤ DOCUMENT_LIMIT
-        → IfSome (S.remaining source.old) (λ all. document.items ≡ all)) }
-    ensures rest { IfOk result (λ document.
-        Consumes (S.remaining source.old) (S.remaining source.new) document.items) }
-    ensures bound { IfOk result (λ document. vec_len document ≤ DOCUMENT_LIMIT + 1) }
-    ensures read { IsErrOf result RunError.Read ↔ IsTrue (S.has_failed source.new) }
-    ensures no_write { IfErr result (λ error. error ≢ RunError.Write) }
+    ensures document { IfOk result (λ document. ReadsUpTo (DOCUMENT_LIMIT + 1)
+        (S.remaining source.old) (S.remaining source.new) document.items) }
+    ensures errors { ReportsFailures result (S.has_failed source.new) false }
 {
     read_up_to(alloc, source, DOCUMENT_LIMIT + 1)
 }
 
-/// Reads to the end of the source, or `most` bytes where there are more.
+// Reads to the end of the source, or `most` bytes if there are more.
 fn read_up_to<S: Source>(alloc: Global, source: &mut S, most: usize) -> Result<Vec<u8>, RunError>
     requires { S.has_failed source.old ≡ false }
-    ensures front { IfOk result (λ bytes.
-        IfSome (S.remaining source.old) (λ all. bytes.items ≡ take most all)) }
-    ensures whole { IfOk result (λ bytes. vec_len bytes < most
-        → IfSome (S.remaining source.old) (λ all. bytes.items ≡ all)) }
-    ensures rest { IfOk result (λ bytes.
-        Consumes (S.remaining source.old) (S.remaining source.new) bytes.items) }
-    ensures bound { IfOk result (λ bytes. vec_len bytes ≤ most) }
-    ensures read { IsErrOf result RunError.Read ↔ IsTrue (S.has_failed source.new) }
-    ensures no_write { IfErr result (λ error. error ≢ RunError.Write) }
+    ensures bytes { IfOk result (λ bytes. ReadsUpTo most
+        (S.remaining source.old) (S.remaining source.new) bytes.items) }
+    ensures errors { ReportsFailures result (S.has_failed source.new) false }
 {
     let mut chunk = new_chunk(alloc)?;
     let mut bytes = Vec::new(alloc);
@@ -56,15 +46,15 @@ fn read_up_to<S: Source>(alloc: Global, source: &mut S, most: usize) -> Result<V
     Ok(bytes)
 }
 
-/// Room for one read.
+// Room for one read.
 fn new_chunk(alloc: Global) -> Result<Vec<u8>, AllocError>
     ensures { IfOk result (λ chunk. 0 < vec_len chunk) }
 {
     vec![in alloc; 0u8; CHUNK]
 }
 
-/// Reads up to `room` bytes, by way of `chunk`, to the end of `document`, and answers how many:
-/// 0 at the source's end.
+// Reads up to `room` bytes through `chunk`, appends them to `document`, and returns how many: 0 at
+// the source's end.
 fn read_piece<S: Source>(
     source: &mut S,
     chunk: &mut [u8],
@@ -74,15 +64,10 @@ fn read_piece<S: Source>(
     requires room { 0 < room }
     requires chunk { room ≤ length chunk.old }
     requires fresh { S.has_failed source.old ≡ false }
-    ensures grows { IfOk result (λ count.
-        vec_len document.new ≡ vec_len document.old + count) }
-    ensures bound { IfOk result (λ count. count ≤ room) }
-    ensures piece { OnOk result ((piece : List ℕ)
-        × (document.new.items ≡ document.old.items ++ piece)
-        × Consumes (S.remaining source.old) (S.remaining source.new) piece) }
+    ensures piece { IfOk result (λ count. ReadsPiece room count
+        (S.remaining source.old) (S.remaining source.new) document.old.items document.new.items) }
     ensures end { result ≡ Ok 0 → IsAtEnd (S.remaining source.new) }
-    ensures read { IsErrOf result RunError.Read ↔ IsTrue (S.has_failed source.new) }
-    ensures no_write { IfErr result (λ error. error ≢ RunError.Write) }
+    ensures errors { ReportsFailures result (S.has_failed source.new) false }
 {
     let Ok(count) = source.read_some(&mut chunk[..room]) else {
         return Err(RunError::Read);
@@ -91,13 +76,10 @@ fn read_piece<S: Source>(
     Ok(count)
 }
 
-/// Writes all of `bytes`.
+/// Writes all of `bytes`. The error is `Write`; a prefix of `bytes` is written then.
 pub fn write_all<S: Sink>(sink: &mut S, bytes: &[u8]) -> Result<(), RunError>
     requires { S.has_failed sink.old ≡ false }
-    ensures written { OnOk result
-        (Appends (S.contents sink.old) (S.contents sink.new) bytes.now) }
-    ensures begun { OnErr result
-        (AppendsFront (S.contents sink.old) (S.contents sink.new) bytes.now) }
+    ensures text { WritesText result (S.contents sink.old) (S.contents sink.new) bytes.now }
     ensures write { IsErrOf result RunError.Write ↔ IsTrue (S.has_failed sink.new) }
     ensures only_write { IsOkUnless result RunError.Write }
 {

@@ -19,7 +19,7 @@ last_greatest key xs = last_of (filter (is_greatest key xs) xs)
 abbrev pub greater : {A : Type 0} → (A → ℕ) → A → A → A
 greater key first second = if nat_lt (key first) (key second) then second else first
 
--- the same, where there may be none
+-- of two elements that there may be, the one with the greater key, or the first
 abbrev pub greater_of : {A : Type 0} → (A → ℕ) → Option A → Option A → Option A
 greater_of key None second = second
 greater_of key (Some first) None = Some first

@@ -1,7 +1,7 @@
 -- The last of a list.
 use Rattle.std.specs.Prelude.{List, [], ◌∷◌, Option, Some, None}
 
--- the last element, where there is one
+-- the last element, if there is one
 abbrev pub last_of : {A : Type 0} → List A → Option A
 last_of [] = None
 last_of (x ∷ []) = Some x

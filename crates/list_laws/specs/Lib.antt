@@ -1,3 +1,4 @@
+pub mod First
 pub mod Greatest
 pub mod Items
 pub mod Last

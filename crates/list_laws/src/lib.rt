@@ -1,13 +1,13 @@
 //! What std's definitions of lists lack: the last of a list, the elements with the greatest key, and
-//! items that are read one after the other. The definitions stand in `specs`, and each function here
-//! is a law of them: it does nothing when the program runs.
+//! items that are read one after the other. The definitions are in `specs`, and each function here is
+//! a law of them: it does nothing when the program runs.
 #![tactic(auto)]
 
-ghost use Rattle.std.specs.Prelude.{◌≡◌, ◌+◌, ℕ, Bool, true, false, List, [], ◌∷◌, ◌++◌, Option, Some, None, Result, length};
+ghost use Rattle.std.specs.Prelude.{◌≡◌, ◌+◌, ℕ, Bool, true, false, List, [], ◌∷◌, ◌++◌, Option, Some, None, length};
 ghost use Rattle.std.specs.List.{slice_index_or};
 ghost use Rattle.std.specs.List.Sorted.{IsNonDecreasingBy};
 ghost use Rattle.list_laws.specs.Greatest.{first_greatest, last_greatest, greater_of};
-ghost use Rattle.list_laws.specs.Items.{Answer, GivesNext, LeavesNone, Shrinks, items_from, items_of, rest_from, rest_of, step_taken};
+ghost use Rattle.list_laws.specs.Items.{Answer, CallsGiveItems, Shrinks, items_from, items_of, rest_from, rest_of};
 ghost use Rattle.list_laws.specs.Last.{last_of};
 
 /// A test holds or fails, and an option has a value or none.
@@ -16,7 +16,7 @@ pub fn cases<A, P>()
     ensures by_option { (o : Option A) → ((x : A) → o ≡ Some x → P) → (o ≡ None → P) → P }
 {}
 
-/// The last of a list, by what goes to its end or to its front.
+/// The last of a list that gets one more element at its end or at its front.
 pub fn last_by_parts<A>()
     ensures push { (xs : List A) (y : A) → last_of (xs ++ y ∷ []) ≡ Some y }
     ensures cons { (x y : A) (xs : List A) → last_of xs ≡ Some y → last_of (x ∷ xs) ≡ Some y }
@@ -25,7 +25,7 @@ pub fn last_by_parts<A>()
         → last_of xs ≡ Some (slice_index_or xs i d) }
 {}
 
-/// The first of the elements with the greatest key, where one more goes to the front.
+/// The first of the elements with the greatest key in a list that gets one more at its front.
 pub fn greatest_by_parts<A>()
     ensures { (key : A → ℕ) (x : A) (xs : List A)
         → first_greatest key (x ∷ xs) ≡ greater_of key (Some x) (first_greatest key xs) }
@@ -37,7 +37,7 @@ pub fn greatest_in_order<A>()
         → last_greatest key xs ≡ last_of xs }
 {}
 
-/// Items begin with what one step gives, and go on with those of what is left behind it.
+/// The items are the one that the first step gives and then those of what it leaves.
 pub fn items_by_steps<S, A, E>()
     ensures items { (size : S → ℕ) (step : S → Answer S A E) → Shrinks size step → (s : S)
         → items_of size step s ≡ items_from (items_of size step) (step s) }
@@ -48,7 +48,5 @@ pub fn items_by_steps<S, A, E>()
 /// A call that takes a step gives the first of the items that were to come, and leaves the others.
 pub fn calls_by_steps<S, A, E, X>()
     ensures { (size : S → ℕ) (step : S → Answer S A E) → Shrinks size step
-        → (view : X → A) (result : Result (Option X) E) (s rest : S)
-        → step s ≡ step_taken view result rest → LeavesNone result (step rest)
-        → GivesNext view result (items_of size step s) (items_of size step rest) }
+        → CallsGiveItems X size step }
 {}

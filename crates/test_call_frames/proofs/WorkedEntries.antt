@@ -1,8 +1,9 @@
 -- The list of FDEs, computed of a section whose function pushes and sets a frame pointer.
 use Rattle.std.proofs.Common.{◌≡◌, ℕ, ◌^◌, List, [], ◌∷◌, None, false, refl}
-use Rattle.dwarf_readers.specs.Place.{whole}
+use Rattle.dwarf_readers.specs.Stretch.{whole}
 use Rattle.dwarf_frame_rows.specs.declared.base_addresses.BaseAddresses.{BaseAddresses}
-use Rattle.dwarf_frame_sections.specs.Sections.{FrameSection, eh_frame, frame_section}
+use Rattle.dwarf_frame_rows.specs.FrameSection.{FrameSection, frame_section}
+use Rattle.dwarf_frame_sections.specs.Sections.{eh_frame}
 use Rattle.dwarf_frame_entries.specs.Entries.{Fde}
 use Rattle.dwarf_frame_entries.specs.EntryLists.{entries_from}
 use Rattle.dwarf_frame_entries.specs.SectionFdes.{whole_fdes}

@@ -1,4 +1,5 @@
-//! Entries of worked sections.
+//! Entries of sections that are given byte by byte.
+
 use super::augmentations::{CODE_POINTERS, LETTERS, LSDAS, PERSONALITIES, SIZES, VERSIONS};
 use super::listed::{Listed, Seen, Which};
 use super::real_sections::SECTIONS;
@@ -62,7 +63,7 @@ static WORKED: &[Listed] = &[
         entries: &[Seen::Cie(0, 0x10, 1, 8, 1, -8, 16, None)],
         end: None,
     },
-    // Addresses that count from their own places.
+    // Addresses that are relative to themselves.
     Listed {
         which: Which::EhFrame,
         address_size: 8,
@@ -111,7 +112,7 @@ static WORKED: &[Listed] = &[
         ],
         end: None,
     },
-    // A length of 0 says nothing in `.debug_frame`.
+    // A length of 0 is passed over in `.debug_frame`.
     Listed {
         which: Which::DebugFrame,
         address_size: 8,
@@ -128,7 +129,7 @@ static WORKED: &[Listed] = &[
         ],
         end: None,
     },
-    // Nor does one of 64 bits.
+    // So is one of 64 bits.
     Listed {
         which: Which::DebugFrame,
         address_size: 8,
@@ -155,7 +156,7 @@ static WORKED: &[Listed] = &[
         entries: &[],
         end: Some(Error::UnknownReservedLength),
     },
-    // A CIE that would stand before the section.
+    // A CIE pointer to before the section.
     Listed {
         which: Which::EhFrame,
         address_size: 8,
@@ -177,7 +178,7 @@ static WORKED: &[Listed] = &[
     },
 ];
 
-// An FDE, cut off behind its id, where a CIE is wanted.
+// An FDE, cut off after its id, at an offset that is read as that of a CIE.
 #[derive(Drop)]
 struct CutFde;
 
@@ -206,7 +207,7 @@ fn worked_sections(rt: HostRuntime) -> Outcome {
     Ok(())
 }
 
-// An offset, and why there is no CIE at it, or no FDE.
+// An offset, and the error of reading a CIE there, or an FDE.
 static NO_CIES: [(u8, Error); 3] = [
     (0x14, Error::NotCieId(0x14)),
     (0x34, Error::NoEntryAtGivenOffset),
@@ -232,7 +233,7 @@ fn worked_fde<R: Reader>(
     })
 }
 
-// Whether the FDE covers these addresses, first and last of its code, and none beside them.
+// Whether the FDE contains the first and the last address of its code, and none beside them.
 fn covers<R: Reader>(fde: &FrameDescriptionEntry<R>, first: u64, last: u64) -> bool {
     fde.initial_address() == first
         && fde.contains(first)

@@ -1,4 +1,5 @@
-//! The rows of a function that pushes and sets a frame pointer, by its entry.
+//! The rows of the entry of a function that pushes and sets a frame pointer.
+
 use super::listed::fde_at;
 use dwarf_frame_entries::{BaseAddresses, EhFrame, UnwindContext, UnwindContextStorage};
 use dwarf_frame_rows::StoreOnHeap;
@@ -9,14 +10,14 @@ use std::test::Fail;
 use test_frame_rows::answer_line;
 use test_readers::WORKED;
 
-// The worked section with DW_CFA_restore in the CIE, where nothing is there to restore.
+// The worked section with DW_CFA_restore in the CIE, where there is no rule to restore.
 const REFUSED: [u8; 56] = [
     0x10, 0, 0, 0, 0, 0, 0, 0, 1, 0, 1, 0x78, 0x10, 0x0c, 7, 8, 0x90, 1, 0xc6, 0, 0x1c, 0, 0, 0,
     0x18, 0, 0, 0, 0, 0x10, 0, 0, 0, 0, 0, 0, 0x10, 0, 0, 0, 0, 0, 0, 0, 0x41, 0x0e, 0x10, 0x86, 2,
     0x43, 0x0d, 6, 0, 0, 0, 0,
 ];
 
-// The row for an address that a section has by its FDE at 20, or the refusal, as a line of text.
+// The row for an address by the FDE at offset 20 of a section, or the error, as a line of text.
 fn line_in<R: Reader, S: UnwindContextStorage<R::Offset>>(
     alloc: Global,
     section: &EhFrame<R>,
@@ -39,7 +40,8 @@ fn line_at(
     line_in(alloc, &EhFrame::new(bytes, LittleEndian), context, address)
 }
 
-// In the worked section: an address, and the row for it. RSP is register 7, RBP 6, and the return address 16.
+// In the worked section: an address, and the row for it. RSP is register 7, RBP 6, and the return
+// address 16.
 static LINES: [(u64, &str); 7] = [
     (0x0fff, "NoUnwindInfoForAddress"),
     (0x1000, "1000..1001 r7,8 16=c-8"),

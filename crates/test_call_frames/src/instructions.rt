@@ -10,14 +10,14 @@ use std::process::Abort;
 use std::test::Fail;
 use test_readers::{Outcome, ReaderTest, over_each_reader};
 
-/// No address that a pointer counts from is known.
+/// No base address is known.
 const NO_BASES: SectionBaseAddresses = SectionBaseAddresses {
     section: None,
     text: None,
     data_base: None,
 };
 
-// The instructions of a whole section, with addresses of eight bytes.
+// The instructions in all bytes of a section, with addresses of eight bytes.
 fn instructions<'a, R: Reader>(
     section: &'a R,
     bases: &'a SectionBaseAddresses,
@@ -87,7 +87,7 @@ fn sign_states_of_another_vendor(rt: HostRuntime) -> Result<(), Fail> {
     Ok(())
 }
 
-// An instruction, the places of expressions as numbers of 64 bits.
+// An instruction, with the offsets of expressions as numbers of 64 bits.
 fn in_numbers<T: ReaderOffset>(
     instruction: CallFrameInstruction<T>,
 ) -> Option<(Register, UnwindExpression<u64>)> {
@@ -115,7 +115,8 @@ impl<H: Abort> ReaderTest<H> for Worked {
             text: None,
             data_base: None,
         };
-        // A register's saved place, an expression, an address from its own place, and a first byte alone.
+        // DW_CFA_offset, an expression, an address that is relative to itself, and an opcode
+        // without its operand.
         let mut iter = instructions(&section, &bases, Some(DwEhPe(0x1b)), Vendor::Default);
         let offset = CallFrameInstruction::Offset {
             register: Register(3),
@@ -178,7 +179,7 @@ fn std_iterator(rt: HostRuntime) -> Result<(), Fail> {
     Ok(())
 }
 
-// Encodings in which no address is read where nothing is known that it counts from.
+// Encodings in which no address is read unless the address to which it is relative is known.
 static REFUSALS: [(DwEhPe, Error); 4] = [
     (
         DwEhPe(0x1b),

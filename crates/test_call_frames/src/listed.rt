@@ -1,4 +1,5 @@
-//! Lists of entries that sections have.
+//! Sections with the list of their entries.
+
 use dwarf_constants::{Error, Result as Answer};
 use dwarf_frame_entries::{
     _UnwindSectionPrivate, Augmentation, BaseAddresses, CfiEntriesIter, CieOrFde,
@@ -17,7 +18,7 @@ pub enum Which {
     DebugFrame,
 }
 
-/// What a section has to tell.
+/// A section, and the entries that it has to give.
 pub struct Listed {
     pub which: Which,
     pub address_size: u8,
@@ -28,16 +29,16 @@ pub struct Listed {
     pub end: Option<Error>,
 }
 
-/// What is seen of an entry. Each begins with its offset and its length.
+/// Parts of an entry: first its offset and its length.
 #[derive(Debug, Clone, Copy, PartialEq, Eq)]
 pub enum Seen {
-    /// The version, the sizes of addresses, both factors, the return address's column, and what
-    /// the augmentation says.
+    /// The version, the size of addresses, both alignment factors, the return address register, and
+    /// the augmentation.
     Cie(u64, u64, u8, u8, u64, i64, u16, Option<Augmentation>),
-    /// The CIE's offset, where the code begins, how many bytes it has, and where language-specific
-    /// data stands.
+    /// The CIE's offset, the start of the code and its size in bytes, and the pointer to
+    /// language-specific data.
     Fde(u64, u64, u64, u64, u64, Option<Pointer>),
-    /// The CIE's offset, and why there is no more.
+    /// The CIE's offset, and the error of reading the rest.
     Refused(u64, u64, u64, Error),
 }
 
@@ -86,7 +87,7 @@ pub fn fde_at<R: Reader, Section: UnwindSection<R>>(
     })
 }
 
-// What is seen of an FDE, with the CIE that stands in this section.
+// The parts of an FDE, with its CIE in this section.
 fn fde_seen<R: Reader, Section: UnwindSection<R>>(
     section: &Section,
     bases: &BaseAddresses,
@@ -100,7 +101,7 @@ fn fde_seen<R: Reader, Section: UnwindSection<R>>(
     }
 }
 
-// What is seen of an entry of either kind.
+// The parts of an entry of either kind.
 fn entry_seen<R: Reader, Section: UnwindSection<R>>(
     section: &Section,
     bases: &BaseAddresses,
@@ -112,7 +113,7 @@ fn entry_seen<R: Reader, Section: UnwindSection<R>>(
     }
 }
 
-// What is seen of the next entry, or the error or the end in its place.
+// The parts of the next entry, or the error, or the end.
 fn next_seen<R: Reader, Section: UnwindSection<R>>(
     section: &Section,
     bases: &BaseAddresses,

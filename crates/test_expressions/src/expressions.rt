@@ -9,10 +9,8 @@ mod values;
 mod worked;
 
 use dwarf_constants::{Encoding, Error, Format, Result};
-use dwarf_expressions::{Evaluation, EvaluationResult, EvaluationStorage};
-use dwarf_operations::Expression;
+use dwarf_expressions::{Evaluation, EvaluationResult, EvaluationStorage, Expression, StoreOnHeap};
 use dwarf_readers::Reader;
-use dwarf_storage::StoreOnHeap;
 use std::alloc::Global;
 use std::process::Abort;
 use stored::{Fixed, Reserved};
@@ -45,7 +43,7 @@ fn value_of<R: Reader, S: EvaluationStorage>(
     }
 }
 
-// Wants one value of an expression, or one refusal, wherever its stack lies.
+// Wants one value of an expression, or one error, with each storage of its stack.
 #[derive(Clone, Copy)]
 struct ValueTest {
     address_size: u8,

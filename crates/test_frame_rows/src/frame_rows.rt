@@ -1,4 +1,4 @@
-//! Encoded pointers, contexts and their rows, and expressions by their places.
+//! Encoded pointers, contexts and their rows, and expressions by their offsets.
 mod contexts;
 mod encodings;
 mod places;

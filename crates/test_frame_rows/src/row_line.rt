@@ -6,7 +6,7 @@ use dwarf_readers::ReaderOffset;
 use dwarf_storage::ArrayLike;
 use std::alloc::{AllocError, Global};
 
-// How the CFA is found: `r` and a register with an offset, or the place and the length of an expression.
+// How the CFA is found: `r` and a register with an offset, or the offset and the length of an expression.
 fn cfa_of<T: ReaderOffset>(alloc: Global, rule: &CfaRule<T>) -> Result<String, AllocError> {
     let text = match rule {
         CfaRule::RegisterAndOffset { register, offset } => {
@@ -67,7 +67,7 @@ pub fn line_of<T: ReaderOffset, Rules: ArrayLike<Item = RuledRegister<RegisterRu
     Ok(line)
 }
 
-/// The line of a row that was asked for, or the refusal.
+/// The line of a row that was asked for, or the error.
 pub fn answer_line<T: ReaderOffset, Rules: ArrayLike<Item = RuledRegister<RegisterRule<T>>>>(
     alloc: Global,
     answer: Result<&UnwindTableRow<T, Rules>, Error>,

@@ -4,7 +4,7 @@ use framehop_rules::aarch64::{ArchAarch64, UnwindRegsAarch64};
 use framehop_rules::x86_64::{ArchX86_64, UnwindRegsX86_64};
 use framehop_rules::{Arch, Error, UnwindRule};
 
-/// A step over the worked stack by the rule where nothing is known of a frame.
+/// A step over the worked stack by the rule for a frame of which nothing is known.
 fn follow<A: Arch>(regs: &mut A::UnwindRegs) -> Result<Option<u64>, Error> {
     let mut read_stack = |address: u64| word_at(address);
     A::UnwindRule::fallback_rule().exec(false, regs, &mut read_stack)

@@ -38,14 +38,14 @@ fn scrambled(alloc: Global, count: u64) -> Result<Vec<u64>, Fail> {
     Ok(starts)
 }
 
-/// Where an FDE starts, and where it stands.
+/// The start of an FDE's code, and the FDE's offset in the section.
 #[derive(Debug, Clone, Copy)]
 struct Placed {
     start: u64,
     offset: u64,
 }
 
-/// The later start of two entries at or below an address, or the earlier entry where they are equal.
+/// The later start of two entries at or below an address, or the earlier entry if they are equal.
 fn nearer(nearest: Option<Placed>, fde: Placed, address: u64) -> Option<Placed> {
     if fde.start > address {
         return nearest;
@@ -89,7 +89,7 @@ fn fdes_of<R: Reader>(alloc: Global, section: &EhFrame<R>) -> Result<Vec<Placed>
     Ok(fdes)
 }
 
-/// Where the entry for an address stands, by one pass over the section's FDEs.
+/// The offset of the FDE for an address, by one pass over the section's FDEs.
 fn plain_pass(fdes: &[Placed], address: u64) -> Option<u64> {
     let mut nearest = None;
     for fde in fdes {
@@ -98,14 +98,14 @@ fn plain_pass(fdes: &[Placed], address: u64) -> Option<u64> {
     nearest.map(|fde| fde.offset)
 }
 
-/// The index of a section whose addresses count from the base.
+/// The index of a section whose addresses are relative to the base.
 fn index_of(alloc: Global, bytes: &[u8], base: u64) -> Result<DwarfCfiIndex, Fail> {
     let bases = BaseAddresses::default();
     let index = DwarfCfiIndex::try_new_eh_frame(alloc, bytes, &bases, base)?;
     Ok(index)
 }
 
-/// The look-ups that differ from the plain pass, at and beside each start of a section of so many FDEs.
+/// The look-ups that differ from the plain pass, at and beside each start of a section of this number of FDEs.
 fn differing(rt: &HostRuntime, count: u64) -> Result<u64, Fail> {
     let starts = scrambled(rt.alloc(), count)?;
     let bytes = section_of(rt.alloc(), &starts)?;
@@ -145,7 +145,7 @@ fn the_first_of_equal_starts_is_found(rt: HostRuntime) -> Result<(), Fail> {
     Ok(())
 }
 
-/// The most starts that a look-up reads among so many, at an address below them all and at each.
+/// The most starts that a look-up reads among this number of them, at an address below them all and at each.
 fn most_reads(alloc: Global, count: u32) -> Result<u32, Fail> {
     let starts = scrambled(alloc, u64::from(count))?;
     let bytes = section_of(alloc, &starts)?;

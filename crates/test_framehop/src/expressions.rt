@@ -10,14 +10,14 @@ use test_readers::WORKED;
 /// The frame that each of these steps begins at.
 const FRAME: Registers = (0x101000, 0x10, 0x20);
 
-/// Its caller, where the CFA is 0x18.
+/// Its caller, if the CFA is 0x18.
 const BY_CFA: (Option<u64>, Registers) = (Some(0x100300), (0x100300, 0x18, 0x20));
 
-/// Its caller, where the CFA has no value: the frame pointer is followed.
+/// Its caller, if the CFA has no value: the frame pointer is followed.
 const BY_FRAME_POINTER: (Option<u64>, Registers) = (Some(0x100200), (0x100200, 0x30, 0x40));
 
 /// The worked section's CIE, and an FDE for a function of sixteen bytes at 0x1000, whose CFA is an
-/// expression. RSP + 8 stands in the CIE, and the return address below the CFA.
+/// expression. The CIE has RSP + 8, and the return address is stored below the CFA.
 fn section_of(alloc: Global, expression: &[u8]) -> Result<Vec<u8>, Fail> {
     let mut bytes = WORKED[..20].to_vec(alloc)?;
     let length = u8::try_from(expression.len())?;
@@ -35,7 +35,7 @@ fn repeated(alloc: Global, operation: u8, count: usize) -> Result<Vec<u8>, Fail>
     Ok(vec![in alloc; operation; count]?)
 }
 
-/// In the entries of a program's PLT: the last five bytes of an entry stand behind a push.
+/// In the entries of a program's PLT: the last five bytes of an entry are after a push.
 #[test]
 fn each_place_of_a_plt_entry(rt: HostRuntime) -> Result<(), Fail> {
     let expression = [0x77, 8, 0x80, 0, 0x3f, 0x1a, 0x3b, 0x2a, 0x33, 0x24, 0x22];
@@ -99,7 +99,7 @@ fn values_of_the_cfa(rt: HostRuntime) -> Result<(), Fail> {
     Ok(())
 }
 
-/// The last of so many values is the CFA.
+/// The last of `count` values is the CFA.
 #[test]
 fn room_for_values(rt: HostRuntime) -> Result<(), Fail> {
     for (below, without_memory) in [(62, BY_CFA), (63, BY_CFA), (64, BY_FRAME_POINTER)] {

@@ -24,7 +24,7 @@ const SAVED: [Reg; 8] = [
     Reg::RDI,
 ];
 
-// The rule that pops a list from so many words above SP on.
+// The rule that pops a list, from this number of words above SP on.
 macro_rules! pops {
     ($words:expr, ($count:expr, $number:expr)) => {
         UnwindRuleX86_64::OffsetSpAndPopRegisters {
@@ -166,7 +166,7 @@ fn full_registers(sp: u64) -> UnwindRegsX86_64 {
     regs
 }
 
-/// One step over the worked stack, or over one where every word is 1: its answer and the registers
+/// One step over the worked stack, or over one whose words are all 1: its result and the registers
 /// after it.
 fn assert_pops(
     rt: &impl Abort,
@@ -205,7 +205,7 @@ static POPPED: [(UnwindRuleX86_64, u64, &[(Reg, u64)], u64, u64); 4] = [
     ),
 ];
 
-/// Each register takes its word, the return address stands above them, all others stay.
+/// Each register takes its word, the return address is above them, and all other registers stay.
 #[test]
 fn pops_registers(rt: HostRuntime) {
     for &(rule, sp, values, return_address, new_sp) in &POPPED {
@@ -254,7 +254,7 @@ static KEPT: [(UnwindRuleX86_64, u64, bool, Result<Option<u64>, Error>); 8] = [
     ),
 ];
 
-/// Where no caller is answered all registers stay, those too that were read by then.
+/// If there is no caller all registers stay, also those that were read before.
 #[test]
 fn keeps_registers_that_it_popped(rt: HostRuntime) {
     for &(rule, sp, is_all_ones, answer) in &KEPT {

@@ -16,7 +16,7 @@ use std::test::Fail;
 const SP: u64 = 0x10_0000_0000;
 /// The frame pointer, above it.
 const FP: u64 = SP + 0x1_0000;
-/// The greatest distance in bytes that a field of words says without a sign.
+/// The greatest distance in bytes that an unsigned field of words says.
 const WORDS: i64 = 8 * 65_535;
 /// The greatest distance in bytes that a field of pairs of words says.
 const PAIRS: i64 = 16 * 65_535;
@@ -71,7 +71,7 @@ fn is_pairs(offset: i64) -> bool {
     offset % 16 == 0 && 0 <= offset && offset <= PAIRS
 }
 
-/// Whether a column is stored where a field of words with a sign says.
+/// Whether a signed field of words says where a register is stored, if it is stored.
 fn is_said(offset: i64, column: Column) -> bool {
     match column {
         Column::Stored(stored) => { is_words(offset.wrapping_add(stored), -8 * 32_768, 8 * 32_767) }
@@ -79,7 +79,7 @@ fn is_said(offset: i64, column: Column) -> bool {
     }
 }
 
-/// Whether a column says that its register is stored.
+/// Whether a register rule says that its register is stored.
 fn is_stored(column: Column) -> bool {
     matches!(column, Column::Stored(_))
 }
@@ -128,7 +128,7 @@ const OFFSETS: [i64; 14] = [
     PAIRS + 16,
 ];
 
-/// Distances from the register that the CFA counts from, at the edges of a field of words with a sign.
+/// Distances from the register that the CFA is relative to, at the edges of a signed field of words.
 const DISTANCES: [i64; 9] = [
     0,
     4,

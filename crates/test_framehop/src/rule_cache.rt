@@ -83,8 +83,8 @@ fn finds_what_was_kept_last(rt: HostRuntime) -> Result<(), Fail> {
     Ok(())
 }
 
-/// A cache takes one allocation, and no call takes more. Where it is refused, as
-/// `scripts/refuse-allocations` has it, there is no cache, and the next try makes one.
+/// A cache makes one allocation, and no call makes more. If it fails, as `scripts/refuse-allocations` has
+/// it fail, there is no cache, and the next try makes one.
 #[test]
 fn takes_one_allocation(rt: HostRuntime) -> Result<(), Fail> {
     let mut cache = match RuleCache::<UnwindRuleX86_64>::new(rt.alloc()) {

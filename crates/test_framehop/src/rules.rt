@@ -16,7 +16,7 @@ const LAST: u64 = u64::MAX - 7;
 
 const EITHER: UnwindRuleX86_64 = UnwindRuleX86_64::JustReturnIfFirstFrameOtherwiseFp;
 
-// SP is higher by so many words.
+// SP is higher by this number of words.
 macro_rules! raised {
     ($words:expr) => {
         UnwindRuleX86_64::OffsetSp {
@@ -25,7 +25,7 @@ macro_rules! raised {
     };
 }
 
-// SP is higher by so many words, and BP stored so many words above SP.
+// SP is higher by a number of words, and BP is stored a number of words above SP.
 macro_rules! restored {
     ($words:expr, $bp:expr) => {
         UnwindRuleX86_64::OffsetSpAndRestoreBp {
@@ -35,7 +35,7 @@ macro_rules! restored {
     };
 }
 
-/// One step over the part of the worked stack from an address on: its answer, and the registers
+/// One step over the part of the worked stack from an address on: its result, and the registers
 /// after it.
 fn assert_step(
     rt: &impl Abort,
@@ -240,7 +240,7 @@ static REFUSALS: [(
     ),
 ];
 
-/// Where no caller is answered the registers stay.
+/// If there is no caller the registers stay.
 #[test]
 fn ends_and_refuses(rt: HostRuntime) {
     for &(rule, is_first_frame, before, answer) in &REFUSALS {

@@ -30,7 +30,7 @@ const EITHER: UnwindRuleAarch64 = UnwindRuleAarch64::NoOpIfFirstFrameOtherwiseFp
 
 const FP: UnwindRuleAarch64 = UnwindRuleAarch64::UseFramePointer;
 
-// SP is higher by so many pairs of words.
+// SP is higher by this number of pairs of words.
 macro_rules! raised {
     ($pairs:expr) => {
         UnwindRuleAarch64::OffsetSp {
@@ -48,7 +48,7 @@ macro_rules! raised_or_end {
     };
 }
 
-// SP is higher by so many pairs of words, and LR stored so many words above it.
+// SP is higher by a number of pairs of words, and LR is stored a number of words above it.
 macro_rules! with_lr {
     ($pairs:expr, $lr:expr) => {
         UnwindRuleAarch64::OffsetSpAndRestoreLr {
@@ -69,7 +69,7 @@ macro_rules! with_both {
     };
 }
 
-// SP is so many words above FP, and FP and LR are stored so many words above FP.
+// SP is a number of words above FP, and FP and LR are stored at numbers of words above FP.
 macro_rules! from_fp {
     ($words:expr, $fp:expr, $lr:expr) => {
         UnwindRuleAarch64::UseFramepointerWithOffsets {
@@ -85,7 +85,7 @@ fn shown(regs: &UnwindRegsAarch64) -> Registers {
     (regs.lr(), regs.sp(), regs.fp())
 }
 
-/// One step over the worked stack: its answer, and the registers after it.
+/// One step over the worked stack: its result, and the registers after it.
 fn assert_step(
     rt: &impl Abort,
     rule: UnwindRuleAarch64,
@@ -149,7 +149,7 @@ static ENDS: [(UnwindRuleAarch64, bool, Registers); 7] = [
     (with_lr!(0, 0), false, (1, 0x70, 0x20)),
 ];
 
-/// Where no caller is answered the registers stay.
+/// If there is no caller the registers stay.
 #[test]
 fn ends(rt: HostRuntime) {
     for &(rule, is_first_frame, before) in &ENDS {
@@ -234,7 +234,7 @@ static REFUSALS: [(UnwindRuleAarch64, bool, Registers, Error); 29] = [
     ),
 ];
 
-/// What is refused first is the answer, and the registers stay.
+/// The first error is returned, and the registers stay.
 #[test]
 fn refuses(rt: HostRuntime) {
     for &(rule, is_first_frame, before, error) in &REFUSALS {
@@ -261,7 +261,7 @@ static SIGNED: [(UnwindRuleAarch64, u64, Option<u64>, Registers); 3] = [
     (NO_OP, 0xab00000000000000, None, (0, 0x10, 0x20)),
 ];
 
-/// A return address is answered and kept without its authentication code.
+/// A return address is returned and kept without its authentication code.
 #[test]
 fn strips_return_addresses(rt: HostRuntime) {
     let mask = PtrAuthMask::new_24_40();

@@ -20,7 +20,7 @@ static NARROW: [u8; 40] = [
 /// The registers ip, sp and bp.
 type Registers = (u64, u64, u64);
 
-/// What two equal steps in a module with these sections answer, the registers that the last of them
+/// What two equal steps in a module with these sections give, the registers that the last of them
 /// leaves, and whether it found its rule in the cache.
 fn step_in<'a, P: AllocationPolicy>(
     alloc: Global,
@@ -79,8 +79,8 @@ fn a_section_without_an_index_says_nothing(rt: HostRuntime) -> Result<(), Fail> 
     Ok(())
 }
 
-/// Values of an expression are counted modulo the size of an address that the CIE says, and an
-/// answer of an expression is not kept.
+/// Values of an expression are counted modulo the size of an address that the CIE says, and the
+/// step by an expression is not kept.
 #[test]
 fn expressions_of_debug_frame_have_their_address_size(rt: HostRuntime) -> Result<(), Fail> {
     let frame = (0x101000, 0x1_0000_0010, 0x20);
@@ -92,7 +92,7 @@ fn expressions_of_debug_frame_have_their_address_size(rt: HostRuntime) -> Result
     Ok(())
 }
 
-/// `.debug_frame` isn't asked where there is an `.eh_frame`.
+/// `.debug_frame` isn't used if there is an `.eh_frame`.
 #[test]
 fn eh_frame_goes_before_debug_frame(rt: HostRuntime) -> Result<(), Fail> {
     let mut sections = eh_frame(&WORKED);

@@ -1,8 +1,9 @@
 //! Two equal steps in a module, of any architecture, by a session with one cache.
 ghost use Rattle.std.specs.Prelude.{true};
 
-use framehop::{ExplicitModuleSectionInfo, FrameAddress, Generations, ModuleUnwindData};
-use framehop_unwinder::{Module, Session, Unwinding};
+use framehop::{
+    ExplicitModuleSectionInfo, FrameAddress, Generations, Module, Session, Unwinding, load_module,
+};
 use std::alloc::Global;
 use std::ops::Range;
 use std::test::Fail;
@@ -10,7 +11,7 @@ use std::test::Fail;
 /// The sections that a test states.
 pub type Sections<'a> = ExplicitModuleSectionInfo<&'a [u8]>;
 
-/// What a step answers, the registers that it leaves, and whether its rule was found again.
+/// What a step gives, the registers that it leaves, and whether its rule was found again.
 pub type Stepped<R> = (Option<u64>, R, bool);
 
 /// A module with these sections at these addresses.
@@ -18,17 +19,16 @@ pub fn module_of<'a>(
     alloc: Global,
     mut sections: Sections<'a>,
     range: Range<u64>,
-) -> Result<Module<ModuleUnwindData<&'a [u8]>>, Fail> {
+) -> Result<Module<&'a [u8]>, Fail> {
     let base = range.start;
     let name = String::from_str(alloc, "m")?;
-    let unwind_data = ModuleUnwindData::new(alloc, &mut sections)?;
-    Ok(Module::new(alloc, name, range, base, unwind_data)?)
+    Ok(load_module(alloc, name, range, base, &mut sections)?)
 }
 
 /// A session of one unwinder, which has this module, and of one cache with this context.
 fn session_of<A: Unwinding>(
     alloc: Global,
-    module: Module<A::UnwindData>,
+    module: framehop_unwinder::Module<A::UnwindData>,
     context: A::UnwindContext,
 ) -> Result<Session<A>, Fail> {
     let mut session = Session::new(alloc, Generations::new());
@@ -45,7 +45,7 @@ fn session_of<A: Unwinding>(
 /// Two equal steps from a frame, by what the last gives.
 pub fn step_twice<A: Unwinding, F: FnMut(u64) -> Result<u64, ()>>(
     alloc: Global,
-    module: Module<A::UnwindData>,
+    module: framehop_unwinder::Module<A::UnwindData>,
     context: A::UnwindContext,
     address: FrameAddress,
     regs: A::UnwindRegs,

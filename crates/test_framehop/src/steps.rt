@@ -1,9 +1,10 @@
 //! Steps over one module by an unwinder and a cache of x86_64, on the worked stack.
 use crate::worked::word_at;
+use framehop::aarch64::CacheAarch64;
 use framehop::x86_64::{CacheX86_64, UnwindRegsX86_64, UnwinderX86_64};
 use framehop::{
-    AllocationPolicy, DwarfUnwindContext, ExplicitModuleSectionInfo, FrameAddress, Generations,
-    MayAllocateDuringUnwind, Module, ModuleUnwindData,
+    AllocationPolicy, ExplicitModuleSectionInfo, FrameAddress, Generations,
+    MayAllocateDuringUnwind, Module, MustNotAllocateDuringUnwind, load_module,
 };
 use std::alloc::Global;
 use std::test::Fail;
@@ -19,30 +20,17 @@ const BY_EXPRESSION: [u8; 32] = [
 /// The registers ip, sp and bp.
 pub type Registers = (u64, u64, u64);
 
-/// A module at 0x100000 with this section `.eh_frame`, whose relative addresses count from there.
+/// A module that is loaded at 0x100000, with this section `.eh_frame`.
 fn module_with(alloc: Global, section: &[u8]) -> Result<Module<Vec<u8>>, Fail> {
     let mut sections = ExplicitModuleSectionInfo {
-        base_svma: 0,
-        text_svma: None,
-        text: None,
-        stubs_svma: None,
-        stub_helper_svma: None,
-        got_svma: None,
-        unwind_info: None,
-        eh_frame_svma: None,
         eh_frame: Some(section.to_vec(alloc)?),
-        eh_frame_hdr_svma: None,
-        eh_frame_hdr: None,
-        debug_frame: None,
-        text_segment_svma: None,
-        text_segment: None,
+        ..Default::default()
     };
     let name = String::from_str(alloc, "m")?;
-    let unwind_data = ModuleUnwindData::new(alloc, &mut sections)?;
-    Ok(Module::new(alloc, name, 0x100000..0x102000, 0x100000, unwind_data)?)
+    Ok(load_module(alloc, name, 0x100000..0x102000, 0x100000, &mut sections)?)
 }
 
-/// What a step answers in a module with this section, and the registers that it leaves.
+/// What a step gives in a module with this section, and the registers that it leaves.
 pub fn step<P: AllocationPolicy>(
     rt: &HostRuntime,
     section: &[u8],
@@ -55,12 +43,46 @@ pub fn step<P: AllocationPolicy>(
     if unwinder.add_module(&mut generations, module).is_err() {
         return Err(Fail::new("not loaded"));
     }
-    let mut cache = CacheX86_64::<P>::new(alloc, DwarfUnwindContext::new(alloc)?)?;
+    let mut cache = CacheX86_64::<P>::new_in(alloc)?;
     let mut regs = UnwindRegsX86_64::new(ip, sp, bp);
     let address = FrameAddress::from_instruction_pointer(ip);
     let mut read = word_at;
-    let return_address = unwinder.unwind_frame(address, &mut regs, &mut cache, &mut read)?;
+    let return_address = unwinder.unwind_frame(address, &mut regs, &mut cache.0, &mut read)?;
     Ok((return_address, (regs.ip(), regs.sp(), regs.bp())))
+}
+
+/// Two equal steps through a new cache: the second finds the rule that the first kept.
+#[test]
+fn a_cache_counts_its_look_ups(rt: HostRuntime) -> Result<(), Fail> {
+    let alloc = rt.alloc();
+    let mut generations = Generations::new();
+    let mut unwinder = UnwinderX86_64::<Vec<u8>>::new(alloc, &mut generations)?;
+    if unwinder
+        .add_module(&mut generations, module_with(alloc, &WORKED)?)
+        .is_err()
+    {
+        return Err(Fail::new("not loaded"));
+    }
+    let mut cache = CacheX86_64::new(alloc)?;
+    let address = FrameAddress::from_instruction_pointer(0x101004);
+    let mut read = word_at;
+    for _ in 0..2 {
+        let mut regs = UnwindRegsX86_64::new(0x101004, 0x18, 0x20);
+        unwinder.unwind_frame(address, &mut regs, &mut cache.0, &mut read)?;
+    }
+    let stats = cache.stats();
+    assert!(rt; (stats.total(), stats.hits(), stats.misses()) == (2, 1, 1));
+    Ok(())
+}
+
+/// A new cache of aarch64 has counted nothing, under either policy.
+#[test]
+fn new_caches_have_counted_nothing(rt: HostRuntime) -> Result<(), Fail> {
+    let may = CacheAarch64::new(rt.alloc())?;
+    assert!(rt; may.stats().total() == 0);
+    let must = CacheAarch64::<MustNotAllocateDuringUnwind>::new_in(rt.alloc())?;
+    assert!(rt; must.stats().total() == 0);
+    Ok(())
 }
 
 #[test]

@@ -131,9 +131,9 @@ impl<H: Abort> ReaderTest<H> for StringTest {
         let string = section.get_str(DebugStrOffset(ReaderOffset::from_u8(3)))?;
         assert!(rt; string.to_string(alloc)?.as_str() == "c");
         assert!(rt; string.offset_id() == ReaderOffsetId(3));
-        for (offset, place) in [(5, 5), (6, 0)] {
+        for (offset, end) in [(5, 5), (6, 0)] {
             let string = section.get_str(DebugStrOffset(ReaderOffset::from_u8(offset)));
-            assert!(rt; string.err() == Some(Error::UnexpectedEof(ReaderOffsetId(place))));
+            assert!(rt; string.err() == Some(Error::UnexpectedEof(ReaderOffsetId(end))));
         }
         Ok(())
     }

@@ -4,7 +4,7 @@ use Rattle.std.specs.List.{position, prefix_len}
 use Rattle.std.proofs.lemmas.Bool.Decides.{nat_tests}
 use Rattle.std.proofs.lemmas.List.{reverse-append, length-reverse, length-drop, take-append-drop, take_at, take_rest, drop_at}
 use Prim.Native.Nat.compare
-use Rattle.dwarf_readers.specs.Place.{behind_at, count_before, prefix_at}
+use Rattle.dwarf_readers.specs.Stretch.{behind_at, count_before, prefix_at}
 
 -- the bytes behind the first m, and before them those m
 cut : (m : ℕ) (xs : List ℕ) → reverse xs ≡ reverse (drop m xs) ++ reverse (take m xs)
@@ -24,13 +24,13 @@ drop_reversed m n xs whole = ap (drop n) (cut m xs) ∙ drop_at (reverse (drop m
 there : (m n : ℕ) (xs : List ℕ) → m + n ≡ length xs → nat_lt (length (reverse xs)) n ≡ false
 there m n xs whole = let size : length (reverse xs) ≡ length xs = length-reverse xs in grind (arith, nat_tests)
 
-pub skipped : (m n k : ℕ) (xs : List ℕ) (place : ℕ) (big : Bool) → m + n ≡ length xs → k ≡ n → behind_at n (record { bytes = reverse xs; place = place; big = big }) ≡ Ok (record { bytes = reverse (take m xs); place = place + k; big = big })
-skipped m n k xs place big whole same = rw (there m n xs whole, drop_reversed m n xs whole, same) refl
+pub skipped : (m n k : ℕ) (xs : List ℕ) (offset : ℕ) (big : Bool) → m + n ≡ length xs → k ≡ n → behind_at n (record { bytes = reverse xs; offset = offset; big = big }) ≡ Ok (record { bytes = reverse (take m xs); offset = offset + k; big = big })
+skipped m n k xs offset big whole same = rw (there m n xs whole, drop_reversed m n xs whole, same) refl
 
-pub truncated : (m n : ℕ) (xs : List ℕ) (place : ℕ) (big : Bool) → m + n ≡ length xs → prefix_at n (record { bytes = reverse xs; place = place; big = big }) ≡ Ok (record { bytes = reverse (take (length xs - m) (drop m xs)); place = place; big = big })
-truncated m n xs place big whole = rw (there m n xs whole, take_reversed m n xs whole, take_rest xs m) refl
+pub truncated : (m n : ℕ) (xs : List ℕ) (offset : ℕ) (big : Bool) → m + n ≡ length xs → prefix_at n (record { bytes = reverse xs; offset = offset; big = big }) ≡ Ok (record { bytes = reverse (take (length xs - m) (drop m xs)); offset = offset; big = big })
+truncated m n xs offset big whole = rw (there m n xs whole, take_reversed m n xs whole, take_rest xs m) refl
 
--- one place further
+-- one byte further
 later : (found : Bool) (n : ℕ) → cond found (Some (suc n)) None ≡ option_map suc (cond found (Some n) None)
 later true n = refl
 later false n = refl
@@ -43,7 +43,7 @@ one_more false n size rest same =
     let more : 1 + n ≡ suc n = omega arith in
     rw (more, compare.suc-suc) (later (nat_lt n size) n ∙ ap (option_map suc) same)
 
--- the first place of a byte
+-- the index of the first such byte
 pub position_is_count : (byte : ℕ) (xs : List ℕ) → position (λ b. b == byte) xs ≡ count_before byte xs
 position_is_count byte [] = refl
 position_is_count byte (x ∷ xs) = one_more (x == byte) (prefix_len (λ b. not (b == byte)) xs) (length xs) (count_before byte xs) (position_is_count byte xs)

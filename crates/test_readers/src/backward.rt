@@ -2,15 +2,15 @@
 
 ghost use Rattle.std.specs.Prelude.{◌≡◌, ◌<◌, ◌+◌, ◌^◌, ◌==◌, IfErr, IfOk, length, position, reverse};
 ghost use Rattle.dwarf_constants.specs.declared.error.Error.TheVariants.{OutOfMemory};
-ghost use Rattle.dwarf_readers.specs.Place.{ends_at};
+ghost use Rattle.dwarf_readers.specs.Stretch.{ends_at};
 
 use dwarf_constants::{Error, ReaderOffsetId, Result};
 use dwarf_readers::{Endianity, Reader, RunTimeEndian};
 use std::alloc::Global;
 use std::borrow::{CowSlice, CowStr};
 
-/// Bytes that are stored back to front: the next byte is the last that is stored. No piece of a
-/// section lies in memory as it is read, so nothing can be lent.
+/// Bytes that are stored backward: the next byte is the last that is stored. No piece of a section is
+/// in memory as it is read, so nothing can be borrowed.
 #[derive(Debug, Clone, Copy)]
 pub struct Backward<'a> {
     stored: &'a [u8],
@@ -21,13 +21,13 @@ pub struct Backward<'a> {
 }
 
 impl<'a> Backward<'a> {
-    /// A part of a section, whose first byte is at this place and stored last.
+    /// A part of a section, whose first byte is at this offset and stored last.
     pub fn new_at(stored: &'a [u8], endian: RunTimeEndian, first: u64) -> Backward<'a>
         requires small { length stored.now < 2 ^ 32 }
         requires fits { first + length stored.now < 2 ^ 64 }
         ensures { ⟦<Backward<'a> as Reader>⟧.stretch result ≡ record {
           bytes = reverse stored.now;
-          place = first;
+          offset = first;
           big = ⟦<RunTimeEndian as Endianity>⟧.is_big endian;
         } }
     {
@@ -49,7 +49,7 @@ impl<'a> Backward<'a> {
         }
     }
 
-    // How many bytes are left behind the next `len`, if they are there.
+    // How many bytes are left after the next `len`, if there are as many.
     fn rest(&self, len: usize) -> Result<usize>
         ensures rest { IfOk result (λ rest. rest + len ≡ length self.now.stored.now) }
         ensures refused { IfErr result (λ e.
@@ -61,7 +61,7 @@ impl<'a> Backward<'a> {
         Ok(self.stored.len() - len)
     }
 
-    // How many bytes stand before the first of this value.
+    // How many bytes are before the first of this value.
     fn before(&self, byte: u8) -> Option<usize>
         ensures { result ≡ position (λ b. b == byte) (reverse self.now.stored.now) }
     {
@@ -76,7 +76,7 @@ impl Reader for Backward<'_> {
 
     ghost stretch = { λ s. record {
       bytes = reverse s.stored.now;
-      place = s.first;
+      offset = s.first;
       big = ⟦<RunTimeEndian as Endianity>⟧.is_big s.endian;
     } };
 

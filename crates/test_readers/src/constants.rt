@@ -1,5 +1,6 @@
-//! The tables against the standard's own order, and what is printed.
+//! The tables against the standard's own order, and constants as they are printed.
 //! A row of names counts up from its first value, as the tables of the standard do; `-` is a gap.
+
 use dwarf_constants::constants::*;
 use dwarf_constants::{
     AArch64, Error, Format, LineEncoding, ReaderOffsetId, Register, SectionId, X86_64,
@@ -10,7 +11,7 @@ use std::fmt;
 use std::process::Abort;
 use std::test::Fail;
 
-// Whether this is the name behind its prefix, or `-` and there is none.
+// Whether this is the name after its prefix, or `-` and there is none.
 fn is_name(text: Option<&str>, prefix: &str, name: &str) -> bool {
     match text {
         Some(text) => text.strip_prefix(prefix) == Some(name),
@@ -43,7 +44,7 @@ fn check_names<F: Fn(u16, &str) -> bool>(
     assert!(rt; named == count);
 }
 
-// Whether a constant of one byte has a name behind this prefix.
+// Whether a constant of one byte has a name with this prefix.
 macro_rules! byte_has_name {
     ($kind:ident, $prefix:literal) => {
         |value, name| match u8::try_from(value) {
@@ -53,7 +54,7 @@ macro_rules! byte_has_name {
     };
 }
 
-/// DWARF 5, table 7.29; 0x2d is of the ABI of AArch64 and 0x2e of GNU.
+// DWARF 5, table 7.29; 0x2d is of the ABI of AArch64 and 0x2e of GNU.
 #[test]
 fn instructions_are_numbered_as_in_the_standard(rt: HostRuntime) {
     let rows = [
@@ -72,14 +73,14 @@ fn instructions_are_numbered_as_in_the_standard(rt: HostRuntime) {
     check_names(&rt, &rows, 28, byte_has_name!(DwCfa, "DW_CFA_"));
 }
 
-/// DWARF 5, table 7.4.
+// DWARF 5, table 7.4.
 #[test]
 fn children_are_numbered_as_in_the_standard(rt: HostRuntime) {
     let rows = [(0x00, "no yes -")];
     check_names(&rt, &rows, 2, byte_has_name!(DwChildren, "DW_CHILDREN_"));
 }
 
-/// DWARF 5, table 7.6; those from 0x1f00 on are of GNU.
+// DWARF 5, table 7.6; those from 0x1f00 on are of GNU.
 #[test]
 fn forms_are_numbered_as_in_the_standard(rt: HostRuntime) {
     let rows = [
@@ -101,7 +102,7 @@ fn forms_are_numbered_as_in_the_standard(rt: HostRuntime) {
     );
 }
 
-/// DWARF 5, table 7.9.
+// DWARF 5, table 7.9.
 #[test]
 fn operations_are_numbered_as_in_the_standard(rt: HostRuntime) {
     let rows = [
@@ -116,7 +117,7 @@ fn operations_are_numbered_as_in_the_standard(rt: HostRuntime) {
     check_names(&rt, &rows, 106, byte_has_name!(DwOp, "DW_OP_"));
 }
 
-/// DWARF 5, table 7.9: a literal and a register for each number up to 31.
+// DWARF 5, table 7.9: a literal and a register for each number up to 31.
 #[test]
 fn operations_of_literals_and_registers_are_numbered(rt: HostRuntime) -> Result<(), Fail> {
     for n in 0..32u8 {
@@ -129,7 +130,7 @@ fn operations_of_literals_and_registers_are_numbered(rt: HostRuntime) -> Result<
     Ok(())
 }
 
-/// LSB 5.0, 10.5.1.
+// LSB 5.0, 10.5.1.
 #[test]
 fn pointer_encodings_are_numbered_as_in_the_standard(rt: HostRuntime) {
     let rows = [
@@ -148,7 +149,7 @@ fn pointer_encodings_are_numbered_as_in_the_standard(rt: HostRuntime) {
     check_names(&rt, &rows, 16, byte_has_name!(DwEhPe, "DW_EH_PE_"));
 }
 
-/// The encoding that compilers write for shared libraries, 0x9b, is an indirect offset of 4 bytes.
+// The encoding that compilers write for shared libraries, 0x9b, is an indirect offset of 4 bytes.
 #[test]
 fn pointer_encodings_are_taken_apart(rt: HostRuntime) {
     let encoding = DW_EH_PE_indirect | DW_EH_PE_pcrel | DW_EH_PE_sdata4;
@@ -341,7 +342,7 @@ fn sections_have_their_names(rt: HostRuntime) {
     }
 }
 
-/// System V ABI for AMD64, figure 3.36; DWARF for the Arm 64-bit Architecture, 4.1.
+// System V ABI for AMD64, figure 3.36; DWARF for the Arm 64-bit Architecture, 4.1.
 #[test]
 fn registers_are_numbered_as_in_the_abis(rt: HostRuntime) {
     assert!(rt; [X86_64::RBP, X86_64::RSP, X86_64::RA] == [Register(6), Register(7), Register(16)]);

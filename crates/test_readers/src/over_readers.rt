@@ -10,11 +10,11 @@ pub type Outcome = Result<(), Fail>;
 
 /// A test of calls that are generic over the reader, by a runtime's handle.
 pub trait ReaderTest<H> {
-    /// Runs over a reader of the whole of some bytes, the first at place 0.
+    /// Runs over a reader of the whole of some bytes, the first at offset 0.
     fn run<R: Reader>(&self, rt: &H, alloc: Global, reader: R) -> Outcome;
 }
 
-/// Runs the test over the bytes in one piece, stored back to front, and in two pieces, cut at each place.
+/// Runs the test over the bytes in one piece, stored backward, and in two pieces, cut at each offset.
 pub fn over_each_reader<H, T: ReaderTest<H>>(
     rt: &H,
     alloc: Global,

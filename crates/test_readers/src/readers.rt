@@ -1,4 +1,4 @@
-//! Numbers, texts and places of readers.
+//! Numbers, texts and offsets of readers.
 
 mod equality;
 mod numbers;
@@ -102,16 +102,16 @@ fn byte_orders_by_themselves(rt: HostRuntime) {
     assert!(rt; NativeEndian.is_little_endian());
 }
 
-// A part of the bytes 1 to 5, and what is left behind it.
+// A part of the bytes 1 to 5, and what is left after it.
 static PLACES: [Step; 7] = [
     (Question::Text(Text::Split(2)), Want::Part(&[1, 2], 0), 2),
     (
-        Question::Search(Search::Place(5)),
+        Question::Search(Search::Relative(5)),
         Want::Plain(Plain::Found(Some(3))),
         2,
     ),
     (
-        Question::Search(Search::Place(1)),
+        Question::Search(Search::Relative(1)),
         Want::Plain(Plain::Found(None)),
         2,
     ),
@@ -138,7 +138,7 @@ static PLACES: [Step; 7] = [
 ];
 
 #[test]
-fn places(rt: HostRuntime) -> Outcome {
+fn offsets(rt: HostRuntime) -> Outcome {
     let bytes = [1, 2, 3, 4, 5];
     let test = Script(&PLACES);
     over_each_reader(&rt, rt.alloc(), &test, &bytes, RunTimeEndian::Little)
@@ -160,7 +160,7 @@ fn offsets_of_32_bits(rt: HostRuntime) {
     assert!(rt; u32::from_i16(-1) == 0xffff_ffff);
 }
 
-// The bytes, what is asked, the answer, and the place behind it.
+// The bytes, the question, the answer, and the offset after it.
 static LENGTHS: [(&[u8], Sized, Plain, u64); 7] = [
     (
         &[0xff, 0xff, 0xff, 0xff, 7, 0, 0, 0, 0, 0, 0, 0],
@@ -203,8 +203,8 @@ static LENGTHS: [(&[u8], Sized, Plain, u64); 7] = [
 
 #[test]
 fn lengths(rt: HostRuntime) -> Outcome {
-    for (bytes, asked, answer, place) in &LENGTHS {
-        let step = (Question::Sized(*asked), Want::Plain(*answer), *place);
+    for (bytes, asked, answer, offset) in &LENGTHS {
+        let step = (Question::Sized(*asked), Want::Plain(*answer), *offset);
         let test = Script(&[step]);
         over_each_reader(&rt, rt.alloc(), &test, bytes, RunTimeEndian::Little)?;
     }

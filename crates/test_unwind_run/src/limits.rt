@@ -1,5 +1,6 @@
 //! Documents at the limits of length and of the number of commands, and one that is no text. All
 //! others are rows of `cases_unwind_run`.
+
 use crate::runs::answer_to;
 use std::alloc::Global;
 use std::io;
@@ -9,7 +10,7 @@ use std::test::Fail;
 /// The greatest length of a document, in bytes.
 const GREATEST: u64 = 16_777_216;
 
-/// A document of so many commands that make an unwinder.
+// A document of `count` commands that make an unwinder.
 fn unwinders(alloc: Global, count: usize) -> Result<String, Fail> {
     let mut text = String::from_str(
         alloc,
@@ -33,7 +34,7 @@ fn greatest_number_of_commands(rt: HostRuntime) -> Result<(), Fail> {
     Ok(())
 }
 
-/// Of a document that is too long one byte past the greatest length is read, and no more.
+// Of a document that is too long one byte more than the greatest length is read.
 #[test]
 fn greatest_length(rt: HostRuntime) -> Result<(), Fail> {
     for (length, line, left) in [

@@ -1,4 +1,5 @@
 //! What a run over a document writes.
+
 use std::alloc::Global;
 use std::io::Read;
 use std::test::Fail;

@@ -1,4 +1,5 @@
 //! Runs over streams that fail, stop short, or are interrupted.
+
 ghost use Rattle.std.specs.Prelude.{◌≡◌, Some, false};
 
 use std::alloc::Global;
@@ -124,7 +125,7 @@ const DOCUMENT: &str =
 const ANSWERS: &str =
     "some 0x100300 ip 0x100300 sp 0x18 bp 0x20\nsome 0x100200 ip 0x100200 sp 0x30 bp 0x40\n";
 
-/// The document, so many bytes at a call.
+// The document, at most some bytes at a call.
 fn source_in_steps<'a>(step: usize, calls_left: usize) -> Script<'a>
     ensures { result.failed ≡ false }
 {
@@ -136,7 +137,7 @@ fn source_in_steps<'a>(step: usize, calls_left: usize) -> Script<'a>
     }
 }
 
-/// An empty record, which takes so many bytes at a call.
+// An empty record, which takes at most some bytes at a call.
 fn sink_in_steps(alloc: Global, step: usize, calls_left: usize) -> Record
     ensures { result.failed ≡ false }
 {
@@ -164,7 +165,7 @@ fn reads_in_pieces(rt: HostRuntime) -> Result<(), Fail> {
     Ok(())
 }
 
-/// Where a read fails nothing is written, though it be the one that would find the end.
+// Where a read fails nothing is written, though it be the one that would find the end.
 #[test]
 fn each_read_fails_in_turn(rt: HostRuntime) -> Result<(), Fail> {
     for calls in 0..=DOCUMENT.len().div_ceil(100) {
@@ -195,7 +196,7 @@ fn writes_in_pieces(rt: HostRuntime) -> Result<(), Fail> {
     Ok(())
 }
 
-/// What was written before the call that fails is a beginning of the answers.
+// What was written before the call that fails is a prefix of the text.
 #[test]
 fn each_write_fails_in_turn(rt: HostRuntime) -> Result<(), Fail> {
     for calls in 0..12 {
@@ -262,7 +263,7 @@ fn interrupted_writes_are_made_again(rt: HostRuntime) -> Result<(), Fail> {
     Ok(())
 }
 
-/// A line of no bytes needs no writer that takes any.
+// A line of no bytes needs no writer that takes any.
 #[test]
 fn a_writer_that_takes_nothing_fails(rt: HostRuntime) -> Result<(), Fail> {
     let mut empty = Streamed::new(

@@ -1,4 +1,5 @@
 //! Lists of commands, each answer beside one that is made with new caches alone.
+
 ghost use Rattle.std.specs.Prelude.{IfOk};
 ghost use Rattle.std.specs.List.{All};
 ghost use Rattle.framehop_histories.specs.Commands.{OfCallback};
@@ -65,7 +66,7 @@ struct Walk {
     regs: Regs,
 }
 
-/// A step through a new cache.
+// A step through a new cache.
 fn step_alone(
     alloc: Global,
     unwinder: &UnwinderInternal<Toy>,
@@ -77,7 +78,7 @@ fn step_alone(
     Ok(unwinder.unwind_frame(address, regs, &mut cache, &mut read_stack))
 }
 
-/// A move of a walk through a new cache.
+// A move of a walk through a new cache.
 fn move_alone(
     alloc: Global,
     unwinder: &UnwinderInternal<Toy>,
@@ -126,7 +127,7 @@ impl Alone {
         }
     }
 
-    /// A new unwinder.
+    // A new unwinder.
     fn add_unwinder(&mut self, alloc: Global) -> Result<Shown, Fail> {
         let Ok(unwinder) = UnwinderInternal::new(alloc, &mut self.generations) else {
             return Ok(EXHAUSTED);
@@ -135,7 +136,7 @@ impl Alone {
         Ok(ADDED)
     }
 
-    /// A module is loaded.
+    // A module is loaded.
     fn load(&mut self, unwinder: usize, module: &Module<Vec<Row>>) -> Result<Shown, Fail> {
         let Some(there) = self.unwinders.get_mut(unwinder) else {
             return Ok(UNKNOWN);
@@ -144,7 +145,7 @@ impl Alone {
         Ok(ADDED)
     }
 
-    /// A module is unloaded.
+    // A module is unloaded.
     fn unload(&mut self, unwinder: usize, start: u64) -> Shown {
         let Some(there) = self.unwinders.get_mut(unwinder) else {
             return UNKNOWN;
@@ -155,7 +156,7 @@ impl Alone {
         }
     }
 
-    /// An unwinder is cloned.
+    // An unwinder is cloned.
     fn clone_unwinder(&mut self, alloc: Global, unwinder: usize) -> Result<Shown, Fail> {
         let Some(there) = self.unwinders.get(unwinder) else {
             return Ok(UNKNOWN);
@@ -165,7 +166,7 @@ impl Alone {
         Ok(ADDED)
     }
 
-    /// A step, where there would be the cache.
+    // A step, where there would be the cache.
     fn step(
         &self,
         alloc: Global,
@@ -183,7 +184,7 @@ impl Alone {
         }
     }
 
-    /// A walk's next move, where there would be the cache.
+    // A walk's next move, where there would be the cache.
     fn next_frame(
         &mut self,
         alloc: Global,
@@ -200,7 +201,7 @@ impl Alone {
         }
     }
 
-    /// What a command has to be answered.
+    // What a command has to be answered.
     fn answer<F>(
         &mut self,
         alloc: Global,
@@ -230,7 +231,7 @@ impl Alone {
     }
 }
 
-/// A command that is drawn at random.
+// A command that is drawn at random.
 fn draw<F: FnMut(u64) -> Result<u64, ()> + Drop>(
     alloc: Global,
     state: &mut u64,
@@ -279,7 +280,7 @@ fn draw<F: FnMut(u64) -> Result<u64, ()> + Drop>(
     Ok(Command::Step(unwinder, cache, address, regs, read_stack))
 }
 
-/// One of fourteen commands, which have to be done in this order. Five of them are enough for a step.
+// One of fourteen commands, which have to be done in this order. Five of them are enough for a step.
 fn command_of<F: FnMut(u64) -> Result<u64, ()> + Drop>(
     number: u64,
     there: &Module<Vec<Row>>,
@@ -304,7 +305,7 @@ fn command_of<F: FnMut(u64) -> Result<u64, ()> + Drop>(
     }
 }
 
-/// All of these commands.
+// All of these commands.
 fn commands_of<F: FnMut(u64) -> Result<u64, ()> + Copy>(
     alloc: Global,
     there: &Module<Vec<Row>>,
@@ -321,7 +322,7 @@ fn commands_of<F: FnMut(u64) -> Result<u64, ()> + Copy>(
     Ok(commands)
 }
 
-/// What one of these commands is answered.
+// What one of these commands is answered.
 fn answer_of<F: FnMut(u64) -> Result<u64, ()> + Drop>(
     alloc: Global,
     session: &mut Session<Toy>,
@@ -341,7 +342,7 @@ fn answer_of<F: FnMut(u64) -> Result<u64, ()> + Drop>(
     }
 }
 
-/// So many commands that are drawn at random, and what they have to be answered.
+// So many commands that are drawn at random, and what they have to be answered.
 fn script<F: FnMut(u64) -> Result<u64, ()> + Copy>(
     alloc: Global,
     count: u64,

@@ -3,7 +3,7 @@ use framehop_modules::{BaseSvmas, ExplicitModuleSectionInfo, ModuleSectionInfo, 
 
 type Info<'a> = ExplicitModuleSectionInfo<&'a [u8]>;
 
-/// A short name of what is taken.
+// A short name of what is taken.
 fn taken(sections: &ModuleSections<&[u8]>) -> u8 {
     match sections {
         ModuleSections::CompactUnwindInfoAndEhFrame { .. } => 1,

@@ -25,7 +25,7 @@ const K: Stepped = (Ok(Some(0x100200)), 0x30, 0x40);
 /// For want of memory: the registers stay.
 const REFUSED: Stepped = (Err(Error::OutOfMemory), 0x10, 0x20);
 
-/// A session with so many unwinders and caches.
+// A session with so many unwinders and caches.
 fn session_of(alloc: Global, unwinders: usize, caches: usize) -> Result<Session<Toy>, Fail> {
     let mut session = Session::new(alloc, Generations::new());
     for _ in 0..unwinders {
@@ -37,7 +37,7 @@ fn session_of(alloc: Global, unwinders: usize, caches: usize) -> Result<Session<
     Ok(session)
 }
 
-/// Loads a module into the first unwinder, if there is one.
+// Loads a module into the first unwinder, if there is one.
 fn load_first(session: &mut Session<Toy>, module: Module<Vec<Row>>) -> Result<(), Fail> {
     if session.unwinders() == 0 {
         return Err(Fail::new("no unwinder"));
@@ -45,7 +45,7 @@ fn load_first(session: &mut Session<Toy>, module: Module<Vec<Row>>) -> Result<()
     loaded(session.load(0, module))
 }
 
-/// A step of an unwinder with one of the caches, if there are both.
+// A step of an unwinder with one of the caches, if there are both.
 fn step(
     session: &mut Session<Toy>,
     unwinder: usize,
@@ -63,7 +63,7 @@ fn step(
     Some((answer, regs.sp(), regs.bp()))
 }
 
-/// What a cache counted, if there is one.
+// What a cache counted, if there is one.
 fn stats(session: &Session<Toy>, cache: usize) -> Option<(u64, u64, u64, u64)> {
     if cache >= session.caches() {
         return None;
@@ -88,12 +88,12 @@ enum Turn {
     Counts(u64, u64, u64, u64),
 }
 
-/// Whether an unwinder unloads a module, if there is the unwinder.
+// Whether an unwinder unloads a module, if there is the unwinder.
 fn unloads(session: &mut Session<Toy>, unwinder: usize) -> bool {
     unwinder < session.unwinders() && session.unload(unwinder, 0x100000).is_ok()
 }
 
-/// Clones the first unwinder, if there is one.
+// Clones the first unwinder, if there is one.
 fn clone_first(alloc: Global, session: &mut Session<Toy>) -> Result<(), Fail> {
     if session.unwinders() == 0 {
         return Err(Fail::new("no unwinder"));
@@ -102,7 +102,7 @@ fn clone_first(alloc: Global, session: &mut Session<Toy>) -> Result<(), Fail> {
     Ok(())
 }
 
-/// Whether a step with the first cache comes to this.
+// Whether a step with the first cache comes to this.
 fn steps(
     session: &mut Session<Toy>,
     unwinder: usize,
@@ -115,7 +115,7 @@ fn steps(
     }
 }
 
-/// Takes a turn, and answers whether it is answered as it has to be.
+// Takes a turn, and answers whether it is answered as it has to be.
 fn is_answered(alloc: Global, session: &mut Session<Toy>, turn: Turn) -> Result<bool, Fail> {
     match turn {
         Turn::Load(end, relative_address, said) => {
@@ -141,7 +141,7 @@ fn is_answered(alloc: Global, session: &mut Session<Toy>, turn: Turn) -> Result<
     }
 }
 
-/// Takes turns in a session of one unwinder and one cache.
+// Takes turns in a session of one unwinder and one cache.
 fn follow(rt: &impl Abort, alloc: Global, turns: &[Turn]) -> Result<(), Fail> {
     let mut session = session_of(alloc, 1, 1)?;
     for (number, turn) in turns.iter().enumerate() {
@@ -249,7 +249,7 @@ static EQUAL_STARTS: [Turn; 7] = [
     Turn::Counts(0, 2, 1, 0),
 ];
 
-/// An unwinder that was given the counter's last number.
+// An unwinder that was given the counter's last number.
 fn last_unwinder(alloc: Global) -> Result<(UnwinderInternal<Toy>, Generations), Fail> {
     let mut generations = Generations::starting_at(u64::MAX - 1);
     match UnwinderInternal::new(alloc, &mut generations) {
@@ -287,7 +287,7 @@ fn a_refused_load_hands_the_module_back(rt: HostRuntime) -> Result<(), Fail> {
     Ok(())
 }
 
-/// Loads a module into an unwinder alone, and into that of a session.
+// Loads a module into an unwinder alone, and into that of a session.
 fn load_both(
     alloc: Global,
     (alone, generations): (&mut UnwinderInternal<Toy>, &mut Generations),
@@ -304,7 +304,7 @@ fn load_both(
     loaded(session.load(unwinder, module))
 }
 
-/// Whether both unload what starts there.
+// Whether both unload what starts there.
 fn unload_both(
     (alone, generations): (&mut UnwinderInternal<Toy>, &mut Generations),
     session: &mut Session<Toy>,
@@ -316,7 +316,7 @@ fn unload_both(
         && session.unload(unwinder, start).is_ok()
 }
 
-/// A step of an unwinder alone, with a cache of its own.
+// A step of an unwinder alone, with a cache of its own.
 fn step_alone(
     alloc: Global,
     unwinder: &UnwinderInternal<Toy>,
@@ -331,7 +331,7 @@ fn step_alone(
     Ok((answer, regs.sp(), regs.bp()))
 }
 
-/// So many unwinders, each alone.
+// So many unwinders, each alone.
 fn unwinders(
     alloc: Global,
     generations: &mut Generations,

@@ -1,4 +1,5 @@
 //! Modules that are tables from relative addresses to what is said there, on any architecture.
+
 ghost use Rattle.std.specs.Prelude.{◌≡◌};
 ghost use Rattle.test_unwinder.specs.Tables.{said_at};
 
@@ -28,7 +29,7 @@ pub struct Row {
     pub said: Said,
 }
 
-/// What is said of an address.
+// What is said of an address.
 fn said_at(rows: &[Row], address: u32) -> Option<Said>
     ensures { result ≡ said_at rows.now address }
 {
@@ -52,7 +53,8 @@ impl<A: Arch> Arch for Tables<A> {
 }
 
 impl<A: Arch> Unwinding for Tables<A> {
-    ghost use Rattle.std.specs.Prelude.{true, Some};
+    ghost use Rattle.std.specs.Prelude.{true, Some, refl};
+    ghost use Rattle.framehop_unwinder.specs.Attempt.{meanings_of};
     ghost use Rattle.test_unwinder.specs.Tables.{attempt_said};
     ghost use Rattle.test_unwinder.specs.declared.tables.Said.TheVariants.{WantsMemory};
 
@@ -60,8 +62,12 @@ impl<A: Arch> Unwinding for Tables<A> {
 
     type UnwindContext = ();
 
-    ghost attempt = { λ rows address first.
-        attempt_said A.UnwindRule.stub_rule A.UnwindRule.start_rule (said_at rows.items address) };
+    ghost meanings = { meanings_of A.UnwindRule.meaning A.UnwindRule.fallback (λ rows address first.
+        attempt_said A.UnwindRule.stub_rule A.UnwindRule.start_rule (said_at rows.items address)) };
+
+    ghost meaning_is = { refl };
+
+    ghost fallback_is = { refl };
 
     ghost takes_memory = { true };
 

@@ -17,7 +17,7 @@ const WORDS: [u64; 16] = [
     0x1, 0x2, 0x100300, 0x4, 0x40, 0x100200, 0x5, 0x6, 0x70, 0x100100, 0x7, 0x8, 0x9, 0xa, 0x0, 0x0,
 ];
 
-/// The word at an address, of the first so many words.
+// The word at an address, of the first so many words.
 fn word_at(count: u64, address: u64) -> Result<u64, ()> {
     if address % 8 != 0 || address / 8 >= count {
         return Err(());
@@ -25,7 +25,7 @@ fn word_at(count: u64, address: u64) -> Result<u64, ()> {
     WORDS.get((address / 8) as usize).copied().ok_or(())
 }
 
-/// A session with one unwinder and one cache, whose counter gives this number first.
+// A session with one unwinder and one cache, whose counter gives this number first.
 fn session_from(alloc: Global, generation: u64) -> Result<Session<Toy>, Fail> {
     let mut session = Session::new(alloc, Generations::starting_at(generation));
     let _unwinder = add_unwinder(&mut session, alloc)?;
@@ -33,7 +33,7 @@ fn session_from(alloc: Global, generation: u64) -> Result<Session<Toy>, Fail> {
     Ok(session)
 }
 
-/// What a walk from the second frame's function writes, over the first so many words.
+// What a walk from the second frame's function writes, over the first so many words.
 fn walk_text(
     session: &mut Session<Toy>,
     alloc: Global,
@@ -48,7 +48,7 @@ fn walk_text(
     Ok(walk(session, alloc, 0, 0, limit, &mut frames, &mut read_stack)?.text)
 }
 
-/// What the counts of the first cache are.
+// What the counts of the first cache are.
 fn stats_text(session: &mut Session<Toy>, alloc: Global) -> Result<String, Fail> {
     if session.caches() == 0 {
         return Ok(String::new(alloc));
@@ -56,7 +56,7 @@ fn stats_text(session: &mut Session<Toy>, alloc: Global) -> Result<String, Fail>
     Ok(stats(session, alloc, 0)?.text)
 }
 
-/// A module whose table says that the word at the stack pointer is the return address at 0x101002.
+// A module whose table says that the word at the stack pointer is the return address at 0x101002.
 fn module(alloc: Global) -> Result<Module<Vec<Row>>, Fail> {
     let mut rows = Vec::new(alloc);
     rows.push(Row {
@@ -100,7 +100,7 @@ fn walks_end_and_stop(rt: HostRuntime) -> Result<(), Fail> {
     Ok(())
 }
 
-/// Loads the module into the first unwinder, if there is one, and answers what that writes.
+// Loads the module into the first unwinder, if there is one, and answers what that writes.
 fn load_first(session: &mut Session<Toy>, alloc: Global) -> Result<Written, Fail> {
     if session.unwinders() == 0 {
         return Err(Fail::new("no unwinder"));
@@ -108,7 +108,7 @@ fn load_first(session: &mut Session<Toy>, alloc: Global) -> Result<Written, Fail
     Ok(load(session, alloc, 0, module(alloc)?)?)
 }
 
-/// What an unload from the first unwinder writes, if there is one.
+// What an unload from the first unwinder writes, if there is one.
 fn unload_first(session: &mut Session<Toy>, alloc: Global, start: u64) -> Result<Written, Fail> {
     if session.unwinders() == 0 {
         return Err(Fail::new("no unwinder"));
@@ -116,7 +116,7 @@ fn unload_first(session: &mut Session<Toy>, alloc: Global, start: u64) -> Result
     Ok(unload(session, alloc, 0, start)?)
 }
 
-/// What a clone of the first unwinder writes, if there is one.
+// What a clone of the first unwinder writes, if there is one.
 fn clone_first(session: &mut Session<Toy>, alloc: Global) -> Result<Written, Fail> {
     if session.unwinders() == 0 {
         return Err(Fail::new("no unwinder"));
@@ -154,12 +154,12 @@ fn a_load_takes_a_new_number(rt: HostRuntime) -> Result<(), Fail> {
     Ok(())
 }
 
-/// Whether a command was refused, with what it wrote.
+// Whether a command was refused, with what it wrote.
 fn is_refused(written: Written) -> bool {
     written.is_refused && written.text.as_str() == "refused GenerationsExhausted\n"
 }
 
-/// A session whose counter has given its last number, 2^64 - 2, to a load.
+// A session whose counter has given its last number, 2^64 - 2, to a load.
 fn session_without_numbers(alloc: Global) -> Result<Session<Toy>, Fail> {
     let mut session = session_from(alloc, u64::MAX - 2)?;
     if load_first(&mut session, alloc)?.is_refused {

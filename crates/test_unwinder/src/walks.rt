@@ -12,12 +12,12 @@ use framehop_unwinder::{
 use std::alloc::Global;
 use std::test::Fail;
 
-/// A later frame at an address, or the end at 0.
+// A later frame at an address, or the end at 0.
 fn later(address: u64) -> Option<FrameAddress> {
     FrameAddress::from_return_address(address)
 }
 
-/// An unwinder with one module, which says one thing.
+// An unwinder with one module, which says one thing.
 fn unwinder_with<A: Arch>(alloc: Global, said: Said) -> Result<UnwinderInternal<Tables<A>>, Fail> {
     let mut generations = Generations::new();
     let Ok(mut unwinder) = UnwinderInternal::new(alloc, &mut generations) else {

@@ -1,6 +1,6 @@
 //! Unwinds the stacks of one document: JSON on standard input, a line for each step on standard output.
 //!
-//! The exit status is 0 where all commands were run, 2 where the document has a fault, and 1 where standard input or
+//! The exit status is 0 if all commands were run, 2 if the document has a fault, and 1 if standard input or
 //! output failed or memory ran out.
 #![tactic(auto)]
 

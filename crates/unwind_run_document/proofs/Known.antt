@@ -14,7 +14,7 @@ use Rattle.json_program.specs.Faults.{Checked, ◌⊛◌, both, ◌>>=◌}
 use Rattle.json_program.specs.Json.{field, text_value, address_value, number_value, has_only}
 use Rattle.serde_json.specs.Find.{get}
 use Rattle.unwind_run_document.specs.declared.document.Architecture.{Architecture}
-use Rattle.unwind_run_document.specs.Commands.{Made, Task, make_unwinder, make_cache, clone_unwinder, load_module, unload_module, take_step, take_walk, show_counts, take_roads, Stepping, Walking, Loading, Unloading, RoadSteps, StackWords, IsSound, IsSoundStep, IsSoundWalk, AreSoundRoads, AreSound, kind_in, words_in, registers_in, sections_in, made_number, one_number, stepping_of, walking_of, loading_of, unloading_of, road_steps_of, limit_value, stack_names, step_names, walk_names, load_names, unload_names, roads_names, number_below, frame_at, frame_in, stack_at, stack_in, step_in, walk_in, load_in, unload_in, tables_in, roads_in, verb_in, task_in, command_in, made_after}
+use Rattle.unwind_run_document.specs.Commands.{Made, Task, make_unwinder, make_cache, clone_unwinder, load_module, unload_module, take_step, take_walk, show_counts, take_roads, Stepping, Walking, Loading, Unloading, RoadSteps, StackWords, IsSoundTask, IsSoundStep, IsSoundWalk, AreSoundRoads, AreSound, kind_in, words_in, registers_in, sections_in, made_number, one_number, stepping_of, walking_of, loading_of, unloading_of, road_steps_of, limit_value, stack_names, step_names, walk_names, load_names, unload_names, roads_names, number_below, checked_frame, frame_in, stack_at, stack_in, step_in, walk_in, load_in, unload_in, tables_in, roads_in, verb_in, task_in, command_in, made_after}
 use Rattle.json_program.specs.Faults.{in_unit}
 use Rattle.unwind_run_document.specs.Document.{with_task, commands_from}
 use Rattle.json_program.proofs.Laws.{ok_is}
@@ -98,7 +98,7 @@ number_known count r n is =
     let s = bind_ok r (number_below count) n is in
     below_count count s.0 n s.2
 
-frame_sound : (kind : FrameKind) (address : ℕ) (frame : FrameKind × ℕ) → frame_at kind address ≡ Ok frame → frame.0 ≡ Ra → frame.1 ≢ 0
+frame_sound : (kind : FrameKind) (address : ℕ) (frame : FrameKind × ℕ) → checked_frame kind address ≡ Ok frame → frame.0 ≡ Ra → frame.1 ≢ 0
 frame_sound Ip address frame is ra = absurd (ip_no_ra (ap (λ (f : FrameKind × ℕ). f.0) (ok_is (Ip, address) frame is) ∙ ra))
 frame_sound Ra address frame is ra =
     let t = test_not (address == 0) (Ok (Ra, address)) BadNumber frame is in
@@ -106,7 +106,7 @@ frame_sound Ra address frame is ra =
 
 frame_in_sound : (d : Data) (frame : FrameKind × ℕ) → frame_in d ≡ Ok frame → frame.0 ≡ Ra → frame.1 ≢ 0
 frame_in_sound d frame is =
-    let s = bind_ok (both (field kind_in (codes "kind") d) (field address_value (codes "address") d)) (λ f. frame_at f.0 f.1) frame is in
+    let s = bind_ok (both (field kind_in (codes "kind") d) (field address_value (codes "address") d)) (λ f. checked_frame f.0 f.1) frame is in
     frame_sound s.0.0 s.0.1 frame s.2
 
 abbrev Fit : StackWords → Type 0
@@ -208,32 +208,32 @@ one_sound count name d n is =
 
 -- ---- commands
 
-task_sound : (machine : Architecture) (made : Made) (d : Data) (v : Verb) (task : Task) → task_in machine made d v ≡ Ok task → IsSound made task
-task_sound machine made d verb.Unwinder task is = subst (IsSound made) (ok_is make_unwinder task (test_ok (has_only (codes "do" ∷ []) d) (Ok make_unwinder) BadCommand task is).1) tt
-task_sound machine made d verb.Cache task is = subst (IsSound made) (ok_is make_cache task (test_ok (has_only (codes "do" ∷ []) d) (Ok make_cache) BadCommand task is).1) tt
+task_sound : (machine : Architecture) (made : Made) (d : Data) (v : Verb) (task : Task) → task_in machine made d v ≡ Ok task → IsSoundTask made task
+task_sound machine made d verb.Unwinder task is = subst (IsSoundTask made) (ok_is make_unwinder task (test_ok (has_only (codes "do" ∷ []) d) (Ok make_unwinder) BadCommand task is).1) tt
+task_sound machine made d verb.Cache task is = subst (IsSoundTask made) (ok_is make_cache task (test_ok (has_only (codes "do" ∷ []) d) (Ok make_cache) BadCommand task is).1) tt
 task_sound machine made d verb.Load task is =
     let l = last_ok (Ok load_module) (load_in made d) task is in
-    subst (IsSound made) (sym (l.4 ∙ ap (λ g. g l.1) (sym (ok_is load_module l.0 l.2)))) (load_sound made d l.1 l.3)
+    subst (IsSoundTask made) (sym (l.4 ∙ ap (λ g. g l.1) (sym (ok_is load_module l.0 l.2)))) (load_sound made d l.1 l.3)
 task_sound machine made d verb.Step task is =
     let l = last_ok (Ok take_step) (step_in machine made d) task is in
-    subst (IsSound made) (sym (l.4 ∙ ap (λ g. g l.1) (sym (ok_is take_step l.0 l.2)))) (step_sound machine made d l.1 l.3)
+    subst (IsSoundTask made) (sym (l.4 ∙ ap (λ g. g l.1) (sym (ok_is take_step l.0 l.2)))) (step_sound machine made d l.1 l.3)
 task_sound machine made d verb.Clone task is =
     let l = last_ok (Ok clone_unwinder) (one_number made.unwinders (codes "unwinder") d) task is in
-    subst (IsSound made) (sym (l.4 ∙ ap (λ g. g l.1) (sym (ok_is clone_unwinder l.0 l.2)))) (one_sound made.unwinders (codes "unwinder") d l.1 l.3)
+    subst (IsSoundTask made) (sym (l.4 ∙ ap (λ g. g l.1) (sym (ok_is clone_unwinder l.0 l.2)))) (one_sound made.unwinders (codes "unwinder") d l.1 l.3)
 task_sound machine made d verb.Unload task is =
     let l = last_ok (Ok unload_module) (unload_in made d) task is in
-    subst (IsSound made) (sym (l.4 ∙ ap (λ g. g l.1) (sym (ok_is unload_module l.0 l.2)))) (unload_sound made d l.1 l.3)
+    subst (IsSoundTask made) (sym (l.4 ∙ ap (λ g. g l.1) (sym (ok_is unload_module l.0 l.2)))) (unload_sound made d l.1 l.3)
 task_sound machine made d verb.Walk task is =
     let l = last_ok (Ok take_walk) (walk_in machine made d) task is in
-    subst (IsSound made) (sym (l.4 ∙ ap (λ g. g l.1) (sym (ok_is take_walk l.0 l.2)))) (walk_sound machine made d l.1 l.3)
+    subst (IsSoundTask made) (sym (l.4 ∙ ap (λ g. g l.1) (sym (ok_is take_walk l.0 l.2)))) (walk_sound machine made d l.1 l.3)
 task_sound machine made d verb.Stats task is =
     let l = last_ok (Ok show_counts) (one_number made.caches (codes "cache") d) task is in
-    subst (IsSound made) (sym (l.4 ∙ ap (λ g. g l.1) (sym (ok_is show_counts l.0 l.2)))) (one_sound made.caches (codes "cache") d l.1 l.3)
+    subst (IsSoundTask made) (sym (l.4 ∙ ap (λ g. g l.1) (sym (ok_is show_counts l.0 l.2)))) (one_sound made.caches (codes "cache") d l.1 l.3)
 task_sound machine made d verb.Roads task is =
     let l = last_ok (Ok take_roads) (roads_in machine d) task is in
-    subst (IsSound made) (sym (l.4 ∙ ap (λ g. g l.1) (sym (ok_is take_roads l.0 l.2)))) (roads_sound machine d l.1 l.3)
+    subst (IsSoundTask made) (sym (l.4 ∙ ap (λ g. g l.1) (sym (ok_is take_roads l.0 l.2)))) (roads_sound machine d l.1 l.3)
 
-command_sound : (machine : Architecture) (made : Made) (d : Data) (task : Task) → command_in machine made d ≡ Ok task → IsSound made task
+command_sound : (machine : Architecture) (made : Made) (d : Data) (task : Task) → command_in machine made d ≡ Ok task → IsSoundTask made task
 command_sound machine made d task is =
     let t = test_not (has_float d) (field verb_in (codes "do") d >>= task_in machine made d) FloatNumber task is in
     let s = bind_ok (field verb_in (codes "do") d) (task_in machine made d) task t.1 in

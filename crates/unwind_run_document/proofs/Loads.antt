@@ -1,9 +1,9 @@
 -- The fields of a load, of an unload and of a section.
 use Rattle.std.proofs.Common.{◌≡◌, ℕ, List, Option, option_map, Ok, String, Vec, Global, string_bytes}
 use Rattle.unwind_run_document.specs.declared.command.AddressRange.{AddressRange}
-use Rattle.unwind_run_document.specs.declared.command.Section.{Section}
+use Rattle.unwind_run_document.specs.declared.command.StatedSection.{StatedSection as Section}
 use Rattle.json_program.specs.Faults.{Checked, ◌⊛◌, both}
-use Rattle.unwind_run_document.specs.Commands.{loading_of, unloading_of, Loading, SectionData}
+use Rattle.unwind_run_document.specs.Commands.{loading_of, unloading_of, Loading, StatedSection}
 use Rattle.json_program.specs.Decoded.{result_map}
 use Rattle.unwind_run_document.specs.CommandViews.{sections_view}
 use Rattle.json_program.proofs.Laws.{first-field, and-field, as_it_is}
@@ -17,7 +17,7 @@ Bytes = Vec ℕ Global
 abbrev pub bytes_view : Option Bytes → Option (List ℕ)
 bytes_view = option_map (λ b. b.items)
 
-abbrev pub section : List ℕ → Option AddressRange → Option (List ℕ) → SectionData
+abbrev pub section : List ℕ → Option AddressRange → Option (List ℕ) → StatedSection
 section name range bytes = record { name = name; range = range; bytes = bytes }
 
 pub three_fields : (n : Checked Text) (r : Checked (Option AddressRange)) (b : Checked (Option Bytes))
@@ -55,7 +55,7 @@ loaded p =
 
 pub seven_fields : (u : Checked ℕ) (n : Checked Text) (s e b v : Checked ℕ) (ss : Checked (Vec Section Global))
     (one : Checked One) (two : Checked Two) (three : Checked Three) (four : Checked Four) (five : Checked Five) (six : Checked Six)
-    (U : Checked ℕ) (N : Checked (List ℕ)) (S E B V : Checked ℕ) (SS : Checked (List SectionData))
+    (U : Checked ℕ) (N : Checked (List ℕ)) (S E B V : Checked ℕ) (SS : Checked (List StatedSection))
     → u ≡ U → result_map string_bytes n ≡ N → s ≡ S → e ≡ E → b ≡ B → v ≡ V → result_map (λ x. sections_view x.items) ss ≡ SS
     → one ≡ both u n → two ≡ both one s → three ≡ both two e → four ≡ both three b → five ≡ both four v → six ≡ both five ss
     → result_map loaded six ≡ Ok loading_of ⊛ U ⊛ N ⊛ S ⊛ E ⊛ B ⊛ V ⊛ SS

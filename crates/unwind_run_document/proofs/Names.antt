@@ -15,7 +15,7 @@ use Rattle.json_program.proofs.Laws.{drop-element}
 abbrev pub text_cmp : Bor (List ℕ) → Bor (List ℕ) → Ordering
 text_cmp x y = slice_cmp nat_cmp x.now y.now
 
--- the name of an element, where it has one, before the names behind it
+-- the name of an element, if it has one, before the names of those after it
 pub names_of-drop : (vs : List Value) (i : ℕ) (v : Value) (name : Option (List ℕ)) → i < length vs → v ≡ get_or vs i v
     → name ≡ option_and_then as_str (get (codes "name") (view v))
     → names_of (items_view (drop i vs)) ≡ option_to_list name ++ names_of (items_view (drop (i + 1) vs))

@@ -1,8 +1,8 @@
--- The fields of the steps by each road.
+-- The fields of the command `roads`.
 use Rattle.std.proofs.Common.{◌≡◌, ℕ, List, Ok, Vec, Global}
 use Rattle.unwind_run_document.specs.declared.command.FrameKind.{FrameKind}
 use Rattle.unwind_run_document.specs.declared.command.Stack.{Stack}
-use Rattle.unwind_run_document.specs.declared.command.Tables.{Tables}
+use Rattle.unwind_run_document.specs.declared.command.StatedTables.{StatedTables}
 use Rattle.unwind_run_document.specs.declared.registers.StatedRegisters.{StatedRegisters}
 use Rattle.json_program.specs.Faults.{Checked, ◌⊛◌, both}
 use Rattle.unwind_run_document.specs.Commands.{tables_of, road_steps_of, RoadSteps, StackWords, TableData}
@@ -45,7 +45,7 @@ table_fields s a h b v one two three four S A H B V s_is a_is h_is b_is v_is one
     (as_it_is v V v_is) four_is
 
 abbrev pub Framed : Type 0
-Framed = Tables × (FrameKind × ℕ)
+Framed = StatedTables × (FrameKind × ℕ)
 
 abbrev pub Stepped : Type 0
 Stepped = (Framed × StatedRegisters) × Stack
@@ -54,7 +54,7 @@ Stepped = (Framed × StatedRegisters) × Stack
 abbrev pub roads_made : Stepped → RoadSteps
 roads_made p = road_steps_of (tables_view p.0.0.0) p.0.0.1 p.0.1 (words_view p.1)
 
-pub road_fields : (t : Checked Tables) (f : Checked (FrameKind × ℕ)) (r : Checked StatedRegisters) (s : Checked Stack)
+pub road_fields : (t : Checked StatedTables) (f : Checked (FrameKind × ℕ)) (r : Checked StatedRegisters) (s : Checked Stack)
     (one : Checked Framed) (two : Checked (Framed × StatedRegisters)) (three : Checked Stepped)
     (T : Checked TableData) (F : Checked (FrameKind × ℕ)) (R : Checked StatedRegisters) (S : Checked StackWords)
     → result_map tables_view t ≡ T → f ≡ F → r ≡ R → result_map words_view s ≡ S

@@ -9,7 +9,7 @@ use Rattle.json_program.specs.Decoded.{result_map}
 use Rattle.unwind_run_document.specs.CommandViews.{words_view}
 use Rattle.json_program.proofs.Laws.{first-field, and-field, as_it_is}
 
--- what stands under a test that holds
+-- the value of a test that holds
 pub under : {A : Type 0} (has : Bool) (x y z : A) → has ≡ true → x ≡ y → x ≡ cond has y z
 under has x y z holds is = is ∙ ap (λ b. cond b y z) (sym holds)
 

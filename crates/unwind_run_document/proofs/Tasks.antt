@@ -5,8 +5,8 @@ use Rattle.json_program.specs.declared.fault.FaultName.TheVariants.{TooLong, Not
 use Rattle.serde_json.specs.Data.{Data, Items, item}
 use Rattle.json_program.specs.declared.fault.FaultName.{FaultName}
 use Rattle.json_program.specs.declared.fault.Fault.{Fault}
-use Rattle.json_program.specs.declared.fault.Refusal.{Refusal}
-use Rattle.json_program.specs.declared.fault.Refusal.TheVariants as refusal
+use Rattle.json_program.specs.declared.fault.DecodeError.{DecodeError}
+use Rattle.json_program.specs.declared.fault.DecodeError.TheVariants as decode_error
 use Rattle.json_program.specs.Decoded.{Decodes}
 use Rattle.json_program.specs.Faults.{Checked, ◌>>=◌}
 use Rattle.unwind_run_document.specs.declared.document.Architecture.{Architecture}
@@ -35,7 +35,7 @@ pub behind-more : (machine : Architecture) (tasks : List Task) (n : ℕ) (made :
 behind-more machine tasks n made d ds task good =
     ap (λ r. behind tasks (go_on machine n made ds r)) good ∙ behind-with_task tasks task (commands_from machine (n + 1) (made_after made task) ds)
 
--- the same, where what is made and what is done are known by equations
+-- a command before the others, by equations for what is made and what is done
 pub behind-step : (machine : Architecture) (all : Result (List Task) Fault) (done later : List Task) (n : ℕ) (made next : Made) (d : Data) (ds : Items) (task : Task)
     → all ≡ behind done (commands_from machine n made (item d ds)) → command_in machine made d ≡ Ok task → next ≡ made_after made task → later ≡ done ++ task ∷ []
     → all ≡ behind later (commands_from machine (n + 1) next ds)
@@ -49,12 +49,12 @@ pub behind-fault : (machine : Architecture) (tasks : List Task) (n : ℕ) (made 
     → behind tasks (commands_from machine n made (item d ds)) ≡ Err (record { name = name; number = n })
 behind-fault machine tasks n made d ds name bad = ap (λ r. behind tasks (go_on machine n made ds r)) bad
 
--- one command is refused
-pub behind-refused : {A B : Type 0} (machine : Architecture) (seen : A → Task) (view : B → List Task) (all : Result (List Task) Fault) (tasks : List Task) (n : ℕ) (made : Made) (d : Data) (ds : Items) (why : Refusal Fault)
+-- a command with a fault
+pub behind-refused : {A B : Type 0} (machine : Architecture) (seen : A → Task) (view : B → List Task) (all : Result (List Task) Fault) (tasks : List Task) (n : ℕ) (made : Made) (d : Data) (ds : Items) (why : DecodeError Fault)
     → all ≡ behind tasks (commands_from machine n made (item d ds)) → Decodes seen (Err why) (in_unit n (command_in machine made d)) → Decodes view (Err why) all
-behind-refused machine seen view all tasks n made d ds (refusal.Fault fault) is bad =
+behind-refused machine seen view all tasks n made d ds (decode_error.Fault fault) is bad =
     is ∙ ap (λ r. behind tasks (r >>= λ task. with_task task (commands_from machine (n + 1) (made_after made task) ds))) bad
-behind-refused machine seen view all tasks n made d ds refusal.OutOfMemory is bad = tt
+behind-refused machine seen view all tasks n made d ds decode_error.OutOfMemory is bad = tt
 
 -- ---- the whole document
 

@@ -1,30 +1,30 @@
--- What the decoded commands are, without where they lie in memory.
+-- Decoded commands as the values that definitions are about.
 use Rattle.std.specs.Prelude.{List, map, option_map, string_bytes}
 use Rattle.unwind_run_document.specs.declared.command.Command.{Command}
 use Rattle.unwind_run_document.specs.declared.command.Command.TheVariants as commands
-use Rattle.unwind_run_document.specs.declared.command.Load.{Load}
-use Rattle.unwind_run_document.specs.declared.command.Roads.{Roads}
-use Rattle.unwind_run_document.specs.declared.command.Section.{Section}
+use Rattle.unwind_run_document.specs.declared.command.LoadCommand.{LoadCommand}
+use Rattle.unwind_run_document.specs.declared.command.RoadsCommand.{RoadsCommand}
+use Rattle.unwind_run_document.specs.declared.command.StatedSection.{StatedSection as Section}
 use Rattle.unwind_run_document.specs.declared.command.Stack.{Stack}
-use Rattle.unwind_run_document.specs.declared.command.Step.{Step}
-use Rattle.unwind_run_document.specs.declared.command.Tables.{Tables}
-use Rattle.unwind_run_document.specs.declared.command.Unload.{Unload}
-use Rattle.unwind_run_document.specs.declared.command.Walk.{Walk}
+use Rattle.unwind_run_document.specs.declared.command.StepCommand.{StepCommand}
+use Rattle.unwind_run_document.specs.declared.command.StatedTables.{StatedTables}
+use Rattle.unwind_run_document.specs.declared.command.UnloadCommand.{UnloadCommand}
+use Rattle.unwind_run_document.specs.declared.command.WalkCommand.{WalkCommand}
 use Rattle.unwind_run_document.specs.declared.document.Document.{Document}
 use Rattle.unwind_run_document.specs.declared.made.Made as memory
 use Rattle.unwind_run_document.specs.Document.{Content}
-use Rattle.unwind_run_document.specs.Commands.{SectionData, Loading, Unloading, StackWords, Stepping, Walking, TableData, RoadSteps, Task, Made, make_unwinder, make_cache, clone_unwinder, load_module, unload_module, take_step, take_walk, show_counts, take_roads}
+use Rattle.unwind_run_document.specs.Commands.{StatedSection, Loading, Unloading, StackWords, Stepping, Walking, TableData, RoadSteps, Task, Made, make_unwinder, make_cache, clone_unwinder, load_module, unload_module, take_step, take_walk, show_counts, take_roads}
 
 -- a section
-abbrev pub section_view : Section → SectionData
+abbrev pub section_view : Section → StatedSection
 section_view s = record { name = string_bytes s.name; range = s.range; bytes = option_map (λ b. b.items) s.bytes }
 
 -- sections
-abbrev pub sections_view : List Section → List SectionData
+abbrev pub sections_view : List Section → List StatedSection
 sections_view ss = map section_view ss
 
 -- a load
-abbrev pub load_view : Load → Loading
+abbrev pub load_view : LoadCommand → Loading
 load_view l = record {
   unwinder = l.unwinder;
   name = string_bytes l.name;
@@ -40,7 +40,7 @@ abbrev pub words_view : Stack → StackWords
 words_view s = record { start = s.start; words = s.words.items }
 
 -- a step
-abbrev pub step_view : Step → Stepping
+abbrev pub step_view : StepCommand → Stepping
 step_view s = record {
   unwinder = s.unwinder;
   cache = s.cache;
@@ -51,7 +51,7 @@ step_view s = record {
 }
 
 -- a walk
-abbrev pub walk_view : Walk → Walking
+abbrev pub walk_view : WalkCommand → Walking
 walk_view w = record {
   unwinder = w.unwinder;
   cache = w.cache;
@@ -62,7 +62,7 @@ walk_view w = record {
 }
 
 -- a section and its header
-abbrev pub tables_view : Tables → TableData
+abbrev pub tables_view : StatedTables → TableData
 tables_view t = record {
   section = t.section.items;
   section_start = t.section_start;
@@ -71,8 +71,8 @@ tables_view t = record {
   base_svma = t.base_svma;
 }
 
--- steps by each road
-abbrev pub roads_view : Roads → RoadSteps
+-- the steps by each lookup
+abbrev pub roads_view : RoadsCommand → RoadSteps
 roads_view r = record {
   tables = tables_view r.tables;
   kind = r.kind;
@@ -82,7 +82,7 @@ roads_view r = record {
 }
 
 -- an unload
-abbrev pub unload_view : Unload → Unloading
+abbrev pub unload_view : UnloadCommand → Unloading
 unload_view u = record { unwinder = u.unwinder; start = u.start }
 
 -- a command

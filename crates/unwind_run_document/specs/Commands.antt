@@ -21,13 +21,13 @@ use Rattle.json_program.specs.Json.{text_value, address_value, number_value, byt
 
 -- ---- what is decoded
 
--- a section of a module: its name, where it lies as the file states it, and its bytes
-pub record SectionData : Type 0 where
+-- a section of a module: its name, its range as the file states it, and its bytes
+pub record StatedSection : Type 0 where
   pub name : List ℕ
   pub range : Option AddressRange
   pub bytes : Option (List ℕ)
 
--- a module for an unwinder: where it lies in memory, its base there and in the file, and its sections
+-- a module for an unwinder: its range in memory, its base there and in the file, and its sections
 pub record Loading : Type 0 where
   pub unwinder : ℕ
   pub name : List ℕ
@@ -35,7 +35,7 @@ pub record Loading : Type 0 where
   pub end : ℕ
   pub base : ℕ
   pub base_svma : ℕ
-  pub sections : List SectionData
+  pub sections : List StatedSection
 
 -- the words of a stack, eight bytes each, from an address on
 pub record StackWords : Type 0 where
@@ -66,7 +66,7 @@ pub record Unloading : Type 0 where
   pub unwinder : ℕ
   pub start : ℕ
 
--- a section of call frames and a header of it, each with its stated start, and the base from which stated addresses count
+-- a section of call frames and a header of it, each with its stated start, and the base that stated addresses are relative to
 pub record TableData : Type 0 where
   pub section : List ℕ
   pub section_start : ℕ
@@ -74,7 +74,7 @@ pub record TableData : Type 0 where
   pub header_start : ℕ
   pub base_svma : ℕ
 
--- a step by each of the three roads to the entry for an address: over a module that has these tables, or the section alone
+-- a step by each of the three lookups of the entry for an address: over a module that has these tables, or the section alone
 pub record RoadSteps : Type 0 where
   pub tables : TableData
   pub kind : FrameKind
@@ -115,22 +115,22 @@ made_number count name d = do
 abbrev pub kind_of : List ℕ → Option FrameKind
 kind_of text = if bytes_eq text (codes "ip") then Some Ip else if bytes_eq text (codes "ra") then Some Ra else None
 
--- a value that has to say so
+-- a value that has to be the kind of a frame's address
 abbrev pub kind_in : Data → Checked FrameKind
 kind_in d = do
   text ← text_value d
   ok_or (kind_of text) BadCommand
 
--- the address of a frame: no return address is 0
-abbrev pub frame_at : FrameKind → ℕ → Checked (FrameKind × ℕ)
-frame_at Ip address = Ok (Ip, address)
-frame_at Ra address = if address == 0 then Err BadNumber else Ok (Ra, address)
+-- the address of a frame with its kind: no return address is 0
+abbrev pub checked_frame : FrameKind → ℕ → Checked (FrameKind × ℕ)
+checked_frame Ip address = Ok (Ip, address)
+checked_frame Ra address = if address == 0 then Err BadNumber else Ok (Ra, address)
 
 -- the fields of a step that name its frame
 abbrev pub frame_in : Data → Checked (FrameKind × ℕ)
 frame_in d = do
   frame ← both (field kind_in (codes "kind") d) (field address_value (codes "address") d)
-  frame_at frame.0 frame.1
+  checked_frame frame.0 frame.1
 
 -- the fields of the registers of x86_64
 abbrev pub names_x86_64 : List (List ℕ)
@@ -152,7 +152,7 @@ registers_x86_64_in d =
 abbrev pub names_aarch64 : List (List ℕ)
 names_aarch64 = codes "lr" ∷ codes "sp" ∷ codes "fp" ∷ codes "mask" ∷ []
 
--- the mask of code addresses: all bits where none is stated
+-- the mask of code addresses: all bits if none is stated
 abbrev pub mask_at : Option Data → Checked ℕ
 mask_at None = Ok all_bits
 mask_at (Some d) = address_value d
@@ -252,7 +252,7 @@ walk_in machine made d =
     ⊛ field (registers_in machine) (codes "regs") d ⊛ field stack_in (codes "stack") d
     else Err BadCommand
 
--- ---- steps by each road
+-- ---- steps by each lookup
 
 -- the tables of these parts
 abbrev pub tables_of : List ℕ → ℕ → List ℕ → ℕ → ℕ → TableData
@@ -271,7 +271,7 @@ tables_in d =
     ⊛ field bytes_value (codes "header") d ⊛ field address_value (codes "header_start") d
     ⊛ field address_value (codes "base_svma") d
 
--- the fields of the steps by each road
+-- the fields of the command `roads`
 abbrev pub roads_names : List (List ℕ)
 roads_names =
     codes "do" ∷ codes "section" ∷ codes "section_start" ∷ codes "header" ∷ codes "header_start" ∷ codes "base_svma"
@@ -287,7 +287,7 @@ road_steps_of tables frame regs stack = record {
   stack = stack;
 }
 
--- a value that has to be the steps by each road
+-- a value that has to be the command `roads`
 abbrev pub roads_in : Architecture → Data → Checked RoadSteps
 roads_in machine d =
     if has_only roads_names d
@@ -297,12 +297,12 @@ roads_in machine d =
 
 -- ---- loads
 
--- the section names that are not taken yet
+-- the names of sections that can't be loaded yet
 abbrev pub refused_names : List (List ℕ)
 refused_names =
     codes "__unwind_info" ∷ codes "__stubs" ∷ codes "__stub_helper" ∷ codes ".pdata" ∷ codes ".rdata" ∷ codes ".xdata" ∷ []
 
--- the text is one of them
+-- a section of this name can't be loaded
 unfoldable pub is_refused : List ℕ → Bool
 is_refused text = list_any (λ name. bytes_eq name text) refused_names
 
@@ -312,7 +312,7 @@ section_name_in d = do
   text ← text_value d
   if is_refused text then Err BadCommand else Ok text
 
--- where a section lies: a start with its end, or neither
+-- the range of a section: a start with its end, or neither
 abbrev pub range_between : Option Data → Option Data → Checked (Option AddressRange)
 range_between None None = Ok None
 range_between (Some start) None = Err BadCommand
@@ -325,7 +325,7 @@ abbrev pub section_names : List (List ℕ)
 section_names = codes "name" ∷ codes "start" ∷ codes "end" ∷ codes "data" ∷ []
 
 -- a value that has to be a section
-abbrev pub section_in : Data → Checked SectionData
+abbrev pub section_in : Data → Checked StatedSection
 section_in d =
     if has_only section_names d
     then Ok (λ name range bytes. record { name = name; range = range; bytes = bytes })
@@ -338,21 +338,21 @@ abbrev pub names_of : Items → List (List ℕ)
 names_of no_items = []
 names_of (item d ds) = option_to_list (option_and_then as_str (get (codes "name") d)) ++ names_of ds
 
--- no text stands twice, or among those that stand before
+-- no text occurs twice, or among those before
 abbrev pub are_new : List (List ℕ) → List (List ℕ) → Bool
 are_new before [] = true
 are_new before (text ∷ texts) = not (list_any (λ other. bytes_eq other text) before) && are_new (text ∷ before) texts
 
--- no text stands twice
+-- no text occurs twice
 abbrev pub are_distinct : List (List ℕ) → Bool
 are_distinct texts = are_new [] texts
 
 -- sections, of which no two have one name
-abbrev pub sections_at : Items → Checked (List SectionData)
+abbrev pub sections_at : Items → Checked (List StatedSection)
 sections_at ds = if are_distinct (names_of ds) then list_of section_in ds else Err BadCommand
 
 -- a value that has to be the list of the sections
-abbrev pub sections_in : Data → Checked (List SectionData)
+abbrev pub sections_in : Data → Checked (List StatedSection)
 sections_in d = do
   items ← ok_or (as_array d) BadCommand
   sections_at items
@@ -364,7 +364,7 @@ load_names =
     ∷ codes "sections" ∷ []
 
 -- the load of these parts
-abbrev pub loading_of : ℕ → List ℕ → ℕ → ℕ → ℕ → ℕ → List SectionData → Loading
+abbrev pub loading_of : ℕ → List ℕ → ℕ → ℕ → ℕ → ℕ → List StatedSection → Loading
 loading_of unwinder name start end base base_svma sections = record {
   unwinder = unwinder;
   name = name;
@@ -402,7 +402,7 @@ unload_in made d =
 
 -- ---- commands
 
--- a value that has nothing but a number of what earlier commands made, beside what it does
+-- a command with one other field: the number of something that earlier commands made
 abbrev pub one_number : ℕ → List ℕ → Data → Checked ℕ
 one_number count name d =
     if has_only (codes "do" ∷ name ∷ []) d then made_number count name d else Err BadCommand
@@ -421,13 +421,13 @@ verb_of text =
     else if bytes_eq text (codes "roads") then Some verb.Roads
     else None
 
--- a value that has to say so
+-- a value that has to be the name of what a command does
 abbrev pub verb_in : Data → Checked Verb
 verb_in d = do
   text ← text_value d
   ok_or (verb_of text) BadCommand
 
--- the command that does it
+-- the command of a verb
 abbrev pub task_in : Architecture → Made → Data → Verb → Checked Task
 task_in machine made d verb.Unwinder = if has_only (codes "do" ∷ []) d then Ok make_unwinder else Err BadCommand
 task_in machine made d verb.Cache = if has_only (codes "do" ∷ []) d then Ok make_cache else Err BadCommand
@@ -439,7 +439,7 @@ task_in machine made d verb.Walk = Ok take_walk ⊛ walk_in machine made d
 task_in machine made d verb.Stats = Ok show_counts ⊛ one_number made.caches (codes "cache") d
 task_in machine made d verb.Roads = Ok take_roads ⊛ roads_in machine d
 
--- the task of a value that has to be a command
+-- a command without floats
 abbrev pub command_fields : Architecture → Made → Data → Checked Task
 command_fields machine made d = do
   verb ← field verb_in (codes "do") d
@@ -449,7 +449,7 @@ command_fields machine made d = do
 abbrev pub command_in : Architecture → Made → Data → Checked Task
 command_in machine made d = if has_float d then Err FloatNumber else command_fields machine made d
 
--- what is made once a command is done
+-- how many unwinders and caches there are after a command
 abbrev pub made_after : Made → Task → Made
 made_after made make_unwinder = record { unwinders = made.unwinders + 1; caches = made.caches }
 made_after made make_cache = record { unwinders = made.unwinders; caches = made.caches + 1 }
@@ -477,18 +477,18 @@ pub record AreSoundRoads (roads : RoadSteps) : Type 0 where
   pub words : roads.stack.start + 8 * (length roads.stack.words - 1) < 2 ^ 64
 
 -- what a command names was made before it
-abbrev pub IsSound : Made → Task → Type 0
-IsSound made make_unwinder = Unit {0}
-IsSound made make_cache = Unit {0}
-IsSound made (clone_unwinder unwinder) = unwinder < made.unwinders
-IsSound made (load_module load) = load.unwinder < made.unwinders
-IsSound made (unload_module unload) = unload.unwinder < made.unwinders
-IsSound made (take_step step) = IsSoundStep made step
-IsSound made (take_walk walk) = IsSoundWalk made walk
-IsSound made (show_counts cache) = cache < made.caches
-IsSound made (take_roads roads) = AreSoundRoads roads
+abbrev pub IsSoundTask : Made → Task → Type 0
+IsSoundTask made make_unwinder = Unit {0}
+IsSoundTask made make_cache = Unit {0}
+IsSoundTask made (clone_unwinder unwinder) = unwinder < made.unwinders
+IsSoundTask made (load_module load) = load.unwinder < made.unwinders
+IsSoundTask made (unload_module unload) = unload.unwinder < made.unwinders
+IsSoundTask made (take_step step) = IsSoundStep made step
+IsSoundTask made (take_walk walk) = IsSoundWalk made walk
+IsSoundTask made (show_counts cache) = cache < made.caches
+IsSoundTask made (take_roads roads) = AreSoundRoads roads
 
 -- each of the commands, one after the other
 abbrev pub AreSound : Made → List Task → Type 0
 AreSound made [] = Unit {0}
-AreSound made (task ∷ tasks) = IsSound made task × AreSound (made_after made task) tasks
+AreSound made (task ∷ tasks) = IsSoundTask made task × AreSound (made_after made task) tasks

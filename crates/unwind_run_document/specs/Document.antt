@@ -38,22 +38,22 @@ has_float_outside (object ms) = have_own_float ms
 abbrev pub document_names : List (List ℕ)
 document_names = codes "arch" ∷ codes "policy" ∷ codes "commands" ∷ codes "generation" ∷ []
 
--- no other field stands there, and those beside the commands that have to be there are as they have to be
+-- a document has no other field, and its architecture and policy are ones that there are
 unfoldable pub is_supported : Data → Bool
 is_supported d =
     has_only document_names d
     && (is_text (codes "x86_64") (codes "arch") d || is_text (codes "aarch64") (codes "arch") d)
     && (is_text (codes "may") (codes "policy") d || is_text (codes "must") (codes "policy") d)
 
--- the architecture that a document names, where its fields are as they have to be
+-- the architecture of a document whose fields are supported
 abbrev pub arch_of : Data → Architecture
 arch_of d = if is_text (codes "aarch64") (codes "arch") d then Aarch64 else X86_64
 
--- the policy that a document names, where its fields are as they have to be
+-- the policy of a document whose fields are supported
 abbrev pub policy_of : Data → Policy
 policy_of d = if is_text (codes "must") (codes "policy") d then Must else May
 
--- the commands, if they are not more
+-- the commands, of which there may be COMMAND_LIMIT
 unfoldable pub few_commands : Items → Checked Items
 few_commands ds = if nat_le (items_len ds) COMMAND_LIMIT then Ok ds else Err BadDocument
 
@@ -63,7 +63,7 @@ items_in d = do
   items ← ok_or (option_and_then as_array (get (codes "commands") d)) BadDocument
   few_commands items
 
--- the first generation that is taken: an address's text, else 0
+-- the first generation: that of an address's text, or 0 if none is stated
 abbrev pub generation_at : Option Data → Checked ℕ
 generation_at None = Ok 0
 generation_at (Some d) = do
@@ -96,7 +96,7 @@ commands_from machine n made (item d ds) = do
 abbrev pub nothing_made : Made
 nothing_made = record { unwinders = 0; caches = 0 }
 
--- what a document asks for: commands, the architecture and the policy under which they run, and the first generation that they take
+-- what a document asks for: commands, the architecture and the policy under which they run, and the first generation
 pub record Content : Type 0 where
   pub arch : Architecture
   pub policy : Policy
@@ -108,13 +108,13 @@ abbrev pub under : Architecture → Policy → ℕ → Result (List Task) Fault 
 under machine policy generation (Ok tasks) = Ok (record { arch = machine; policy = policy; generation = generation; tasks = tasks })
 under machine policy generation (Err fault) = Err fault
 
--- what a document asks for, or its first fault: unit 0 is the document itself, the commands count from 1
+-- what a document asks for, or its first fault: unit 0 is the document itself, and the commands are units from 1 on
 abbrev pub content_in : Data → Result Content Fault
 content_in d = do
   own ← in_unit 0 (document_in d)
   under (arch_of d) (policy_of d) own.0 (commands_from (arch_of d) 1 nothing_made own.1)
 
--- the same of a document's bytes
+-- what a document's bytes ask for, or their first fault
 abbrev pub content_of : List ℕ → Result Content Fault
 content_of bytes =
     if nat_lt DOCUMENT_LIMIT (length bytes) then Err (record { name = TooLong; number = 0 })

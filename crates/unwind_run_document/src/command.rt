@@ -1,4 +1,5 @@
 //! The commands of a document.
+
 ghost use Rattle.std.specs.Prelude.{◌≡◌, codes};
 ghost use Rattle.serde_json.specs.View.{view};
 ghost use Rattle.unwind_run_document.specs.Commands.{command_in, one_number, task_in, verb_in};
@@ -16,7 +17,7 @@ use crate::walk::walk_in;
 use json_program::check::Checked;
 use json_program::field::{has_only, text_field};
 use json_program::float::has_float;
-use json_program::{FaultName, Refusal};
+use json_program::{DecodeError, FaultName};
 use serde_json::Value;
 use std::alloc::Global;
 
@@ -30,22 +31,22 @@ pub enum Command {
     /// Makes the next unwinder, with the modules of the one of this number.
     Clone(usize),
     /// Loads a module in an unwinder.
-    Load(Load),
+    Load(LoadCommand),
     /// Unloads a module.
-    Unload(Unload),
+    Unload(UnloadCommand),
     /// Makes one step.
-    Step(Step),
+    Step(StepCommand),
     /// Walks over frames.
-    Walk(Walk),
+    Walk(WalkCommand),
     /// Shows the counts of the cache of this number.
     Stats(usize),
-    /// Makes a step by each road over a module of its own.
-    Roads(Roads),
+    /// Makes one step by each lookup, over a module of its own.
+    Roads(RoadsCommand),
 }
 
 /// A module for an unwinder.
 #[derive(Debug, Drop)]
-pub struct Load {
+pub struct LoadCommand {
     /// The unwinder's number, from 0 on.
     pub unwinder: usize,
     pub name: String,
@@ -58,12 +59,12 @@ pub struct Load {
     /// The base's address as the file states it.
     pub base_svma: u64,
     /// The sections, of which no two have one name.
-    pub sections: Vec<Section>,
+    pub sections: Vec<StatedSection>,
 }
 
 /// A module of an unwinder, by its start.
 #[derive(Clone, Copy, Debug, PartialEq, Eq)]
-pub struct Unload {
+pub struct UnloadCommand {
     /// The unwinder's number, from 0 on.
     pub unwinder: usize,
     /// Where the module starts in memory.
@@ -72,7 +73,7 @@ pub struct Unload {
 
 /// A section of a module.
 #[derive(Debug, Drop)]
-pub struct Section {
+pub struct StatedSection {
     pub name: String,
     /// Where it lies as the file states it.
     pub range: Option<AddressRange>,
@@ -97,7 +98,7 @@ pub enum FrameKind {
 
 /// One step of an unwinder with a cache.
 #[derive(Debug, Drop)]
-pub struct Step {
+pub struct StepCommand {
     /// The unwinder's number, from 0 on.
     pub unwinder: usize,
     /// The cache's number, from 0 on.
@@ -110,7 +111,7 @@ pub struct Step {
 
 /// A walk over the frames of an unwinder with a cache.
 #[derive(Debug, Drop)]
-pub struct Walk {
+pub struct WalkCommand {
     /// The unwinder's number, from 0 on.
     pub unwinder: usize,
     /// The cache's number, from 0 on.
@@ -125,22 +126,22 @@ pub struct Walk {
 
 /// A section of call frames, and a header of it.
 #[derive(Debug, Drop)]
-pub struct Tables {
+pub struct StatedTables {
     pub section: Vec<u8>,
     /// Where the section starts as the file states it.
     pub section_start: u64,
     pub header: Vec<u8>,
     /// Where the header starts as the file states it.
     pub header_start: u64,
-    /// The address that stated addresses count from, where the module starts.
+    /// The address that stated addresses are relative to, at which the module starts.
     pub base_svma: u64,
 }
 
-/// A step by each road to the entry for an address: by the header, by an index of the section, and by
-/// reading the section.
+/// One step by each lookup of the entry for an address: by the header, by an index of the section, and
+/// by reading the section.
 #[derive(Debug, Drop)]
-pub struct Roads {
-    pub tables: Tables,
+pub struct RoadsCommand {
+    pub tables: StatedTables,
     pub kind: FrameKind,
     pub address: u64,
     pub registers: StatedRegisters,
@@ -168,7 +169,7 @@ pub(crate) enum Verb {
     Roads,
 }
 
-/// What a command does.
+// What a command does.
 fn verb_field(object: &Value) -> Checked<Verb>
     ensures { result ≡ field verb_in (codes "do") (view object.now) }
 {
@@ -186,7 +187,7 @@ fn verb_field(object: &Value) -> Checked<Verb>
     }
 }
 
-/// The number in the one field beside `do`, of something that earlier commands made.
+// The number in the one field beside `do`, of something that earlier commands made.
 fn one_number(object: &Value, name: &str, count: usize) -> Checked<usize>
     ensures { result ≡ one_number count name.now (view object.now) }
 {
@@ -196,20 +197,20 @@ fn one_number(object: &Value, name: &str, count: usize) -> Checked<usize>
     made_number(object, name, count)
 }
 
-/// The command that does it.
+// The command that does it.
 fn task_in(
     alloc: Global,
     arch: Architecture,
     object: &Value,
     verb: Verb,
     made: &Made,
-) -> Result<Command, Refusal<FaultName>>
+) -> Result<Command, DecodeError<FaultName>>
     ensures { Decodes task_of result (task_in arch (made_view made.now) (view object.now) verb) }
 {
     match verb {
         Verb::Unwinder if has_only(object, &["do"]) => Ok(Command::Unwinder),
         Verb::Cache if has_only(object, &["do"]) => Ok(Command::Cache),
-        Verb::Unwinder | Verb::Cache => Err(Refusal::Fault(FaultName::BadCommand)),
+        Verb::Unwinder | Verb::Cache => Err(DecodeError::Fault(FaultName::BadCommand)),
         Verb::Clone => Ok(Command::Clone(one_number(object, "unwinder", made.unwinders)?)),
         Verb::Load => Ok(Command::Load(load_in(alloc, object, made)?)),
         Verb::Unload => Ok(Command::Unload(unload_in(object, made)?)),
@@ -226,11 +227,11 @@ pub(crate) fn command_in(
     arch: Architecture,
     value: &Value,
     made: &Made,
-) -> Result<Command, Refusal<FaultName>>
+) -> Result<Command, DecodeError<FaultName>>
     ensures { Decodes task_of result (command_in arch (made_view made.now) (view value.now)) }
 {
     if has_float(value) {
-        return Err(Refusal::Fault(FaultName::FloatNumber));
+        return Err(DecodeError::Fault(FaultName::FloatNumber));
     }
     task_in(alloc, arch, value, verb_field(value)?, made)
 }

@@ -1,4 +1,5 @@
 //! The document: JSON text in, typed commands or the first fault out.
+
 ghost use Rattle.std.specs.Prelude.{◌≡◌, IfOk, ok_or};
 ghost use Rattle.serde_json.specs.View.{items_view, members_view, view};
 ghost use Rattle.unwind_run_document.specs.Document.{arch_of, have_own_float, commands_from, content_of, document_in, generation_in, has_float_outside, few_commands, is_supported, items_in, nothing_made, has_own_float, policy_of};
@@ -15,7 +16,7 @@ use json_program::check::{Checked, both, in_unit};
 use json_program::field::has_only;
 use json_program::float::has_float;
 use json_program::json::{is_text, read};
-use json_program::{DOCUMENT_LIMIT, Fault, FaultName, Refusal};
+use json_program::{DOCUMENT_LIMIT, DecodeError, Fault, FaultName};
 use serde_json::{Map, Value};
 use std::alloc::Global;
 
@@ -31,12 +32,12 @@ pub enum Architecture {
     Aarch64,
 }
 
-/// Whether the steps of a document may take memory.
+/// Whether the steps of a document may allocate.
 #[derive(Clone, Copy, Debug, PartialEq, Eq)]
 pub enum Policy {
     /// They may, and an expression has room for any number of values.
     May,
-    /// They take none, and an expression has room for 64 values.
+    /// They don't allocate, and an expression has room for 64 values.
     Must,
 }
 
@@ -50,8 +51,8 @@ pub struct Document {
     pub commands: Vec<Command>,
 }
 
-/// Whether a member has a float that is the document's: the elements of a list
-/// of commands are units of their own.
+// Whether a member has a float that is the document's: the elements of a list
+// of commands are units of their own.
 fn has_own_float(name: &str, member: &Value) -> bool
     ensures { result ≡ has_own_float name.now (view member.now) }
 {
@@ -61,7 +62,7 @@ fn has_own_float(name: &str, member: &Value) -> bool
     has_float(member)
 }
 
-/// Whether a number of the document's own is a float.
+// Whether a number of the document's own is a float.
 fn have_own_float(members: &Map<String, Value>) -> bool
     ensures { result ≡ have_own_float (members_view members.now.entries) }
 {
@@ -73,7 +74,7 @@ fn have_own_float(members: &Map<String, Value>) -> bool
     false
 }
 
-/// Whether a number outside the commands is a float.
+// Whether a number outside the commands is a float.
 #[tactic(auto, unfolding(crate::specs::Document::has_float_outside))]
 fn has_float_outside(document: &Value) -> bool
     ensures { result ≡ has_float_outside (view document.now) }
@@ -84,7 +85,7 @@ fn has_float_outside(document: &Value) -> bool
     }
 }
 
-/// Whether no other field stands there, and the policy and the architecture are as they have to be.
+// Whether there is no other field, and the policy and the architecture are ones that there are.
 #[tactic(auto, unfolding(crate::specs::Document::is_supported))]
 fn is_supported(document: &Value) -> bool
     ensures { result ≡ is_supported (view document.now) }
@@ -94,7 +95,7 @@ fn is_supported(document: &Value) -> bool
         && (is_text(document, "policy", "may") || is_text(document, "policy", "must"))
 }
 
-/// The architecture, in a document whose own fields are as they have to be.
+// The architecture, in a document whose own fields are as they have to be.
 fn arch_of(document: &Value) -> Architecture
     ensures { result ≡ arch_of (view document.now) }
 {
@@ -105,7 +106,7 @@ fn arch_of(document: &Value) -> Architecture
     }
 }
 
-/// The policy, in a document whose own fields are as they have to be.
+// The policy, in a document whose own fields are as they have to be.
 fn policy_of(document: &Value) -> Policy
     ensures { result ≡ policy_of (view document.now) }
 {
@@ -116,7 +117,7 @@ fn policy_of(document: &Value) -> Policy
     }
 }
 
-/// The commands, of which there may not be too many.
+// The commands, if there are at most `COMMAND_LIMIT`.
 fn few_commands(items: &Vec<Value>) -> Checked<&Vec<Value>>
     ensures { result_map (λ v. items_view v.now.items) result
         ≡ few_commands (items_view items.now.items) }
@@ -127,7 +128,7 @@ fn few_commands(items: &Vec<Value>) -> Checked<&Vec<Value>>
     Ok(items)
 }
 
-/// The commands of a document, which are still to be decoded.
+// The commands of a document, which are still to be decoded.
 fn items_in(document: &Value) -> Checked<&Vec<Value>>
     ensures { result_map (λ v. items_view v.now.items) result ≡ items_in (view document.now) }
 {
@@ -135,7 +136,7 @@ fn items_in(document: &Value) -> Checked<&Vec<Value>>
     few_commands(commands.as_array().ok_or(FaultName::BadDocument)?)
 }
 
-/// The first generation, 0 where the document doesn't say.
+// The first generation, 0 if the document doesn't state it.
 fn generation_in(document: &Value) -> Checked<u64>
     ensures { result ≡ generation_in (view document.now) }
 {
@@ -148,7 +149,7 @@ fn generation_in(document: &Value) -> Checked<u64>
     }
 }
 
-/// The first generation, and the commands that are still to be decoded.
+// The first generation, and the commands that are still to be decoded.
 #[tactic(auto, unfolding(crate::specs::Document::document_in))]
 fn document_in(document: &Value) -> Checked<(u64, &Vec<Value>)>
     ensures { result_map (λ own. (own.0, items_view own.1.now.items)) result
@@ -163,12 +164,12 @@ fn document_in(document: &Value) -> Checked<(u64, &Vec<Value>)>
     both(generation_in(document), items_in(document))
 }
 
-/// The commands, or the first fault among them.
+// The commands, or the first fault among them.
 fn commands(
     alloc: Global,
     arch: Architecture,
     items: &Vec<Value>,
-) -> Result<Vec<Command>, Refusal<Fault>>
+) -> Result<Vec<Command>, DecodeError<Fault>>
     ensures { Decodes (λ commands. tasks_of commands.items) result
         (commands_from arch 1 nothing_made (items_view items.now.items)) }
 {
@@ -187,11 +188,11 @@ fn commands(
     Ok(commands)
 }
 
-/// What a document's bytes ask for, or their first fault: a text of JSON (RFC 8259) with the
-/// fields `arch`, `policy` and `commands`, and `generation` if it is wanted. Unit 0 is the document itself, and the commands count
-/// from 1. The units are checked one after the other, and of the faults of a unit the one of
-/// the first class counts. Memory may run out on any document.
-pub fn decode(alloc: Global, text: &[u8]) -> Result<Document, Refusal<Fault>>
+/// What a document's bytes ask for, or their first fault: a text of JSON (RFC 8259) with the fields
+/// `arch`, `policy` and `commands`, and optionally `generation`. Unit 0 is the document itself, and the
+/// commands are units from 1 on. The units are checked one after the other, and of the faults of a unit
+/// the one of the first class counts. Memory may run out on any document.
+pub fn decode(alloc: Global, text: &[u8]) -> Result<Document, DecodeError<Fault>>
     ensures decoded { Decodes content_view result (content_of text.now) }
 
     // What a command names was made by those before it.
@@ -199,7 +200,7 @@ pub fn decode(alloc: Global, text: &[u8]) -> Result<Document, Refusal<Fault>>
         AreSound nothing_made (tasks_of document.commands.items)) }
 {
     if text.len() > DOCUMENT_LIMIT {
-        return Err(Refusal::Fault(Fault::of_document(FaultName::TooLong)));
+        return Err(DecodeError::Fault(Fault::of_document(FaultName::TooLong)));
     }
     let document = in_unit(0, read(alloc, text))?;
     let (generation, items) = document_in(&document).map_err(Fault::of_document)?;

@@ -11,7 +11,8 @@ mod step;
 mod walk;
 
 pub use command::{
-    AddressRange, Command, FrameKind, Load, Roads, Section, Stack, Step, Tables, Unload, Walk,
+    AddressRange, Command, FrameKind, LoadCommand, RoadsCommand, Stack, StatedSection,
+    StatedTables, StepCommand, UnloadCommand, WalkCommand,
 };
 pub use document::{Architecture, COMMAND_LIMIT, Document, Policy, WALK_LIMIT, decode};
 pub use registers::StatedRegisters;

@@ -1,4 +1,5 @@
 //! Loads of modules.
+
 ghost use Rattle.std.specs.Prelude.{◌≡◌, codes, option_map, option_and_then, IfOk, string_bytes};
 ghost use Rattle.serde_json.specs.Find.{as_str, get};
 ghost use Rattle.serde_json.specs.View.{view, items_view};
@@ -7,17 +8,17 @@ ghost use Rattle.unwind_run_document.specs.Commands.{are_distinct, is_refused, l
 ghost use Rattle.json_program.specs.Decoded.{Decodes, result_map};
 ghost use Rattle.unwind_run_document.specs.CommandViews.{load_view, made_view, section_view, sections_view, unload_view};
 
-use crate::command::{AddressRange, Load, Section, Unload};
+use crate::command::{AddressRange, LoadCommand, StatedSection, UnloadCommand};
 use crate::made::{Made, made_number};
-use json_program::check::{Checked, both, weighed, with_fault};
-use json_program::field::{address_field, address_in, has_only, needed, text_field};
+use json_program::check::{Checked, both, keep_fault, with_fault};
+use json_program::field::{address_field, address_in, find_field, has_only, text_field};
 use json_program::json::bytes_in;
-use json_program::{FaultName, Refusal};
+use json_program::{DecodeError, FaultName};
 use serde_json::Value;
 use std::alloc::{AllocError, Global};
 use std::collections::BTreeSet;
 
-/// Whether a section of this name is refused.
+// Whether a section of this name can't be loaded.
 #[tactic(auto, unfolding(crate::specs::Commands::is_refused))]
 fn is_refused(name: &str) -> bool
     ensures { result ≡ is_refused name.now }
@@ -33,19 +34,19 @@ fn is_refused(name: &str) -> bool
     .contains(&name)
 }
 
-/// The name of a section.
-fn section_name(alloc: Global, object: &Value) -> Result<String, Refusal<FaultName>>
+// The name of a section.
+fn section_name(alloc: Global, object: &Value) -> Result<String, DecodeError<FaultName>>
     ensures { Decodes string_bytes result
         (field section_name_in (codes "name") (view object.now)) }
 {
     let text = text_field(object, "name")?;
     if is_refused(text) {
-        return Err(Refusal::Fault(FaultName::BadCommand));
+        return Err(DecodeError::Fault(FaultName::BadCommand));
     }
     Ok(String::from_str(alloc, text)?)
 }
 
-/// The addresses of a start with its end, or neither.
+// The addresses of a start with its end, or neither.
 fn range_in(object: &Value) -> Checked<Option<AddressRange>>
     ensures { result ≡ range_between (get (codes "start") (view object.now))
         (get (codes "end") (view object.now)) }
@@ -60,8 +61,8 @@ fn range_in(object: &Value) -> Checked<Option<AddressRange>>
     }
 }
 
-/// The bytes of a section, where it has some.
-fn bytes_field(alloc: Global, object: &Value) -> Result<Option<Vec<u8>>, Refusal<FaultName>>
+// The bytes of a section, if it has any.
+fn bytes_field(alloc: Global, object: &Value) -> Result<Option<Vec<u8>>, DecodeError<FaultName>>
     ensures { Decodes (option_map (λ bytes. bytes.items)) result
         (optional_value bytes_value (get (codes "data") (view object.now))) }
 {
@@ -71,21 +72,21 @@ fn bytes_field(alloc: Global, object: &Value) -> Result<Option<Vec<u8>>, Refusal
     }
 }
 
-/// A value that has to be a section.
-fn section_in(alloc: Global, value: &Value) -> Result<Section, Refusal<FaultName>>
+// A value that has to be a section.
+fn section_in(alloc: Global, value: &Value) -> Result<StatedSection, DecodeError<FaultName>>
     ensures { Decodes section_view result (section_in (view value.now)) }
 {
     if !has_only(value, &["name", "start", "end", "data"]) {
-        return Err(Refusal::Fault(FaultName::BadCommand));
+        return Err(DecodeError::Fault(FaultName::BadCommand));
     }
-    let name = weighed(section_name(alloc, value))?;
+    let name = keep_fault(section_name(alloc, value))?;
     let range = range_in(value);
-    let bytes = weighed(bytes_field(alloc, value))?;
+    let bytes = keep_fault(bytes_field(alloc, value))?;
     let ((name, range), bytes) = both(both(name, range), bytes)?;
-    Ok(Section { name, range, bytes })
+    Ok(StatedSection { name, range, bytes })
 }
 
-/// The name of a section, where it has one.
+// The name of a section, if it has one.
 fn name_of(section: &Value) -> Option<&str>
     ensures { option_map (λ s. s.now) result
         ≡ option_and_then as_str (get (codes "name") (view section.now)) }
@@ -96,7 +97,7 @@ fn name_of(section: &Value) -> Option<&str>
     }
 }
 
-/// Whether no name stands twice.
+// Whether no two sections have one name.
 fn are_distinct(alloc: Global, items: &Vec<Value>) -> Result<bool, AllocError>
     ensures { IfOk result (λ b. b ≡ are_distinct (names_of (items_view items.now.items))) }
 {
@@ -111,47 +112,50 @@ fn are_distinct(alloc: Global, items: &Vec<Value>) -> Result<bool, AllocError>
     Ok(true)
 }
 
-/// Each element has to be a section.
-fn sections(alloc: Global, items: &Vec<Value>) -> Result<Vec<Section>, Refusal<FaultName>>
+// Each element has to be a section.
+fn sections(alloc: Global, items: &Vec<Value>) -> Result<Vec<StatedSection>, DecodeError<FaultName>>
     ensures { Decodes (λ sections. sections_view sections.items) result
         (list_of section_in (items_view items.now.items)) }
 {
     let mut sections = Vec::new(alloc);
     let mut fault = None;
     for item in items {
-        match weighed(section_in(alloc, item))? {
+        match keep_fault(section_in(alloc, item))? {
             Ok(section) => sections.push(section)?,
             Err(name) => fault = with_fault(fault, name),
         }
     }
     match fault {
         None => Ok(sections),
-        Some(name) => Err(Refusal::Fault(name)),
+        Some(name) => Err(DecodeError::Fault(name)),
     }
 }
 
-/// A value that has to be a list of sections, of which no two have one name.
-fn sections_in(alloc: Global, value: &Value) -> Result<Vec<Section>, Refusal<FaultName>>
+// A value that has to be a list of sections, of which no two have one name.
+fn sections_in(alloc: Global, value: &Value) -> Result<Vec<StatedSection>, DecodeError<FaultName>>
     ensures { Decodes (λ sections. sections_view sections.items) result
         (sections_in (view value.now)) }
 {
     let items = value.as_array().ok_or(FaultName::BadCommand)?;
     if !are_distinct(alloc, items)? {
-        return Err(Refusal::Fault(FaultName::BadCommand));
+        return Err(DecodeError::Fault(FaultName::BadCommand));
     }
     sections(alloc, items)
 }
 
-/// The sections of a module.
-fn sections_field(alloc: Global, object: &Value) -> Result<Vec<Section>, Refusal<FaultName>>
+// The sections of a module.
+fn sections_field(
+    alloc: Global,
+    object: &Value,
+) -> Result<Vec<StatedSection>, DecodeError<FaultName>>
     ensures { Decodes (λ sections. sections_view sections.items) result
         (field sections_in (codes "sections") (view object.now)) }
 {
-    sections_in(alloc, needed(object, "sections")?)
+    sections_in(alloc, find_field(object, "sections")?)
 }
 
-/// The name of a module.
-fn module_name(alloc: Global, object: &Value) -> Result<String, Refusal<FaultName>>
+// The name of a module.
+fn module_name(alloc: Global, object: &Value) -> Result<String, DecodeError<FaultName>>
     ensures { Decodes string_bytes result (field text_value (codes "name") (view object.now)) }
 {
     Ok(String::from_str(alloc, text_field(object, "name")?)?)
@@ -162,7 +166,7 @@ pub(crate) fn load_in(
     alloc: Global,
     object: &Value,
     made: &Made,
-) -> Result<Load, Refusal<FaultName>>
+) -> Result<LoadCommand, DecodeError<FaultName>>
     ensures { Decodes load_view result (load_in (made_view made.now) (view object.now)) }
 {
     let names = [
@@ -176,21 +180,21 @@ pub(crate) fn load_in(
         "sections",
     ];
     if !has_only(object, &names) {
-        return Err(Refusal::Fault(FaultName::BadCommand));
+        return Err(DecodeError::Fault(FaultName::BadCommand));
     }
     let unwinder = made_number(object, "unwinder", made.unwinders);
-    let name = weighed(module_name(alloc, object))?;
+    let name = keep_fault(module_name(alloc, object))?;
     let start = address_field(object, "start");
     let end = address_field(object, "end");
     let base = address_field(object, "base");
     let base_svma = address_field(object, "base_svma");
-    let sections = weighed(sections_field(alloc, object))?;
+    let sections = keep_fault(sections_field(alloc, object))?;
     let front = both(both(both(unwinder, name), start), end);
     let ((((((unwinder, name), start), end), base), base_svma), sections) = both(
         both(both(front, base), base_svma),
         sections,
     )?;
-    Ok(Load {
+    Ok(LoadCommand {
         unwinder,
         name,
         start,
@@ -202,7 +206,7 @@ pub(crate) fn load_in(
 }
 
 /// A module of an unwinder that an earlier command made, by its start.
-pub(crate) fn unload_in(object: &Value, made: &Made) -> Checked<Unload>
+pub(crate) fn unload_in(object: &Value, made: &Made) -> Checked<UnloadCommand>
     ensures { result_map unload_view result ≡ unload_in (made_view made.now) (view object.now) }
 {
     if !has_only(object, &["do", "unwinder", "start"]) {
@@ -210,5 +214,5 @@ pub(crate) fn unload_in(object: &Value, made: &Made) -> Checked<Unload>
     }
     let unwinder = made_number(object, "unwinder", made.unwinders);
     let (unwinder, start) = both(unwinder, address_field(object, "start"))?;
-    Ok(Unload { unwinder, start })
+    Ok(UnloadCommand { unwinder, start })
 }

@@ -1,4 +1,5 @@
 //! What earlier commands made.
+
 ghost use Rattle.std.specs.Prelude.{◌≡◌, ◌+◌, ◌<◌, ◌≤◌, ◌^◌};
 ghost use Rattle.serde_json.specs.View.{view};
 ghost use Rattle.unwind_run_document.specs.Commands.{made_after, made_number};

@@ -1,4 +1,5 @@
 //! The registers of a step or a walk.
+
 ghost use Rattle.std.specs.Prelude.{◌≡◌, codes};
 ghost use Rattle.serde_json.specs.Find.{get};
 ghost use Rattle.serde_json.specs.View.{view};
@@ -8,7 +9,7 @@ ghost use Rattle.unwind_run_document.specs.Commands.{mask_at, registers_aarch64_
 use crate::document::Architecture;
 use json_program::FaultName;
 use json_program::check::{Checked, both};
-use json_program::field::{address_field, address_in, has_only, needed};
+use json_program::field::{address_field, address_in, find_field, has_only};
 use serde_json::Value;
 
 /// The registers of a step or a walk, by what they are for.
@@ -20,11 +21,11 @@ pub struct StatedRegisters {
     pub sp: u64,
     /// The frame pointer.
     pub fp: u64,
-    /// The bits of a code address: all of them, where no mask is stated.
+    /// The bits of a code address: all of them if no mask is stated.
     pub mask: u64,
 }
 
-/// A value that has to be the registers of x86_64.
+// A value that has to be the registers of x86_64.
 fn registers_x86_64_in(value: &Value) -> Checked<StatedRegisters>
     ensures { result ≡ registers_x86_64_in (view value.now) }
 {
@@ -43,7 +44,7 @@ fn registers_x86_64_in(value: &Value) -> Checked<StatedRegisters>
     })
 }
 
-/// The mask of code addresses: all bits where none is stated.
+// The mask of code addresses: all bits if none is stated.
 fn mask_field(object: &Value) -> Checked<u64>
     ensures { result ≡ mask_at (get (codes "mask") (view object.now)) }
 {
@@ -53,7 +54,7 @@ fn mask_field(object: &Value) -> Checked<u64>
     }
 }
 
-/// A value that has to be the registers of aarch64.
+// A value that has to be the registers of aarch64.
 fn registers_aarch64_in(value: &Value) -> Checked<StatedRegisters>
     ensures { result ≡ registers_aarch64_in (view value.now) }
 {
@@ -73,7 +74,7 @@ fn registers_aarch64_in(value: &Value) -> Checked<StatedRegisters>
     })
 }
 
-/// A value that has to be the registers of an architecture.
+// A value that has to be the registers of an architecture.
 fn registers_in(arch: Architecture, value: &Value) -> Checked<StatedRegisters>
     ensures { result ≡ registers_in arch (view value.now) }
 {
@@ -87,5 +88,5 @@ fn registers_in(arch: Architecture, value: &Value) -> Checked<StatedRegisters>
 pub(crate) fn registers_field(arch: Architecture, object: &Value) -> Checked<StatedRegisters>
     ensures { result ≡ field (registers_in arch) (codes "regs") (view object.now) }
 {
-    registers_in(arch, needed(object, "regs")?)
+    registers_in(arch, find_field(object, "regs")?)
 }

@@ -1,4 +1,5 @@
 //! Walks.
+
 ghost use Rattle.std.specs.Prelude.{◌≡◌, codes};
 ghost use Rattle.serde_json.specs.View.{view};
 ghost use Rattle.json_program.specs.Decoded.{Decodes};
@@ -6,18 +7,18 @@ ghost use Rattle.json_program.specs.Json.{field};
 ghost use Rattle.unwind_run_document.specs.Commands.{limit_value, walk_in};
 ghost use Rattle.unwind_run_document.specs.CommandViews.{made_view, walk_view};
 
-use crate::command::Walk;
+use crate::command::WalkCommand;
 use crate::document::{Architecture, WALK_LIMIT};
 use crate::made::{Made, made_number};
 use crate::registers::registers_field;
 use crate::step::stack_field;
-use json_program::check::{Checked, both, weighed};
+use json_program::check::{Checked, both, keep_fault};
 use json_program::field::{address_field, has_only, number_field};
-use json_program::{FaultName, Refusal};
+use json_program::{DecodeError, FaultName};
 use serde_json::Value;
 use std::alloc::Global;
 
-/// The most frames that a walk gives.
+// The most frames that a walk gives.
 fn limit_field(object: &Value) -> Checked<u64>
     ensures { result ≡ field limit_value (codes "limit") (view object.now) }
 {
@@ -35,26 +36,26 @@ pub(crate) fn walk_in(
     arch: Architecture,
     object: &Value,
     made: &Made,
-) -> Result<Walk, Refusal<FaultName>>
+) -> Result<WalkCommand, DecodeError<FaultName>>
     ensures { Decodes walk_view result (walk_in arch (made_view made.now) (view object.now)) }
 {
     if !has_only(
         object,
         &["do", "unwinder", "cache", "pc", "limit", "regs", "stack"],
     ) {
-        return Err(Refusal::Fault(FaultName::BadCommand));
+        return Err(DecodeError::Fault(FaultName::BadCommand));
     }
     let unwinder = made_number(object, "unwinder", made.unwinders);
     let cache = made_number(object, "cache", made.caches);
     let pc = address_field(object, "pc");
     let limit = limit_field(object);
     let registers = registers_field(arch, object);
-    let stack = weighed(stack_field(alloc, object))?;
+    let stack = keep_fault(stack_field(alloc, object))?;
     let (((((unwinder, cache), pc), limit), registers), stack) = both(
         both(both(both(both(unwinder, cache), pc), limit), registers),
         stack,
     )?;
-    Ok(Walk {
+    Ok(WalkCommand {
         unwinder,
         cache,
         pc,

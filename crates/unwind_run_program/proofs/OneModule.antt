@@ -1,4 +1,4 @@
--- What one module alone says of an address depends on what it has to be unwound by, where it contains the address, and on nothing
+-- What one module alone says of an address depends on its unwind data, if it contains the address, and on nothing
 -- else of that.
 use Rattle.std.proofs.Common.{◌≡◌, ℕ, ◌+◌, ◌-◌, ◌≤◌, ◌^◌, [], ◌∷◌, Bool, true, false, cond, Option, Some, None, refl, arith}
 use Rattle.std.specs.Prelude.{nat_le, nat_lt, option_and_then, ◌==◌, ◌&&◌, ◌||◌}

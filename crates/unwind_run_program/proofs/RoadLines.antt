@@ -1,4 +1,4 @@
--- The module over which a step by a road is made, and the lines of such steps.
+-- The module over which a step by a lookup is made, and the lines of such steps.
 use Rattle.std.proofs.Common.{◌≡◌, ℕ, ◌^◌, List, [], Result, Ok, Err, IfOk, ap, ◌∙◌}
 use Rattle.framehop_unwinder.specs.Modules.{Loaded}
 use Rattle.unwind_run_program.specs.Roads.{address_behind, module_at}

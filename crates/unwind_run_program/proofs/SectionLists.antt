@@ -6,8 +6,8 @@ use Rattle.std.specs.Option.{option_or}
 use Rattle.std.proofs.lemmas.Slice.Eq.{bytes_eq-Decides}
 use Rattle.framehop_modules.specs.Sections.{bare_name, may_be_one, SectionLeft}
 use Rattle.unwind_run_document.specs.CommandViews.{section_view, sections_view}
-use Rattle.unwind_run_program.specs.Sections.{first_data_named, range_named, range_of, sections_stated}
-use Rattle.unwind_run_document.specs.declared.command.Section.{Section}
+use Rattle.unwind_run_program.specs.Sections.{first_data_named, stated_range_named, range_of, sections_stated}
+use Rattle.unwind_run_document.specs.declared.command.StatedSection.{StatedSection as Section}
 
 -- names that may not be those of one section differ
 names_differ : (name other : List ℕ) (same : Bool) → bytes_eq name other ≡ same → may_be_one name other ≡ false → bytes_eq name other ≡ false
@@ -20,10 +20,10 @@ names_differ name other true is apart =
 -- a section in the place of one of the same name and range changes no range
 ranges_kept : (name : List ℕ) (ss : List Section) (i : ℕ) (s d : Section)
     → s.name ≡ (slice_index_or ss i d).name → s.range ≡ (slice_index_or ss i d).range
-    → range_named name (sections_view (slice_set ss i s)) ≡ range_named name (sections_view ss)
+    → stated_range_named name (sections_view (slice_set ss i s)) ≡ stated_range_named name (sections_view ss)
 ranges_kept name [] i s d named ranged = refl
 ranges_kept name (x ∷ ss) zero s d named ranged = λ j.
-    option_or (cond (bytes_eq (string_bytes (named j)) name) (option_map range_of (ranged j)) None) (range_named name (sections_view ss))
+    option_or (cond (bytes_eq (string_bytes (named j)) name) (option_map range_of (ranged j)) None) (stated_range_named name (sections_view ss))
 ranges_kept name (x ∷ ss) (suc i) s d named ranged =
     ap (λ found. option_or (cond (bytes_eq (string_bytes x.name) name) (option_map range_of x.range) None) found)
     (ranges_kept name ss i s d named ranged)

@@ -1,4 +1,4 @@
--- The line of a step, from what a session answers.
+-- The line of a step, from the result of a session's step.
 use Rattle.std.proofs.Common.{◌≡◌, ◌≢◌, List, Option, Result, Ok, Err, ℕ, refl, ◌∙◌, ap}
 use Rattle.framehop_registers.specs.Callback.{Words}
 use Rattle.framehop_registers.specs.declared.error.Error.{Error}
@@ -12,7 +12,7 @@ use Rattle.framehop_unwinder.specs.Trials.{wants_memory}
 use Rattle.std.specs.Prelude.{false}
 use Rattle.unwind_run_program.specs.Lines.{step_line, outcome_line}
 
--- an answer other than want of memory
+-- a result other than out of memory
 pub not_wanted : (answer : Result (Option ℕ) Error) → answer ≢ Err OutOfMemory → wants_memory answer ≡ false
 not_wanted (Ok address) other = refl
 not_wanted (Err (CouldNotReadStack address)) other = refl
@@ -22,7 +22,7 @@ not_wanted (Err IntegerOverflow) other = refl
 not_wanted (Err ReturnAddressIsNull) other = refl
 not_wanted (Err OutOfMemory) other = absurd (other refl)
 
--- the line of what a step answers is that of what is judged
+-- the line of a step's result is that of its judgment
 pub line_judged : {Data Rule Registers : Type 0} (m : Meanings Data Rule Registers) (text : Registers → List ℕ) (modules found : List (Loaded Data)) (frame given_frame : Frame) (regs given left : Registers) (words : Words) (answer : Result (Option ℕ) Error)
     → found ≡ modules → given_frame ≡ frame → given ≡ regs → IsStep answer given left (judge m found given_frame given words)
     → step_line text answer left ≡ outcome_line text regs (judge m modules frame regs words)

@@ -11,7 +11,7 @@ answer_text (Ok (Some address)) = codes "some " ++ hexadecimal address
 answer_text (Ok None) = codes "none"
 answer_text (Err error) = codes "error " ++ error_name error
 
--- what a step answers, and the registers that it leaves, by their text
+-- the result of a step, and the text of the registers that it leaves
 abbrev pub step_text : {Registers : Type 0} → (Registers → List ℕ) → Result (Option ℕ) Error → Registers → List ℕ
 step_text text answer registers = answer_text answer ++ text registers
 
@@ -19,6 +19,6 @@ step_text text answer registers = answer_text answer ++ text registers
 abbrev pub step_line : {Registers : Type 0} → (Registers → List ℕ) → Result (Option ℕ) Error → Registers → List ℕ
 step_line text answer registers = line (step_text text answer registers)
 
--- the line of a step that comes to an outcome, from registers
+-- the line of a step with an outcome, from registers
 abbrev pub outcome_line : {Registers : Type 0} → (Registers → List ℕ) → Registers → Outcome (Caller Registers) → List ℕ
 outcome_line text registers outcome = step_line text (answer_of_outcome outcome) (registers_after registers outcome)

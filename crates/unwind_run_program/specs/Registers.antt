@@ -8,14 +8,10 @@ use Rattle.framehop_registers.specs.declared.aarch64.unwindregs.UnwindRegsAarch6
 use Rattle.framehop_registers.specs.declared.x86_64.unwindregs.UnwindRegsX86_64.{UnwindRegsX86_64}
 use Rattle.unwind_run_document.specs.declared.registers.StatedRegisters.{StatedRegisters}
 
--- The registers that are stated as those of an architecture, and the text of these.
+-- How documents have the registers of an architecture: the registers that are stated, and the text of registers.
 pub record RegisterForms (Registers : Type 0) : Type 0 where
   pub stated : StatedRegisters → Registers
   pub text : Registers → List ℕ
-
--- both of them as one
-abbrev pub register_forms : {Registers : Type 0} → (StatedRegisters → Registers) → (Registers → List ℕ) → RegisterForms Registers
-register_forms stated text = record { stated = stated; text = text }
 
 -- ---- x86_64
 
@@ -28,6 +24,10 @@ abbrev pub text_x86_64 : UnwindRegsX86_64 → List ℕ
 text_x86_64 registers =
     codes " ip " ++ hexadecimal (ip_of registers) ++ codes " sp " ++ hexadecimal (sp_of registers)
     ++ codes " bp " ++ hexadecimal (bp_of registers)
+
+-- both of them
+abbrev pub forms_x86_64 : RegisterForms UnwindRegsX86_64
+forms_x86_64 = record { stated = stated_x86_64; text = text_x86_64 }
 
 -- ---- aarch64
 
@@ -42,3 +42,7 @@ abbrev pub text_aarch64 : UnwindRegsAarch64 → List ℕ
 text_aarch64 registers =
     codes " lr " ++ hexadecimal (aarch64.lr_of registers) ++ codes " sp " ++ hexadecimal (aarch64.sp_of registers)
     ++ codes " fp " ++ hexadecimal (aarch64.fp_of registers)
+
+-- both of them
+abbrev pub forms_aarch64 : RegisterForms UnwindRegsAarch64
+forms_aarch64 = record { stated = stated_aarch64; text = text_aarch64 }

@@ -1,14 +1,14 @@
--- The module over which a step is made by each road, and its sections.
+-- The module over which a step is made by each lookup, and its sections.
 use Rattle.std.specs.Prelude.{ℕ, ◌+◌, ◌-◌, ◌^◌, min, List, [], length, codes, Some}
 use Rattle.framehop_unwinder.specs.Modules.{Loaded}
-use Rattle.unwind_run_document.specs.Commands.{SectionData, TableData}
+use Rattle.unwind_run_document.specs.Commands.{StatedSection, TableData}
 
--- so many addresses behind one, or the last
+-- the address that is a count of addresses after another, or else the last address
 abbrev pub address_behind : ℕ → ℕ → ℕ
 address_behind start count = min (start + count) (2 ^ 64 - 1)
 
 -- a section of these bytes at its stated start
-abbrev pub section_at : List ℕ → ℕ → List ℕ → SectionData
+abbrev pub section_at : List ℕ → ℕ → List ℕ → StatedSection
 section_at name start bytes = record {
   name = name;
   range = Some (record { start = start; end = address_behind start (length bytes) });
@@ -16,14 +16,14 @@ section_at name start bytes = record {
 }
 
 -- the section of call frames
-abbrev pub stated_section : TableData → SectionData
+abbrev pub stated_section : TableData → StatedSection
 stated_section t = section_at (codes ".eh_frame") t.section_start t.section
 
--- its header
-abbrev pub stated_header : TableData → SectionData
+-- the header of the section
+abbrev pub stated_header : TableData → StatedSection
 stated_header t = section_at (codes ".eh_frame_hdr") t.header_start t.header
 
--- the module at the base: 2^32 addresses, as far as there are so many
+-- the module at the base: 2^32 addresses, or those up to the last
 abbrev pub module_at : {Data : Type 0} → ℕ → Data → Loaded Data
 module_at base given = record {
   name = [];

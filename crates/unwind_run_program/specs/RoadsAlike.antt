@@ -1,28 +1,50 @@
--- When a step comes to the same by each road.
-use Rattle.std.specs.Prelude.{◌≡◌, ℕ, List, [], ◌∷◌, ◌++◌, codes, true}
+-- When a step writes the same line by each lookup.
+use Rattle.std.specs.Prelude.{◌≡◌, ℕ, List, [], ◌∷◌, ◌++◌, Option, codes, true}
 use Rattle.std.specs.List.{Contains}
 use Rattle.dwarf_frame_entries.specs.Entries.{Fde, contains}
 use Rattle.dwarf_frame_entries.specs.SectionFdes.{whole_fdes}
 use Rattle.dwarf_frame_rows.specs.declared.base_addresses.BaseAddresses.{BaseAddresses}
 use Rattle.framehop.specs.FrameSections.{eh_frame_of}
-use Rattle.framehop.specs.TruthfulRoads.{AreTruthful}
-use Rattle.framehop.specs.UnwindData.{bases_of}
+use Rattle.framehop.specs.TruthfulLookups.{AreTruthful, HeadedSection}
+use Rattle.framehop.specs.UnwindData.{UnwindData, bases_of}
 use Rattle.framehop_modules.specs.Chosen.{base_svmas}
-use Rattle.unwind_run_document.specs.Commands.{TableData}
+use Rattle.framehop_unwinder.specs.Attempt.{Meanings}
+use Rattle.framehop_unwinder.specs.Frames.{lookup_address}
+use Rattle.unwind_run_document.specs.Commands.{RoadSteps, TableData}
+use Rattle.unwind_run_program.specs.Registers.{RegisterForms}
 use Rattle.unwind_run_program.specs.Roads.{stated_section, stated_header}
-use Rattle.unwind_run_program.specs.Sections.{sections_stated}
+use Rattle.unwind_run_program.specs.Sections.{data_stated, sections_stated}
+use Rattle.unwind_run_program.specs.Text.{frame_at, road_line, road_lines}
 
--- the addresses that pointers count from in a module with both tables
+-- the addresses that pointers are relative to in a module with both tables
 abbrev pub bases_in : TableData → BaseAddresses
 bases_in t = bases_of (base_svmas (sections_stated t.base_svma (stated_section t ∷ stated_header t ∷ [])))
 
+-- the section and its header, as both tables state them
+abbrev pub headed_in : TableData → HeadedSection
+headed_in t = record { section = t.section; header = t.header; bases = bases_in t; base = t.base_svma }
+
 -- The header is truthful, and one of the section's FDEs contains an address.
 pub record Covers (t : TableData) (address : ℕ) : Type 0 where
-  pub truthful : AreTruthful (bases_in t) t.base_svma t.section t.header
+  pub truthful : AreTruthful (headed_in t)
   pub fde : Fde
   pub listed : Contains (whole_fdes (eh_frame_of (bases_in t) t.section)) fde
   pub contained : contains address fde ≡ true
 
--- one line behind the name of each road
+-- one line after the name of each lookup
 abbrev pub named_alike : List ℕ → List ℕ
 named_alike text = codes "header " ++ text ++ codes "index " ++ text ++ codes "scan " ++ text
+
+-- the address that a step looks up
+abbrev pub address_looked_up : RoadSteps → ℕ
+address_looked_up steps = lookup_address (frame_at steps.kind steps.address)
+
+-- the line of the step that reads the section
+abbrev pub scan_line : {Rule Registers : Type 0} → Meanings UnwindData Rule Registers → RegisterForms Registers → RoadSteps → List ℕ
+scan_line m forms steps = road_line m forms steps (data_stated.scanned steps.tables.base_svma (stated_section steps.tables ∷ []))
+
+-- However many values an expression has room for, each lookup writes the line of the step that reads the section.
+abbrev pub WriteAlike : {Rule Registers : Type 0} → (Option ℕ → Meanings UnwindData Rule Registers) → RoadSteps → Type 0
+WriteAlike {Registers} meanings steps =
+    (limit : Option ℕ) (forms : RegisterForms Registers)
+    → road_lines (meanings limit) forms data_stated steps ≡ named_alike (scan_line (meanings limit) forms steps)

@@ -5,41 +5,41 @@ use Rattle.std.specs.declared.ops.Range.{Range}
 use Rattle.framehop.specs.UnwindData.{UnwindData, unwind_data_of, scanned_data_of}
 use Rattle.framehop_modules.specs.Sections.{Sections}
 use Rattle.unwind_run_document.specs.declared.command.AddressRange.{AddressRange}
-use Rattle.unwind_run_document.specs.Commands.{SectionData}
+use Rattle.unwind_run_document.specs.Commands.{StatedSection}
 
--- where a section lies, as a range of numbers
+-- a section's range, as a range of numbers
 abbrev pub range_of : AddressRange → Range ℕ
 range_of range = record { start = range.start; end = range.end }
 
 -- the range of the first section of this name that has one
-abbrev pub range_named : List ℕ → List SectionData → Option (Range ℕ)
-range_named name [] = None
-range_named name (section ∷ sections) =
-    option_or (if bytes_eq section.name name then option_map range_of section.range else None) (range_named name sections)
+abbrev pub stated_range_named : List ℕ → List StatedSection → Option (Range ℕ)
+stated_range_named name [] = None
+stated_range_named name (section ∷ sections) =
+    option_or (if bytes_eq section.name name then option_map range_of section.range else None) (stated_range_named name sections)
 
 -- the data of the first section of this name that has some
-abbrev pub first_data_named : List ℕ → List SectionData → Option (List ℕ)
+abbrev pub first_data_named : List ℕ → List StatedSection → Option (List ℕ)
 first_data_named name [] = None
 first_data_named name (section ∷ sections) =
     option_or (if bytes_eq section.name name then section.bytes else None) (first_data_named name sections)
 
--- sections by their names, whose stated addresses count from an address. There are no segments
-abbrev pub sections_stated : ℕ → List SectionData → Sections
+-- sections by their names, whose stated addresses are relative to an address; there are no segments
+abbrev pub sections_stated : ℕ → List StatedSection → Sections
 sections_stated base_svma sections = record {
   base_svma = base_svma;
-  section_range = λ name. range_named name sections;
+  section_range = λ name. stated_range_named name sections;
   section_data = λ name. first_data_named name sections;
   segment_range = λ name. None;
   segment_data = λ name. None;
 }
 
--- What sections give to unwind by, whose stated addresses count from an address: where a module is loaded, and where each step reads
--- its call frame information.
+-- The unwind data of sections whose stated addresses are relative to an address: of a module that is loaded, and of one whose call
+-- frame information is read by each step.
 pub record DataForms (Data : Type 0) : Type 0 where
-  pub loaded : ℕ → List SectionData → Data
-  pub scanned : ℕ → List SectionData → Data
+  pub loaded : ℕ → List StatedSection → Data
+  pub scanned : ℕ → List StatedSection → Data
 
--- what they give by their names
+-- the unwind data of sections by their names
 abbrev pub data_stated : DataForms UnwindData
 data_stated = record {
   loaded = λ base_svma sections. unwind_data_of (sections_stated base_svma sections);

@@ -1,5 +1,5 @@
--- What a run writes for a document: a line for each step, the lines of each walk, of each count and of the steps by each road, or one
--- for the first fault.
+-- What a run writes for a document: the lines of each step, walk and count and of the steps by each lookup, or the line of the
+-- document's first fault.
 use Rattle.std.specs.Prelude.{ℕ, Bool, ◌-◌, ◌/◌, ◌%◌, List, [], ◌∷◌, ◌++◌, ◌&&◌, length, codes, Option, Some, None, Result, Ok, Err, slice_get, ◌==◌, nat_le, if◌then◌else◌}
 use Rattle.json_program.specs.Faults.{fault_line}
 use Rattle.json_program.specs.Lines.{line}
@@ -16,10 +16,10 @@ use Rattle.framehop_rules.specs.declared.aarch64.unwind_rule.UnwindRuleAarch64.{
 use Rattle.framehop_rules.specs.declared.aarch64.unwind_rule.UnwindRuleAarch64.TheVariants as aarch64_rule
 use Rattle.framehop_rules.specs.declared.x86_64.unwind_rule.UnwindRuleX86_64.{UnwindRuleX86_64}
 use Rattle.framehop_rules.specs.declared.x86_64.unwind_rule.UnwindRuleX86_64.TheVariants.{UseFramePointer, JustReturnIfFirstFrameOtherwiseFp}
-use Rattle.framehop_unwinder.specs.Attempt.{Meanings, meanings}
+use Rattle.framehop_unwinder.specs.Attempt.{Meanings, meanings_of}
 use Rattle.dwarf_frame_rows.specs.Effects.{limits_of}
 use Rattle.dwarf_frame_rows.specs.Row.{Row}
-use Rattle.dwarf_readers.specs.Place.{Stretch}
+use Rattle.dwarf_readers.specs.Stretch.{Stretch}
 use Rattle.framehop.specs.Coverage.{row_meanings}
 use Rattle.framehop_rows.specs.RowAttempt.{RowAttempt}
 use Rattle.framehop_rows.specs.RowAttemptAarch64 as aarch64_row
@@ -29,7 +29,7 @@ use Rattle.unwind_run_program.specs.Sections.{DataForms, data_stated}
 use Rattle.framehop_unwinder.specs.Frames.{Frame, first_frame, later_frame}
 use Rattle.framehop_unwinder.specs.Judge.{judge}
 use Rattle.framehop_unwinder.specs.Modules.{Loaded}
-use Rattle.framehop_unwinder.specs.State.{State}
+use Rattle.framehop_unwinder.specs.State.{SessionState}
 use Rattle.framehop_unwinder.specs.WalkViews.{walk_from}
 use Rattle.unwind_run_document.specs.declared.command.FrameKind.{FrameKind}
 use Rattle.unwind_run_document.specs.declared.command.FrameKind.TheVariants.{Ip, Ra}
@@ -41,10 +41,10 @@ use Rattle.unwind_run_document.specs.declared.registers.StatedRegisters.{StatedR
 use Rattle.unwind_run_document.specs.Commands.{Made, StackWords, Loading, RoadSteps, Task, make_unwinder, make_cache, clone_unwinder, load_module, unload_module, take_step, take_walk, show_counts, take_roads}
 use Rattle.unwind_run_document.specs.Document.{Content, content_of}
 use Rattle.unwind_run_program.specs.Lines.{outcome_line}
-use Rattle.unwind_run_program.specs.Registers.{RegisterForms, register_forms, stated_aarch64, stated_x86_64, text_aarch64, text_x86_64}
+use Rattle.unwind_run_program.specs.Registers.{RegisterForms, forms_aarch64, forms_x86_64}
 use Rattle.unwind_run_program.specs.Roads.{stated_section, stated_header, module_at}
-use Rattle.framehop_unwinder.specs.Progress.{Progress, modules_in}
-use Rattle.unwind_run_session.specs.Turns.{Turn, beginning, writes, turn_of_unwinder, turn_of_cache, turn_of_clone, turn_of_load, turn_of_unload, turn_of_step, turn_of_walk, turn_of_stats}
+use Rattle.framehop_unwinder.specs.Progress.{SessionModel, modules_in}
+use Rattle.unwind_run_session.specs.Outputs.{CommandOutput, beginning, writes, output_of_unwinder, output_of_cache, output_of_clone, output_of_load, output_of_unload, output_of_step, output_of_walk, output_of_stats}
 
 -- the words of a stack: one at each eighth byte from its start, as far as they go
 abbrev pub words_of : StackWords → Words
@@ -57,12 +57,12 @@ abbrev pub frame_at : FrameKind → ℕ → Frame
 frame_at Ip address = first_frame address
 frame_at Ra address = later_frame address
 
--- how many values of an expression a policy has room for; `may` has no limit
+-- how many values of an expression there is room for under a policy: `may` has no limit
 abbrev pub value_limit : Policy → Option ℕ
 value_limit May = None
 value_limit Must = Some 64
 
--- the module that a command loads, by what its sections and the address that they count from give to unwind by
+-- the module that a command loads, with the unwind data of its sections
 abbrev pub loaded_by : {Data : Type 0} → DataForms Data → Loading → Loaded Data
 loaded_by data_of l = record {
   name = l.name;
@@ -72,14 +72,14 @@ loaded_by data_of l = record {
   unwind_data = data_of.loaded l.base_svma l.sections;
 }
 
--- the line of a step over modules, from a frame with registers and a stack that are stated: the judge's
+-- the line of a step over modules, from a frame with stated registers and a stated stack
 abbrev pub line_at : {Data Rule Registers : Type 0} → Meanings Data Rule Registers → RegisterForms Registers → List (Loaded Data) → Frame
     → StatedRegisters → StackWords → List ℕ
 line_at m forms modules frame stated stack =
     let registers = forms.stated stated in
     outcome_line forms.text registers (judge m modules frame registers (words_of stack))
 
--- the line of the step by one road: over a module that has this to be unwound by
+-- the line of the step by one lookup: over a module with this unwind data
 abbrev pub road_line : {Data Rule Registers : Type 0} → Meanings Data Rule Registers → RegisterForms Registers → RoadSteps → Data → List ℕ
 road_line m forms r given =
     line_at m forms (module_at r.tables.base_svma given ∷ []) (frame_at r.kind r.address) r.registers r.stack
@@ -93,40 +93,40 @@ road_lines m forms data_of r =
     ++ codes "index " ++ road_line m forms r (data_of.loaded base (section ∷ []))
     ++ codes "scan " ++ road_line m forms r (data_of.scanned base (section ∷ []))
 
--- what a command comes to
-abbrev pub turn : {Data Rule Registers : Type 0} → Meanings Data Rule Registers → RegisterForms Registers → DataForms Data → Progress Data → Task
-    → Turn Data
-turn m forms data_of progress make_unwinder = turn_of_unwinder progress
-turn m forms data_of progress make_cache = turn_of_cache progress
-turn m forms data_of progress (clone_unwinder unwinder) = turn_of_clone unwinder progress
-turn m forms data_of progress (load_module l) = turn_of_load l.unwinder (loaded_by data_of l) progress
-turn m forms data_of progress (unload_module u) = turn_of_unload u.unwinder u.start progress
-turn m forms data_of progress (take_step s) =
+-- the output of a command
+abbrev pub output_of : {Data Rule Registers : Type 0} → Meanings Data Rule Registers → RegisterForms Registers → DataForms Data → SessionModel Data → Task
+    → CommandOutput Data
+output_of m forms data_of model make_unwinder = output_of_unwinder model
+output_of m forms data_of model make_cache = output_of_cache model
+output_of m forms data_of model (clone_unwinder unwinder) = output_of_clone unwinder model
+output_of m forms data_of model (load_module l) = output_of_load l.unwinder (loaded_by data_of l) model
+output_of m forms data_of model (unload_module u) = output_of_unload u.unwinder u.start model
+output_of m forms data_of model (take_step s) =
     let frame = frame_at s.kind s.address in
-    turn_of_step m (line_at m forms (modules_in s.unwinder progress) frame s.registers s.stack) frame s.unwinder s.cache progress
-turn m forms data_of progress (take_walk w) =
-    turn_of_walk m (words_of w.stack) w.limit w.unwinder w.cache (walk_from w.pc (forms.stated w.registers)) progress
-turn m forms data_of progress (show_counts cache) = turn_of_stats cache progress
-turn m forms data_of progress (take_roads r) = writes (road_lines m forms data_of r) progress
+    output_of_step m (line_at m forms (modules_in s.unwinder model) frame s.registers s.stack) frame s.unwinder s.cache model
+output_of m forms data_of model (take_walk w) =
+    output_of_walk m (words_of w.stack) w.limit w.unwinder w.cache (walk_from w.pc (forms.stated w.registers)) model
+output_of m forms data_of model (show_counts cache) = output_of_stats cache model
+output_of m forms data_of model (take_roads r) = writes (road_lines m forms data_of r) model
 
 -- what commands write, one after another, up to one that is refused
-abbrev pub lines_of : {Data Rule Registers : Type 0} → Meanings Data Rule Registers → RegisterForms Registers → DataForms Data → Progress Data
+abbrev pub lines_of : {Data Rule Registers : Type 0} → Meanings Data Rule Registers → RegisterForms Registers → DataForms Data → SessionModel Data
     → List Task → List ℕ
-lines_of m forms data_of progress [] = []
-lines_of m forms data_of progress (task ∷ tasks) =
-    (turn m forms data_of progress task).text
-    ++ (if (turn m forms data_of progress task).is_refused then [] else lines_of m forms data_of (turn m forms data_of progress task).progress tasks)
+lines_of m forms data_of model [] = []
+lines_of m forms data_of model (task ∷ tasks) =
+    (output_of m forms data_of model task).text
+    ++ (if (output_of m forms data_of model task).is_refused then [] else lines_of m forms data_of (output_of m forms data_of model task).model tasks)
 
 -- how many unwinders and caches a session has
-abbrev pub made_in : {Data Rule : Type 0} → State Data Rule → Made
+abbrev pub made_in : {Data Rule : Type 0} → SessionState Data Rule → Made
 made_in state = record { unwinders = length state.unwinders; caches = length state.caches }
 
--- what steps go by, where expressions have room for so many values, if that is limited: rows have room for the rules of 192 registers, and
+-- what steps go by, with a limit on the values of an expression, if there is one: rows have room for the rules of 192 registers, and
 -- there is room for 4 rows
 abbrev pub sections_meanings : {Rule Registers : Type 0} → (Rule → Bool → Registers → Words → Outcome (Caller Registers)) → Rule
     → (Bool → Option ℕ → ℕ → Stretch → Row ℕ → RowAttempt Rule Registers) → Rule → Option ℕ → Meanings UnwindData Rule Registers
 sections_meanings meaning fallback row_attempt uncovered limit =
-    meanings meaning fallback (attempt (row_meanings row_attempt uncovered) (room_of (limits_of (Some 192) (Some 4)) limit))
+    meanings_of meaning fallback (attempt (row_meanings row_attempt uncovered) (room_of (limits_of (Some 192) (Some 4)) limit))
 
 -- what steps on x86_64 go by
 abbrev pub meanings_x86_64 : Option ℕ → Meanings UnwindData UnwindRuleX86_64 UnwindRegsX86_64
@@ -138,12 +138,15 @@ meanings_aarch64 limit =
     sections_meanings aarch64.rule_meaning aarch64_rule.UseFramePointer aarch64_row.row_attempt
     aarch64_rule.NoOpIfFirstFrameOtherwiseFp limit
 
+-- the lines of commands by what steps go by under a limit on the values of an expression, from a generation on
+abbrev pub lines_under : {Rule Registers : Type 0} → (Option ℕ → Meanings UnwindData Rule Registers) → RegisterForms Registers
+    → Option ℕ → ℕ → List Task → List ℕ
+lines_under meanings forms limit generation tasks = lines_of (meanings limit) forms data_stated (beginning generation) tasks
+
 -- the lines of commands on an architecture, from a generation on
 abbrev pub lines_on : Architecture → Option ℕ → ℕ → List Task → List ℕ
-lines_on arch.X86_64 limit generation tasks =
-    lines_of (meanings_x86_64 limit) (register_forms stated_x86_64 text_x86_64) data_stated (beginning generation) tasks
-lines_on arch.Aarch64 limit generation tasks =
-    lines_of (meanings_aarch64 limit) (register_forms stated_aarch64 text_aarch64) data_stated (beginning generation) tasks
+lines_on arch.X86_64 limit generation tasks = lines_under meanings_x86_64 forms_x86_64 limit generation tasks
+lines_on arch.Aarch64 limit generation tasks = lines_under meanings_aarch64 forms_aarch64 limit generation tasks
 
 -- the lines of a document's commands: its policy limits the values of an expression, its counter begins with its generation
 abbrev pub content_lines : Content → List ℕ

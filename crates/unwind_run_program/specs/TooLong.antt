@@ -1,4 +1,4 @@
--- Documents that are too long are answered alike.
+-- All documents that are too long have one text and one ending.
 use Rattle.std.proofs.Common.{◌≡◌, ℕ, ◌<◌, List, length, Err, ◌∙◌, ap, sym}
 use Rattle.std.proofs.lemmas.Bool.{lt-ltb}
 use Rattle.json_program.specs.declared.fault.FaultName.TheVariants.{TooLong}
@@ -6,12 +6,12 @@ use Rattle.json_program.specs.declared.transfer.TheConstants.{DOCUMENT_LIMIT}
 use Rattle.unwind_run_document.specs.Document.{content_of}
 use Rattle.unwind_run_program.specs.Text.{text_of, answer_to, ending_of, ending_for}
 
--- a document that is too long is refused, whatever its bytes are
+-- every document that is too long has the fault TooLong
 is_refused : (bytes : List ℕ) → DOCUMENT_LIMIT < length bytes
     → content_of bytes ≡ Err (record { name = TooLong; number = 0 })
 is_refused bytes long = rw (lt-ltb DOCUMENT_LIMIT (length bytes) long)
 
--- so what is written for it, and how the run ends, are the same for each
+-- so the text that is written for it, and how the run ends, are the same for each
 pub too_long : (one other : List ℕ) → DOCUMENT_LIMIT < length one → DOCUMENT_LIMIT < length other
     → (text_of one ≡ text_of other) × (ending_of one ≡ ending_of other)
 too_long one other long long_too =

@@ -1,6 +1,7 @@
 //! The architectures of documents.
-ghost use Rattle.std.specs.Prelude.{◌≡◌, ℕ, List, Some, IfOk, string_bytes};
-ghost use Rattle.unwind_run_document.specs.declared.registers.StatedRegisters.{StatedRegisters};
+
+ghost use Rattle.std.specs.Prelude.{◌≡◌, Some, IfOk, string_bytes};
+ghost use Rattle.unwind_run_program.specs.Registers.{RegisterForms};
 
 use framehop::DwarfUnwinding;
 use framehop_rules::aarch64::{ArchAarch64, PtrAuthMask, UnwindRegsAarch64};
@@ -11,17 +12,15 @@ use unwind_run_document::StatedRegisters;
 
 /// An architecture, by how documents state its registers and how these are written.
 pub(crate) trait DocumentArch: DwarfUnwinding {
-    ghost of_stated: { StatedRegisters → Self.UnwindRegs };
-
-    ghost shown: { Self.UnwindRegs → List ℕ };
+    ghost forms: { RegisterForms Self.UnwindRegs };
 
     /// The registers that are stated.
     fn stated_registers(stated: StatedRegisters) -> Self::UnwindRegs
-        ensures { result ≡ of_stated stated };
+        ensures { result ≡ forms.stated stated };
 
     /// The text of registers, each after its name.
     fn registers_text(alloc: Global, registers: Self::UnwindRegs) -> Result<String, AllocError>
-        ensures { IfOk result (λ text. string_bytes text ≡ shown registers) };
+        ensures { IfOk result (λ text. string_bytes text ≡ forms.text registers) };
 }
 
 /// Shows the registers of x86_64.
@@ -59,11 +58,9 @@ impl fmt::Display for TextAarch64 {
 }
 
 impl DocumentArch for ArchX86_64 {
-    ghost use Rattle.unwind_run_program.specs.Registers.{stated_x86_64, text_x86_64};
+    ghost use Rattle.unwind_run_program.specs.Registers.{forms_x86_64};
 
-    ghost of_stated = { stated_x86_64 };
-
-    ghost shown = { text_x86_64 };
+    ghost forms = { forms_x86_64 };
 
     fn stated_registers(stated: StatedRegisters) -> UnwindRegsX86_64 {
         UnwindRegsX86_64::new(stated.code, stated.sp, stated.fp)
@@ -75,11 +72,9 @@ impl DocumentArch for ArchX86_64 {
 }
 
 impl DocumentArch for ArchAarch64 {
-    ghost use Rattle.unwind_run_program.specs.Registers.{stated_aarch64, text_aarch64};
+    ghost use Rattle.unwind_run_program.specs.Registers.{forms_aarch64};
 
-    ghost of_stated = { stated_aarch64 };
-
-    ghost shown = { text_aarch64 };
+    ghost forms = { forms_aarch64 };
 
     fn stated_registers(stated: StatedRegisters) -> UnwindRegsAarch64 {
         let mask = PtrAuthMask(stated.mask);

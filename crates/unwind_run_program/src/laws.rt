@@ -1,25 +1,18 @@
-//! A law of the steps by each road. It does nothing when the program runs.
-ghost use Rattle.std.specs.Prelude.{◌≡◌, ℕ, Option, [], ◌∷◌};
-ghost use Rattle.framehop_unwinder.specs.Frames.{lookup_address};
+//! A law of the steps by each lookup. It does nothing when the program runs.
+
 ghost use Rattle.unwind_run_document.specs.Commands.{RoadSteps};
-ghost use Rattle.unwind_run_program.specs.Registers.{RegisterForms};
-ghost use Rattle.unwind_run_program.specs.Roads.{stated_section};
-ghost use Rattle.unwind_run_program.specs.RoadsAlike.{Covers, named_alike};
-ghost use Rattle.unwind_run_program.specs.Sections.{data_stated};
-ghost use Rattle.unwind_run_program.specs.Text.{frame_at, road_line, road_lines, sections_meanings};
+ghost use Rattle.unwind_run_program.specs.RoadsAlike.{Covers, WriteAlike, address_looked_up};
+ghost use Rattle.unwind_run_program.specs.Text.{sections_meanings};
 
 use framehop::DwarfUnwinding;
-use framehop::road_laws::truthful_roads_cover_alike;
+use framehop::lookup_laws::truthful_lookups_cover_alike;
 
 /// Under a truthful header, and at an address that an FDE of the section contains, the lines of `roads`
-/// are one line: what reading the section comes to.
-pub fn truthful_roads_write_alike<A: DwarfUnwinding>()
-    ensures { (limit : Option ℕ) (forms : RegisterForms A.UnwindRegs) (r : RoadSteps)
-        → Covers r.tables (lookup_address (frame_at r.kind r.address))
-        → let m = sections_meanings A.UnwindRule.meaning A.UnwindRule.fallback
-        A.row_attempt A.uncovered limit in
-        road_lines m forms data_stated r ≡ named_alike (road_line m forms r
-        (data_stated.scanned r.tables.base_svma (stated_section r.tables ∷ []))) }
+/// are one line: that of the step by reading the section.
+pub fn truthful_lookups_write_alike<A: DwarfUnwinding>()
+    ensures { (steps : RoadSteps) → Covers steps.tables (address_looked_up steps)
+        → WriteAlike (sections_meanings A.UnwindRule.meaning A.UnwindRule.fallback
+        A.row_attempt A.uncovered) steps }
 {
-    truthful_roads_cover_alike();
+    truthful_lookups_cover_alike();
 }

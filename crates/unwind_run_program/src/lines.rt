@@ -1,4 +1,5 @@
 //! The lines that a run writes. Each ends with a line feed.
+
 ghost use Rattle.std.specs.Prelude.{◌≡◌, ◌++◌, ◌≢◌, ◌↔◌, Err, Some, IfOk, IsTrue, string_bytes};
 ghost use Rattle.framehop_registers.specs.declared.error.Error.TheVariants.{OutOfMemory};
 ghost use Rattle.unwind_run_program.specs.Lines.{answer_text, step_line};
@@ -9,7 +10,7 @@ use std::alloc::{AllocError, Global};
 use std::fmt;
 use unwind_run_session::ErrorName;
 
-/// Shows what a step answers.
+/// Shows the result of a step.
 #[derive(Clone, Copy)]
 struct AnswerText(Result<Option<u64>, Error>);
 
@@ -25,7 +26,7 @@ impl fmt::Display for AnswerText {
     }
 }
 
-/// What a step answers, and the text of the registers that it leaves.
+/// The result of a step, and the text of the registers that it leaves.
 #[derive(Clone, Copy)]
 struct StepText<'a> {
     answer: Result<Option<u64>, Error>,
@@ -40,7 +41,7 @@ impl fmt::Display for StepText<'_> {
     }
 }
 
-/// Whether a step wanted memory.
+// Whether a step ran out of memory.
 fn wants_memory(answer: Result<Option<u64>, Error>) -> bool
     ensures { IsTrue result ↔ (answer ≡ Err OutOfMemory) }
 {
@@ -53,14 +54,14 @@ fn wants_memory(answer: Result<Option<u64>, Error>) -> bool
     }
 }
 
-/// The line of a step: what it answers, and the registers that it leaves. A step that wanted memory
-/// has no line: memory is wanted here too.
+/// The line of a step: its result, and the registers that it leaves. A step that ran out of memory has
+/// no line: this call fails too.
 pub(crate) fn step_line<A: DocumentModules>(
     alloc: Global,
     answer: Result<Option<u64>, Error>,
     registers: A::UnwindRegs,
 ) -> Result<String, AllocError>
-    ensures line { IfOk result (λ text. string_bytes text ≡ step_line A.shown answer registers) }
+    ensures line { IfOk result (λ text. string_bytes text ≡ step_line A.forms.text answer registers) }
     ensures memory { IfOk result (λ text. answer ≢ Err OutOfMemory) }
 {
     if wants_memory(answer) {

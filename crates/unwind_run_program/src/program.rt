@@ -1,15 +1,13 @@
-//! One run of the program: a document in, its answers out.
-ghost use Rattle.std.specs.Prelude.{◌≡◌, ◌↔◌, ◌≢◌, false, IsTrue, IfOk, IfErr, IfSome, IsErrOf, OnErr, OnOk};
-ghost use Rattle.std.specs.Io.KnownBytes.{Appends};
-ghost use Rattle.json_program.specs.Stream.{AppendsFront};
-ghost use Rattle.framehop_unwinder.specs.Attempt.{meanings};
-ghost use Rattle.unwind_run_session.specs.Turns.{beginning};
+//! One run of the program: a document in, the text of its commands out.
+
+ghost use Rattle.std.specs.Prelude.{◌≡◌, false};
+ghost use Rattle.json_program.specs.Errors.{ReportsFailures};
+ghost use Rattle.json_program.specs.Stream.{WritesText};
+ghost use Rattle.unwind_run_session.specs.Outputs.{beginning};
 ghost use Rattle.unwind_run_document.specs.Commands.{AreSound};
 ghost use Rattle.unwind_run_document.specs.Document.{nothing_made};
 ghost use Rattle.unwind_run_document.specs.CommandViews.{content_view, tasks_of};
-ghost use Rattle.unwind_run_program.specs.Registers.{register_forms};
-ghost use Rattle.unwind_run_program.specs.Sections.{data_stated};
-ghost use Rattle.unwind_run_program.specs.Text.{text_of, ending_of, content_lines, lines_of, sections_meanings, value_limit};
+ghost use Rattle.unwind_run_program.specs.Text.{text_of, ending_of, content_lines, lines_of, lines_under, sections_meanings, value_limit};
 
 use crate::arch::DocumentArch;
 use crate::perform::{DocumentModules, perform};
@@ -18,7 +16,7 @@ use framehop_modules::Generations;
 use framehop_rules::aarch64::ArchAarch64;
 use framehop_rules::x86_64::ArchX86_64;
 use framehop_unwinder::Session;
-use json_program::{Ending, Program, Refusal, RunError, Sink, write_all};
+use json_program::{DecodeError, Ending, Program, RunError, Sink, write_all};
 use std::alloc::Global;
 use unwind_run_document::{Architecture, Command, Document, Policy, decode};
 
@@ -43,28 +41,25 @@ impl Program for UnwindCommands {
                 run_document(alloc, document, writer)?;
                 Ok(Ending::Completed)
             }
-            Err(Refusal::Fault(fault)) => {
+            Err(DecodeError::Fault(fault)) => {
                 let line = format!(in alloc; "{fault}\n")?;
                 write_all(writer, line.as_bytes())?;
                 Ok(Ending::Faulted)
             }
-            Err(Refusal::OutOfMemory) => Err(RunError::OutOfMemory),
+            Err(DecodeError::OutOfMemory) => Err(RunError::OutOfMemory),
         }
     }
 
     ghost too_long = { too_long };
 }
 
-/// Carries out a document's commands under its policy.
+// Carries out a document's commands under its policy.
 fn run_document<W: Sink>(alloc: Global, document: Document, writer: &mut W) -> Result<(), RunError>
     requires writer { W.has_failed writer.old ≡ false }
     requires sound { AreSound nothing_made (tasks_of document.commands.items) }
-    ensures text { OnOk result (Appends (W.contents writer.old) (W.contents writer.new)
-        (content_lines (content_view document))) }
-    ensures write { IsErrOf result RunError.Write ↔ IsTrue (W.has_failed writer.new) }
-    ensures no_read { IfErr result (λ error. error ≢ RunError.Read) }
-    ensures begun { OnErr result (AppendsFront (W.contents writer.old) (W.contents writer.new)
-        (content_lines (content_view document))) }
+    ensures text { WritesText result (W.contents writer.old) (W.contents writer.new)
+        (content_lines (content_view document)) }
+    ensures errors { ReportsFailures result false (W.has_failed writer.new) }
 {
     let generation = document.generation;
     let commands = document.commands;
@@ -78,7 +73,7 @@ fn run_document<W: Sink>(alloc: Global, document: Document, writer: &mut W) -> R
     }
 }
 
-/// Carries out commands on an architecture under a policy.
+// Carries out commands on an architecture under a policy.
 fn run_on<A: DocumentArch, W: Sink>(
     alloc: Global,
     policy: Policy,
@@ -88,18 +83,10 @@ fn run_on<A: DocumentArch, W: Sink>(
 ) -> Result<(), RunError>
     requires writer { W.has_failed writer.old ≡ false }
     requires sound { AreSound nothing_made (tasks_of commands.items) }
-    ensures text { let m = sections_meanings A.UnwindRule.meaning A.UnwindRule.fallback
-        A.row_attempt A.uncovered (value_limit policy) in
-        let forms = register_forms A.of_stated A.shown in
-        OnOk result (Appends (W.contents writer.old) (W.contents writer.new)
-        (lines_of m forms data_stated (beginning generation) (tasks_of commands.items))) }
-    ensures write { IsErrOf result RunError.Write ↔ IsTrue (W.has_failed writer.new) }
-    ensures no_read { IfErr result (λ error. error ≢ RunError.Read) }
-    ensures begun { let m = sections_meanings A.UnwindRule.meaning A.UnwindRule.fallback
-        A.row_attempt A.uncovered (value_limit policy) in
-        let forms = register_forms A.of_stated A.shown in
-        OnErr result (AppendsFront (W.contents writer.old) (W.contents writer.new)
-        (lines_of m forms data_stated (beginning generation) (tasks_of commands.items))) }
+    ensures text { WritesText result (W.contents writer.old) (W.contents writer.new) (lines_under
+        (sections_meanings A.UnwindRule.meaning A.UnwindRule.fallback A.row_attempt A.uncovered)
+        A.forms (value_limit policy) generation (tasks_of commands.items)) }
+    ensures errors { ReportsFailures result false (W.has_failed writer.new) }
 {
     match policy {
         Policy::May => {
@@ -115,8 +102,8 @@ fn run_on<A: DocumentArch, W: Sink>(
     }
 }
 
-/// Carries out commands in their order, up to one that is refused, and writes what each of them
-/// writes. The counter of generations gives this number first.
+// Carries out commands in their order, up to one that is `refused`, and writes the text of each. The
+// counter of generations gives this number first.
 fn run_commands<A: DocumentModules, W: Sink>(
     alloc: Global,
     generation: u64,
@@ -125,16 +112,9 @@ fn run_commands<A: DocumentModules, W: Sink>(
 ) -> Result<(), RunError>
     requires writer { W.has_failed writer.old ≡ false }
     requires sound { AreSound nothing_made (tasks_of commands.items) }
-    ensures text { let m = meanings A.UnwindRule.meaning A.UnwindRule.fallback A.attempt in
-        let forms = register_forms A.of_stated A.shown in
-        OnOk result (Appends (W.contents writer.old) (W.contents writer.new)
-        (lines_of m forms A.data_of (beginning generation) (tasks_of commands.items))) }
-    ensures write { IsErrOf result RunError.Write ↔ IsTrue (W.has_failed writer.new) }
-    ensures no_read { IfErr result (λ error. error ≢ RunError.Read) }
-    ensures begun { let m = meanings A.UnwindRule.meaning A.UnwindRule.fallback A.attempt in
-        let forms = register_forms A.of_stated A.shown in
-        OnErr result (AppendsFront (W.contents writer.old) (W.contents writer.new)
-        (lines_of m forms A.data_of (beginning generation) (tasks_of commands.items))) }
+    ensures text { WritesText result (W.contents writer.old) (W.contents writer.new)
+        (lines_of A.meanings A.forms A.data_of (beginning generation) (tasks_of commands.items)) }
+    ensures errors { ReportsFailures result false (W.has_failed writer.new) }
 {
     commands.reverse();
     let mut session = Session::<A>::new(alloc, Generations::starting_at(generation));

@@ -1,8 +1,7 @@
-//! The lines of the steps by each road, over a module of their own.
+//! The lines of the command `roads`: one step by each lookup of the entry, over a module of its own.
+
 ghost use Rattle.std.specs.Prelude.{◌≡◌, ◌≢◌, ◌+◌, ◌∷◌, ◌++◌, ◌^◌, [], IfOk, codes, string_bytes, Some};
 ghost use Rattle.framehop_registers.specs.Callback.{read_answer};
-ghost use Rattle.framehop_unwinder.specs.Attempt.{meanings};
-ghost use Rattle.unwind_run_program.specs.Registers.{register_forms};
 ghost use Rattle.unwind_run_document.specs.CommandViews.{roads_view, section_view, sections_view, tables_view, words_view};
 ghost use Rattle.unwind_run_program.specs.Roads.{address_behind, stated_header, section_at, stated_section};
 ghost use Rattle.unwind_run_program.specs.Text.{road_line, road_lines, words_of};
@@ -13,27 +12,32 @@ use crate::perform::{DocumentModules, frame_address, word_at};
 use framehop_unwinder::Module;
 use std::alloc::{AllocError, Global};
 use std::fmt;
-use unwind_run_document::{AddressRange, Roads, Section, Tables};
+use unwind_run_document::{AddressRange, RoadsCommand, StatedSection, StatedTables};
 use unwind_run_session::step_alone;
 
-/// How many addresses the module has, as far as there are so many.
+/// The length of the module, if the addresses after its start are that many.
 const MODULE_LENGTH: u64 = 1 << 32;
 
-/// A section of these bytes at its stated start.
-fn section_at(alloc: Global, name: &str, start: u64, bytes: &Vec<u8>) -> Result<Section, AllocError>
+// A section of these bytes at its stated start.
+fn section_at(
+    alloc: Global,
+    name: &str,
+    start: u64,
+    bytes: &Vec<u8>,
+) -> Result<StatedSection, AllocError>
     ensures { IfOk result (λ section.
         section_view section ≡ section_at name.now start bytes.now.items) }
 {
     let end = start.saturating_add(bytes.len() as u64);
-    Ok(Section {
+    Ok(StatedSection {
         name: String::from_str(alloc, name)?,
         range: Some(AddressRange { start, end }),
         bytes: Some(bytes.clone()?),
     })
 }
 
-/// The section of call frames alone.
-fn section_alone(alloc: Global, tables: &Tables) -> Result<Vec<Section>, AllocError>
+// The section of call frames alone.
+fn section_alone(alloc: Global, tables: &StatedTables) -> Result<Vec<StatedSection>, AllocError>
     ensures { IfOk result (λ sections.
         sections_view sections.items ≡ stated_section (tables_view tables.now) ∷ []) }
 {
@@ -43,8 +47,11 @@ fn section_alone(alloc: Global, tables: &Tables) -> Result<Vec<Section>, AllocEr
     Ok(sections)
 }
 
-/// The section of call frames with its header.
-fn section_with_header(alloc: Global, tables: &Tables) -> Result<Vec<Section>, AllocError>
+// The section of call frames with its header.
+fn section_with_header(
+    alloc: Global,
+    tables: &StatedTables,
+) -> Result<Vec<StatedSection>, AllocError>
     ensures { IfOk result (λ sections. let tables = tables_view tables.now in
         sections_view sections.items ≡ stated_section tables ∷ stated_header tables ∷ []) }
 {
@@ -54,17 +61,15 @@ fn section_with_header(alloc: Global, tables: &Tables) -> Result<Vec<Section>, A
     Ok(sections)
 }
 
-/// The line of the step by one road: over a module that has this to be unwound by.
+// The line of the step by one lookup: over a module with this unwind data.
 fn road_line<A: DocumentModules>(
     alloc: Global,
-    roads: &Roads,
+    roads: &RoadsCommand,
     unwind_data: A::UnwindData,
 ) -> Result<String, AllocError>
     requires { roads.now.kind ≡ Ra → roads.now.address ≢ 0 }
-    ensures { let m = meanings A.UnwindRule.meaning A.UnwindRule.fallback A.attempt in
-        let forms = register_forms A.of_stated A.shown in
-        IfOk result (λ text. string_bytes text
-        ≡ road_line m forms (roads_view roads.now) unwind_data) }
+    ensures { IfOk result (λ text. string_bytes text
+        ≡ road_line A.meanings A.forms (roads_view roads.now) unwind_data) }
 {
     let start = roads.tables.base_svma;
     let range = start..start.saturating_add(MODULE_LENGTH);
@@ -88,7 +93,7 @@ fn road_line<A: DocumentModules>(
     step_line::<A>(alloc, answer, regs)
 }
 
-/// Shows three lines, each behind the name of its road.
+/// Shows three lines, each after the name of its lookup.
 #[derive(Clone, Copy)]
 struct NamedLines<'a> {
     header: &'a str,
@@ -111,13 +116,11 @@ impl fmt::Display for NamedLines<'_> {
 /// section.
 pub(crate) fn road_lines<A: DocumentModules>(
     alloc: Global,
-    roads: &Roads,
+    roads: &RoadsCommand,
 ) -> Result<String, AllocError>
     requires { roads.now.kind ≡ Ra → roads.now.address ≢ 0 }
-    ensures { let m = meanings A.UnwindRule.meaning A.UnwindRule.fallback A.attempt in
-        let forms = register_forms A.of_stated A.shown in
-        IfOk result (λ text. string_bytes text
-        ≡ road_lines m forms A.data_of (roads_view roads.now)) }
+    ensures { IfOk result (λ text. string_bytes text
+        ≡ road_lines A.meanings A.forms A.data_of (roads_view roads.now)) }
 {
     let tables = &roads.tables;
     let base_svma = tables.base_svma;

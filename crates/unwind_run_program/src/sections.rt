@@ -1,9 +1,10 @@
 //! The sections of a load, as a module is made of them.
+
 ghost use Rattle.std.specs.Prelude.{◌≡◌, ◌<◌, None, IsSome, IfSome, IfNone, length};
 ghost use Rattle.std.specs.List.{slice_index_or};
 ghost use Rattle.unwind_run_document.specs.CommandViews.{section_view, sections_view};
-ghost use Rattle.unwind_run_program.specs.Sections.{first_data_named, range_named};
-ghost use Rattle.unwind_run_document.specs.declared.command.Section.{Section};
+ghost use Rattle.unwind_run_program.specs.Sections.{first_data_named, stated_range_named};
+ghost use Rattle.unwind_run_document.specs.declared.command.StatedSection.{StatedSection as Stated};
 
 use crate::arch::DocumentArch;
 use crate::perform::DocumentModules;
@@ -11,21 +12,21 @@ use framehop::{AllocationPolicy, BySections, DwarfUnwindContext, ModuleUnwindDat
 use framehop_modules::ModuleSectionInfo;
 use std::alloc::{AllocError, Global};
 use std::ops::Range;
-use unwind_run_document::{Section, StatedRegisters};
+use unwind_run_document::{StatedRegisters, StatedSection};
 
-/// The sections of a load, whose stated addresses count from an address.
+/// The sections of a load, whose stated addresses are relative to an address.
 #[derive(Debug, Drop)]
 pub(crate) struct StatedSections {
     base_svma: u64,
-    sections: Vec<Section>,
+    sections: Vec<StatedSection>,
 }
 
 impl StatedSections {
     ghost use Rattle.unwind_run_program.specs.SectionViews.{stated};
     ghost use Rattle.unwind_run_program.specs.Sections.{sections_stated};
 
-    /// Sections whose stated addresses count from `base_svma`.
-    pub(crate) fn new(base_svma: u64, sections: Vec<Section>) -> Self
+    /// Sections whose stated addresses are relative to `base_svma`.
+    pub(crate) fn new(base_svma: u64, sections: Vec<StatedSection>) -> Self
         ensures { stated result ≡ sections_stated base_svma (sections_view sections.items) }
     {
         StatedSections {
@@ -35,12 +36,12 @@ impl StatedSections {
     }
 }
 
-/// The place of the first section that has this name and data.
-fn place_of(sections: &[Section], name: &[u8]) -> Option<usize>
+// The index of the first section that has this name and data.
+fn place_of(sections: &[StatedSection], name: &[u8]) -> Option<usize>
     ensures within { IfSome result (λ i. i < length sections.now) }
-    ensures named { IfSome result (λ i. (d : Section)
+    ensures named { IfSome result (λ i. (d : Stated)
         → (section_view (slice_index_or sections.now i d)).name ≡ name.now) }
-    ensures data_ { IfSome result (λ i. (d : Section)
+    ensures data_ { IfSome result (λ i. (d : Stated)
         → first_data_named name.now (sections_view sections.now)
         ≡ (section_view (slice_index_or sections.now i d)).bytes) }
     ensures has_data { IfSome result (λ _.
@@ -55,9 +56,9 @@ fn place_of(sections: &[Section], name: &[u8]) -> Option<usize>
     None
 }
 
-/// The range of the first section that has this name and a range.
-fn range_of(sections: &[Section], name: &[u8]) -> Option<Range<u64>>
-    ensures { result ≡ range_named name.now (sections_view sections.now) }
+// The range of the first section that has this name and a range.
+fn range_of(sections: &[StatedSection], name: &[u8]) -> Option<Range<u64>>
+    ensures { result ≡ stated_range_named name.now (sections_view sections.now) }
 {
     for section in sections {
         if section.name.as_bytes() == name {
@@ -104,20 +105,18 @@ impl<A: DocumentArch, P: AllocationPolicy> DocumentModules for BySections<A, Vec
     fn unwind_data(
         alloc: Global,
         base_svma: u64,
-        sections: Vec<Section>,
+        sections: Vec<StatedSection>,
     ) -> Result<ModuleUnwindData<Vec<u8>>, AllocError> {
         let mut info = StatedSections::new(base_svma, sections);
         ModuleUnwindData::new(alloc, &mut info)
     }
 
-    fn scanned_data(base_svma: u64, sections: Vec<Section>) -> ModuleUnwindData<Vec<u8>> {
+    fn scanned_data(base_svma: u64, sections: Vec<StatedSection>) -> ModuleUnwindData<Vec<u8>> {
         let mut info = StatedSections::new(base_svma, sections);
         ModuleUnwindData::scanning(&mut info)
     }
 
-    ghost of_stated = { A.of_stated };
-
-    ghost shown = { A.shown };
+    ghost forms = { A.forms };
 
     fn stated_registers(stated: StatedRegisters) -> A::UnwindRegs {
         A::stated_registers(stated)

@@ -12,28 +12,28 @@ use Rattle.framehop_unwinder.specs.Frames.{Frame}
 use Rattle.framehop_unwinder.specs.History.{KeyHistory, HaveHistories}
 use Rattle.framehop_unwinder.specs.Judge.{judge}
 use Rattle.framehop_unwinder.specs.Modules.{Loaded, Loads}
-use Rattle.framehop_unwinder.specs.State.{State, unwinder_at, histories_after_move}
+use Rattle.framehop_unwinder.specs.State.{SessionState, unwinder_at, histories_after_move}
 use Rattle.framehop_unwinder.specs.Trials.{wants_memory}
 use Rattle.framehop_unwinder.specs.Walk.{Walk, Move, Judgment, move}
-use Rattle.framehop_unwinder.specs.Progress.{Progress, IsAt, modules_in}
-use Rattle.unwind_run_session.specs.Turns.{ComesTo, move_line, move_lines, gives_frame, walk_lines, if_goes_on, walk_histories, turn_of_walk}
+use Rattle.framehop_unwinder.specs.Progress.{SessionModel, IsAt, modules_in}
+use Rattle.unwind_run_session.specs.Outputs.{IsOutput, move_line, move_lines, gives_frame, walk_lines, if_goes_on, walk_histories, output_of_walk}
 
 -- What is written so far, and what the moves that are left write and leave, make what the whole walk writes and leaves.
 pub record SoFar {Data Rule Registers : Type 0} (m : Meanings Data Rule Registers) (words : Words) (limit unwinder cache : ℕ)
-    (first : Walk Registers) (progress : Progress Data) (left : ℕ) (now : Walk Registers) (text : List ℕ) (state : State Data Rule) : Type 0 where
+    (first : Walk Registers) (model : SessionModel Data) (left : ℕ) (now : Walk Registers) (text : List ℕ) (state : SessionState Data Rule) : Type 0 where
   pub histories : List KeyHistory
   pub have : HaveHistories histories state.caches
-  pub lines : text ++ walk_lines (judge m (modules_in unwinder progress)) words left now ≡ walk_lines (judge m (modules_in unwinder progress)) words limit first
-  pub after : walk_histories m words (unwinder_at progress.unwinders unwinder) cache left now histories
-      ≡ walk_histories m words (unwinder_at progress.unwinders unwinder) cache limit first progress.histories
+  pub lines : text ++ walk_lines (judge m (modules_in unwinder model)) words left now ≡ walk_lines (judge m (modules_in unwinder model)) words limit first
+  pub after : walk_histories m words (unwinder_at model.unwinders unwinder) cache left now histories
+      ≡ walk_histories m words (unwinder_at model.unwinders unwinder) cache limit first model.histories
 
 -- nothing is written yet
-pub begins : {Data Rule Registers : Type 0} (m : Meanings Data Rule Registers) (words : Words) (limit unwinder cache : ℕ) (first : Walk Registers) (progress : Progress Data) (text : List ℕ) (state : State Data Rule)
-    → IsAt progress state → text ≡ [] → SoFar m words limit unwinder cache first progress limit first text state
-begins m words limit unwinder cache first progress text state at none = record {
-  histories = progress.histories;
+pub begins : {Data Rule Registers : Type 0} (m : Meanings Data Rule Registers) (words : Words) (limit unwinder cache : ℕ) (first : Walk Registers) (model : SessionModel Data) (text : List ℕ) (state : SessionState Data Rule)
+    → IsAt model state → text ≡ [] → SoFar m words limit unwinder cache first model limit first text state
+begins m words limit unwinder cache first model text state at none = record {
+  histories = model.histories;
   have = at.histories;
-  lines = ap (λ (xs : List ℕ). xs ++ walk_lines (judge m (modules_in unwinder progress)) words limit first) none;
+  lines = ap (λ (xs : List ℕ). xs ++ walk_lines (judge m (modules_in unwinder model)) words limit first) none;
   after = refl;
 }
 
@@ -45,40 +45,40 @@ step_lines j words left walk made is = ap (λ x. move_lines x.answer (walk_lines
 step_histories : {Data Rule Registers : Type 0} (m : Meanings Data Rule Registers) (words : Words) (loads : Loads (Loaded Data)) (cache left : ℕ) (walk : Walk Registers) (histories : List KeyHistory) (made : Move Registers)
     → made ≡ move (judge m loads.modules) words walk
     → walk_histories m words loads cache (suc left) walk histories
-    ≡ if_goes_on made.answer (walk_histories m words loads cache left made.walk (histories_after_move m false walk.place loads cache histories)) (histories_after_move m false walk.place loads cache histories)
+    ≡ if_goes_on made.answer (walk_histories m words loads cache left made.walk (histories_after_move m false walk.position loads cache histories)) (histories_after_move m false walk.position loads cache histories)
 step_histories m words loads cache left walk histories made is =
-    ap (λ x. if_goes_on x.answer (walk_histories m words loads cache left x.walk (histories_after_move m false walk.place loads cache histories)) (histories_after_move m false walk.place loads cache histories)) (sym is)
+    ap (λ x. if_goes_on x.answer (walk_histories m words loads cache left x.walk (histories_after_move m false walk.position loads cache histories)) (histories_after_move m false walk.position loads cache histories)) (sym is)
 
--- What is written and left once a move was made, and what follows where it gave a frame, make what the whole walk writes and leaves.
+-- What is written after a move, with what follows if it gave a frame, is what the whole walk writes; and so with the histories.
 pub record AfterMove {Data Rule Registers : Type 0} (m : Meanings Data Rule Registers) (words : Words) (limit unwinder cache : ℕ)
-    (first : Walk Registers) (progress : Progress Data) (left : ℕ) (next : Walk Registers) (given : Bool) (text : List ℕ) (state : State Data Rule) : Type 0 where
+    (first : Walk Registers) (model : SessionModel Data) (left : ℕ) (next : Walk Registers) (given : Bool) (text : List ℕ) (state : SessionState Data Rule) : Type 0 where
   pub histories : List KeyHistory
   pub have : HaveHistories histories state.caches
-  pub lines : text ++ cond given (walk_lines (judge m (modules_in unwinder progress)) words left next) [] ≡ walk_lines (judge m (modules_in unwinder progress)) words limit first
-  pub after : cond given (walk_histories m words (unwinder_at progress.unwinders unwinder) cache left next histories) histories
-      ≡ walk_histories m words (unwinder_at progress.unwinders unwinder) cache limit first progress.histories
+  pub lines : text ++ cond given (walk_lines (judge m (modules_in unwinder model)) words left next) [] ≡ walk_lines (judge m (modules_in unwinder model)) words limit first
+  pub after : cond given (walk_histories m words (unwinder_at model.unwinders unwinder) cache left next histories) histories
+      ≡ walk_histories m words (unwinder_at model.unwinders unwinder) cache limit first model.histories
 
 -- a move more, whose line is written
-pub after_move : {Data Rule Registers : Type 0} (m : Meanings Data Rule Registers) (words : Words) (limit unwinder cache : ℕ) (first : Walk Registers) (progress : Progress Data)
-    (before left : ℕ) (now next : Walk Registers) (text more : List ℕ) (old new : State Data Rule) (answer : Result (Option Frame) Error) (given wanted : Bool)
-    → before ≡ suc left → SoFar m words limit unwinder cache first progress before now text old
-    → old.unwinders ≡ progress.unwinders
+pub after_move : {Data Rule Registers : Type 0} (m : Meanings Data Rule Registers) (words : Words) (limit unwinder cache : ℕ) (first : Walk Registers) (model : SessionModel Data)
+    (before left : ℕ) (now next : Walk Registers) (text more : List ℕ) (old new : SessionState Data Rule) (answer : Result (Option Frame) Error) (given wanted : Bool)
+    → before ≡ suc left → SoFar m words limit unwinder cache first model before now text old
+    → old.unwinders ≡ model.unwinders
     → record { answer = answer; walk = next } ≡ move (judge m (unwinder_at old.unwinders unwinder).modules) words now
     → wanted ≡ false
-    → ((histories : List KeyHistory) → HaveHistories histories old.caches → HaveHistories (histories_after_move m wanted now.place (unwinder_at old.unwinders unwinder) cache histories) new.caches)
+    → ((histories : List KeyHistory) → HaveHistories histories old.caches → HaveHistories (histories_after_move m wanted now.position (unwinder_at old.unwinders unwinder) cache histories) new.caches)
     → more ≡ text ++ move_line answer → given ≡ gives_frame answer
-    → AfterMove m words limit unwinder cache first progress left next given more new
-after_move {Data} m words limit unwinder cache first progress before left now next text more old new answer given wanted one_more so_far_before same moved unwanted keeps added gave =
-    let j = judge m (modules_in unwinder progress) in
-    let loads = unwinder_at progress.unwinders unwinder in
+    → AfterMove m words limit unwinder cache first model left next given more new
+after_move {Data} m words limit unwinder cache first model before left now next text more old new answer given wanted one_more so_far_before same moved unwanted keeps added gave =
+    let j = judge m (modules_in unwinder model) in
+    let loads = unwinder_at model.unwinders unwinder in
     let made : Move _ = record { answer = answer; walk = next } in
-    let so_far = subst (λ (n : ℕ). SoFar m words limit unwinder cache first progress n now text old) one_more so_far_before in
+    let so_far = subst (λ (n : ℕ). SoFar m words limit unwinder cache first model n now text old) one_more so_far_before in
     let is = subst (λ (us : List (Loads (Loaded Data))). record { answer = answer; walk = next } ≡ move (judge m (unwinder_at us unwinder).modules) words now) same moved in
-    let kept = subst (λ (us : List (Loads (Loaded Data))). HaveHistories (histories_after_move m false now.place (unwinder_at us unwinder) cache so_far.histories) new.caches) same
-    (subst (λ (b : Bool). HaveHistories (histories_after_move m b now.place (unwinder_at old.unwinders unwinder) cache so_far.histories) new.caches) unwanted (keeps so_far.histories so_far.have)) in
-    let after = histories_after_move m false now.place loads cache so_far.histories in
+    let kept = subst (λ (us : List (Loads (Loaded Data))). HaveHistories (histories_after_move m false now.position (unwinder_at us unwinder) cache so_far.histories) new.caches) same
+    (subst (λ (b : Bool). HaveHistories (histories_after_move m b now.position (unwinder_at old.unwinders unwinder) cache so_far.histories) new.caches) unwanted (keeps so_far.histories so_far.have)) in
+    let after = histories_after_move m false now.position loads cache so_far.histories in
     let rest = cond (gives_frame answer) (walk_lines j words left next) [] in
-    subst (λ (b : Bool). AfterMove m words limit unwinder cache first progress left next b more new) (sym gave)
+    subst (λ (b : Bool). AfterMove m words limit unwinder cache first model left next b more new) (sym gave)
     (record {
       histories = after;
       have = kept;
@@ -91,26 +91,26 @@ after_move {Data} m words limit unwinder cache first progress before left now ne
     })
 
 -- a frame more
-pub goes_on : {Data Rule Registers : Type 0} (m : Meanings Data Rule Registers) (words : Words) (limit unwinder cache : ℕ) (first : Walk Registers) (progress : Progress Data)
-    (left : ℕ) (next : Walk Registers) (given : Bool) (text : List ℕ) (state : State Data Rule)
-    → AfterMove m words limit unwinder cache first progress left next given text state → given ≡ true
-    → SoFar m words limit unwinder cache first progress left next text state
-goes_on m words limit unwinder cache first progress left next given text state moved gave =
-    let so_far = subst (λ (b : Bool). AfterMove m words limit unwinder cache first progress left next b text state) gave moved in
+pub goes_on : {Data Rule Registers : Type 0} (m : Meanings Data Rule Registers) (words : Words) (limit unwinder cache : ℕ) (first : Walk Registers) (model : SessionModel Data)
+    (left : ℕ) (next : Walk Registers) (given : Bool) (text : List ℕ) (state : SessionState Data Rule)
+    → AfterMove m words limit unwinder cache first model left next given text state → given ≡ true
+    → SoFar m words limit unwinder cache first model left next text state
+goes_on m words limit unwinder cache first model left next given text state moved gave =
+    let so_far = subst (λ (b : Bool). AfterMove m words limit unwinder cache first model left next b text state) gave moved in
     record { histories = so_far.histories; have = so_far.have; lines = so_far.lines; after = so_far.after }
 
 -- a move that gives no frame ends the walk
-pub stops : {Data Rule Registers : Type 0} (m : Meanings Data Rule Registers) (words : Words) (limit unwinder cache : ℕ) (first : Walk Registers) (progress : Progress Data)
-    (left : ℕ) (next : Walk Registers) (given : Bool) (text more : List ℕ) (start state : State Data Rule) (refused : Bool)
-    → AfterMove m words limit unwinder cache first progress left next given text state → given ≡ false
-    → more ≡ text → refused ≡ false → IsAt progress start → state.unwinders ≡ start.unwinders → state.next ≡ start.next
-    → ComesTo (turn_of_walk m words limit unwinder cache first progress) more refused state
-stops m words limit unwinder cache first progress left next given text more start state refused moved gave same carried at unwinders next_is =
-    let so_far = subst (λ (b : Bool). AfterMove m words limit unwinder cache first progress left next b text state) gave moved in
+pub stops : {Data Rule Registers : Type 0} (m : Meanings Data Rule Registers) (words : Words) (limit unwinder cache : ℕ) (first : Walk Registers) (model : SessionModel Data)
+    (left : ℕ) (next : Walk Registers) (given : Bool) (text more : List ℕ) (start state : SessionState Data Rule) (refused : Bool)
+    → AfterMove m words limit unwinder cache first model left next given text state → given ≡ false
+    → more ≡ text → refused ≡ false → IsAt model start → state.unwinders ≡ start.unwinders → state.next ≡ start.next
+    → IsOutput (output_of_walk m words limit unwinder cache first model) more refused state
+stops m words limit unwinder cache first model left next given text more start state refused moved gave same carried at unwinders next_is =
+    let so_far = subst (λ (b : Bool). AfterMove m words limit unwinder cache first model left next b text state) gave moved in
     record {
       text = same ∙ sym (append-nil text) ∙ so_far.lines;
       is_refused = carried;
-      progress = record {
+      model = record {
         unwinders = unwinders ∙ at.unwinders;
         next = next_is ∙ at.next;
         histories = subst (λ (h : List KeyHistory). HaveHistories h state.caches) so_far.after so_far.have;
@@ -118,22 +118,22 @@ stops m words limit unwinder cache first progress left next given text more star
     }
 
 -- no move is left
-pub reaches_limit : {Data Rule Registers : Type 0} (m : Meanings Data Rule Registers) (words : Words) (limit unwinder cache : ℕ) (first : Walk Registers) (progress : Progress Data)
-    (now : Walk Registers) (text more : List ℕ) (start state : State Data Rule) (refused : Bool)
-    → SoFar m words limit unwinder cache first progress zero now text state
-    → more ≡ text ++ line (codes "limit") → refused ≡ false → IsAt progress start → state.unwinders ≡ start.unwinders → state.next ≡ start.next
-    → ComesTo (turn_of_walk m words limit unwinder cache first progress) more refused state
-reaches_limit m words limit unwinder cache first progress now text more start state refused so_far added carried at unwinders next_is = record {
+pub reaches_limit : {Data Rule Registers : Type 0} (m : Meanings Data Rule Registers) (words : Words) (limit unwinder cache : ℕ) (first : Walk Registers) (model : SessionModel Data)
+    (now : Walk Registers) (text more : List ℕ) (start state : SessionState Data Rule) (refused : Bool)
+    → SoFar m words limit unwinder cache first model zero now text state
+    → more ≡ text ++ line (codes "limit") → refused ≡ false → IsAt model start → state.unwinders ≡ start.unwinders → state.next ≡ start.next
+    → IsOutput (output_of_walk m words limit unwinder cache first model) more refused state
+reaches_limit m words limit unwinder cache first model now text more start state refused so_far added carried at unwinders next_is = record {
   text = added ∙ so_far.lines;
   is_refused = carried;
-  progress = record {
+  model = record {
     unwinders = unwinders ∙ at.unwinders;
     next = next_is ∙ at.next;
     histories = subst (λ (h : List KeyHistory). HaveHistories h state.caches) so_far.after so_far.have;
   };
 }
 
--- an error other than want of memory
+-- an error other than out of memory
 pub not_wanted : (error : Error) → error ≢ OutOfMemory → wants_memory {A = Option FrameAddress} (Err error) ≡ false
 not_wanted (CouldNotReadStack address) other = refl
 not_wanted FramepointerUnwindingMovedBackwards other = refl

@@ -6,7 +6,7 @@ use Rattle.framehop_registers.specs.declared.error.Error.TheVariants.{CouldNotRe
 use Rattle.framehop_rules.specs.declared.rule_cache.CacheStats.{CacheStats}
 use Rattle.framehop_unwinder.specs.Frames.{Frame}
 
--- the name of an error, and the address that couldn't be read
+-- the name of an error, with the address that couldn't be read
 abbrev pub error_name : Error → List ℕ
 error_name (CouldNotReadStack address) = codes "CouldNotReadStack(" ++ hexadecimal address ++ codes ")"
 error_name FramepointerUnwindingMovedBackwards = codes "FramepointerUnwindingMovedBackwards"
@@ -19,7 +19,7 @@ error_name OutOfMemory = codes "OutOfMemory"
 abbrev pub frame_text : Frame → List ℕ
 frame_text frame = (if frame.is_first then codes "frame ip " else codes "frame ra ") ++ hexadecimal frame.address
 
--- the counts of a cache: of look-ups that found a rule, and of the three ways of finding none
+-- the counts of a cache: of lookups that found a rule, and of the three ways of finding none
 abbrev pub counts_text : CacheStats → List ℕ
 counts_text counts =
     codes "stats hits " ++ decimal counts.hit_count ++ codes " empty " ++ decimal counts.miss_empty_slot_count

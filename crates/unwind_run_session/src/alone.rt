@@ -1,8 +1,8 @@
 //! A step over one module alone.
+
 ghost use Rattle.std.specs.Prelude.{◌≡◌, ◌∷◌, [], false, OnErr};
 ghost use Rattle.framehop_registers.specs.Callback.{OverWords};
 ghost use Rattle.framehop_rules.specs.Outcome.{IsStep};
-ghost use Rattle.framehop_unwinder.specs.Attempt.{meanings};
 ghost use Rattle.framehop_unwinder.specs.Frames.{frame_of};
 ghost use Rattle.framehop_unwinder.specs.Judge.{judge};
 ghost use Rattle.framehop_unwinder.specs.Trials.{wants_memory};
@@ -12,8 +12,9 @@ use framehop_rules::{Error, FrameAddress};
 use framehop_unwinder::{Cache, Module, UnwinderInternal, Unwinding};
 use std::alloc::Global;
 
-/// Makes the step from a frame over one module, through a new cache with this room. Want of memory for
-/// either is answered as that of the step, and changes nothing.
+/// Makes the step from a frame over one module, through a new cache with this context. If memory for
+/// the module or the cache can't be allocated, the error is the step's `OutOfMemory`, and the registers
+/// stay as they are.
 pub fn step_alone<A: Unwinding, F: FnMut(u64) -> Result<u64, ()>>(
     alloc: Global,
     module: Module<A::UnwindData>,
@@ -23,10 +24,9 @@ pub fn step_alone<A: Unwinding, F: FnMut(u64) -> Result<u64, ()>>(
     read_stack: &mut F,
 ) -> Result<Option<u64>, Error>
     requires { F.IsAlwaysCallable read_stack.old }
-    ensures step { let m = meanings A.UnwindRule.meaning A.UnwindRule.fallback A.attempt in
-        OverWords F.step read_stack.old read_stack.new (λ words. wants_memory result ≡ false
+    ensures step { OverWords F.step read_stack.old read_stack.new (λ words. wants_memory result ≡ false
         → IsStep result regs.old regs.new
-        (judge m («module» ∷ []) (frame_of address) regs.old words)) }
+        (judge A.meanings («module» ∷ []) (frame_of address) regs.old words)) }
     ensures error_keeps { OnErr result (regs.new ≡ regs.old) }
 {
     let mut generations = Generations::starting_at(0);

@@ -1,11 +1,11 @@
-//! What the commands of a document come to in a session of unwinders and caches, and the lines
-//! that they write, on any architecture and whatever modules are unwound by.
+//! The commands of a document, carried out in a session of unwinders and caches, and the lines that
+//! they write, on any architecture, for every kind of data that modules are unwound by.
 #![tactic(auto)]
 
 mod alone;
+mod commands;
 mod lines;
-mod turns;
 
 pub use alone::step_alone;
+pub use commands::{Written, add_cache, add_unwinder, clone_unwinder, load, stats, unload, walk};
 pub use lines::ErrorName;
-pub use turns::{Written, add_cache, add_unwinder, clone_unwinder, load, stats, unload, walk};

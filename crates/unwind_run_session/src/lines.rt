@@ -1,4 +1,5 @@
 //! The lines of walks and of counts. Each ends with a line feed.
+
 ghost use Rattle.std.specs.Prelude.{◌≡◌, ◌≢◌, ◌++◌, Some, IfOk, codes, string_bytes};
 ghost use Rattle.json_program.specs.Lines.{line};
 ghost use Rattle.framehop_registers.specs.declared.error.Error.TheVariants.{OutOfMemory};
@@ -55,8 +56,7 @@ pub(crate) fn frame_line(alloc: Global, frame: FrameAddress) -> Result<String, A
     format!(in alloc; "{}\n", FrameText(frame))
 }
 
-/// The line of a walk that is refused. Where memory was wanted there is none: memory is wanted here
-/// too.
+/// The line of a walk that ends with an error. There is none if memory ran out: this call fails too.
 pub(crate) fn stop_line(alloc: Global, error: Error) -> Result<String, AllocError>
     ensures line { IfOk result (λ text.
         string_bytes text ≡ line (codes "stop " ++ error_name error)) }

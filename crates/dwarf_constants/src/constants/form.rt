@@ -1,4 +1,5 @@
 //! Forms of attributes.
+
 ghost use Rattle.std.specs.Prelude.{◌≡◌, Some, option_map, codes};
 ghost use Rattle.dwarf_constants.specs.Names.{name_in, shown_code, form_names};
 

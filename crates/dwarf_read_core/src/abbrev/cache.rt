@@ -7,7 +7,7 @@ ghost use Rattle.std.specs.Ordering.{nat_cmp};
 ghost use Rattle.dwarf_offsets.specs.declared.DebugAbbrevOffset.{DebugAbbrevOffset};
 ghost use Rattle.dwarf_constants.specs.declared.error.Error.TheVariants as error;
 ghost use Rattle.dwarf_read_core.specs.AbbreviationTable.{GivesOrMemory, table_in};
-ghost use Rattle.dwarf_read_core.specs.AbbreviationsCache.{KeepsSame, cached_answer, is_kept, kept_answer, populated_answer, table_answer};
+ghost use Rattle.dwarf_read_core.specs.AbbreviationsCache.{KeepsPopulated, KeepsSame, cached_answer, is_kept, kept_answer, table_answer};
 ghost use Rattle.dwarf_read_core.specs.declared.abbrev.cache.AbbreviationsCacheStrategy.TheVariants as strategies;
 ghost use Rattle.dwarf_read_core.specs.DebugAbbrev.{declarations};
 
@@ -22,9 +22,9 @@ use std::rc::Rc;
 /// Which offsets [`AbbreviationsCache::populate`] keeps tables for.
 #[derive(Debug, Clone, Copy, PartialEq, Eq)]
 pub enum AbbreviationsCacheStrategy {
-    /// Those that come twice or more.
+    /// Those that are given twice or more.
     Duplicates,
-    /// All that come.
+    /// All that are given.
     All,
 }
 
@@ -36,7 +36,7 @@ pub struct AbbreviationsCache {
 }
 
 impl AbbreviationsCache {
-    /// A cache that keeps nothing. It takes no memory yet.
+    /// A cache that keeps nothing. It doesn't allocate.
     pub fn new(alloc: Global) -> AbbreviationsCache
         ensures { (q : ℕ) → kept_answer result q ≡ None }
     {
@@ -46,9 +46,9 @@ impl AbbreviationsCache {
         }
     }
 
-    /// Keeps what the section says at the offsets of the strategy, a table or an error, and drops
-    /// all that was kept before. Fails with the iterator's first error, or with want of memory,
-    /// which is never kept; the cache is then as before.
+    /// Keeps what the section has at the offsets of the strategy, a table or an error, and drops all
+    /// that was kept before. Fails with the iterator's first error, or if there is no memory, which is
+    /// an error that is never kept. The cache is then as before.
     pub fn populate<R: Reader, I: Iterator<Item = Result<DebugAbbrevOffset<R::Offset>>> + Drop>(
         &mut self,
         strategy: AbbreviationsCacheStrategy,
@@ -59,8 +59,8 @@ impl AbbreviationsCache {
         requires ends { IsFinite (I.remaining offsets) }
         ensures populated { OnOk result ((came : List (DebugAbbrevOffset R.Offset))
             × Drains I.next_gives offsets (map (λ o. Ok o) came)
-            × ((q : ℕ) → kept_answer self.new q ≡ populated_answer strategy
-            (map (λ o. R.Offset.value o.0) came) (R.stretch debug_abbrev.now) q)) }
+            × KeepsPopulated R.Offset.value strategy came (R.stretch debug_abbrev.now)
+            self.new) }
         ensures refused { IfErr result (λ e. (e ≡ error.OutOfMemory)
             ⊎ ((came : List (DebugAbbrevOffset R.Offset)) × (left : I)
             × YieldsThen I.next_gives offsets (map (λ o. Ok o) came) (Some (Err e)) left)) }
@@ -80,7 +80,7 @@ impl AbbreviationsCache {
         Ok(())
     }
 
-    // Keeps what the section says at an offset, if nothing is kept for it.
+    // Keeps what the section has at an offset, if nothing is kept for it.
     fn keep<R: Reader>(
         &mut self,
         debug_abbrev: &DebugAbbrev<R>,
@@ -101,7 +101,7 @@ impl AbbreviationsCache {
         Ok(())
     }
 
-    /// Keeps a table for an offset, in place of what was kept for it. Where memory is wanting, the
+    /// Keeps a table for an offset, in place of what was kept for it. If it fails to allocate, the
     /// cache is as before.
     pub fn set<Offset: ReaderOffset>(
         &mut self,
@@ -118,8 +118,8 @@ impl AbbreviationsCache {
         Ok(())
     }
 
-    /// The table at an offset: what is kept for it, or else what the section says. Fails with the
-    /// error that is kept or that the section gives, or with want of memory.
+    /// The table at an offset: what is kept for it, or else what the section has. Fails with the error
+    /// that is kept or that the section gives, or if there is no memory.
     pub fn get<R: Reader>(
         &self,
         debug_abbrev: &DebugAbbrev<R>,
@@ -143,7 +143,7 @@ fn shared(alloc: Global, table: Abbreviations) -> Result<Rc<Abbreviations>>
     Ok(Rc::new(alloc, table)?)
 }
 
-// What the section says at an offset, a table or an error. Want of memory isn't said by it.
+// What the section has at an offset, a table or an error. Out of memory isn't an error of the section.
 fn answer_to_keep<R: Reader>(
     alloc: Global,
     debug_abbrev: &DebugAbbrev<R>,
@@ -160,8 +160,8 @@ fn answer_to_keep<R: Reader>(
     }
 }
 
-// Whether a table is kept for an offset that comes behind those seen, to which it is added if they
-// count.
+// Whether a table is kept for an offset that is given after those seen, to which it is added if the
+// strategy needs them.
 fn is_wanted(
     strategy: AbbreviationsCacheStrategy,
     seen: &mut BTreeSet<u64>,

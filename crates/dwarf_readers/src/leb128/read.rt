@@ -1,21 +1,21 @@
-//! Reading of numbers of variable length.
+//! Reading of numbers of variable length (DWARF 5, 7.6).
 
 ghost use Rattle.std.specs.Prelude.{◌≡◌, ◌≤◌, ◌<◌, ◌+◌, ◌*◌, ◌^◌, ◌==◌, ◌||◌, IfOk, IfErr, OnErr, OnOk};
-ghost use Rattle.dwarf_readers.specs.Groups.{AreGroups, EndsInGroups};
+ghost use Rattle.dwarf_readers.specs.Groups.{AreGroups, EndsInGroups, IsMostBytes};
 ghost use Rattle.dwarf_readers.specs.Leb128.{behind_string, left_by_leb128, signed_at, string_of, unsigned_16_at, unsigned_at, unsigned_within};
-ghost use Rattle.dwarf_readers.specs.Place.{Moves, Reads, behind};
+ghost use Rattle.dwarf_readers.specs.Stretch.{Moves, Reads, behind};
 ghost use Rattle.dwarf_readers.specs.Remainder.{size_of};
 
 use crate::reader::Reader;
 use dwarf_constants::{Error, Result};
 
-// The bytes of a number up to one below 128, or up to as many as may decide.
+// The bytes of a number: up to one below 128, or as many as a number may have.
 #[derive(Clone, Copy)]
 struct Groups {
     // The number in the bytes before the last.
     low: u64,
     last: u8,
-    // How many bytes stand before the last.
+    // How many bytes are before the last.
     count: u32,
 }
 
@@ -39,7 +39,7 @@ fn read_groups<R: Reader>(r: &mut R, most: u32) -> Result<Groups>
     Ok(Groups { low, last, count })
 }
 
-/// Goes over a number of any length.
+/// Skips a number of any length.
 pub fn skip<R: Reader>(r: &mut R) -> Result<()>
     ensures moved { Moves result
         (behind_string (R.stretch r.old) (string_of (R.stretch r.old).bytes)) (R.stretch r.new) }
@@ -50,20 +50,17 @@ pub fn skip<R: Reader>(r: &mut R) -> Result<()>
     Ok(())
 }
 
-// Reads an unsigned number of at most `most` bytes that fits `bits` bits. Fewer bytes than `most`
-// always fit.
+// Reads an unsigned number of at most `most` bytes that fits `bits` bits. A number of fewer bytes
+// always fits.
 #[inline(always)]
 fn read_unsigned<R: Reader>(r: &mut R, most: u32, bits: u32) -> Result<u64>
-    requires some { 1 ≤ bits }
-    requires word { bits ≤ 64 }
-    requires enough { bits ≤ 7 * most }
-    requires needed { 7 * most < bits + 7 }
+    requires { IsMostBytes most bits }
     ensures read { Reads result (unsigned_within most bits (R.stretch r.old)) (R.stretch r.new) }
     ensures below { IfOk result (λ value. value < 2 ^ bits) }
     ensures shorter { OnOk result (size_of (R.stretch r.new) < size_of (R.stretch r.old)) }
     ensures refused { OnErr result (R.stretch r.new ≡ left_by_leb128 most (R.stretch r.old)) }
 {
-    // What the last byte of `most` has to be below.
+    // What the last of `most` bytes has to be below.
     let limit = 1u8 << (bits - 7 * (most - 1));
     let groups = read_groups(r, most)?;
     if groups.count + 1 == most && groups.last >= limit {
@@ -72,8 +69,8 @@ fn read_unsigned<R: Reader>(r: &mut R, most: u32, bits: u32) -> Result<u64>
     Ok(groups.low + (u64::from(groups.last) << (7 * groups.count)))
 }
 
-/// Reads an unsigned number of at most ten bytes. Fails with `BadUnsignedLeb128` where there is none
-/// in the next ten bytes that fits 64 bits.
+/// Reads an unsigned number of at most ten bytes. Fails with `BadUnsignedLeb128` if the next ten bytes
+/// have none that fits 64 bits.
 #[inline(always)]
 pub fn unsigned<R: Reader>(r: &mut R) -> Result<u64>
     ensures read { Reads result (unsigned_at (R.stretch r.old)) (R.stretch r.new) }
@@ -83,8 +80,8 @@ pub fn unsigned<R: Reader>(r: &mut R) -> Result<u64>
     read_unsigned(r, 10, 64)
 }
 
-/// Reads an unsigned number of at most three bytes, as register numbers, tags and attributes are
-/// read. Fails with `BadUnsignedLeb128` where there is none in the next three bytes that fits 16 bits.
+/// Reads an unsigned number of at most three bytes: the number of a register, a tag or an attribute.
+/// Fails with `BadUnsignedLeb128` if the next three bytes have none that fits 16 bits.
 #[inline(always)]
 pub fn u16<R: Reader>(r: &mut R) -> Result<u16>
     ensures read { Reads result (unsigned_16_at (R.stretch r.old)) (R.stretch r.new) }
@@ -101,8 +98,8 @@ fn is_sign(group: u8) -> bool
     group == 0 || group == 0x7f
 }
 
-/// Reads a signed number of at most ten bytes. Fails with `BadSignedLeb128` where there is none in
-/// the next ten bytes that fits 64 bits.
+/// Reads a signed number of at most ten bytes. Fails with `BadSignedLeb128` if the next ten bytes have
+/// none that fits 64 bits.
 #[inline(always)]
 pub fn signed<R: Reader>(r: &mut R) -> Result<i64>
     ensures read { Reads result (signed_at (R.stretch r.old)) (R.stretch r.new) }
@@ -119,7 +116,7 @@ pub fn signed<R: Reader>(r: &mut R) -> Result<i64>
     if groups.count == 9 || groups.last < 64 {
         return Ok(value.cast_signed());
     }
-    // The value minus the power of two that bit 6 of the last byte stands for twice.
+    // Bit 6 of the last byte is the sign: its weight is taken away twice.
     let weight = 1u64 << (7 * (groups.count + 1));
     Ok(value.wrapping_sub(weight).cast_signed())
 }

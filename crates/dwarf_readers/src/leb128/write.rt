@@ -1,7 +1,7 @@
-//! The shortest spellings of numbers of variable length.
+//! The shortest spellings of numbers of variable length (DWARF 5, 7.6).
 
-ghost use Rattle.std.specs.Prelude.{◌≡◌, ◌≤◌, ◌<◌, ◌+◌, ◌^◌, ◌++◌, ◌≤ℤ◌, ◌<ℤ◌, neg_ℤ, pos, ℕ, ℤ, List, Bool, Ok, length};
-ghost use Rattle.dwarf_readers.specs.Leb128.{IsShortest, signed_at, signed_value, unsigned_at, unsigned_value};
+ghost use Rattle.std.specs.Prelude.{◌≡◌, ◌≤◌, ◌<◌, ◌+◌, ◌^◌, ◌≤ℤ◌, ◌<ℤ◌, neg_ℤ, pos, ℕ, ℤ, length};
+ghost use Rattle.dwarf_readers.specs.Leb128.{IsReadBack, IsShortest, signed_at, signed_value, unsigned_at, unsigned_value};
 ghost use Rattle.dwarf_readers.specs.Signed.{signed_string};
 ghost use Rattle.dwarf_readers.specs.Unsigned.{unsigned_string};
 
@@ -69,27 +69,23 @@ impl Leb128 {
     }
 }
 
-/// What `Leb128::unsigned` spells is read again, and exactly the bytes that follow are left.
+/// What `Leb128::unsigned` spells is read back, and exactly the bytes that follow are left.
 pub fn unsigned_again()
-    ensures { (v : ℕ) (rest : List ℕ) (place : ℕ) (big : Bool) → v < 2 ^ 64
-        → unsigned_at (record { bytes = unsigned_string v ++ rest; place = place; big = big })
-        ≡ Ok (v, record { bytes = rest; place = place + length (unsigned_string v); big = big }) }
+    ensures { (v : ℕ) → v < 2 ^ 64 → IsReadBack unsigned_at v (unsigned_string v) }
 {}
 
-/// No string of bytes that has the value of what `Leb128::unsigned` spells is shorter.
+/// No string of bytes with the same value is shorter than what `Leb128::unsigned` spells.
 pub fn unsigned_is_shortest()
     ensures { (v : ℕ) → v < 2 ^ 64 → IsShortest unsigned_value (unsigned_string v) }
 {}
 
-/// What `Leb128::signed` spells is read again, and exactly the bytes that follow are left.
+/// What `Leb128::signed` spells is read back, and exactly the bytes that follow are left.
 pub fn signed_again()
-    ensures { (v : ℤ) (rest : List ℕ) (place : ℕ) (big : Bool)
-        → neg_ℤ (pos (2 ^ 63)) ≤ℤ v → v <ℤ pos (2 ^ 63)
-        → signed_at (record { bytes = signed_string v ++ rest; place = place; big = big })
-        ≡ Ok (v, record { bytes = rest; place = place + length (signed_string v); big = big }) }
+    ensures { (v : ℤ) → neg_ℤ (pos (2 ^ 63)) ≤ℤ v → v <ℤ pos (2 ^ 63)
+        → IsReadBack signed_at v (signed_string v) }
 {}
 
-/// No string of bytes that has the value of what `Leb128::signed` spells is shorter.
+/// No string of bytes with the same value is shorter than what `Leb128::signed` spells.
 pub fn signed_is_shortest()
     ensures { (v : ℤ) → neg_ℤ (pos (2 ^ 63)) ≤ℤ v → v <ℤ pos (2 ^ 63)
         → IsShortest signed_value (signed_string v) }

@@ -1,4 +1,5 @@
 //! The registers that a step of a walk carries, and the mask of code addresses.
+
 ghost use Rattle.std.specs.Prelude.{◌≡◌, ◌+◌, ℕ};
 ghost use Rattle.framehop_registers.specs.RegistersAarch64.{low_bits, IsHighestBit, no_strip, stripped_address, mask_of, lr_of, sp_of, fp_of, with_lr, with_sp, with_fp, new_registers};
 
@@ -29,7 +30,7 @@ impl PtrAuthMask {
     }
 
     /// The bits up to the highest one of the highest code address that is known. Nothing is
-    /// stripped where that address is 0.
+    /// stripped if that address is 0.
     pub fn from_max_known_address(address: u64) -> Self
         ensures ones { (place : ℕ) → IsHighestBit address place
             → result.0 ≡ low_bits (place + 1) }

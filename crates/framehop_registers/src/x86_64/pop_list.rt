@@ -1,4 +1,5 @@
 //! Lists of registers that are popped one after the other.
+
 ghost use Rattle.std.specs.Prelude.{◌≡◌, ◌+◌, ◌<◌, ◌≤◌, ◌==◌, [], ◌∷◌, ◌++◌, length, take, drop, slice_index_or, position, IfSome, IfNone};
 ghost use Rattle.framehop_registers.specs.PopLists.{left_behind};
 ghost use Rattle.framehop_registers.specs.Registers.{dwarf_number};

@@ -1,4 +1,5 @@
 //! Pop lists as a count and a number, so that an unwind rule has room for them.
+
 ghost use Rattle.std.specs.Prelude.{◌≡◌, ◌<◌, ◌≤◌, ◌/◌, ◌%◌, ℕ, List, length, SomeIff, IfSome};
 ghost use Rattle.framehop_registers.specs.PopLists.{IsPopList, IsOrder, order_count, order_number, pop_list, BeginsOrder};
 ghost use Rattle.framehop_registers.specs.PopListViews.{popped_of};
@@ -52,8 +53,8 @@ pub fn set_by_number(regs: &mut UnwindRegsX86_64, encoded_ordering: u16, values:
     }
 }
 
-/// The place that a number has among so many, and the number of what comes behind. Each divisor is
-/// written out, since a division by one that isn't known takes several times as long.
+// The place that a number has among so many, and the number of what comes behind. Each divisor is
+// written out, since a division by one that isn't known takes several times as long.
 #[inline(always)]
 fn place_and_rest(number: u16, choices: usize) -> (usize, u16)
     requires some { 0 < choices }
@@ -74,7 +75,7 @@ fn place_and_rest(number: u16, choices: usize) -> (usize, u16)
 }
 
 /// The count and the order number of registers that are popped one after the other, the first at
-/// the front. There is none where a register isn't callee-saved, or comes twice.
+/// the front. There is none if a register isn't callee-saved, or comes twice.
 pub fn encode(registers: &[Reg]) -> Option<(u8, u16)>
     ensures number { SomeIff result (IsPopList registers.now)
         (length registers.now, order_number registers.now) }

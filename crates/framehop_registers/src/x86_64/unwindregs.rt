@@ -1,4 +1,5 @@
 //! The registers that a step of a walk carries.
+
 ghost use Rattle.std.specs.Prelude.{◌≡◌, ◌≢◌};
 ghost use Rattle.framehop_registers.specs.Registers.{HasAllRegisters, ip_of, register_of, sp_of, bp_of, with_ip, with_register, new_registers};
 ghost use Rattle.framehop_registers.specs.declared.x86_64.unwindregs.Reg.{Reg};

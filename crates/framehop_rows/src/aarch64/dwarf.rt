@@ -1,18 +1,17 @@
 //! The rows of aarch64: as unwind rules, or evaluated.
 
-ghost use Rattle.std.specs.Prelude.{◌≡◌, ◌≢◌, ◌&&◌, ℕ, Bool, Some, Err, not, nat_le};
-ghost use Rattle.framehop_registers.specs.Callback.{Words, OverWords};
+ghost use Rattle.std.specs.Prelude.{◌≡◌, ◌≢◌, ◌&&◌, Err, not, nat_le};
+ghost use Rattle.framehop_registers.specs.Callback.{OverWords};
 ghost use Rattle.framehop_registers.specs.RegistersAarch64.{sp_of};
-ghost use Rattle.framehop_rules.specs.Outcome.{Answers, Caller};
 ghost use Rattle.framehop_rules.specs.RuleMeaningAarch64.{rule_meaning, caller_registers};
 ghost use Rattle.framehop_rows.specs.DirectRowAarch64.{direct_answer, restored};
 ghost use Rattle.framehop_rows.specs.DirectViewsAarch64.{caller_shown};
 ghost use Rattle.framehop_rows.specs.Memory.{HasExpressionPart, TakesMemory};
 ghost use Rattle.framehop_rows.specs.RowAnswerAarch64.{row_answer, register_value};
 ghost use Rattle.framehop_rows.specs.RowParts.{parts_as};
+ghost use Rattle.framehop_rows.specs.RuleLaws.{RulesAnswerAsRows};
 ghost use Rattle.framehop_rows.specs.ScaledRowAarch64.{saved_by, raised_sp, restored_lr, restored_both, from_sp, restored_from_fp, followed_fp, from_fp, scaled_rule};
 ghost use Rattle.framehop_rows.specs.declared.dwarf.DwarfUnwinderError.TheVariants.{OutOfMemory};
-ghost use Rattle.framehop_rows.specs.declared.parts.Parts.{Parts};
 
 use crate::dwarf::{DwarfUnwinderError, DwarfUnwinding};
 use crate::evaluation::{DwarfUnwindRegs, eval_cfa_rule, eval_register_rule};
@@ -44,16 +43,16 @@ impl DwarfUnwindRegs for UnwindRegsAarch64 {
     }
 }
 
-/// Where a row leaves a register of the caller.
+// Where a register of the caller is, by a row.
 #[derive(Clone, Copy)]
 enum Saved {
-    /// In the register.
+    // In the register.
     InRegister,
-    /// In the word at this offset in bytes from the CFA.
+    // In the word at this offset in bytes from the CFA.
     FromCfa(i64),
 }
 
-/// Where a column leaves its register, if it is in one of these places.
+// Where a register of the caller is by its rule, if it is at one of these.
 fn saved_by<T: Copy>(column: Option<RegisterRule<T>>) -> Option<Saved>
     ensures { result ≡ saved_by column }
 {
@@ -64,8 +63,8 @@ fn saved_by<T: Copy>(column: Option<RegisterRule<T>>) -> Option<Saved>
     }
 }
 
-/// The rule for a CFA that is SP plus an offset, where X29 and X30 are in their registers. `lr` is the
-/// column of X30.
+// The rule for a CFA that is SP plus an offset, if X29 and X30 are in their registers. `lr` is the register
+// rule of X30.
 fn rule_that_raises<T: Copy>(offset: i64, lr: Option<RegisterRule<T>>) -> Option<UnwindRuleAarch64>
     ensures { result ≡ raised_sp offset lr }
 {
@@ -78,7 +77,7 @@ fn rule_that_raises<T: Copy>(offset: i64, lr: Option<RegisterRule<T>>) -> Option
     }
 }
 
-/// The rule for a CFA that is SP plus an offset, where X30 is stored at another offset from the CFA.
+// The rule for a CFA that is SP plus an offset, if X30 is stored at another offset from the CFA.
 fn rule_that_restores_lr(offset: i64, lr: i64) -> Option<UnwindRuleAarch64>
     ensures { result ≡ restored_lr offset lr }
 {
@@ -88,8 +87,7 @@ fn rule_that_restores_lr(offset: i64, lr: i64) -> Option<UnwindRuleAarch64>
     })
 }
 
-/// The rule for a CFA that is SP plus an offset, where X29 and X30 are stored at other offsets from
-/// the CFA.
+// The rule for a CFA that is SP plus an offset, if X29 and X30 are stored at other offsets from the CFA.
 fn rule_that_restores_both(offset: i64, fp: i64, lr: i64) -> Option<UnwindRuleAarch64>
     ensures { result ≡ restored_both offset fp lr }
 {
@@ -100,7 +98,7 @@ fn rule_that_restores_both(offset: i64, fp: i64, lr: i64) -> Option<UnwindRuleAa
     })
 }
 
-/// The rule for a CFA that is SP plus an offset.
+// The rule for a CFA that is SP plus an offset.
 fn rule_from_sp<T: Copy>(
     offset: i64,
     column: Option<RegisterRule<T>>,
@@ -117,7 +115,7 @@ fn rule_from_sp<T: Copy>(
     }
 }
 
-/// The rule by the offsets of a CFA from X29, and of X29 and X30 from the CFA.
+// The rule by the offsets of a CFA from X29, and of X29 and X30 from the CFA.
 fn rule_with_offsets_from_fp(offset: i64, fp: i64, lr: i64) -> Option<UnwindRuleAarch64>
     ensures { result ≡ restored_from_fp offset fp lr }
 {
@@ -128,8 +126,7 @@ fn rule_with_offsets_from_fp(offset: i64, fp: i64, lr: i64) -> Option<UnwindRule
     })
 }
 
-/// The rule for a CFA that is X29 plus an offset, where X29 and X30 are stored at other offsets from
-/// the CFA.
+// The rule for a CFA that is X29 plus an offset, if X29 and X30 are stored at other offsets from the CFA.
 fn rule_that_follows_fp(offset: i64, fp: i64, lr: i64) -> Option<UnwindRuleAarch64>
     ensures { result ≡ followed_fp offset fp lr }
 {
@@ -139,7 +136,7 @@ fn rule_that_follows_fp(offset: i64, fp: i64, lr: i64) -> Option<UnwindRuleAarch
     rule_with_offsets_from_fp(offset, fp, lr)
 }
 
-/// The rule for a CFA that is X29 plus an offset.
+// The rule for a CFA that is X29 plus an offset.
 fn rule_from_fp(offset: i64, fp: Saved, lr: Saved) -> Option<UnwindRuleAarch64>
     ensures { result ≡ from_fp offset fp lr }
 {
@@ -149,7 +146,7 @@ fn rule_from_fp(offset: i64, fp: Saved, lr: Saved) -> Option<UnwindRuleAarch64>
     }
 }
 
-/// The rule that says parts of a row exactly, if one does.
+// The rule that says parts of a row exactly, if one does.
 fn translate_into_unwind_rule<T: Copy>(parts: &Parts<T>) -> Option<UnwindRuleAarch64>
     ensures { result ≡ scaled_rule parts.now }
 {
@@ -168,7 +165,7 @@ fn translate_into_unwind_rule<T: Copy>(parts: &Parts<T>) -> Option<UnwindRuleAar
     }
 }
 
-/// A register of the caller: what its column gives, or else, in a first frame, what it has there.
+// A register of the caller: what its rule gives, or else, in a first frame, its value in the frame.
 fn restored(is_first_frame: bool, own: u64, value: Option<u64>) -> Option<u64>
     ensures { result ≡ restored is_first_frame own value }
 {
@@ -179,15 +176,15 @@ fn restored(is_first_frame: bool, own: u64, value: Option<u64>) -> Option<u64>
     }
 }
 
-/// Whether a step to this CFA is refused: of a later frame it has to raise the stack pointer.
+// Whether a step to this CFA fails: the step of a later frame has to raise the stack pointer.
 fn is_refused(cfa: u64, is_first_frame: bool, regs: &UnwindRegsAarch64) -> bool
     ensures { result ≡ (not is_first_frame && nat_le cfa (sp_of regs.now)) }
 {
     !is_first_frame && cfa <= regs.sp()
 }
 
-/// The registers of the caller that parts of a row give. A column without a value leaves its register
-/// in a first frame, and is refused in a later one.
+// The registers of the caller that parts of a row give. A register whose rule gives no value stays in a first
+// frame, and the step of a later one fails.
 fn eval_parts<
     S: EvaluationStorage,
     R: Reader,
@@ -237,7 +234,7 @@ fn eval_parts<
     Ok(registers_with(regs, lr, cfa, fp))
 }
 
-/// The registers with another link register, which is stripped, stack pointer and frame pointer.
+// The registers with another link register, which is stripped, stack pointer and frame pointer.
 fn registers_with(regs: &UnwindRegsAarch64, lr: u64, sp: u64, fp: u64) -> UnwindRegsAarch64
     ensures { result ≡ caller_registers regs.now (lr, sp, fp) }
 {
@@ -344,14 +341,10 @@ impl DwarfUnwinding for ArchAarch64 {
     }
 }
 
-/// A law of scaled rows: where a rule says a row exactly and the rule answers, its answer is the
-/// row's, for all registers and all stacks. LR, SP and FP of the caller are those that the row's CFA
-/// and columns give, so that a row that is translated needs no evaluation of its own. The function
-/// does nothing when the program runs.
+/// A law of scaled rows: if a rule says a row exactly and gives a caller, that is the row's, for all
+/// registers and all stacks: LR, SP and FP of the caller are those that the row's CFA and register rules
+/// give. So a row that is translated needs no evaluation of its own. The function does nothing when the
+/// program runs.
 pub fn rule_answers_as_its_row()
-    ensures { (parts : Parts ℕ) (rule : UnwindRuleAarch64) (first : Bool)
-        (registers : UnwindRegsAarch64) (words : Words) (caller : Caller UnwindRegsAarch64)
-        → scaled_rule parts ≡ Some rule
-        → rule_meaning rule first registers words ≡ Answers caller
-        → row_answer registers words parts ≡ Some caller }
+    ensures { RulesAnswerAsRows scaled_rule rule_meaning row_answer }
 {}

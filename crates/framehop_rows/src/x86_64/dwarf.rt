@@ -1,18 +1,17 @@
 //! The rows of x86_64: as unwind rules, or evaluated.
 
-ghost use Rattle.std.specs.Prelude.{◌≡◌, ◌≢◌, ℕ, Bool, option_map, Err, IfErr, IfSome, IfOk};
-ghost use Rattle.framehop_registers.specs.Callback.{Words, OverWords};
+ghost use Rattle.std.specs.Prelude.{◌≡◌, ◌≢◌, option_map, Err, IfErr, IfSome, IfOk};
+ghost use Rattle.framehop_registers.specs.Callback.{OverWords};
 ghost use Rattle.framehop_rows.specs.DirectRow.{direct_return_address, direct_refusal, direct_answer, frame_sources};
 ghost use Rattle.framehop_rows.specs.DirectViews.{caller_shown};
 ghost use Rattle.framehop_rows.specs.Memory.{HasExpressionPart, IsColumnExpression, TakesMemory};
 ghost use Rattle.dwarf_frame_instructions.specs.StateViews.{rule_as};
-ghost use Rattle.framehop_rules.specs.Outcome.{Answers, Caller};
 ghost use Rattle.framehop_rules.specs.RuleMeaning.{rule_meaning, IsValid};
 ghost use Rattle.framehop_rows.specs.RowAnswer.{row_answer, register_value};
 ghost use Rattle.framehop_rows.specs.declared.dwarf.DwarfUnwinderError.TheVariants.{OutOfMemory};
 ghost use Rattle.framehop_rows.specs.RowParts.{parts_as};
+ghost use Rattle.framehop_rows.specs.RuleLaws.{RulesAnswerAsRows};
 ghost use Rattle.framehop_rows.specs.ScaledRow.{raised_sp, restored_bp, from_sp, from_bp, scaled_rule};
-ghost use Rattle.framehop_rows.specs.declared.parts.Parts.{Parts};
 
 use crate::dwarf::{DwarfUnwinderError, DwarfUnwinding};
 use crate::evaluation::{DwarfUnwindRegs, eval_cfa_rule, eval_register_rule, read_below};
@@ -30,7 +29,7 @@ use framehop_rules::x86_64::{ArchX86_64, UnwindRegsX86_64, UnwindRuleX86_64};
 use framehop_unwinder::UnwindResult;
 use std::alloc::{AllocError, Global};
 
-/// RSP, RBP, and RIP by the return address's column (System V ABI for AMD64, figure 3.36).
+/// RSP, RBP, and RIP by the number of the return address (System V ABI for AMD64, figure 3.36).
 impl DwarfUnwindRegs for UnwindRegsX86_64 {
     ghost register_value = { register_value };
 
@@ -44,7 +43,7 @@ impl DwarfUnwindRegs for UnwindRegsX86_64 {
     }
 }
 
-/// The rule for a CFA that is RSP plus an offset, where RBP stays.
+// The rule for a CFA that is RSP plus an offset, if RBP stays.
 fn rule_that_raises(offset: i64) -> Option<UnwindRuleX86_64>
     ensures rule { result ≡ raised_sp offset }
     ensures valid { IfSome result IsValid }
@@ -53,7 +52,7 @@ fn rule_that_raises(offset: i64) -> Option<UnwindRuleX86_64>
     Some(UnwindRuleX86_64::OffsetSp { sp_offset_by_8 })
 }
 
-/// The rule for a CFA that is RSP plus an offset, where RBP is stored at another offset from the CFA.
+// The rule for a CFA that is RSP plus an offset, if RBP is stored at another offset from the CFA.
 fn rule_that_restores(offset: i64, stored: i64) -> Option<UnwindRuleX86_64>
     ensures rule { result ≡ restored_bp offset stored }
     ensures valid { IfSome result IsValid }
@@ -66,7 +65,7 @@ fn rule_that_restores(offset: i64, stored: i64) -> Option<UnwindRuleX86_64>
     })
 }
 
-/// The rule for a CFA that is RSP plus an offset.
+// The rule for a CFA that is RSP plus an offset.
 fn rule_from_sp<T: Copy>(offset: i64, bp: Option<RegisterRule<T>>) -> Option<UnwindRuleX86_64>
     ensures rule { result ≡ from_sp offset bp }
     ensures valid { IfSome result IsValid }
@@ -78,7 +77,8 @@ fn rule_from_sp<T: Copy>(offset: i64, bp: Option<RegisterRule<T>>) -> Option<Unw
     }
 }
 
-/// The rule for a CFA that is RBP plus an offset.
+// The rule for a CFA that is RBP plus an offset. Only the frame of `push rbp; mov rbp, rsp` has one; rows with
+// other offsets from RBP are evaluated.
 fn rule_from_bp<T: Copy>(offset: i64, bp: Option<RegisterRule<T>>) -> Option<UnwindRuleX86_64>
     ensures rule { result ≡ from_bp offset bp }
     ensures valid { IfSome result IsValid }
@@ -89,7 +89,7 @@ fn rule_from_bp<T: Copy>(offset: i64, bp: Option<RegisterRule<T>>) -> Option<Unw
     }
 }
 
-/// The rule that says parts of a row exactly, if one does.
+// The rule that says parts of a row exactly, if one does.
 fn translate_into_unwind_rule<T: Copy>(parts: &Parts<T>) -> Option<UnwindRuleX86_64>
     ensures rule { result ≡ scaled_rule parts.now }
     ensures valid { IfSome result IsValid }
@@ -112,7 +112,7 @@ fn translate_into_unwind_rule<T: Copy>(parts: &Parts<T>) -> Option<UnwindRuleX86
     }
 }
 
-/// The caller of a frame, as parts of a row give it.
+// The caller of a frame, as parts of a row give it.
 #[derive(Clone, Copy)]
 struct DirectCaller {
     return_address: u64,
@@ -120,8 +120,8 @@ struct DirectCaller {
     bp: u64,
 }
 
-/// The return address at a CFA: what its column gives, or else the word below the CFA. Only the values
-/// of an expression may want memory.
+// The return address at a CFA: what its register rule gives, or else the word below the CFA. Only the values
+// of an expression may allocate.
 fn eval_return_address<
     S: EvaluationStorage,
     R: Reader,
@@ -157,7 +157,7 @@ fn eval_return_address<
     }
 }
 
-/// Why a step to this CFA and return address is refused, if it is.
+// Why a step to this CFA and return address fails, if it does.
 fn refusal(
     cfa: u64,
     return_address: u64,
@@ -175,7 +175,7 @@ fn refusal(
     None
 }
 
-/// The caller that parts of a row give. A column of RBP without a value keeps RBP.
+// The caller that parts of a row give. RBP stays if its register rule gives no value.
 fn eval_parts<
     S: EvaluationStorage,
     R: Reader,
@@ -323,15 +323,10 @@ impl DwarfUnwinding for ArchX86_64 {
     }
 }
 
-/// A law of scaled rows: where a rule says a row exactly and the rule answers, its answer is the
-/// row's, for all registers and all stacks. RIP, RSP and RBP of the caller are those that the row's
-/// CFA and columns give, so that a row that is translated needs no evaluation of its own. The
-/// function does nothing when the program runs.
+/// A law of scaled rows: if a rule says a row exactly and gives a caller, that is the row's, for all
+/// registers and all stacks: RIP, RSP and RBP of the caller are those that the row's CFA and register rules
+/// give. So a row that is translated needs no evaluation of its own. The function does nothing when the
+/// program runs.
 pub fn rule_answers_as_its_row()
-    ensures { (parts : Parts ℕ) (rule : UnwindRuleX86_64) (first : Bool)
-        (registers : UnwindRegsX86_64)
-        (words : Words) (caller : Caller UnwindRegsX86_64)
-        → scaled_rule parts ≡ Some rule
-        → rule_meaning rule first registers words ≡ Answers caller
-        → row_answer registers words parts ≡ Some caller }
+    ensures { RulesAnswerAsRows scaled_rule rule_meaning row_answer }
 {}

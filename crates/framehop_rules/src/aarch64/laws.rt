@@ -1,4 +1,5 @@
 //! A law of the rules' meaning. The function does nothing when the program runs.
+
 ghost use Rattle.std.specs.Prelude.{◌≡◌, ◌<◌, ◌^◌, false};
 ghost use Rattle.framehop_registers.specs.Callback.{Words};
 ghost use Rattle.framehop_rules.specs.Outcome.{Answers, Caller};
@@ -8,8 +9,8 @@ ghost use Rattle.framehop_rules.specs.RuleMeaningAarch64.{rule_meaning};
 use crate::aarch64::unwind_rule::UnwindRuleAarch64;
 use framehop_registers::aarch64::UnwindRegsAarch64;
 
-/// Each step that a rule answers for a later frame raises the stack pointer, which keeps
-/// to 64 bits: so a walk ends.
+/// Each step by a rule from a later frame raises the stack pointer, which fits 64 bits: so a walk
+/// ends.
 pub fn later_frames_raise_sp()
     ensures higher { (rule : UnwindRuleAarch64) (registers : UnwindRegsAarch64) (words : Words)
         (caller : Caller UnwindRegsAarch64)

@@ -1,4 +1,5 @@
 //! The unwind rules of aarch64, and their execution.
+
 ghost use Rattle.std.specs.Prelude.{◌≡◌, ◌*◌, IfErr, OnErr};
 ghost use Rattle.framehop_registers.specs.Callback.{OverWords};
 ghost use Rattle.framehop_rules.specs.Outcome.{outcome_of, outcome_or_end_of, IsOfRule};
@@ -46,9 +47,9 @@ pub enum UnwindRuleAarch64 {
         /// z
         lr_storage_offset_from_sp_by_8: i16,
     },
-    /// (lr, sp, fp) = (word at fp + 8, fp + 16, word at fp); the walk ends where the last is 0.
+    /// (lr, sp, fp) = (word at fp + 8, fp + 16, word at fp); the walk ends if the last is 0.
     UseFramePointer,
-    /// (lr, sp, fp) = (word at fp + 8z, fp + 8x, word at fp + 8y); the walk ends where the last is 0.
+    /// (lr, sp, fp) = (word at fp + 8z, fp + 8x, word at fp + 8y); the walk ends if the last is 0.
     UseFramepointerWithOffsets {
         /// x
         sp_offset_from_fp_by_8: u16,
@@ -62,14 +63,14 @@ pub enum UnwindRuleAarch64 {
 /// The caller's link register, stack pointer and frame pointer.
 type CallerFrame = (u64, u64, u64);
 
-/// An offset in pairs of words of 8 bytes, in bytes.
+// An offset in pairs of words of 8 bytes, in bytes.
 fn bytes_of_pairs(pairs: u16) -> u64
     ensures { result ≡ 16 * pairs }
 {
     u64::from(pairs) * 16
 }
 
-/// The caller's frame where SP is `bytes` higher, and LR and FP are still in their registers.
+// The caller's frame where SP is `bytes` higher, and LR and FP are still in their registers.
 #[inline(always)]
 fn raise_sp(regs: &UnwindRegsAarch64, bytes: u64) -> Result<CallerFrame, Error>
     ensures moves { outcome_of result ≡ raised_frame regs.now bytes }
@@ -79,7 +80,7 @@ fn raise_sp(regs: &UnwindRegsAarch64, bytes: u64) -> Result<CallerFrame, Error>
     Ok((regs.lr(), sp, regs.fp()))
 }
 
-/// The word that is stored so many words from an address.
+// The word that is stored so many words from an address.
 #[inline(always)]
 fn read_stored<F: FnMut(u64) -> Result<u64, ()>>(
     read_stack: &mut F,
@@ -96,8 +97,8 @@ fn read_stored<F: FnMut(u64) -> Result<u64, ()>>(
     read_word(read_stack, at)
 }
 
-/// The caller's frame where SP is `bytes` higher, LR is stored so many words from it, and FP is
-/// still in its register.
+// The caller's frame where SP is `bytes` higher, LR is stored so many words from it, and FP is
+// still in its register.
 #[inline(always)]
 fn raise_sp_and_restore_lr<F: FnMut(u64) -> Result<u64, ()>>(
     regs: &UnwindRegsAarch64,
@@ -116,8 +117,8 @@ fn raise_sp_and_restore_lr<F: FnMut(u64) -> Result<u64, ()>>(
     Ok((lr, sp, fp))
 }
 
-/// The caller's frame where SP is `bytes` above an address, and FP and LR are stored so many words
-/// from that address.
+// The caller's frame where SP is `bytes` above an address, and FP and LR are stored so many words
+// from that address.
 #[inline(always)]
 fn restore_fp_and_lr<F: FnMut(u64) -> Result<u64, ()>>(
     read_stack: &mut F,
@@ -138,7 +139,7 @@ fn restore_fp_and_lr<F: FnMut(u64) -> Result<u64, ()>>(
     Ok((lr, sp, fp))
 }
 
-/// The caller's frame, whose SP has to be above this frame's.
+// The caller's frame, whose SP has to be above this frame's.
 #[inline(always)]
 fn check_above(regs: &UnwindRegsAarch64, caller: CallerFrame) -> Result<CallerFrame, Error>
     ensures moves { outcome_of result ≡ if_above regs.now caller }
@@ -151,8 +152,8 @@ fn check_above(regs: &UnwindRegsAarch64, caller: CallerFrame) -> Result<CallerFr
     Ok(caller)
 }
 
-/// The caller's frame, as a chain of frame pointers gives it: the chain ends with 0, and else FP
-/// and SP have to be above this frame's.
+// The caller's frame, as a chain of frame pointers gives it: the chain ends with 0, and else FP
+// and SP have to be above this frame's.
 #[inline(always)]
 fn check_chained(
     regs: &UnwindRegsAarch64,
@@ -171,7 +172,7 @@ fn check_chained(
     Ok(Some(caller))
 }
 
-/// The return address, where the caller's LR and SP are these; `None` where it is 0.
+// The return address, if the caller's LR and SP are these; `None` if it is 0.
 #[inline(always)]
 fn find_return_address(
     is_first_frame: bool,
@@ -193,9 +194,9 @@ fn find_return_address(
 }
 
 impl UnwindRuleAarch64 {
-    /// What the rule makes of LR, SP and FP; `None` at the stack's end.
+    // What the rule makes of LR, SP and FP; `None` at the stack's end.
     #[inline(always)]
-    fn moved<F: FnMut(u64) -> Result<u64, ()>>(
+    fn caller_frame<F: FnMut(u64) -> Result<u64, ()>>(
         self,
         is_first_frame: bool,
         regs: &UnwindRegsAarch64,
@@ -285,7 +286,7 @@ impl UnwindRule for UnwindRuleAarch64 {
         regs: &mut UnwindRegsAarch64,
         read_stack: &mut F,
     ) -> Result<Option<u64>, Error> {
-        let Some(caller) = self.moved(is_first_frame, regs, read_stack)? else {
+        let Some(caller) = self.caller_frame(is_first_frame, regs, read_stack)? else {
             return Ok(None);
         };
         let Some(return_address) = find_return_address(is_first_frame, regs, caller)? else {

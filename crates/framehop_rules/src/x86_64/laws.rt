@@ -1,4 +1,5 @@
 //! Laws of the rules' meaning. The functions do nothing when the program runs.
+
 ghost use Rattle.std.specs.Prelude.{◌≡◌, ◌≤◌, ◌<◌, ◌^◌, ℕ, Bool};
 ghost use Rattle.framehop_registers.specs.Callback.{Words};
 ghost use Rattle.framehop_rules.specs.Outcome.{Answers, Refuses, Caller};
@@ -9,8 +10,8 @@ use crate::x86_64::unwind_rule::UnwindRuleX86_64;
 use framehop_registers::Error;
 use framehop_registers::x86_64::UnwindRegsX86_64;
 
-/// No step that a rule answers lowers the stack pointer. Its registers are those behind a call, and
-/// from such registers each step raises the stack pointer: so a walk of such steps ends.
+/// No step by a rule lowers the stack pointer. The registers that it leaves are those after a call,
+/// and from such registers each step raises the stack pointer: so a walk of such steps ends.
 pub fn rules_raise_sp()
     ensures not_lower { (rule : UnwindRuleX86_64) (is_first : Bool) (registers : UnwindRegsX86_64)
         (words : Words) (caller : Caller UnwindRegsX86_64) → HasAllRegisters registers
@@ -35,7 +36,7 @@ pub fn rules_raise_sp()
         → sp_of registers < sp_of caller.registers }
 {}
 
-/// Behind a call a rule that would leave the stack pointer gives no address.
+/// After a call a rule that would leave the stack pointer as it is gives no address.
 pub fn rules_that_stay_are_refused()
     ensures { (rule : UnwindRuleX86_64) (is_first : Bool) (registers : UnwindRegsX86_64)
         (words : Words) (bp : ℕ) → IsAtReturn registers words

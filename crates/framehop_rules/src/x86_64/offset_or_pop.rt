@@ -1,4 +1,5 @@
 //! The unwind rule for a sequence of stack operations.
+
 ghost use Rattle.std.specs.Prelude.{◌≡◌, ◌<◌, ◌^◌, ◌++◌, ℕ, Bool, List, None, IsSome};
 ghost use Rattle.std.specs.List.{AllZip};
 ghost use Rattle.std.specs.Iterator.{IsFinite, DrainsIf};
@@ -19,14 +20,14 @@ use framehop_registers::x86_64::Reg;
 pub enum OffsetOrPop {
     /// Any other operation, for which there is no rule.
     None,
-    /// The stack pointer goes up by so many words of 8 bytes.
+    /// The stack pointer goes up by n words of 8 bytes.
     OffsetBy8(u16),
     /// A register takes the word at the stack pointer, which goes up by 8.
     Pop(Reg),
 }
 
 impl UnwindRuleX86_64 {
-    /// The rule for these operations and a return behind them, if one says them: an offset, which
+    /// The rule for these operations and a return after them, if there is one: an offset, which
     /// may be missing, and then pops of callee-saved registers, each at most once. Where there is
     /// none, the iterator may have been read in part.
     pub fn for_sequence_of_offset_or_pop<I, T>(iter: I) -> Option<Self>

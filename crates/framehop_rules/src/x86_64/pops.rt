@@ -1,7 +1,8 @@
 //! Registers that take words from the stack.
-ghost use Rattle.std.specs.Prelude.{◌≡◌, ◌<◌, ◌≤◌, Bool, IfErr, OnErr, length};
+
+ghost use Rattle.std.specs.Prelude.{◌≡◌, ◌<◌, ◌≤◌, Bool, IfErr, length};
 ghost use Rattle.framehop_registers.specs.Callback.{OverWords};
-ghost use Rattle.framehop_rules.specs.Outcome.{outcome_of, Answers, and_then, IsOfRule, IsStep};
+ghost use Rattle.framehop_rules.specs.Outcome.{outcome_of, Answers, and_then, IsOfRule, IsStep, StaysUnlessAnswered};
 ghost use Rattle.framehop_registers.specs.PopLists.{order_count};
 ghost use Rattle.framehop_rules.specs.Pops.{words_from};
 ghost use Rattle.framehop_rules.specs.RuleMeaning.{rule_meaning};
@@ -11,7 +12,7 @@ use crate::unwind_rule::{address_above, bytes_of, read_word};
 use framehop_registers::Error;
 use framehop_registers::x86_64::{UnwindRegsX86_64, set_by_number};
 
-/// Reads words one after the other, the first at `from`, and answers the address behind them.
+// Reads words one after the other, the first at `from`, and returns the address after them.
 #[inline(always)]
 fn read_words<F: FnMut(u64) -> Result<u64, ()>>(
     words: &mut [u64],
@@ -50,8 +51,7 @@ pub(crate) fn pop_and_return<F: FnMut(u64) -> Result<u64, ()>>(
     ensures step { (is_first : Bool) → OverWords F.step read_stack.old read_stack.new (λ stack.
         let rule = OffsetSpAndPopRegisters sp_offset_by_8 register_count encoded_ordering in
         IsStep result regs.old regs.new (rule_meaning rule is_first regs.old stack)) }
-    ensures none_keeps { result ≡ Ok None → regs.new ≡ regs.old }
-    ensures error_keeps { OnErr result (regs.new ≡ regs.old) }
+    ensures stays { StaysUnlessAnswered result regs.old regs.new }
     ensures refusals { IfErr result IsOfRule }
 {
     regs.has_all_registers();

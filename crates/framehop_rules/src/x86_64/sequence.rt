@@ -1,11 +1,12 @@
 //! An offset of the stack pointer and pops, as they come one after the other.
+
 ghost use Rattle.std.specs.Prelude.{◌≡◌, ◌≤◌, [], ◌∷◌, ◌++◌, OnSome, IfNone};
 
 use crate::x86_64::offset_or_pop::OffsetOrPop;
 use crate::x86_64::unwind_rule::UnwindRuleX86_64;
 use framehop_registers::x86_64::{Reg, encode};
 
-/// An offset, if there is one, and at most eight pops behind it.
+/// An offset, if there is one, and at most eight pops after it.
 #[derive(Clone, Copy)]
 pub(crate) struct OffsetThenPops {
     offset: Option<u16>,
@@ -16,11 +17,11 @@ pub(crate) struct OffsetThenPops {
 
 impl OffsetThenPops {
     ghost use Rattle.framehop_rules.specs.Sequences.{HasNoRule, IsRuleFor};
-    ghost use Rattle.framehop_rules.specs.SequenceViews.{operations_of};
+    ghost use Rattle.framehop_rules.specs.SequenceViews.{taken_operations};
 
     /// No operation.
     pub(crate) fn new() -> Self
-        ensures { operations_of result ≡ [] }
+        ensures { taken_operations result ≡ [] }
     {
         OffsetThenPops {
             offset: None,
@@ -32,8 +33,8 @@ impl OffsetThenPops {
     /// Takes one operation more, unless there is no rule with it.
     pub(crate) fn push(&mut self, operation: OffsetOrPop) -> Option<()>
         ensures some { OnSome result
-            (operations_of self.new ≡ operations_of self.old ++ operation ∷ []) }
-        ensures none { IfNone result (HasNoRule (operations_of self.old ++ operation ∷ [])) }
+            (taken_operations self.new ≡ taken_operations self.old ++ operation ∷ []) }
+        ensures none { IfNone result (HasNoRule (taken_operations self.old ++ operation ∷ [])) }
     {
         match operation {
             OffsetOrPop::OffsetBy8(words) if self.offset.is_none() && self.count == 0 => {
@@ -51,7 +52,7 @@ impl OffsetThenPops {
 
     /// The rule for the operations, if their registers are callee-saved, and each comes once.
     pub(crate) fn rule(&self) -> Option<UnwindRuleX86_64>
-        ensures { IsRuleFor (operations_of self.now) result }
+        ensures { IsRuleFor (taken_operations self.now) result }
     {
         let sp_offset_by_8 = self.offset.unwrap_or(0);
         if sp_offset_by_8 == 0 && self.count == 0 {

@@ -1,7 +1,8 @@
 //! The unwind rules of x86_64, and their execution.
-ghost use Rattle.std.specs.Prelude.{◌≡◌, ◌*◌, ◌<◌, ◌^◌, pos, ◌*ℤ◌, ◌+ℤ◌, IfErr, OnErr};
+
+ghost use Rattle.std.specs.Prelude.{◌≡◌, ◌*◌, ◌<◌, ◌^◌, pos, ◌*ℤ◌, ◌+ℤ◌, IfErr};
 ghost use Rattle.framehop_registers.specs.Callback.{OverWords};
-ghost use Rattle.framehop_rules.specs.Outcome.{outcome_of, outcome_or_end_of, and_then, address, IsOfRule, IsStep};
+ghost use Rattle.framehop_rules.specs.Outcome.{outcome_of, outcome_or_end_of, and_then, address, IsOfRule, IsStep, StaysUnlessAnswered};
 ghost use Rattle.framehop_rules.specs.RuleMeaning.{raised_frame, by_frame_pointer, stored_bp, restored_frame, moves, return_address, returned_caller, rule_meaning, IsValid};
 ghost use Rattle.framehop_rules.specs.declared.x86_64.unwind_rule.UnwindRuleX86_64.TheVariants.{JustReturn, UseFramePointer};
 
@@ -33,7 +34,7 @@ pub enum UnwindRuleX86_64 {
         /// y
         bp_storage_offset_from_sp_by_8: i16,
     },
-    /// (sp, bp) = (bp + 16, word at bp); the walk ends where bp is 0.
+    /// (sp, bp) = (bp + 16, word at bp); the walk ends if bp is 0.
     UseFramePointer,
     /// From sp + 8x on, so many registers take a word each, in the order that the number says; sp
     /// is then 8 above the last of them, and the others keep their values.
@@ -47,15 +48,15 @@ pub enum UnwindRuleX86_64 {
     },
 }
 
-/// A signed offset in words of 8 bytes, in bytes.
+// A signed offset in words of 8 bytes, in bytes.
 fn signed_bytes_of(words: i16) -> i64
     ensures { result ≡ pos 8 *ℤ words }
 {
     i64::from(words) * 8
 }
 
-/// The caller's stack pointer and frame pointer where the former is `bytes` higher and the latter
-/// is still in its register.
+// The caller's stack pointer and frame pointer where the former is `bytes` higher and the latter
+// is still in its register.
 #[inline(always)]
 fn raise_sp(regs: &UnwindRegsX86_64, bytes: u64) -> Result<(u64, u64), Error>
     ensures moves { outcome_of result ≡ raised_frame regs.now bytes }
@@ -65,8 +66,8 @@ fn raise_sp(regs: &UnwindRegsX86_64, bytes: u64) -> Result<(u64, u64), Error>
     Ok((new_sp, regs.bp()))
 }
 
-/// The caller's stack pointer and frame pointer in code with frame pointers, where RBP points at
-/// the caller's RBP and the return address stands above that.
+// The caller's stack pointer and frame pointer in code with frame pointers, where RBP points at
+// the caller's RBP, and the return address is above that.
 #[inline(always)]
 fn follow_frame_pointer<F: FnMut(u64) -> Result<u64, ()>>(
     regs: &UnwindRegsX86_64,
@@ -87,11 +88,11 @@ fn follow_frame_pointer<F: FnMut(u64) -> Result<u64, ()>>(
     Ok((new_sp, new_bp))
 }
 
-/// The caller's frame pointer, stored at an address.
-///
-/// In a first frame an epilogue may have popped it already, while the unwind information still
-/// names its place. That place is then below the stack pointer, where a recorded stack has no
-/// bytes, and the register holds the caller's value.
+// The caller's frame pointer, stored at an address.
+//
+// In a first frame an epilogue may have popped it already, while the unwind information still
+// names its address. That is then below the stack pointer, where a recorded stack has no
+// bytes, and the register holds the caller's value.
 #[inline(always)]
 fn read_stored_bp<F: FnMut(u64) -> Result<u64, ()>>(
     is_first_frame: bool,
@@ -117,8 +118,8 @@ fn read_stored_bp<F: FnMut(u64) -> Result<u64, ()>>(
     }
 }
 
-/// The caller's stack pointer, `bytes` higher, and its frame pointer, stored at `bp_offset` from
-/// this frame's stack pointer.
+// The caller's stack pointer, `bytes` higher, and its frame pointer, stored at `bp_offset` from
+// this frame's stack pointer.
 #[inline(always)]
 fn raise_sp_and_restore_bp<F: FnMut(u64) -> Result<u64, ()>>(
     is_first_frame: bool,
@@ -139,7 +140,7 @@ fn raise_sp_and_restore_bp<F: FnMut(u64) -> Result<u64, ()>>(
     Ok((new_sp, new_bp))
 }
 
-/// The return address where the caller's stack pointer is `new_sp`; `None` where it is 0.
+// The return address, if the caller's stack pointer is `new_sp`; `None` if it is 0.
 #[inline(always)]
 fn read_return_address<F: FnMut(u64) -> Result<u64, ()>>(
     regs: &UnwindRegsX86_64,
@@ -164,9 +165,9 @@ fn read_return_address<F: FnMut(u64) -> Result<u64, ()>>(
 }
 
 impl UnwindRuleX86_64 {
-    /// What the rule makes of the stack pointer and the frame pointer; `None` at the stack's end.
+    // What the rule makes of the stack pointer and the frame pointer; `None` at the stack's end.
     #[inline(always)]
-    fn moved<F: FnMut(u64) -> Result<u64, ()>>(
+    fn caller_frame<F: FnMut(u64) -> Result<u64, ()>>(
         self,
         is_first_frame: bool,
         regs: &UnwindRegsX86_64,
@@ -209,11 +210,12 @@ impl UnwindRuleX86_64 {
                     follow_frame_pointer(regs, read_stack).map(Some)
                 }
             }
+            // Never reached: `exec` gives the rules that pop registers to `pop_and_return`.
             UnwindRuleX86_64::OffsetSpAndPopRegisters { .. } => raise_sp(regs, 8).map(Some),
         }
     }
 
-    /// The step once the rule's registers are popped.
+    // The step once the rule's registers are popped.
     #[inline(always)]
     fn return_to_caller<F: FnMut(u64) -> Result<u64, ()>>(
         self,
@@ -227,11 +229,10 @@ impl UnwindRuleX86_64 {
             IsStep result regs.old regs.new
             (and_then (moves self is_first_frame regs.old words)
             (returned_caller regs.old words))) }
-        ensures none_keeps { result ≡ Ok None → regs.new ≡ regs.old }
-        ensures error_keeps { OnErr result (regs.new ≡ regs.old) }
+        ensures stays { StaysUnlessAnswered result regs.old regs.new }
         ensures refusals { IfErr result IsOfRule }
     {
-        let Some((new_sp, new_bp)) = self.moved(is_first_frame, regs, read_stack)? else {
+        let Some((new_sp, new_bp)) = self.caller_frame(is_first_frame, regs, read_stack)? else {
             return Ok(None);
         };
         let Some(return_address) = read_return_address(regs, new_sp, read_stack)? else {

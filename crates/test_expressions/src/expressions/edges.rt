@@ -115,7 +115,7 @@ fn with_operand(alloc: Global, opcode: DwOp, operand: &[u8]) -> Result<Vec<u8>, 
     Ok(bytes)
 }
 
-// .. whose bytes come the other way round.
+// The bytes of an operation and its operand in reverse order.
 fn with_operand_reversed(
     alloc: Global,
     opcode: DwOp,

@@ -3,10 +3,8 @@
 use super::stored::{Fixed, Reserved};
 use super::{ValueTest, sized, value_of};
 use dwarf_constants::{Error, Result};
-use dwarf_expressions::{Evaluation, Value};
-use dwarf_operations::Expression;
+use dwarf_expressions::{Evaluation, Expression, StoreOnHeap, Value};
 use dwarf_readers::{EndianSlice, Reader, RunTimeEndian, TwoPieces};
-use dwarf_storage::StoreOnHeap;
 use std::alloc::Global;
 use std::process::Abort;
 use test_readers::{Outcome, ReaderTest, over_each_reader};
@@ -28,7 +26,7 @@ fn operations_up_to_the_limit(rt: HostRuntime) -> Outcome {
     Ok(())
 }
 
-// Wants the refusal of an expression at each call.
+// Wants the error of an expression at each call.
 #[derive(Clone, Copy)]
 struct RefusalTest(Error);
 
@@ -102,7 +100,7 @@ fn values_up_to_the_capacity(rt: HostRuntime) -> Outcome {
     over.run(&rt, rt.alloc(), pieces)
 }
 
-// Values want memory more than once. Where it is refused, each call says so.
+// Values allocate more than once. If that fails, each call returns the error.
 #[test]
 fn want_of_memory_stays(rt: HostRuntime) -> Outcome {
     let bytes = [0x30; 200];

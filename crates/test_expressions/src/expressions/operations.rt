@@ -2,10 +2,8 @@
 
 use super::sized;
 use dwarf_constants::{Error, ReaderOffsetId, Register};
-use dwarf_expressions::{EvaluationResult, Value};
-use dwarf_operations::{Expression, Operation};
+use dwarf_expressions::{EvaluationResult, Expression, Operation, PushError, Value};
 use dwarf_readers::{EndianSlice, LittleEndian, Reader, RunTimeEndian};
-use dwarf_storage::PushError;
 use std::alloc::Global;
 use std::process::Abort;
 use test_readers::{Outcome, ReaderTest, over_each_reader};
@@ -145,7 +143,7 @@ fn operations_with_operands(rt: HostRuntime) -> Outcome {
     over_each_reader(&rt, rt.alloc(), &test, &bytes, RunTimeEndian::Little)
 }
 
-// Opcodes of typed values, of places and of calls, and those that no table has.
+// Opcodes of typed values, of locations and of calls, and those that no table has.
 #[test]
 fn other_opcodes(rt: HostRuntime) -> Outcome {
     let opcodes = [

@@ -3,8 +3,7 @@
 use super::sized;
 use super::stored::Fixed;
 use dwarf_constants::{Error, Register, Result, X86_64};
-use dwarf_expressions::{Evaluation, EvaluationResult, Value};
-use dwarf_operations::Expression;
+use dwarf_expressions::{Evaluation, EvaluationResult, Expression, Value};
 use dwarf_readers::{Reader, RunTimeEndian};
 use std::alloc::Global;
 use std::process::Abort;
@@ -57,19 +56,19 @@ impl<H: Abort> ReaderTest<H> for RegistersTest {
     }
 }
 
-// The CFA in an entry of a PLT: 16 bytes, the last five of which stand behind a push.
+// The CFA in an entry of a PLT: 16 bytes, of which the last five come after a push.
 #[test]
-fn places_of_a_plt_entry(rt: HostRuntime) -> Outcome {
+fn addresses_of_a_plt_entry(rt: HostRuntime) -> Outcome {
     let bytes = [
         0x77, 0x08, 0x80, 0x00, 0x3f, 0x1a, 0x3b, 0x2a, 0x33, 0x24, 0x22,
     ];
-    for place in 0..16 {
+    for offset in 0..16 {
         let registers = Registers {
             sp: 0x7000,
             bp: 0,
-            ip: 0x1020 + place,
+            ip: 0x1020 + offset,
         };
-        let want = if place < 11 { Ok(0x7008) } else { Ok(0x7010) };
+        let want = if offset < 11 { Ok(0x7008) } else { Ok(0x7010) };
         let test = RegistersTest { registers, want };
         over_each_reader(&rt, rt.alloc(), &test, &bytes, RunTimeEndian::Little)?;
     }
@@ -81,7 +80,7 @@ static BUILT: [(&[u8], Result<u64>); 5] = [
     (b"\x77\xa8\x01", Ok(0x70a8)),
     (b"\x77\x28", Ok(0x7028)),
     (b"\x77\xa0\x01\x06", Err(Error::UnsupportedEvaluation)),
-    // A realigned stack: where RBP is, and the place of the CFA.
+    // A realigned stack: where RBP and the CFA are.
     (b"\x76\x00", Ok(0x7100)),
     (b"\x76\x78", Ok(0x70f8)),
 ];

@@ -1,8 +1,7 @@
 //! Stacks of values.
 
 use arrayvec::ArrayVec;
-use dwarf_expressions::EvaluationStorage;
-use dwarf_storage::ReservedVec;
+use dwarf_expressions::{EvaluationStorage, ReservedVec};
 
 /// Room for 64 values, in place.
 pub struct Fixed;

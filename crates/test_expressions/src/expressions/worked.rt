@@ -1,12 +1,10 @@
-//! Worked expressions, with what they come to.
+//! Worked expressions, with their values.
 
 use super::stored::Fixed;
 use super::{ValueTest, sized, value_of};
 use dwarf_constants::{Error, ReaderOffsetId, Result};
-use dwarf_expressions::{Evaluation, EvaluationResult};
-use dwarf_operations::Expression;
+use dwarf_expressions::{Evaluation, EvaluationResult, Expression, StoreOnHeap};
 use dwarf_readers::{EndianSlice, LittleEndian, RunTimeEndian};
-use dwarf_storage::StoreOnHeap;
 use test_readers::{Outcome, over_each_reader};
 
 static VALUES: [(&[u8], Result<u64>); 17] = [

@@ -1,6 +1,8 @@
 //! Contexts: what each effect makes of a row, and how many rules and rows there is room for.
 
-ghost use Rattle.std.proofs.Common.{lit≤};
+ghost use Rattle.std.specs.Prelude.{None, Some, false, true};
+ghost use Rattle.std.proofs.Common.{lit≤, refl};
+ghost use Rattle.dwarf_frame_rows.specs.Effects.{TakesNoMemory, limits_of};
 
 use crate::line_of;
 use arrayvec::ArrayVec;
@@ -23,6 +25,14 @@ impl<T: ReaderOffset> UnwindContextStorage<T> for One {
 
     type Stack = ArrayVec<UnwindTableRow<T, ArrayVec<RuledRegister<RegisterRule<T>>, 1>>, 1>;
 
+    ghost limits = { limits_of (Some 1) (Some 1) };
+
+    ghost limited = { refl };
+
+    ghost never_allocates = { TakesNoMemory true (limits_of (Some 1) (Some 1)) };
+
+    ghost allocates_never = { (λ t. t, λ t. t) };
+
     ghost room = { lit≤ tt };
 }
 
@@ -34,10 +44,18 @@ impl<T: ReaderOffset> UnwindContextStorage<T> for Growing {
 
     type Stack = Vec<UnwindTableRow<T, Vec<RuledRegister<RegisterRule<T>>>>>;
 
+    ghost limits = { limits_of None None };
+
+    ghost limited = { refl };
+
+    ghost never_allocates = { TakesNoMemory true (limits_of None None) };
+
+    ghost allocates_never = { (λ t. t, λ t. t) };
+
     ghost room = { tt };
 }
 
-// What a program does to its context, beside the effects of its instructions.
+// What a program does to its context: the effects of its instructions, and other calls.
 #[derive(Debug, Clone, Copy)]
 enum Step {
     Clear,
@@ -49,7 +67,7 @@ enum Step {
     By(Effect<u64>),
 }
 
-// A step, and the row behind it as a line of text, or why the step is refused.
+// A step, and the row after it as a line of text, or the error of the step.
 type Row = (Step, &'static str);
 
 // Rules for the first registers of this number.
@@ -77,7 +95,7 @@ fn take<S: UnwindContextStorage<u64>>(
     Ok(())
 }
 
-// Takes the steps with a new context, and wants the line of each.
+// Takes the steps with a new context, and compares the line of each.
 fn follow<S: UnwindContextStorage<u64>>(
     rt: &impl Abort,
     alloc: Global,
@@ -190,7 +208,7 @@ fn room_for_192_rules(rt: HostRuntime) -> Result<(), Fail> {
     Ok(())
 }
 
-// Rows are remembered behind no rules of a CIE, one, and two, which take room of their own.
+// Rows are remembered after no rules of a CIE, one, and two, which take room of their own.
 static REMEMBERED: [Row; 18] = [
     (Step::Save, "0..0 r0,0"),
     (Step::By(Effect::Remember), "0..0 r0,0"),
@@ -235,7 +253,7 @@ fn room_for_one_row_and_one_rule(rt: HostRuntime) -> Result<(), Fail> {
     follow::<One>(&rt, rt.alloc(), &FULL)
 }
 
-// The sign state of a return address has the column 34.
+// The sign state of a return address is the register 34.
 static SIGN_STATES: [Row; 6] = [
     (Step::By(Effect::NegateRaState), "0..0 r0,0 34=k1"),
     (Step::By(Effect::NegateRaState), "0..0 r0,0 34=k0"),
@@ -259,7 +277,7 @@ fn sign_states(rt: HostRuntime) -> Result<(), Fail> {
     follow::<StoreOnHeap>(&rt, rt.alloc(), &SIGN_STATES)
 }
 
-// A context is as a new one once it is cleared, behind a program that filled it too.
+// A context is as a new one once it is cleared, also after a program that filled it.
 static CLEARED: [Row; 9] = [
     (Step::Rules(2), "0..0 r0,0 0=c8 1=c8"),
     (Step::Save, "0..0 r0,0 0=c8 1=c8"),
@@ -280,7 +298,7 @@ fn a_cleared_context_is_a_new_one(rt: HostRuntime) -> Result<(), Fail> {
     follow::<StoreOnHeap>(&rt, rt.alloc(), &CLEARED)
 }
 
-// A program that is refused, and one of another CIE, which restores a register with a rule there and one without.
+// A program that fails, and one of another CIE, which restores a register with a rule there and one without.
 static TWO_CIES: [Row; 14] = [
     (Step::Rules(3), "0..0 r0,0 0=c8 1=c8 2=c8"),
     (Step::Save, "0..0 r0,0 0=c8 1=c8 2=c8"),
@@ -355,7 +373,7 @@ fn want_of_memory_changes_nothing(rt: HostRuntime) -> Result<(), Fail> {
     Ok(())
 }
 
-// Wants the text of a value.
+// Compares the text of a value.
 fn shows<T: Debug>(rt: &impl Abort, alloc: Global, value: &T, want: &str) -> Result<(), Fail> {
     let text = format!(in alloc; "{value:?}")?;
     assert!(rt; text.as_str() == want);

@@ -1,4 +1,4 @@
-//! The bytes of expressions, by their places in a section.
+//! The bytes of expressions, by their offsets in a section.
 
 use dwarf_constants::{Error, Format, ReaderOffsetId, Vendor};
 use dwarf_frame_rows::{_UnwindSectionPrivate, CieOffsetEncoding, UnwindExpression};
@@ -13,23 +13,23 @@ use test_readers::{Outcome, ReaderTest, over_each_reader};
 struct Frames<R>(R);
 
 impl<R: Reader> _UnwindSectionPrivate<R> for Frames<R> {
-    ghost use Rattle.std.specs.Prelude.{None, false, true};
+    ghost use Rattle.std.proofs.Common.{refl};
     ghost use Rattle.dwarf_constants.specs.declared.common.Vendor.TheVariants.{Default};
-    ghost use Rattle.dwarf_frame_rows.specs.declared.section.CieOffsetEncoding.TheVariants.{U32};
+    ghost use Rattle.dwarf_frame_rows.specs.FrameSection.{frame_section};
+    ghost use Rattle.test_frame_rows.specs.NoEntries.{no_entries};
 
     ghost reader = { λ frames. frames.0 };
 
-    ghost kind = { record {
-      ends_at_zero = true;
-      is_cie = λ format id. false;
-      id_width = λ format. U32;
-      cie_place = λ base id. None;
-      has_sizes = λ version. false;
-    } };
+    ghost kind = { no_entries };
 
     ghost size = { λ frames. 8 };
 
     ghost extensions = { λ frames. Default };
+
+    ghost frame = { λ frames bases. frame_section R.Offset.limit no_entries 8 (R.stretch frames.0)
+        bases };
+
+    ghost framed = { λ frames bases. refl };
 
     fn section(&self) -> &R {
         &self.0
@@ -66,7 +66,7 @@ impl<R: Reader> _UnwindSectionPrivate<R> for Frames<R> {
 
 const SECTION: [u8; 6] = [0x10, 0x11, 0x12, 0x13, 0x14, 0x15];
 
-// An expression's offset and length, and its bytes, or the place at which the section has too few.
+// An expression's offset and length, and its bytes, or the offset at which the section ends before them.
 static EXPRESSIONS: [(u8, u8, Result<&[u8], u64>); 12] = [
     (0, 6, Ok(&[0x10, 0x11, 0x12, 0x13, 0x14, 0x15])),
     (0, 0, Ok(&[])),
@@ -82,7 +82,7 @@ static EXPRESSIONS: [(u8, u8, Result<&[u8], u64>); 12] = [
     (255, 255, Err(0)),
 ];
 
-// Whether the bytes are the ones that are wanted, at this place.
+// Whether the bytes are the expected ones, at this offset.
 fn is_wanted<R: Reader>(
     alloc: Global,
     found: Result<Expression<R>, Error>,

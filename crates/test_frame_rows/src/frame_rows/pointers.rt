@@ -1,5 +1,5 @@
-//! Encoded pointers: each byte as an encoding, with each of the addresses that a pointer may count
-//! from known and unknown.
+//! Encoded pointers: each byte as an encoding, with each of the addresses that a pointer may be
+//! relative to known and unknown.
 
 ghost use Rattle.std.specs.Prelude.{◌≤◌};
 
@@ -31,7 +31,7 @@ pub enum Wanted {
     Ends,
 }
 
-/// Where the pointer stands in its section.
+/// The offset of the pointer in its section.
 const PLACE: u8 = 4;
 
 const SECTION: u64 = 0xffff_ffff_ffff_f000;
@@ -42,7 +42,7 @@ const DATA: u64 = 0xffff_fff0;
 
 const FUNCTION: u64 = 0x7fff_ffff_ffff_fff0;
 
-// The answer that an outcome stands for.
+// The result that an outcome says.
 fn answer(outcome: Wanted, encoding: DwEhPe) -> Result<Pointer, Error> {
     match outcome {
         Wanted::Direct(address) => Ok(Pointer::Direct(address)),
@@ -60,7 +60,7 @@ fn answer(outcome: Wanted, encoding: DwEhPe) -> Result<Pointer, Error> {
     }
 }
 
-// Whether all that the pointer counts from is known, where these four are or aren't.
+// Whether what the pointer is relative to is known, by which of these four are.
 fn is_based(unknown: Wanted, known: [bool; 4]) -> bool {
     match unknown {
         Wanted::NoSection => known[0],
@@ -71,7 +71,7 @@ fn is_based(unknown: Wanted, known: [bool; 4]) -> bool {
     }
 }
 
-// Reads the pointer in each encoding and with each of the bases, and compares the answers.
+// Reads the pointer in each encoding and with each of the bases, and compares the results.
 fn compare<R: Reader>(
     rt: &impl Abort,
     section: R,
@@ -79,7 +79,7 @@ fn compare<R: Reader>(
     address_size: u8,
     outcomes: &[[Wanted; 2]],
 )
-    requires { (R.stretch section).place ≤ (R.stretch pointer).place }
+    requires { (R.stretch section).offset ≤ (R.stretch pointer).offset }
 {
     for (byte, [whole, bare]) in outcomes.iter().enumerate() {
         let encoding = DwEhPe((byte % 256) as u8);
@@ -113,7 +113,7 @@ fn compare<R: Reader>(
     }
 }
 
-/// A pointer that stands at its place, in each encoding.
+/// A pointer at its offset, in each encoding.
 #[derive(Clone, Copy)]
 struct EncodingTest<'a> {
     address_size: u8,

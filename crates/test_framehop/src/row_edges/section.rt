@@ -1,7 +1,7 @@
 //! A section `.eh_frame` with one row.
 use std::alloc::{AllocError, Global};
 
-/// The register that a CFA counts from.
+/// The register that a CFA is relative to.
 #[derive(Clone, Copy, Debug, PartialEq, Eq)]
 pub(crate) enum Base {
     Sp,
@@ -15,7 +15,7 @@ pub(crate) enum Cfa {
     Expression,
 }
 
-/// The rule of a column: none, the same, undefined, or stored so many bytes from the CFA.
+/// A register rule: none, the same, undefined, or stored at an offset in bytes from the CFA.
 #[derive(Clone, Copy, Debug, PartialEq, Eq)]
 pub(crate) enum Column {
     None,
@@ -48,7 +48,7 @@ fn push_signed(bytes: &mut Vec<u8>, value: i64) -> Result<(), AllocError> {
     Ok(())
 }
 
-/// The rule of a register's column.
+/// The rule of a register.
 fn push_column(bytes: &mut Vec<u8>, register: u8, column: Column) -> Result<(), AllocError> {
     match column {
         Column::None => Ok(()),

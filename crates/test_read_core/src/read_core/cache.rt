@@ -47,7 +47,7 @@ fn populate<R: Reader>(
     cache.populate(strategy, section, list.into_iter())
 }
 
-// A table that stands in no section of these tests.
+// A table that is in no section of these tests.
 fn other_table(alloc: Global, bytes: &[u8]) -> Result<Rc<Abbreviations>, Error> {
     let table = table(alloc, EndianSlice::new(bytes, LittleEndian))?;
     Ok(Rc::new(alloc, table).map_err(|_| Error::OutOfMemory)?)

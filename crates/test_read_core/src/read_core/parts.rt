@@ -27,9 +27,9 @@ impl<H: Abort> ReaderTest<H> for PartTest {
         let found = found.map(|(id, offset)| (id, offset.into_u64()));
         assert!(rt; found == Some((SectionId::DebugStr, 3)));
         assert!(rt; part.lookup_offset_id(ReaderOffsetId(5)).is_none());
-        for (offset, size, place) in [(6, 0, 0), (2, 4, 2)] {
+        for (offset, size, end) in [(6, 0, 0), (2, 4, 2)] {
             let refused = section.dwp_range(offset, size).map(|_| ()).err();
-            assert!(rt; refused == Some(Error::UnexpectedEof(ReaderOffsetId(place))));
+            assert!(rt; refused == Some(Error::UnexpectedEof(ReaderOffsetId(end))));
         }
         Ok(())
     }

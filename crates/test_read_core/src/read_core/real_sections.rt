@@ -91,7 +91,7 @@ impl<H: Abort> ReaderTest<H> for LineStrings<'_> {
     }
 }
 
-// The offsets of strings behind a base.
+// The offsets of strings from a base on.
 #[derive(Drop)]
 struct StringOffsets<'a> {
     base: u64,
@@ -138,7 +138,7 @@ impl<H: Abort> ReaderTest<H> for AddressSets<'_> {
     }
 }
 
-// The addresses behind a base.
+// The addresses from a base on.
 #[derive(Drop)]
 struct Addresses<'a> {
     base: u64,

@@ -2,7 +2,7 @@
 
 ghost use Rattle.std.specs.Prelude.{IsTrue};
 ghost use Rattle.dwarf_readers.specs.EndianSlice.{stretch_of};
-ghost use Rattle.dwarf_readers.specs.Place.{AreAlike};
+ghost use Rattle.dwarf_readers.specs.Stretch.{AreAlike};
 
 use dwarf_readers::equality::equal_slices_are_alike;
 use dwarf_readers::{EndianSlice, Endianity, RunTimeEndian};
@@ -10,7 +10,7 @@ use std::hash::{DefaultHasher, Hash, Hasher};
 
 type Slice<'a> = EndianSlice<'a, RunTimeEndian>;
 
-// Whether both slices have the same bytes and the same byte order, as their equality says.
+// Whether both slices have the same bytes and the same byte order, by their equality.
 fn are_alike(one: &Slice<'_>, other: &Slice<'_>) -> bool
     ensures alike { IsTrue result → AreAlike
         (stretch_of ⟦<RunTimeEndian as Endianity>⟧.is_big one.now)

@@ -7,11 +7,11 @@ use dwarf_readers::{Reader, ReaderOffset, RunTimeEndian};
 use std::alloc::Global;
 use std::process::Abort;
 
-// What a read of a number comes to.
+// The outcome of a read of a number.
 #[derive(Clone, Copy)]
 enum Read<T> {
     Is(T),
-    // The bytes end behind the place where the reader stays.
+    // The bytes end after the offset at which the reader stays.
     Ends,
     TooLarge,
 }
@@ -19,17 +19,17 @@ enum Read<T> {
 use Read::{Ends, Is, TooLarge};
 
 impl<T: Copy> Read<T> {
-    // The answer at a place, where a number that is too large has this refusal.
-    fn answer(self, place: u64, too_large: Error) -> Result<T> {
+    // The answer at an offset, with this error for a number that is too large.
+    fn answer(self, offset: u64, too_large: Error) -> Result<T> {
         match self {
             Is(value) => Ok(value),
-            Ends => Err(Error::UnexpectedEof(ReaderOffsetId(place))),
+            Ends => Err(Error::UnexpectedEof(ReaderOffsetId(offset))),
             TooLarge => Err(too_large),
         }
     }
 }
 
-// The bytes of a number, what is read from them, and the place behind the read.
+// The bytes of a number, what is read from them, and the offset after the read.
 type Row<T> = (&'static [u8], Read<T>, u64);
 
 // The standard's examples (DWARF 5, 7.6), numbers at the edges of 1, 2, 3, 9 and 10 bytes, bytes that end too early,
@@ -188,25 +188,25 @@ static SKIPPED: [Row<()>; 11] = [
     (b"\xff\xff\xff\xff\xff\xff\xff\xff\xff\xff\xff", Ends, 11),
 ];
 
-/// Wants an answer of every kind of reader over these bytes, and the place behind it.
+/// Wants an answer of every kind of reader over these bytes, and the offset after it.
 pub fn reads(
     rt: &impl Abort,
     alloc: Global,
     bytes: &[u8],
     asked: Leb128,
     answer: Plain,
-    place: u64,
+    offset: u64,
 ) -> Outcome {
-    let step = (Question::Leb128(asked), Want::Plain(answer), place);
+    let step = (Question::Leb128(asked), Want::Plain(answer), offset);
     over_each_reader(rt, alloc, &Script(&[step]), bytes, RunTimeEndian::Little)
 }
 
 #[test]
 fn unsigned(rt: HostRuntime) -> Outcome {
-    for (bytes, read, place) in &UNSIGNED {
-        let answer = Plain::Unsigned(read.answer(*place, Error::BadUnsignedLeb128));
+    for (bytes, read, offset) in &UNSIGNED {
+        let answer = Plain::Unsigned(read.answer(*offset, Error::BadUnsignedLeb128));
         for asked in [Leb128::Unsigned, Leb128::FreeUnsigned] {
-            reads(&rt, rt.alloc(), bytes, asked, answer, *place)?;
+            reads(&rt, rt.alloc(), bytes, asked, answer, *offset)?;
         }
     }
     Ok(())
@@ -214,10 +214,10 @@ fn unsigned(rt: HostRuntime) -> Outcome {
 
 #[test]
 fn signed(rt: HostRuntime) -> Outcome {
-    for (bytes, read, place) in &SIGNED {
-        let answer = Plain::Signed(read.answer(*place, Error::BadSignedLeb128));
+    for (bytes, read, offset) in &SIGNED {
+        let answer = Plain::Signed(read.answer(*offset, Error::BadSignedLeb128));
         for asked in [Leb128::Signed, Leb128::FreeSigned] {
-            reads(&rt, rt.alloc(), bytes, asked, answer, *place)?;
+            reads(&rt, rt.alloc(), bytes, asked, answer, *offset)?;
         }
     }
     Ok(())
@@ -225,10 +225,10 @@ fn signed(rt: HostRuntime) -> Outcome {
 
 #[test]
 fn of_16_bits(rt: HostRuntime) -> Outcome {
-    for (bytes, read, place) in &OF_16_BITS {
-        let answer = Plain::Unsigned(read.answer(*place, Error::BadUnsignedLeb128));
+    for (bytes, read, offset) in &OF_16_BITS {
+        let answer = Plain::Unsigned(read.answer(*offset, Error::BadUnsignedLeb128));
         for asked in [Leb128::Of16Bits, Leb128::FreeOf16Bits] {
-            reads(&rt, rt.alloc(), bytes, asked, answer, *place)?;
+            reads(&rt, rt.alloc(), bytes, asked, answer, *offset)?;
         }
     }
     Ok(())
@@ -236,19 +236,19 @@ fn of_16_bits(rt: HostRuntime) -> Outcome {
 
 #[test]
 fn of_32_bits(rt: HostRuntime) -> Outcome {
-    for (bytes, read, place) in &OF_32_BITS {
-        let answer = Plain::Unsigned(read.answer(*place, Error::BadUnsignedLeb128));
-        reads(&rt, rt.alloc(), bytes, Leb128::Of32Bits, answer, *place)?;
+    for (bytes, read, offset) in &OF_32_BITS {
+        let answer = Plain::Unsigned(read.answer(*offset, Error::BadUnsignedLeb128));
+        reads(&rt, rt.alloc(), bytes, Leb128::Of32Bits, answer, *offset)?;
     }
     Ok(())
 }
 
 #[test]
 fn skipped(rt: HostRuntime) -> Outcome {
-    for (bytes, read, place) in &SKIPPED {
-        let answer = Plain::Done(read.answer(*place, Error::BadUnsignedLeb128));
+    for (bytes, read, offset) in &SKIPPED {
+        let answer = Plain::Done(read.answer(*offset, Error::BadUnsignedLeb128));
         for asked in [Leb128::Skip, Leb128::FreeSkip] {
-            reads(&rt, rt.alloc(), bytes, asked, answer, *place)?;
+            reads(&rt, rt.alloc(), bytes, asked, answer, *offset)?;
         }
     }
     Ok(())
@@ -293,19 +293,19 @@ static READS: [(Question, usize); 34] = [
 ];
 
 /// Where a reader begins and ends.
-pub fn places<R: Reader>(reader: &R) -> (u64, u64) {
+pub fn bounds<R: Reader>(reader: &R) -> (u64, u64) {
     let start = reader.offset_id().0;
     (start, start.saturating_add(reader.len().into_u64()))
 }
 
-// Reads that need more bytes than are left behind the first seven.
+// Reads that need more bytes than are left after the first seven.
 #[derive(Drop)]
 struct ShortReads {
     left: usize,
 }
 
 impl<H: Abort> ReaderTest<H> for ShortReads {
-    // Wants the refusal of each, and the reader as it was.
+    // Wants the error of each, and the reader as it was.
     fn run<R: Reader>(&self, rt: &H, alloc: Global, reader: R) -> Outcome {
         let mut whole = reader;
         whole.skip(ReaderOffset::from_u8(7))?;
@@ -315,7 +315,7 @@ impl<H: Abort> ReaderTest<H> for ShortReads {
                 let fault = ask(alloc, &mut reader, *question).fault();
                 let ends = Error::UnexpectedEof(whole.offset_id());
                 assert!(rt; fault == Some(ends), "{question:?}");
-                assert!(rt; places(&reader) == places(&whole), "{question:?}");
+                assert!(rt; bounds(&reader) == bounds(&whole), "{question:?}");
             }
         }
         Ok(())

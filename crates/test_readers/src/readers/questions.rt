@@ -1,4 +1,4 @@
-//! What readers are asked, as values, so that a list of them asks all of it.
+//! Questions to readers as values, so that a list has all of them.
 
 use crate::{Outcome, ReaderTest};
 use dwarf_constants::{Error, Format, ReaderOffsetId, Result};
@@ -18,7 +18,7 @@ pub enum Question {
     Leb128(Leb128),
 }
 
-/// What changes where a reader begins or ends.
+/// Moves of the start or the end of a reader.
 #[derive(Debug, Clone, Copy)]
 pub enum Move {
     Empty,
@@ -26,14 +26,14 @@ pub enum Move {
     Skip(u8),
 }
 
-/// What is told of places.
+/// Questions about offsets.
 #[derive(Debug, Clone, Copy)]
 pub enum Search {
     IsBigEndian,
     IsEmpty,
-    /// The offset of a place.
-    Place(u64),
-    /// How far the reader is behind itself after three bytes.
+    /// An offset in the section relative to the reader.
+    Relative(u64),
+    /// How far the reader is after itself once it has skipped three bytes.
     Behind,
     Byte(u8),
 }
@@ -42,7 +42,7 @@ pub enum Search {
 #[derive(Debug, Clone, Copy)]
 pub enum Text {
     Bytes,
-    /// The first bytes, so many.
+    /// The first n bytes.
     Split(u8),
     /// The bytes up to one that is 0.
     Terminated,
@@ -62,7 +62,7 @@ pub enum Fixed {
     U64,
     I64,
     U128,
-    /// Three bytes as they stand.
+    /// Three bytes as they are.
     Array,
 }
 
@@ -94,7 +94,7 @@ pub enum Leb128 {
     FreeSigned,
 }
 
-/// What comes of a question but bytes and texts. An offset is `UnsupportedOffset` where it has more than 32 bits, since
+/// The outcome of a question but bytes and texts. An offset is `UnsupportedOffset` if it has more than 32 bits, since
 /// readers differ in theirs.
 #[derive(Debug, Clone, Copy, PartialEq)]
 pub enum Plain {
@@ -122,16 +122,16 @@ impl Plain {
     }
 }
 
-/// What comes of a question.
+/// The outcome of a question.
 #[derive(Debug, PartialEq, Drop)]
 pub enum Answer {
     Plain(Plain),
-    /// The bytes of a part and its place.
+    /// The bytes of a part and its offset.
     Part(Result<(Vec<u8>, ReaderOffsetId)>),
     Text(Result<String>),
 }
 
-/// An answer that is wanted.
+/// The expected answer.
 #[derive(Debug, Clone, Copy)]
 pub enum Want {
     Plain(Plain),
@@ -141,7 +141,7 @@ pub enum Want {
 }
 
 impl Answer {
-    /// The refusal, if it is one.
+    /// The error, if it is one.
     pub fn fault(&self) -> Option<Error> {
         match self {
             Answer::Plain(plain) => plain.fault(),
@@ -154,8 +154,8 @@ impl Answer {
     fn is(&self, want: Want) -> bool {
         match (self, want) {
             (Answer::Plain(found), Want::Plain(want)) => *found == want,
-            (Answer::Part(Ok((bytes, place))), Want::Part(want, at)) => {
-                bytes.as_slice() == want && place.0 == at
+            (Answer::Part(Ok((bytes, offset))), Want::Part(want, at)) => {
+                bytes.as_slice() == want && offset.0 == at
             }
             (Answer::Text(Ok(text)), Want::Text(want)) => text.as_str() == want,
             (Answer::Text(Err(error)), Want::BadText) => *error == Error::BadUtf8,
@@ -169,7 +169,7 @@ fn narrow<O: ReaderOffset>(offset: Result<O>) -> Result<u64> {
     Ok(u64::from(u32::from_u64(offset?.into_u64())?))
 }
 
-// The bytes of a part and its place.
+// The bytes of a part and its offset.
 fn part<R: Reader>(alloc: Global, part: Result<R>) -> Answer {
     let part = match part {
         Ok(part) => part,
@@ -224,8 +224,8 @@ fn ask_search<R: Reader>(r: &R, asked: Search) -> Plain {
     match asked {
         Search::IsBigEndian => Plain::Flag(r.endian().is_big_endian()),
         Search::IsEmpty => Plain::Flag(r.is_empty()),
-        Search::Place(place) => {
-            let offset = r.lookup_offset_id(ReaderOffsetId(place));
+        Search::Relative(id) => {
+            let offset = r.lookup_offset_id(ReaderOffsetId(id));
             Plain::Found(offset.map(|offset| offset.into_u64()))
         }
         Search::Behind => Plain::Unsigned(behind(r)),
@@ -285,7 +285,7 @@ fn ask_leb128<R: Reader>(r: &mut R, asked: Leb128) -> Plain {
     }
 }
 
-/// What a reader answers.
+/// The answers of a reader.
 pub fn ask<R: Reader>(alloc: Global, reader: &mut R, question: Question) -> Answer {
     match question {
         Question::Move(asked) => Answer::Plain(ask_move(reader, asked)),
@@ -297,20 +297,20 @@ pub fn ask<R: Reader>(alloc: Global, reader: &mut R, question: Question) -> Answ
     }
 }
 
-/// A question, the answer that is wanted, and the place behind it.
+/// A question, the expected answer, and the offset after it.
 pub type Step = (Question, Want, u64);
 
-/// What a reader is asked, one after the other.
+/// Questions to a reader, one after the other.
 #[derive(Drop)]
 pub struct Script<'a>(pub &'a [Step]);
 
 impl<H: Abort> ReaderTest<H> for Script<'_> {
     fn run<R: Reader>(&self, rt: &H, alloc: Global, reader: R) -> Outcome {
         let mut reader = reader;
-        for (question, want, place) in self.0 {
+        for (question, want, offset) in self.0 {
             let found = ask(alloc, &mut reader, *question);
             assert!(rt; found.is(*want), "{question:?} {found:?}");
-            assert!(rt; reader.offset_id().0 == *place, "{question:?} {place}");
+            assert!(rt; reader.offset_id().0 == *offset, "{question:?} {offset}");
         }
         Ok(())
     }

@@ -1,6 +1,6 @@
 //! Every kind of reader over the same bytes, beside one in one piece.
 
-use super::numbers::places;
+use super::numbers::bounds;
 use super::questions::{Fixed, Leb128, Move, Question, Search, Sized, Text, ask};
 use crate::{Outcome, ReaderTest, over_each_reader};
 use dwarf_constants::Format;
@@ -27,12 +27,12 @@ static QUESTIONS: [Question; 79] = [
     Question::Text(Text::Split(22)),
     Question::Search(Search::IsBigEndian),
     Question::Search(Search::IsEmpty),
-    Question::Search(Search::Place(0)),
-    Question::Search(Search::Place(1)),
-    Question::Search(Search::Place(4)),
-    Question::Search(Search::Place(20)),
-    Question::Search(Search::Place(21)),
-    Question::Search(Search::Place(22)),
+    Question::Search(Search::Relative(0)),
+    Question::Search(Search::Relative(1)),
+    Question::Search(Search::Relative(4)),
+    Question::Search(Search::Relative(20)),
+    Question::Search(Search::Relative(21)),
+    Question::Search(Search::Relative(22)),
     Question::Search(Search::Behind),
     Question::Search(Search::Byte(0)),
     Question::Search(Search::Byte(0x61)),
@@ -90,7 +90,7 @@ static QUESTIONS: [Question; 79] = [
     Question::Leb128(Leb128::FreeSigned),
 ];
 
-// Asks both readers the same, each as a copy of its own: wants one answer, and one place and length behind it.
+// Asks both readers the same, each as a copy of its own: wants the same answer, and the same offset and length after it.
 fn agree<A: Reader, B: Reader>(
     rt: &impl Abort,
     alloc: Global,
@@ -104,7 +104,7 @@ fn agree<A: Reader, B: Reader>(
         ask(alloc, &mut two, question),
     );
     assert!(rt; first == second, "{question:?}: {first:?}, {second:?}");
-    assert!(rt; places(&one) == places(&two), "{question:?}");
+    assert!(rt; bounds(&one) == bounds(&two), "{question:?}");
 }
 
 // The bytes of the reader, and their order.
@@ -115,7 +115,7 @@ struct SameAnswers<'a> {
 }
 
 impl<H: Abort> ReaderTest<H> for SameAnswers<'_> {
-    // Both readers from each place of the bytes on.
+    // Both readers from each offset of the bytes on.
     fn run<R: Reader>(&self, rt: &H, alloc: Global, reader: R) -> Outcome {
         for start in 0..self.bytes.len() + 1 {
             let mut one = EndianSlice::new(self.bytes, self.endian);

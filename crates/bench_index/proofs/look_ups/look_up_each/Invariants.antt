@@ -1,5 +1,5 @@
 use Rattle.std.proofs.Common.{◌≡◌, ◌≤◌, ◌^◌, ℕ, suc, length}
-use Rattle.dwarf_frame_sections.specs.Sections.{FrameSection}
+use Rattle.dwarf_frame_rows.specs.FrameSection.{FrameSection}
 use Rattle.dwarf_frame_entries.specs.SectionFdes.{whole_fdes}
 use Rattle.framehop.specs.CfiIndexView.{IsIndexOf}
 use Rattle.bench_index.specs.LookUps.{found_among}

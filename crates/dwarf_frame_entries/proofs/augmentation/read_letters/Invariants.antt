@@ -1,7 +1,7 @@
 use Rattle.std.proofs.Common.{◌≡◌, length, option_map}
 use Rattle.dwarf_frame_rows.specs.EncodedPointer.{origins_of}
 use Rattle.dwarf_frame_entries.specs.Augmentations.{no_letters, with_letters}
-use Rattle.dwarf_frame_entries.specs.LetterViews.{IsBehindStart, letters_view}
+use Rattle.dwarf_frame_entries.specs.LetterViews.{IsAfterStart, letters_view}
 use Rattle.dwarf_frame_entries.proofs.augmentation.read_letters.Given as goal
 
 abbrev pub invariant-loop-letters : goal.invariant-loop-letters
@@ -10,7 +10,7 @@ invariant-loop-letters g l =
     let origins = origins_of stretch l.parameters in
     record {
       said : with_letters origins (stretch l.fn.text).bytes (no_letters (option_map stretch l.fn.left)) ≡ with_letters origins (stretch l.letters).bytes (letters_view stretch l.read);
-      placed : IsBehindStart (stretch l.parameters.section.now) (letters_view stretch l.read);
+      placed : IsAfterStart (stretch l.parameters.section.now) (letters_view stretch l.read);
     }
 
 abbrev pub decreases-loop-letters : goal.decreases-loop-letters

@@ -1,6 +1,6 @@
 use Rattle.std.proofs.Common.{sym, ◌∙◌, None}
 use Rattle.dwarf_frame_entries.specs.EntryViews.{entry_view}
-use Rattle.dwarf_frame_sections.specs.Sections.{frame_section}
+use Rattle.dwarf_frame_rows.specs.FrameSection.{frame_section}
 use Rattle.dwarf_frame_entries.proofs.EntryLists.{goes_on-ended, goes_on-entry, goes_on-none, goes_on-passed, goes_on-refused, passed-shorter}
 use Rattle.dwarf_frame_entries.proofs.entries.read_next.Goals as goal
 

@@ -1,5 +1,5 @@
 use Rattle.std.proofs.Common.{length}
-use Rattle.dwarf_frame_sections.specs.Sections.{frame_section}
+use Rattle.dwarf_frame_rows.specs.FrameSection.{frame_section}
 use Rattle.dwarf_frame_entries.proofs.EntryLists.{GoesOnAt}
 use Rattle.dwarf_frame_entries.proofs.entries.read_next.Given as goal
 

@@ -1,7 +1,6 @@
 use Rattle.std.proofs.Common.{length, ap, arith}
 use Rattle.std.proofs.lemmas.Result.{err_from_is_err_and}
-use Rattle.dwarf_frame_rows.specs.Effects.{limits_of}
-use Rattle.dwarf_frame_instructions.specs.Execution.{TakesNoMemory, state_in}
+use Rattle.dwarf_frame_instructions.specs.Execution.{state_in}
 use Rattle.dwarf_frame_instructions.specs.InstructionViews.{conventions_by, instruction_as}
 use Rattle.dwarf_frame_instructions.specs.Instructions.{instructions_of}
 use Rattle.dwarf_frame_instructions.proofs.Execution.{reached_next, runs_ended, runs_faulty, runs_moved, runs_refused}
@@ -11,14 +10,14 @@ pub returns-in_err-instruction : goal.returns-in_err-instruction
 returns-in_err-instruction g c =
     let number = g.R.Offset.ReaderOffset.value in
     let items = g.S-Stack-ArrayLike.items in
-    let limits = limits_of g.S.Rules.ArrayLike.capacity g.S-Stack-ArrayLike.capacity in
-    let fixed = TakesNoMemory g.S.Rules.ArrayLike.is_made_in_place limits in
+    let limits = g.S.UnwindContextStorage.limits in
+    let fixed = g.S.UnwindContextStorage.never_allocates in
     let listed = λ (r : _). instructions_of (conventions_by g.R.Reader.stretch g.R.Offset.ReaderOffset.limit c.args.coding.now) (g.R.Reader.stretch r) in
     let old = state_in number items c.args.context.now in
     let now = state_in number items c.loop-instruction.context in
     let p = err_from_is_err_and c.from_residual.result c.from_residual.ensures.1 in
     rw (p.1, p.2) (record {
-      front = λ past h. runs_faulty fixed limits c.args.factors.now c.args.location old now (listed c.args.input.now) (listed c.loop-instruction.input) past (c.loop-instruction.invariant.reached past h)
+      prefix = λ executed h. runs_faulty fixed limits c.args.factors.now c.args.location old now (listed c.args.input.now) (listed c.loop-instruction.input) executed (c.loop-instruction.invariant.reached executed h)
           (listed c.next.new.input) now c.in_err-instruction.field-0.0 c.in_err-instruction.ensures.0;
       falls = tt;
     })
@@ -27,8 +26,8 @@ pub returns-in_err-next : goal.returns-in_err-next
 returns-in_err-next g c =
     let number = g.R.Offset.ReaderOffset.value in
     let items = g.S-Stack-ArrayLike.items in
-    let limits = limits_of g.S.Rules.ArrayLike.capacity g.S-Stack-ArrayLike.capacity in
-    let fixed = TakesNoMemory g.S.Rules.ArrayLike.is_made_in_place limits in
+    let limits = g.S.UnwindContextStorage.limits in
+    let fixed = g.S.UnwindContextStorage.never_allocates in
     let listed = λ (r : _). instructions_of (conventions_by g.R.Reader.stretch g.R.Offset.ReaderOffset.limit c.args.coding.now) (g.R.Reader.stretch r) in
     let old = state_in number items c.args.context.now in
     let now = state_in number items c.loop-instruction.context in
@@ -36,8 +35,8 @@ returns-in_err-next g c =
     let list = rw c.in-Some.is at c.in_ok-instruction.ensures in
     let p = err_from_is_err_and c.from_residual-in_err-next.result c.from_residual-in_err-next.ensures.1 in
     rw (p.1, p.2) (record {
-      front = λ past h. runs_refused fixed limits c.args.factors.now c.args.location old now (listed c.args.input.now) (listed c.loop-instruction.input) past (c.loop-instruction.invariant.reached past h)
-          (instruction_as number c.in-Some.instruction) (listed c.next.new.input) new c.in_err-next.field-0.0 list (c.in_err-next.ensures (c.loop-instruction.invariant.reached past h).past (c.loop-instruction.invariant.reached past h).stands);
+      prefix = λ executed h. runs_refused fixed limits c.args.factors.now c.args.location old now (listed c.args.input.now) (listed c.loop-instruction.input) executed (c.loop-instruction.invariant.reached executed h)
+          (instruction_as number c.in-Some.instruction) (listed c.next.new.input) new c.in_err-next.field-0.0 list (c.in_err-next.ensures (c.loop-instruction.invariant.reached executed h).executed (c.loop-instruction.invariant.reached executed h).stands);
       falls = tt;
     })
 
@@ -45,8 +44,8 @@ pub returns-in-Some-2 : goal.returns-in-Some-2
 returns-in-Some-2 g c =
     let number = g.R.Offset.ReaderOffset.value in
     let items = g.S-Stack-ArrayLike.items in
-    let limits = limits_of g.S.Rules.ArrayLike.capacity g.S-Stack-ArrayLike.capacity in
-    let fixed = TakesNoMemory g.S.Rules.ArrayLike.is_made_in_place limits in
+    let limits = g.S.UnwindContextStorage.limits in
+    let fixed = g.S.UnwindContextStorage.never_allocates in
     let listed = λ (r : _). instructions_of (conventions_by g.R.Reader.stretch g.R.Offset.ReaderOffset.limit c.args.coding.now) (g.R.Reader.stretch r) in
     let old = state_in number items c.args.context.now in
     let now = state_in number items c.loop-instruction.context in
@@ -55,8 +54,8 @@ returns-in-Some-2 g c =
     let len = ap length list in
     let left = c.loop-instruction.invariant.falls in
     record {
-      front = λ past h. runs_moved fixed limits c.args.factors.now c.args.location old now (listed c.args.input.now) (listed c.loop-instruction.input) past (c.loop-instruction.invariant.reached past h)
-          (instruction_as number c.in-Some.instruction) (listed c.next.new.input) new c.in-Some-2.next list (rw c.in-Some-2.is at (c.in_ok-next.ensures (c.loop-instruction.invariant.reached past h).past (c.loop-instruction.invariant.reached past h).stands));
+      prefix = λ executed h. runs_moved fixed limits c.args.factors.now c.args.location old now (listed c.args.input.now) (listed c.loop-instruction.input) executed (c.loop-instruction.invariant.reached executed h)
+          (instruction_as number c.in-Some.instruction) (listed c.next.new.input) new c.in-Some-2.next list (rw c.in-Some-2.is at (c.in_ok-next.ensures (c.loop-instruction.invariant.reached executed h).executed (c.loop-instruction.invariant.reached executed h).stands));
       falls = omega (arith, len, left);
     }
 
@@ -64,14 +63,14 @@ pub returns : goal.returns
 returns g c =
     let number = g.R.Offset.ReaderOffset.value in
     let items = g.S-Stack-ArrayLike.items in
-    let limits = limits_of g.S.Rules.ArrayLike.capacity g.S-Stack-ArrayLike.capacity in
-    let fixed = TakesNoMemory g.S.Rules.ArrayLike.is_made_in_place limits in
+    let limits = g.S.UnwindContextStorage.limits in
+    let fixed = g.S.UnwindContextStorage.never_allocates in
     let listed = λ (r : _). instructions_of (conventions_by g.R.Reader.stretch g.R.Offset.ReaderOffset.limit c.args.coding.now) (g.R.Reader.stretch r) in
     let old = state_in number items c.args.context.now in
     let now = state_in number items c.loop-instruction.context in
     let list = rw c.in_default.is at c.in_ok-instruction.ensures in
     record {
-      front = λ past h. runs_ended fixed limits c.args.factors.now c.args.location old now (listed c.args.input.now) (listed c.loop-instruction.input) past (c.loop-instruction.invariant.reached past h)
+      prefix = λ executed h. runs_ended fixed limits c.args.factors.now c.args.location old now (listed c.args.input.now) (listed c.loop-instruction.input) executed (c.loop-instruction.invariant.reached executed h)
           (listed c.next.new.input) list.0;
       falls = tt;
     }
@@ -80,8 +79,8 @@ pub loop-instruction-preserved : goal.loop-instruction-preserved
 loop-instruction-preserved g c =
     let number = g.R.Offset.ReaderOffset.value in
     let items = g.S-Stack-ArrayLike.items in
-    let limits = limits_of g.S.Rules.ArrayLike.capacity g.S-Stack-ArrayLike.capacity in
-    let fixed = TakesNoMemory g.S.Rules.ArrayLike.is_made_in_place limits in
+    let limits = g.S.UnwindContextStorage.limits in
+    let fixed = g.S.UnwindContextStorage.never_allocates in
     let listed = λ (r : _). instructions_of (conventions_by g.R.Reader.stretch g.R.Offset.ReaderOffset.limit c.args.coding.now) (g.R.Reader.stretch r) in
     let old = state_in number items c.args.context.now in
     let now = state_in number items c.loop-instruction.context in
@@ -90,7 +89,7 @@ loop-instruction-preserved g c =
     let len = ap length list in
     let left = c.loop-instruction.invariant.falls in
     record {
-      reached = λ past h. reached_next fixed limits c.args.factors.now c.args.location old now (listed c.args.input.now) (listed c.loop-instruction.input) past (c.loop-instruction.invariant.reached past h)
-          (instruction_as number c.in-Some.instruction) (listed c.next.new.input) new list (rw c.in_default-2.is at (c.in_ok-next.ensures (c.loop-instruction.invariant.reached past h).past (c.loop-instruction.invariant.reached past h).stands));
+      reached = λ executed h. reached_next fixed limits c.args.factors.now c.args.location old now (listed c.args.input.now) (listed c.loop-instruction.input) executed (c.loop-instruction.invariant.reached executed h)
+          (instruction_as number c.in-Some.instruction) (listed c.next.new.input) new list (rw c.in_default-2.is at (c.in_ok-next.ensures (c.loop-instruction.invariant.reached executed h).executed (c.loop-instruction.invariant.reached executed h).stands));
       falls = omega (arith, len, left);
     }

@@ -1,6 +1,5 @@
 use Rattle.std.proofs.Common.{◌≤◌, ℕ, List, length}
 use Rattle.dwarf_frame_rows.specs.declared.effect.Effect.{Effect}
-use Rattle.dwarf_frame_rows.specs.Effects.{limits_of}
 use Rattle.dwarf_frame_instructions.specs.Execution.{state_in}
 use Rattle.dwarf_frame_instructions.specs.InstructionViews.{conventions_by}
 use Rattle.dwarf_frame_instructions.specs.Instructions.{instructions_of}
@@ -16,8 +15,8 @@ invariant-loop-instruction g l =
     let first = instructions_of conventions (g.R.Reader.stretch l.fn.input) in
     let left = instructions_of conventions (g.R.Reader.stretch l.input) in
     record {
-      reached : (past : List (Effect ℕ)) → Stands (state_in number items l.fn.context) past
-          → Reached (limits_of g.S.Rules.ArrayLike.capacity g.S-Stack-ArrayLike.capacity) l.factors l.location (state_in number items l.fn.context) (state_in number items l.context) first left past;
+      reached : (executed : List (Effect ℕ)) → Stands (state_in number items l.fn.context) executed
+          → Reached g.S.UnwindContextStorage.limits l.factors l.location (state_in number items l.fn.context) (state_in number items l.context) first left executed;
       falls : length left ≤ length first;
     }
 

@@ -6,8 +6,8 @@ returns g c = record {
   then_other = then_stays_as;
   then_read = λ more before after next. then_stays more before after next;
   then_steady = λ read next. steady_then read next;
-  behind_test = λ more test e before after. given_stays more test e before after;
+  after_test = λ more test e before after. given_stays more test e before after;
   either = λ more test a b c d. cond_stays more test a b c d;
   value = λ more value left. value_stays more value left;
-  refusal = λ more e. refusal_stays more e;
+  error = λ more e. refusal_stays more e;
 }

@@ -9,6 +9,6 @@ returns c = record {
   signed_number = signed_number_steady;
   bytes = bytes_steady;
   behind = behind_steady;
-  front = front_steady;
+  first = front_steady;
   split = split_steady;
 }

@@ -3,11 +3,11 @@ use Rattle.dwarf_readers.proofs.remainders.answers_go_on.Goals as goal
 
 pub returns : goal.returns
 returns g c = record {
-  then_other = λ rest other place first next h others. on_then h others;
-  behind_value = λ other place value next others. on_value value others;
-  either = λ rest place test a b p q. on_if test p q;
-  ok = λ rest place x h. on_ok h;
-  err = λ rest place e. on_err;
-  from = λ rest place before answer h le. on_from h le;
-  known = λ rest place answer x h is. on_is h is;
+  then_other = λ rest other offset first next h others. on_then h others;
+  after_value = λ other offset value next others. on_value value others;
+  either = λ rest offset test a b p q. on_if test p q;
+  ok = λ rest offset x h. on_ok h;
+  err = λ rest offset e. on_err;
+  from = λ rest offset before answer h le. on_from h le;
+  known = λ rest offset answer x h is. on_is h is;
 }

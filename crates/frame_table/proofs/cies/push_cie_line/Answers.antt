@@ -2,21 +2,21 @@ use Rattle.std.proofs.Common.{◌++◌, ◌∙◌}
 use Rattle.std.specs.Prelude.{codes}
 use Rattle.std.proofs.lemmas.Result.{on_ok_weaker}
 use Rattle.dwarf_frame_entries.specs.EntryViews.{cie_view}
-use Rattle.frame_table.specs.Entries.{cie_factors, cie_register, front_text}
-use Rattle.frame_table.specs.FrontViews.{front_view}
+use Rattle.frame_table.specs.Entries.{cie_factors, cie_register, prefix_text}
+use Rattle.frame_table.specs.EntryPrefixViews.{prefix_view}
 use Rattle.frame_table.proofs.Appends.{as_part, then}
-use Rattle.frame_table.proofs.Entries.{same_front}
+use Rattle.frame_table.proofs.Entries.{same_prefix}
 use Rattle.frame_table.proofs.cies.push_cie_line.Goals as goal
 
 pub returns : goal.returns
 returns g c =
     let cie = cie_view g.R.Reader.stretch g.R.Offset.ReaderOffset.value c.args.cie.now in
-    let front = front_view g.R.Reader.stretch c.args.front.now in
-    let start = front_text cie.address_size cie.head front in
+    let prefix = prefix_view g.R.Reader.stretch c.args.prefix.now in
+    let start = prefix_text cie.address_size cie.head prefix in
     let name = codes " CIE \"" in
     let said = (g.R.Reader.stretch c.args.augmentation.now).bytes in
     let old = c.args.text.now.items in
-    let first = c.push_front.new.text.items in
+    let first = c.push_prefix.new.text.items in
     let second = c.push_bytes.new.text.items in
     let third = c.push_reader.new.text.items in
     let fourth = c.push_factors.new.text.items in
@@ -26,8 +26,8 @@ returns g c =
     (then old third fourth (start ++ name ++ said) (cie_factors cie)
     (then old second third (start ++ name) said
     (then old first second start name
-    (as_part old first _ start (c.in_ok-push_front.ensures g.R.Reader.stretch)
-    (same_front _ _ _ _ _ _ front c.address_size-size.ensures (c.into_u64-offset.ensures.value ∙ c.offset.ensures) (c.into_u64-length.ensures.value ∙ c.entry_len.ensures)))
+    (as_part old first _ start (c.in_ok-push_prefix.ensures g.R.Reader.stretch)
+    (same_prefix _ _ _ _ _ _ prefix c.address_size-size.ensures (c.into_u64-offset.ensures.value ∙ c.offset.ensures) (c.into_u64-length.ensures.value ∙ c.entry_len.ensures)))
     c.in_ok-push_bytes.ensures)
     c.in_ok-push_reader.ensures)
     c.in_ok-push_factors.ensures)

@@ -1,5 +1,4 @@
 use Rattle.std.proofs.Common.{ℕ, List, [], ap, ◌∙◌}
-use Rattle.dwarf_frame_rows.specs.Effects.{limits_of}
 use Rattle.dwarf_frame_instructions.specs.Programs.{Instructions}
 use Rattle.dwarf_frame_entries.specs.EntryViews.{cie_view}
 use Rattle.frame_table.specs.Entries.{entry_table}
@@ -8,7 +7,7 @@ use Rattle.frame_table.proofs.cies.push_whole_cie.Goals as goal
 
 pub returns : goal.returns
 returns g c =
-    let limits = limits_of g.S.Rules.ArrayLike.capacity g.S-Stack-ArrayLike.capacity in
+    let limits = g.S.UnwindContextStorage.limits in
     let cie = cie_view g.R.Reader.stretch g.R.Offset.ReaderOffset.value c.args.cie.now in
     whole_part limits c.end_part.result _ _ _ _ _ _ _ _ _ _ _ _ _ c.in_ok-push_cie_line.ensures c.in_ok-refusal.ensures.lines c.in_ok-refusal.ensures.refusal
     (c.in_ok-table.ensures ∙ ap (λ (keys : List ℕ). entry_table c.args.machine cie keys c.instructions.result) c.new-none.ensures.empty

@@ -2,9 +2,9 @@ use Rattle.std.proofs.Common.{◌≡◌, ℕ, ap, ◌∙◌}
 use Rattle.std.proofs.lemmas.Result.{on_ok_weaker}
 use Rattle.dwarf_frame_entries.specs.Entries.{Cie}
 use Rattle.frame_table.specs.Entries.{fde_places}
-use Rattle.frame_table.specs.FrontViews.{front_view}
+use Rattle.frame_table.specs.EntryPrefixViews.{prefix_view}
 use Rattle.frame_table.proofs.Appends.{as_part, then}
-use Rattle.frame_table.proofs.Entries.{same_front}
+use Rattle.frame_table.proofs.Entries.{same_prefix}
 use Rattle.frame_table.proofs.fdes.push_fde_line.Goals as goal
 
 -- the same places, by equal numbers
@@ -18,7 +18,7 @@ returns g c =
     let size = c.address_size-size.ensures ∙ ap (λ (cie : Cie). cie.address_size) c.cie-cie.ensures in
     on_ok_weaker c.push_places.result
     (λ last. then _ _ _ _ _
-    (as_part _ _ _ _ (c.in_ok-push_front.ensures g.R.Reader.stretch)
-    (same_front _ _ _ _ _ _ (front_view g.R.Reader.stretch c.args.front.now) size (c.into_u64-offset.ensures.value ∙ c.offset.ensures) (c.into_u64-length.ensures.value ∙ c.entry_len.ensures)))
+    (as_part _ _ _ _ (c.in_ok-push_prefix.ensures g.R.Reader.stretch)
+    (same_prefix _ _ _ _ _ _ (prefix_view g.R.Reader.stretch c.args.prefix.now) size (c.into_u64-offset.ensures.value ∙ c.offset.ensures) (c.into_u64-length.ensures.value ∙ c.entry_len.ensures)))
     (as_part _ _ _ _ last (same_places _ _ _ _ _ _ _ size c.initial_address-start.ensures c.end_address-end.ensures)))
     c.push_places.ensures

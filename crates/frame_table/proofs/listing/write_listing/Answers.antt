@@ -1,84 +1,85 @@
-use Rattle.std.proofs.Common.{rules, ◌≡◌, ℕ, List, [], ◌++◌, sym, ap, subst, ◌∙◌}
+use Rattle.std.proofs.Common.{rules, ◌≡◌, ℕ, List, [], ◌++◌, false, sym, ap, subst, ◌∙◌}
 use Rattle.std.proofs.lemmas.List.{append-nil}
-use Rattle.json_program.proofs.Laws.{begun_line, written_all, written_front, written_more, written_none}
+use Rattle.json_program.proofs.Laws.{begun_line, written_all, written_prefix, written_more, written_none}
 use Rattle.json_program.specs.Stream.{IsWritten}
-use Rattle.dwarf_frame_rows.specs.Effects.{limits_of}
-use Rattle.dwarf_frame_sections.specs.Sections.{frame_section}
+use Rattle.dwarf_frame_rows.specs.FrameSection.{FrameSection}
 use Rattle.dwarf_frame_entries.specs.EntryLists.{entries_of}
 use Rattle.dwarf_frame_entries.specs.EntryViews.{entry_view}
-use Rattle.frame_table.specs.Entries.{fault_text, part_of}
-use Rattle.frame_table.specs.EntryWrites.{setting_with}
+use Rattle.frame_table.specs.Entries.{fault_text, listed_part}
+use Rattle.frame_table.specs.EntryWrites.{setting}
 use Rattle.frame_table.specs.Listing.{Listing, listing_from, listing_of}
 use Rattle.frame_table.proofs.Listings.{begins, ends_here, goes_on}
-use Rattle.frame_table.proofs.Writes.{not_failed, on_err}
+use Rattle.json_program.proofs.Runs.{not_failed}
+use Rattle.frame_table.proofs.Writes.{ends_as, stops_after}
 use Rattle.frame_table.proofs.listing.write_listing.Goals as goal
 
 pub entries-init : goal.entries-init
 entries-init g c =
-    let limits = limits_of g.S.Rules.ArrayLike.capacity g.S-Stack-ArrayLike.capacity in
-    let section = frame_section g.R.Offset.ReaderOffset.limit g.Section._UnwindSectionPrivate.kind (g.Section._UnwindSectionPrivate.size c.args.section.now)
-    (g.R.Reader.stretch (g.Section._UnwindSectionPrivate.reader c.args.section.now)) c.args.bases.now in
-    let s = setting_with limits section (g.Section._UnwindSectionPrivate.extensions c.args.section.now) c.args.machine in
+    let limits = g.S.UnwindContextStorage.limits in
+    let section = g.Section._UnwindSectionPrivate.frame c.args.section.now c.args.bases.now in
+    let s = setting limits section (g.Section._UnwindSectionPrivate.extensions c.args.section.now) c.args.machine in
     let list = c.entries-entries.result.entries in
     let all : list ≡ entries_of section = ap (λ l. l.entries) c.entries-entries.ensures in
-    let same : listing_from s c.start_of-place.result list ≡ listing_of s =
-    ap (λ (place : ℕ). listing_from s place list) c.start_of-place.ensures ∙ ap (listing_from s section.within.bytes.place) all in
+    let starts : section.within.bytes.offset ≡ (g.R.Reader.stretch (g.Section._UnwindSectionPrivate.reader c.args.section.now)).offset =
+    ap (λ (f : FrameSection). f.within.bytes.offset) (g.met.Section._UnwindSectionPrivate.framed c.args.section.now c.args.bases.now) in
+    let same : listing_from s c.start_of-offset.result list ≡ listing_of s =
+    ap (λ (offset : ℕ). listing_from s offset list) (c.start_of-offset.ensures ∙ sym starts) ∙ ap (listing_from s section.within.bytes.offset) all in
     let w = g.W.Sink.contents c.args.writer.now in
     record {
       failed = c.requires;
-      stands = subst (λ (t : List ℕ). IsWritten w w (listing_from s c.start_of-place.result list).text t) (ap (λ (l : Listing). l.text) same) (written_none w (listing_from s c.start_of-place.result list).text);
+      stands = subst (λ (t : List ℕ). IsWritten w w (listing_from s c.start_of-offset.result list).text t) (ap (λ (l : Listing). l.text) same) (written_none w (listing_from s c.start_of-offset.result list).text);
       whole = ap (λ (l : Listing). l.is_whole) same;
     }
 
-pub returns-in_err-end-in-Ok-Some-clause-begun : goal.returns-in_err-end-in-Ok-Some-clause-begun
-returns-in_err-end-in-Ok-Some-clause-begun g c = on_err _ (written_front _ _ _ _ c.entries.invariant.stands)
+pub returns-in_err-end-in-Ok-Some-clause-listing : goal.returns-in_err-end-in-Ok-Some-clause-listing
+returns-in_err-end-in-Ok-Some-clause-listing g c =
+    stops_after c.from_residual.result _ _ _ c.from_residual.ensures.0 (written_prefix _ _ _ _ c.entries.invariant.stands)
 
-pub returns-in_err-write_all-in-Ok-Some-clause-begun : goal.returns-in_err-write_all-in-Ok-Some-clause-begun
-returns-in_err-write_all-in-Ok-Some-clause-begun g c =
-    let limits = limits_of g.S.Rules.ArrayLike.capacity g.S-Stack-ArrayLike.capacity in
-    let section = frame_section g.R.Offset.ReaderOffset.limit g.Section._UnwindSectionPrivate.kind (g.Section._UnwindSectionPrivate.size c.args.section.now)
-    (g.R.Reader.stretch (g.Section._UnwindSectionPrivate.reader c.args.section.now)) c.args.bases.now in
-    let s = setting_with limits section (g.Section._UnwindSectionPrivate.extensions c.args.section.now) c.args.machine in
+pub returns-in_err-write_all-in-Ok-Some-clause-listing : goal.returns-in_err-write_all-in-Ok-Some-clause-listing
+returns-in_err-write_all-in-Ok-Some-clause-listing g c =
+    let limits = g.S.UnwindContextStorage.limits in
+    let section = g.Section._UnwindSectionPrivate.frame c.args.section.now c.args.bases.now in
+    let s = setting limits section (g.Section._UnwindSectionPrivate.extensions c.args.section.now) c.args.machine in
     let entry = entry_view g.R.Reader.stretch g.R.Offset.ReaderOffset.value c.in-Ok-Some.entry in
     let list = rw c.in-Ok-Some.field-0-is at c.in-Ok-Some.ensures.list in
-    let more = begins s c.entries.place c.entries.entries.entries c.next.new.self.entries entry list in
+    let more = begins s c.entries.offset c.entries.entries.entries c.next.new.self.entries entry list in
     let none : c.new-text.result.items ≡ [] = search rules in
-    let line : c.as_slice.result.now ≡ (part_of s entry).text = c.as_slice.ensures.value ∙ c.in_ok-end-in-Ok-Some.ensures.0 ∙ ap (λ (xs : List ℕ). xs ++ (part_of s entry).text) none in
+    let line : c.as_slice.result.now ≡ (listed_part s entry).text = c.as_slice.ensures.value ∙ c.in_ok-end-in-Ok-Some.ensures.0 ∙ ap (λ (xs : List ℕ). xs ++ (listed_part s entry).text) none in
     let all = (listing_of s).text in
     let old = g.W.Sink.contents c.args.writer.now in
     let mid = g.W.Sink.contents c.entries.writer in
     let stands = subst (λ (t : List ℕ). IsWritten old mid t all) (more.1 ∙ ap (λ (xs : List ℕ). xs ++ more.0) (sym line)) c.entries.invariant.stands in
-    on_err _ (begun_line old mid (g.W.Sink.contents c.write_all.new.sink) c.as_slice.result.now more.0 all stands c.in_err-write_all-in-Ok-Some.ensures.begun)
+    stops_after c.from_residual-in_err-write_all-in-Ok-Some.result old (g.W.Sink.contents c.write_all.new.sink) (listing_of s) c.from_residual-in_err-write_all-in-Ok-Some.ensures.0
+    (begun_line old mid (g.W.Sink.contents c.write_all.new.sink) c.as_slice.result.now more.0 all stands c.in_err-write_all-in-Ok-Some.ensures.text.prefix)
 
-pub returns-in-None-clause-text : goal.returns-in-None-clause-text
-returns-in-None-clause-text g c =
-    let limits = limits_of g.S.Rules.ArrayLike.capacity g.S-Stack-ArrayLike.capacity in
-    let section = frame_section g.R.Offset.ReaderOffset.limit g.Section._UnwindSectionPrivate.kind (g.Section._UnwindSectionPrivate.size c.args.section.now)
-    (g.R.Reader.stretch (g.Section._UnwindSectionPrivate.reader c.args.section.now)) c.args.bases.now in
-    let s = setting_with limits section (g.Section._UnwindSectionPrivate.extensions c.args.section.now) c.args.machine in
+pub returns-in-None-clause-listing : goal.returns-in-None-clause-listing
+returns-in-None-clause-listing g c =
+    let limits = g.S.UnwindContextStorage.limits in
+    let section = g.Section._UnwindSectionPrivate.frame c.args.section.now c.args.bases.now in
+    let s = setting limits section (g.Section._UnwindSectionPrivate.extensions c.args.section.now) c.args.machine in
     let entry = entry_view g.R.Reader.stretch g.R.Offset.ReaderOffset.value c.in-Ok-Some.entry in
     let list = rw c.in-Ok-Some.field-0-is at c.in-Ok-Some.ensures.list in
-    let last = ends_here s c.entries.place c.entries.entries.entries c.next.new.self.entries entry list (sym c.in_ok-end-in-Ok-Some.ensures.1 ∙ c.in-None.is) in
+    let last = ends_here s c.entries.offset c.entries.entries.entries c.next.new.self.entries entry list (sym c.in_ok-end-in-Ok-Some.ensures.1 ∙ c.in-None.is) in
     let none : c.new-text.result.items ≡ [] = search rules in
-    let line : c.as_slice.result.now ≡ (part_of s entry).text = c.as_slice.ensures.value ∙ c.in_ok-end-in-Ok-Some.ensures.0 ∙ ap (λ (xs : List ℕ). xs ++ (part_of s entry).text) none in
+    let line : c.as_slice.result.now ≡ (listed_part s entry).text = c.as_slice.ensures.value ∙ c.in_ok-end-in-Ok-Some.ensures.0 ∙ ap (λ (xs : List ℕ). xs ++ (listed_part s entry).text) none in
     let all = (listing_of s).text in
     let old = g.W.Sink.contents c.args.writer.now in
     let mid = g.W.Sink.contents c.entries.writer in
     let new = g.W.Sink.contents c.write_all.new.sink in
     let stands = subst (λ (t : List ℕ). IsWritten old mid t all) (ap (λ (l : Listing). l.text) last ∙ sym line ∙ sym (append-nil c.as_slice.result.now)) c.entries.invariant.stands in
-    written_all old new all (written_more old mid new c.as_slice.result.now [] all stands c.in_ok-write_all-in-Ok-Some.ensures.written)
+    ends_as false old new (listing_of s) (written_all old new all (written_more old mid new c.as_slice.result.now [] all stands c.in_ok-write_all-in-Ok-Some.ensures.text.whole))
+    (sym (ap (λ (l : Listing). l.is_whole) last) ∙ c.entries.invariant.whole)
 
 pub entries-preserved : goal.entries-preserved
 entries-preserved g c =
-    let limits = limits_of g.S.Rules.ArrayLike.capacity g.S-Stack-ArrayLike.capacity in
-    let section = frame_section g.R.Offset.ReaderOffset.limit g.Section._UnwindSectionPrivate.kind (g.Section._UnwindSectionPrivate.size c.args.section.now)
-    (g.R.Reader.stretch (g.Section._UnwindSectionPrivate.reader c.args.section.now)) c.args.bases.now in
-    let s = setting_with limits section (g.Section._UnwindSectionPrivate.extensions c.args.section.now) c.args.machine in
+    let limits = g.S.UnwindContextStorage.limits in
+    let section = g.Section._UnwindSectionPrivate.frame c.args.section.now c.args.bases.now in
+    let s = setting limits section (g.Section._UnwindSectionPrivate.extensions c.args.section.now) c.args.machine in
     let entry = entry_view g.R.Reader.stretch g.R.Offset.ReaderOffset.value c.in-Ok-Some.entry in
     let list = rw c.in-Ok-Some.field-0-is at c.in-Ok-Some.ensures.list in
-    let more = goes_on s c.entries.place c.in-Some.end c.entries.entries.entries c.next.new.self.entries entry list (sym c.in_ok-end-in-Ok-Some.ensures.1 ∙ c.in-Some.is) in
+    let more = goes_on s c.entries.offset c.in-Some.end c.entries.entries.entries c.next.new.self.entries entry list (sym c.in_ok-end-in-Ok-Some.ensures.1 ∙ c.in-Some.is) in
     let none : c.new-text.result.items ≡ [] = search rules in
-    let line : c.as_slice.result.now ≡ (part_of s entry).text = c.as_slice.ensures.value ∙ c.in_ok-end-in-Ok-Some.ensures.0 ∙ ap (λ (xs : List ℕ). xs ++ (part_of s entry).text) none in
+    let line : c.as_slice.result.now ≡ (listed_part s entry).text = c.as_slice.ensures.value ∙ c.in_ok-end-in-Ok-Some.ensures.0 ∙ ap (λ (xs : List ℕ). xs ++ (listed_part s entry).text) none in
     let later = (listing_from s c.in-Some.end c.next.new.self.entries).text in
     let all = (listing_of s).text in
     let old = g.W.Sink.contents c.args.writer.now in
@@ -87,33 +88,33 @@ entries-preserved g c =
     let stands = subst (λ (t : List ℕ). IsWritten old mid t all) (ap (λ (l : Listing). l.text) more ∙ ap (λ (xs : List ℕ). xs ++ later) (sym line)) c.entries.invariant.stands in
     record {
       failed = not_failed (g.W.Sink.has_failed c.write_all.new.sink) c.in_ok-write_all-in-Ok-Some.ensures.write;
-      stands = written_more old mid new c.as_slice.result.now later all stands c.in_ok-write_all-in-Ok-Some.ensures.written;
+      stands = written_more old mid new c.as_slice.result.now later all stands c.in_ok-write_all-in-Ok-Some.ensures.text.whole;
       whole = sym (ap (λ (l : Listing). l.is_whole) more) ∙ c.entries.invariant.whole;
     }
 
-pub returns-in_err-write_fault-in-Err-clause-begun : goal.returns-in_err-write_fault-in-Err-clause-begun
-returns-in_err-write_fault-in-Err-clause-begun g c =
-    let limits = limits_of g.S.Rules.ArrayLike.capacity g.S-Stack-ArrayLike.capacity in
-    let section = frame_section g.R.Offset.ReaderOffset.limit g.Section._UnwindSectionPrivate.kind (g.Section._UnwindSectionPrivate.size c.args.section.now)
-    (g.R.Reader.stretch (g.Section._UnwindSectionPrivate.reader c.args.section.now)) c.args.bases.now in
-    let s = setting_with limits section (g.Section._UnwindSectionPrivate.extensions c.args.section.now) c.args.machine in
+pub returns-in_err-write_fault-in-Err-clause-listing : goal.returns-in_err-write_fault-in-Err-clause-listing
+returns-in_err-write_fault-in-Err-clause-listing g c =
+    let limits = g.S.UnwindContextStorage.limits in
+    let section = g.Section._UnwindSectionPrivate.frame c.args.section.now c.args.bases.now in
+    let s = setting limits section (g.Section._UnwindSectionPrivate.extensions c.args.section.now) c.args.machine in
     let all = (listing_of s).text in
-    let line = fault_text c.in-Err.error c.entries.place in
+    let line = fault_text c.in-Err.error c.entries.offset in
     let old = g.W.Sink.contents c.args.writer.now in
     let mid = g.W.Sink.contents c.entries.writer in
-    let stands = subst (λ (t : List ℕ). IsWritten old mid t all) (ap (λ es. (listing_from s c.entries.place es).text) c.in-Err.ensures.list.0 ∙ sym (append-nil line)) c.entries.invariant.stands in
-    on_err _ (begun_line old mid (g.W.Sink.contents c.write_fault.new.writer) line [] all stands c.in_err-write_fault-in-Err.ensures.begun)
+    let stands = subst (λ (t : List ℕ). IsWritten old mid t all) (ap (λ es. (listing_from s c.entries.offset es).text) c.in-Err.ensures.list.0 ∙ sym (append-nil line)) c.entries.invariant.stands in
+    stops_after c.from_residual-in_err-write_fault-in-Err.result old (g.W.Sink.contents c.write_fault.new.writer) (listing_of s) c.from_residual-in_err-write_fault-in-Err.ensures.0
+    (begun_line old mid (g.W.Sink.contents c.write_fault.new.writer) line [] all stands c.in_err-write_fault-in-Err.ensures.text.prefix)
 
-pub returns-in-Err-clause-text : goal.returns-in-Err-clause-text
-returns-in-Err-clause-text g c =
-    let limits = limits_of g.S.Rules.ArrayLike.capacity g.S-Stack-ArrayLike.capacity in
-    let section = frame_section g.R.Offset.ReaderOffset.limit g.Section._UnwindSectionPrivate.kind (g.Section._UnwindSectionPrivate.size c.args.section.now)
-    (g.R.Reader.stretch (g.Section._UnwindSectionPrivate.reader c.args.section.now)) c.args.bases.now in
-    let s = setting_with limits section (g.Section._UnwindSectionPrivate.extensions c.args.section.now) c.args.machine in
+pub returns-in-Err-clause-listing : goal.returns-in-Err-clause-listing
+returns-in-Err-clause-listing g c =
+    let limits = g.S.UnwindContextStorage.limits in
+    let section = g.Section._UnwindSectionPrivate.frame c.args.section.now c.args.bases.now in
+    let s = setting limits section (g.Section._UnwindSectionPrivate.extensions c.args.section.now) c.args.machine in
     let all = (listing_of s).text in
-    let line = fault_text c.in-Err.error c.entries.place in
+    let line = fault_text c.in-Err.error c.entries.offset in
     let old = g.W.Sink.contents c.args.writer.now in
     let mid = g.W.Sink.contents c.entries.writer in
     let new = g.W.Sink.contents c.write_fault.new.writer in
-    let stands = subst (λ (t : List ℕ). IsWritten old mid t all) (ap (λ es. (listing_from s c.entries.place es).text) c.in-Err.ensures.list.0 ∙ sym (append-nil line)) c.entries.invariant.stands in
-    written_all old new all (written_more old mid new line [] all stands c.in_ok-write_fault-in-Err.ensures.text)
+    let stands = subst (λ (t : List ℕ). IsWritten old mid t all) (ap (λ es. (listing_from s c.entries.offset es).text) c.in-Err.ensures.list.0 ∙ sym (append-nil line)) c.entries.invariant.stands in
+    ends_as false old new (listing_of s) (written_all old new all (written_more old mid new line [] all stands c.in_ok-write_fault-in-Err.ensures.text.whole))
+    (sym (ap (λ es. (listing_from s c.entries.offset es).is_whole) c.in-Err.ensures.list.0) ∙ c.entries.invariant.whole)

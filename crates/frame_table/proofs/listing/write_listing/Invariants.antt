@@ -1,22 +1,19 @@
 use Rattle.std.proofs.Common.{◌≡◌, false, length}
 use Rattle.json_program.specs.Stream.{IsWritten}
-use Rattle.dwarf_frame_rows.specs.Effects.{limits_of}
-use Rattle.dwarf_frame_sections.specs.Sections.{frame_section}
-use Rattle.frame_table.specs.EntryWrites.{setting_with}
+use Rattle.frame_table.specs.EntryWrites.{setting}
 use Rattle.frame_table.specs.Listing.{listing_from, listing_of}
 use Rattle.frame_table.proofs.listing.write_listing.Given as goal
 
 -- what is written and the listing of the entries that are left make the whole listing
 abbrev pub invariant-entries : goal.invariant-entries
 invariant-entries g l =
-    let limits = limits_of g.S.Rules.ArrayLike.capacity g.S-Stack-ArrayLike.capacity in
-    let section = frame_section g.R.Offset.ReaderOffset.limit g.Section._UnwindSectionPrivate.kind (g.Section._UnwindSectionPrivate.size l.section)
-    (g.R.Reader.stretch (g.Section._UnwindSectionPrivate.reader l.section)) l.bases in
-    let s = setting_with limits section (g.Section._UnwindSectionPrivate.extensions l.section) l.machine in
+    let limits = g.S.UnwindContextStorage.limits in
+    let section = g.Section._UnwindSectionPrivate.frame l.section l.bases in
+    let s = setting limits section (g.Section._UnwindSectionPrivate.extensions l.section) l.machine in
     record {
       failed : g.W.Sink.has_failed l.writer ≡ false;
-      stands : IsWritten (g.W.Sink.contents l.fn.writer) (g.W.Sink.contents l.writer) (listing_from s l.place l.entries.entries).text (listing_of s).text;
-      whole : (listing_from s l.place l.entries.entries).is_whole ≡ (listing_of s).is_whole;
+      stands : IsWritten (g.W.Sink.contents l.fn.writer) (g.W.Sink.contents l.writer) (listing_from s l.offset l.entries.entries).text (listing_of s).text;
+      whole : (listing_from s l.offset l.entries.entries).is_whole ≡ (listing_of s).is_whole;
     }
 
 abbrev pub decreases-entries : goal.decreases-entries

@@ -1,13 +1,14 @@
-use Rattle.std.proofs.Common.{rules, subst, OnErr}
-use Rattle.json_program.specs.Stream.{AppendsFront}
+use Rattle.std.proofs.Common.{rules, subst}
+use Rattle.frame_table.specs.EntryWrites.{WritesListing}
+use Rattle.frame_table.specs.Listing.{Listing}
 use Rattle.frame_table.proofs.program.list.Goals as goal
 
-pub returns-in-EhFrame-clause-begun : goal.returns-in-EhFrame-clause-begun
-returns-in-EhFrame-clause-begun g c =
-    subst (λ text. OnErr c.write_listing.result (AppendsFront (g.W.Sink.contents c.args.writer.now) (g.W.Sink.contents c.write_listing.new.writer) text))
-    (search rules) c.write_listing.ensures.begun
+pub returns-in-EhFrame-clause-listing : goal.returns-in-EhFrame-clause-listing
+returns-in-EhFrame-clause-listing g c =
+    subst (λ (listing : Listing). WritesListing listing (g.W.Sink.contents c.args.writer.now) (g.W.Sink.contents c.write_listing.new.writer) c.write_listing.result)
+    (search rules) c.write_listing.ensures.listing
 
-pub returns-clause-begun : goal.returns-clause-begun
-returns-clause-begun g c =
-    subst (λ text. OnErr c.write_listing-in-DebugFrame.result (AppendsFront (g.W.Sink.contents c.args.writer.now) (g.W.Sink.contents c.write_listing-in-DebugFrame.new.writer) text))
-    (search rules) c.write_listing-in-DebugFrame.ensures.begun
+pub returns-clause-listing : goal.returns-clause-listing
+returns-clause-listing g c =
+    subst (λ (listing : Listing). WritesListing listing (g.W.Sink.contents c.args.writer.now) (g.W.Sink.contents c.write_listing-in-DebugFrame.new.writer) c.write_listing-in-DebugFrame.result)
+    (search rules) c.write_listing-in-DebugFrame.ensures.listing

@@ -17,14 +17,14 @@ halves-preserved c =
     let middle : ℕ = c.halves.low + half in
     let within : middle < length c.args.fdes.now = omega (arith, known.within, c.halves-test.true) in
     let count : ℕ = if nat_le (get_or c.args.fdes.now middle (record { start = 0; offset = 0 })).start c.args.address then 1 else 0 in
-    let passed : c.passed-low.result ≡ c.halves.low + half * count = c.passed-low.ensures in
+    let moved : c.first_left-low.result ≡ c.halves.low + half * count = c.first_left-low.ensures in
     let part = part-of-half half count (at-most-one _ count refl) in
     record {
       some = omega (arith, c.halves-test.true);
-      within = omega (arith, known.within, part, passed);
+      within = omega (arith, known.within, part, moved);
       small = known.small;
-      before = rw passed (before-middle (λ fde. fde.start) _ c.requires.ordered _ middle _ within c.halves.low half count refl refl known.before);
-      behind = rw passed (behind-middle (λ fde. fde.start) _ c.requires.ordered _ middle _ within c.halves.low c.halves.len half count refl (omega arith) refl known.behind);
+      before = rw moved (before-middle (λ fde. fde.start) _ c.requires.ordered _ middle _ within c.halves.low half count refl refl known.before);
+      behind = rw moved (behind-middle (λ fde. fde.start) _ c.requires.ordered _ middle _ within c.halves.low c.halves.len half count refl (omega arith) refl known.behind);
       few = at-most-half _ _ _ c.halves-test.true known.few;
       enough = at-least-half _ _ _ known.enough;
     }

@@ -1,6 +1,5 @@
 use Rattle.std.proofs.Common.{length}
 use Rattle.std.specs.List.{All}
-use Rattle.dwarf_frame_sections.specs.Sections.{frame_section}
 use Rattle.dwarf_frame_entries.specs.SectionFdes.{IsOfSection}
 use Rattle.framehop.specs.LastCie.{IsLastCie}
 use Rattle.framehop.proofs.CfiIndexBuild.{Gathered}
@@ -8,8 +7,7 @@ use Rattle.framehop.proofs.cfi_index.indexed_fdes.Given as goal
 
 abbrev pub invariant-entries : goal.invariant-entries
 invariant-entries g l =
-    let section = frame_section g.R.Offset.ReaderOffset.limit g.Section._UnwindSectionPrivate.kind (g.Section._UnwindSectionPrivate.size l.section)
-    (g.R.Reader.stretch (g.Section._UnwindSectionPrivate.reader l.section)) l.bases in
+    let section = g.Section._UnwindSectionPrivate.frame l.section l.bases in
     record {
       gathered : Gathered section l.base_svma l.fdes.items l.entries.entries;
       within : All (IsOfSection section) l.entries.entries;

@@ -1,13 +1,13 @@
 use Rattle.std.proofs.Common.{arith, ◌<◌, length}
-use Rattle.framehop_histories.proofs.CommandTurns.{clone-made, clone-refused}
+use Rattle.framehop_histories.proofs.CommandResults.{clone-made, clone-refused}
 use Rattle.framehop_histories.proofs.commands.clone.Goals as goal
 
-pub returns-in-Ok-clause-turn : goal.returns-in-Ok-clause-turn
-returns-in-Ok-clause-turn g c =
+pub returns-in-Ok-clause-reply : goal.returns-in-Ok-clause-reply
+returns-in-Ok-clause-reply g c =
     let less : c.args.unwinder < length c.args.session.now.unwinders = omega (arith, c.unwinders.ensures, c.if-unwinder-unwinders.false) in
     λ walks. clone-made g.A.Unwinding.takes_memory c.args.session.now c.clone_unwinder.new.self walks c.args.unwinder less c.in-Ok.ensures.ok
 
-pub returns-in-Err-clause-turn : goal.returns-in-Err-clause-turn
-returns-in-Err-clause-turn g c =
+pub returns-in-Err-clause-reply : goal.returns-in-Err-clause-reply
+returns-in-Err-clause-reply g c =
     let less : c.args.unwinder < length c.args.session.now.unwinders = omega (arith, c.unwinders.ensures, c.if-unwinder-unwinders.false) in
     λ walks. clone-refused g.A.Unwinding.takes_memory c.args.session.now c.clone_unwinder.new.self walks c.args.unwinder less c.in-Err.ensures.refused

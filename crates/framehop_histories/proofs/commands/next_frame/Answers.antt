@@ -1,30 +1,29 @@
 use Rattle.std.proofs.Common.{arith, ◌<◌, length, map, refl, sym, subst}
-use Rattle.framehop_unwinder.specs.Attempt.{meanings}
 use Rattle.framehop_histories.specs.CommandViews.{reply_of}
 use Rattle.framehop_unwinder.specs.Trials.{wants_memory}
-use Rattle.framehop_unwinder.specs.Walk.{Place}
+use Rattle.framehop_unwinder.specs.Walk.{WalkPosition}
 use Rattle.framehop_unwinder.specs.WalkViews.{walk_of, place_of, frame_answer}
 use Rattle.framehop_histories.specs.Commands.{Moved}
 use Rattle.framehop_unwinder.specs.Progress.{IsAt}
 use Rattle.framehop_histories.specs.Progress.{walk_place, with_move}
-use Rattle.framehop_histories.proofs.CommandTurns.{frame-turn}
-use Rattle.framehop_histories.proofs.CommandProgress.{asked-at, move-at, place-there}
+use Rattle.framehop_histories.proofs.CommandResults.{frame-reply}
+use Rattle.framehop_histories.proofs.CommandModels.{asked-at, move-at, place-there}
 use Rattle.framehop_histories.proofs.commands.next_frame.Goals as goal
 
-pub returns-clause-turn : goal.returns-clause-turn
-returns-clause-turn g c =
-    let m = meanings g.A.UnwindRule.UnwindRule.meaning g.A.UnwindRule.UnwindRule.fallback g.A.Unwinding.attempt in
+pub returns-clause-reply : goal.returns-clause-reply
+returns-clause-reply g c =
+    let m = g.A.Unwinding.meanings in
     let s = c.args.session.now in
     let less : c.args.unwinder < length s.unwinders = omega (arith, c.unwinders.ensures, c.if-unwinder-unwinders.false) in
     let there : c.args.cache < length s.caches = omega (arith, c.caches.ensures, c.if-cache-caches.false) in
     let here : c.args.walk < length c.args.walks.now.items = omega (arith, c.len.ensures, c.if-walk-len.false) in
     let e = c.next_frame-answer.ensures in
-    λ words answers. frame-turn g.A.Unwinding.takes_memory m s c.next_frame-answer.new.self c.args.walks.now.items c.args.unwinder c.args.cache c.args.walk c.index_mut-walk.result.now c.next_frame-answer.new.walk words c.next_frame-answer.result (reply_of c.of_move.result)
-    less there here c.index_mut-walk.ensures.value e.unwinders e.next e.caches c.of_move.ensures.wanted (λ no. rw (c.regs.ensures) at (c.of_move.ensures.answered no)) e.memory e.wanting (e.moved.said words answers)
+    λ words answers. frame-reply g.A.Unwinding.takes_memory m s c.next_frame-answer.new.self c.args.walks.now.items c.args.unwinder c.args.cache c.args.walk c.index_mut-walk.result.now c.next_frame-answer.new.walk words c.next_frame-answer.result (reply_of c.of_move.result)
+    less there here c.index_mut-walk.ensures.value e.caches.unwinders e.caches.next e.caches.count c.of_move.ensures.wanted (λ no. rw (c.regs.ensures) at (c.of_move.ensures.answered no)) e.memory e.wanting (e.moved.said words answers)
 
-pub returns-clause-progress : goal.returns-clause-progress
-returns-clause-progress g c =
-    let m = meanings g.A.UnwindRule.UnwindRule.meaning g.A.UnwindRule.UnwindRule.fallback g.A.Unwinding.attempt in
+pub returns-clause-model : goal.returns-clause-model
+returns-clause-model g c =
+    let m = g.A.Unwinding.meanings in
     let e = c.next_frame-answer.ensures in
     let s = c.args.session.now in
     let after = c.next_frame-answer.new.self in
@@ -33,7 +32,7 @@ returns-clause-progress g c =
     let next = c.next_frame-answer.new.walk in
     let here : c.args.walk < length c.args.walks.now.items = omega (arith, c.len.ensures, c.if-walk-len.false) in
     let place = walk_place (map walk_of c.args.walks.now.items) c.args.walk in
-    λ progress at. asked-at wanted (reply_of c.of_move.result) (Moved (frame_answer c.next_frame-answer.result) (walk_of next).registers) (with_move m c.args.unwinder c.args.cache place progress) progress after
+    λ model at. asked-at wanted (reply_of c.of_move.result) (Moved (frame_answer c.next_frame-answer.result) (walk_of next).registers) (with_move m c.args.unwinder c.args.cache place model) model after
     c.of_move.ensures.wanted (λ no. rw (c.regs.ensures) at (c.of_move.ensures.answered no)) refl
-    (subst (λ (p : Place). IsAt (with_move m c.args.unwinder c.args.cache p progress wanted) after) (sym (place-there c.args.walks.now.items c.args.walk walk here c.index_mut-walk.ensures.value))
-    (move-at m wanted c.args.unwinder c.args.cache (place_of walk.state) progress s after e.unwinders e.next e.histories at))
+    (subst (λ (p : WalkPosition). IsAt (with_move m c.args.unwinder c.args.cache p model wanted) after) (sym (place-there c.args.walks.now.items c.args.walk walk here c.index_mut-walk.ensures.value))
+    (move-at m wanted c.args.unwinder c.args.cache (place_of walk.state) model s after e.caches.unwinders e.caches.next e.caches.histories at))

@@ -1,17 +1,16 @@
 use Rattle.std.proofs.Common.{◌≡◌, ◌∷◌, [], map, length, ap, arith, rules, refl}
 use Rattle.std.proofs.lemmas.Result.{err_from_is_err_and}
 use Rattle.framehop_registers.specs.Callback.{AnswersBy}
-use Rattle.framehop_unwinder.specs.Attempt.{meanings}
 use Rattle.framehop_unwinder.specs.WalkViews.{walk_of}
 use Rattle.framehop_histories.specs.Commands.{OfCallback}
 use Rattle.framehop_histories.specs.CommandViews.{reply_of}
-use Rattle.framehop_histories.proofs.CommandTurns.{all-parts}
+use Rattle.framehop_histories.proofs.CommandResults.{all-parts}
 use Rattle.framehop_histories.proofs.CommandLists.{starts-out, goes-on, all-told, all-stand, all-come}
 use Rattle.framehop_histories.proofs.commands.perform.Goals as goal
 
 pub loop-command-init : goal.loop-command-init
 loop-command-init g c =
-    let m = meanings g.A.UnwindRule.UnwindRule.meaning g.A.UnwindRule.UnwindRule.fallback g.A.Unwinding.attempt in
+    let m = g.A.Unwinding.meanings in
     record {
       callable = c.requires;
       room = omega (arith, c.in_ok-answers.ensures.len, c.in_ok-answers.ensures.capacity, c.len.ensures);
@@ -21,7 +20,7 @@ loop-command-init g c =
 
 pub loop-command-preserved : goal.loop-command-preserved
 loop-command-preserved g c =
-    let m = meanings g.A.UnwindRule.UnwindRule.meaning g.A.UnwindRule.UnwindRule.fallback g.A.Unwinding.attempt in
+    let m = g.A.Unwinding.meanings in
     let l = c.loop-command in
     let left = c.pop_front.new.self.items in
     let is : l.commands.items ≡ c.in-Some.command ∷ left = c.in-Some.ensures.items in
@@ -30,39 +29,23 @@ loop-command-preserved g c =
       room = omega (arith, l.invariant.room, c.push_reserved.ensures.len, c.push_reserved.ensures.capacity, ap length is);
       under_way = goes-on g.A.Unwinding.takes_memory m (AnswersBy (goal.F-step g)) c.args.session.now c.args.commands.now.items
           l.session c.obey-answer.new.session (map walk_of l.walks.items) (map walk_of c.obey-answer.new.walks.items) c.in-Some.command l.commands.items left c.obey-answer.result l.answers.items c.push_reserved.new.self.items
-          is c.push_reserved.ensures.items c.obey-answer.ensures.turn c.obey-answer.ensures.progress l.invariant.under_way;
+          is c.push_reserved.ensures.items c.obey-answer.ensures.reply c.obey-answer.ensures.model l.invariant.under_way;
     }
 
-pub returns-clause-answers : goal.returns-clause-answers
-returns-clause-answers g c =
-    let m = meanings g.A.UnwindRule.UnwindRule.meaning g.A.UnwindRule.UnwindRule.fallback g.A.Unwinding.attempt in
+pub returns-clause-performs : goal.returns-clause-performs
+returns-clause-performs g c =
+    let m = g.A.Unwinding.meanings in
     let l = c.loop-command in
     let none : l.commands.items ≡ [] = search rules in
-    all-told g.A.Unwinding.takes_memory m (AnswersBy (goal.F-step g)) c.args.session.now c.args.commands.now.items l.session (map walk_of l.walks.items) l.commands.items (map reply_of l.answers.items) none l.invariant.under_way
-
-pub returns-clause-scene : goal.returns-clause-scene
-returns-clause-scene g c =
-    let m = meanings g.A.UnwindRule.UnwindRule.meaning g.A.UnwindRule.UnwindRule.fallback g.A.Unwinding.attempt in
-    let l = c.loop-command in
-    let none : l.commands.items ≡ [] = search rules in
-    all-stand g.A.Unwinding.takes_memory m (AnswersBy (goal.F-step g)) c.args.session.now c.args.commands.now.items l.session (map walk_of l.walks.items) l.commands.items (map reply_of l.answers.items) none l.invariant.under_way
-
-pub returns-clause-progress : goal.returns-clause-progress
-returns-clause-progress g c =
-    let m = meanings g.A.UnwindRule.UnwindRule.meaning g.A.UnwindRule.UnwindRule.fallback g.A.Unwinding.attempt in
-    let l = c.loop-command in
-    let none : l.commands.items ≡ [] = search rules in
-    all-come g.A.Unwinding.takes_memory m (AnswersBy (goal.F-step g)) c.args.session.now c.args.commands.now.items l.session (map walk_of l.walks.items) l.commands.items (map reply_of l.answers.items) none l.invariant.under_way
+    λ words said. record {
+      replies = all-told g.A.Unwinding.takes_memory m (AnswersBy (goal.F-step g)) c.args.session.now c.args.commands.now.items l.session (map walk_of l.walks.items) l.commands.items (map reply_of l.answers.items) none l.invariant.under_way words said;
+      state = all-stand g.A.Unwinding.takes_memory m (AnswersBy (goal.F-step g)) c.args.session.now c.args.commands.now.items l.session (map walk_of l.walks.items) l.commands.items (map reply_of l.answers.items) none l.invariant.under_way words said;
+      model = all-come g.A.Unwinding.takes_memory m (AnswersBy (goal.F-step g)) c.args.session.now c.args.commands.now.items l.session (map walk_of l.walks.items) l.commands.items (map reply_of l.answers.items) none l.invariant.under_way words said;
+    }
 
 -- memory for the list of answers is refused
-pub returns-in_err-answers-clause-answers : goal.returns-in_err-answers-clause-answers
-returns-in_err-answers-clause-answers g c = λ words said. rw (err_from_is_err_and c.from_residual.result c.from_residual.ensures.1).1 tt
-
-pub returns-in_err-answers-clause-scene : goal.returns-in_err-answers-clause-scene
-returns-in_err-answers-clause-scene g c = λ words said. rw (err_from_is_err_and c.from_residual.result c.from_residual.ensures.1).1 tt
-
-pub returns-in_err-answers-clause-progress : goal.returns-in_err-answers-clause-progress
-returns-in_err-answers-clause-progress g c = λ words said begun at. rw (err_from_is_err_and c.from_residual.result c.from_residual.ensures.1).1 tt
+pub returns-in_err-answers-clause-performs : goal.returns-in_err-answers-clause-performs
+returns-in_err-answers-clause-performs g c = λ words said. rw (err_from_is_err_and c.from_residual.result c.from_residual.ensures.1).1 tt
 
 pub returns-in_err-answers-clause-performed : goal.returns-in_err-answers-clause-performed
 returns-in_err-answers-clause-performed g c = rw (err_from_is_err_and c.from_residual.result c.from_residual.ensures.1).1 tt

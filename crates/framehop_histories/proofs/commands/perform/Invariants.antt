@@ -2,7 +2,6 @@ use Rattle.std.proofs.Common.{◌+◌, ◌≤◌, map, length}
 use Rattle.std.specs.List.{All}
 use Rattle.std.specs.Prelude.{vec_len, vec_capacity}
 use Rattle.framehop_registers.specs.Callback.{AnswersBy}
-use Rattle.framehop_unwinder.specs.Attempt.{meanings}
 use Rattle.framehop_unwinder.specs.WalkViews.{walk_of}
 use Rattle.framehop_histories.specs.Commands.{OfCallback}
 use Rattle.framehop_histories.specs.CommandViews.{reply_of}
@@ -14,7 +13,7 @@ abbrev pub invariant-loop-command : goal.invariant-loop-command
 invariant-loop-command g l = record {
   callable : All (OfCallback (goal.F-IsAlwaysCallable g)) l.commands.items;
   room : vec_len l.answers + length l.commands.items ≤ vec_capacity l.answers;
-  under_way : AreUnderWay g.A.Unwinding.takes_memory (meanings g.A.UnwindRule.UnwindRule.meaning g.A.UnwindRule.UnwindRule.fallback g.A.Unwinding.attempt) (AnswersBy (goal.F-step g))
+  under_way : AreUnderWay g.A.Unwinding.takes_memory g.A.Unwinding.meanings (AnswersBy (goal.F-step g))
       l.fn.session l.session (map walk_of l.walks.items) l.fn.commands.items l.commands.items (map reply_of l.answers.items);
 }
 

@@ -1,5 +1,5 @@
 use Rattle.std.proofs.Common.{◌≡◌, Ok, subst, sym, ap, ◌∙◌}
-use Rattle.dwarf_expressions.specs.Evaluation.{ComesTo, Program, Ready, first_machine, state_reached, state_reached_with}
+use Rattle.dwarf_expressions.specs.Evaluation.{ComesTo, EvaluationInput, Ready, first_machine, state_reached, state_reached_with}
 use Rattle.dwarf_expressions.specs.declared.evaluation.EvaluationResult.TheVariants.{RequiresRegister}
 use Rattle.framehop_rows.specs.ExpressionValue.{expression_program, value_by_requests}
 use Rattle.framehop_rows.proofs.Evaluations.{fewer_requests, grows, leads_on}
@@ -21,16 +21,16 @@ requests-preserved g c =
     let register = c.in-Ok-RequiresRegister.register in
     let inner = rw c.in-Ok-RequiresRegister.is at c.in-Ok-RequiresRegister.field-0-is in
     let asks : c.requests.answer ≡ Ok (RequiresRegister register) = c.in-Ok-RequiresRegister.is ∙ ap (λ x. Ok x) inner in
-    let Reached : Program → Type 0 = λ q. ComesTo q.capacity (state_reached_with q c.in-Some.value s) t in
+    let Reached : EvaluationInput → Type 0 = λ q. ComesTo q.capacity (state_reached_with q c.in-Some.value s) t in
     record {
-      program = c.resume_with_register-answer.ensures.program ∙ c.requests.invariant.program;
-      answers = c.resume_with_register-answer.ensures.answer;
+      program = c.resume_with_register-answer.ensures.goes.program ∙ c.requests.invariant.program;
+      answers = c.resume_with_register-answer.ensures.goes.answer;
       can = c.resume_with_register-answer.ensures.asks;
       memory =
-          λ h. sym (ap (λ (q : Program). q.capacity) c.requests.invariant.program)
+          λ h. sym (ap (λ (q : EvaluationInput). q.capacity) c.requests.invariant.program)
           ∙ grows c.requests.evaluation.program.capacity s register c.requests.answer c.requests.invariant.answers asks (c.resume_with_register-answer.ensures.memory h);
       leads =
-          leads_on s t register c.in-Some.value c.requests.answer c.resume_with_register-answer.result c.requests.invariant.answers asks c.resume_with_register-answer.ensures.answer
+          leads_on s t register c.in-Some.value c.requests.answer c.resume_with_register-answer.result c.requests.invariant.answers asks c.resume_with_register-answer.ensures.goes.answer
           c.resume_with_register-answer.ensures.fewer p registers (value_by_requests p registers (state_reached p (Ready first_machine))) c.requests.invariant.leads
-          (sym c.get.ensures ∙ c.in-Some.is) (subst Reached c.requests.invariant.program c.resume_with_register-answer.ensures.state);
+          (sym c.get.ensures ∙ c.in-Some.is) (subst Reached c.requests.invariant.program c.resume_with_register-answer.ensures.goes.state);
     }

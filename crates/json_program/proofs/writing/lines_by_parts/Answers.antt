@@ -1,4 +1,4 @@
-use Rattle.json_program.proofs.Laws.{begun_line, written_all, written_front, written_more, written_none}
+use Rattle.json_program.proofs.Laws.{begun_line, written_all, written_prefix, written_more, written_none}
 use Rattle.json_program.proofs.writing.lines_by_parts.Goals as goal
 
 pub returns : goal.returns
@@ -6,6 +6,6 @@ returns c = record {
   none = written_none;
   more = written_more;
   begun = begun_line;
-  front = written_front;
+  prefix = written_prefix;
   all = written_all;
 }

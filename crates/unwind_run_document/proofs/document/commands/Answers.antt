@@ -9,7 +9,7 @@ use Rattle.json_program.specs.Decoded.{Decodes}
 use Rattle.unwind_run_document.specs.CommandViews.{made_view, task_of, tasks_of}
 use Rattle.json_program.proofs.Laws.{drop-element}
 use Rattle.unwind_run_document.proofs.Tasks.{behind, behind-step, behind-refused}
-use Rattle.json_program.proofs.Laws.{same_refusal, unit_answer-decoded, unit_answer-good}
+use Rattle.json_program.proofs.Laws.{same_error, unit_answer-decoded, unit_answer-good}
 use Rattle.unwind_run_document.proofs.document.commands.Goals as goal
 
 pub returns-in_err-command : goal.returns-in_err-command
@@ -18,7 +18,7 @@ returns-in_err-command c =
     let vs = c.deref-item-items.result.now in
     let rest = items_view (drop (l.item-index + 1) vs) in
     let done = tasks_of l.commands.items in
-    same_refusal _ _ c.in_err-command.field-0.0 _ c.from_residual.ensures.1
+    same_error _ _ c.in_err-command.field-0.0 _ c.from_residual.ensures.1
     (behind-refused c.args.arch task_of (λ (v : Vec Command Global). tasks_of v.items) _ done l.number (made_view l.made) (view c.item-item.result) rest c.in_err-command.field-0.0
     (sym (ap (λ vs. commands_from c.args.arch 1 nothing_made (items_view vs)) c.deref-item-items.ensures.value) ∙ l.invariant.same
     ∙ ap (λ ws. behind done (commands_from c.args.arch l.number (made_view l.made) (items_view ws))) (drop-element vs l.item-index c.item-item.result c.loop-item-test.true c.item-item.is))

@@ -2,7 +2,7 @@ use Rattle.std.proofs.Common.{sym, ap, ◌∙◌}
 use Rattle.json_program.specs.Faults.{◌>>=◌}
 use Rattle.unwind_run_document.specs.Commands.{stack_at}
 use Rattle.json_program.specs.Decoded.{result_map}
-use Rattle.json_program.proofs.Laws.{weighed-decoded, passed_on}
+use Rattle.json_program.proofs.Laws.{keep_fault-decoded, passed_on}
 use Rattle.unwind_run_document.proofs.Steps.{under, two_fields}
 use Rattle.unwind_run_document.proofs.step.stack_in.Goals as goal
 
@@ -12,4 +12,4 @@ returns-in_err-start c =
     (under _ _ _ _ (sym c.has_only.ensures ∙ c.if-not-has_only.false)
     (ap (λ r. r >>= λ stack. stack_at stack.0 stack.1)
     (ap (result_map (λ p. (p.0, p.1.items))) (sym c.in_err-start.was)
-    ∙ two_fields _ _ _ _ _ c.address_field.ensures (weighed-decoded _ _ _ _ c.words_field.ensures (sym c.weighed.ensures ∙ c.in_ok-words.was)) c.both.ensures)))
+    ∙ two_fields _ _ _ _ _ c.address_field.ensures (keep_fault-decoded _ _ _ _ c.words_field.ensures (sym c.keep_fault.ensures ∙ c.in_ok-words.was)) c.both.ensures)))

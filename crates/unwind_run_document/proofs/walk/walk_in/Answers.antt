@@ -1,5 +1,5 @@
 use Rattle.std.proofs.Common.{sym, ap, ◌∙◌}
-use Rattle.json_program.proofs.Laws.{weighed-decoded, passed_on}
+use Rattle.json_program.proofs.Laws.{keep_fault-decoded, passed_on}
 use Rattle.json_program.specs.Decoded.{result_map}
 use Rattle.unwind_run_document.specs.Commands.{walking_of}
 use Rattle.unwind_run_document.specs.CommandViews.{words_view}
@@ -13,7 +13,7 @@ returns-in_err-unwinder c =
     (ap (result_map (λ p. walking_of p.0.0.0.0.0 p.0.0.0.0.1 p.0.0.0.1 p.0.0.1 p.0.1 (words_view p.1))) (sym c.in_err-unwinder.was)
     ∙ six_fields _ _ _ _ _ _ _ _ _ _ _ _ _ _ _ _ _ c.made_number-unwinder.ensures c.made_number-cache.ensures
     c.address_field-pc.ensures c.limit_field-limit.ensures c.registers_field-registers.ensures
-    (weighed-decoded _ _ _ _ c.stack_field.ensures (sym c.weighed.ensures ∙ c.in_ok-stack.was))
+    (keep_fault-decoded _ _ _ _ c.stack_field.ensures (sym c.keep_fault.ensures ∙ c.in_ok-stack.was))
     c.both.ensures c.both-2.ensures c.both-3.ensures c.both-4.ensures c.both-5.ensures))
 
 pub returns : goal.returns
@@ -23,5 +23,5 @@ returns c =
     (ap (result_map (λ p. walking_of p.0.0.0.0.0 p.0.0.0.0.1 p.0.0.0.1 p.0.0.1 p.0.1 (words_view p.1))) (sym c.in_ok-unwinder.was)
     ∙ six_fields _ _ _ _ _ _ _ _ _ _ _ _ _ _ _ _ _ c.made_number-unwinder.ensures c.made_number-cache.ensures
     c.address_field-pc.ensures c.limit_field-limit.ensures c.registers_field-registers.ensures
-    (weighed-decoded _ _ _ _ c.stack_field.ensures (sym c.weighed.ensures ∙ c.in_ok-stack.was))
+    (keep_fault-decoded _ _ _ _ c.stack_field.ensures (sym c.keep_fault.ensures ∙ c.in_ok-stack.was))
     c.both.ensures c.both-2.ensures c.both-3.ensures c.both-4.ensures c.both-5.ensures))

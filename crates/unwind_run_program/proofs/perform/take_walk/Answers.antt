@@ -1,19 +1,18 @@
 use Rattle.std.proofs.Common.{sym, ap, subst, ◌∙◌}
 use Rattle.std.specs.Prelude.{IfOk, string_bytes}
-use Rattle.framehop_unwinder.specs.Attempt.{meanings}
 use Rattle.framehop_unwinder.specs.Walk.{Walk}
 use Rattle.framehop_unwinder.specs.WalkViews.{walk_from}
-use Rattle.unwind_run_session.specs.Turns.{ComesTo, turn_of_walk}
+use Rattle.unwind_run_session.specs.Outputs.{IsOutput, output_of_walk}
 use Rattle.unwind_run_document.specs.CommandViews.{words_view}
 use Rattle.unwind_run_program.specs.Text.{words_of}
 use Rattle.unwind_run_program.proofs.StillCallback.{answers_always}
 use Rattle.unwind_run_program.proofs.perform.take_walk.Goals as goal
 
 pub returns : goal.returns
-returns g c = λ progress at.
-    let m = meanings g.A.UnwindRule.UnwindRule.meaning g.A.UnwindRule.UnwindRule.fallback g.A.Unwinding.attempt in
+returns g c = λ model at.
+    let m = g.A.Unwinding.meanings in
     let walk = c.args.walk.now in
     let words = words_of (words_view walk.stack) in
-    subst (λ (w : Walk g.row.A-UnwindRegs.Denot). IfOk c.walk.result (λ written. ComesTo (turn_of_walk m words walk.limit walk.unwinder walk.cache w progress) (string_bytes written.text) written.is_refused c.walk.new.session))
+    subst (λ (w : Walk g.row.A-UnwindRegs.Denot). IfOk c.walk.result (λ written. IsOutput (output_of_walk m words walk.limit walk.unwinder walk.cache w model) (string_bytes written.text) written.is_refused c.walk.new.session))
     (c.new-frames.ensures ∙ ap (λ (r : g.row.A-UnwindRegs.Denot). walk_from walk.pc r) c.stated_registers-regs.ensures)
-    (c.walk.ensures words (answers_always _ _ _ (λ at r next fits read. sym read.met.1.1) (λ at r next fits read. read.met.0)) progress at)
+    (c.walk.ensures words (answers_always _ _ _ (λ at r next fits read. sym read.met.1.1) (λ at r next fits read. read.met.0)) model at)

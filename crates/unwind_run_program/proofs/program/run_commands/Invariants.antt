@@ -1,10 +1,8 @@
 use Rattle.std.proofs.Common.{◌≡◌, reverse, false, vec_len}
 use Rattle.json_program.specs.Stream.{IsWritten}
-use Rattle.framehop_unwinder.specs.Attempt.{meanings}
-use Rattle.framehop_unwinder.specs.Progress.{Progress, IsAt}
-use Rattle.unwind_run_session.specs.Turns.{beginning}
+use Rattle.framehop_unwinder.specs.Progress.{SessionModel, IsAt}
+use Rattle.unwind_run_session.specs.Outputs.{beginning}
 use Rattle.unwind_run_document.specs.Commands.{AreSound}
-use Rattle.unwind_run_program.specs.Registers.{register_forms}
 use Rattle.unwind_run_document.specs.CommandViews.{tasks_of}
 use Rattle.unwind_run_program.specs.Text.{lines_of, made_in}
 use Rattle.unwind_run_program.proofs.program.run_commands.Given as goal
@@ -12,14 +10,14 @@ use Rattle.unwind_run_program.proofs.program.run_commands.Given as goal
 -- what is written and the lines of the commands that are left, which stand in reverse, make the lines of all
 abbrev pub invariant-loop-command : goal.invariant-loop-command
 invariant-loop-command g l =
-    let m = meanings g.A.UnwindRule.UnwindRule.meaning g.A.UnwindRule.UnwindRule.fallback g.A.Unwinding.attempt in
+    let m = g.A.Unwinding.meanings in
     let data_of = g.A.DocumentModules.data_of in
-    let forms = register_forms g.A.DocumentModules.of_stated g.A.DocumentModules.shown in
+    let forms = g.A.DocumentModules.forms in
     record {
       failed : g.W.Sink.has_failed l.writer ≡ false;
       sound : AreSound (made_in l.session) (tasks_of (reverse l.commands.items));
-      stands : (progress : Progress g.row.A-UnwindData.Denot) × IsAt progress l.session
-          × IsWritten (g.W.Sink.contents l.fn.writer) (g.W.Sink.contents l.writer) (lines_of m forms data_of progress (tasks_of (reverse l.commands.items))) (lines_of m forms data_of (beginning l.fn.generation) (tasks_of l.fn.commands.items));
+      stands : (model : SessionModel g.row.A-UnwindData.Denot) × IsAt model l.session
+          × IsWritten (g.W.Sink.contents l.fn.writer) (g.W.Sink.contents l.writer) (lines_of m forms data_of model (tasks_of (reverse l.commands.items))) (lines_of m forms data_of (beginning l.fn.generation) (tasks_of l.fn.commands.items));
     }
 
 abbrev pub decreases-loop-command : goal.decreases-loop-command

@@ -1,5 +1,4 @@
 use Rattle.std.proofs.Common.{◌≡◌, ◌^◌, [], ◌∷◌, rules, sym, ap, ◌∙◌}
-use Rattle.framehop_unwinder.specs.Attempt.{meanings}
 use Rattle.framehop_unwinder.specs.Frames.{frame_of}
 use Rattle.framehop_unwinder.specs.Modules.{Loaded}
 use Rattle.unwind_run_document.specs.CommandViews.{words_view}
@@ -12,7 +11,7 @@ use Rattle.unwind_run_program.proofs.roads.road_line.Goals as goal
 
 pub returns : goal.returns
 returns g c =
-    let m = meanings g.A.UnwindRule.UnwindRule.meaning g.A.UnwindRule.UnwindRule.fallback g.A.Unwinding.attempt in
+    let m = g.A.Unwinding.meanings in
     let roads = c.args.roads.now in
     let base = roads.tables.base_svma in
     let words = words_of (words_view roads.stack) in
@@ -23,7 +22,7 @@ returns g c =
     if_ok_both c.step_line.result _ _ _
     (λ text line memory.
     line
-    ∙ line_judged m g.A.DocumentModules.shown (module_at base c.args.unwind_data ∷ []) (module_ ∷ []) (frame_at roads.kind roads.address) (frame_of c.frame_address-address.result) (g.A.DocumentModules.of_stated roads.registers) c.stated_registers-regs.result c.step_alone-answer.new.regs words c.step_alone-answer.result
+    ∙ line_judged m g.A.DocumentModules.forms.text (module_at base c.args.unwind_data ∷ []) (module_ ∷ []) (frame_at roads.kind roads.address) (frame_of c.frame_address-address.result) (g.A.DocumentModules.forms.stated roads.registers) c.stated_registers-regs.result c.step_alone-answer.new.regs words c.step_alone-answer.result
     (ap (λ (one : Loaded g.row.A-UnwindData.Denot). one ∷ []) alone) c.frame_address-address.ensures c.stated_registers-regs.ensures
     (c.step_alone-answer.ensures.step.said words (answers_always _ _ _ (λ at r next fits read. sym read.met.1.1) (λ at r next fits read. read.met.0)) (not_wanted c.step_alone-answer.result memory)))
     c.step_line.ensures.line c.step_line.ensures.memory

@@ -3,8 +3,7 @@ use Rattle.std.specs.Prelude.{IfSome}
 use Rattle.std.specs.Result.{is_err}
 use Rattle.std.proofs.lemmas.List.Elements.{All-replicate}
 use Rattle.framehop_rules.specs.Outcome.{IsStep}
-use Rattle.framehop_rules.specs.Slots.{Entry, Key}
-use Rattle.framehop_unwinder.specs.Attempt.{meanings}
+use Rattle.framehop_rules.specs.Slots.{KeptRule, Key}
 use Rattle.framehop_unwinder.specs.Frames.{frame_of}
 use Rattle.framehop_unwinder.specs.Judge.{judge}
 use Rattle.framehop_unwinder.specs.Modules.{Loaded, Loads, with_module}
@@ -18,10 +17,10 @@ one_module (Ok done) old new module_ good none made = made ∙ ap (with_module (
 one_module (Err error) old new module_ good none made = absurd (let e : true ≡ false = good in cc)
 
 -- slots without an entry fit every unwinder
-empty_fits : {Rule : Type 0} (kept : Key → Option Rule) (generation : ℕ) (slots : List (Option (Entry Rule)))
+empty_fits : {Rule : Type 0} (kept : Key → Option Rule) (generation : ℕ) (slots : List (Option (KeptRule Rule)))
     → slots ≡ replicate 509 None → Fits kept generation slots
 empty_fits {Rule} kept generation slots empty =
-    subst (λ (ss : List (Option (Entry Rule))). Fits kept generation ss) (sym empty)
+    subst (λ (ss : List (Option (KeptRule Rule))). Fits kept generation ss) (sym empty)
     (record { each = All-replicate (λ slot. IfSome slot (FitsEntry kept generation)) 509 None tt })
 
 -- an unwinder that was made has no module
@@ -31,7 +30,7 @@ no_module answer made empty is says = subst (λ r. IfOk r (λ unwinder. unwinder
 
 pub returns-clause-step : goal.returns-clause-step
 returns-clause-step g c =
-    let m = meanings g.A.UnwindRule.UnwindRule.meaning g.A.UnwindRule.UnwindRule.fallback g.A.Unwinding.attempt in
+    let m = g.A.Unwinding.meanings in
     let made = no_module c.new.result c.unwrap-unwinder.result _ c.unwrap-unwinder.ensures c.new.ensures.ok in
     let modules = one_module c.add_module.result c.unwrap-unwinder.result.modules c.add_module.new.self.modules c.args.module
     (sym c.is_err.ensures.value ∙ c.if-is_err.false) (ap (λ (u : Loads (Loaded g.row.A-UnwindData.Denot)). u.modules) made) c.add_module.ensures.modules in
@@ -41,3 +40,6 @@ returns-clause-step g c =
           modules (c.unwind_frame.ensures.step.said words answers (empty_fits _ _ _ c.in-Ok.ensures.slots) unwanted);
       still = c.unwind_frame.ensures.step.still;
     }
+
+pub returns-clause-error_keeps : goal.returns-clause-error_keeps
+returns-clause-error_keeps g c = c.unwind_frame.ensures.stays.error

@@ -9,7 +9,7 @@ pub invariant_of-result : goal.invariant_of-result
 invariant_of-result g c =
     let stretch = g.R.Reader.stretch in
     let s = stretch c.self.inside.section in
-    let origins = origins_of_header c.args.bases.now.eh_frame_hdr s.place c.args.address_size in
+    let origins = origins_of_header c.args.bases.now.eh_frame_hdr s.offset c.args.address_size in
     let version = on_is (byte_on s) c.in_ok-version.ensures.read in
     let first = on_is (encoding_on (stretch c.read_u8.new.self)) c.in_ok-pointer_enc.ensures.read in
     let second = on_is (encoding_on (stretch c.parse_pointer_encoding.new.input)) c.in_ok-count_enc.ensures.read in

@@ -1,16 +1,16 @@
 use Rattle.std.proofs.lemmas.Result.{err_from_is_err_and}
-use Rattle.dwarf_call_frames.specs.HeaderEntries.{section_of_header}
+use Rattle.dwarf_call_frames.specs.HeaderEntries.{eh_frame_in}
 use Rattle.dwarf_call_frames.proofs.NamedEntries.{row-of-fde, row-refused}
 use Rattle.dwarf_call_frames.proofs.table.EhHdrTable.unwind_info_for_address.Goals as goal
 
 pub returns-in_err-fde : goal.returns-in_err-fde
-returns-in_err-fde g c may_want same =
-    let section = section_of_header g.R.Offset.ReaderOffset.limit c.args.frame.now.address_size (g.R.Reader.stretch c.args.frame.now.reader) c.args.bases.now in
+returns-in_err-fde g c may_allocate same =
+    let section = eh_frame_in g.R.Reader.stretch g.R.Offset.ReaderOffset.limit c.args.frame.now c.args.bases.now in
     let from = err_from_is_err_and c.from_residual.result c.from_residual.ensures.1 in
-    rw (from.1, from.2) (row-refused _ section c.args.frame.now.vendor c.args.bases.now c.args.self.now c.args.address _ may_want c.in_err-fde.field-0.0 (c.in_err-fde.ensures may_want same))
+    rw (from.1, from.2) (row-refused _ section c.args.frame.now.vendor c.args.bases.now c.args.self.now c.args.address _ may_allocate c.in_err-fde.field-0.0 (c.in_err-fde.ensures may_allocate same))
 
 pub returns : goal.returns
-returns g c may_want same =
-    let section = section_of_header g.R.Offset.ReaderOffset.limit c.args.frame.now.address_size (g.R.Reader.stretch c.args.frame.now.reader) c.args.bases.now in
-    row-of-fde _ section c.args.frame.now.vendor c.args.bases.now c.args.self.now c.args.address g.R.Offset.ReaderOffset.value _ may_want c.in_ok-fde.fde
-    c.unwind_info_for_address.result (c.in_ok-fde.ensures may_want same) c.unwind_info_for_address.ensures
+returns g c may_allocate same =
+    let section = eh_frame_in g.R.Reader.stretch g.R.Offset.ReaderOffset.limit c.args.frame.now c.args.bases.now in
+    row-of-fde _ section c.args.frame.now.vendor c.args.bases.now c.args.self.now c.args.address g.R.Offset.ReaderOffset.value _ may_allocate c.in_ok-fde.fde
+    c.unwind_info_for_address.result (c.in_ok-fde.ensures may_allocate same) c.unwind_info_for_address.ensures

@@ -1,4 +1,4 @@
-use Rattle.dwarf_frame_sections.specs.Sections.{frame_section}
+use Rattle.dwarf_frame_rows.specs.FrameSection.{frame_section}
 use Rattle.dwarf_frame_entries.proofs.EntryLists.{entries-empty}
 use Rattle.dwarf_frame_entries.proofs.entries.CfiEntriesIter.next.Goals as goal
 

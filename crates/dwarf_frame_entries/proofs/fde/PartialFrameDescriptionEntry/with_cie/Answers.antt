@@ -11,7 +11,7 @@ read_lsda-requires g c =
     let origins : Origins = record {
       bases = c.self.inside.bases.now.eh_frame;
       function = None;
-      section_place = (stretch c.section.result.now).place;
+      section_place = (stretch c.section.result.now).offset;
       address_size = c.args.cie.address_size;
     } in
     let on = onward s (stretch c.read_addresses.new.input) _ _ (addresses_on origins c.fde_address_encoding.result s) c.in_ok-initial_address.ensures in

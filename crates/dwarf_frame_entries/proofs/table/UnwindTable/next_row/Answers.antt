@@ -1,6 +1,4 @@
 use Rattle.std.proofs.Common.{refl}
-use Rattle.dwarf_frame_rows.specs.Effects.{limits_of}
-use Rattle.dwarf_frame_instructions.specs.Execution.{TakesNoMemory}
 use Rattle.dwarf_frame_instructions.specs.ProgramRows.{current_row}
 use Rattle.std.specs.Bool.{⊤}
 use Rattle.dwarf_frame_entries.proofs.UnwindTables.{answer-shows, step-gives, step-leaves}
@@ -12,8 +10,8 @@ returns g c =
     let limit = g.R.Offset.ReaderOffset.limit in
     let number = g.R.Offset.ReaderOffset.value in
     let items = g.S-Stack-ArrayLike.items in
-    let limits = limits_of g.S.Rules.ArrayLike.capacity g.S-Stack-ArrayLike.capacity in
-    let fixed = TakesNoMemory g.S.Rules.ArrayLike.is_made_in_place limits in
+    let limits = g.S.UnwindContextStorage.limits in
+    let fixed = g.S.UnwindContextStorage.never_allocates in
     let rows = c.advance.new.self in
     let more = c.in_ok-advance.field-0 in
     let shown = c.current_row.ensures in (

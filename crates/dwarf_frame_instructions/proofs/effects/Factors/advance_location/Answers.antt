@@ -12,5 +12,5 @@ pub returns-in_default : goal.returns-in_default
 returns-in_default g c =
     let sum : ℕ = c.args.location + c.args.delta * c.args.self.now.code_alignment_factor % 2 ^ 64 in
     let bounded = limit_fits c.args.self.now.address_size in
-    let past : nat_lt sum (address_limit c.args.self.now.address_size) ≡ false = grind (arith, nat_tests, c.in_default.ensures) in
-    rw past refl
+    let executed : nat_lt sum (address_limit c.args.self.now.address_size) ≡ false = grind (arith, nat_tests, c.in_default.ensures) in
+    rw executed refl

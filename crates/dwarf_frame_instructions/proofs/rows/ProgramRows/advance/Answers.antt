@@ -1,6 +1,5 @@
 use Rattle.std.proofs.Common.{ap, refl, ◌∙◌}
-use Rattle.dwarf_frame_rows.specs.Effects.{limits_of}
-use Rattle.dwarf_frame_instructions.specs.Execution.{TakesNoMemory, state_in}
+use Rattle.dwarf_frame_instructions.specs.Execution.{state_in}
 use Rattle.dwarf_frame_instructions.specs.InstructionViews.{conventions_by}
 use Rattle.dwarf_frame_instructions.specs.Instructions.{instructions_of}
 use Rattle.dwarf_frame_instructions.specs.ProgramRows.{instructions_left}
@@ -13,11 +12,11 @@ returns-in-Ok-Some-clause-row g c = λ left h.
     let limit = g.R.Offset.ReaderOffset.limit in
     let number = g.R.Offset.ReaderOffset.value in
     let items = g.S-Stack-ArrayLike.items in
-    let limits = limits_of g.S.Rules.ArrayLike.capacity g.S-Stack-ArrayLike.capacity in
+    let limits = g.S.UnwindContextStorage.limits in
     let goes = going stretch limit number items limits c.args.self.now left c.if-self.false h in
-    let ran = (rw c.in-Ok-Some.field-0-is at c.in-Ok-Some.ensures.front) goes.0 goes.1 in
+    let ran = (rw c.in-Ok-Some.field-0-is at c.in-Ok-Some.ensures.prefix) goes.0 goes.1 in
     let kept = c.end_row.ensures.kept in
-    moved_on stretch limit number items limits (TakesNoMemory g.S.Rules.ArrayLike.is_made_in_place limits) c.args.self.now c.end_row.new.self (state_in number items c.run.new.context) left goes
+    moved_on stretch limit number items limits g.S.UnwindContextStorage.never_allocates c.args.self.now c.end_row.new.self (state_in number items c.run.new.context) left goes
     c.in-Ok-Some.location (instructions_of (conventions_by stretch limit c.args.self.now.coding) (stretch c.run.new.input)) ran c.end_row.ensures.row
     (ap factors_in kept) (ap end_in kept) (ap next_in kept) (ap (instructions_left stretch limit) kept) (ap ended_in kept ∙ c.if-self.false) (ap given_in kept)
 
@@ -27,11 +26,11 @@ returns-in-Ok-None-clause-row g c = λ left h.
     let limit = g.R.Offset.ReaderOffset.limit in
     let number = g.R.Offset.ReaderOffset.value in
     let items = g.S-Stack-ArrayLike.items in
-    let limits = limits_of g.S.Rules.ArrayLike.capacity g.S-Stack-ArrayLike.capacity in
+    let limits = g.S.UnwindContextStorage.limits in
     let goes = going stretch limit number items limits c.args.self.now left c.if-self.false h in
-    let ran = (rw c.in-Ok-None.field-0-is at c.in-Ok-None.ensures.front) goes.0 goes.1 in
+    let ran = (rw c.in-Ok-None.field-0-is at c.in-Ok-None.ensures.prefix) goes.0 goes.1 in
     let kept = c.end_row-in-Ok-None.ensures.kept in
-    ended_last stretch limit number items limits (TakesNoMemory g.S.Rules.ArrayLike.is_made_in_place limits) c.args.self.now c.end_row-in-Ok-None.new.self (state_in number items c.run.new.context) left goes
+    ended_last stretch limit number items limits g.S.UnwindContextStorage.never_allocates c.args.self.now c.end_row-in-Ok-None.new.self (state_in number items c.run.new.context) left goes
     (instructions_of (conventions_by stretch limit c.args.self.now.coding) (stretch c.run.new.input)) ran c.end_row-in-Ok-None.ensures.row (ap ended_in kept) (ap given_in kept)
 
 pub returns-in-Err-clause-row : goal.returns-in-Err-clause-row
@@ -40,7 +39,7 @@ returns-in-Err-clause-row g c = λ left h.
     let limit = g.R.Offset.ReaderOffset.limit in
     let number = g.R.Offset.ReaderOffset.value in
     let items = g.S-Stack-ArrayLike.items in
-    let limits = limits_of g.S.Rules.ArrayLike.capacity g.S-Stack-ArrayLike.capacity in
+    let limits = g.S.UnwindContextStorage.limits in
     let goes = going stretch limit number items limits c.args.self.now left c.if-self.false h in
-    refused_here stretch limit number items limits (TakesNoMemory g.S.Rules.ArrayLike.is_made_in_place limits) c.args.self.now _ (state_in number items c.run.new.context) left goes
-    (instructions_of (conventions_by stretch limit c.args.self.now.coding) (stretch c.run.new.input)) c.in-Err.error (c.in-Err.ensures.front goes.0 goes.1) refl refl
+    refused_here stretch limit number items limits g.S.UnwindContextStorage.never_allocates c.args.self.now _ (state_in number items c.run.new.context) left goes
+    (instructions_of (conventions_by stretch limit c.args.self.now.coding) (stretch c.run.new.input)) c.in-Err.error (c.in-Err.ensures.prefix goes.0 goes.1) refl refl

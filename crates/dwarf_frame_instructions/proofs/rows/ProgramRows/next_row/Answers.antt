@@ -1,7 +1,5 @@
 use Rattle.std.proofs.Common.{Some, sym, ap, refl, ◌∙◌}
 use Rattle.std.proofs.lemmas.Result.{err_from_is_err_and}
-use Rattle.dwarf_frame_rows.specs.Effects.{limits_of}
-use Rattle.dwarf_frame_instructions.specs.Execution.{TakesNoMemory}
 use Rattle.dwarf_frame_instructions.specs.StateViews.{row_as}
 use Rattle.dwarf_frame_instructions.proofs.Execution.{end_leaves, end_next, refusal_leaves, refusal_next, row_leaves, row_next}
 use Rattle.dwarf_frame_instructions.proofs.rows.ProgramRows.next_row.Goals as goal
@@ -12,8 +10,8 @@ returns-in_err-advance g c =
     let limit = g.R.Offset.ReaderOffset.limit in
     let number = g.R.Offset.ReaderOffset.value in
     let items = g.S-Stack-ArrayLike.items in
-    let limits = limits_of g.S.Rules.ArrayLike.capacity g.S-Stack-ArrayLike.capacity in
-    let fixed = TakesNoMemory g.S.Rules.ArrayLike.is_made_in_place limits in
+    let limits = g.S.UnwindContextStorage.limits in
+    let fixed = g.S.UnwindContextStorage.never_allocates in
     let e = c.in_err-advance.field-0.0 in
     let u = c.advance.new.self in
     let p = err_from_is_err_and c.from_residual.result c.from_residual.ensures.1 in
@@ -35,8 +33,8 @@ returns-then-branch g c =
     let limit = g.R.Offset.ReaderOffset.limit in
     let number = g.R.Offset.ReaderOffset.value in
     let items = g.S-Stack-ArrayLike.items in
-    let limits = limits_of g.S.Rules.ArrayLike.capacity g.S-Stack-ArrayLike.capacity in
-    let fixed = TakesNoMemory g.S.Rules.ArrayLike.is_made_in_place limits in
+    let limits = g.S.UnwindContextStorage.limits in
+    let fixed = g.S.UnwindContextStorage.never_allocates in
     let u = c.advance.new.self in
     let advanced = rw c.if-branch.true at c.in_ok-advance.ensures.row in
     let given = c.in_ok-advance.ensures.given ∙ c.if-branch.true in
@@ -58,8 +56,8 @@ returns g c =
     let limit = g.R.Offset.ReaderOffset.limit in
     let number = g.R.Offset.ReaderOffset.value in
     let items = g.S-Stack-ArrayLike.items in
-    let limits = limits_of g.S.Rules.ArrayLike.capacity g.S-Stack-ArrayLike.capacity in
-    let fixed = TakesNoMemory g.S.Rules.ArrayLike.is_made_in_place limits in
+    let limits = g.S.UnwindContextStorage.limits in
+    let fixed = g.S.UnwindContextStorage.never_allocates in
     let u = c.advance.new.self in
     let advanced = rw c.if-branch.false at c.in_ok-advance.ensures.row in
     let given = c.in_ok-advance.ensures.given ∙ c.if-branch.false in (

@@ -7,13 +7,13 @@ pub invariant_of-self : goal.invariant_of-self
 invariant_of-self g c =
     let items = g.Rules.ArrayLike.items c.self.inside.rules in
     let found = rw c.as_slice.ensures.value at (sym c.in-Some.ensures) in
-    rw c.write.ensures (set_found c.args.register c.args.rule c.in-Some.place items c.self.invariant found).once
+    rw c.write.ensures (set_found c.args.register c.args.rule c.in-Some.index items c.self.invariant found).once
 
 pub returns-in-Some-clause-ok : goal.returns-in-Some-clause-ok
 returns-in-Some-clause-ok g c =
     let items = g.Rules.ArrayLike.items c.self.inside.rules in
     let found = rw c.as_slice.ensures.value at (sym c.in-Some.ensures) in
-    rw c.write.ensures (set_found c.args.register c.args.rule c.in-Some.place items c.self.invariant found).same
+    rw c.write.ensures (set_found c.args.register c.args.rule c.in-Some.index items c.self.invariant found).same
     ∙ ap (λ m. insert m c.args.register.0 c.args.rule) c.self.view_is
 
 pub returns-in-Some-clause-room : goal.returns-in-Some-clause-room
@@ -21,7 +21,7 @@ returns-in-Some-clause-room g c =
     let items = g.Rules.ArrayLike.items c.self.inside.rules in
     let found = rw c.as_slice.ensures.value at (sym c.in-Some.ensures) in
     holds_within g.Rules.ArrayLike.capacity (length items) _ c.as_slice.ensures.within
-    (ap (λ m. len (insert m c.args.register.0 c.args.rule)) (sym c.self.view_is) ∙ len-found c.args.register c.args.rule c.in-Some.place items c.self.invariant found)
+    (ap (λ m. len (insert m c.args.register.0 c.args.rule)) (sym c.self.view_is) ∙ len-found c.args.register c.args.rule c.in-Some.index items c.self.invariant found)
 
 pub invariant_of-self-in-None : goal.invariant_of-self-in-None
 invariant_of-self-in-None g c =

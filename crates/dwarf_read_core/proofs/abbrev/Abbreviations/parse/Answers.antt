@@ -4,7 +4,7 @@ use Rattle.dwarf_read_core.specs.AbbreviationTable.{next_declaration}
 use Rattle.dwarf_read_core.specs.Abbreviations.{declaration}
 use Rattle.dwarf_read_core.specs.DebugAbbrev.{declarations}
 use Rattle.dwarf_read_core.proofs.Tables.{declarations_shrink, table_end, table_from, table_more, table_refused, table_start}
-use Rattle.dwarf_readers.specs.Place.{◌>>=◌}
+use Rattle.dwarf_readers.specs.Stretch.{◌>>=◌}
 use Rattle.dwarf_read_core.proofs.abbrev.Abbreviations.parse.Goals as goal
 
 pub table-init : goal.table-init

@@ -1,5 +1,5 @@
 use Rattle.std.proofs.Common.{◌≡◌, drop}
-use Rattle.dwarf_readers.specs.Place.{count_before}
+use Rattle.dwarf_readers.specs.Stretch.{count_before}
 use Rattle.dwarf_readers.proofs.Places.{later}
 use Rattle.dwarf_readers.proofs.endian_slice.EndianSlice.find.Given as goal
 

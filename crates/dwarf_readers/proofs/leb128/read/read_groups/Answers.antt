@@ -1,6 +1,6 @@
 use Rattle.std.proofs.Common.{◌≡◌, ◌≤◌, ◌+◌, ◌*◌, ◌%◌, ◌^◌, ℕ, length, slice_index, ap, sym, ◌∙◌, arith, below_more}
 use Rattle.std.proofs.lemmas.Result.{err_from_is_err_and}
-use Rattle.dwarf_readers.specs.Place.{behind, byte_at, ends_at}
+use Rattle.dwarf_readers.specs.Stretch.{behind, byte_at, ends_at}
 use Rattle.dwarf_readers.proofs.Strings.{ByteRead, Room, byte_missing, byte_read, room, value_more}
 use Rattle.dwarf_readers.proofs.leb128.read.read_groups.Goals as goal
 
@@ -40,6 +40,6 @@ returns-in_err-last-2-clause-missing g c =
     rw (e.1, e.2) (record {
       few = omega (arith, c.if-count-most.true);
       marked = λ k h. below_more (λ k. 128 ≤ slice_index s.bytes k) count invariant.marked (omega (arith, invariant.last)) k (omega arith);
-      eof = missing.1 ∙ ap (λ (i : ℕ). ends_at (s.place + i)) size;
+      eof = missing.1 ∙ ap (λ (i : ℕ). ends_at (s.offset + i)) size;
       rest = c.in_err-last-2.ensures.unchanged ∙ invariant.left ∙ ap (λ (i : ℕ). behind i s) size;
     })

@@ -1,6 +1,6 @@
 use Rattle.std.proofs.Common.{◌≡◌, ◌<◌, ◌≤◌, ◌+◌, ◌-◌, ◌^◌, ℕ, length, take, slice_index}
 use Rattle.dwarf_readers.specs.Leb128.{unsigned_value}
-use Rattle.dwarf_readers.specs.Place.{behind}
+use Rattle.dwarf_readers.specs.Stretch.{behind}
 use Rattle.dwarf_readers.proofs.leb128.read.read_groups.Given as goal
 
 -- so many bytes were read, all of 128 and more but the last

@@ -1,6 +1,6 @@
 use Rattle.std.proofs.Common.{◌≡◌, length}
 use Rattle.dwarf_readers.specs.Leb128.{behind_string, string_of}
-use Rattle.dwarf_readers.specs.Place.{behind}
+use Rattle.dwarf_readers.specs.Stretch.{behind}
 use Rattle.dwarf_readers.proofs.leb128.read.skip.Given as goal
 
 -- where the string ends is seen as well from here

@@ -1,6 +1,4 @@
 use Rattle.std.proofs.Common.{refl}
-use Rattle.dwarf_frame_rows.specs.Effects.{limits_of}
-use Rattle.dwarf_frame_instructions.specs.Execution.{TakesNoMemory}
 use Rattle.frame_table_text.specs.TableViews.{table_view}
 use Rattle.frame_table_text.proofs.Rows.{shows_next}
 use Rattle.frame_table_text.proofs.tables.Table.push_next.Goals as goal
@@ -11,8 +9,8 @@ returns-clause-next g c =
     let limit = g.R.Offset.ReaderOffset.limit in
     let number = g.R.Offset.ReaderOffset.value in
     let items = g.S-Stack-ArrayLike.items in
-    let limits = limits_of g.S.Rules.ArrayLike.capacity g.S-Stack-ArrayLike.capacity in
-    let fixed = TakesNoMemory g.S.Rules.ArrayLike.is_made_in_place limits in
+    let limits = g.S.UnwindContextStorage.limits in
+    let fixed = g.S.UnwindContextStorage.never_allocates in
     λ left has.
     shows_next stretch limit number items limits fixed c.advance.new.self (table_view c.args.self.now) left left.rows c.advance.result c.in_ok-answer.answer c.args.text.now.items c.push_current.new.text.items
     (c.advance.ensures.row left has) c.in_ok-answer.ensures.same refl c.in_ok-answer.ensures.memory c.in_ok-push_current.ensures

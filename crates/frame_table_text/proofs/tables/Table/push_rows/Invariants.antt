@@ -1,7 +1,6 @@
 use Rattle.std.proofs.Common.{◌≡◌, ◌++◌, ℕ}
-use Rattle.dwarf_frame_rows.specs.Effects.{limits_of}
 use Rattle.dwarf_frame_instructions.specs.ProgramRows.{HasLeft, program_of, steps_left}
-use Rattle.dwarf_frame_instructions.specs.Programs.{Rows, rows_of_program}
+use Rattle.dwarf_frame_instructions.specs.Programs.{RowList, rows_of_program}
 use Rattle.frame_table_text.specs.TableViews.{table_view}
 use Rattle.frame_table_text.specs.Tables.{row_lines}
 use Rattle.frame_table_text.proofs.tables.Table.push_rows.Given as goal
@@ -9,9 +8,9 @@ use Rattle.frame_table_text.proofs.tables.Table.push_rows.Given as goal
 -- the lines so far and those of the rows that are left make the lines of all rows, and the refusal is the same
 abbrev pub invariant-rows : goal.invariant-rows
 invariant-rows g l =
-    let limits = limits_of g.S.Rules.ArrayLike.capacity g.S-Stack-ArrayLike.capacity in
+    let limits = g.S.UnwindContextStorage.limits in
     let all = rows_of_program limits (program_of l.fn.program) in
-    (left : Rows ℕ) × HasLeft g.R.Reader.stretch g.R.Offset.ReaderOffset.limit g.R.Offset.ReaderOffset.value g.S-Stack-ArrayLike.items limits l.rows left
+    (left : RowList ℕ) × HasLeft g.R.Reader.stretch g.R.Offset.ReaderOffset.limit g.R.Offset.ReaderOffset.value g.S-Stack-ArrayLike.items limits l.rows left
     × (left.refusal ≡ all.refusal)
     × (l.text.items ++ row_lines (table_view l.self) left.rows ≡ l.fn.text.items ++ row_lines (table_view l.self) all.rows)
 

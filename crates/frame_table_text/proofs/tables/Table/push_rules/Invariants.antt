@@ -3,8 +3,8 @@ use Rattle.std.specs.List.{flat_map}
 use Rattle.dwarf_frame_rows.specs.Row.{row_of}
 use Rattle.frame_table_text.specs.Cells.{cell_of}
 use Rattle.frame_table_text.specs.TableViews.{table_view}
-use Rattle.frame_table_text.specs.Tables.{found_in}
+use Rattle.frame_table_text.specs.Tables.{rule_text_in}
 use Rattle.frame_table_text.proofs.tables.Table.push_rules.Given as goal
 
 abbrev pub invariant-loop-register : goal.invariant-loop-register
-invariant-loop-register g l = l.text.items ≡ l.fn.text.items ++ flat_map (λ register. cell_of 5 (found_in (table_view l.self) (row_of l.row) register)) (take l.register-index l.self.columns.items)
+invariant-loop-register g l = l.text.items ≡ l.fn.text.items ++ flat_map (λ register. cell_of 5 (rule_text_in (table_view l.self) (row_of l.row) register)) (take l.register-index l.self.columns.items)

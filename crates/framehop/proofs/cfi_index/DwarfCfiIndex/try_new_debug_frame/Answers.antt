@@ -1,7 +1,8 @@
 -- The section that is made of the bytes is that of the bytes.
 use Rattle.std.proofs.Common.{false, subst}
 use Rattle.dwarf_readers.specs.EndianSlice.{stretch_of}
-use Rattle.dwarf_frame_sections.specs.Sections.{FrameSection, debug_frame}
+use Rattle.dwarf_frame_rows.specs.FrameSection.{FrameSection}
+use Rattle.dwarf_frame_sections.specs.Sections.{debug_frame}
 use Rattle.framehop.specs.CfiIndex.{IsMadeOf}
 use Rattle.framehop.specs.CfiIndexView.{IsIndexOf}
 use Rattle.framehop.proofs.SectionsMade.{section-made}

@@ -1,14 +1,8 @@
 use Rattle.framehop.proofs.LaterSteps.{RulesRaise, step-raised}
-use Rattle.framehop.proofs.aarch64.later_steps_raise_sp.Goals as goal
+use Rattle.framehop.proofs.walk_laws.aarch64.later_steps_raise_sp.Goals as goal
 
-pub returns-clause-higher : goal.returns-clause-higher
-returns-clause-higher c room modules return_address registers words caller is =
+pub returns : goal.returns
+returns c room modules words return_address registers caller is =
     let law = c.later_frames_raise_sp.ensures in
     let rules : RulesRaise = λ rule registers words caller h. record { higher = law.higher rule registers words caller h; fits = law.fits rule registers words caller h } in
-    (step-raised rules room registers words caller modules return_address is).higher
-
-pub returns-clause-fits : goal.returns-clause-fits
-returns-clause-fits c room modules return_address registers words caller is =
-    let law = c.later_frames_raise_sp.ensures in
-    let rules : RulesRaise = λ rule registers words caller h. record { higher = law.higher rule registers words caller h; fits = law.fits rule registers words caller h } in
-    (step-raised rules room registers words caller modules return_address is).fits
+    step-raised rules room registers words caller modules return_address is

@@ -12,7 +12,7 @@ returns-in-Text-clause-given g c =
       base_svma = refl;
       section_range = refl;
       section_data = λ other differ. ap (option_map g.D.SectionBytes.content)
-          (text-apart i.text None i.eh_frame i.eh_frame_hdr i.debug_frame None None i.unwind_info c.take.new.self (kind_named other) (apart c.args.name.now other Text (sym c.named.ensures ∙ c.in_ok-named.was ∙ ap (λ k. Some k) c.in-Text.is) differ));
+          (text-apart i c.take.new.self (kind_named other) (apart c.args.name.now other Text (sym c.named.ensures ∙ c.in_ok-named.was ∙ ap (λ k. Some k) c.in-Text.is) differ));
       segment_range = refl;
       segment_data = refl;
     })
@@ -24,7 +24,7 @@ returns-in-EhFrame-clause-given g c =
       base_svma = refl;
       section_range = refl;
       section_data = λ other differ. ap (option_map g.D.SectionBytes.content)
-          (eh_frame-apart i.text None i.eh_frame i.eh_frame_hdr i.debug_frame None None i.unwind_info c.take-in-EhFrame.new.self (kind_named other) (apart c.args.name.now other EhFrame (sym c.named.ensures ∙ c.in_ok-named.was ∙ ap (λ k. Some k) c.in-EhFrame.is) differ));
+          (eh_frame-apart i c.take-in-EhFrame.new.self (kind_named other) (apart c.args.name.now other EhFrame (sym c.named.ensures ∙ c.in_ok-named.was ∙ ap (λ k. Some k) c.in-EhFrame.is) differ));
       segment_range = refl;
       segment_data = refl;
     })
@@ -36,7 +36,7 @@ returns-in-EhFrameHdr-clause-given g c =
       base_svma = refl;
       section_range = refl;
       section_data = λ other differ. ap (option_map g.D.SectionBytes.content)
-          (eh_frame_hdr-apart i.text None i.eh_frame i.eh_frame_hdr i.debug_frame None None i.unwind_info c.take-in-EhFrameHdr.new.self (kind_named other) (apart c.args.name.now other EhFrameHdr (sym c.named.ensures ∙ c.in_ok-named.was ∙ ap (λ k. Some k) c.in-EhFrameHdr.is) differ));
+          (eh_frame_hdr-apart i c.take-in-EhFrameHdr.new.self (kind_named other) (apart c.args.name.now other EhFrameHdr (sym c.named.ensures ∙ c.in_ok-named.was ∙ ap (λ k. Some k) c.in-EhFrameHdr.is) differ));
       segment_range = refl;
       segment_data = refl;
     })
@@ -48,7 +48,7 @@ returns-in-DebugFrame-clause-given g c =
       base_svma = refl;
       section_range = refl;
       section_data = λ other differ. ap (option_map g.D.SectionBytes.content)
-          (debug_frame-apart i.text None i.eh_frame i.eh_frame_hdr i.debug_frame None None i.unwind_info c.take-in-DebugFrame.new.self (kind_named other) (apart c.args.name.now other DebugFrame (sym c.named.ensures ∙ c.in_ok-named.was ∙ ap (λ k. Some k) c.in-DebugFrame.is) differ));
+          (debug_frame-apart i c.take-in-DebugFrame.new.self (kind_named other) (apart c.args.name.now other DebugFrame (sym c.named.ensures ∙ c.in_ok-named.was ∙ ap (λ k. Some k) c.in-DebugFrame.is) differ));
       segment_range = refl;
       segment_data = refl;
     })
@@ -60,7 +60,7 @@ returns-in-UnwindInfo-clause-given g c =
       base_svma = refl;
       section_range = refl;
       section_data = λ other differ. ap (option_map g.D.SectionBytes.content)
-          (unwind_info-apart i.text None i.eh_frame i.eh_frame_hdr i.debug_frame None None i.unwind_info c.take-in-UnwindInfo.new.self (kind_named other) (apart c.args.name.now other UnwindInfo (sym c.named.ensures ∙ c.in_ok-named.was ∙ ap (λ k. Some k) c.in-UnwindInfo.is) differ));
+          (unwind_info-apart i c.take-in-UnwindInfo.new.self (kind_named other) (apart c.args.name.now other UnwindInfo (sym c.named.ensures ∙ c.in_ok-named.was ∙ ap (λ k. Some k) c.in-UnwindInfo.is) differ));
       segment_range = refl;
       segment_data = refl;
     })

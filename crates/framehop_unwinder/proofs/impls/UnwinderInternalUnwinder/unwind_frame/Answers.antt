@@ -1,6 +1,5 @@
 use Rattle.std.proofs.Common.{refl}
 use Rattle.framehop_rules.specs.Slots.{Key}
-use Rattle.framehop_unwinder.specs.Attempt.{meanings}
 use Rattle.framehop_unwinder.specs.CacheViews.{rules_of}
 use Rattle.framehop_unwinder.specs.Frames.{frame_of}
 use Rattle.framehop_unwinder.specs.RulesKept.{rule_kept, key_for}
@@ -11,7 +10,7 @@ use Rattle.framehop_unwinder.proofs.impls.UnwinderInternalUnwinder.unwind_frame.
 -- what is kept is what the unwinder would keep
 pub returns-clause-fits : goal.returns-clause-fits
 returns-clause-fits g c = λ fits.
-    let m = meanings g.A.UnwindRule.UnwindRule.meaning g.A.UnwindRule.UnwindRule.fallback g.A.Unwinding.attempt in
+    let m = g.A.Unwinding.meanings in
     let mine = rule_kept m c.args.self.now.modules in
     let key : Key = key_for (frame_of c.args.address) c.args.self.now.generation in
-    rw c.unwind_frame.ensures.slots (fits_after (wants_memory c.unwind_frame.result) mine mine c.args.self.now.generation key (rules_of c.args.cache.now).slots (λ _. refl) fits)
+    rw c.unwind_frame.ensures.cache.slots (fits_after (wants_memory c.unwind_frame.result) mine mine c.args.self.now.generation key (rules_of c.args.cache.now).slots (λ _. refl) fits)

@@ -1,5 +1,4 @@
 use Rattle.std.proofs.Common.{ap, map, ◌∙◌}
-use Rattle.framehop_unwinder.specs.Attempt.{meanings}
 use Rattle.framehop_unwinder.specs.CacheViews.{rules_of}
 use Rattle.framehop_unwinder.specs.Modules.{Loaded, Loads}
 use Rattle.framehop_unwinder.specs.State.{slots_of_all}
@@ -8,7 +7,7 @@ use Rattle.framehop_unwinder.proofs.session.Session.add_unwinder.Goals as goal
 
 pub invariant_of-self-2 : goal.invariant_of-self-2
 invariant_of-self-2 g c =
-    let m = meanings g.A.UnwindRule.UnwindRule.meaning g.A.UnwindRule.UnwindRule.fallback g.A.Unwinding.attempt in
+    let m = g.A.Unwinding.meanings in
     let loads = c.self.inside.unwinders.items in
     let slots = slots_of_all (map rules_of c.self.inside.caches.items) in
     let next = c.self.inside.generations in

@@ -1,22 +1,21 @@
 use Rattle.std.proofs.Common.{ap, sym, subst, ◌∙◌, ◌<◌, ◌≤◌, ◌-◌, ◌≡◌, ◌^◌, true, length, map, arith, refl}
 use Rattle.std.specs.Prelude.{OnErr}
-use Rattle.framehop_unwinder.specs.Attempt.{meanings}
 use Rattle.framehop_unwinder.specs.CacheViews.{rules_of}
 use Rattle.framehop_unwinder.specs.Modules.{Loaded, Loads, has_start, without_module}
-use Rattle.framehop_unwinder.specs.State.{State, slots_of_all}
+use Rattle.framehop_unwinder.specs.State.{SessionState, slots_of_all}
 use Rattle.framehop_unwinder.proofs.Loads.{read-is, put-same, put-done, put-refused}
 use Rattle.framehop_unwinder.proofs.Sound.{sound_unload}
 use Rattle.framehop_unwinder.proofs.session.Session.unload.Goals as goal
 
 pub invariant_of-self : goal.invariant_of-self
 invariant_of-self g c =
-    let m = meanings g.A.UnwindRule.UnwindRule.meaning g.A.UnwindRule.UnwindRule.fallback g.A.Unwinding.attempt in
+    let m = g.A.Unwinding.meanings in
     let loads = c.self.inside.unwinders.items in
-    let there : c.args.unwinder < length loads = omega (arith, ap (λ (s : State g.row.A-UnwindData.Denot g.row.A-UnwindRule.Denot). length s.unwinders) c.self.view_is) in
+    let there : c.args.unwinder < length loads = omega (arith, ap (λ (s : SessionState g.row.A-UnwindData.Denot g.row.A-UnwindRule.Denot). length s.unwinders) c.self.view_is) in
     let e = c.remove_module.ensures in
     sound_unload m c.self.inside.generations c.remove_module.new.generations loads (slots_of_all (map rules_of c.self.inside.caches.items)) c.args.unwinder c.index_mut.result.now c.remove_module.new.self c.remove_module.result
     (has_start (λ (m : Loaded g.row.A-UnwindData.Denot). m.start) c.args.start c.index_mut.result.now.modules) _ refl
-    e.unknown e.generation e.taken e.same e.untaken there c.index_mut.ensures.value c.self.invariant
+    e.unknown (λ has. (e.number has).generation) (λ has. (e.number has).taken) e.failure.same e.failure.untaken there c.index_mut.ensures.value c.self.invariant
 
 -- whether a module of the unwinder starts there, as it was read and as the session has it
 pub returns-clause-unknown : goal.returns-clause-unknown
@@ -41,7 +40,7 @@ returns-clause-ok g c has =
     let is = read-is loads next caches c.args.self.now c.self.view_is c.args.unwinder c.requires old c.index_mut.ensures.value in
     let starts : has_start (λ (m : Loaded D). m.start) c.args.start old.modules ≡ true = ap (λ (u : Loads (Loaded D)). has_start (λ m. m.start) c.args.start u.modules) is ∙ has in
     put-done loads next caches c.args.self.now c.self.view_is c.args.unwinder c.requires old c.index_mut.ensures.value c.remove_module.result c.remove_module.new.self c.remove_module.new.generations
-    (without_module (λ (m : Loaded D). m.start) c.args.start) e.modules (e.generation starts) (e.taken starts)
+    (without_module (λ (m : Loaded D). m.start) c.args.start) e.modules (e.number starts).generation (e.number starts).taken
 
 pub returns-clause-exhausted : goal.returns-clause-exhausted
 returns-clause-exhausted g c has last =
@@ -52,12 +51,12 @@ returns-clause-exhausted g c has last =
     let old = c.index_mut.result.now in
     let is = read-is loads next caches c.args.self.now c.self.view_is c.args.unwinder c.requires old c.index_mut.ensures.value in
     c.remove_module.ensures.exhausted (ap (λ (u : Loads (Loaded D)). has_start (λ m. m.start) c.args.start u.modules) is ∙ has)
-    (subst (λ n. 2 ^ 64 - 1 ≤ n) (ap (λ (x : State D g.row.A-UnwindRule.Denot). x.next) (sym c.self.view_is)) last)
+    (subst (λ n. 2 ^ 64 - 1 ≤ n) (ap (λ (x : SessionState D g.row.A-UnwindRule.Denot). x.next) (sym c.self.view_is)) last)
 
 pub returns-clause-only : goal.returns-clause-only
-returns-clause-only g c = subst (λ n. OnErr c.remove_module.result (n ≡ 2 ^ 64 - 1)) (ap (λ (x : State g.row.A-UnwindData.Denot g.row.A-UnwindRule.Denot). x.next) c.self.view_is) c.remove_module.ensures.refused
+returns-clause-only g c = subst (λ n. OnErr c.remove_module.result (n ≡ 2 ^ 64 - 1)) (ap (λ (x : SessionState g.row.A-UnwindData.Denot g.row.A-UnwindRule.Denot). x.next) c.self.view_is) c.remove_module.ensures.refused
 
 pub returns-clause-refused : goal.returns-clause-refused
 returns-clause-refused g c =
     put-refused c.self.inside.unwinders.items c.self.inside.generations (map rules_of c.self.inside.caches.items) c.args.self.now c.self.view_is c.args.unwinder c.requires c.index_mut.result.now c.index_mut.ensures.value
-    c.remove_module.result c.remove_module.new.self c.remove_module.new.generations c.remove_module.ensures.same c.remove_module.ensures.untaken
+    c.remove_module.result c.remove_module.new.self c.remove_module.new.generations c.remove_module.ensures.failure.same c.remove_module.ensures.failure.untaken

@@ -4,8 +4,11 @@ use Rattle.framehop_unwinder.proofs.Steps.{asked-there}
 use Rattle.framehop_unwinder.proofs.unwinder.UnwinderInternal.attempt.Goals as goal
 
 -- the module that is found wants memory
-pub returns-in-Some-clause-asked : goal.returns-in-Some-clause-asked
-returns-in-Some-clause-asked g c wanted =
+pub returns-in-Some-clause-memory : goal.returns-in-Some-clause-memory
+returns-in-Some-clause-memory g c =
     let found : module_found c.args.self.now.modules c.args.address ≡ Some c.in-Some.module.now = search rules in
-    asked-there g.A.Unwinding.asks_memory c.args.self.now.modules c.args.is_first_frame c.args.address c.in-Some.relative_address c.in-Some.module.now c.unwind_data.result.now
-    found c.in-Some.ensures.relative c.unwind_data.ensures (c.unwind_frame.ensures.asked wanted)
+    record {
+      never = c.unwind_frame.ensures.memory.never;
+      asked = λ wanted. asked-there g.A.Unwinding.asks_memory c.args.self.now.modules c.args.is_first_frame c.args.address c.in-Some.relative_address c.in-Some.module.now c.unwind_data.result.now
+          found c.in-Some.ensures.relative c.unwind_data.ensures (c.unwind_frame.ensures.memory.asked wanted);
+    }

@@ -1,18 +1,18 @@
-use Rattle.std.proofs.Common.{◌∙◌, ap, sym, subst}
+use Rattle.std.proofs.Common.{rules, ◌≡◌, ◌∙◌, ap, sym, subst, true, false}
 use Rattle.framehop_rules.specs.Outcome.{IsStep}
 use Rattle.framehop_rules.specs.Slots.{Key, key_of}
-use Rattle.framehop_unwinder.specs.Attempt.{meanings, attempt_at}
+use Rattle.framehop_unwinder.specs.Attempt.{attempt_at}
 use Rattle.framehop_unwinder.specs.CacheViews.{rules_of}
-use Rattle.framehop_unwinder.specs.RulesKept.{rule_kept, with_any}
+use Rattle.framehop_unwinder.specs.RulesKept.{rule_kept, rule_of_attempt, with_any}
 use Rattle.framehop_unwinder.specs.Trials.{wants_memory, rule_of_result}
 use Rattle.framehop_unwinder.proofs.Slots.{hit_fits}
-use Rattle.framehop_unwinder.proofs.Steps.{kept-judged, hit-found, miss-keeps, wanted-keeps-none}
+use Rattle.framehop_unwinder.proofs.Steps.{kept-judged, hit-found, miss-keeps, rules_want_none, wanted-keeps-none}
 use Rattle.framehop_unwinder.proofs.unwinder.UnwinderInternal.step.Goals as goal
 
 -- the rule that a fitting cache has means what is judged
 pub returns-in-Hit-clause-step : goal.returns-in-Hit-clause-step
 returns-in-Hit-clause-step g c =
-    let m = meanings g.A.UnwindRule.UnwindRule.meaning g.A.UnwindRule.UnwindRule.fallback g.A.Unwinding.attempt in
+    let m = g.A.Unwinding.meanings in
     let modules = c.args.self.now.modules in
     let key : Key = key_of c.args.address c.args.is_first_frame c.args.self.now.generation in
     let slots = (rules_of c.args.cache.now).slots in
@@ -22,15 +22,16 @@ returns-in-Hit-clause-step g c =
           subst (IsStep c.exec.result c.args.regs.now c.exec.new.regs)
           (sym (kept-judged m c.args.is_first_frame c.args.regs.now words modules c.args.address c.args.self.now.generation c.in-Hit.rule
           (hit_fits (rule_kept m modules) key slots c.in-Hit.rule found fits)))
-          (c.exec.ensures.step.said words answers);
+          (subst (λ meaning. IsStep c.exec.result c.args.regs.now c.exec.new.regs (meaning c.in-Hit.rule c.args.is_first_frame c.args.regs.now words))
+          (sym g.met.A.Unwinding.meaning_is) (c.exec.ensures.step.said words answers));
       still = c.exec.ensures.step.still;
     }
 
 -- what the modules say is judged
 pub returns-clause-step : goal.returns-clause-step
 returns-clause-step g c =
-    let m = meanings g.A.UnwindRule.UnwindRule.meaning g.A.UnwindRule.UnwindRule.fallback g.A.Unwinding.attempt in
-    let tried = c.attempt-answer.ensures.trial in
+    let m = g.A.Unwinding.meanings in
+    let tried = c.attempt-answer.ensures.answers.answer in
     let done = c.execute.ensures in
     record {
       said = λ words answers fits wanted.
@@ -40,20 +41,39 @@ returns-clause-step g c =
     }
 
 -- and what they have kept is
-pub returns-clause-slots : goal.returns-clause-slots
-returns-clause-slots g c =
-    let m = meanings g.A.UnwindRule.UnwindRule.meaning g.A.UnwindRule.UnwindRule.fallback g.A.Unwinding.attempt in
+pub returns-clause-cache : goal.returns-clause-cache
+returns-clause-cache g c =
+    let m = g.A.Unwinding.meanings in
     let fallback = g.A.UnwindRule.UnwindRule.fallback in
     let key : Key = key_of c.args.address c.args.is_first_frame c.args.self.now.generation in
     let slots = (rules_of c.args.cache.now).slots in
     let answer = c.attempt-answer.result in
     let rule = rule_of_result fallback answer in
     let is = c.execute.ensures.wanted in
-    c.keep.ensures.slots
+    let slots_are = c.keep.ensures.slots
     ∙ ap (λ old. with_any old c.in-Miss.handle rule) c.lookup.ensures.slots
     ∙ miss-keeps (rule_kept m c.args.self.now.modules) key slots (wants_memory c.execute.result) c.in-Miss.handle rule (rw c.generation.ensures at c.in-Miss.ensures.found)
-    (λ wanted. wanted-keeps-none fallback answer (sym is ∙ wanted)) (λ not_wanted. c.attempt-answer.ensures.kept (sym is ∙ not_wanted))
+    (λ wanted. wanted-keeps-none fallback answer (sym is ∙ wanted)) (λ not_wanted. c.attempt-answer.ensures.answers.kept fallback (sym is ∙ not_wanted) ∙ ap (λ f. rule_of_attempt f (attempt_at m c.args.self.now.modules c.args.is_first_frame c.args.address)) (sym g.met.A.Unwinding.fallback_is)) in
+    record { slots = slots_are; counts = search rules }
+
+-- a rule that the cache has keeps nothing
+pub returns-in-Hit-clause-cache : goal.returns-in-Hit-clause-cache
+returns-in-Hit-clause-cache g c = record { slots = search rules; counts = search rules }
+
+pub returns-clause-stays : goal.returns-clause-stays
+returns-clause-stays g c = c.execute.ensures.stays c.args.regs.now c.attempt-answer.ensures.answers.registers
+
+pub returns-in-Hit-clause-stays : goal.returns-in-Hit-clause-stays
+returns-in-Hit-clause-stays g c = c.exec.ensures.stays
 
 -- the module that is found wants memory
-pub returns-clause-asked : goal.returns-clause-asked
-returns-clause-asked g c wanted = c.attempt-answer.ensures.asked (sym c.execute.ensures.wanted ∙ wanted)
+pub returns-clause-memory : goal.returns-clause-memory
+returns-clause-memory g c = record {
+  never = λ no. c.execute.ensures.wanted ∙ c.attempt-answer.ensures.memory.never no;
+  asked = λ wanted. c.attempt-answer.ensures.memory.asked (sym c.execute.ensures.wanted ∙ wanted);
+}
+
+pub returns-in-Hit-clause-memory : goal.returns-in-Hit-clause-memory
+returns-in-Hit-clause-memory g c =
+    let not_wanted = rules_want_none c.exec.result c.exec.ensures.refusals in
+    record { never = λ no. not_wanted; asked = λ wanted. absurd (let e : true ≡ false = sym wanted ∙ not_wanted in cc) }

@@ -1,12 +1,12 @@
 use Rattle.std.proofs.Common.{◌≡◌, ℕ, suc}
 use Rattle.dwarf_constants.specs.declared.common.Register.{Register}
-use Rattle.dwarf_expressions.specs.Evaluation.{CanResume, State, operations_left}
+use Rattle.dwarf_expressions.specs.Evaluation.{CanResume, EvaluationState, operations_left}
 use Rattle.dwarf_expressions.specs.declared.evaluation.EvaluationResult.{EvaluationResult}
 use Rattle.dwarf_expressions.specs.declared.evaluation.EvaluationResult.TheVariants.{Complete, RequiresRegister}
 use Rattle.test_expressions.proofs.expressions.registers.value_with_registers.Given as goal
 
 -- one more than the operations that may still run, where a register is asked for
-abbrev pub requests_left : EvaluationResult → State → ℕ
+abbrev pub requests_left : EvaluationResult → EvaluationState → ℕ
 requests_left Complete state = 0
 requests_left (RequiresRegister register) state = suc (operations_left state)
 

@@ -1,5 +1,5 @@
 use Rattle.std.proofs.Common.{◌≡◌, ◌∙◌, None, Some, reverse, sym}
-use Rattle.dwarf_readers.specs.Place.{count_before}
+use Rattle.dwarf_readers.specs.Stretch.{count_before}
 use Rattle.test_readers.proofs.Reversed.{position_is_count}
 use Rattle.test_readers.proofs.backward.BackwardReader.find.Goals as goal
 

@@ -1,7 +1,7 @@
 use Rattle.std.proofs.Common.{◌≡◌, List, ap, subst, ◌∙◌}
 use Rattle.std.specs.Prelude.{string_bytes}
 use Rattle.std.specs.List.{slice_index_or}
-use Rattle.unwind_run_document.specs.declared.command.Section.{Section}
+use Rattle.unwind_run_document.specs.declared.command.StatedSection.{StatedSection as Section}
 use Rattle.unwind_run_program.proofs.SectionLists.{if_some_holds, one_given}
 use Rattle.unwind_run_program.proofs.sections.StatedSectionsModuleSectionInfoVecU8.section_data.Goals as goal
 

@@ -1,0 +1,33 @@
+//! Laws of the offsets of entries.
+
+ghost use Rattle.std.specs.List.{All};
+ghost use Rattle.dwarf_frame_rows.specs.FrameSection.{FrameSection};
+ghost use Rattle.dwarf_frame_entries.specs.EntryLists.{entries_of};
+ghost use Rattle.dwarf_frame_entries.specs.SectionFdes.{IsOfSection, StandsAtItsOffset, StandsThere, whole_fdes};
+
+/// Each entry in the list of a section is what [`UnwindSection::cie_from_offset`] or
+/// [`UnwindSection::partial_fde_from_offset`] returns at its offset. It does nothing when the
+/// program runs.
+///
+/// [`UnwindSection::cie_from_offset`]: crate::UnwindSection::cie_from_offset
+/// [`UnwindSection::partial_fde_from_offset`]: crate::UnwindSection::partial_fde_from_offset
+#[tactic(auto, using(crate::proofs::Laws::entries_there))]
+pub fn listed_entries_stand_at_their_offsets()
+    ensures { (section : FrameSection) → All (StandsThere section) (entries_of section) }
+{}
+
+/// Each FDE in the list of a section is read in that section, as its CIE is. It does nothing when
+/// the program runs.
+#[tactic(auto, using(crate::proofs::Laws::fdes_of_section))]
+pub fn listed_fdes_are_of_their_section()
+    ensures { (section : FrameSection) → All (IsOfSection section) (entries_of section) }
+{}
+
+/// Each FDE in the list of a section that can be read is what
+/// [`UnwindSection::fde_from_offset`] returns at its offset. It does nothing when the program runs.
+///
+/// [`UnwindSection::fde_from_offset`]: crate::UnwindSection::fde_from_offset
+#[tactic(auto, using(crate::proofs::Laws::fdes_there))]
+pub fn listed_fdes_stand_at_their_offsets()
+    ensures { (section : FrameSection) → All (StandsAtItsOffset section) (whole_fdes section) }
+{}
