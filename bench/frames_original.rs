@@ -1,6 +1,4 @@
-//! Makes the passes of crates/bench_frames by the original's `gimli` alone, and prints the least nanoseconds of each. `bench/frames
-//! --original` builds it, with the original's sources beside it.
-extern crate alloc;
+//! Makes the passes of crates/bench_frames by the original's `gimli`, and prints the same lines. `bench/frames --original` builds it.
 
 use gimli::{
     BaseAddresses, CfaRule, CieOrFde, CommonInformationEntry, EhFrame, EhFrameOffset, EndianSlice,
@@ -103,7 +101,6 @@ fn list_rows(
     Ok(tally)
 }
 
-/// The least time of so many rounds of a pass, and what came of it.
 fn main() {
     let mut bytes = Vec::new();
     std::io::stdin().read_to_end(&mut bytes).unwrap();

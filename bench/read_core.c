@@ -104,7 +104,7 @@ static void read_attributes(reader *r, declaration *d) {
     }
 }
 
-/* Codes that count up from 1 stand at their places, as in the tables of compilers. None is above the largest. */
+/* Codes that count up from 1 are indexes, as in the tables of compilers. None is above the largest. */
 static const declaration *get(const table *t, uint64_t code) {
     if (code > t->largest)
         return NULL;

@@ -1,5 +1,5 @@
-//! Makes the steps of crates/bench_rules that pop registers by the original's rule cache and rules alone, and prints the
-//! least nanoseconds of all rounds. `bench/rules --original` builds it, with the original's sources beside it.
+//! Makes the steps of crates/bench_rules by the original's rule cache and rules alone, and prints the same line. `bench/rules
+//! --original` builds it, with the original's sources beside it.
 #![allow(dead_code)]
 
 extern crate alloc;
@@ -59,6 +59,14 @@ impl Stack {
     }
 }
 
+fn common_rule(step: usize) -> UnwindRuleX86_64 {
+    match step % 3 {
+        0 => UnwindRuleX86_64::OffsetSp { sp_offset_by_8: 2 },
+        1 => UnwindRuleX86_64::OffsetSpAndRestoreBp { sp_offset_by_8: 4, bp_storage_offset_from_sp_by_8: 2 },
+        _ => UnwindRuleX86_64::UseFramePointer,
+    }
+}
+
 fn pop_rule(step: usize) -> UnwindRuleX86_64 {
     let (register_count, encoded_registers_to_pop) = match step % 3 {
         0 => (1, 1),
@@ -68,7 +76,7 @@ fn pop_rule(step: usize) -> UnwindRuleX86_64 {
     UnwindRuleX86_64::OffsetSpAndPopRegisters { sp_offset_by_8: 1, register_count, encoded_registers_to_pop }
 }
 
-/// How many steps answered, and the sum of the registers of their callers that are asked for.
+/// How many steps return a caller, and the sum of the registers of the callers that are asked for.
 fn make_steps(cache: &mut RuleCache<UnwindRuleX86_64>, stack: &Stack, frames: &[Frame]) -> (u32, u64) {
     let (mut answered, mut sum): (u32, u64) = (0, 0);
     for frame in frames {
@@ -85,7 +93,12 @@ fn make_steps(cache: &mut RuleCache<UnwindRuleX86_64>, stack: &Stack, frames: &[
 }
 
 fn main() {
-    let rounds: u32 = std::env::args().nth(1).and_then(|text| text.parse().ok()).expect("a number of rounds");
+    let rule_of = match std::env::args().nth(1).as_deref() {
+        Some("time") => common_rule,
+        Some("time-pops") => pop_rule,
+        _ => panic!("use: rules_original time|time-pops ROUNDS"),
+    };
+    let rounds: u32 = std::env::args().nth(2).and_then(|text| text.parse().ok()).expect("a number of rounds");
     let stack = Stack((0..64).map(|i| STACK + 8 * i + 64).collect());
     let frames: Vec<Frame> = (0..STEPS)
         .map(|step| Frame { address: CODE + 16 * step, sp: STACK + 16, bp: STACK + 32, asked: ASKED[step as usize % 5] })
@@ -93,7 +106,7 @@ fn main() {
     let mut cache = RuleCache::new();
     for (step, frame) in frames.iter().enumerate() {
         if let CacheResult::Miss(handle) = cache.lookup(frame.address, 1) {
-            cache.insert(handle, pop_rule(step));
+            cache.insert(handle, rule_of(step));
         }
     }
     let mut least = Duration::MAX;
