@@ -16,7 +16,8 @@ use Rattle.framehop_registers.specs.declared.aarch64.unwindregs.UnwindRegsAarch6
 use Rattle.framehop_rows.specs.Columns.{Sources, cfa_by, column_by}
 use Rattle.framehop_rows.specs.DirectRowAarch64.{restored, direct_by_fp, direct_by_cfa, direct_answer}
 use Rattle.framehop_rows.specs.RowAnswerAarch64.{register_value, caller_with}
-use Rattle.framehop_rows.specs.RowAttempt.{attempt_by_row, said_or_given}
+use Rattle.framehop_rows.specs.RowAttempt.{said_or_given}
+use Rattle.framehop.specs.RowAttempts.{attempt_by_row}
 use Rattle.framehop_rows.specs.RowAttemptAarch64.{row_attempt}
 use Rattle.framehop_rows.specs.RowParts.{parts_of}
 use Rattle.framehop_rows.specs.RowSources.{direct_sources, sum_of, in_half}

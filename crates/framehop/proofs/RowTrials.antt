@@ -7,15 +7,17 @@ use Rattle.framehop_rules.specs.Outcome.{Caller}
 use Rattle.framehop_unwinder.specs.Attempt.{Attempt, Says, SaysNothing}
 use Rattle.framehop_unwinder.specs.Memory.{WantsMemoryOnlyIf}
 use Rattle.framehop_unwinder.specs.RulesKept.{rule_of_attempt}
-use Rattle.framehop_unwinder.specs.Trials.{AnswersAttempt, KeepsUnlessDirect, Trial, trial, trial_of_caller, has_wanted, rule_of_result}
+use Rattle.framehop_rules.specs.UnwindResults.{KeepsUnlessDirect}
+use Rattle.framehop_unwinder.specs.Trials.{AnswersAttempt, Trial, trial, trial_of_caller, has_wanted, rule_of_result}
 use Rattle.framehop_unwinder.specs.declared.unwinding.UnwindFailure.{UnwindFailure}
 use Rattle.framehop_unwinder.specs.declared.unwinding.UnwindFailure.TheVariants as failure
-use Rattle.framehop_unwinder.specs.declared.unwinding.UnwindResult.{UnwindResult}
-use Rattle.framehop_unwinder.specs.declared.unwinding.UnwindResult.TheVariants.{ExecRule, Uncacheable}
+use Rattle.framehop_rules.specs.declared.unwind_result.UnwindResult.{UnwindResult}
+use Rattle.framehop_rules.specs.declared.unwind_result.UnwindResult.TheVariants.{ExecRule, Uncacheable}
 use Rattle.framehop_rows.specs.declared.dwarf.DwarfUnwinderError.{DwarfUnwinderError}
 use Rattle.framehop_rows.specs.declared.dwarf.DwarfUnwinderError.TheVariants as why
 use Rattle.framehop_rows.specs.Memory.{TakesMemory, takes_memory}
-use Rattle.framehop_rows.specs.RowAttempt.{AnswersRow, RowAttempt, Translates, Gives, RowTrial, attempt_by_row, row_trial, trial_of_row_caller, rule_of_row, rule_answered, failure_of}
+use Rattle.framehop_rows.specs.RowAttempt.{AnswersRow, RowAttempt, Translates, Gives, RowTrial, row_trial, trial_of_row_caller, rule_of_row, rule_answered}
+use Rattle.framehop.specs.RowAttempts.{attempt_by_row, failure_of}
 
 module _ {Rule Registers : Type 0} where
   abbrev answer_part : UnwindResult Rule → RowTrial Rule Registers → UnwindResult Rule

@@ -13,7 +13,8 @@ use Rattle.framehop_unwinder.specs.Attempt.{Attempt, Says, SaysNothing}
 use Rattle.framehop.specs.Lookups.{Lookup, entry_by}
 use Rattle.framehop.specs.declared.lookups.NoFde.{NoFde}
 use Rattle.framehop.specs.declared.lookups.NoFde.TheVariants as no
-use Rattle.framehop_rows.specs.RowAttempt.{RowAttempt, attempt_by_row}
+use Rattle.framehop_rows.specs.RowAttempt.{RowAttempt}
+use Rattle.framehop.specs.RowAttempts.{attempt_by_row}
 
 -- How an address is covered: by a row of an FDE, in a section of these bytes and with addresses of this size in bytes; by no row or
 -- no FDE; or it isn't known by which.

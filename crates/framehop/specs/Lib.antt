@@ -6,6 +6,7 @@ pub mod FrameSections
 pub mod LastCie
 pub mod LookupViews
 pub mod Lookups
+pub mod RowAttempts
 pub mod TruthfulLookups
 pub mod UnwindData
 pub mod WalkLengths

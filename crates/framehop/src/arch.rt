@@ -13,8 +13,8 @@ use dwarf_frame_entries::{DebugFrame, EhFrame};
 use dwarf_read_core::{EndianSlice, LittleEndian};
 use framehop_modules::{ModuleSections, SectionBytes};
 use framehop_rows::DwarfUnwinding;
-use framehop_rules::Arch;
-use framehop_unwinder::{UnwindFailure, UnwindResult, Unwinding};
+use framehop_rules::{Arch, UnwindResult};
+use framehop_unwinder::{ModuleUnwinding, UnwindFailure};
 use std::marker::PhantomData;
 
 /// The architecture `A`, if modules are unwound by their sections. Sections are values of `D`; `P` says
@@ -31,7 +31,7 @@ impl<A: DwarfUnwinding, D: SectionBytes + Drop, P: AllocationPolicy> Arch for By
     type UnwindRule = A::UnwindRule;
 }
 
-impl<A: DwarfUnwinding, D: SectionBytes + Drop, P: AllocationPolicy> Unwinding
+impl<A: DwarfUnwinding, D: SectionBytes + Drop, P: AllocationPolicy> ModuleUnwinding
     for BySections<A, D, P> {
     type UnwindData = ModuleUnwindData<D>;
 

@@ -2,18 +2,20 @@
 
 ghost use Rattle.std.specs.Prelude.{◌≡◌, ◌+◌, ◌^◌, ◌≤◌, IfOk, IfErr};
 ghost use Rattle.framehop_unwinder.specs.Memory.{WantsMemoryOnlyIf};
-ghost use Rattle.framehop_unwinder.specs.Trials.{AnswersAttempt, HasValidRule, has_wanted};
+ghost use Rattle.framehop_rules.specs.UnwindResults.{HasValidRule};
+ghost use Rattle.framehop_unwinder.specs.Trials.{AnswersAttempt, has_wanted};
 ghost use Rattle.framehop.specs.Coverage.{by_fde, by_lookup, row_meanings, attempt_by, EvaluatesExpression};
 ghost use Rattle.framehop.specs.LookupViews.{lookup_view, LeadsInto};
 ghost use Rattle.framehop_rows.specs.Memory.{takes_memory};
-ghost use Rattle.framehop_rows.specs.RowAttempt.{failure_of};
+ghost use Rattle.framehop.specs.RowAttempts.{failure_of};
 
 use crate::cache::AllocationPolicy;
 use crate::lookups::{Lookup, NoFde, fde_by_lookup};
 use dwarf_frame_entries::{BaseAddresses, FrameDescriptionEntry, UnwindContext, UnwindSection};
 use dwarf_read_core::Reader;
 use framehop_rows::{DwarfUnwinderError, DwarfUnwinding};
-use framehop_unwinder::{UnwindFailure, UnwindResult};
+use framehop_rules::UnwindResult;
+use framehop_unwinder::UnwindFailure;
 use std::alloc::{AllocError, Global};
 
 // The address that a section has for a relative address. Fails if it doesn't fit 64 bits.

@@ -32,11 +32,11 @@ pub use framehop_modules::{
 pub use framehop_rows::{DwarfUnwindRegs, DwarfUnwinderError, DwarfUnwinding};
 pub use framehop_rules::{
     AddSigned, Arch, CacheHandle, CacheResult, CacheStats, Error, FrameAddress, HexNum, RuleCache,
-    UnwindRule, checked_add_signed, wrapping_add_signed,
+    UnwindResult, UnwindRule, checked_add_signed, wrapping_add_signed,
 };
 pub use framehop_unwinder::{
-    AddUnwinderError, Cache, Session, StackWalk, UnwindFailure, UnwindIterator, UnwindResult,
-    Unwinder, UnwinderInternal, Unwinding, laws,
+    AddUnwinderError, Cache, ModuleUnwinding, Session, StackWalk, UnwindFailure, UnwindIterator,
+    Unwinder, UnwinderInternal, laws,
 };
 pub use module::{Module, load_module};
 pub use unwind_data::ModuleUnwindData;

@@ -15,7 +15,7 @@ ghost use Rattle.framehop_unwinder.specs.WalkViews.{walk_of, walk_from, frame_an
 
 use framehop_modules::LoadError;
 use framehop_rules::{Error, FrameAddress};
-use framehop_unwinder::{AddUnwinderError, Module, Session, StackWalk, Unwinding};
+use framehop_unwinder::{AddUnwinderError, Module, Session, StackWalk, ModuleUnwinding};
 use std::alloc::{AllocError, Global};
 use std::collections::VecDeque;
 
@@ -86,7 +86,7 @@ impl<R: Copy> Answer<R> {
     }
 }
 
-fn new_unwinder<A: Unwinding>(session: &mut Session<A>, alloc: Global) -> Answer<A::UnwindRegs>
+fn new_unwinder<A: ModuleUnwinding>(session: &mut Session<A>, alloc: Global) -> Answer<A::UnwindRegs>
     ensures reply { (walks : List (Walk A.UnwindRegs)) → let state = state_of session.old walks in
         IsResult A.takes_memory state (result_of_unwinder state) (reply_of result)
         (state_of session.new walks) }
@@ -100,7 +100,7 @@ fn new_unwinder<A: Unwinding>(session: &mut Session<A>, alloc: Global) -> Answer
     }
 }
 
-fn new_cache<A: Unwinding>(
+fn new_cache<A: ModuleUnwinding>(
     session: &mut Session<A>,
     alloc: Global,
     unwind_context: A::UnwindContext,
@@ -117,7 +117,7 @@ fn new_cache<A: Unwinding>(
     }
 }
 
-fn load<A: Unwinding>(
+fn load<A: ModuleUnwinding>(
     session: &mut Session<A>,
     unwinder: usize,
     module: Module<A::UnwindData>,
@@ -138,7 +138,7 @@ fn load<A: Unwinding>(
     }
 }
 
-fn unload<A: Unwinding>(
+fn unload<A: ModuleUnwinding>(
     session: &mut Session<A>,
     unwinder: usize,
     start: u64,
@@ -158,7 +158,7 @@ fn unload<A: Unwinding>(
     }
 }
 
-fn clone<A: Unwinding>(
+fn clone<A: ModuleUnwinding>(
     session: &mut Session<A>,
     alloc: Global,
     unwinder: usize,
@@ -178,7 +178,7 @@ fn clone<A: Unwinding>(
     }
 }
 
-fn step<A: Unwinding, F: FnMut(u64) -> Result<u64, ()> + Drop>(
+fn step<A: ModuleUnwinding, F: FnMut(u64) -> Result<u64, ()> + Drop>(
     session: &mut Session<A>,
     unwinder: usize,
     cache: usize,
@@ -213,7 +213,7 @@ fn add_walk<R: Copy>(walks: &mut Vec<StackWalk<R>>, pc: u64, regs: R) -> Result<
     Ok(())
 }
 
-fn next_frame<A: Unwinding, F: FnMut(u64) -> Result<u64, ()> + Drop>(
+fn next_frame<A: ModuleUnwinding, F: FnMut(u64) -> Result<u64, ()> + Drop>(
     session: &mut Session<A>,
     walks: &mut Vec<StackWalk<A::UnwindRegs>>,
     unwinder: usize,
@@ -241,7 +241,7 @@ fn next_frame<A: Unwinding, F: FnMut(u64) -> Result<u64, ()> + Drop>(
 }
 
 // Does what a command asks.
-fn obey<A: Unwinding, F: FnMut(u64) -> Result<u64, ()> + Drop>(
+fn obey<A: ModuleUnwinding, F: FnMut(u64) -> Result<u64, ()> + Drop>(
     session: &mut Session<A>,
     alloc: Global,
     walks: &mut Vec<StackWalk<A::UnwindRegs>>,
@@ -282,7 +282,7 @@ fn obey<A: Unwinding, F: FnMut(u64) -> Result<u64, ()> + Drop>(
 /// its command names: there alone it is counted, and there alone a rule is kept.
 ///
 /// Fails if there is no memory for the list of answers: no command is taken then, and nothing done.
-pub fn perform<A: Unwinding, F: FnMut(u64) -> Result<u64, ()> + Drop>(
+pub fn perform<A: ModuleUnwinding, F: FnMut(u64) -> Result<u64, ()> + Drop>(
     alloc: Global,
     session: &mut Session<A>,
     commands: &mut VecDeque<Command<A::UnwindData, A::UnwindContext, A::UnwindRegs, F>>,

@@ -10,7 +10,7 @@ use Rattle.dwarf_frame_rows.specs.declared.row.UnwindTableRow.{UnwindTableRow}
 use Rattle.framehop_registers.specs.Callback.{Words, OverWords}
 use Rattle.framehop_registers.proofs.Laws.{over_none, over_weaker}
 use Rattle.framehop_rules.specs.Outcome.{Caller}
-use Rattle.framehop_unwinder.specs.declared.unwinding.UnwindResult.TheVariants.{ExecRule, Uncacheable}
+use Rattle.framehop_rules.specs.declared.unwind_result.UnwindResult.TheVariants.{ExecRule, Uncacheable}
 use Rattle.framehop_rows.specs.Memory.{HasExpressionPart}
 use Rattle.framehop_rows.specs.RowAttempt.{AnswersRow, DirectAnswer, MeetsExpressionPart, RowAttempt, RowTrial, Translates, attempt_by_parts, direct_trial, row_trial, rule_of_row, said_or_given}
 use Rattle.framehop_rows.specs.RowParts.{parts_as, parts_of}

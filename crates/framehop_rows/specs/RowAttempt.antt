@@ -1,15 +1,11 @@
 -- The attempt at a step by a row of call frames, on any architecture.
 use Rattle.std.specs.Prelude.{◌≡◌, ◌≢◌, ℕ, Bool, Option, Some, None, Result, Ok, Err}
-use Rattle.std.specs.Result.{result_ok}
 use Rattle.dwarf_readers.specs.Stretch.{Stretch}
 use Rattle.framehop_registers.specs.Callback.{Words, OverWords}
 use Rattle.framehop_rules.specs.Outcome.{Caller}
-use Rattle.framehop_unwinder.specs.Attempt.{Attempt, Says, Evaluates}
-use Rattle.framehop_unwinder.specs.Trials.{KeepsUnlessDirect}
-use Rattle.framehop_unwinder.specs.declared.unwinding.UnwindResult.{UnwindResult}
-use Rattle.framehop_unwinder.specs.declared.unwinding.UnwindResult.TheVariants.{ExecRule, Uncacheable}
-use Rattle.framehop_unwinder.specs.declared.unwinding.UnwindFailure.{UnwindFailure}
-use Rattle.framehop_unwinder.specs.declared.unwinding.UnwindFailure.TheVariants.{OfFrame, OutOfMemory}
+use Rattle.framehop_rules.specs.UnwindResults.{KeepsUnlessDirect}
+use Rattle.framehop_rules.specs.declared.unwind_result.UnwindResult.{UnwindResult}
+use Rattle.framehop_rules.specs.declared.unwind_result.UnwindResult.TheVariants.{ExecRule, Uncacheable}
 use Rattle.framehop_rows.specs.Memory.{HasExpressionPart}
 use Rattle.framehop_rows.specs.declared.dwarf.DwarfUnwinderError.{DwarfUnwinderError}
 use Rattle.framehop_rows.specs.declared.dwarf.DwarfUnwinderError.TheVariants as why
@@ -43,11 +39,6 @@ attempt_by_parts scaled_rule direct_answer first values address_size section par
 pub record MeetsExpressionPart {Rule : Type 0} (scaled_rule : Parts ℕ → Option Rule) (parts : Parts ℕ) : Type 0 where
   pub unsaid : scaled_rule parts ≡ None
   pub part : HasExpressionPart parts
-
--- the module's attempt by that of a row, which leaves out why there is no caller
-abbrev pub attempt_by_row : {Rule Registers : Type 0} → RowAttempt Rule Registers → Attempt Rule Registers
-attempt_by_row (Translates rule) = Says rule
-attempt_by_row (Gives caller) = Evaluates (λ registers words. result_ok (caller registers words))
 
 -- a result and the registers after the step
 abbrev pub RowTrial : Type 0 → Type 0 → Type 0
@@ -88,13 +79,3 @@ pub record AnswersRow {Rule Registers S : Type 0} (step : S → ℕ → Result �
   pub answer : OverWords step old new (λ words. result ≢ Err why.OutOfMemory → (result, after) ≡ row_trial before words attempt)
   pub rule : result ≢ Err why.OutOfMemory → rule_answered result ≡ rule_of_row attempt
   pub registers : KeepsUnlessDirect result before after
-
--- what follows for a module from the error of a row: out of memory stays so, and else the row gives no caller
-abbrev pub failure_of : DwarfUnwinderError → UnwindFailure
-failure_of why.LookupAddressOverflow = OfFrame
-failure_of why.CouldNotRecoverCfa = OfFrame
-failure_of why.CouldNotRecoverReturnAddress = OfFrame
-failure_of why.CouldNotRecoverFramePointer = OfFrame
-failure_of why.DidNotAdvance = OfFrame
-failure_of why.StackPointerMovedBackwards = OfFrame
-failure_of why.OutOfMemory = OutOfMemory

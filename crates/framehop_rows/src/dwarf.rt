@@ -4,7 +4,7 @@ ghost use Rattle.std.specs.Prelude.{◌≡◌, ℕ, Bool, Option, Err};
 ghost use Rattle.dwarf_readers.specs.Stretch.{Stretch};
 ghost use Rattle.dwarf_frame_instructions.specs.Execution.{row_in};
 ghost use Rattle.dwarf_frame_rows.specs.Row.{Row};
-ghost use Rattle.framehop_unwinder.specs.Trials.{HasValidRule};
+ghost use Rattle.framehop_rules.specs.UnwindResults.{HasValidRule};
 ghost use Rattle.framehop_rows.specs.Memory.{TakesMemory};
 ghost use Rattle.framehop_rows.specs.RowAttempt.{RowAttempt, AnswersRow};
 ghost use Rattle.framehop_rows.specs.declared.dwarf.DwarfUnwinderError.TheVariants.{OutOfMemory};
@@ -14,8 +14,7 @@ use dwarf_expressions::EvaluationStorage;
 use dwarf_frame_rows::{_UnwindSectionPrivate, RegisterRule, RuledRegister, UnwindTableRow};
 use dwarf_readers::{Reader, ReaderOffset};
 use dwarf_storage::ArrayLike;
-use framehop_rules::Arch;
-use framehop_unwinder::UnwindResult;
+use framehop_rules::{Arch, UnwindResult};
 use std::alloc::{AllocError, Global};
 
 /// Why call frame information gives no caller.

@@ -4,7 +4,7 @@ ghost use Rattle.std.specs.Prelude.{◌≡◌, ◌≢◌, ℕ, Option, Err, IfSo
 ghost use Rattle.dwarf_constants.specs.declared.common.Register.{Register};
 ghost use Rattle.dwarf_frame_instructions.specs.Execution.{row_in};
 ghost use Rattle.framehop_registers.specs.Callback.{OverWords};
-ghost use Rattle.framehop_unwinder.specs.Trials.{HasValidRule};
+ghost use Rattle.framehop_rules.specs.UnwindResults.{HasValidRule};
 ghost use Rattle.framehop_rows.specs.Memory.{HasExpressionPart, TakesMemory};
 ghost use Rattle.framehop_rows.specs.RowAttempt.{AnswersRow, DirectAnswer, MeetsExpressionPart, attempt_by_parts, direct_trial};
 ghost use Rattle.framehop_rows.specs.RowParts.{parts_as, parts_of};
@@ -18,8 +18,7 @@ use dwarf_expressions::EvaluationStorage;
 use dwarf_frame_rows::{_UnwindSectionPrivate, RegisterRule, RuledRegister, UnwindTableRow};
 use dwarf_readers::{Reader, ReaderOffset};
 use dwarf_storage::ArrayLike;
-use framehop_rules::Arch;
-use framehop_unwinder::UnwindResult;
+use framehop_rules::{Arch, UnwindResult};
 use std::alloc::Global;
 
 // An architecture, by the steps that it makes by the parts of a row.

@@ -7,3 +7,4 @@ pub mod RuleMeaningAarch64
 pub mod SequenceViews
 pub mod Sequences
 pub mod Slots
+pub mod UnwindResults

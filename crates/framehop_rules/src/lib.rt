@@ -9,6 +9,7 @@
 pub mod aarch64;
 mod arch;
 mod rule_cache;
+mod unwind_result;
 mod unwind_rule;
 pub mod x86_64;
 
@@ -18,4 +19,5 @@ pub use framehop_registers::{
     one_read_over_words, wrapping_add_signed,
 };
 pub use rule_cache::{CacheHandle, CacheResult, CacheStats, RuleCache};
+pub use unwind_result::UnwindResult;
 pub use unwind_rule::UnwindRule;

@@ -20,7 +20,7 @@ use Rattle.framehop_unwinder.specs.RulesKept.{rule_of_attempt, rule_kept, key_fo
 use Rattle.framehop_unwinder.specs.Trials.{has_wanted, rule_of_result, wants_memory}
 use Rattle.framehop_unwinder.specs.declared.unwinding.UnwindFailure.{UnwindFailure}
 use Rattle.framehop_unwinder.specs.declared.unwinding.UnwindFailure.TheVariants as failure
-use Rattle.framehop_unwinder.specs.declared.unwinding.UnwindResult.{UnwindResult}
+use Rattle.framehop_rules.specs.declared.unwind_result.UnwindResult.{UnwindResult}
 
 -- no rule wants memory
 pub rules_want_none : {A : Type 0} (result : Result A Error) → IfErr result IsOfRule → wants_memory result ≡ false

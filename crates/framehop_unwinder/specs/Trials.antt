@@ -4,12 +4,13 @@ use Rattle.framehop_registers.specs.Callback.{Words, OverWords}
 use Rattle.framehop_registers.specs.declared.error.Error.{Error}
 use Rattle.framehop_registers.specs.declared.error.Error.TheVariants.{CouldNotReadStack, FramepointerUnwindingMovedBackwards, DidNotAdvance, IntegerOverflow, ReturnAddressIsNull, OutOfMemory}
 use Rattle.framehop_rules.specs.Outcome.{Outcome, Caller, IsStep}
+use Rattle.framehop_rules.specs.UnwindResults.{KeepsUnlessDirect}
 use Rattle.framehop_unwinder.specs.Attempt.{Attempt, Says, Evaluates, SaysNothing}
 use Rattle.framehop_unwinder.specs.RulesKept.{rule_of_attempt}
 use Rattle.framehop_unwinder.specs.declared.unwinding.UnwindFailure.{UnwindFailure}
 use Rattle.framehop_unwinder.specs.declared.unwinding.UnwindFailure.TheVariants as failure
-use Rattle.framehop_unwinder.specs.declared.unwinding.UnwindResult.{UnwindResult}
-use Rattle.framehop_unwinder.specs.declared.unwinding.UnwindResult.TheVariants.{ExecRule, Uncacheable}
+use Rattle.framehop_rules.specs.declared.unwind_result.UnwindResult.{UnwindResult}
+use Rattle.framehop_rules.specs.declared.unwind_result.UnwindResult.TheVariants.{ExecRule, Uncacheable}
 
 -- an answer and the registers with it
 abbrev pub Trial : Type 0 → Type 0 → Type 0
@@ -40,18 +41,6 @@ rule_of_result fallback (Ok (Uncacheable return_address)) = None
 rule_of_result fallback (Err failure.OfModule) = Some fallback
 rule_of_result fallback (Err failure.OfFrame) = None
 rule_of_result fallback (Err failure.OutOfMemory) = None
-
--- a rule in an answer can be executed
-abbrev pub HasValidRule : {Rule Failure : Type 0} → (Rule → Type 0) → Result (UnwindResult Rule) Failure → Type 0
-HasValidRule is_valid (Ok (ExecRule rule)) = is_valid rule
-HasValidRule is_valid (Ok (Uncacheable return_address)) = Unit {0}
-HasValidRule is_valid (Err failure) = Unit {0}
-
--- only the answer of a caller changes the registers
-abbrev pub KeepsUnlessDirect : {Rule Failure Registers : Type 0} → Result (UnwindResult Rule) Failure → Registers → Registers → Type 0
-KeepsUnlessDirect (Ok (ExecRule rule)) before after = after ≡ before
-KeepsUnlessDirect (Ok (Uncacheable return_address)) before after = Unit {0}
-KeepsUnlessDirect (Err failure) before after = after ≡ before
 
 -- A call answers an attempt, unless it is out of memory: for all words of the stack, the answer and the registers are those of the
 -- attempt's trial; the rule that the answer has kept is the attempt's; and only the answer of a caller changes the registers.

@@ -9,12 +9,12 @@ use crate::cache::Cache;
 use crate::module::Module;
 use crate::unwinder::UnwinderInternal;
 use crate::unwinders::Unwinder;
-use crate::unwinding::Unwinding;
+use crate::unwinding::ModuleUnwinding;
 use framehop_modules::{Generations, GenerationsExhausted, LoadError};
 use framehop_rules::{Error, FrameAddress};
 use std::alloc::{AllocError, Global};
 
-impl<A: Unwinding> Unwinder for UnwinderInternal<A> {
+impl<A: ModuleUnwinding> Unwinder for UnwinderInternal<A> {
     type UnwindRegs = A::UnwindRegs;
 
     type Cache = Cache<A::UnwindRule, A::UnwindContext>;

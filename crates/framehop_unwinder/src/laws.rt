@@ -14,7 +14,7 @@ ghost use Rattle.framehop_unwinder.specs.Modules.{Loaded, module_found, with_loa
 ghost use Rattle.framehop_unwinder.specs.ModulesApart.{IsApart};
 ghost use Rattle.framehop_unwinder.specs.RulesKept.{Fits, KeysBelow, finding_in, slots_after};
 
-use crate::unwinding::Unwinding;
+use crate::unwinding::ModuleUnwinding;
 use framehop_rules::{Arch, UnwindRule};
 
 /// A step through a cache leaves it fitting the unwinder that made it, and every other whose
@@ -68,7 +68,7 @@ pub fn equal_steps<A: Arch>()
 /// A module that starts outside all others, and isn't the one that is found for a frame, changes no
 /// step from there by being loaded; nor, read the other way, by being unloaded. The modules are in
 /// the order of their starts, as those of an unwinder are.
-pub fn modules_elsewhere_change_no_step<A: Unwinding>()
+pub fn modules_elsewhere_change_no_step<A: ModuleUnwinding>()
     ensures { (m : Meanings A.UnwindData A.UnwindRule A.UnwindRegs) (module_ : Loaded A.UnwindData)
         (modules : List (Loaded A.UnwindData)) (frame : Frame) (registers : A.UnwindRegs)
         (words : Words)

@@ -14,10 +14,10 @@ mod unwinding;
 
 pub use cache::Cache;
 pub use framehop_modules::{Generations, GenerationsExhausted, LoadError};
-pub use framehop_rules::{Arch, CacheStats, Error, FrameAddress, UnwindRule};
+pub use framehop_rules::{Arch, CacheStats, Error, FrameAddress, UnwindResult, UnwindRule};
 pub use iterator::{StackWalk, UnwindIterator};
 pub use module::Module;
 pub use session::{AddUnwinderError, Session};
 pub use unwinder::UnwinderInternal;
 pub use unwinders::Unwinder;
-pub use unwinding::{UnwindFailure, UnwindResult, Unwinding};
+pub use unwinding::{ModuleUnwinding, UnwindFailure};

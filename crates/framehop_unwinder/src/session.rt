@@ -17,7 +17,7 @@ use crate::cache::Cache;
 use crate::iterator::{StackWalk, UnwindIteratorState};
 use crate::module::Module;
 use crate::unwinder::UnwinderInternal;
-use crate::unwinding::Unwinding;
+use crate::unwinding::ModuleUnwinding;
 use framehop_modules::{Generations, GenerationsExhausted, LoadError};
 use framehop_rules::{CacheStats, Error, FrameAddress};
 use std::alloc::{AllocError, Global};
@@ -27,13 +27,13 @@ use std::marker::Model;
 /// any loads, unloads and clones: each step is the one that the modules loaded now give without a
 /// cache.
 #[derive(Drop)]
-pub struct Session<A: Unwinding> {
+pub struct Session<A: ModuleUnwinding> {
     unwinders: Vec<UnwinderInternal<A>>,
     caches: Vec<Cache<A::UnwindRule, A::UnwindContext>>,
     generations: Generations,
 }
 
-impl<A: Unwinding> Model for Session<A> {
+impl<A: ModuleUnwinding> Model for Session<A> {
     ghost use Rattle.std.specs.Prelude.{map};
     ghost use Rattle.framehop_unwinder.specs.CacheViews.{rules_of};
     ghost use Rattle.framehop_unwinder.specs.State.{SessionState, IsSound, slots_of_all};
@@ -60,7 +60,7 @@ pub enum AddUnwinderError {
     OutOfMemory,
 }
 
-impl<A: Unwinding> Session<A> {
+impl<A: ModuleUnwinding> Session<A> {
     /// No unwinder and no cache, and a counter of which no number was taken yet.
     pub fn new(alloc: Global, generations: Generations) -> Self
         ensures { result ≡ empty_state generations }

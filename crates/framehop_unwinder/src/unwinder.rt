@@ -13,25 +13,28 @@ ghost use Rattle.framehop_unwinder.specs.Judge.{by_attempt, judge, judge_at};
 ghost use Rattle.framehop_unwinder.specs.Memory.{AsksMemory, AsksMemoryAt, WantsMemoryOnlyIf};
 ghost use Rattle.framehop_unwinder.specs.Modules.{ChangesNothing, Loaded, TakesNumber, nearest_module, module_found, is_loaded_at, with_loaded, without_loaded, last_end};
 ghost use Rattle.framehop_unwinder.specs.RulesKept.{FitsLoads, StepsCache, rule_kept, key_for, with_any};
-ghost use Rattle.framehop_unwinder.specs.Trials.{AnswersAttempt, StepsAs, trial, has_wanted, rule_of_result, HasValidRule, KeepsUnlessDirect, wants_memory, IsOfStep};
+ghost use Rattle.framehop_rules.specs.UnwindResults.{HasValidRule, KeepsUnlessDirect};
+ghost use Rattle.framehop_unwinder.specs.Trials.{AnswersAttempt, StepsAs, trial, has_wanted, rule_of_result, wants_memory, IsOfStep};
 
 use crate::cache::Cache;
 use crate::module::Module;
-use crate::unwinding::{UnwindFailure, UnwindResult, Unwinding};
+use crate::unwinding::{ModuleUnwinding, UnwindFailure};
 use framehop_modules::{Generations, GenerationsExhausted, LoadError};
-use framehop_rules::{CacheHandle, CacheResult, Error, FrameAddress, RuleCache, UnwindRule};
+use framehop_rules::{
+    CacheHandle, CacheResult, Error, FrameAddress, RuleCache, UnwindResult, UnwindRule,
+};
 use std::alloc::{AllocError, Global};
 use std::marker::Model;
 
 /// The modules of a process, in the order of their starts. Of modules of equal starts the
 /// last loaded comes first.
 #[derive(Drop)]
-pub struct UnwinderInternal<A: Unwinding> {
+pub struct UnwinderInternal<A: ModuleUnwinding> {
     modules: Vec<Module<A::UnwindData>>,
     generation: u64,
 }
 
-impl<A: Unwinding> Model for UnwinderInternal<A> {
+impl<A: ModuleUnwinding> Model for UnwinderInternal<A> {
     ghost use Rattle.std.specs.List.Sorted.{IsNonDecreasingBy};
     ghost use Rattle.framehop_unwinder.specs.Modules.{Loaded, Loads};
 
@@ -138,7 +141,7 @@ fn keep<R: UnwindRule>(
 // Makes the step that a module's answer gives.
 #[inline(always)]
 #[tactic(auto, using(crate::proofs::Steps::rules_want_none))]
-fn execute<A: Unwinding, F: FnMut(u64) -> Result<u64, ()>>(
+fn execute<A: ModuleUnwinding, F: FnMut(u64) -> Result<u64, ()>>(
     answer: Result<UnwindResult<A::UnwindRule>, UnwindFailure>,
     is_first_frame: bool,
     regs: &mut A::UnwindRegs,
@@ -166,7 +169,7 @@ fn execute<A: Unwinding, F: FnMut(u64) -> Result<u64, ()>>(
     }
 }
 
-impl<A: Unwinding> UnwinderInternal<A> {
+impl<A: ModuleUnwinding> UnwinderInternal<A> {
     /// An unwinder without a module. Takes a generation, and fails if none is left.
     pub fn new(alloc: Global, generations: &mut Generations) -> Result<Self, GenerationsExhausted>
         ensures ok { IfOk result (λ unwinder.

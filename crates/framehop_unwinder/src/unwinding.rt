@@ -3,19 +3,11 @@
 ghost use Rattle.std.specs.Prelude.{◌≡◌, ℕ, Bool};
 ghost use Rattle.framehop_unwinder.specs.Attempt.{Meanings};
 ghost use Rattle.framehop_unwinder.specs.Memory.{WantsMemoryOnlyIf};
-ghost use Rattle.framehop_unwinder.specs.Trials.{AnswersAttempt, has_wanted, HasValidRule};
+ghost use Rattle.framehop_rules.specs.UnwindResults.{HasValidRule};
+ghost use Rattle.framehop_unwinder.specs.Trials.{AnswersAttempt, has_wanted};
 
-use framehop_rules::Arch;
+use framehop_rules::{Arch, UnwindResult};
 use std::fmt::Debug;
-
-/// What a module says of a frame.
-#[derive(Debug, Clone, Copy, PartialEq, Eq)]
-pub enum UnwindResult<R> {
-    /// The rule to execute. It is kept.
-    ExecRule(R),
-    /// The return address; the registers are the caller's already. It is not kept.
-    Uncacheable(u64),
-}
 
 /// Why a module says nothing of a frame. The fallback rule is executed then, unless the step is out
 /// of memory.
@@ -31,7 +23,7 @@ pub enum UnwindFailure {
 }
 
 /// An architecture, and what its modules are unwound by.
-pub trait Unwinding: Arch {
+pub trait ModuleUnwinding: Arch {
     /// What a module has to be unwound by: sections, tables, indexes.
     type UnwindData: Drop;
 

@@ -2,7 +2,7 @@
 ghost use Rattle.std.specs.Prelude.{true};
 
 use framehop::{
-    ExplicitModuleSectionInfo, FrameAddress, Generations, Module, Session, Unwinding, load_module,
+    ExplicitModuleSectionInfo, FrameAddress, Generations, Module, Session, ModuleUnwinding, load_module,
 };
 use std::alloc::Global;
 use std::ops::Range;
@@ -26,7 +26,7 @@ pub fn module_of<'a>(
 }
 
 /// A session of one unwinder, which has this module, and of one cache with this context.
-fn session_of<A: Unwinding>(
+fn session_of<A: ModuleUnwinding>(
     alloc: Global,
     module: framehop_unwinder::Module<A::UnwindData>,
     context: A::UnwindContext,
@@ -43,7 +43,7 @@ fn session_of<A: Unwinding>(
 }
 
 /// Two equal steps from a frame, by what the last gives.
-pub fn step_twice<A: Unwinding, F: FnMut(u64) -> Result<u64, ()>>(
+pub fn step_twice<A: ModuleUnwinding, F: FnMut(u64) -> Result<u64, ()>>(
     alloc: Global,
     module: framehop_unwinder::Module<A::UnwindData>,
     context: A::UnwindContext,

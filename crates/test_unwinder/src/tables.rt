@@ -3,8 +3,8 @@
 ghost use Rattle.std.specs.Prelude.{◌≡◌};
 ghost use Rattle.test_unwinder.specs.Tables.{said_at};
 
-use framehop_rules::{Arch, UnwindRule};
-use framehop_unwinder::{UnwindFailure, UnwindResult, Unwinding};
+use framehop_rules::{Arch, UnwindResult, UnwindRule};
+use framehop_unwinder::{ModuleUnwinding, UnwindFailure};
 use std::marker::PhantomData;
 
 /// What a row says.
@@ -52,7 +52,7 @@ impl<A: Arch> Arch for Tables<A> {
     type UnwindRule = A::UnwindRule;
 }
 
-impl<A: Arch> Unwinding for Tables<A> {
+impl<A: Arch> ModuleUnwinding for Tables<A> {
     ghost use Rattle.std.specs.Prelude.{true, Some, refl};
     ghost use Rattle.framehop_unwinder.specs.Attempt.{meanings_of};
     ghost use Rattle.test_unwinder.specs.Tables.{attempt_said};

@@ -14,7 +14,7 @@ ghost use Rattle.unwind_run_document.specs.declared.command.FrameKind.TheVariant
 use crate::lines::step_line;
 use crate::roads::road_lines;
 use framehop_rules::FrameAddress;
-use framehop_unwinder::{Module, Session, StackWalk, Unwinding};
+use framehop_unwinder::{Module, Session, StackWalk, ModuleUnwinding};
 use std::alloc::{AllocError, Global};
 use unwind_run_document::{
     Command, FrameKind, LoadCommand, RoadsCommand, Stack, StatedRegisters, StatedSection,
@@ -24,7 +24,7 @@ use unwind_run_session as commands;
 use unwind_run_session::Written;
 
 /// The unwind data of the modules of documents: what their sections give.
-pub(crate) trait DocumentModules: Unwinding {
+pub(crate) trait DocumentModules: ModuleUnwinding {
     ghost forms: { RegisterForms Self.UnwindRegs };
 
     ghost data_of: { DataForms Self.UnwindData };

@@ -9,13 +9,13 @@ ghost use Rattle.framehop_unwinder.specs.Trials.{wants_memory};
 
 use framehop_modules::Generations;
 use framehop_rules::{Error, FrameAddress};
-use framehop_unwinder::{Cache, Module, UnwinderInternal, Unwinding};
+use framehop_unwinder::{Cache, Module, UnwinderInternal, ModuleUnwinding};
 use std::alloc::Global;
 
 /// Makes the step from a frame over one module, through a new cache with this context. If memory for
 /// the module or the cache can't be allocated, the error is the step's `OutOfMemory`, and the registers
 /// stay as they are.
-pub fn step_alone<A: Unwinding, F: FnMut(u64) -> Result<u64, ()>>(
+pub fn step_alone<A: ModuleUnwinding, F: FnMut(u64) -> Result<u64, ()>>(
     alloc: Global,
     module: Module<A::UnwindData>,
     unwind_context: A::UnwindContext,

@@ -10,7 +10,7 @@ ghost use Rattle.unwind_run_session.specs.Outputs.{Outputs, gives_frame, move_li
 use crate::lines::{counts_line, frame_line, stop_line};
 use framehop_modules::LoadError;
 use framehop_rules::{Error, FrameAddress};
-use framehop_unwinder::{AddUnwinderError, Module, Session, StackWalk, Unwinding};
+use framehop_unwinder::{AddUnwinderError, Module, Session, StackWalk, ModuleUnwinding};
 use std::alloc::{AllocError, Global};
 
 /// The text that a command wrote, and whether the command was `refused`, which ends the run.
@@ -54,7 +54,7 @@ impl Written {
 }
 
 /// Makes the next unwinder.
-pub fn add_unwinder<A: Unwinding>(
+pub fn add_unwinder<A: ModuleUnwinding>(
     session: &mut Session<A>,
     alloc: Global,
 ) -> Result<Written, AllocError>
@@ -68,7 +68,7 @@ pub fn add_unwinder<A: Unwinding>(
 }
 
 /// Makes the next cache, with this context for its attempts.
-pub fn add_cache<A: Unwinding>(
+pub fn add_cache<A: ModuleUnwinding>(
     session: &mut Session<A>,
     alloc: Global,
     unwind_context: A::UnwindContext,
@@ -80,7 +80,7 @@ pub fn add_cache<A: Unwinding>(
 }
 
 /// Makes the next unwinder, with the modules of another.
-pub fn clone_unwinder<A: Unwinding>(
+pub fn clone_unwinder<A: ModuleUnwinding>(
     session: &mut Session<A>,
     alloc: Global,
     unwinder: usize,
@@ -93,7 +93,7 @@ pub fn clone_unwinder<A: Unwinding>(
 }
 
 /// Loads a module in an unwinder.
-pub fn load<A: Unwinding>(
+pub fn load<A: ModuleUnwinding>(
     session: &mut Session<A>,
     alloc: Global,
     unwinder: usize,
@@ -110,7 +110,7 @@ pub fn load<A: Unwinding>(
 }
 
 /// Unloads the last of the modules of an unwinder that start at an address, if one does.
-pub fn unload<A: Unwinding>(
+pub fn unload<A: ModuleUnwinding>(
     session: &mut Session<A>,
     alloc: Global,
     unwinder: usize,
@@ -126,7 +126,7 @@ pub fn unload<A: Unwinding>(
 }
 
 /// Shows the counts of a cache.
-pub fn stats<A: Unwinding>(
+pub fn stats<A: ModuleUnwinding>(
     session: &mut Session<A>,
     alloc: Global,
     cache: usize,
@@ -168,7 +168,7 @@ fn push_move(
 
 /// Walks over the frames of an unwinder with a cache, up to a limit, and returns a line for each frame
 /// and one for how the walk ends.
-pub fn walk<A: Unwinding, F: FnMut(u64) -> Result<u64, ()>>(
+pub fn walk<A: ModuleUnwinding, F: FnMut(u64) -> Result<u64, ()>>(
     session: &mut Session<A>,
     alloc: Global,
     unwinder: usize,

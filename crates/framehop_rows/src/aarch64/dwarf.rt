@@ -25,8 +25,8 @@ use dwarf_frame_rows::{
 };
 use dwarf_readers::{Reader, ReaderOffset};
 use dwarf_storage::ArrayLike;
+use framehop_rules::UnwindResult;
 use framehop_rules::aarch64::{ArchAarch64, UnwindRegsAarch64, UnwindRuleAarch64};
-use framehop_unwinder::UnwindResult;
 use std::alloc::Global;
 
 /// SP, X29 and X30 (DWARF for the Arm 64-bit Architecture, 4.1).

@@ -25,8 +25,8 @@ use dwarf_frame_rows::{
 };
 use dwarf_readers::{Reader, ReaderOffset};
 use dwarf_storage::ArrayLike;
+use framehop_rules::UnwindResult;
 use framehop_rules::x86_64::{ArchX86_64, UnwindRegsX86_64, UnwindRuleX86_64};
-use framehop_unwinder::UnwindResult;
 use std::alloc::{AllocError, Global};
 
 /// RSP, RBP, and RIP by the number of the return address (System V ABI for AMD64, figure 3.36).

@@ -2,7 +2,7 @@ use Rattle.std.proofs.Common.{rules, ◌≡◌, ◌^◌, ap, sym, subst, ◌∙�
 use Rattle.dwarf_frame_instructions.specs.Execution.{row_in}
 use Rattle.dwarf_readers.specs.Stretch.{Stretch}
 use Rattle.dwarf_frame_rows.specs.FrameSection.{FrameSection}
-use Rattle.framehop_rows.specs.RowAttempt.{attempt_by_row}
+use Rattle.framehop.specs.RowAttempts.{attempt_by_row}
 use Rattle.framehop.specs.Coverage.{Coverage, EvaluatesExpression, attempt_by, row_meanings}
 use Rattle.framehop.proofs.Coverages.{covered-by}
 use Rattle.framehop.proofs.RowTrials.{answers-by_row, fails-by_row, memory-by_row}

@@ -12,18 +12,18 @@ use Rattle.framehop_histories.proofs.commands.next_frame.Goals as goal
 
 pub returns-clause-reply : goal.returns-clause-reply
 returns-clause-reply g c =
-    let m = g.A.Unwinding.meanings in
+    let m = g.A.ModuleUnwinding.meanings in
     let s = c.args.session.now in
     let less : c.args.unwinder < length s.unwinders = omega (arith, c.unwinders.ensures, c.if-unwinder-unwinders.false) in
     let there : c.args.cache < length s.caches = omega (arith, c.caches.ensures, c.if-cache-caches.false) in
     let here : c.args.walk < length c.args.walks.now.items = omega (arith, c.len.ensures, c.if-walk-len.false) in
     let e = c.next_frame-answer.ensures in
-    λ words answers. frame-reply g.A.Unwinding.takes_memory m s c.next_frame-answer.new.self c.args.walks.now.items c.args.unwinder c.args.cache c.args.walk c.index_mut-walk.result.now c.next_frame-answer.new.walk words c.next_frame-answer.result (reply_of c.of_move.result)
+    λ words answers. frame-reply g.A.ModuleUnwinding.takes_memory m s c.next_frame-answer.new.self c.args.walks.now.items c.args.unwinder c.args.cache c.args.walk c.index_mut-walk.result.now c.next_frame-answer.new.walk words c.next_frame-answer.result (reply_of c.of_move.result)
     less there here c.index_mut-walk.ensures.value e.caches.unwinders e.caches.next e.caches.count c.of_move.ensures.wanted (λ no. rw (c.regs.ensures) at (c.of_move.ensures.answered no)) e.memory e.wanting (e.moved.said words answers)
 
 pub returns-clause-model : goal.returns-clause-model
 returns-clause-model g c =
-    let m = g.A.Unwinding.meanings in
+    let m = g.A.ModuleUnwinding.meanings in
     let e = c.next_frame-answer.ensures in
     let s = c.args.session.now in
     let after = c.next_frame-answer.new.self in

@@ -13,7 +13,7 @@ abbrev pub invariant-loop-command : goal.invariant-loop-command
 invariant-loop-command g l = record {
   callable : All (OfCallback (goal.F-IsAlwaysCallable g)) l.commands.items;
   room : vec_len l.answers + length l.commands.items ≤ vec_capacity l.answers;
-  under_way : AreUnderWay g.A.Unwinding.takes_memory g.A.Unwinding.meanings (AnswersBy (goal.F-step g))
+  under_way : AreUnderWay g.A.ModuleUnwinding.takes_memory g.A.ModuleUnwinding.meanings (AnswersBy (goal.F-step g))
       l.fn.session l.session (map walk_of l.walks.items) l.fn.commands.items l.commands.items (map reply_of l.answers.items);
 }
 

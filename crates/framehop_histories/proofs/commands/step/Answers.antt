@@ -10,17 +10,17 @@ use Rattle.framehop_histories.proofs.commands.step.Goals as goal
 
 pub returns-clause-reply : goal.returns-clause-reply
 returns-clause-reply g c =
-    let m = g.A.Unwinding.meanings in
+    let m = g.A.ModuleUnwinding.meanings in
     let s = c.args.session.now in
     let less : c.args.unwinder < length s.unwinders = omega (arith, c.unwinders.ensures, c.if-unwinder-unwinders.false) in
     let there : c.args.cache < length s.caches = omega (arith, c.caches.ensures, c.if-cache-caches.false) in
     let e = c.step-answer.ensures in
-    λ words answers walks. step-reply g.A.Unwinding.takes_memory m s c.step-answer.new.self walks c.args.unwinder c.args.cache (frame_of c.args.address) c.args.regs c.step-answer.new.regs words c.step-answer.result (reply_of c.of_step.result)
+    λ words answers walks. step-reply g.A.ModuleUnwinding.takes_memory m s c.step-answer.new.self walks c.args.unwinder c.args.cache (frame_of c.args.address) c.args.regs c.step-answer.new.regs words c.step-answer.result (reply_of c.of_step.result)
     less there e.caches.unwinders e.caches.next e.caches.count c.of_step.ensures.wanted c.of_step.ensures.answered e.memory.never (e.step.said words answers)
 
 pub returns-clause-model : goal.returns-clause-model
 returns-clause-model g c =
-    let m = g.A.Unwinding.meanings in
+    let m = g.A.ModuleUnwinding.meanings in
     let e = c.step-answer.ensures in
     let wanted = wants_memory c.step-answer.result in
     let frame = frame_of c.args.address in

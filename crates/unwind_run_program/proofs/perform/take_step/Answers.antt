@@ -13,7 +13,7 @@ use Rattle.unwind_run_program.proofs.perform.take_step.Goals as goal
 
 pub returns : goal.returns
 returns g c = λ model at.
-    let m = g.A.Unwinding.meanings in
+    let m = g.A.ModuleUnwinding.meanings in
     let step = c.args.step.now in
     let words = words_of (words_view step.stack) in
     let unwanted = not_wanted c.step-answer.result c.in_ok-line.ensures.memory in

@@ -10,7 +10,7 @@ use Rattle.unwind_run_program.proofs.perform.take_walk.Goals as goal
 
 pub returns : goal.returns
 returns g c = λ model at.
-    let m = g.A.Unwinding.meanings in
+    let m = g.A.ModuleUnwinding.meanings in
     let walk = c.args.walk.now in
     let words = words_of (words_view walk.stack) in
     subst (λ (w : Walk g.row.A-UnwindRegs.Denot). IfOk c.walk.result (λ written. IsOutput (output_of_walk m words walk.limit walk.unwinder walk.cache w model) (string_bytes written.text) written.is_refused c.walk.new.session))

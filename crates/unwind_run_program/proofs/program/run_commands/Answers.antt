@@ -17,7 +17,7 @@ pub loop-command-init : goal.loop-command-init
 loop-command-init g c =
     let D = g.row.A-UnwindData.Denot in
     let R = g.row.A-UnwindRule.Denot in
-    let m = g.A.Unwinding.meanings in
+    let m = g.A.ModuleUnwinding.meanings in
     let d = g.A.DocumentModules.data_of in
     let forms = g.A.DocumentModules.forms in
     let begins : c.new-session.result ≡ empty_state c.args.generation = c.new-session.ensures ∙ ap (λ (n : ℕ). empty_state n) c.starting_at.ensures in
@@ -45,7 +45,7 @@ returns-in_err-written-clause-text g c =
 
 pub returns-in_err-write_all-clause-text : goal.returns-in_err-write_all-clause-text
 returns-in_err-write_all-clause-text g c =
-    let m = g.A.Unwinding.meanings in
+    let m = g.A.ModuleUnwinding.meanings in
     let d = g.A.DocumentModules.data_of in
     let forms = g.A.DocumentModules.forms in
     let l = c.loop-command in
@@ -60,7 +60,7 @@ returns-in_err-write_all-clause-text g c =
 
 pub returns-then-written-clause-text : goal.returns-then-written-clause-text
 returns-then-written-clause-text g c =
-    let m = g.A.Unwinding.meanings in
+    let m = g.A.ModuleUnwinding.meanings in
     let d = g.A.DocumentModules.data_of in
     let forms = g.A.DocumentModules.forms in
     let l = c.loop-command in
@@ -77,7 +77,7 @@ returns-then-written-clause-text g c =
 
 pub loop-command-preserved : goal.loop-command-preserved
 loop-command-preserved g c =
-    let m = g.A.Unwinding.meanings in
+    let m = g.A.ModuleUnwinding.meanings in
     let d = g.A.DocumentModules.data_of in
     let forms = g.A.DocumentModules.forms in
     let l = c.loop-command in

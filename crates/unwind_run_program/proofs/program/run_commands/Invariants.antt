@@ -10,7 +10,7 @@ use Rattle.unwind_run_program.proofs.program.run_commands.Given as goal
 -- what is written and the lines of the commands that are left, which stand in reverse, make the lines of all
 abbrev pub invariant-loop-command : goal.invariant-loop-command
 invariant-loop-command g l =
-    let m = g.A.Unwinding.meanings in
+    let m = g.A.ModuleUnwinding.meanings in
     let data_of = g.A.DocumentModules.data_of in
     let forms = g.A.DocumentModules.forms in
     record {

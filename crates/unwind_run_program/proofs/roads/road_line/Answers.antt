@@ -11,7 +11,7 @@ use Rattle.unwind_run_program.proofs.roads.road_line.Goals as goal
 
 pub returns : goal.returns
 returns g c =
-    let m = g.A.Unwinding.meanings in
+    let m = g.A.ModuleUnwinding.meanings in
     let roads = c.args.roads.now in
     let base = roads.tables.base_svma in
     let words = words_of (words_view roads.stack) in

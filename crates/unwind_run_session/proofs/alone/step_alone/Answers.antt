@@ -30,7 +30,7 @@ no_module answer made empty is says = subst (λ r. IfOk r (λ unwinder. unwinder
 
 pub returns-clause-step : goal.returns-clause-step
 returns-clause-step g c =
-    let m = g.A.Unwinding.meanings in
+    let m = g.A.ModuleUnwinding.meanings in
     let made = no_module c.new.result c.unwrap-unwinder.result _ c.unwrap-unwinder.ensures c.new.ensures.ok in
     let modules = one_module c.add_module.result c.unwrap-unwinder.result.modules c.add_module.new.self.modules c.args.module
     (sym c.is_err.ensures.value ∙ c.if-is_err.false) (ap (λ (u : Loads (Loaded g.row.A-UnwindData.Denot)). u.modules) made) c.add_module.ensures.modules in

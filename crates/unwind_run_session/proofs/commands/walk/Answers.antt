@@ -7,7 +7,7 @@ use Rattle.unwind_run_session.proofs.commands.walk.Goals as goal
 
 pub returns-then-not-branch : goal.returns-then-not-branch
 returns-then-not-branch g c =
-    let m = g.A.Unwinding.meanings in
+    let m = g.A.ModuleUnwinding.meanings in
     let l = c.loop in
     let left = c.args.limit - (l.counter + 1) in
     let one_more : c.args.limit - l.counter ≡ suc left = omega arith in
@@ -25,7 +25,7 @@ returns-then-not-branch g c =
 
 pub returns : goal.returns
 returns g c =
-    let m = g.A.Unwinding.meanings in
+    let m = g.A.ModuleUnwinding.meanings in
     let l = c.loop in
     let none : c.args.limit - l.counter ≡ zero = omega arith in
     λ words said model at.
@@ -35,7 +35,7 @@ returns g c =
 
 pub loop-preserved : goal.loop-preserved
 loop-preserved g c =
-    let m = g.A.Unwinding.meanings in
+    let m = g.A.ModuleUnwinding.meanings in
     let l = c.loop in
     let left = c.args.limit - (l.counter + 1) in
     let one_more : c.args.limit - l.counter ≡ suc left = omega arith in

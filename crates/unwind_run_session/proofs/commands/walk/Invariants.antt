@@ -9,7 +9,7 @@ use Rattle.unwind_run_session.proofs.commands.walk.Given as goal
 -- what is written so far and what the moves that are left write make what the whole walk writes
 abbrev pub invariant-loop : goal.invariant-loop
 invariant-loop g l =
-    let m = g.A.Unwinding.meanings in
+    let m = g.A.ModuleUnwinding.meanings in
     record {
       callable : goal.F-IsAlwaysCallable g l.read_stack;
       unwinders : l.session.unwinders ≡ l.fn.session.unwinders;

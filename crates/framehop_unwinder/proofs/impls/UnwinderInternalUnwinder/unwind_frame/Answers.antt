@@ -10,7 +10,7 @@ use Rattle.framehop_unwinder.proofs.impls.UnwinderInternalUnwinder.unwind_frame.
 -- what is kept is what the unwinder would keep
 pub returns-clause-fits : goal.returns-clause-fits
 returns-clause-fits g c = λ fits.
-    let m = g.A.Unwinding.meanings in
+    let m = g.A.ModuleUnwinding.meanings in
     let mine = rule_kept m c.args.self.now.modules in
     let key : Key = key_for (frame_of c.args.address) c.args.self.now.generation in
     rw c.unwind_frame.ensures.cache.slots (fits_after (wants_memory c.unwind_frame.result) mine mine c.args.self.now.generation key (rules_of c.args.cache.now).slots (λ _. refl) fits)

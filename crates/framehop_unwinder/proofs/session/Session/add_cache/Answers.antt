@@ -10,7 +10,7 @@ use Rattle.framehop_unwinder.proofs.session.Session.add_cache.Goals as goal
 
 pub invariant_of-self-2 : goal.invariant_of-self-2
 invariant_of-self-2 g c =
-    let m = g.A.Unwinding.meanings in
+    let m = g.A.ModuleUnwinding.meanings in
     let old = map rules_of c.self.inside.caches.items in
     let pushed = ap (λ cs. slots_of_all (map rules_of cs)) c.in_ok-push.ensures.items
     ∙ ap slots_of_all (map_push rules_of c.self.inside.caches.items c.in_ok-cache.cache)

@@ -7,7 +7,7 @@ use Rattle.framehop_unwinder.proofs.session.Session.add_unwinder.Goals as goal
 
 pub invariant_of-self-2 : goal.invariant_of-self-2
 invariant_of-self-2 g c =
-    let m = g.A.Unwinding.meanings in
+    let m = g.A.ModuleUnwinding.meanings in
     let loads = c.self.inside.unwinders.items in
     let slots = slots_of_all (map rules_of c.self.inside.caches.items) in
     let next = c.self.inside.generations in

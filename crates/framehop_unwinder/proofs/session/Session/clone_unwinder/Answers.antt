@@ -6,7 +6,7 @@ use Rattle.framehop_unwinder.proofs.session.Session.clone_unwinder.Goals as goal
 
 pub invariant_of-self-2 : goal.invariant_of-self-2
 invariant_of-self-2 g c =
-    let m = g.A.Unwinding.meanings in
+    let m = g.A.ModuleUnwinding.meanings in
     let loads = c.self.inside.unwinders.items in
     let slots = slots_of_all (map rules_of c.self.inside.caches.items) in
     let there : c.args.unwinder < length loads = omega (arith, ap (λ (s : SessionState g.row.A-UnwindData.Denot g.row.A-UnwindRule.Denot). length s.unwinders) c.self.view_is) in

@@ -8,7 +8,7 @@ use Rattle.framehop_unwinder.proofs.session.Session.load.Goals as goal
 
 pub invariant_of-self : goal.invariant_of-self
 invariant_of-self g c =
-    let m = g.A.Unwinding.meanings in
+    let m = g.A.ModuleUnwinding.meanings in
     let loads = c.self.inside.unwinders.items in
     let there : c.args.unwinder < length loads = omega (arith, ap (λ (s : SessionState g.row.A-UnwindData.Denot g.row.A-UnwindRule.Denot). length s.unwinders) c.self.view_is) in
     sound_load m c.self.inside.generations c.add_module.new.generations loads (slots_of_all (map rules_of c.self.inside.caches.items)) c.args.unwinder c.index_mut.result.now c.add_module.new.self c.add_module.result

@@ -19,7 +19,7 @@ use Rattle.framehop_unwinder.proofs.session.Session.step.Goals as goal
 
 pub invariant_of-self : goal.invariant_of-self
 invariant_of-self g c =
-    let m = g.A.Unwinding.meanings in
+    let m = g.A.ModuleUnwinding.meanings in
     let loads = c.self.inside.unwinders.items in
     let items = c.self.inside.caches.items in
     let caches = map rules_of items in
@@ -37,7 +37,7 @@ invariant_of-self g c =
 
 pub returns-clause-step : goal.returns-clause-step
 returns-clause-step g c =
-    let m = g.A.Unwinding.meanings in
+    let m = g.A.ModuleUnwinding.meanings in
     let loads = c.self.inside.unwinders.items in
     let items = c.self.inside.caches.items in
     let caches = map rules_of items in
@@ -62,7 +62,7 @@ pub returns-clause-caches : goal.returns-clause-caches
 returns-clause-caches g c =
     let D = g.row.A-UnwindData.Denot in
     let R = g.row.A-UnwindRule.Denot in
-    let m = g.A.Unwinding.meanings in
+    let m = g.A.ModuleUnwinding.meanings in
     let loads = c.self.inside.unwinders.items in
     let items = c.self.inside.caches.items in
     let caches = map rules_of items in
@@ -101,5 +101,5 @@ returns-clause-memory g c =
     let is = read-is loads c.self.inside.generations caches c.args.self.now c.self.view_is c.args.unwinder c.requires.unwinder c.index.result.now c.index.ensures in
     record {
       never = c.unwind_frame.ensures.memory.never;
-      asked = λ wanted. subst (λ (u : Loads (Loaded g.row.A-UnwindData.Denot)). AsksMemory g.A.Unwinding.asks_memory u.modules (frame_of c.args.address)) is (c.unwind_frame.ensures.memory.asked wanted);
+      asked = λ wanted. subst (λ (u : Loads (Loaded g.row.A-UnwindData.Denot)). AsksMemory g.A.ModuleUnwinding.asks_memory u.modules (frame_of c.args.address)) is (c.unwind_frame.ensures.memory.asked wanted);
     }

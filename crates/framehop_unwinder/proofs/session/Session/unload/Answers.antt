@@ -9,7 +9,7 @@ use Rattle.framehop_unwinder.proofs.session.Session.unload.Goals as goal
 
 pub invariant_of-self : goal.invariant_of-self
 invariant_of-self g c =
-    let m = g.A.Unwinding.meanings in
+    let m = g.A.ModuleUnwinding.meanings in
     let loads = c.self.inside.unwinders.items in
     let there : c.args.unwinder < length loads = omega (arith, ap (λ (s : SessionState g.row.A-UnwindData.Denot g.row.A-UnwindRule.Denot). length s.unwinders) c.self.view_is) in
     let e = c.remove_module.ensures in

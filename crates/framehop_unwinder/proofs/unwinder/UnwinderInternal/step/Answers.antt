@@ -12,7 +12,7 @@ use Rattle.framehop_unwinder.proofs.unwinder.UnwinderInternal.step.Goals as goal
 -- the rule that a fitting cache has means what is judged
 pub returns-in-Hit-clause-step : goal.returns-in-Hit-clause-step
 returns-in-Hit-clause-step g c =
-    let m = g.A.Unwinding.meanings in
+    let m = g.A.ModuleUnwinding.meanings in
     let modules = c.args.self.now.modules in
     let key : Key = key_of c.args.address c.args.is_first_frame c.args.self.now.generation in
     let slots = (rules_of c.args.cache.now).slots in
@@ -23,14 +23,14 @@ returns-in-Hit-clause-step g c =
           (sym (kept-judged m c.args.is_first_frame c.args.regs.now words modules c.args.address c.args.self.now.generation c.in-Hit.rule
           (hit_fits (rule_kept m modules) key slots c.in-Hit.rule found fits)))
           (subst (λ meaning. IsStep c.exec.result c.args.regs.now c.exec.new.regs (meaning c.in-Hit.rule c.args.is_first_frame c.args.regs.now words))
-          (sym g.met.A.Unwinding.meaning_is) (c.exec.ensures.step.said words answers));
+          (sym g.met.A.ModuleUnwinding.meaning_is) (c.exec.ensures.step.said words answers));
       still = c.exec.ensures.step.still;
     }
 
 -- what the modules say is judged
 pub returns-clause-step : goal.returns-clause-step
 returns-clause-step g c =
-    let m = g.A.Unwinding.meanings in
+    let m = g.A.ModuleUnwinding.meanings in
     let tried = c.attempt-answer.ensures.answers.answer in
     let done = c.execute.ensures in
     record {
@@ -43,7 +43,7 @@ returns-clause-step g c =
 -- and what they have kept is
 pub returns-clause-cache : goal.returns-clause-cache
 returns-clause-cache g c =
-    let m = g.A.Unwinding.meanings in
+    let m = g.A.ModuleUnwinding.meanings in
     let fallback = g.A.UnwindRule.UnwindRule.fallback in
     let key : Key = key_of c.args.address c.args.is_first_frame c.args.self.now.generation in
     let slots = (rules_of c.args.cache.now).slots in
@@ -53,7 +53,7 @@ returns-clause-cache g c =
     let slots_are = c.keep.ensures.slots
     ∙ ap (λ old. with_any old c.in-Miss.handle rule) c.lookup.ensures.slots
     ∙ miss-keeps (rule_kept m c.args.self.now.modules) key slots (wants_memory c.execute.result) c.in-Miss.handle rule (rw c.generation.ensures at c.in-Miss.ensures.found)
-    (λ wanted. wanted-keeps-none fallback answer (sym is ∙ wanted)) (λ not_wanted. c.attempt-answer.ensures.answers.kept fallback (sym is ∙ not_wanted) ∙ ap (λ f. rule_of_attempt f (attempt_at m c.args.self.now.modules c.args.is_first_frame c.args.address)) (sym g.met.A.Unwinding.fallback_is)) in
+    (λ wanted. wanted-keeps-none fallback answer (sym is ∙ wanted)) (λ not_wanted. c.attempt-answer.ensures.answers.kept fallback (sym is ∙ not_wanted) ∙ ap (λ f. rule_of_attempt f (attempt_at m c.args.self.now.modules c.args.is_first_frame c.args.address)) (sym g.met.A.ModuleUnwinding.fallback_is)) in
     record { slots = slots_are; counts = search rules }
 
 -- a rule that the cache has keeps nothing
