@@ -1,0 +1,2 @@
+pub mod VariantNames
+pub mod Wraps

@@ -1,0 +1,57 @@
+//! The error of an index of call frames.
+
+ghost use Rattle.std.specs.Prelude.{◌≡◌, Some};
+ghost use Rattle.framehop_errors.specs.VariantNames.{index_error_name};
+ghost use Rattle.framehop_errors.specs.declared.cfi_index.DwarfCfiIndexError.TheVariants.{Gimli, OutOfMemory};
+
+use dwarf_constants::Error;
+use std::alloc::AllocError;
+use std::{error, fmt};
+
+/// Why a section of call frames has no index.
+#[derive(Debug, Clone, Copy, PartialEq, Eq)]
+pub enum DwarfCfiIndexError {
+    /// An entry of the section doesn't parse.
+    Gimli(Error),
+    /// An FDE's code starts below the base.
+    CouldNotSubtractBaseAddress,
+    /// An FDE's code starts 2^32 bytes or more above the base.
+    RelativeAddressTooBig,
+    /// An FDE is 2^32 bytes or more from the section's start.
+    FdeOffsetTooBig,
+    /// Out of memory for the index.
+    OutOfMemory,
+}
+
+/// Prints the variant's name.
+impl fmt::Display for DwarfCfiIndexError {
+    ghost output = { λ error. Some (index_error_name error) };
+
+    fn fmt<W: fmt::Write>(&self, f: &mut fmt::Formatter<W>) -> fmt::Result {
+        f.write_str(match self {
+            DwarfCfiIndexError::Gimli(_) => "Gimli",
+            DwarfCfiIndexError::CouldNotSubtractBaseAddress => "CouldNotSubtractBaseAddress",
+            DwarfCfiIndexError::RelativeAddressTooBig => "RelativeAddressTooBig",
+            DwarfCfiIndexError::FdeOffsetTooBig => "FdeOffsetTooBig",
+            DwarfCfiIndexError::OutOfMemory => "OutOfMemory",
+        })
+    }
+}
+
+impl error::Error for DwarfCfiIndexError {}
+
+impl From<Error> for DwarfCfiIndexError {
+    ghost from_gives = { λ error result. result ≡ Gimli error };
+
+    fn from(error: Error) -> Self {
+        DwarfCfiIndexError::Gimli(error)
+    }
+}
+
+impl From<AllocError> for DwarfCfiIndexError {
+    ghost from_gives = { λ error result. result ≡ OutOfMemory };
+
+    fn from(_error: AllocError) -> Self {
+        DwarfCfiIndexError::OutOfMemory
+    }
+}
