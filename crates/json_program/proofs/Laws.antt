@@ -1,6 +1,7 @@
--- Laws of checks, of lists that are checked, and of lines that are written. Each is the contract of a function of `decoding` or `writing`.
-use Rattle.std.proofs.Common.{◌≡◌, ℕ, suc, ◌+◌, ◌<◌, List, [], ◌∷◌, ◌++◌, length, get_or, take, drop, Option, Some, None, Result, Ok, Err, refl, sym, ap, subst, ◌∙◌, arith, append_assoc, add-one}
-use Rattle.std.specs.Prelude.{IsErr, IsErrAnd}
+-- Laws of checks, of lists that are checked, and of lines that are written. Those that other crates cite are the contracts of the functions
+-- of `decoding` and `writing`.
+use Rattle.std.proofs.Common.{◌≡◌, ℕ, suc, ◌+◌, ◌<◌, List, [], ◌∷◌, ◌++◌, length, get_or, take, drop, Option, Some, None, Result, Ok, Err, Bool, true, false, IsTrue, ◌↔◌, refl, sym, ap, subst, ◌∙◌, arith, append_assoc, add-one}
+use Rattle.std.specs.Prelude.{IsErr, IsErrAnd, IsErrOf}
 use Rattle.std.specs.Io.KnownBytes.{Appends}
 use Rattle.std.proofs.Math.Seq.{drop-cons, take-append_seam}
 use Rattle.std.proofs.lemmas.List.{append-nil, take-append-drop}
@@ -11,9 +12,12 @@ use Rattle.serde_json.specs.declared.value.Value.{Value}
 use Rattle.json_program.specs.declared.fault.FaultName.{FaultName}
 use Rattle.json_program.specs.declared.fault.DecodeError.{DecodeError}
 use Rattle.json_program.specs.declared.fault.DecodeError.TheVariants as decode_error
+use Rattle.json_program.specs.declared.status.RunError.{RunError}
+use Rattle.json_program.specs.declared.status.RunError.TheVariants.{Write}
 use Rattle.json_program.specs.Decoded.{Decodes, result_map}
 use Rattle.json_program.specs.Elements.{SoFar, completed, first, joined, so_far, with_element}
 use Rattle.json_program.specs.Faults.{Checked, first_fault, with_fault, unit_answer, keep_fault, ◌⊛◌, both, in_unit}
+use Rattle.json_program.specs.Errors.{written}
 use Rattle.json_program.specs.Json.{list_of}
 use Rattle.json_program.specs.Stream.{AppendsPrefix, IsWritten, WritesText}
 
@@ -34,7 +38,7 @@ pub ⊛-both : {A B C : Type 0} (f : A → B → C) (a : Checked A) (b : Checked
 ⊛-both f (Err m) (Err n) = refl
 
 -- equal values of checks
-pub ok_is : {A E : Type 0} (x y : A) → ◌≡◌ {A = Result A E} (Ok x) (Ok y) → x ≡ y
+ok_is : {A E : Type 0} (x y : A) → ◌≡◌ {A = Result A E} (Ok x) (Ok y) → x ≡ y
 ok_is x y is = cc
 
 -- ---- lists
@@ -202,7 +206,7 @@ begun_line old mid new line left all written (count, added) =
     (subst (λ (xs : List ℕ). IsWritten old mid xs all) (ap (λ (xs : List ℕ). xs ++ left) (sym (take-append-drop count line)) ∙ append_assoc (take count line) (drop count line) left) written) added)
 
 -- nothing is a prefix of any text
-pub begun_none : (old : Option (List ℕ)) (all : List ℕ) → AppendsPrefix old old all
+begun_none : (old : Option (List ℕ)) (all : List ℕ) → AppendsPrefix old old all
 begun_none old all = written_prefix old old all all (written_none old all)
 
 -- a call that fails after it wrote a prefix of a text
@@ -214,3 +218,8 @@ fails_after (Err error) old new text failed begun = record { whole = tt; prefix 
 -- a call that fails before it writes
 pub writes_nothing : {T E : Type 0} (result : Result T E) (old : Option (List ℕ)) (text : List ℕ) → IsErr result → WritesText result old old text
 writes_nothing result old text failed = fails_after result old old text failed (begun_none old text)
+
+-- after a write that succeeds the sink hasn't failed
+pub not_failed : (failed : Bool) → (IsErrOf written Write ↔ IsTrue failed) → failed ≡ false
+not_failed true h = let e : written ≡ Err Write = h.1 refl in cc
+not_failed false h = refl

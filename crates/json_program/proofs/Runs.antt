@@ -1,4 +1,4 @@
--- Runs: the part of a document that is read has the text of the whole, and a write that succeeds leaves a sink that hasn't failed.
+-- Runs: the part of a document that is read has the text of the whole.
 use Rattle.std.proofs.Common.{◌≡◌, ◌+◌, ◌<◌, ◌↔◌, ℕ, Bool, true, false, IsTrue, List, length, take, Option, Some, None, Result, Ok, Err, inl, inr, refl, ap, arith}
 use Rattle.std.specs.Prelude.{IfSome, IsErrOf}
 use Rattle.std.proofs.lemmas.List.{length-take, take_all}
@@ -16,15 +16,6 @@ if_some_map None P Q f h = tt
 pub if_some_always : {A : Type 0} (o : Option A) (P : A → Type 0) → ((x : A) → P x) → IfSome o P
 if_some_always (Some x) P f = f x
 if_some_always None P f = tt
-
--- what a write that succeeds returns
-abbrev pub succeeded : Result (Unit {0}) RunError
-succeeded = Ok tt
-
--- after a write that succeeds the sink hasn't failed
-pub not_failed : (failed : Bool) → (IsErrOf succeeded Write ↔ IsTrue failed) → failed ≡ false
-not_failed true h = let e : succeeded ≡ Err Write = h.1 refl in cc
-not_failed false h = refl
 
 -- if every document that is too long has one text, the part that is read has the text of the whole
 pub part_says : {A : Type 0} (says : List ℕ → A)

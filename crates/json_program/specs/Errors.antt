@@ -1,5 +1,5 @@
 -- Which errors a run returns.
-use Rattle.std.specs.Prelude.{Bool, IsTrue, Result, IsErrOf, ◌↔◌}
+use Rattle.std.specs.Prelude.{Bool, IsTrue, Result, Ok, IsErrOf, ◌↔◌}
 use Rattle.json_program.specs.declared.status.RunError.{RunError}
 use Rattle.json_program.specs.declared.status.RunError.TheVariants.{Read, Write}
 
@@ -8,3 +8,7 @@ use Rattle.json_program.specs.declared.status.RunError.TheVariants.{Read, Write}
 pub record ReportsFailures {T : Type 0} (result : Result T RunError) (source_failed sink_failed : Bool) : Type 0 where
   pub read : IsErrOf result Read ↔ IsTrue source_failed
   pub write : IsErrOf result Write ↔ IsTrue sink_failed
+
+-- the result of a write that succeeds
+abbrev pub written : Result (Unit {0}) RunError
+written = Ok tt

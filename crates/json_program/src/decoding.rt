@@ -4,38 +4,32 @@ ghost use Rattle.std.specs.Prelude.{◌≡◌, ◌+◌, ℕ, List, [], ◌∷◌
 ghost use Rattle.serde_json.specs.Data.{Data};
 ghost use Rattle.serde_json.specs.View.{view};
 ghost use Rattle.serde_json.specs.declared.value.Value.{Value};
-ghost use Rattle.json_program.specs.Decoded.{Decodes, result_map};
+ghost use Rattle.json_program.specs.Decoded.{Answer, Decodes, EndedBy, result_map};
 ghost use Rattle.json_program.specs.Elements.{IsElement, SoFar, completed, joined, with_element};
 ghost use Rattle.json_program.specs.Faults.{Checked, ◌⊛◌, both, in_unit, keep_fault, unit_answer};
 ghost use Rattle.json_program.specs.declared.fault.FaultName.{FaultName};
 ghost use Rattle.json_program.specs.declared.fault.DecodeError.{DecodeError};
-ghost use Rattle.json_program.specs.declared.fault.DecodeError.TheVariants as decode_error;
 
 /// A value or fault that `keep_fault` gave, and a fault that `?` returns early, are those that are
 /// decoded.
 pub fn passed_on_as_decoded<A, B>()
-    ensures kept { (seen : A → B) (answer : Result A (DecodeError FaultName))
-        (kept : Checked A) (decoded : Checked B)
+    ensures kept { (seen : A → B) (answer : Answer A) (kept : Checked A) (decoded : Checked B)
         → Decodes seen answer decoded → keep_fault answer ≡ Ok kept
         → result_map seen kept ≡ decoded }
-    ensures fault { (seen : A → B) (answer : Result A (DecodeError FaultName)) (name : FaultName)
-        → IsErrAnd answer (λ given. given ≡ decode_error.Fault name)
-        → Decodes seen answer (Err name) }
+    ensures fault { (seen : A → B) (answer : Answer A) (name : FaultName)
+        → EndedBy answer name → Decodes seen answer (Err name) }
     ensures checked { (answer : Checked A) (name : FaultName)
         → IsErrAnd answer (λ given. given ≡ name) → answer ≡ Err name }
 {}
 
 /// The error of one unit is returned as it is, and a unit's value is what is decoded.
 pub fn units_as_decoded<A, B, F>()
-    ensures error { (seen : A → B) (answer : Result A (DecodeError F)) (error : DecodeError F)
-        (decoded : Result B F)
-        → answer ≡ Err error → Decodes seen (Err error) decoded
-        → Decodes seen answer decoded }
-    ensures unit { (seen : A → B) (n : ℕ) (answer : Result A (DecodeError FaultName))
-        (decoded : Checked B) → Decodes seen answer decoded
-        → Decodes seen (unit_answer n answer) (in_unit n decoded) }
-    ensures good { (seen : A → B) (n : ℕ) (answer : Result A (DecodeError FaultName))
-        (decoded : Checked B) (value : A)
+    ensures error { (seen : A → B) (error : DecodeError F) (decoded : Result B F)
+        (answer : Result A (DecodeError F)) → IsErrAnd answer (λ given. given ≡ error)
+        → Decodes seen (Err error) decoded → Decodes seen answer decoded }
+    ensures unit { (seen : A → B) (n : ℕ) (answer : Answer A) (decoded : Checked B)
+        → Decodes seen answer decoded → Decodes seen (unit_answer n answer) (in_unit n decoded) }
+    ensures good { (seen : A → B) (n : ℕ) (answer : Answer A) (decoded : Checked B) (value : A)
         → Decodes seen answer decoded → unit_answer n answer ≡ Ok value
         → decoded ≡ Ok (seen value) }
 {}

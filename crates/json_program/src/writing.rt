@@ -1,8 +1,10 @@
-//! Laws of lines that are written one after the other. The function does nothing when the program runs.
+//! Laws of lines that are written one after the other, and of calls that write. The functions do nothing when the program runs.
 
-ghost use Rattle.std.specs.Prelude.{ℕ, List, [], ◌++◌, Option};
+ghost use Rattle.std.specs.Prelude.{◌≡◌, ◌↔◌, ℕ, Bool, false, IsTrue, List, [], ◌++◌, Option, Result, IsErr, IsErrOf};
 ghost use Rattle.std.specs.Io.KnownBytes.{Appends};
-ghost use Rattle.json_program.specs.Stream.{AppendsPrefix, IsWritten};
+ghost use Rattle.json_program.specs.Errors.{written};
+ghost use Rattle.json_program.specs.Stream.{AppendsPrefix, IsWritten, WritesText};
+ghost use Rattle.json_program.specs.declared.status.RunError.TheVariants.{Write};
 
 /// Lines are written one after the other: nothing, one more, a prefix of one, and all.
 pub fn lines_by_parts()
@@ -17,4 +19,15 @@ pub fn lines_by_parts()
         → IsWritten old new left all → AppendsPrefix old new all }
     ensures all { (old new : Option (List ℕ)) (all : List ℕ)
         → IsWritten old new [] all → Appends old new all }
+{}
+
+/// Calls that write: one that fails before it writes has written a prefix of any text, as one that
+/// fails after a prefix has. A sink hasn't failed after a write that succeeded.
+pub fn writes_by_result<T, E>()
+    ensures nothing { (result : Result T E) (old : Option (List ℕ)) (text : List ℕ)
+        → IsErr result → WritesText result old old text }
+    ensures begun { (result : Result T E) (old new : Option (List ℕ)) (text : List ℕ)
+        → IsErr result → AppendsPrefix old new text → WritesText result old new text }
+    ensures succeeded { (failed : Bool) → (IsErrOf written Write ↔ IsTrue failed)
+        → failed ≡ false }
 {}

@@ -17,12 +17,15 @@ use Rattle.unwind_run_document.specs.declared.document.Architecture.{Architectur
 use Rattle.unwind_run_document.specs.Commands.{Made, Task, make_unwinder, make_cache, clone_unwinder, load_module, unload_module, take_step, take_walk, show_counts, take_roads, Stepping, Walking, Loading, Unloading, RoadSteps, StackWords, IsSoundTask, IsSoundStep, IsSoundWalk, AreSoundRoads, AreSound, kind_in, words_in, registers_in, sections_in, made_number, one_number, stepping_of, walking_of, loading_of, unloading_of, road_steps_of, limit_value, stack_names, step_names, walk_names, load_names, unload_names, roads_names, number_below, checked_frame, frame_in, stack_at, stack_in, step_in, walk_in, load_in, unload_in, tables_in, roads_in, verb_in, task_in, command_in, made_after}
 use Rattle.json_program.specs.Faults.{in_unit}
 use Rattle.unwind_run_document.specs.Document.{with_task, commands_from}
-use Rattle.json_program.proofs.Laws.{ok_is}
 
 -- ---- what a check that holds was made of
 
 ip_no_ra : Ip ≡ Ra → ⊥
 ip_no_ra is = absurd cc
+
+-- equal values of results
+ok_is : {A E : Type 0} (x y : A) → ◌≡◌ {A = Result A E} (Ok x) (Ok y) → x ≡ y
+ok_is x y is = cc
 
 -- the test held
 test_ok : {A E : Type 0} (b : Bool) (x : Result A E) (e : E) (y : A) → cond b x (Err e) ≡ Ok y → (b ≡ true) × (x ≡ Ok y)

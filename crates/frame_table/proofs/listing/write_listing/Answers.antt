@@ -1,6 +1,6 @@
 use Rattle.std.proofs.Common.{rules, ◌≡◌, ℕ, List, [], ◌++◌, false, sym, ap, subst, ◌∙◌}
 use Rattle.std.proofs.lemmas.List.{append-nil}
-use Rattle.json_program.proofs.Laws.{begun_line, written_all, written_prefix, written_more, written_none}
+use Rattle.json_program.proofs.Laws.{begun_line, not_failed, written_all, written_prefix, written_more, written_none}
 use Rattle.json_program.specs.Stream.{IsWritten}
 use Rattle.dwarf_frame_rows.specs.FrameSection.{FrameSection}
 use Rattle.dwarf_frame_entries.specs.EntryLists.{entries_of}
@@ -9,7 +9,6 @@ use Rattle.frame_table.specs.Entries.{fault_text, listed_part}
 use Rattle.frame_table.specs.EntryWrites.{setting}
 use Rattle.frame_table.specs.Listing.{Listing, listing_from, listing_of}
 use Rattle.frame_table.proofs.Listings.{begins, ends_here, goes_on}
-use Rattle.json_program.proofs.Runs.{not_failed}
 use Rattle.frame_table.proofs.Writes.{ends_as, stops_after}
 use Rattle.frame_table.proofs.listing.write_listing.Goals as goal
 

@@ -1,7 +1,6 @@
 use Rattle.std.proofs.Common.{◌≡◌, ℕ, List, [], reverse, sym, ap, subst, ◌∙◌}
 use Rattle.std.proofs.lemmas.List.{reverse-reverse}
-use Rattle.json_program.proofs.Laws.{fails_after, written_none, written_prefix}
-use Rattle.json_program.proofs.Runs.{not_failed}
+use Rattle.json_program.proofs.Laws.{fails_after, not_failed, written_none, written_prefix}
 use Rattle.json_program.specs.Stream.{IsWritten}
 use Rattle.framehop_unwinder.specs.State.{SessionState, empty_state}
 use Rattle.framehop_unwinder.specs.History.{HaveHistories}

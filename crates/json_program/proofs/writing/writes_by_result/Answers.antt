@@ -1,0 +1,9 @@
+use Rattle.json_program.proofs.Laws.{fails_after, not_failed, writes_nothing}
+use Rattle.json_program.proofs.writing.writes_by_result.Goals as goal
+
+pub returns : goal.returns
+returns g c = record {
+  nothing = writes_nothing;
+  begun = fails_after;
+  succeeded = not_failed;
+}
