@@ -14,7 +14,17 @@ use Rattle.json_program.specs.Faults.{Checked, ◌⊛◌, both, ◌>>=◌}
 use Rattle.json_program.specs.Json.{field, text_value, address_value, number_value, has_only}
 use Rattle.serde_json.specs.Find.{get}
 use Rattle.unwind_run_document.specs.declared.document.Architecture.{Architecture}
-use Rattle.unwind_run_document.specs.Commands.{Made, Task, make_unwinder, make_cache, clone_unwinder, load_module, unload_module, take_step, take_walk, show_counts, take_roads, Stepping, Walking, Loading, Unloading, RoadSteps, StackWords, IsSoundTask, IsSoundStep, IsSoundWalk, AreSoundRoads, AreSound, kind_in, words_in, registers_in, sections_in, made_number, one_number, stepping_of, walking_of, loading_of, unloading_of, road_steps_of, limit_value, stack_names, step_names, walk_names, load_names, unload_names, roads_names, number_below, checked_frame, frame_in, stack_at, stack_in, step_in, walk_in, load_in, unload_in, tables_in, roads_in, verb_in, task_in, command_in, made_after}
+use Rattle.unwind_run_document.specs.Commands.{verb_in, task_in, command_in}
+use Rattle.unwind_run_document.specs.Frames.{kind_in, checked_frame, frame_in}
+use Rattle.unwind_run_document.specs.Loads.{loading_of, unloading_of, load_names, unload_names, load_in, unload_in}
+use Rattle.unwind_run_document.specs.Lookups.{road_steps_of, roads_names, tables_in, roads_in}
+use Rattle.unwind_run_document.specs.Made.{Made, made_number, one_number, number_below, made_after}
+use Rattle.unwind_run_document.specs.Registers.{registers_in}
+use Rattle.unwind_run_document.specs.Sections.{sections_in}
+use Rattle.unwind_run_document.specs.Sound.{IsSoundTask, IsSoundStep, IsSoundWalk, AreSoundRoads, AreSound}
+use Rattle.unwind_run_document.specs.Stacks.{words_in, stack_names, stack_at, stack_in}
+use Rattle.unwind_run_document.specs.Steps.{stepping_of, walking_of, limit_value, step_names, walk_names, step_in, walk_in}
+use Rattle.unwind_run_document.specs.Tasks.{Task, make_unwinder, make_cache, clone_unwinder, load_module, unload_module, take_step, take_walk, show_counts, take_roads, Stepping, Walking, Loading, Unloading, RoadSteps, StackWords}
 use Rattle.json_program.specs.Faults.{in_unit}
 use Rattle.unwind_run_document.specs.Document.{with_task, commands_from}
 

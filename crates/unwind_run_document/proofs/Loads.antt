@@ -3,7 +3,8 @@ use Rattle.std.proofs.Common.{◌≡◌, ℕ, List, Option, option_map, Ok, Stri
 use Rattle.unwind_run_document.specs.declared.command.AddressRange.{AddressRange}
 use Rattle.unwind_run_document.specs.declared.command.StatedSection.{StatedSection as Section}
 use Rattle.json_program.specs.Faults.{Checked, ◌⊛◌, both}
-use Rattle.unwind_run_document.specs.Commands.{loading_of, unloading_of, Loading, StatedSection}
+use Rattle.unwind_run_document.specs.Loads.{loading_of, unloading_of}
+use Rattle.unwind_run_document.specs.Tasks.{Loading, StatedSection}
 use Rattle.json_program.specs.Decoded.{result_map}
 use Rattle.unwind_run_document.specs.CommandViews.{sections_view}
 use Rattle.json_program.proofs.Laws.{first-field, and-field, as_it_is}

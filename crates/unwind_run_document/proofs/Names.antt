@@ -9,7 +9,7 @@ use Rattle.std.proofs.lemmas.Map.Text.{is_eq-slice_cmp}
 use Rattle.serde_json.specs.Find.{get, as_str}
 use Rattle.serde_json.specs.View.{view, items_view}
 use Rattle.serde_json.specs.declared.value.Value.{Value}
-use Rattle.unwind_run_document.specs.Commands.{are_new, names_of}
+use Rattle.unwind_run_document.specs.Sections.{are_new, names_of}
 use Rattle.json_program.proofs.Laws.{drop-element}
 
 abbrev pub text_cmp : Bor (List ℕ) → Bor (List ℕ) → Ordering

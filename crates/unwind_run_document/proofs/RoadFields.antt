@@ -5,7 +5,8 @@ use Rattle.unwind_run_document.specs.declared.command.Stack.{Stack}
 use Rattle.unwind_run_document.specs.declared.command.StatedTables.{StatedTables}
 use Rattle.unwind_run_document.specs.declared.registers.StatedRegisters.{StatedRegisters}
 use Rattle.json_program.specs.Faults.{Checked, ◌⊛◌, both}
-use Rattle.unwind_run_document.specs.Commands.{tables_of, road_steps_of, RoadSteps, StackWords, TableData}
+use Rattle.unwind_run_document.specs.Lookups.{tables_of, road_steps_of}
+use Rattle.unwind_run_document.specs.Tasks.{RoadSteps, StackWords, TableData}
 use Rattle.json_program.specs.Decoded.{result_map}
 use Rattle.unwind_run_document.specs.CommandViews.{tables_view, words_view}
 use Rattle.json_program.proofs.Laws.{first-field, and-field, as_it_is}

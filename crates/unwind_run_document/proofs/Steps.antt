@@ -4,7 +4,9 @@ use Rattle.unwind_run_document.specs.declared.command.FrameKind.{FrameKind}
 use Rattle.unwind_run_document.specs.declared.command.Stack.{Stack}
 use Rattle.unwind_run_document.specs.declared.registers.StatedRegisters.{StatedRegisters}
 use Rattle.json_program.specs.Faults.{Checked, ◌⊛◌, both}
-use Rattle.unwind_run_document.specs.Commands.{all_bits, stepping_of, walking_of, StackWords}
+use Rattle.unwind_run_document.specs.Registers.{all_bits}
+use Rattle.unwind_run_document.specs.Steps.{stepping_of, walking_of}
+use Rattle.unwind_run_document.specs.Tasks.{StackWords}
 use Rattle.json_program.specs.Decoded.{result_map}
 use Rattle.unwind_run_document.specs.CommandViews.{words_view}
 use Rattle.json_program.proofs.Laws.{first-field, and-field, as_it_is}

@@ -10,7 +10,9 @@ use Rattle.json_program.specs.declared.fault.DecodeError.TheVariants as decode_e
 use Rattle.json_program.specs.Decoded.{Decodes}
 use Rattle.json_program.specs.Faults.{Checked, ◌>>=◌}
 use Rattle.unwind_run_document.specs.declared.document.Architecture.{Architecture}
-use Rattle.unwind_run_document.specs.Commands.{Task, Made, command_in, made_after}
+use Rattle.unwind_run_document.specs.Commands.{command_in}
+use Rattle.unwind_run_document.specs.Made.{Made, made_after}
+use Rattle.unwind_run_document.specs.Tasks.{Task}
 use Rattle.unwind_run_document.specs.Document.{Content, arch_of, commands_from, content_in, content_of, document_in, nothing_made, policy_of, under, with_task}
 use Rattle.json_program.specs.Faults.{in_unit}
 use Rattle.json_program.specs.Json.{json_of}

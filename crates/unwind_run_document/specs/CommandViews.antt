@@ -13,7 +13,8 @@ use Rattle.unwind_run_document.specs.declared.command.WalkCommand.{WalkCommand}
 use Rattle.unwind_run_document.specs.declared.document.Document.{Document}
 use Rattle.unwind_run_document.specs.declared.made.Made as memory
 use Rattle.unwind_run_document.specs.Document.{Content}
-use Rattle.unwind_run_document.specs.Commands.{StatedSection, Loading, Unloading, StackWords, Stepping, Walking, TableData, RoadSteps, Task, Made, make_unwinder, make_cache, clone_unwinder, load_module, unload_module, take_step, take_walk, show_counts, take_roads}
+use Rattle.unwind_run_document.specs.Made.{Made}
+use Rattle.unwind_run_document.specs.Tasks.{StatedSection, Loading, Unloading, StackWords, Stepping, Walking, TableData, RoadSteps, Task, make_unwinder, make_cache, clone_unwinder, load_module, unload_module, take_step, take_walk, show_counts, take_roads}
 
 -- a section
 abbrev pub section_view : Section → StatedSection

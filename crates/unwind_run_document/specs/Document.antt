@@ -14,7 +14,9 @@ use Rattle.unwind_run_document.specs.declared.document.Policy.{Policy}
 use Rattle.unwind_run_document.specs.declared.document.Policy.TheVariants.{May, Must}
 use Rattle.json_program.specs.Faults.{Checked, ◌>>=◌, both, in_unit}
 use Rattle.json_program.specs.Json.{has_only, is_text, json_of, spelled_address}
-use Rattle.unwind_run_document.specs.Commands.{Task, Made, command_in, made_after}
+use Rattle.unwind_run_document.specs.Commands.{command_in}
+use Rattle.unwind_run_document.specs.Made.{Made, made_after}
+use Rattle.unwind_run_document.specs.Tasks.{Task}
 
 -- a member has a float that is the document's: the elements of the list of commands are units of their own
 abbrev pub has_own_float : List ℕ → Data → Bool

@@ -1,3 +1,13 @@
 pub mod CommandViews
 pub mod Commands
 pub mod Document
+pub mod Frames
+pub mod Loads
+pub mod Lookups
+pub mod Made
+pub mod Registers
+pub mod Sections
+pub mod Sound
+pub mod Stacks
+pub mod Steps
+pub mod Tasks

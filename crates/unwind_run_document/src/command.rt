@@ -2,7 +2,8 @@
 
 ghost use Rattle.std.specs.Prelude.{◌≡◌, codes};
 ghost use Rattle.serde_json.specs.View.{view};
-ghost use Rattle.unwind_run_document.specs.Commands.{command_in, one_number, task_in, verb_in};
+ghost use Rattle.unwind_run_document.specs.Commands.{command_in, task_in, verb_in};
+ghost use Rattle.unwind_run_document.specs.Made.{one_number};
 ghost use Rattle.json_program.specs.Json.{field};
 ghost use Rattle.json_program.specs.Decoded.{Decodes};
 ghost use Rattle.unwind_run_document.specs.CommandViews.{made_view, task_of};

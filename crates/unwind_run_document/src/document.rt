@@ -4,7 +4,7 @@ ghost use Rattle.std.specs.Prelude.{◌≡◌, IfOk, ok_or};
 ghost use Rattle.serde_json.specs.View.{items_view, members_view, view};
 ghost use Rattle.unwind_run_document.specs.Document.{arch_of, have_own_float, commands_from, content_of, document_in, generation_in, has_float_outside, few_commands, is_supported, items_in, nothing_made, has_own_float, policy_of};
 ghost use Rattle.json_program.specs.Json.{json_of, is_text};
-ghost use Rattle.unwind_run_document.specs.Commands.{AreSound};
+ghost use Rattle.unwind_run_document.specs.Sound.{AreSound};
 ghost use Rattle.json_program.specs.Decoded.{Decodes, result_map};
 ghost use Rattle.unwind_run_document.specs.CommandViews.{content_view, tasks_of};
 ghost use Rattle.json_program.specs.declared.fault.FaultName.TheVariants.{NotJson};

@@ -4,7 +4,8 @@ ghost use Rattle.std.specs.Prelude.{◌≡◌, codes, option_map, option_and_the
 ghost use Rattle.serde_json.specs.Find.{as_str, get};
 ghost use Rattle.serde_json.specs.View.{view, items_view};
 ghost use Rattle.json_program.specs.Json.{bytes_value, list_of, field, optional_value, text_value};
-ghost use Rattle.unwind_run_document.specs.Commands.{are_distinct, is_refused, load_in, names_of, range_between, section_in, section_name_in, sections_in, unload_in};
+ghost use Rattle.unwind_run_document.specs.Loads.{load_in, unload_in};
+ghost use Rattle.unwind_run_document.specs.Sections.{are_distinct, is_refused, names_of, range_between, section_in, section_name_in, sections_in};
 ghost use Rattle.json_program.specs.Decoded.{Decodes, result_map};
 ghost use Rattle.unwind_run_document.specs.CommandViews.{load_view, made_view, section_view, sections_view, unload_view};
 
@@ -19,7 +20,7 @@ use std::alloc::{AllocError, Global};
 use std::collections::BTreeSet;
 
 // Whether a section of this name can't be loaded.
-#[tactic(auto, unfolding(crate::specs::Commands::is_refused))]
+#[tactic(auto, unfolding(crate::specs::Sections::is_refused))]
 fn is_refused(name: &str) -> bool
     ensures { result ≡ is_refused name.now }
 {

@@ -2,7 +2,7 @@
 
 ghost use Rattle.std.specs.Prelude.{◌≡◌, ◌+◌, ◌<◌, ◌≤◌, ◌^◌};
 ghost use Rattle.serde_json.specs.View.{view};
-ghost use Rattle.unwind_run_document.specs.Commands.{made_after, made_number};
+ghost use Rattle.unwind_run_document.specs.Made.{made_after, made_number};
 ghost use Rattle.unwind_run_document.specs.CommandViews.{made_view, task_of};
 
 use crate::command::Command;

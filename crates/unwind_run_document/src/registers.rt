@@ -4,7 +4,7 @@ ghost use Rattle.std.specs.Prelude.{◌≡◌, codes};
 ghost use Rattle.serde_json.specs.Find.{get};
 ghost use Rattle.serde_json.specs.View.{view};
 ghost use Rattle.json_program.specs.Json.{field};
-ghost use Rattle.unwind_run_document.specs.Commands.{mask_at, registers_aarch64_in, registers_in, registers_x86_64_in};
+ghost use Rattle.unwind_run_document.specs.Registers.{mask_at, registers_aarch64_in, registers_in, registers_x86_64_in};
 
 use crate::document::Architecture;
 use json_program::FaultName;

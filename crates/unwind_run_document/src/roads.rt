@@ -4,7 +4,7 @@ ghost use Rattle.std.specs.Prelude.{◌≡◌};
 ghost use Rattle.serde_json.specs.View.{view};
 ghost use Rattle.json_program.specs.Decoded.{Decodes};
 ghost use Rattle.json_program.specs.Json.{bytes_value, field};
-ghost use Rattle.unwind_run_document.specs.Commands.{roads_in, tables_in};
+ghost use Rattle.unwind_run_document.specs.Lookups.{roads_in, tables_in};
 ghost use Rattle.unwind_run_document.specs.CommandViews.{roads_view, tables_view};
 
 use crate::command::{RoadsCommand, StatedTables};

@@ -3,7 +3,9 @@
 ghost use Rattle.std.specs.Prelude.{◌≡◌, codes};
 ghost use Rattle.serde_json.specs.View.{view, items_view};
 ghost use Rattle.json_program.specs.Json.{address_value, list_of, field};
-ghost use Rattle.unwind_run_document.specs.Commands.{kind_in, frame_in, words_in, stack_at, stack_in, step_in};
+ghost use Rattle.unwind_run_document.specs.Frames.{kind_in, frame_in};
+ghost use Rattle.unwind_run_document.specs.Stacks.{words_in, stack_at, stack_in};
+ghost use Rattle.unwind_run_document.specs.Steps.{step_in};
 ghost use Rattle.json_program.specs.Decoded.{Decodes, result_map};
 ghost use Rattle.unwind_run_document.specs.CommandViews.{words_view, step_view, made_view};
 

@@ -4,7 +4,7 @@ ghost use Rattle.std.specs.Prelude.{◌≡◌, codes};
 ghost use Rattle.serde_json.specs.View.{view};
 ghost use Rattle.json_program.specs.Decoded.{Decodes};
 ghost use Rattle.json_program.specs.Json.{field};
-ghost use Rattle.unwind_run_document.specs.Commands.{limit_value, walk_in};
+ghost use Rattle.unwind_run_document.specs.Steps.{limit_value, walk_in};
 ghost use Rattle.unwind_run_document.specs.CommandViews.{made_view, walk_view};
 
 use crate::command::WalkCommand;

@@ -20,7 +20,9 @@ use Rattle.framehop_registers.specs.declared.error.Error.{Error}
 use Rattle.framehop_unwinder.specs.Progress.{SessionModel, IsAt, modules_in}
 use Rattle.unwind_run_session.specs.Outputs.{CommandOutput, IsOutput, writes, refuses, output_with_number, output_with_modules, walk_histories, if_goes_on}
 use Rattle.unwind_run_document.specs.declared.command.Command.{Command}
-use Rattle.unwind_run_document.specs.Commands.{Task, Made, make_unwinder, make_cache, clone_unwinder, load_module, unload_module, take_step, take_walk, show_counts, take_roads, made_after, AreSound}
+use Rattle.unwind_run_document.specs.Made.{Made, made_after}
+use Rattle.unwind_run_document.specs.Sound.{AreSound}
+use Rattle.unwind_run_document.specs.Tasks.{Task, make_unwinder, make_cache, clone_unwinder, load_module, unload_module, take_step, take_walk, show_counts, take_roads}
 use Rattle.unwind_run_document.specs.CommandViews.{tasks_of, task_of}
 use Rattle.unwind_run_program.specs.Sections.{DataForms}
 use Rattle.unwind_run_program.specs.Text.{output_of, lines_of, loaded_by, frame_at, words_of, made_in}

@@ -1,7 +1,7 @@
 -- The module over which a step is made by each lookup, and its sections.
 use Rattle.std.specs.Prelude.{ℕ, ◌+◌, ◌-◌, ◌^◌, min, List, [], length, codes, Some}
 use Rattle.framehop_unwinder.specs.Modules.{Loaded}
-use Rattle.unwind_run_document.specs.Commands.{StatedSection, TableData}
+use Rattle.unwind_run_document.specs.Tasks.{StatedSection, TableData}
 
 -- the address that is a count of addresses after another, or else the last address
 abbrev pub address_behind : ℕ → ℕ → ℕ

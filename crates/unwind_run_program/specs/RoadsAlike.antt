@@ -10,7 +10,7 @@ use Rattle.framehop.specs.UnwindData.{UnwindData, bases_of}
 use Rattle.framehop_modules.specs.Chosen.{base_svmas}
 use Rattle.framehop_unwinder.specs.Attempt.{Meanings}
 use Rattle.framehop_unwinder.specs.Frames.{lookup_address}
-use Rattle.unwind_run_document.specs.Commands.{RoadSteps, TableData}
+use Rattle.unwind_run_document.specs.Tasks.{RoadSteps, TableData}
 use Rattle.unwind_run_program.specs.Registers.{RegisterForms}
 use Rattle.unwind_run_program.specs.Roads.{stated_section, stated_header}
 use Rattle.unwind_run_program.specs.Sections.{data_stated, sections_stated}

@@ -5,7 +5,7 @@ use Rattle.std.specs.declared.ops.Range.{Range}
 use Rattle.framehop.specs.UnwindData.{UnwindData, unwind_data_of, scanned_data_of}
 use Rattle.framehop_modules.specs.Sections.{Sections}
 use Rattle.unwind_run_document.specs.declared.command.AddressRange.{AddressRange}
-use Rattle.unwind_run_document.specs.Commands.{StatedSection}
+use Rattle.unwind_run_document.specs.Tasks.{StatedSection}
 
 -- a section's range, as a range of numbers
 abbrev pub range_of : AddressRange → Range ℕ

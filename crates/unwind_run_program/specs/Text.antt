@@ -38,7 +38,8 @@ use Rattle.unwind_run_document.specs.declared.document.Architecture.TheVariants 
 use Rattle.unwind_run_document.specs.declared.document.Policy.{Policy}
 use Rattle.unwind_run_document.specs.declared.document.Policy.TheVariants.{May, Must}
 use Rattle.unwind_run_document.specs.declared.registers.StatedRegisters.{StatedRegisters}
-use Rattle.unwind_run_document.specs.Commands.{Made, StackWords, Loading, RoadSteps, Task, make_unwinder, make_cache, clone_unwinder, load_module, unload_module, take_step, take_walk, show_counts, take_roads}
+use Rattle.unwind_run_document.specs.Made.{Made}
+use Rattle.unwind_run_document.specs.Tasks.{StackWords, Loading, RoadSteps, Task, make_unwinder, make_cache, clone_unwinder, load_module, unload_module, take_step, take_walk, show_counts, take_roads}
 use Rattle.unwind_run_document.specs.Document.{Content, content_of}
 use Rattle.unwind_run_program.specs.Lines.{outcome_line}
 use Rattle.unwind_run_program.specs.Registers.{RegisterForms, forms_aarch64, forms_x86_64}

@@ -1,6 +1,6 @@
 //! A law of the steps by each lookup. It does nothing when the program runs.
 
-ghost use Rattle.unwind_run_document.specs.Commands.{RoadSteps};
+ghost use Rattle.unwind_run_document.specs.Tasks.{RoadSteps};
 ghost use Rattle.unwind_run_program.specs.RoadsAlike.{Covers, WriteAlike, address_looked_up};
 ghost use Rattle.unwind_run_program.specs.Text.{sections_meanings};
 

@@ -3,7 +3,7 @@
 ghost use Rattle.std.specs.Prelude.{◌≡◌, ◌≢◌, ◌<◌, IfOk, length, string_bytes};
 ghost use Rattle.framehop_registers.specs.Callback.{read_answer};
 ghost use Rattle.framehop_unwinder.specs.Frames.{frame_of};
-ghost use Rattle.unwind_run_document.specs.Commands.{IsSoundTask};
+ghost use Rattle.unwind_run_document.specs.Sound.{IsSoundTask};
 ghost use Rattle.unwind_run_program.specs.Registers.{RegisterForms};
 ghost use Rattle.unwind_run_program.specs.Sections.{DataForms};
 ghost use Rattle.unwind_run_document.specs.CommandViews.{sections_view, task_of, words_view};
@@ -14,7 +14,7 @@ ghost use Rattle.unwind_run_document.specs.declared.command.FrameKind.TheVariant
 use crate::lines::step_line;
 use crate::roads::road_lines;
 use framehop_rules::FrameAddress;
-use framehop_unwinder::{Module, Session, StackWalk, ModuleUnwinding};
+use framehop_unwinder::{Module, ModuleUnwinding, Session, StackWalk};
 use std::alloc::{AllocError, Global};
 use unwind_run_document::{
     Command, FrameKind, LoadCommand, RoadsCommand, Stack, StatedRegisters, StatedSection,

@@ -4,7 +4,7 @@ ghost use Rattle.std.specs.Prelude.{◌≡◌, false};
 ghost use Rattle.json_program.specs.Errors.{ReportsFailures};
 ghost use Rattle.json_program.specs.Stream.{WritesText};
 ghost use Rattle.unwind_run_session.specs.Outputs.{beginning};
-ghost use Rattle.unwind_run_document.specs.Commands.{AreSound};
+ghost use Rattle.unwind_run_document.specs.Sound.{AreSound};
 ghost use Rattle.unwind_run_document.specs.Document.{nothing_made};
 ghost use Rattle.unwind_run_document.specs.CommandViews.{content_view, tasks_of};
 ghost use Rattle.unwind_run_program.specs.Text.{text_of, ending_of, content_lines, lines_of, lines_under, sections_meanings, value_limit};

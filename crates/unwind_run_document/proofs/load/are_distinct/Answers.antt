@@ -1,7 +1,7 @@
 use Rattle.std.proofs.Common.{◌≡◌, ◌+◌, ℕ, List, Bor, Option, Some, None, drop, option_map, refl, sym, ap, ◌∙◌, ◌∷◌}
 use Rattle.std.specs.BTreeSet.{contains}
 use Rattle.serde_json.specs.View.{items_view}
-use Rattle.unwind_run_document.specs.Commands.{are_new, names_of}
+use Rattle.unwind_run_document.specs.Sections.{are_new, names_of}
 use Rattle.unwind_run_document.proofs.Names.{text_cmp, names_of-drop, are_new-more, contains-more}
 use Rattle.unwind_run_document.proofs.load.are_distinct.Goals as goal
 use Rattle.unwind_run_document.proofs.load.are_distinct.Goals.{in-Some+in_ok-insert+else-not-branch, in_default}

@@ -5,7 +5,7 @@ use Rattle.std.specs.BTreeSet.{contains}
 use Rattle.std.specs.Ordering.{nat_cmp}
 use Rattle.std.specs.Cmp.Lexicographic.{slice_cmp}
 use Rattle.serde_json.specs.View.{items_view}
-use Rattle.unwind_run_document.specs.Commands.{are_distinct, are_new, names_of}
+use Rattle.unwind_run_document.specs.Sections.{are_distinct, are_new, names_of}
 use Rattle.unwind_run_document.proofs.load.are_distinct.Given as goal
 
 abbrev pub invariant-loop-item : goal.invariant-loop-item

@@ -1,7 +1,7 @@
 use Rattle.std.proofs.Common.{Vec, Global, [], ◌∷◌, sym, ap, ◌∙◌}
 use Rattle.std.proofs.lemmas.List.{map-append}
 use Rattle.unwind_run_document.specs.declared.command.StatedSection.{StatedSection as Section}
-use Rattle.unwind_run_document.specs.Commands.{section_in}
+use Rattle.unwind_run_document.specs.Sections.{section_in}
 use Rattle.json_program.specs.Decoded.{result_map}
 use Rattle.unwind_run_document.specs.CommandViews.{section_view, sections_view}
 use Rattle.json_program.proofs.Laws.{keep_fault-decoded}

@@ -1,7 +1,7 @@
 use Rattle.std.proofs.Common.{◌≡◌, drop}
 use Rattle.serde_json.specs.View.{items_view}
 use Rattle.json_program.specs.Json.{list_of}
-use Rattle.unwind_run_document.specs.Commands.{section_in}
+use Rattle.unwind_run_document.specs.Sections.{section_in}
 use Rattle.unwind_run_document.specs.CommandViews.{sections_view}
 use Rattle.json_program.specs.Elements.{so_far, joined}
 use Rattle.unwind_run_document.proofs.load.sections.Given as goal

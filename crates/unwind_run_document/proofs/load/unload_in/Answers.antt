@@ -1,6 +1,6 @@
 use Rattle.std.proofs.Common.{sym, ap, ◌∙◌}
 use Rattle.json_program.specs.Decoded.{result_map}
-use Rattle.unwind_run_document.specs.Commands.{unloading_of}
+use Rattle.unwind_run_document.specs.Loads.{unloading_of}
 use Rattle.unwind_run_document.proofs.Steps.{under}
 use Rattle.unwind_run_document.proofs.Loads.{unload_fields}
 use Rattle.unwind_run_document.proofs.load.unload_in.Goals as goal

@@ -1,6 +1,6 @@
 use Rattle.std.proofs.Common.{sym, ap, ◌∙◌}
 use Rattle.json_program.specs.Faults.{◌>>=◌}
-use Rattle.unwind_run_document.specs.Commands.{stack_at}
+use Rattle.unwind_run_document.specs.Stacks.{stack_at}
 use Rattle.json_program.specs.Decoded.{result_map}
 use Rattle.json_program.proofs.Laws.{keep_fault-decoded, passed_on}
 use Rattle.unwind_run_document.proofs.Steps.{under, two_fields}

@@ -1,5 +1,5 @@
 use Rattle.std.proofs.Common.{sym, ap, ◌∙◌}
-use Rattle.unwind_run_document.specs.Commands.{stepping_of}
+use Rattle.unwind_run_document.specs.Steps.{stepping_of}
 use Rattle.json_program.specs.Decoded.{result_map}
 use Rattle.unwind_run_document.specs.CommandViews.{words_view}
 use Rattle.json_program.proofs.Laws.{keep_fault-decoded, passed_on}

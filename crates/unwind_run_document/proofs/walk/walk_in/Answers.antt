@@ -1,7 +1,7 @@
 use Rattle.std.proofs.Common.{sym, ap, ◌∙◌}
 use Rattle.json_program.proofs.Laws.{keep_fault-decoded, passed_on}
 use Rattle.json_program.specs.Decoded.{result_map}
-use Rattle.unwind_run_document.specs.Commands.{walking_of}
+use Rattle.unwind_run_document.specs.Steps.{walking_of}
 use Rattle.unwind_run_document.specs.CommandViews.{words_view}
 use Rattle.unwind_run_document.proofs.Steps.{under, six_fields}
 use Rattle.unwind_run_document.proofs.walk.walk_in.Goals as goal

@@ -6,7 +6,8 @@ use Rattle.framehop_unwinder.specs.State.{SessionState, empty_state}
 use Rattle.framehop_unwinder.specs.History.{HaveHistories}
 use Rattle.framehop_unwinder.specs.Progress.{IsAt}
 use Rattle.unwind_run_session.specs.Outputs.{IsOutput, beginning}
-use Rattle.unwind_run_document.specs.Commands.{Task, AreSound}
+use Rattle.unwind_run_document.specs.Sound.{AreSound}
+use Rattle.unwind_run_document.specs.Tasks.{Task}
 use Rattle.unwind_run_document.specs.CommandViews.{tasks_of, task_of}
 use Rattle.unwind_run_program.specs.Text.{lines_of, made_in, output_of}
 use Rattle.unwind_run_program.proofs.Runs.{begun_next, next_task, sound_next, written_last, written_next}
