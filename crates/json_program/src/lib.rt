@@ -17,6 +17,6 @@ pub mod writing;
 
 pub use fault::{DecodeError, Fault, FaultName};
 pub use program::Program;
-pub use status::{Ending, RunError};
+pub use status::{Outcome, RunError};
 pub use stream::{Sink, Source, StreamError, Streamed};
 pub use transfer::{DOCUMENT_LIMIT, read_document, write_all};

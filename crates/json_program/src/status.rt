@@ -56,22 +56,22 @@ impl<T: Drop> From<AllocFailed<T>> for RunError {
 
 /// How a run that wrote its whole text ended.
 #[derive(Clone, Copy, Debug, PartialEq, Eq, Hash)]
-pub enum Ending {
+pub enum Outcome {
     /// Each command of the document was run.
     Completed,
     /// The document has a fault, and nothing was run.
     Faulted,
 }
 
-impl Ending {
+impl Outcome {
     /// The exit status of the process.
     pub fn status(self) -> u8
-        ensures completed { self ≡ Ending.Completed → result ≡ 0 }
-        ensures faulted { self ≡ Ending.Faulted → result ≡ 2 }
+        ensures completed { self ≡ Outcome.Completed → result ≡ 0 }
+        ensures faulted { self ≡ Outcome.Faulted → result ≡ 2 }
     {
         match self {
-            Ending::Completed => 0,
-            Ending::Faulted => 2,
+            Outcome::Completed => 0,
+            Outcome::Faulted => 2,
         }
     }
 }

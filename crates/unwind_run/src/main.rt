@@ -6,13 +6,13 @@
 
 use std::io;
 use std::process::ExitCode;
-use unwind_run_program::{Program, Streamed, UnwindCommands};
+use unwind_run_program::{Streamed, run};
 
 fn main(rt: HostRuntime) -> ExitCode {
     let mut source = Streamed::new(rt.reader());
     let mut sink = Streamed::new(io::writer(&rt));
-    match UnwindCommands::run(rt.alloc(), &mut source, &mut sink) {
-        Ok(ending) => ExitCode::from(ending.status()),
+    match run(rt.alloc(), &mut source, &mut sink) {
+        Ok(outcome) => ExitCode::from(outcome.status()),
         Err(_) => ExitCode::FAILURE,
     }
 }

@@ -4,8 +4,8 @@ use Rattle.std.specs.Prelude.{ℕ, Bool, ◌-◌, ◌/◌, ◌%◌, List, [], �
 use Rattle.json_program.specs.Faults.{fault_line}
 use Rattle.json_program.specs.Lines.{line}
 use Rattle.json_program.specs.declared.fault.Fault.{Fault}
-use Rattle.json_program.specs.declared.status.Ending.{Ending}
-use Rattle.json_program.specs.declared.status.Ending.TheVariants.{Completed, Faulted}
+use Rattle.json_program.specs.declared.status.Outcome.{Outcome as RunOutcome}
+use Rattle.json_program.specs.declared.status.Outcome.TheVariants.{Completed, Faulted}
 use Rattle.framehop_registers.specs.Callback.{Words}
 use Rattle.framehop_registers.specs.declared.aarch64.unwindregs.UnwindRegsAarch64.{UnwindRegsAarch64}
 use Rattle.framehop_registers.specs.declared.x86_64.unwindregs.UnwindRegsX86_64.{UnwindRegsX86_64}
@@ -163,10 +163,10 @@ abbrev pub text_of : List ℕ → List ℕ
 text_of bytes = answer_to (content_of bytes)
 
 -- how the run ends
-abbrev pub ending_for : Result Content Fault → Ending
+abbrev pub ending_for : Result Content Fault → RunOutcome
 ending_for (Ok content) = Completed
 ending_for (Err fault) = Faulted
 
 -- how the run of a document ends
-abbrev pub ending_of : List ℕ → Ending
+abbrev pub ending_of : List ℕ → RunOutcome
 ending_of bytes = ending_for (content_of bytes)

@@ -9,5 +9,5 @@ mod program;
 mod roads;
 mod sections;
 
-pub use json_program::{Ending, Program, RunError, Sink, Source, StreamError, Streamed};
-pub use program::UnwindCommands;
+pub use json_program::{Outcome, Program, RunError, Sink, Source, StreamError, Streamed};
+pub use program::{UnwindCommands, run};

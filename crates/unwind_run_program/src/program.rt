@@ -1,6 +1,6 @@
 //! One run of the program: a document in, the text of its commands out.
 
-ghost use Rattle.std.specs.Prelude.{◌≡◌, false};
+ghost use Rattle.std.specs.Prelude.{◌≡◌, false, IfOk, IfSome, IsErrOf};
 ghost use Rattle.json_program.specs.Errors.{ReportsFailures};
 ghost use Rattle.json_program.specs.Stream.{WritesText};
 ghost use Rattle.unwind_run_session.specs.Outputs.{beginning};
@@ -16,7 +16,7 @@ use framehop_modules::Generations;
 use framehop_rules::aarch64::ArchAarch64;
 use framehop_rules::x86_64::ArchX86_64;
 use framehop_unwinder::Session;
-use json_program::{DecodeError, Ending, Program, RunError, Sink, write_all};
+use json_program::{DecodeError, Outcome, Program, RunError, Sink, Source, write_all};
 use std::alloc::Global;
 use unwind_run_document::{Architecture, Command, Document, Policy, decode};
 
@@ -29,28 +29,54 @@ pub struct UnwindCommands;
 impl Program for UnwindCommands {
     ghost use Rattle.unwind_run_program.specs.TooLong.{too_long};
 
-    type Ending = Ending;
+    type Ending = Outcome;
 
     ghost text_of = { text_of };
 
     ghost ending_of = { ending_of };
 
-    fn answer<W: Sink>(alloc: Global, document: &[u8], writer: &mut W) -> Result<Ending, RunError> {
+    fn answer<W: Sink>(
+        alloc: Global,
+        document: &[u8],
+        writer: &mut W,
+    ) -> Result<Outcome, RunError> {
         match decode(alloc, document) {
             Ok(document) => {
                 run_document(alloc, document, writer)?;
-                Ok(Ending::Completed)
+                Ok(Outcome::Completed)
             }
             Err(DecodeError::Fault(fault)) => {
                 let line = format!(in alloc; "{fault}\n")?;
                 write_all(writer, line.as_bytes())?;
-                Ok(Ending::Faulted)
+                Ok(Outcome::Faulted)
             }
             Err(DecodeError::OutOfMemory) => Err(RunError::OutOfMemory),
         }
     }
 
     ghost too_long = { too_long };
+}
+
+/// Reads a document of commands, and writes the text of each command, or the line of the document's fault.
+///
+/// A run that fails has written a prefix of the whole text, and nothing if the document couldn't be
+/// read: `Err(Read)` and `Err(Write)` if and only if reading or writing failed.
+pub fn run<R: Source, W: Sink>(
+    alloc: Global,
+    reader: &mut R,
+    writer: &mut W,
+) -> Result<Outcome, RunError>
+    requires reader { R.has_failed reader.old ≡ false }
+    requires writer { W.has_failed writer.old ≡ false }
+    ensures text { IfSome (R.remaining reader.old) (λ document. WritesText result
+        (W.contents writer.old) (W.contents writer.new) (text_of document)) }
+    ensures outcome { IfOk result (λ outcome.
+        IfSome (R.remaining reader.old) (λ document. outcome ≡ ending_of document)) }
+    ensures errors { ReportsFailures result (R.has_failed reader.new) (W.has_failed writer.new) }
+    ensures unwritten { IsErrOf result RunError.Read
+        → W.contents writer.new ≡ W.contents writer.old }
+{
+    UnwindCommands::run(alloc, reader, writer)
 }
 
 // Carries out a document's commands under its policy.
