@@ -24,9 +24,10 @@ pub fn passed_on_as_decoded<A, B>()
 
 /// The error of one unit is returned as it is, and a unit's value is what is decoded.
 pub fn units_as_decoded<A, B, F>()
-    ensures error { (seen : A → B) (error : DecodeError F) (decoded : Result B F)
-        (answer : Result A (DecodeError F)) → IsErrAnd answer (λ given. given ≡ error)
-        → Decodes seen (Err error) decoded → Decodes seen answer decoded }
+    ensures error { (seen : A → B) (answer : Result A (DecodeError F)) (error : DecodeError F)
+        (decoded : Result B F)
+        → answer ≡ Err error → Decodes seen (Err error) decoded
+        → Decodes seen answer decoded }
     ensures unit { (seen : A → B) (n : ℕ) (answer : Answer A) (decoded : Checked B)
         → Decodes seen answer decoded → Decodes seen (unit_answer n answer) (in_unit n decoded) }
     ensures good { (seen : A → B) (n : ℕ) (answer : Answer A) (decoded : Checked B) (value : A)
