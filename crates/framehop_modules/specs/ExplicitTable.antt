@@ -1,5 +1,5 @@
 -- The sections of a module that are given one by one, by their names.
-use Rattle.std.specs.Prelude.{ℕ, List, Option, Some, None, option_and_then, option_map, codes, bytes_eq, Bool, ◌||◌, if◌then◌else◌}
+use Rattle.std.specs.Prelude.{ℕ, ◌≡◌, List, Option, Some, None, option_and_then, option_map, codes, bytes_eq, Bool, ◌||◌, if◌then◌else◌}
 use Rattle.std.specs.declared.ops.Range.{Range}
 use Rattle.framehop_modules.specs.Sections.{Sections}
 use Rattle.framehop_modules.specs.declared.module_section_info.ExplicitModuleSectionInfo.{ExplicitModuleSectionInfo}
@@ -51,6 +51,10 @@ range_named info name = option_and_then (range_of info) (kind_named name)
 -- the data of the section with a name, if it was not handed out yet
 abbrev pub data_named : {D : Type 0} → ExplicitModuleSectionInfo D → List ℕ → Option D
 data_named info name = option_and_then (data_of info) (kind_named name)
+
+-- the data of the section with a name was handed out: no name of the section has data any more
+abbrev pub IsGiven : {D : Type 0} → List ℕ → ExplicitModuleSectionInfo D → Type 0
+IsGiven name info = (other : List ℕ) → kind_named other ≡ kind_named name → data_named info other ≡ None
 
 -- the only segment that is asked for
 abbrev pub text_segment : List ℕ

@@ -1,8 +1,8 @@
 //! Where the sections of a module come from.
 
-ghost use Rattle.std.specs.Prelude.{◌≡◌, IfSome, IfNone, option_map};
+ghost use Rattle.std.specs.Prelude.{◌≡◌, IfSome, IfNone, None, option_map};
 ghost use Rattle.framehop_modules.specs.Sections.{Sections, SectionLeft, SegmentLeft};
-ghost use Rattle.framehop_modules.specs.ExplicitTable.{kind_named, is_either};
+ghost use Rattle.framehop_modules.specs.ExplicitTable.{kind_named, is_either, IsGiven};
 
 use crate::section_bytes::SectionBytes;
 use std::ops::Range;
@@ -196,7 +196,13 @@ impl<D: SectionBytes> ModuleSectionInfo<D> for ExplicitModuleSectionInfo<D> {
         }
     }
 
-    fn section_data(&mut self, name: &[u8]) -> Option<D> {
+    fn section_data(&mut self, name: &[u8]) -> Option<D>
+        ensures data_ { option_map D.content result ≡ (sections_given D.content self.old).section_data name.now }
+        ensures given { IfSome result (λ _.
+            SectionLeft name.now (sections_given D.content self.old) (sections_given D.content self.new)) }
+        ensures none { IfNone result (sections_given D.content self.new ≡ sections_given D.content self.old) }
+        ensures once { IfSome result (λ _. IsGiven name.now self.new) }
+    {
         match SectionKind::named(name)? {
             SectionKind::Text => self.text.take(),
             SectionKind::EhFrame => self.eh_frame.take(),
@@ -215,7 +221,13 @@ impl<D: SectionBytes> ModuleSectionInfo<D> for ExplicitModuleSectionInfo<D> {
         }
     }
 
-    fn segment_data(&mut self, name: &[u8]) -> Option<D> {
+    fn segment_data(&mut self, name: &[u8]) -> Option<D>
+        ensures data_ { option_map D.content result ≡ (sections_given D.content self.old).segment_data name.now }
+        ensures given { IfSome result (λ _.
+            SegmentLeft name.now (sections_given D.content self.old) (sections_given D.content self.new)) }
+        ensures none { IfNone result (sections_given D.content self.new ≡ sections_given D.content self.old) }
+        ensures once { IfSome result (λ _. self.new.text_segment ≡ None) }
+    {
         if name == b"__TEXT".as_slice() {
             self.text_segment.take()
         } else {

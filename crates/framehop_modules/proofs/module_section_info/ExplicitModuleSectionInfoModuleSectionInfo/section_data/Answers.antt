@@ -1,4 +1,4 @@
-use Rattle.std.proofs.Common.{◌∙◌, ap, sym, refl, Some, None}
+use Rattle.std.proofs.Common.{◌∙◌, ap, sym, refl, Some}
 use Rattle.std.specs.Prelude.{option_map}
 use Rattle.framehop_modules.specs.ExplicitTable.{kind_named}
 use Rattle.framehop_modules.proofs.ExplicitTable.{apart, in_any_case, text-apart, eh_frame-apart, eh_frame_hdr-apart, debug_frame-apart, unwind_info-apart}
