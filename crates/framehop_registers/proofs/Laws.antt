@@ -1,7 +1,7 @@
 -- Laws of pop lists, and of calls that may read the stack. Each is the contract of a function of the crate.
-use Rattle.std.proofs.Common.{◌≡◌, ℕ, ◌<◌, ◌^◌, [], ◌∷◌, refl}
+use Rattle.std.proofs.Common.{◌≡◌, ℕ, ◌<◌, ◌^◌, List, [], ◌∷◌, ◌++◌, refl, sym, subst}
 use Rattle.std.specs.Prelude.{Result}
-use Rattle.framehop_registers.specs.Callback.{Words, read_answer, OverWords}
+use Rattle.framehop_registers.specs.Callback.{Words, read_answer, OverWords, Leads}
 pub use Rattle.framehop_registers.proofs.OrderNumbers.{pop_list-begins, pop_list-fits, pop_list-order_number, order-pop_list, order_number-pop_list, same_order}
 
 module _ {S : Type 0} {step : S → ℕ → Result ℕ (Unit {0}) → S → Type 0} where
@@ -29,3 +29,15 @@ module _ {S : Type 0} {step : S → ℕ → Result ℕ (Unit {0}) → S → Type
     said = λ words answers. follows words (first.said words answers) (second.said words (first.still words answers));
     still = λ words answers. second.still words (first.still words answers);
   }
+
+-- one read
+pub leads_one : {S : Type 0} (step : S → ℕ → Result ℕ (Unit {0}) → S → Type 0) (old new : S) (at : ℕ) (r : Result ℕ (Unit {0}))
+    → at < 2 ^ 64 → step old at r new → Leads step old (at ∷ []) new
+leads_one step old new at r fits call = (fits, r, new, call, refl)
+
+-- reads, and then more of them
+pub leads_both : {S : Type 0} (step : S → ℕ → Result ℕ (Unit {0}) → S → Type 0) (reads more : List ℕ) (old mid new : S)
+    → Leads step old reads mid → Leads step mid more new → Leads step old (reads ++ more) new
+leads_both step [] more old mid new first second = subst (λ s. Leads step s more new) (sym first) second
+leads_both step (at ∷ reads) more old mid new (fits, r, next, call, first) second =
+    (fits, r, next, call, leads_both step reads more next mid new first second)

@@ -28,3 +28,8 @@ pub record OverWords {S : Type 0} (step : S → ℕ → Result ℕ (Unit {0}) �
     (Statement : Words → Type 0) : Type 0 where
   pub said : (words : Words) → AnswersBy step old words → Statement words
   pub still : (words : Words) → AnswersBy step old words → AnswersBy step new words
+
+-- A call took the callback from `old` to `new`. Over all words that the callback answered by, it read exactly these
+-- addresses, one after the other.
+abbrev pub ReadsOverWords : {S : Type 0} → (S → ℕ → Result ℕ (Unit {0}) → S → Type 0) → S → S → (Words → List ℕ) → Type 0
+ReadsOverWords step old new reads = (words : Words) → AnswersBy step old words → Leads step old (reads words) new

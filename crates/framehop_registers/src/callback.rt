@@ -1,8 +1,8 @@
 //! Laws of calls that may read the stack. The functions do nothing when the program runs: what they
 //! ensure is what proofs over several reads stand on.
 
-ghost use Rattle.std.specs.Prelude.{◌≡◌, ◌<◌, ◌^◌, ℕ, Result};
-ghost use Rattle.framehop_registers.specs.Callback.{Words, read_answer, OverWords};
+ghost use Rattle.std.specs.Prelude.{◌≡◌, ◌<◌, ◌^◌, ℕ, List, [], ◌∷◌, ◌++◌, Result};
+ghost use Rattle.framehop_registers.specs.Callback.{Words, read_answer, OverWords, Leads};
 
 /// A statement about the words of a stack.
 pub trait Statement {
@@ -33,4 +33,13 @@ pub fn calls_over_words<
         → OverWords F.step old mid P.holds → OverWords F.step mid new Q.holds
         → ((words : Words) → P.holds words → Q.holds words → R.holds words)
         → OverWords F.step old new R.holds }
+{}
+
+/// The addresses that one read has, and two calls one after the other.
+pub fn reads_in_order<F: FnMut(u64) -> Result<u64, ()>>()
+    ensures one { (old new : F) (at : ℕ) (r : Result ℕ (Unit {0}))
+        → at < 2 ^ 64 → F.step old at r new → Leads F.step old (at ∷ []) new }
+    ensures both { (old mid new : F) (reads more : List ℕ)
+        → Leads F.step old reads mid → Leads F.step mid more new
+        → Leads F.step old (reads ++ more) new }
 {}

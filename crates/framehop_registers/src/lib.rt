@@ -10,7 +10,7 @@ mod error;
 pub mod x86_64;
 
 pub use add_signed::{AddSigned, checked_add_signed, wrapping_add_signed};
-pub use callback::{Statement, calls_over_words, one_read_over_words};
+pub use callback::{Statement, calls_over_words, one_read_over_words, reads_in_order};
 pub use code_address::FrameAddress;
 pub use display_utils::HexNum;
 pub use error::Error;

@@ -1,5 +1,6 @@
 mod LastKept
 mod Parts
+mod PopReads
 mod PopSteps
 mod StackPointer
 mod StackPointerAarch64

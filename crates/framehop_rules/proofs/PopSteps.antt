@@ -85,7 +85,7 @@ pop-parts (Answers value) (Refuses error) one rest third last same = refl
 pop-parts (Answers value) (Answers next) one rest third last same =
     same value next ∙ sym (and_then-assoc (third next) (λ read. Answers (value ∷ read.0, read.1)) last)
 
-pops-by-words : (list : List Reg) (registers : UnwindRegsX86_64) (words : Words) (at : ℕ) → HasAllRegisters registers → All NotSp list
+pub pops-by-words : (list : List Reg) (registers : UnwindRegsX86_64) (words : Words) (at : ℕ) → HasAllRegisters registers → All NotSp list
     → registers_after_pops list (with_register registers RSP at) words
     ≡ and_then (words_from words (length list) at) (λ read. Answers (with_register (with_values registers list read.0) RSP read.1))
 unfolding words_from

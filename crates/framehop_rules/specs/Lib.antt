@@ -4,6 +4,8 @@ pub mod Outcome
 pub mod Pops
 pub mod RuleMeaning
 pub mod RuleMeaningAarch64
+pub mod RuleReads
+pub mod RuleReadsAarch64
 pub mod SequenceViews
 pub mod Sequences
 pub mod Slots

@@ -1,5 +1,5 @@
 -- The outcome of executing an unwind rule, on any architecture.
-use Rattle.std.specs.Prelude.{ℕ, ◌≡◌, ◌^◌, ℤ, pos, negsuc, nat_lt, if◌then◌else◌, Option, Some, None, Result, Ok, Err, OnErr}
+use Rattle.std.specs.Prelude.{ℕ, ◌≡◌, ◌^◌, ℤ, pos, negsuc, nat_lt, if◌then◌else◌, List, [], Option, Some, None, Result, Ok, Err, OnErr}
 use Rattle.framehop_registers.specs.Callback.{Words}
 use Rattle.framehop_registers.specs.declared.error.Error.{Error}
 use Rattle.framehop_registers.specs.declared.error.Error.TheVariants.{CouldNotReadStack, FramepointerUnwindingMovedBackwards, DidNotAdvance, IntegerOverflow, ReturnAddressIsNull, OutOfMemory}
@@ -15,6 +15,12 @@ abbrev pub and_then : {A B : Type 0} → Outcome A → (A → Outcome B) → Out
 and_then Ends next = Ends
 and_then (Refuses error) next = Refuses error
 and_then (Answers value) next = next value
+
+-- The addresses that are read after a part of a rule: none, unless that part gives a value.
+abbrev pub if_answered : {A : Type 0} → Outcome A → (A → List ℕ) → List ℕ
+if_answered Ends reads = []
+if_answered (Refuses error) reads = []
+if_answered (Answers value) reads = reads value
 
 -- An address from 0 to 2^64 - 1; any other number is an overflow.
 abbrev pub address : ℤ → Outcome ℕ

@@ -1,7 +1,7 @@
 //! What the unwind rules of every architecture have.
 
-ghost use Rattle.std.specs.Prelude.{◌≡◌, ◌↔◌, ◌*◌, pos, ◌+ℤ◌, ℕ, Bool, Option, IsTrue, IfErr};
-ghost use Rattle.framehop_registers.specs.Callback.{Words, OverWords};
+ghost use Rattle.std.specs.Prelude.{◌≡◌, ◌↔◌, ◌*◌, pos, ◌+ℤ◌, ℕ, Bool, List, [], ◌∷◌, Option, IsTrue, IfErr};
+ghost use Rattle.framehop_registers.specs.Callback.{Words, OverWords, ReadsOverWords, Leads};
 ghost use Rattle.framehop_rules.specs.Outcome.{Outcome, Caller, IsStep, StaysUnlessAnswered, outcome_of, address, word, IsOfRule};
 
 use framehop_registers::Error;
@@ -16,6 +16,8 @@ pub trait UnwindRule: Copy + Debug {
 
     ghost meaning: { Self → Bool → Self.UnwindRegs → Words → Outcome (Caller Self.UnwindRegs) };
 
+    ghost reads: { Self → Bool → Self.UnwindRegs → Words → List ℕ };
+
     ghost stub_rule: { Self };
 
     ghost start_rule: { Self };
@@ -29,7 +31,8 @@ pub trait UnwindRule: Copy + Debug {
 
     /// Makes the step from a frame with these registers: returns the return address and leaves the
     /// caller's registers, or returns `None` at the end of the stack. `None` and an error leave the
-    /// registers as they were. `read_stack` reads a word of the stack at an address.
+    /// registers as they were. `read_stack` reads a word of the stack at an address; no word is read but those
+    /// that the rule names, each once.
     fn exec<F: FnMut(u64) -> Result<u64, ()>>(
         self,
         is_first_frame: bool,
@@ -41,6 +44,8 @@ pub trait UnwindRule: Copy + Debug {
         ensures callable { F.IsAlwaysCallable read_stack.new }
         ensures step { OverWords F.step read_stack.old read_stack.new (λ words.
             IsStep result regs.old regs.new (meaning self is_first_frame regs.old words)) }
+        ensures order { ReadsOverWords F.step read_stack.old read_stack.new
+            (reads self is_first_frame regs.old) }
         ensures stays { StaysUnlessAnswered result regs.old regs.new }
         ensures refusals { IfErr result IsOfRule };
 
@@ -70,6 +75,7 @@ pub(crate) fn read_word<F: FnMut(u64) -> Result<u64, ()>>(
     ensures callable { F.IsAlwaysCallable read_stack.new }
     ensures word { OverWords F.step read_stack.old read_stack.new (λ words.
         outcome_of result ≡ word words at) }
+    ensures order { Leads F.step read_stack.old (at ∷ []) read_stack.new }
     ensures refusals { IfErr result IsOfRule }
 {
     match read_stack(at) {

@@ -1,9 +1,10 @@
 //! The unwind rules of aarch64, and their execution.
 
 ghost use Rattle.std.specs.Prelude.{◌≡◌, ◌*◌, IfErr, OnErr};
-ghost use Rattle.framehop_registers.specs.Callback.{OverWords};
+ghost use Rattle.framehop_registers.specs.Callback.{OverWords, ReadsOverWords, Leads};
 ghost use Rattle.framehop_rules.specs.Outcome.{outcome_of, outcome_or_end_of, IsOfRule};
 ghost use Rattle.framehop_rules.specs.RuleMeaningAarch64.{raised_frame, frame_with_stored_lr, stored_word, stored_frame, if_above, if_chained, moves, return_address, rule_meaning, IsValid};
+ghost use Rattle.framehop_rules.specs.RuleReadsAarch64.{reads_of_stored_word, reads_of_stored_lr, reads_of_stored_frame, rule_reads};
 ghost use Rattle.framehop_rules.specs.declared.aarch64.unwind_rule.UnwindRuleAarch64.TheVariants.{NoOp, UseFramePointer};
 
 use crate::unwind_rule::{UnwindRule, address_above, address_at_offset, bytes_of, read_word};
@@ -91,6 +92,7 @@ fn read_stored<F: FnMut(u64) -> Result<u64, ()>>(
     ensures callable { F.IsAlwaysCallable read_stack.new }
     ensures word { OverWords F.step read_stack.old read_stack.new (λ words.
         outcome_of result ≡ stored_word words base offset) }
+    ensures order { Leads F.step read_stack.old (reads_of_stored_word base offset) read_stack.new }
     ensures refusals { IfErr result IsOfRule }
 {
     let at = address_at_offset(base, i64::from(offset) * 8)?;
@@ -110,6 +112,8 @@ fn raise_sp_and_restore_lr<F: FnMut(u64) -> Result<u64, ()>>(
     ensures callable { F.IsAlwaysCallable read_stack.new }
     ensures moves { OverWords F.step read_stack.old read_stack.new (λ words.
         outcome_of result ≡ frame_with_stored_lr regs.now words bytes lr_offset) }
+    ensures order { Leads F.step read_stack.old
+        (reads_of_stored_lr regs.now bytes lr_offset) read_stack.new }
     ensures refusals { IfErr result IsOfRule }
 {
     let (_, sp, fp) = raise_sp(regs, bytes)?;
@@ -131,6 +135,8 @@ fn restore_fp_and_lr<F: FnMut(u64) -> Result<u64, ()>>(
     ensures callable { F.IsAlwaysCallable read_stack.new }
     ensures moves { OverWords F.step read_stack.old read_stack.new (λ words.
         outcome_of result ≡ stored_frame words base bytes fp_offset lr_offset) }
+    ensures order { ReadsOverWords F.step read_stack.old read_stack.new (λ words.
+        reads_of_stored_frame words base bytes fp_offset lr_offset) }
     ensures refusals { IfErr result IsOfRule }
 {
     let sp = address_above(base, bytes)?;
@@ -206,6 +212,8 @@ impl UnwindRuleAarch64 {
         ensures callable { F.IsAlwaysCallable read_stack.new }
         ensures moves { OverWords F.step read_stack.old read_stack.new (λ words.
             outcome_or_end_of result ≡ moves self is_first_frame regs.now words) }
+        ensures order { ReadsOverWords F.step read_stack.old read_stack.new
+            (rule_reads self is_first_frame regs.now) }
         ensures refusals { IfErr result IsOfRule }
     {
         match self {
@@ -269,6 +277,8 @@ impl UnwindRule for UnwindRuleAarch64 {
     ghost is_valid = { IsValid };
 
     ghost meaning = { rule_meaning };
+
+    ghost reads = { rule_reads };
 
     ghost stub_rule = { NoOp };
 

@@ -1,11 +1,12 @@
 //! Registers that take words from the stack.
 
 ghost use Rattle.std.specs.Prelude.{◌≡◌, ◌<◌, ◌≤◌, Bool, IfErr, length};
-ghost use Rattle.framehop_registers.specs.Callback.{OverWords};
+ghost use Rattle.framehop_registers.specs.Callback.{OverWords, ReadsOverWords};
 ghost use Rattle.framehop_rules.specs.Outcome.{outcome_of, Answers, and_then, IsOfRule, IsStep, StaysUnlessAnswered};
 ghost use Rattle.framehop_registers.specs.PopLists.{order_count};
 ghost use Rattle.framehop_rules.specs.Pops.{words_from};
 ghost use Rattle.framehop_rules.specs.RuleMeaning.{rule_meaning};
+ghost use Rattle.framehop_rules.specs.RuleReads.{reads_of_pops, rule_reads};
 ghost use Rattle.framehop_rules.specs.declared.x86_64.unwind_rule.UnwindRuleX86_64.TheVariants.{OffsetSpAndPopRegisters};
 
 use crate::unwind_rule::{address_above, bytes_of, read_word};
@@ -24,6 +25,8 @@ fn read_words<F: FnMut(u64) -> Result<u64, ()>>(
     ensures read { OverWords F.step read_stack.old read_stack.new (λ stack.
         and_then (outcome_of result) (λ behind. Answers (words.new, behind))
         ≡ words_from stack (length words.old) from) }
+    ensures order { ReadsOverWords F.step read_stack.old read_stack.new (λ stack.
+        reads_of_pops stack (length words.old) from) }
     ensures refusals { IfErr result IsOfRule }
 {
     let mut at = from;
@@ -51,6 +54,9 @@ pub(crate) fn pop_and_return<F: FnMut(u64) -> Result<u64, ()>>(
     ensures step { (is_first : Bool) → OverWords F.step read_stack.old read_stack.new (λ stack.
         let rule = OffsetSpAndPopRegisters sp_offset_by_8 register_count encoded_ordering in
         IsStep result regs.old regs.new (rule_meaning rule is_first regs.old stack)) }
+    ensures order { (is_first : Bool) → ReadsOverWords F.step read_stack.old read_stack.new
+        (rule_reads (OffsetSpAndPopRegisters sp_offset_by_8 register_count encoded_ordering)
+        is_first regs.old) }
     ensures stays { StaysUnlessAnswered result regs.old regs.new }
     ensures refusals { IfErr result IsOfRule }
 {

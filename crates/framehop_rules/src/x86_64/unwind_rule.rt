@@ -1,9 +1,10 @@
 //! The unwind rules of x86_64, and their execution.
 
-ghost use Rattle.std.specs.Prelude.{◌≡◌, ◌*◌, ◌<◌, ◌^◌, pos, ◌*ℤ◌, ◌+ℤ◌, IfErr};
-ghost use Rattle.framehop_registers.specs.Callback.{OverWords};
+ghost use Rattle.std.specs.Prelude.{◌≡◌, ◌*◌, ◌<◌, ◌^◌, pos, ◌*ℤ◌, ◌+ℤ◌, [], ◌∷◌, IfErr};
+ghost use Rattle.framehop_registers.specs.Callback.{OverWords, ReadsOverWords, Leads};
 ghost use Rattle.framehop_rules.specs.Outcome.{outcome_of, outcome_or_end_of, and_then, address, IsOfRule, IsStep, StaysUnlessAnswered};
 ghost use Rattle.framehop_rules.specs.RuleMeaning.{raised_frame, by_frame_pointer, stored_bp, restored_frame, moves, return_address, returned_caller, rule_meaning, IsValid};
+ghost use Rattle.framehop_rules.specs.RuleReads.{reads_by_frame_pointer, reads_of_stored_bp, reads_of_moves, reads_of_return, reads_after_pops, rule_reads};
 ghost use Rattle.framehop_rules.specs.declared.x86_64.unwind_rule.UnwindRuleX86_64.TheVariants.{JustReturn, UseFramePointer};
 
 use crate::unwind_rule::{UnwindRule, address_above, address_at_offset, bytes_of, read_word};
@@ -77,6 +78,7 @@ fn follow_frame_pointer<F: FnMut(u64) -> Result<u64, ()>>(
     ensures callable { F.IsAlwaysCallable read_stack.new }
     ensures moves { OverWords F.step read_stack.old read_stack.new (λ words.
         outcome_of result ≡ by_frame_pointer regs.now words) }
+    ensures order { Leads F.step read_stack.old (reads_by_frame_pointer regs.now) read_stack.new }
     ensures refusals { IfErr result IsOfRule }
 {
     let bp = regs.bp();
@@ -104,6 +106,7 @@ fn read_stored_bp<F: FnMut(u64) -> Result<u64, ()>>(
     ensures callable { F.IsAlwaysCallable read_stack.new }
     ensures bp { OverWords F.step read_stack.old read_stack.new (λ words.
         outcome_of result ≡ stored_bp is_first_frame regs.now words at) }
+    ensures order { Leads F.step read_stack.old (at ∷ []) read_stack.new }
     ensures refusals { IfErr result IsOfRule }
 {
     match read_word(read_stack, at) {
@@ -132,6 +135,8 @@ fn raise_sp_and_restore_bp<F: FnMut(u64) -> Result<u64, ()>>(
     ensures callable { F.IsAlwaysCallable read_stack.new }
     ensures moves { OverWords F.step read_stack.old read_stack.new (λ words.
         outcome_of result ≡ restored_frame is_first_frame regs.now words bytes bp_offset) }
+    ensures order { Leads F.step read_stack.old
+        (reads_of_stored_bp regs.now bytes bp_offset) read_stack.new }
     ensures refusals { IfErr result IsOfRule }
 {
     let (new_sp, _) = raise_sp(regs, bytes)?;
@@ -151,6 +156,7 @@ fn read_return_address<F: FnMut(u64) -> Result<u64, ()>>(
     ensures callable { F.IsAlwaysCallable read_stack.new }
     ensures address { OverWords F.step read_stack.old read_stack.new (λ words.
         outcome_or_end_of result ≡ return_address regs.now words new_sp) }
+    ensures order { Leads F.step read_stack.old (reads_of_return new_sp) read_stack.new }
     ensures refusals { IfErr result IsOfRule }
 {
     let location = new_sp.checked_sub(8).ok_or(Error::IntegerOverflow)?;
@@ -177,6 +183,8 @@ impl UnwindRuleX86_64 {
         ensures callable { F.IsAlwaysCallable read_stack.new }
         ensures moves { OverWords F.step read_stack.old read_stack.new (λ words.
             outcome_or_end_of result ≡ moves self is_first_frame regs.now words) }
+        ensures order { Leads F.step read_stack.old
+            (reads_of_moves self is_first_frame regs.now) read_stack.new }
         ensures refusals { IfErr result IsOfRule }
     {
         match self {
@@ -229,6 +237,8 @@ impl UnwindRuleX86_64 {
             IsStep result regs.old regs.new
             (and_then (moves self is_first_frame regs.old words)
             (returned_caller regs.old words))) }
+        ensures order { ReadsOverWords F.step read_stack.old read_stack.new
+            (reads_after_pops self is_first_frame regs.old) }
         ensures stays { StaysUnlessAnswered result regs.old regs.new }
         ensures refusals { IfErr result IsOfRule }
     {
@@ -251,6 +261,8 @@ impl UnwindRule for UnwindRuleX86_64 {
     ghost is_valid = { IsValid };
 
     ghost meaning = { rule_meaning };
+
+    ghost reads = { rule_reads };
 
     ghost stub_rule = { JustReturn };
 

@@ -1,19 +1,21 @@
-use Rattle.std.proofs.Common.{◌≡◌, ◌∙◌, ℕ, ◌*◌, ◌==◌, List, length, ap, sym, rules}
+use Rattle.std.proofs.Common.{◌≡◌, ◌∙◌, ℕ, ◌*◌, ◌==◌, List, length, [], ◌∷◌, ap, sym, refl, subst, rules}
 use Rattle.std.specs.Prelude.{pos, ◌+ℤ◌, if◌then◌else◌}
 use Rattle.std.proofs.lemmas.Result.{err_from_is_err_and}
-use Rattle.framehop_registers.specs.Callback.{Words}
+use Rattle.framehop_registers.specs.Callback.{Words, Leads}
 use Rattle.framehop_registers.specs.PopLists.{pop_list}
 use Rattle.framehop_registers.specs.Registers.{sp_of, with_ip, with_register, with_values}
 use Rattle.framehop_registers.specs.declared.x86_64.unwindregs.Reg.TheVariants.{RSP}
 use Rattle.framehop_registers.specs.declared.x86_64.unwindregs.UnwindRegsX86_64.{UnwindRegsX86_64}
 use Rattle.framehop_registers.proofs.Laws.{over_weaker, over_both}
-use Rattle.framehop_rules.specs.Outcome.{Outcome, Ends, Refuses, Answers, Caller, and_then, address, word, answer_of_outcome, registers_after}
+use Rattle.framehop_rules.specs.Outcome.{Outcome, Ends, Refuses, Answers, Caller, and_then, if_answered, address, word, answer_of_outcome, registers_after}
 use Rattle.framehop_rules.specs.Pops.{words_from}
 use Rattle.framehop_rules.specs.RuleMeaning.{rule_meaning}
 use Rattle.framehop_rules.specs.declared.x86_64.unwind_rule.UnwindRuleX86_64.TheVariants.{OffsetSpAndPopRegisters}
 use Rattle.framehop_rules.proofs.Parts.{equal, unequal}
+use Rattle.framehop_rules.proofs.PopReads.{pop-leads}
 use Rattle.framehop_rules.proofs.PopSteps.{step_by_words, pops-mean}
 use Rattle.framehop_rules.proofs.x86_64.pops.pop_and_return.Goals as goal
+use Rattle.framehop_rules.proofs.x86_64.pops.pop_and_return.Given as given
 
 -- the caller, once all words are read
 abbrev caller_with : UnwindRegsX86_64 → ℕ → ℕ → List ℕ → ℕ → ℕ → Caller UnwindRegsX86_64
@@ -111,3 +113,42 @@ returns-clause-step g c is_first =
           (ap (λ n. with_register (with_ip (with_values a.regs.now (pop_list n a.encoded_ordering) c.read_words.new.words) to) RSP c.in_ok-new_sp.new_sp) size
           ∙ ap (registers_after a.regs.now) answers);
     })
+
+pub returns-in_err-behind-clause-order : goal.returns-in_err-behind-clause-order
+returns-in_err-behind-clause-order g c is_first = λ stack answers.
+    let a = c.args in
+    pop-leads a.sp_offset_by_8 a.register_count a.encoded_ordering is_first a.regs.now stack c.has_all_registers.ensures c.requires.count c.requires.number (given.F-step g) a.read_stack.now c.read_words.new.read_stack c.read_words.new.read_stack
+    c.sp.result c.bytes_of.result c.in_ok-from.from _ (Refuses c.in_err-behind.field-0.0)
+    c.sp.ensures c.bytes_of.ensures c.in_ok-from.ensures.sum (search rules) (c.in_err-behind.ensures.read.said stack answers) (c.in_err-behind.ensures.order stack answers) refl
+
+pub returns-in_err-new_sp-clause-order : goal.returns-in_err-new_sp-clause-order
+returns-in_err-new_sp-clause-order g c is_first = λ stack answers.
+    let a = c.args in
+    pop-leads a.sp_offset_by_8 a.register_count a.encoded_ordering is_first a.regs.now stack c.has_all_registers.ensures c.requires.count c.requires.number (given.F-step g) a.read_stack.now c.read_words.new.read_stack c.read_words.new.read_stack
+    c.sp.result c.bytes_of.result c.in_ok-from.from _ (Answers (c.read_words.new.words, c.in_ok-behind.behind))
+    c.sp.ensures c.bytes_of.ensures c.in_ok-from.ensures.sum (search rules) (c.in_ok-behind.ensures.read.said stack answers) (c.in_ok-behind.ensures.order stack answers)
+    (subst (λ o. Leads (given.F-step g) c.read_words.new.read_stack (if_answered o (λ sp. c.in_ok-behind.behind ∷ [])) c.read_words.new.read_stack) (c.in_err-new_sp.ensures.sum) refl)
+
+pub returns-in_err-return_address-clause-order : goal.returns-in_err-return_address-clause-order
+returns-in_err-return_address-clause-order g c is_first = λ stack answers.
+    let a = c.args in
+    pop-leads a.sp_offset_by_8 a.register_count a.encoded_ordering is_first a.regs.now stack c.has_all_registers.ensures c.requires.count c.requires.number (given.F-step g) a.read_stack.now c.read_words.new.read_stack c.read_word.new.read_stack
+    c.sp.result c.bytes_of.result c.in_ok-from.from _ (Answers (c.read_words.new.words, c.in_ok-behind.behind))
+    c.sp.ensures c.bytes_of.ensures c.in_ok-from.ensures.sum (search rules) (c.in_ok-behind.ensures.read.said stack answers) (c.in_ok-behind.ensures.order stack answers)
+    (subst (λ o. Leads (given.F-step g) c.read_words.new.read_stack (if_answered o (λ sp. c.in_ok-behind.behind ∷ [])) c.read_word.new.read_stack) (c.in_ok-new_sp.ensures.sum) c.in_err-return_address.ensures.order)
+
+pub returns-then-return_address-eq0-clause-order : goal.returns-then-return_address-eq0-clause-order
+returns-then-return_address-eq0-clause-order g c is_first = λ stack answers.
+    let a = c.args in
+    pop-leads a.sp_offset_by_8 a.register_count a.encoded_ordering is_first a.regs.now stack c.has_all_registers.ensures c.requires.count c.requires.number (given.F-step g) a.read_stack.now c.read_words.new.read_stack c.read_word.new.read_stack
+    c.sp.result c.bytes_of.result c.in_ok-from.from _ (Answers (c.read_words.new.words, c.in_ok-behind.behind))
+    c.sp.ensures c.bytes_of.ensures c.in_ok-from.ensures.sum (search rules) (c.in_ok-behind.ensures.read.said stack answers) (c.in_ok-behind.ensures.order stack answers)
+    (subst (λ o. Leads (given.F-step g) c.read_words.new.read_stack (if_answered o (λ sp. c.in_ok-behind.behind ∷ [])) c.read_word.new.read_stack) (c.in_ok-new_sp.ensures.sum) c.in_ok-return_address.ensures.order)
+
+pub returns-clause-order : goal.returns-clause-order
+returns-clause-order g c is_first = λ stack answers.
+    let a = c.args in
+    pop-leads a.sp_offset_by_8 a.register_count a.encoded_ordering is_first a.regs.now stack c.has_all_registers.ensures c.requires.count c.requires.number (given.F-step g) a.read_stack.now c.read_words.new.read_stack c.read_word.new.read_stack
+    c.sp.result c.bytes_of.result c.in_ok-from.from _ (Answers (c.read_words.new.words, c.in_ok-behind.behind))
+    c.sp.ensures c.bytes_of.ensures c.in_ok-from.ensures.sum (search rules) (c.in_ok-behind.ensures.read.said stack answers) (c.in_ok-behind.ensures.order stack answers)
+    (subst (λ o. Leads (given.F-step g) c.read_words.new.read_stack (if_answered o (λ sp. c.in_ok-behind.behind ∷ [])) c.read_word.new.read_stack) (c.in_ok-new_sp.ensures.sum) c.in_ok-return_address.ensures.order)

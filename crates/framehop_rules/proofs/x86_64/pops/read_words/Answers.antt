@@ -1,14 +1,17 @@
-use Rattle.std.proofs.Common.{◌≡◌, ◌∙◌, ℕ, suc, ◌+◌, ◌-◌, ◌<◌, ◌≤◌, List, [], ◌∷◌, ◌++◌, length, set, take, append_assoc, append-nil, ap, sym, arith}
+use Rattle.std.proofs.Common.{◌≡◌, ◌∙◌, ℕ, suc, ◌+◌, ◌-◌, ◌<◌, ◌≤◌, List, [], ◌∷◌, ◌++◌, length, set, take, append_assoc, append-nil, ap, sym, refl, subst, arith}
 use Rattle.std.specs.Prelude.{pos, ◌+ℤ◌}
 use Rattle.std.proofs.lemmas.List.{take_all, take_more_set}
 use Rattle.std.proofs.lemmas.Result.{err_from_is_err_and}
-use Rattle.framehop_registers.specs.Callback.{Words}
+use Rattle.framehop_registers.specs.Callback.{Words, Leads}
 use Rattle.framehop_registers.specs.declared.error.Error.{Error}
-use Rattle.framehop_registers.proofs.Laws.{over_weaker, over_both}
+use Rattle.framehop_registers.proofs.Laws.{over_weaker, over_both, leads_both}
 use Rattle.framehop_rules.specs.Outcome.{Outcome, Refuses, Answers, and_then, address, word}
 use Rattle.framehop_rules.specs.Pops.{words_from}
+use Rattle.framehop_rules.specs.RuleReads.{reads_of_pops}
 use Rattle.framehop_rules.proofs.Parts.{and_then-assoc, and_then-same}
+use Rattle.framehop_rules.proofs.PopReads.{reads_more, reads_refused, reads_at_the_end, reads_done}
 use Rattle.framehop_rules.proofs.x86_64.pops.read_words.Goals as goal
+use Rattle.framehop_rules.proofs.x86_64.pops.read_words.Given as given
 
 abbrev Read : Type 0
 Read = List ℕ × ℕ
@@ -91,9 +94,40 @@ loop-word-preserved g c =
       callable = c.in_ok-word.ensures.callable;
       read = over_both l.invariant.read c.in_ok-word.ensures.word (λ stack so_far reads.
           more stack (length c.args.words.now) l.word-index l.at c.in_ok-word.field-0 c.in_ok-at.at l.words _ (omega arith) (omega arith) reads c.in_ok-at.ensures.sum so_far);
+      order = λ stack answers last rest. l.invariant.order stack answers last
+          (subst (λ reads. Leads (given.F-step g) l.read_stack reads last)
+          (reads_more stack (length c.args.words.now) l.word-index l.at c.in_ok-word.field-0 c.in_ok-at.at (omega arith)
+          (c.in_ok-word.ensures.word.said stack (l.invariant.read.still stack answers)) c.in_ok-at.ensures.sum)
+          (leads_both (given.F-step g) (l.at ∷ []) (reads_of_pops stack (length c.args.words.now - (l.word-index + 1)) c.in_ok-at.at) l.read_stack c.read_word.new.read_stack last c.in_ok-word.ensures.order rest));
     }
 
 pub returns-clause-read : goal.returns-clause-read
 returns-clause-read g c =
     let l = c.loop-word in
     over_weaker l.invariant.read (λ stack so_far. done stack (length c.args.words.now) l.word-index l.at l.words _ (omega arith) (omega arith) so_far)
+
+pub returns-in_err-word-clause-order : goal.returns-in_err-word-clause-order
+returns-in_err-word-clause-order g c =
+    let l = c.loop-word in
+    λ stack answers. l.invariant.order stack answers c.read_word.new.read_stack
+    (subst (λ reads. Leads (given.F-step g) l.read_stack reads c.read_word.new.read_stack)
+    (reads_refused stack (length c.args.words.now) l.word-index l.at c.in_err-word.field-0.0 (omega arith)
+    (c.in_err-word.ensures.word.said stack (l.invariant.read.still stack answers)))
+    c.in_err-word.ensures.order)
+
+pub returns-in_err-at-clause-order : goal.returns-in_err-at-clause-order
+returns-in_err-at-clause-order g c =
+    let l = c.loop-word in
+    λ stack answers. l.invariant.order stack answers c.read_word.new.read_stack
+    (subst (λ reads. Leads (given.F-step g) l.read_stack reads c.read_word.new.read_stack)
+    (reads_at_the_end stack (length c.args.words.now) l.word-index l.at c.in_ok-word.field-0 c.in_err-at.field-0.0 (omega arith)
+    (c.in_ok-word.ensures.word.said stack (l.invariant.read.still stack answers)) c.in_err-at.ensures.sum)
+    c.in_ok-word.ensures.order)
+
+pub returns-clause-order : goal.returns-clause-order
+returns-clause-order g c =
+    let l = c.loop-word in
+    λ stack answers. l.invariant.order stack answers l.read_stack
+    (subst (λ reads. Leads (given.F-step g) l.read_stack reads l.read_stack)
+    (reads_done stack (length c.args.words.now) l.word-index l.at (omega arith))
+    refl)
