@@ -1,4 +1,6 @@
 pub mod CacheViews
+pub mod Callers
+pub mod CallersAarch64
 pub mod LastKept
 pub mod Outcome
 pub mod Pops

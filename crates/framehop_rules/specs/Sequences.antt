@@ -1,8 +1,9 @@
 -- Sequences of what a function's end does to the stack pointer and the registers, and the unwind rules for them.
-use Rattle.std.specs.Prelude.{◌≡◌, ℕ, zero, ◌*◌, Bool, List, [], ◌∷◌, length, map, Option, Some, None, unwrap_or}
+use Rattle.std.specs.Prelude.{◌≡◌, ◌<◌, ◌^◌, ℕ, zero, ◌*◌, Bool, List, [], ◌∷◌, length, map, Option, Some, None, unwrap_or}
 use Rattle.framehop_registers.specs.Callback.{Words}
 use Rattle.framehop_rules.specs.Outcome.{Outcome, Answers, and_then, Caller}
 use Rattle.framehop_registers.specs.PopLists.{IsPopList, order_number}
+use Rattle.framehop_registers.specs.Registers.{sp_of}
 use Rattle.framehop_rules.specs.Pops.{raised_registers, registers_after_pop}
 use Rattle.framehop_rules.specs.RuleMeaning.{rule_meaning}
 use Rattle.framehop_rules.specs.declared.x86_64.offset_or_pop.OffsetOrPop.{OffsetOrPop}
@@ -30,6 +31,12 @@ abbrev pub sequence_meaning : List OffsetOrPop → Bool → UnwindRegsX86_64 →
 sequence_meaning operations is_first registers words =
     and_then (registers_after_operations operations registers words) (λ next.
     rule_meaning JustReturn is_first next words)
+
+-- A rule means what operations and a return do, in each frame whose stack pointer has 64 bits.
+abbrev pub MeansSequence : UnwindRuleX86_64 → List OffsetOrPop → Type 0
+MeansSequence rule operations =
+    (is_first : Bool) (registers : UnwindRegsX86_64) (words : Words) → sp_of registers < 2 ^ 64
+    → rule_meaning rule is_first registers words ≡ sequence_meaning operations is_first registers words
 
 -- A sequence of an offset, if there is one, and then pops.
 abbrev pub offset_then_pops : Option ℕ → List Reg → List OffsetOrPop

@@ -1,5 +1,5 @@
 -- The slots of a rule cache: what is in each, what a look-up finds there, and what is counted.
-use Rattle.std.specs.Prelude.{ℕ, ◌+◌, ◌^◌, ◌-◌, ◌%◌, min, Bool, ◌&&◌, ◌==◌, List, Option, Some, None, slice_set, if◌then◌else◌}
+use Rattle.std.specs.Prelude.{ℕ, ◌+◌, ◌^◌, ◌-◌, ◌%◌, min, Bool, ◌&&◌, ◌==◌, List, Option, Some, None, option_map, slice_set, if◌then◌else◌}
 use Rattle.std.specs.Bool.{beq}
 use Rattle.std.specs.List.{slice_index_or}
 use Rattle.framehop_rules.specs.declared.rule_cache.CacheStats.{CacheStats}
@@ -53,6 +53,14 @@ finding_for key (Some entry) =
     then (if entry.key.address == key.address && beq entry.key.is_first key.is_first then Hits entry.rule else OtherAddress)
     else OtherModules
 
+-- What a look-up for a key finds in the key's slot.
+abbrev pub found_in : {Rule : Type 0} → List (Option (KeptRule Rule)) → Key → Finding Rule
+found_in slots key = finding_for key (entry_in slots (slot_of key.address))
+
+-- The key under which a rule is kept in a slot, if there is one.
+abbrev pub key_in : {Rule : Type 0} → Option (KeptRule Rule) → Option Key
+key_in there = option_map (λ entry. entry.key) there
+
 -- A count with one more, which stops at 2^64 - 1.
 abbrev pub one_more : ℕ → ℕ
 one_more count = min (count + 1) (2 ^ 64 - 1)
@@ -63,6 +71,14 @@ counts_after (Hits rule) counts = record counts { hit_count = one_more counts.hi
 counts_after EmptySlot counts = record counts { miss_empty_slot_count = one_more counts.miss_empty_slot_count }
 counts_after OtherModules counts = record counts { miss_wrong_modules_count = one_more counts.miss_wrong_modules_count }
 counts_after OtherAddress counts = record counts { miss_wrong_address_count = one_more counts.miss_wrong_address_count }
+
+-- The counts after a look-up for a key, by what is in its slot.
+abbrev pub counts_by : {Rule : Type 0} → Key → Option (KeptRule Rule) → CacheStats → CacheStats
+counts_by key there counts = counts_after (finding_for key there) counts
+
+-- The look-ups that found no rule.
+abbrev pub misses_of : CacheStats → ℕ
+misses_of counts = counts.miss_empty_slot_count + counts.miss_wrong_modules_count + counts.miss_wrong_address_count
 
 -- No look-up so far.
 abbrev pub no_counts : CacheStats

@@ -31,7 +31,7 @@ pub struct CacheStats {
 }
 
 impl CacheStats {
-    ghost use Rattle.framehop_rules.specs.Slots.{no_counts};
+    ghost use Rattle.framehop_rules.specs.Slots.{no_counts, misses_of};
 
     /// No look-up.
     pub fn new() -> Self
@@ -42,8 +42,7 @@ impl CacheStats {
 
     /// All look-ups, up to 2^64 - 1.
     pub fn total(&self) -> u64
-        ensures { result ≡ min (self.now.hit_count + self.now.miss_empty_slot_count
-            + self.now.miss_wrong_modules_count + self.now.miss_wrong_address_count) (2 ^ 64 - 1) }
+        ensures { result ≡ min (self.now.hit_count + misses_of self.now) (2 ^ 64 - 1) }
     {
         self.hits().saturating_add(self.misses())
     }
@@ -57,8 +56,7 @@ impl CacheStats {
 
     /// The look-ups that found none, up to 2^64 - 1.
     pub fn misses(&self) -> u64
-        ensures { result ≡ min (self.now.miss_empty_slot_count + self.now.miss_wrong_modules_count
-            + self.now.miss_wrong_address_count) (2 ^ 64 - 1) }
+        ensures { result ≡ min (misses_of self.now) (2 ^ 64 - 1) }
     {
         self.miss_empty_slot_count
             .saturating_add(self.miss_wrong_modules_count)
@@ -125,7 +123,7 @@ fn count(number: &mut u64)
 }
 
 impl<R: UnwindRule> RuleCache<R> {
-    ghost use Rattle.framehop_rules.specs.Slots.{key_of, slot_of, entry_in, with_kept, finding_for, counts_after, no_counts};
+    ghost use Rattle.framehop_rules.specs.Slots.{key_of, with_kept, found_in, counts_after, no_counts};
     ghost use Rattle.framehop_rules.specs.CacheViews.{result_of, IfHit};
 
     /// A cache without a rule. Its slots are one allocation, and nothing else of the cache takes
@@ -151,12 +149,11 @@ impl<R: UnwindRule> RuleCache<R> {
         modules_generation: u64,
     ) -> CacheResult<R>
         ensures found { let key = key_of address is_first_frame modules_generation in
-            result ≡ result_of key (finding_for key (entry_in self.old.slots (slot_of address))) }
+            result ≡ result_of key (found_in self.old.slots key) }
         ensures valid { IfHit result R.is_valid }
         ensures slots { self.new.slots ≡ self.old.slots }
         ensures counts { let key = key_of address is_first_frame modules_generation in
-            let finding = finding_for key (entry_in self.old.slots (slot_of address)) in
-            self.new.counts ≡ counts_after finding self.old.counts }
+            self.new.counts ≡ counts_after (found_in self.old.slots key) self.old.counts }
     {
         let slot = (address % (CACHE_ENTRY_COUNT as u64)) as u16;
         match &self.entries[usize::from(slot)] {
@@ -210,8 +207,8 @@ impl<R: UnwindRule> RuleCache<R> {
 }
 
 impl<R: UnwindRule> RuleCache<R> {
-    ghost use Rattle.std.specs.Prelude.{◌↔◌, ◌++◌, [], ◌∷◌, ℕ, List, Option, Some, map, option_map};
-    ghost use Rattle.framehop_rules.specs.Slots.{Key, KeptRule, Hits, slot_of, entry_in, with_kept, finding_for, counts_after};
+    ghost use Rattle.std.specs.Prelude.{◌↔◌, ◌++◌, [], ◌∷◌, ℕ, List, Option, Some, map};
+    ghost use Rattle.framehop_rules.specs.Slots.{Key, KeptRule, Hits, with_kept, finding_for, key_in, counts_by};
     ghost use Rattle.framehop_rules.specs.LastKept.{last_entry, last_key, HasLast};
 
     /// Laws of the slots; the function does nothing when the program runs. Each slot has the
@@ -220,18 +217,15 @@ impl<R: UnwindRule> RuleCache<R> {
     pub fn slots_have_the_last()
         ensures new { HasLast {Rule = R} [] (replicate 509 None) }
         ensures kept { (kept : List (KeptRule R)) (slots : List (Option (KeptRule R)))
-            (key : Key) (rule : R) → HasLast kept slots
-            → HasLast (kept ++ (record { key = key; rule = rule }) ∷ [])
-            (with_kept slots key rule) }
+            (entry : KeptRule R) → HasLast kept slots
+            → HasLast (kept ++ entry ∷ []) (with_kept slots entry.key entry.rule) }
         ensures keys { (kept : List (KeptRule R)) (slot : ℕ)
-            → last_key (map (λ entry. entry.key) kept) slot
-            ≡ option_map (λ entry. entry.key) (last_entry kept slot) }
+            → last_key (map (λ entry. entry.key) kept) slot ≡ key_in (last_entry kept slot) }
         ensures hits { (key : Key) (there : Option (KeptRule R)) (rule : R)
             → (finding_for key there ≡ Hits rule)
             ↔ (there ≡ Some (record { key = key; rule = rule })) }
         ensures counts { (key : Key) (one other : Option (KeptRule R)) (counts : CacheStats)
-            → option_map (λ entry. entry.key) one ≡ option_map (λ entry. entry.key) other
-            → counts_after (finding_for key one) counts
-            ≡ counts_after (finding_for key other) counts }
+            → key_in one ≡ key_in other
+            → counts_by key one counts ≡ counts_by key other counts }
     {}
 }

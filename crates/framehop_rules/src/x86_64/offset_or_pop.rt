@@ -1,15 +1,12 @@
 //! The unwind rule for a sequence of stack operations.
 
-ghost use Rattle.std.specs.Prelude.{◌≡◌, ◌<◌, ◌^◌, ◌++◌, ℕ, Bool, List, None, IsSome};
+ghost use Rattle.std.specs.Prelude.{◌≡◌, ◌++◌, List, None, IsSome};
 ghost use Rattle.std.specs.List.{AllZip};
 ghost use Rattle.std.specs.Iterator.{IsFinite, DrainsIf};
-ghost use Rattle.framehop_registers.specs.Callback.{Words};
-ghost use Rattle.framehop_registers.specs.Registers.{sp_of};
-ghost use Rattle.framehop_rules.specs.RuleMeaning.{rule_meaning, IsValid};
-ghost use Rattle.framehop_rules.specs.Sequences.{sequence_meaning, IsRuleOf, HasNoRule, IsRuleFor};
+ghost use Rattle.framehop_rules.specs.RuleMeaning.{IsValid};
+ghost use Rattle.framehop_rules.specs.Sequences.{IsRuleOf, MeansSequence, HasNoRule, IsRuleFor};
 ghost use Rattle.framehop_rules.specs.declared.x86_64.offset_or_pop.OffsetOrPop.{OffsetOrPop};
 ghost use Rattle.framehop_rules.specs.declared.x86_64.unwind_rule.UnwindRuleX86_64.{UnwindRuleX86_64};
-ghost use Rattle.framehop_registers.specs.declared.x86_64.unwindregs.UnwindRegsX86_64.{UnwindRegsX86_64};
 
 use crate::x86_64::sequence::OffsetThenPops;
 use crate::x86_64::unwind_rule::UnwindRuleX86_64;
@@ -54,11 +51,8 @@ impl UnwindRuleX86_64 {
 pub fn rules_of_sequences()
     ensures valid { (operations : List OffsetOrPop) (rule : UnwindRuleX86_64)
         → IsRuleOf operations rule → IsValid rule }
-    ensures meaning { (operations : List OffsetOrPop) (rule : UnwindRuleX86_64) (is_first : Bool)
-        (registers : UnwindRegsX86_64) (words : Words)
-        → IsRuleOf operations rule → sp_of registers < 2 ^ 64
-        → rule_meaning rule is_first registers words
-        ≡ sequence_meaning operations is_first registers words }
+    ensures meaning { (operations : List OffsetOrPop) (rule : UnwindRuleX86_64)
+        → IsRuleOf operations rule → MeansSequence rule operations }
     ensures one { (operations : List OffsetOrPop) (rule other : UnwindRuleX86_64)
         → IsRuleOf operations rule → IsRuleOf operations other → rule ≡ other }
     ensures none { (operations more : List OffsetOrPop)

@@ -5,7 +5,7 @@ pub returns-clause-new : goal.returns-clause-new
 returns-clause-new g c = new_last
 
 pub returns-clause-kept : goal.returns-clause-kept
-returns-clause-kept g c = kept_last
+returns-clause-kept g c = λ kept slots entry has. kept_last kept slots entry.key entry.rule has
 
 pub returns-clause-keys : goal.returns-clause-keys
 returns-clause-keys g c = last_key_is

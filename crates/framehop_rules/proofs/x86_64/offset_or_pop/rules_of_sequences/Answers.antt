@@ -5,7 +5,7 @@ pub returns-clause-valid : goal.returns-clause-valid
 returns-clause-valid c = rule_of-valid
 
 pub returns-clause-meaning : goal.returns-clause-meaning
-returns-clause-meaning c = rule_of-meaning
+returns-clause-meaning c = λ operations rule is. λ is_first registers words fits. rule_of-meaning operations rule is_first registers words is fits
 
 pub returns-clause-one : goal.returns-clause-one
 returns-clause-one c = rule_of-one
