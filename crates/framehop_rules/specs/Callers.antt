@@ -28,3 +28,9 @@ LeavesSp rule is_first registers words = (bp : ℕ) × (moves rule is_first regi
 -- The rule gives this error.
 abbrev pub IsRefusedAs : Error → UnwindRuleX86_64 → Bool → UnwindRegsX86_64 → Words → Type 0
 IsRefusedAs error rule is_first registers words = rule_meaning rule is_first registers words ≡ Refuses error
+
+-- Where the registers are those after a call, each rule that does the one is as the other says.
+abbrev pub AfterEachCall : (Does Is : UnwindRuleX86_64 → Bool → UnwindRegsX86_64 → Words → Type 0) → Type 0
+AfterEachCall Does Is =
+    (rule : UnwindRuleX86_64) (is_first : Bool) (registers : UnwindRegsX86_64) (words : Words) → IsAtReturn registers words
+    → Does rule is_first registers words → Is rule is_first registers words

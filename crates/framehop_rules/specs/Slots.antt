@@ -16,6 +16,10 @@ pub record KeptRule (Rule : Type 0) : Type 0 where
   pub key : Key
   pub rule : Rule
 
+-- A rule that is kept under a key.
+abbrev pub kept_under : {Rule : Type 0} → Key → Rule → KeptRule Rule
+kept_under key rule = record { key = key; rule = rule }
+
 -- A cache as contracts see it: what is in each of its slots, and its counts.
 pub record Kept (Rule : Type 0) : Type 0 where
   pub slots : List (Option (KeptRule Rule))
@@ -79,6 +83,10 @@ counts_by key there counts = counts_after (finding_for key there) counts
 -- The look-ups that found no rule.
 abbrev pub misses_of : CacheStats → ℕ
 misses_of counts = counts.miss_empty_slot_count + counts.miss_wrong_modules_count + counts.miss_wrong_address_count
+
+-- The counts of a cache after a look-up for a key.
+abbrev pub counts_after_lookup : {Rule : Type 0} → Key → Kept Rule → CacheStats
+counts_after_lookup key cache = counts_after (found_in cache.slots key) cache.counts
 
 -- No look-up so far.
 abbrev pub no_counts : CacheStats

@@ -123,7 +123,7 @@ fn count(number: &mut u64)
 }
 
 impl<R: UnwindRule> RuleCache<R> {
-    ghost use Rattle.framehop_rules.specs.Slots.{key_of, with_kept, found_in, counts_after, no_counts};
+    ghost use Rattle.framehop_rules.specs.Slots.{key_of, with_kept, found_in, counts_after_lookup, no_counts};
     ghost use Rattle.framehop_rules.specs.CacheViews.{result_of, IfHit};
 
     /// A cache without a rule. Its slots are one allocation, and nothing else of the cache takes
@@ -153,7 +153,7 @@ impl<R: UnwindRule> RuleCache<R> {
         ensures valid { IfHit result R.is_valid }
         ensures slots { self.new.slots ≡ self.old.slots }
         ensures counts { let key = key_of address is_first_frame modules_generation in
-            self.new.counts ≡ counts_after (found_in self.old.slots key) self.old.counts }
+            self.new.counts ≡ counts_after_lookup key self.old }
     {
         let slot = (address % (CACHE_ENTRY_COUNT as u64)) as u16;
         match &self.entries[usize::from(slot)] {
@@ -208,7 +208,7 @@ impl<R: UnwindRule> RuleCache<R> {
 
 impl<R: UnwindRule> RuleCache<R> {
     ghost use Rattle.std.specs.Prelude.{◌↔◌, ◌++◌, [], ◌∷◌, ℕ, List, Option, Some, map};
-    ghost use Rattle.framehop_rules.specs.Slots.{Key, KeptRule, Hits, with_kept, finding_for, key_in, counts_by};
+    ghost use Rattle.framehop_rules.specs.Slots.{Key, KeptRule, kept_under, Hits, with_kept, finding_for, key_in, counts_by};
     ghost use Rattle.framehop_rules.specs.LastKept.{last_entry, last_key, HasLast};
 
     /// Laws of the slots; the function does nothing when the program runs. Each slot has the
@@ -223,7 +223,7 @@ impl<R: UnwindRule> RuleCache<R> {
             → last_key (map (λ entry. entry.key) kept) slot ≡ key_in (last_entry kept slot) }
         ensures hits { (key : Key) (there : Option (KeptRule R)) (rule : R)
             → (finding_for key there ≡ Hits rule)
-            ↔ (there ≡ Some (record { key = key; rule = rule })) }
+            ↔ (there ≡ Some (kept_under key rule)) }
         ensures counts { (key : Key) (one other : Option (KeptRule R)) (counts : CacheStats)
             → key_in one ≡ key_in other
             → counts_by key one counts ≡ counts_by key other counts }

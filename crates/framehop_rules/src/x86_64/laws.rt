@@ -1,14 +1,11 @@
 //! Laws of the rules' meaning. The functions do nothing when the program runs.
 
-ghost use Rattle.std.specs.Prelude.{◌≤◌, ◌<◌, ◌^◌, Bool};
-ghost use Rattle.framehop_registers.specs.Callback.{Words};
+ghost use Rattle.std.specs.Prelude.{◌≤◌, ◌<◌, ◌^◌};
 ghost use Rattle.framehop_registers.specs.Registers.{HasAllRegisters, sp_of};
 ghost use Rattle.framehop_rules.specs.RuleMeaning.{IsAtReturn};
-ghost use Rattle.framehop_rules.specs.Callers.{OfEachCaller, OfEachCallerAfterCall, LeavesSp, IsRefusedAs};
+ghost use Rattle.framehop_rules.specs.Callers.{OfEachCaller, OfEachCallerAfterCall, AfterEachCall, LeavesSp, IsRefusedAs};
 
-use crate::x86_64::unwind_rule::UnwindRuleX86_64;
 use framehop_registers::Error;
-use framehop_registers::x86_64::UnwindRegsX86_64;
 
 /// No step by a rule lowers the stack pointer. The registers that it leaves are those after a call,
 /// and from such registers each step raises the stack pointer: so a walk of such steps ends.
@@ -24,7 +21,5 @@ pub fn rules_raise_sp()
 
 /// After a call a rule that would leave the stack pointer as it is gives no address.
 pub fn rules_that_stay_are_refused()
-    ensures { (rule : UnwindRuleX86_64) (is_first : Bool) (registers : UnwindRegsX86_64)
-        (words : Words) → IsAtReturn registers words → LeavesSp rule is_first registers words
-        → IsRefusedAs Error.DidNotAdvance rule is_first registers words }
+    ensures { AfterEachCall LeavesSp (IsRefusedAs Error.DidNotAdvance) }
 {}
