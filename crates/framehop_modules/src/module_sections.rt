@@ -123,8 +123,7 @@ fn text_of<D: SectionBytes, I: ModuleSectionInfo<D>>(info: &mut I) -> Option<Sec
 
 impl<D: SectionBytes> ModuleSections<D> {
     /// The sections of a module to unwind by: those of the first of `__unwind_info`, `.pdata`,
-    /// `.eh_frame` or `__eh_frame`, and `.debug_frame` that the module has. It asks for data under no
-    /// name that was handed out to it before.
+    /// `.eh_frame` or `__eh_frame`, and `.debug_frame` that the module has.
     pub fn choose<I: ModuleSectionInfo<D>>(info: &mut I) -> Self
         ensures { sections_bytes D.content result ≡ chosen_sections (I.sections info.old) }
     {
