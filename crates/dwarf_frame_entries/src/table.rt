@@ -1,11 +1,10 @@
 //! The rows of an FDE, one after the other.
 
-ghost use Rattle.std.specs.Prelude.{◌≡◌, ℕ, option_map};
+ghost use Rattle.std.specs.Prelude.{◌≡◌, option_map};
 ghost use Rattle.dwarf_frame_instructions.specs.Execution.{row_in};
-ghost use Rattle.dwarf_frame_instructions.specs.ProgramRows.{NextIs};
-ghost use Rattle.dwarf_frame_instructions.specs.Programs.{RowList};
-ghost use Rattle.dwarf_frame_entries.specs.EntryPrograms.{fde_rows};
-ghost use Rattle.dwarf_frame_entries.specs.UnwindTables.{MakesTable, TableHasLeft, table_row};
+ghost use Rattle.dwarf_frame_instructions.specs.ProgramRows.{GivesFirst};
+ghost use Rattle.dwarf_frame_entries.specs.EntryPrograms.{fde_program};
+ghost use Rattle.dwarf_frame_entries.specs.UnwindTables.{MakesTable, table_row, table_rows};
 
 use crate::fde::FrameDescriptionEntry;
 use crate::section::UnwindSection;
@@ -38,8 +37,7 @@ impl<'a, 'ctx, R: Reader, S: UnwindContextStorage<R::Offset>> UnwindTable<'a, 'c
         R: 'a,
         ensures { MakesTable R.stretch R.Offset.limit R.Offset.value S.Stack.items S.limits
             S.never_allocates result
-            (fde_rows S.limits (Section.frame section.now bases.now)
-            (Section.extensions section.now) fde.now) }
+            (fde_program (Section.frame section.now bases.now) (Section.extensions section.now) fde.now) }
     {
         let rows = ProgramRows::new(ctx, fde.program(section, bases))?;
         Ok(UnwindTable { rows })
@@ -51,9 +49,8 @@ impl<'a, 'ctx, R: Reader, S: UnwindContextStorage<R::Offset>> UnwindTable<'a, 'c
         ensures* leaves { sem 𝓛 (LeavesTable R.row S.row R.Endian.row R.Offset.row S.Rules.row
             S.Stack.row S.Rules.ArrayLike R.stretch R.Offset.limit R.Offset.value S.Stack.items
             S.limits self.entry result) }
-        ensures row { (left : RowList ℕ)
-            → TableHasLeft R.stretch R.Offset.limit R.Offset.value S.Stack.items S.limits self.old left
-            → NextIs R.Offset.value S.never_allocates left left.rows result }
+        ensures row { GivesFirst R.Offset.value S.never_allocates (table_rows R.stretch R.Offset.limit
+            R.Offset.value S.Stack.items S.limits self.old) result }
     {
         self.rows.advance()?;
         Ok(self.rows.current_row())
@@ -62,7 +59,7 @@ impl<'a, 'ctx, R: Reader, S: UnwindContextStorage<R::Offset>> UnwindTable<'a, 'c
     /// The row that the last call of `next_row` gave, if it gave one.
     pub fn into_current_row(self) -> Option<&'ctx UnwindTableRow<R::Offset, S::Rules>>
         ensures { option_map (λ row. row_in R.Offset.value row.now) result
-            ≡ table_row R.Offset.value S.Stack.items S.limits self.entry }
+            ≡ table_row R.Offset.value S.Stack.items self.entry }
     {
         self.rows.into_current_row()
     }
@@ -81,8 +78,7 @@ impl<R: Reader> FrameDescriptionEntry<R> {
         R: 'a,
         ensures { MakesTable R.stretch R.Offset.limit R.Offset.value S.Stack.items S.limits
             S.never_allocates result
-            (fde_rows S.limits (Section.frame section.now bases.now)
-            (Section.extensions section.now) self.now) }
+            (fde_program (Section.frame section.now bases.now) (Section.extensions section.now) self.now) }
     {
         UnwindTable::new(section, bases, ctx, self)
     }

@@ -1,5 +1,5 @@
 -- What the code executes, by the steps of the definition.
-use Rattle.std.proofs.Common.{inl, inr, ◌≡◌, ℕ, Bool, true, false, cond, List, [], ◌∷◌, Some, None, Result, Ok, Err, IfErr, refl, sym, ap, subst, ◌∙◌}
+use Rattle.std.proofs.Common.{inl, inr, ◌≡◌, ℕ, Bool, true, false, cond, List, [], ◌∷◌, Option, Some, None, option_map, Result, Ok, Err, IfErr, refl, sym, ap, subst, ◌∙◌}
 use Rattle.std.specs.Prelude.{◌≢◌, ◌+◌, ◌*◌, ◌%◌, ◌^◌, nat_lt, unwrap_or}
 use Rattle.std.specs.FinMap.{empty}
 use Rattle.dwarf_readers.specs.Stretch.{◌>>=◌}
@@ -8,18 +8,16 @@ use Rattle.dwarf_constants.specs.declared.error.Error.TheVariants.{AddressOverfl
 use Rattle.dwarf_frame_rows.specs.declared.effect.Effect.{Effect}
 use Rattle.dwarf_frame_rows.specs.declared.effect.Effect.TheVariants.{Move, Cfa, CfaRegister, CfaOffset, Rule, RestoreRule, NegateRaState, ArgsSize, Remember, Restore, Nothing}
 use Rattle.dwarf_frame_rows.specs.Contexts.{Acts}
-use Rattle.dwarf_frame_rows.specs.Effects.{Limits, ContextState, first_state, state_after, state_with_initial_rules}
+use Rattle.dwarf_frame_rows.specs.Effects.{Limits, ContextState, first_state, state_after, state_with_initial_rules, with_bounds}
 use Rattle.dwarf_frame_instructions.specs.declared.effects.Factors.{Factors}
 use Rattle.dwarf_frame_instructions.specs.declared.instructions.CallFrameInstruction.{CallFrameInstruction}
 use Rattle.dwarf_frame_instructions.specs.declared.instructions.CallFrameInstruction.TheVariants as instruction
 use Rattle.dwarf_frame_instructions.specs.Effects.{address_limit, effect_of}
-use Rattle.dwarf_frame_instructions.specs.Execution.{Executes, Prefix, row_in, Moved, Ended, Faulty, IsRefusal, Runs, Starts, instruction_frame, prefix_from}
+use Rattle.dwarf_frame_instructions.specs.Execution.{Executes, Goes, Leaves, Fails, Prefix, StateStep, left_by, row_in, Moved, Ended, Faulty, IsRefusal, Runs, Starts, prefix_from, state_step, state_step_by}
 use Rattle.dwarf_frame_instructions.specs.InstructionViews.{answer_as, instruction_as}
-use Rattle.dwarf_frame_instructions.specs.Programs.{InstructionContext, found_or, row_among, Instructions, RowList, InstructionStep, Moves, Writes, Refused, destination_of, executed_from, executed_by_cie, refused_rows, no_rows, row_after, row_with, rows_from, step_by, step_from, step_of, with_room, row_before, written}
-use Rattle.dwarf_frame_instructions.specs.Parts.{surviving_parts}
-use Rattle.dwarf_frame_instructions.specs.ProgramRows.{Advances, GoesOn, HasLeft, LeftAt, NextIs, behind_first, instructions_left, rows_state}
+use Rattle.dwarf_frame_instructions.specs.Programs.{EntryProgram, InstructionContext, found_or, row_among, Instructions, RowList, InstructionStep, Moves, Writes, Refused, destination_of, effects_of_cie, executed_from, executed_by_cie, refused_rows, no_rows, row_after, row_with, rows_after_cie, rows_from, rows_of_program, step_from, step_of, with_room, row_before, written}
+use Rattle.dwarf_frame_instructions.specs.ProgramRows.{Advances, after_first, current_row, end_of_rows, first_of, instructions_left, rows_left, rows_of_state, rows_state}
 use Rattle.dwarf_frame_instructions.specs.Refusals.{InitialRules, needs}
-use Rattle.dwarf_frame_instructions.specs.Survivors.{survivors}
 use Rattle.dwarf_frame_instructions.specs.declared.rows.ProgramRows.{ProgramRows}
 use Rattle.dwarf_frame_rows.specs.declared.row.UnwindTableRow.{UnwindTableRow}
 use Rattle.dwarf_frame_rows.specs.Row.{Row, holds_at}
@@ -96,175 +94,206 @@ a_move Remember next is = cc
 a_move Restore next is = cc
 a_move Nothing next is = cc
 
--- a step that doesn't move writes, or is refused
-step_by-written : (frame : InstructionContext ℕ) (executed : List (Effect ℕ)) (e : Effect ℕ) → destination_of e ≡ None → step_by frame executed e ≡ written e (needs frame.limits frame.initial_rules executed e)
-step_by-written frame executed (Move location) still = cc
-step_by-written frame executed (Cfa rule) still = refl
-step_by-written frame executed (CfaRegister register) still = refl
-step_by-written frame executed (CfaOffset offset) still = refl
-step_by-written frame executed (Rule register rule) still = refl
-step_by-written frame executed (RestoreRule register) still = refl
-step_by-written frame executed NegateRaState still = refl
-step_by-written frame executed (ArgsSize size) still = refl
-step_by-written frame executed Remember still = refl
-step_by-written frame executed Restore still = refl
-step_by-written frame executed Nothing still = refl
+-- an effect that doesn't move leaves what it makes of a state
+step_by-left : (limits : Limits) (state : ContextState ℕ) (e : Effect ℕ) → destination_of e ≡ None → state_step_by limits state (Ok e) ≡ left_by (state_after limits e state)
+step_by-left limits state (Move location) still = cc
+step_by-left limits state (Cfa rule) still = refl
+step_by-left limits state (CfaRegister register) still = refl
+step_by-left limits state (CfaOffset offset) still = refl
+step_by-left limits state (Rule register rule) still = refl
+step_by-left limits state (RestoreRule register) still = refl
+step_by-left limits state NegateRaState still = refl
+step_by-left limits state (ArgsSize size) still = refl
+step_by-left limits state Remember still = refl
+step_by-left limits state Restore still = refl
+step_by-left limits state Nothing still = refl
 
-module _ {T : Type 0} (number : T → ℕ) (Fixed : Type 0) (limits : Limits) (factors : Factors) (location : ℕ) (i : CallFrameInstruction T) (s : ContextState T) (executed : List (Effect ℕ)) (h : Stands (state_as number s) executed) where
-  abbrev at_state : InstructionContext ℕ
-  at_state = instruction_frame limits factors (state_as number s)
-
-  abbrev step : InstructionStep ℕ
-  step = step_of at_state location executed (instruction_as number i)
+module _ {T : Type 0} (number : T → ℕ) (Fixed : Type 0) (limits : Limits) (factors : Factors) (location : ℕ) (i : CallFrameInstruction T) (s : ContextState T) where
+  abbrev step : StateStep
+  step = state_step limits factors location (state_as number s) (instruction_as number i)
 
   -- the step, by the effect
-  stepped : (answer : Result (Effect T) Error) → effect_of factors location i ≡ answer → step ≡ step_from at_state executed (answer_as (effect_as number) answer)
-  stepped answer is = ap (step_from at_state executed) (effect_of-as number factors location i ∙ ap (answer_as (effect_as number)) is)
+  stepped : (answer : Result (Effect T) Error) → effect_of factors location i ≡ answer → step ≡ state_step_by limits (state_as number s) (answer_as (effect_as number) answer)
+  stepped answer is = ap (state_step_by limits (state_as number s)) (effect_of-as number factors location i ∙ ap (answer_as (effect_as number)) is)
 
   -- an instruction without an effect
-  pub executes_none : (e : Error) → effect_of factors location i ≡ Err e → (new : ContextState T) → Executes Fixed executed (state_as number s) (state_as number new) step (Err e)
+  pub executes_none : (e : Error) → effect_of factors location i ≡ Err e → (new : ContextState T) → Executes Fixed (state_as number s) (state_as number new) step (Err e)
   executes_none e is new = λ _. stepped (Err e) is
 
-  pub executes_move : (effect : Effect T) (next : ℕ) → Ok effect ≡ effect_of factors location i → Some next ≡ destination_of effect → Executes Fixed executed (state_as number s) (state_as number s) step (Ok (Some next))
+  pub executes_move : (effect : Effect T) (next : ℕ) → Ok effect ≡ effect_of factors location i → Some next ≡ destination_of effect → Executes Fixed (state_as number s) (state_as number s) step (Ok (Some next))
   executes_move effect next is moves = (stepped (Ok (Move next)) (sym is ∙ ap (λ e. Ok e) (a_move effect next moves)), refl)
 
-  -- an effect that was applied, or refused
+  -- an effect that was applied, or failed
   module _ (effect : Effect T) (is : Ok effect ≡ effect_of factors location i) (stays : None ≡ destination_of effect) where
-    still : destination_of (effect_as number effect) ≡ None
-    still = destination-as number effect ∙ sym stays
+    left : (answer : Result (ContextState T) Error) → state_after limits effect s ≡ answer → step ≡ left_by (answer_as (state_as number) answer)
+    left answer e =
+        stepped (Ok effect) (sym is) ∙ step_by-left limits (state_as number s) (effect_as number effect) (destination-as number effect ∙ sym stays)
+        ∙ ap left_by (effect_acts_as number limits effect s ∙ ap (answer_as (state_as number)) e)
 
-    comes : (answer : Result (ContextState T) Error) → state_after limits effect s ≡ answer
-        → Comes (state_as number s).initial_rules executed (effect_as number effect) (answer_as (state_as number) answer) (needs limits (state_as number s).initial_rules executed (effect_as number effect))
-    comes answer e =
-        let P : Result (ContextState ℕ) Error → Type 0 = λ a. Comes (state_as number s).initial_rules executed (effect_as number effect) a (needs limits (state_as number s).initial_rules executed (effect_as number effect)) in
-        subst P (effect_acts_as number limits effect s ∙ ap (answer_as (state_as number)) e) (steps limits (state_as number s) executed h (effect_as number effect) still)
+    pub executes_effect : (new : ContextState T) → state_after limits effect s ≡ Ok new → Executes Fixed (state_as number s) (state_as number new) step (Ok None)
+    executes_effect new e = left (Ok new) e
 
-    step_is : (need : Result (Unit {0}) Error) → needs limits (state_as number s).initial_rules executed (effect_as number effect) ≡ need → step ≡ written (effect_as number effect) need
-    step_is need e = stepped (Ok effect) (sym is) ∙ step_by-written at_state executed (effect_as number effect) still ∙ ap (written (effect_as number effect)) e
-
-    pub executes_effect : (new : ContextState T) → state_after limits effect s ≡ Ok new → Executes Fixed executed (state_as number s) (state_as number new) step (Ok None)
-    executes_effect new e = let came = comes (Ok new) e in (effect_as number effect, step_is (Ok tt) came.0, came.2, came.1)
-
-    pub executes_refused : (new : ContextState T) (e : Error) → (e ≢ OutOfMemory → state_after limits effect s ≡ Err e) → (Fixed → e ≢ OutOfMemory) → Executes Fixed executed (state_as number s) (state_as number new) step (Err e)
+    pub executes_refused : (new : ContextState T) (e : Error) → (e ≢ OutOfMemory → state_after limits effect s ≡ Err e) → (Fixed → e ≢ OutOfMemory) → Executes Fixed (state_as number s) (state_as number new) step (Err e)
     executes_refused new e refused memory = told
       where
-        told : IsRefusal Fixed e → step ≡ Refused e
-        told (inl fixed) = step_is (Err e) (comes (Err e) (refused (memory fixed)))
-        told (inr other) = step_is (Err e) (comes (Err e) (refused other))
+        told : IsRefusal Fixed e → step ≡ Fails e
+        told (inl fixed) = left (Err e) (refused (memory fixed))
+        told (inr other) = left (Err e) (refused other)
 
 -- ---- prefixes
 
 -- what a step makes of a prefix
-prefix_by : InstructionContext ℕ → ℕ → List (Effect ℕ) → Instructions ℕ → InstructionStep ℕ → Prefix
-prefix_by frame location executed rest (Moves next) = Moved next executed rest
-prefix_by frame location executed rest (Writes effect) = prefix_from frame location (effect ∷ executed) rest
-prefix_by frame location executed rest (Refused e) = Faulty e
+prefix_by : Limits → Factors → ℕ → ContextState ℕ → Instructions ℕ → StateStep → Prefix
+prefix_by limits factors location state rest (Goes next) = Moved next state rest
+prefix_by limits factors location state rest (Leaves other) = prefix_from limits factors location other rest
+prefix_by limits factors location state rest (Fails e) = Faulty e
 
-prefix-step : (frame : InstructionContext ℕ) (location : ℕ) (executed : List (Effect ℕ)) (i : CallFrameInstruction ℕ) (rest : Instructions ℕ) (step : InstructionStep ℕ)
-    → step_of frame location executed i ≡ step → prefix_from frame location executed (Ok i ∷ rest) ≡ prefix_by frame location executed rest step
+prefix-step : (limits : Limits) (factors : Factors) (location : ℕ) (state : ContextState ℕ) (i : CallFrameInstruction ℕ) (rest : Instructions ℕ) (step : StateStep)
+    → state_step limits factors location state i ≡ step → prefix_from limits factors location state (Ok i ∷ rest) ≡ prefix_by limits factors location state rest step
 unfolding prefix_by
-prefix-step frame location executed i rest step is =
-    ap (λ (x : InstructionStep ℕ). elim x [ Moves next ↦ Moved next executed rest | Writes effect ↦ prefix_from frame location (effect ∷ executed) rest | Refused e ↦ Faulty e ]) is ∙ same step
+prefix-step limits factors location state i rest step is =
+    ap (λ (x : StateStep). elim x [ Goes next ↦ Moved next state rest | Leaves other ↦ prefix_from limits factors location other rest | Fails e ↦ Faulty e ]) is ∙ same step
   where
-    same : (x : InstructionStep ℕ) → elim x [ Moves next ↦ Moved next executed rest | Writes effect ↦ prefix_from frame location (effect ∷ executed) rest | Refused e ↦ Faulty e ] ≡ prefix_by frame location executed rest x
-    same (Moves next) = refl
-    same (Writes effect) = refl
-    same (Refused e) = refl
+    same : (x : StateStep) → elim x [ Goes next ↦ Moved next state rest | Leaves other ↦ prefix_from limits factors location other rest | Fails e ↦ Faulty e ] ≡ prefix_by limits factors location state rest x
+    same (Goes next) = refl
+    same (Leaves other) = refl
+    same (Fails e) = refl
 
--- how far instructions have been executed: what comes of them is what comes of those that are left
-pub record Reached (limits : Limits) (factors : Factors) (location : ℕ) (old now : ContextState ℕ) (instructions left : Instructions ℕ) (before : List (Effect ℕ)) : Type 0 where
-  pub executed : List (Effect ℕ)
-  pub prefix : prefix_from (instruction_frame limits factors old) location before instructions ≡ prefix_from (instruction_frame limits factors old) location executed left
-  pub stands : Stands now executed
-  pub initial_rules : now.initial_rules ≡ old.initial_rules
-
-pub reached_first : (limits : Limits) (factors : Factors) (location : ℕ) (old : ContextState ℕ) (instructions : Instructions ℕ) (before : List (Effect ℕ)) → Stands old before
-    → Reached limits factors location old old instructions instructions before
-reached_first limits factors location old instructions before h = record { executed = before; prefix = refl; stands = h; initial_rules = refl }
-
-module _ (Fixed : Type 0) (limits : Limits) (factors : Factors) (location : ℕ) (old now : ContextState ℕ) (instructions left : Instructions ℕ) (before : List (Effect ℕ)) (r : Reached limits factors location old now instructions left before) where
-  abbrev at_first : InstructionContext ℕ
-  at_first = instruction_frame limits factors old
-
-  same_frame : instruction_frame limits factors now ≡ at_first
-  same_frame = ap (λ (initial_rules : InitialRules ℕ). record { factors = factors; limits = limits; initial_rules = initial_rules }) r.initial_rules
-
+module _ (Fixed : Type 0) (limits : Limits) (factors : Factors) (location : ℕ) (now : ContextState ℕ) (whole : Prefix) (left : Instructions ℕ) (so_far : whole ≡ prefix_from limits factors location now left) where
   -- the prefix goes on with the step of the next instruction
-  prefix_goes : (i : CallFrameInstruction ℕ) (rest : Instructions ℕ) (step : InstructionStep ℕ) → left ≡ Ok i ∷ rest → step_of (instruction_frame limits factors now) location r.executed i ≡ step
-      → prefix_from at_first location before instructions ≡ prefix_by at_first location r.executed rest step
-  prefix_goes i rest step is stepped =
-      r.prefix ∙ ap (prefix_from at_first location r.executed) is ∙ prefix-step at_first location r.executed i rest step (ap (λ (f : InstructionContext ℕ). step_of f location r.executed i) (sym same_frame) ∙ stepped)
+  prefix_goes : (i : CallFrameInstruction ℕ) (rest : Instructions ℕ) (step : StateStep) → left ≡ Ok i ∷ rest → state_step limits factors location now i ≡ step → whole ≡ prefix_by limits factors location now rest step
+  prefix_goes i rest step is stepped = so_far ∙ ap (prefix_from limits factors location now) is ∙ prefix-step limits factors location now i rest step stepped
 
   pub reached_next : (i : CallFrameInstruction ℕ) (rest : Instructions ℕ) (new : ContextState ℕ) → left ≡ Ok i ∷ rest
-      → Executes Fixed r.executed now new (step_of (instruction_frame limits factors now) location r.executed i) (Ok None) → Reached limits factors location old new instructions rest before
+      → Executes Fixed now new (state_step limits factors location now i) (Ok None) → whole ≡ prefix_from limits factors location new rest
   unfolding prefix_by
-  reached_next i rest new is carried_out = record {
-    executed = carried_out.0 ∷ r.executed;
-    prefix = prefix_goes i rest (Writes carried_out.0) is carried_out.1;
-    stands = carried_out.2;
-    initial_rules = carried_out.3 ∙ r.initial_rules;
-  }
+  reached_next i rest new is carried_out = prefix_goes i rest (Leaves new) is carried_out
 
   pub runs_moved : (i : CallFrameInstruction ℕ) (rest : Instructions ℕ) (new : ContextState ℕ) (next : ℕ) → left ≡ Ok i ∷ rest
-      → Executes Fixed r.executed now new (step_of (instruction_frame limits factors now) location r.executed i) (Ok (Some next))
-      → Runs Fixed old new rest (prefix_from at_first location before instructions) (Ok (Some next))
+      → Executes Fixed now new (state_step limits factors location now i) (Ok (Some next)) → Runs Fixed new rest whole (Ok (Some next))
   unfolding prefix_by
-  runs_moved i rest new next is carried_out =
-      (r.executed, prefix_goes i rest (Moves next) is carried_out.0, subst (λ (s : ContextState ℕ). Stands s r.executed) (sym carried_out.1) r.stands, ap (λ (s : ContextState ℕ). s.initial_rules) carried_out.1 ∙ r.initial_rules)
+  runs_moved i rest new next is carried_out = prefix_goes i rest (Goes next) is carried_out.0 ∙ ap (λ (s : ContextState ℕ). Moved next s rest) (sym carried_out.1)
 
-  pub runs_refused : (i : CallFrameInstruction ℕ) (rest : Instructions ℕ) (new : ContextState ℕ) (e : Error) → left ≡ Ok i ∷ rest
-      → Executes Fixed r.executed now new (step_of (instruction_frame limits factors now) location r.executed i) (Err e)
-      → Runs Fixed old new rest (prefix_from at_first location before instructions) (Err e)
+  pub runs_refused : (i : CallFrameInstruction ℕ) (rest other : Instructions ℕ) (new : ContextState ℕ) (e : Error) → left ≡ Ok i ∷ rest
+      → Executes Fixed now new (state_step limits factors location now i) (Err e) → Runs Fixed new other whole (Err e)
   unfolding prefix_by
-  runs_refused i rest new e is carried_out = λ told. prefix_goes i rest (Refused e) is (carried_out told)
+  runs_refused i rest other new e is carried_out = λ told. prefix_goes i rest (Fails e) is (carried_out told)
 
-  pub runs_faulty : (rest : Instructions ℕ) (new : ContextState ℕ) (e : Error) → left ≡ Err e ∷ [] → Runs Fixed old new rest (prefix_from at_first location before instructions) (Err e)
-  runs_faulty rest new e is = λ _. r.prefix ∙ ap (prefix_from at_first location r.executed) is
+  pub runs_faulty : (rest : Instructions ℕ) (new : ContextState ℕ) (e : Error) → left ≡ Err e ∷ [] → Runs Fixed new rest whole (Err e)
+  runs_faulty rest new e is = λ _. so_far ∙ ap (prefix_from limits factors location now) is
 
-  pub runs_ended : (rest : Instructions ℕ) → left ≡ [] → Runs Fixed old now rest (prefix_from at_first location before instructions) (Ok None)
-  runs_ended rest is = (r.executed, r.prefix ∙ ap (prefix_from at_first location r.executed) is, r.stands, r.initial_rules)
+  pub runs_ended : (rest : Instructions ℕ) → left ≡ [] → Runs Fixed now rest whole (Ok None)
+  runs_ended rest is = so_far ∙ ap (prefix_from limits factors location now) is
 
--- ---- effects and rows, by prefixes
+-- ---- rows, by prefixes
 
-executed_by : InstructionContext ℕ → Prefix → Result (List (Effect ℕ)) Error
-executed_by frame (Moved next executed rest) = executed_from frame next executed rest
-executed_by frame (Ended executed) = Ok executed
-executed_by frame (Faulty e) = Err e
+rows_by : Limits → Factors → ℕ → ℕ → Prefix → RowList ℕ
+rows_by limits factors end start (Moved next state rest) = row_before (with_bounds start next state).row (rows_of_state limits factors end next (with_bounds start next state) rest)
+rows_by limits factors end start (Ended state) = row_before (with_bounds start end state).row no_rows
+rows_by limits factors end start (Faulty e) = refused_rows e
 
-executed_prefix : (frame : InstructionContext ℕ) (location : ℕ) (executed : List (Effect ℕ)) (instructions : Instructions ℕ) → executed_from frame location executed instructions ≡ executed_by frame (prefix_from frame location executed instructions)
-unfolding executed_by
-executed_prefix frame location executed [] = refl
-executed_prefix frame location executed (Err e ∷ rest) = refl
-executed_prefix frame location executed (Ok i ∷ rest) = go (step_of frame location executed i) (λ effect. executed_prefix frame location (effect ∷ executed) rest)
-  where
-    go : (step : InstructionStep ℕ) → ((effect : Effect ℕ) → executed_from frame location (effect ∷ executed) rest ≡ executed_by frame (prefix_from frame location (effect ∷ executed) rest))
-        → elim step [ Moves next ↦ executed_from frame next executed rest | Writes effect ↦ executed_from frame location (effect ∷ executed) rest | Refused e ↦ Err e ]
-        ≡ executed_by frame (elim step [ Moves next ↦ Moved next executed rest | Writes effect ↦ prefix_from frame location (effect ∷ executed) rest | Refused e ↦ Faulty e ])
-    go (Moves next) others = refl
-    go (Writes effect) others = others effect
-    go (Refused e) others = refl
-
-rows_by : InstructionContext ℕ → ℕ → ℕ → Prefix → RowList ℕ
-rows_by frame end start (Moved next executed rest) = row_before (row_after (unwrap_or frame.initial_rules empty) start next executed) (rows_from frame end next executed rest)
-rows_by frame end start (Ended executed) = row_before (row_after (unwrap_or frame.initial_rules empty) start end executed) no_rows
-rows_by frame end start (Faulty e) = refused_rows e
-
-rows_prefix : (frame : InstructionContext ℕ) (end start : ℕ) (executed : List (Effect ℕ)) (instructions : Instructions ℕ) → rows_from frame end start executed instructions ≡ rows_by frame end start (prefix_from frame start executed instructions)
+rows_prefix : (limits : Limits) (factors : Factors) (end start : ℕ) (state : ContextState ℕ) (instructions : Instructions ℕ)
+    → rows_of_state limits factors end start state instructions ≡ rows_by limits factors end start (prefix_from limits factors start state instructions)
 unfolding rows_by
-rows_prefix frame end start executed [] = refl
-rows_prefix frame end start executed (Err e ∷ rest) = refl
-rows_prefix frame end start executed (Ok i ∷ rest) = go (step_of frame start executed i) (λ effect. rows_prefix frame end start (effect ∷ executed) rest)
+rows_prefix limits factors end start state [] = refl
+rows_prefix limits factors end start state (Err e ∷ rest) = refl
+rows_prefix limits factors end start state (Ok i ∷ rest) = go (state_step limits factors start state i) (λ other. rows_prefix limits factors end start other rest)
   where
-    go : (step : InstructionStep ℕ) → ((effect : Effect ℕ) → rows_from frame end start (effect ∷ executed) rest ≡ rows_by frame end start (prefix_from frame start (effect ∷ executed) rest))
+    go : (step : StateStep) → ((other : ContextState ℕ) → rows_of_state limits factors end start other rest ≡ rows_by limits factors end start (prefix_from limits factors start other rest))
         → elim step [
-          | Moves location ↦ row_before (row_after (unwrap_or frame.initial_rules empty) start location executed) (rows_from frame end location executed rest)
-          | Writes effect ↦ rows_from frame end start (effect ∷ executed) rest
-          | Refused e ↦ refused_rows e
+          | Goes next ↦ row_before (with_bounds start next state).row (rows_of_state limits factors end next (with_bounds start next state) rest)
+          | Leaves other ↦ rows_of_state limits factors end start other rest
+          | Fails e ↦ refused_rows e
         ]
-        ≡ rows_by frame end start (elim step [ Moves next ↦ Moved next executed rest | Writes effect ↦ prefix_from frame start (effect ∷ executed) rest | Refused e ↦ Faulty e ])
-    go (Moves next) others = refl
-    go (Writes effect) others = others effect
-    go (Refused e) others = refl
+        ≡ rows_by limits factors end start (elim step [ Goes next ↦ Moved next state rest | Leaves other ↦ prefix_from limits factors start other rest | Fails e ↦ Faulty e ])
+    go (Goes next) others = refl
+    go (Leaves other) others = others other
+    go (Fails e) others = refl
+
+-- ---- what a state makes is what the executed effects make
+
+-- the frame of the instructions that are executed in a state
+abbrev frame_of : Limits → Factors → ContextState ℕ → InstructionContext ℕ
+frame_of limits factors s = record { factors = factors; limits = limits; initial_rules = s.initial_rules }
+
+-- a step of a state and one after effects do the same
+Alike : ContextState ℕ → List (Effect ℕ) → StateStep → InstructionStep ℕ → Type 0
+Alike s executed (Goes location) (Moves other) = location ≡ other
+Alike s executed (Leaves state) (Writes effect) = Stands state (effect ∷ executed) × (state.initial_rules ≡ s.initial_rules)
+Alike s executed (Fails e) (Refused other) = e ≡ other
+Alike s executed _ _ = ⊥
+
+module _ (limits : Limits) (factors : Factors) (s : ContextState ℕ) (executed : List (Effect ℕ)) (h : Stands s executed) where
+  comes_alike : (e : Effect ℕ) (answer : Result (ContextState ℕ) Error) (need : Result (Unit {0}) Error) → Comes s.initial_rules executed e answer need → Alike s executed (left_by answer) (written e need)
+  unfolding Alike
+  comes_alike e (Ok state) need came = subst (λ (n : Result (Unit {0}) Error). Alike s executed (Leaves state) (written e n)) (sym came.0) (came.2, came.1)
+  comes_alike e (Err x) need came = subst (λ (n : Result (Unit {0}) Error). Alike s executed (Fails x) (written e n)) (sym came) refl
+
+  abbrev writes_alike : (e : Effect ℕ) → destination_of e ≡ None → Alike s executed (left_by (state_after limits e s)) (written e (needs limits s.initial_rules executed e))
+  writes_alike e still = comes_alike e (state_after limits e s) (needs limits s.initial_rules executed e) (steps limits s executed h e still)
+
+  step_by-alike : (answer : Result (Effect ℕ) Error) → Alike s executed (state_step_by limits s answer) (step_from (frame_of limits factors s) executed answer)
+  unfolding Alike
+  step_by-alike (Err e) = refl
+  step_by-alike (Ok (Move location)) = refl
+  step_by-alike (Ok (Cfa rule)) = writes_alike (Cfa rule) refl
+  step_by-alike (Ok (CfaRegister register)) = writes_alike (CfaRegister register) refl
+  step_by-alike (Ok (CfaOffset offset)) = writes_alike (CfaOffset offset) refl
+  step_by-alike (Ok (Rule register rule)) = writes_alike (Rule register rule) refl
+  step_by-alike (Ok (RestoreRule register)) = writes_alike (RestoreRule register) refl
+  step_by-alike (Ok NegateRaState) = writes_alike NegateRaState refl
+  step_by-alike (Ok (ArgsSize size)) = writes_alike (ArgsSize size) refl
+  step_by-alike (Ok Remember) = writes_alike Remember refl
+  step_by-alike (Ok Restore) = writes_alike Restore refl
+  step_by-alike (Ok Nothing) = writes_alike Nothing refl
+
+  step-alike : (location : ℕ) (i : CallFrameInstruction ℕ) → Alike s executed (state_step limits factors location s i) (step_of (frame_of limits factors s) location executed i)
+  step-alike location i = step_by-alike (effect_of factors location i)
+
+-- the same effects stand in a state with other bounds
+bounded : (start end : ℕ) (s : ContextState ℕ) (executed : List (Effect ℕ)) → Stands s executed → Stands (with_bounds start end s) executed
+bounded start end s executed h = record { count = h.count; parts = h.parts }
+
+-- the row of a state is that of the effects
+row_is : (start end : ℕ) (s : ContextState ℕ) (executed : List (Effect ℕ)) → Stands s executed → (with_bounds start end s).row ≡ row_after (unwrap_or s.initial_rules empty) start end executed
+row_is start end s executed h = ap (row_with start end) (row_parts s executed h)
+
+-- the rows of a state are those after the effects
+pub rows_alike : (limits : Limits) (factors : Factors) (end start : ℕ) (s : ContextState ℕ) (executed : List (Effect ℕ)) (instructions : Instructions ℕ) → Stands s executed
+    → rows_of_state limits factors end start s instructions ≡ rows_from (frame_of limits factors s) end start executed instructions
+unfolding Alike
+rows_alike limits factors end start s executed [] h = ap (λ (r : Row ℕ). row_before r no_rows) (row_is start end s executed h)
+rows_alike limits factors end start s executed (Err e ∷ rest) h = refl
+rows_alike limits factors end start s executed (Ok i ∷ rest) h =
+    go (state_step limits factors start s i) (step_of (frame_of limits factors s) start executed i) (step-alike limits factors s executed h start i)
+    (λ next. rows_alike limits factors end next (with_bounds start next s) executed rest (bounded start next s executed h))
+    (λ state effect stands. rows_alike limits factors end start state (effect ∷ executed) rest stands)
+  where
+    go : (a : StateStep) (b : InstructionStep ℕ) → Alike s executed a b
+        → ((next : ℕ) → rows_of_state limits factors end next (with_bounds start next s) rest ≡ rows_from (frame_of limits factors s) end next executed rest)
+        → ((state : ContextState ℕ) (effect : Effect ℕ) → Stands state (effect ∷ executed) → rows_of_state limits factors end start state rest ≡ rows_from (frame_of limits factors state) end start (effect ∷ executed) rest)
+        → ◌≡◌ {A = RowList ℕ} (elim a [
+          | Goes next ↦ row_before (with_bounds start next s).row (rows_of_state limits factors end next (with_bounds start next s) rest)
+          | Leaves other ↦ rows_of_state limits factors end start other rest
+          | Fails e ↦ refused_rows e
+        ]) (elim b [
+          | Moves location ↦ row_before (row_after (unwrap_or s.initial_rules empty) start location executed) (rows_from (frame_of limits factors s) end location executed rest)
+          | Writes effect ↦ rows_from (frame_of limits factors s) end start (effect ∷ executed) rest
+          | Refused e ↦ refused_rows e
+        ])
+    go (Goes next) (Moves location) same moved wrote =
+        (λ j. row_before (row_is start next s executed h j) (moved next j))
+        ∙ ap (λ (l : ℕ). row_before (row_after (unwrap_or s.initial_rules empty) start l executed) (rows_from (frame_of limits factors s) end l executed rest)) same
+    go (Goes next) (Writes effect) same moved wrote = absurd same
+    go (Goes next) (Refused e) same moved wrote = absurd same
+    go (Leaves state) (Moves location) same moved wrote = absurd same
+    go (Leaves state) (Writes effect) same moved wrote =
+        wrote state effect same.0
+        ∙ ap (λ (rules : InitialRules ℕ). rows_from (record { factors = factors; limits = limits; initial_rules = rules }) end start (effect ∷ executed) rest) same.1
+    go (Leaves state) (Refused e) same moved wrote = absurd same
+    go (Fails e) (Moves location) same moved wrote = absurd same
+    go (Fails e) (Writes effect) same moved wrote = absurd same
+    go (Fails e) (Refused other) same moved wrote = ap (λ (x : Error). refused_rows x) same
 
 -- ---- the CIE's own instructions
 
@@ -287,27 +316,60 @@ started_first number limits factors s instructions is = record {
   initial_rules = ap (λ (now : ContextState ℕ). now.initial_rules) (ap (state_as number) is);
 }
 
+-- what the instructions of a prefix come to in the CIE
+ComesTo : Limits → Factors → Result (List (Effect ℕ)) Error → Prefix → Type 0
+ComesTo limits factors all (Moved next state rest) =
+    (executed : List (Effect ℕ)) × (all ≡ executed_from (first_frame limits factors) next executed rest) × Stands state executed × (state.initial_rules ≡ None)
+ComesTo limits factors all (Ended state) = (executed : List (Effect ℕ)) × (all ≡ Ok executed) × Stands state executed × (state.initial_rules ≡ None)
+ComesTo limits factors all (Faulty e) = all ≡ Err e
+
+prefix_alike : (limits : Limits) (factors : Factors) (location : ℕ) (s : ContextState ℕ) (executed : List (Effect ℕ)) (instructions : Instructions ℕ) → Stands s executed → s.initial_rules ≡ None
+    → ComesTo limits factors (executed_from (first_frame limits factors) location executed instructions) (prefix_from limits factors location s instructions)
+unfolding Alike ComesTo
+prefix_alike limits factors location s executed [] h none = (executed, refl, h, none)
+prefix_alike limits factors location s executed (Err e ∷ rest) h none = refl
+prefix_alike limits factors location s executed (Ok i ∷ rest) h none =
+    go (state_step limits factors location s i) (step_of (first_frame limits factors) location executed i)
+    (subst (λ (rules : InitialRules ℕ). Alike s executed (state_step limits factors location s i) (step_of (record { factors = factors; limits = limits; initial_rules = rules }) location executed i)) none
+    (step-alike limits factors s executed h location i))
+    (λ state effect stands initial_rules. prefix_alike limits factors location state (effect ∷ executed) rest stands initial_rules)
+  where
+    go : (a : StateStep) (b : InstructionStep ℕ) → Alike s executed a b
+        → ((state : ContextState ℕ) (effect : Effect ℕ) → Stands state (effect ∷ executed) → state.initial_rules ≡ None
+        → ComesTo limits factors (executed_from (first_frame limits factors) location (effect ∷ executed) rest) (prefix_from limits factors location state rest))
+        → ComesTo limits factors (elim b [
+          | Moves next ↦ executed_from (first_frame limits factors) next executed rest
+          | Writes effect ↦ executed_from (first_frame limits factors) location (effect ∷ executed) rest
+          | Refused e ↦ Err e
+        ]) (elim a [ Goes next ↦ Moved next s rest | Leaves other ↦ prefix_from limits factors location other rest | Fails e ↦ Faulty e ])
+    go (Goes next) (Moves other) same wrote = (executed, ap (λ (l : ℕ). executed_from (first_frame limits factors) l executed rest) (sym same), h, none)
+    go (Goes next) (Writes effect) same wrote = absurd same
+    go (Goes next) (Refused e) same wrote = absurd same
+    go (Leaves state) (Moves location) same wrote = absurd same
+    go (Leaves state) (Writes effect) same wrote = wrote state effect same.0 (same.1 ∙ none)
+    go (Leaves state) (Refused e) same wrote = absurd same
+    go (Fails e) (Moves location) same wrote = absurd same
+    go (Fails e) (Writes effect) same wrote = absurd same
+    go (Fails e) (Refused other) same wrote = ap (λ (x : Error). Err x) (sym same)
+
 module _ (Fixed : Type 0) (limits : Limits) (factors : Factors) (location : ℕ) (now new : ContextState ℕ) (instructions left rest : Instructions ℕ) (s : Started limits factors location now instructions left) where
-  started_prefix : prefix_from (instruction_frame limits factors now) location s.executed left ≡ prefix_from (first_frame limits factors) location s.executed left
-  started_prefix = ap (λ (initial_rules : InitialRules ℕ). prefix_from (record { factors = factors; limits = limits; initial_rules = initial_rules }) location s.executed left) s.initial_rules
-
   abbrev prefix : Prefix
-  prefix = prefix_from (instruction_frame limits factors now) location s.executed left
+  prefix = prefix_from limits factors location now left
 
-  executed_is : (f : Prefix) → prefix ≡ f → executed_from (first_frame limits factors) 0 [] instructions ≡ executed_by (first_frame limits factors) f
-  executed_is f is = s.same ∙ executed_prefix (first_frame limits factors) location s.executed left ∙ ap (executed_by (first_frame limits factors)) (sym started_prefix ∙ is)
+  come : (f : Prefix) → prefix ≡ f → ComesTo limits factors (executed_from (first_frame limits factors) location s.executed left) f
+  come f is = subst (λ (p : Prefix). ComesTo limits factors (executed_from (first_frame limits factors) location s.executed left) p) is (prefix_alike limits factors location now s.executed left s.stands s.initial_rules)
 
-  pub started_next : (next : ℕ) → Runs Fixed now new rest prefix (Ok (Some next)) → Started limits factors next new instructions rest
-  unfolding executed_by
-  started_next next ran = record { executed = ran.0; same = executed_is (Moved next ran.0 rest) ran.1; stands = ran.2; initial_rules = ran.3 ∙ s.initial_rules }
+  pub started_next : (next : ℕ) → Runs Fixed new rest prefix (Ok (Some next)) → Started limits factors next new instructions rest
+  unfolding ComesTo
+  started_next next ran = let came = come (Moved next new rest) ran in record { executed = came.0; same = s.same ∙ came.1; stands = came.2; initial_rules = came.3 }
 
-  pub started_ended : Runs Fixed now new rest prefix (Ok None) → (executed : List (Effect ℕ)) × (executed_from (first_frame limits factors) 0 [] instructions ≡ Ok executed) × Stands new executed × (new.initial_rules ≡ None)
-  unfolding executed_by
-  started_ended ran = (ran.0, executed_is (Ended ran.0) ran.1, ran.2, ran.3 ∙ s.initial_rules)
+  pub started_ended : Runs Fixed new rest prefix (Ok None) → (executed : List (Effect ℕ)) × (executed_from (first_frame limits factors) 0 [] instructions ≡ Ok executed) × Stands new executed × (new.initial_rules ≡ None)
+  unfolding ComesTo
+  started_ended ran = let came = come (Ended new) ran in (came.0, s.same ∙ came.1, came.2, came.3)
 
-  pub starts_refused : (e : Error) → Runs Fixed now new rest prefix (Err e) → Starts Fixed new (executed_by_cie limits factors instructions) (Err e)
-  unfolding executed_by
-  starts_refused e ran = λ told. ap (λ left. left >>= with_room limits) (executed_is (Faulty e) (ran told))
+  pub starts_refused : (e : Error) → Runs Fixed new rest prefix (Err e) → Starts Fixed new (executed_by_cie limits factors instructions) (Err e)
+  unfolding ComesTo
+  starts_refused e ran = λ told. ap (λ left. left >>= with_room limits) (s.same ∙ come (Faulty e) (ran told))
 
 -- the CIE's rules are kept, or there is no room for them
 module _ {T : Type 0} (number : T → ℕ) (Fixed : Type 0) (limits : Limits) (factors : Factors) (instructions : Instructions ℕ) (executed : List (Effect ℕ)) (s : ContextState T)
@@ -356,124 +418,145 @@ module _ {R S E O L K : Type 0} where
 
 -- ---- rows
 
-module _ {R S E O L K : Type 0} (stretch : R → Stretch) (limit : ℕ) (number : O → ℕ) (items : K → List (UnwindTableRow O L)) (limits : Limits) (Fixed : Type 0) (t u : ProgramRows R S E O L K) (mid : ContextState ℕ) (left : RowList ℕ) (goes : GoesOn stretch limit number items limits t left) where
-  abbrev state : ContextState ℕ
-  state = rows_state number items limits t
+-- where the CIE's effects left a state, its rows are those of the program
+pub rows_begun : (Fixed : Type 0) (limits : Limits) (program : EntryProgram ℕ) (state : ContextState ℕ) → Starts Fixed state (effects_of_cie limits program) (Ok tt)
+    → rows_of_state limits program.factors program.end_address program.initial_address state program.instructions ≡ rows_of_program limits program
+rows_begun Fixed limits program state started =
+    rows_alike limits program.factors program.end_address program.initial_address state started.0 program.instructions started.3
+    ∙ ap (λ (rules : InitialRules ℕ). rows_from (record { factors = program.factors; limits = limits; initial_rules = rules }) program.end_address program.initial_address started.0 program.instructions) started.2
+    ∙ sym (ap (rows_after_cie limits program) started.1)
 
-  abbrev whole_frame : InstructionContext ℕ
-  whole_frame = instruction_frame limits t.factors state
+module _ {R S E O L K : Type 0} (stretch : R → Stretch) (limit : ℕ) (number : O → ℕ) (items : K → List (UnwindTableRow O L)) (limits : Limits) (Fixed : Type 0) (t u : ProgramRows R S E O L K) where
+  abbrev Left : ProgramRows R S E O L K → RowList ℕ
+  Left rows = rows_left stretch limit number items limits rows
+
+  abbrev state_now : ContextState ℕ
+  state_now = rows_state number items t
 
   abbrev whole_prefix : Prefix
-  whole_prefix = prefix_from whole_frame t.next_start_address goes.0 (instructions_left stretch limit t)
+  whole_prefix = prefix_from limits t.factors t.next_start_address state_now (instructions_left stretch limit t)
 
-  whole_left : (f : Prefix) → whole_prefix ≡ f → rows_by whole_frame t.end_address t.next_start_address f ≡ left
-  whole_left f is = sym (rows_prefix whole_frame t.end_address t.next_start_address goes.0 (instructions_left stretch limit t) ∙ ap (rows_by whole_frame t.end_address t.next_start_address) is) ∙ goes.2
+  -- the row that is current if one is given
+  given_row : u.has_row ≡ true → Some (rows_state number items u).row ≡ current_row number items u
+  given_row given = sym (ap (λ b. cond b (Some (rows_state number items u).row) None) given)
 
-  -- the row that is worked on, within its bounds
-  row_is : (end : ℕ) (executed : List (Effect ℕ)) → Stands mid executed → mid.initial_rules ≡ state.initial_rules → rows_state number items limits u ≡ record mid { row = record mid.row { start = t.next_start_address; end = end } }
-      → (rows_state number items limits u).row ≡ row_after (unwrap_or state.initial_rules empty) t.next_start_address end executed
-  row_is end executed h initial_rules is =
-      ap (λ (s : ContextState ℕ). s.row) is
-      ∙ ap (row_with t.next_start_address end) (row_parts mid executed h ∙ ap (λ (o : InitialRules ℕ). surviving_parts (unwrap_or o empty) (survivors 0 executed)) initial_rules)
+  -- nothing is left at the end
+  none_left : u.is_ended ≡ true → Left u ≡ no_rows
+  none_left ended = ap (λ b. cond b no_rows (rows_of_state limits u.factors u.end_address u.next_start_address (rows_state number items u) (instructions_left stretch limit u))) ended
 
-  bounded : (end : ℕ) (executed : List (Effect ℕ)) → Stands mid executed → rows_state number items limits u ≡ record mid { row = record mid.row { start = t.next_start_address; end = end } } → Stands (rows_state number items limits u) executed
-  bounded end executed h is = subst (λ (s : ContextState ℕ). Stands s executed) (sym is) (record { count = h.count; parts = h.parts })
+  module _ (goes : t.is_ended ≡ false) where
+    whole_left : (f : Prefix) → whole_prefix ≡ f → Left t ≡ rows_by limits t.factors t.end_address t.next_start_address f
+    whole_left f is =
+        ap (λ b. cond b no_rows (rows_of_state limits t.factors t.end_address t.next_start_address state_now (instructions_left stretch limit t))) goes
+        ∙ rows_prefix limits t.factors t.end_address t.next_start_address state_now (instructions_left stretch limit t)
+        ∙ ap (rows_by limits t.factors t.end_address t.next_start_address) is
 
-  -- a move ended the row
-  pub moved_on : (location : ℕ) (rest : Instructions ℕ) → Runs Fixed state mid rest whole_prefix (Ok (Some location))
-      → rows_state number items limits u ≡ record mid { row = record mid.row { start = t.next_start_address; end = location } }
-      → u.factors ≡ t.factors → u.end_address ≡ t.end_address → u.next_start_address ≡ location → instructions_left stretch limit u ≡ rest → u.is_ended ≡ false → u.has_row ≡ true
-      → Advances stretch limit number items limits Fixed left left.rows (Ok true) u
-  unfolding rows_by
-  moved_on location rest ran is factors end next instructions going given =
-      let others = rows_from whole_frame t.end_address location ran.0 rest in
-      let initial_rules : (rows_state number items limits u).initial_rules ≡ state.initial_rules = ap (λ (s : ContextState ℕ). s.initial_rules) is ∙ ran.3 in
-      let same : rows_from (instruction_frame limits u.factors (rows_state number items limits u)) u.end_address u.next_start_address ran.0 (instructions_left stretch limit u) ≡ others
-      = λ i. rows_from (record { factors = factors i; limits = limits; initial_rules = initial_rules i }) (end i) (next i) ran.0 (instructions i) in
-      let P : Bool → Type 0 = λ b. LeftAt stretch limit number items limits b u others in
-      let Q : RowList ℕ → Type 0 = λ l. Advances stretch limit number items limits Fixed l l.rows (Ok true) u in
-      subst Q (whole_left (Moved location ran.0 rest) ran.1)
-      (row_is location ran.0 ran.2 ran.3 is, subst P (sym going) (ran.0, bounded location ran.0 ran.2 is, same), given)
+    -- a row, and what is left after it
+    goes_to : (others : RowList ℕ) → Left t ≡ row_before (rows_state number items u).row others → Left u ≡ others → u.has_row ≡ true → Advances stretch limit number items limits Fixed t (Ok true) u
+    goes_to others is left given = record {
+      first = ap first_of is ∙ ap (λ (o : Option (Row ℕ)). Ok o) (given_row given);
+      refused = tt;
+      left = left ∙ sym (ap after_first is);
+      given = given;
+    }
 
-  -- the end of the instructions ended the last row
-  pub ended_last : (rest : Instructions ℕ) → Runs Fixed state mid rest whole_prefix (Ok None)
-      → rows_state number items limits u ≡ record mid { row = record mid.row { start = t.next_start_address; end = t.end_address } }
-      → u.is_ended ≡ true → u.has_row ≡ true → Advances stretch limit number items limits Fixed left left.rows (Ok true) u
-  unfolding rows_by
-  ended_last rest ran is ended given =
-      let P : Bool → Type 0 = λ b. LeftAt stretch limit number items limits b u no_rows in
-      let Q : RowList ℕ → Type 0 = λ l. Advances stretch limit number items limits Fixed l l.rows (Ok true) u in
-      subst Q (whole_left (Ended ran.0) ran.1) (row_is t.end_address ran.0 ran.2 ran.3 is, subst P (sym ended) refl, given)
+    -- a move ended the row
+    pub moved_on : (location : ℕ) (mid : ContextState ℕ) (rest : Instructions ℕ) → Runs Fixed mid rest whole_prefix (Ok (Some location))
+        → rows_state number items u ≡ with_bounds t.next_start_address location mid
+        → u.factors ≡ t.factors → u.end_address ≡ t.end_address → u.next_start_address ≡ location → instructions_left stretch limit u ≡ rest → u.is_ended ≡ false → u.has_row ≡ true
+        → Advances stretch limit number items limits Fixed t (Ok true) u
+    unfolding rows_by
+    moved_on location mid rest ran is factors end next instructions going given =
+        goes_to (rows_of_state limits t.factors t.end_address location (with_bounds t.next_start_address location mid) rest)
+        (whole_left (Moved location mid rest) ran
+        ∙ ap (λ (s : ContextState ℕ). row_before s.row (rows_of_state limits t.factors t.end_address location (with_bounds t.next_start_address location mid) rest)) (sym is))
+        (ap (λ b. cond b no_rows (rows_of_state limits u.factors u.end_address u.next_start_address (rows_state number items u) (instructions_left stretch limit u))) going
+        ∙ (λ i. rows_of_state limits (factors i) (end i) (next i) (is i) (instructions i)))
+        given
 
-  -- an instruction was refused
-  pub refused_here : (rest : Instructions ℕ) (e : Error) → Runs Fixed state mid rest whole_prefix (Err e) → u.is_ended ≡ true → u.has_row ≡ false
-      → Advances stretch limit number items limits Fixed left left.rows (Err e) u
-  unfolding rows_by
-  refused_here rest e ran ended given = at_all left.rows
-    where
-      none_left : HasLeft stretch limit number items limits u no_rows
-      none_left = let P : Bool → Type 0 = λ b. LeftAt stretch limit number items limits b u no_rows in subst P (sym ended) refl
+    -- the end of the instructions ended the last row
+    pub ended_last : (mid : ContextState ℕ) (rest : Instructions ℕ) → Runs Fixed mid rest whole_prefix (Ok None)
+        → rows_state number items u ≡ with_bounds t.next_start_address t.end_address mid
+        → u.is_ended ≡ true → u.has_row ≡ true → Advances stretch limit number items limits Fixed t (Ok true) u
+    unfolding rows_by
+    ended_last mid rest ran is ended given =
+        goes_to no_rows (whole_left (Ended mid) ran ∙ ap (λ (s : ContextState ℕ). row_before s.row no_rows) (sym is)) (none_left ended) given
 
-      at_all : (all : List (Row ℕ)) → Advances stretch limit number items limits Fixed left all (Err e) u
-      at_all [] = (λ told. sym (whole_left (Faulty e) (ran told)), none_left, given)
-      at_all (row ∷ others) = (λ told. sym (whole_left (Faulty e) (ran told)), none_left, given)
+    -- an instruction failed
+    pub refused_here : (mid : ContextState ℕ) (rest : Instructions ℕ) (e : Error) → Runs Fixed mid rest whole_prefix (Err e) → u.is_ended ≡ true → u.has_row ≡ false
+        → Advances stretch limit number items limits Fixed t (Err e) u
+    unfolding rows_by
+    refused_here mid rest e ran ended given = record {
+      first = tt;
+      refused = λ told. ap first_of (whole_left (Faulty e) (ran told));
+      left = none_left ended;
+      given = given;
+    }
 
--- rows that aren't at their end go on
-pub going : {R S E O L K : Type 0} (stretch : R → Stretch) (limit : ℕ) (number : O → ℕ) (items : K → List (UnwindTableRow O L)) (limits : Limits) (t : ProgramRows R S E O L K) (left : RowList ℕ)
-    → t.is_ended ≡ false → HasLeft stretch limit number items limits t left → GoesOn stretch limit number items limits t left
-going stretch limit number items limits t left is h = let P : Bool → Type 0 = λ b. LeftAt stretch limit number items limits b t left in subst P is h
+  -- no row is left
+  pub ended_before : t.is_ended ≡ true → u.is_ended ≡ true → u.has_row ≡ false → Advances stretch limit number items limits Fixed t (Ok false) u
+  ended_before over ended given =
+      let none : Left t ≡ no_rows = ap (λ b. cond b no_rows (rows_of_state limits t.factors t.end_address t.next_start_address state_now (instructions_left stretch limit t))) over in record {
+        first = ap first_of none ∙ ap (λ b. Ok (cond b (Some (rows_state number items u).row) None)) (sym given);
+        refused = tt;
+        left = none_left ended ∙ sym (ap after_first none);
+        given = given;
+      }
 
--- ---- what a call of next_row gives and leaves
+-- ---- a row that was given back
 
-module _ {R S E O L K : Type 0} (stretch : R → Stretch) (limit : ℕ) (number : O → ℕ) (items : K → List (UnwindTableRow O L)) (limits : Limits) (Fixed : Type 0) (u : ProgramRows R S E O L K) (left : RowList ℕ) where
-  abbrev After : List (Row ℕ) → Result Bool Error → Type 0
-  After all result = Advances stretch limit number items limits Fixed left all result u
+-- an answer shows the current row
+pub answer_shows : {O L : Type 0} (number : O → ℕ) (given : Option (Bor (UnwindTableRow O L))) (row : Option (Row ℕ)) (left : RowList ℕ) → option_map (λ row. row_in number row.now) given ≡ row → first_of left ≡ Ok row
+    → first_of left ≡ Ok (option_map (λ row. row_in number row.now) given)
+answer_shows number given row left shown first = first ∙ ap (λ (o : Option (Row ℕ)). Ok o) (sym shown)
 
-  abbrev shown_row : Row ℕ
-  shown_row = (rows_state number items limits u).row
+-- ---- the row for an address
 
-  pub row_leaves : (all : List (Row ℕ)) → After all (Ok true) → HasLeft stretch limit number items limits u (behind_first left all)
-  row_leaves [] h = absurd h
-  row_leaves (row ∷ others) h = h.1
+-- the rows are as their first, and those after it
+row_among-first : (address : ℕ) (left : RowList ℕ) (row : Row ℕ) → first_of left ≡ Ok (Some row) → row_among address left ≡ cond (holds_at address row) (Ok row) (row_among address (after_first left))
+row_among-first address left row is = go left.rows left.refusal is
+  where
+    chosen : (b : Bool) (row : Row ℕ) (others : List (Row ℕ)) (refusal : Option Error)
+        → found_or refusal (cond b (Some row) (find (holds_at address) others)) ≡ cond b (Ok row) (found_or refusal (find (holds_at address) others))
+    chosen true row others refusal = refl
+    chosen false row others refusal = refl
 
-  pub row_next : (all : List (Row ℕ)) (shown : Bor (UnwindTableRow O L)) → row_in number shown.now ≡ shown_row → After all (Ok true) → NextIs number Fixed left all (Ok (Some shown))
-  row_next [] shown is h = absurd h
-  row_next (row ∷ others) shown is h = is ∙ h.0
+    go : (rows : List (Row ℕ)) (refusal : Option Error) → first_of (record { rows = rows; refusal = refusal }) ≡ Ok (Some row)
+        → row_among address (record { rows = rows; refusal = refusal }) ≡ cond (holds_at address row) (Ok row) (row_among address (after_first (record { rows = rows; refusal = refusal })))
+    go [] None is = let none : ◌≡◌ {A = Option (Row ℕ)} None (Some row) = cc in cc
+    go [] (Some e) is = cc
+    go (first ∷ others) refusal is =
+        let same : first ≡ row = cc in
+        chosen (holds_at address first) first others refusal ∙ ap (λ (r : Row ℕ). cond (holds_at address r) (Ok r) (found_or refusal (find (holds_at address) others))) same
 
-  pub end_leaves : (all : List (Row ℕ)) → After all (Ok false) → HasLeft stretch limit number items limits u (behind_first left all)
-  end_leaves [] h = h.1
-  end_leaves (row ∷ others) h = absurd h
+pub found_here : (address : ℕ) (left : RowList ℕ) (row : Row ℕ) → first_of left ≡ Ok (Some row) → holds_at address row ≡ true → row_among address left ≡ Ok row
+found_here address left row is here = row_among-first address left row is ∙ ap (λ b. cond b (Ok row) (row_among address (after_first left))) here
 
-  pub end_next : (all : List (Row ℕ)) → After all (Ok false) → NextIs {O = O} {L = L} number Fixed left all (Ok None)
-  end_next [] h = h.0
-  end_next (row ∷ others) h = absurd h
+pub found_later : (address : ℕ) (left : RowList ℕ) (row : Row ℕ) → first_of left ≡ Ok (Some row) → holds_at address row ≡ false → row_among address left ≡ row_among address (after_first left)
+found_later address left row is here = row_among-first address left row is ∙ ap (λ b. cond b (Ok row) (row_among address (after_first left))) here
 
-  pub refusal_leaves : (all : List (Row ℕ)) (e : Error) → After all (Err e) → HasLeft stretch limit number items limits u no_rows
-  refusal_leaves [] e h = h.1
-  refusal_leaves (row ∷ others) e h = h.1
+-- no row, or an error
+found_at_end : (address : ℕ) (rows : List (Row ℕ)) (refusal : Option Error) (answer : Result (Row ℕ) Error) → ((o : Option Error) → end_of_rows o ≡ first_of (record { rows = rows; refusal = refusal }) → found_or o None ≡ answer)
+    → ((row : Row ℕ) → Ok (Some row) ≡ first_of (record { rows = rows; refusal = refusal }) → ⊥) → row_among address (record { rows = rows; refusal = refusal }) ≡ answer
+found_at_end address [] refusal answer ends never = ends refusal refl
+found_at_end address (row ∷ others) refusal answer ends never = absurd (never row refl)
 
-  pub refusal_next : (all : List (Row ℕ)) (e : Error) → After all (Err e) → NextIs {O = O} {L = L} number Fixed left all (Err e)
-  refusal_next [] e h = h.0
-  refusal_next (row ∷ others) e h = h.0
+pub found_nowhere : (address : ℕ) (left : RowList ℕ) → first_of left ≡ Ok None → row_among address left ≡ Err NoUnwindInfoForAddress
+found_nowhere address left is = found_at_end address left.rows left.refusal (Err NoUnwindInfoForAddress) ends never
+  where
+    ends : (o : Option Error) → end_of_rows o ≡ first_of left → ◌≡◌ {A = Result (Row ℕ) Error} (found_or o None) (Err NoUnwindInfoForAddress)
+    ends None same = refl
+    ends (Some e) same = let no : ◌≡◌ {A = Result (Option (Row ℕ)) Error} (Err e) (Ok None) = same ∙ is in cc
 
-  pub refusal_is : (all : List (Row ℕ)) (e : Error) → After all (Err e) → IsRefusal Fixed e → left ≡ refused_rows e
-  refusal_is [] e h = h.0
-  refusal_is (row ∷ others) e h = h.0
+    never : (row : Row ℕ) → Ok (Some row) ≡ first_of left → ⊥
+    never row same = let no : ◌≡◌ {A = Result (Option (Row ℕ)) Error} (Ok (Some row)) (Ok None) = same ∙ is in let none : ◌≡◌ {A = Option (Row ℕ)} (Some row) None = cc in cc
 
-  -- ---- what it says of a look-up
+pub found_refused : (address : ℕ) (left : RowList ℕ) (e : Error) → first_of left ≡ Err e → row_among address left ≡ Err e
+found_refused address left e is = found_at_end address left.rows left.refusal (Err e) ends never
+  where
+    ends : (o : Option Error) → end_of_rows o ≡ first_of left → ◌≡◌ {A = Result (Row ℕ) Error} (found_or o None) (Err e)
+    ends None same = let no : ◌≡◌ {A = Result (Option (Row ℕ)) Error} (Ok None) (Err e) = same ∙ is in cc
+    ends (Some x) same = let no : ◌≡◌ {A = Result (Option (Row ℕ)) Error} (Err x) (Err e) = same ∙ is in let one : x ≡ e = cc in ap (λ (y : Error). Err y) one
 
-  pub found_here : (address : ℕ) (all : List (Row ℕ)) → After all (Ok true) → holds_at address shown_row ≡ true → found_or left.refusal (find (holds_at address) all) ≡ Ok shown_row
-  found_here address [] h here = absurd h
-  found_here address (row ∷ others) h here =
-      let there : holds_at address row ≡ true = ap (holds_at address) (sym h.0) ∙ here in
-      ap (λ b. found_or left.refusal (cond b (Some row) (find (holds_at address) others))) there ∙ ap (λ r. Ok r) (sym h.0)
-
-  pub found_later : (address : ℕ) (all : List (Row ℕ)) → After all (Ok true) → holds_at address shown_row ≡ false → found_or left.refusal (find (holds_at address) all) ≡ row_among address (behind_first left all)
-  found_later address [] h here = absurd h
-  found_later address (row ∷ others) h here =
-      let there : holds_at address row ≡ false = ap (holds_at address) (sym h.0) ∙ here in
-      ap (λ b. found_or left.refusal (cond b (Some row) (find (holds_at address) others))) there
-
-  pub found_nowhere : (address : ℕ) (all : List (Row ℕ)) → After all (Ok false) → found_or left.refusal (find (holds_at address) all) ≡ Err NoUnwindInfoForAddress
-  found_nowhere address [] h = ap (λ o. found_or o None) h.0
-  found_nowhere address (row ∷ others) h = absurd h
+    never : (row : Row ℕ) → Ok (Some row) ≡ first_of left → ⊥
+    never row same = let no : ◌≡◌ {A = Result (Option (Row ℕ)) Error} (Ok (Some row)) (Err e) = same ∙ is in cc

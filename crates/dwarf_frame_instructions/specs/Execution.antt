@@ -1,16 +1,18 @@
--- What the code has executed of a program.
+-- What the code has executed of a program, by the states of its context.
 use Rattle.std.specs.Prelude.{◌≡◌, ◌≢◌, ◌⊎◌, ℕ, List, [], ◌∷◌, Option, Some, None, Result, Ok, Err}
 use Rattle.dwarf_constants.specs.declared.error.Error.{Error}
 use Rattle.dwarf_constants.specs.declared.error.Error.TheVariants.{OutOfMemory}
 use Rattle.dwarf_frame_rows.specs.declared.context.UnwindContext.{UnwindContext}
 use Rattle.dwarf_frame_rows.specs.declared.effect.Effect.{Effect}
+use Rattle.dwarf_frame_rows.specs.declared.effect.Effect.TheVariants.{Move}
 use Rattle.dwarf_frame_rows.specs.declared.row.UnwindTableRow.{UnwindTableRow}
 use Rattle.dwarf_frame_rows.specs.Contexts.{state_of}
-use Rattle.dwarf_frame_rows.specs.Effects.{Limits, ContextState}
+use Rattle.dwarf_frame_rows.specs.Effects.{Limits, ContextState, state_after}
 use Rattle.dwarf_frame_rows.specs.Row.{Row, row_of}
 use Rattle.dwarf_frame_instructions.specs.declared.effects.Factors.{Factors}
 use Rattle.dwarf_frame_instructions.specs.declared.instructions.CallFrameInstruction.{CallFrameInstruction}
-use Rattle.dwarf_frame_instructions.specs.Programs.{InstructionContext, Instructions, InstructionStep, Moves, Writes, Refused, rules_left, step_of}
+use Rattle.dwarf_frame_instructions.specs.Effects.{effect_of}
+use Rattle.dwarf_frame_instructions.specs.Programs.{Instructions, rules_left}
 use Rattle.dwarf_frame_instructions.specs.Standing.{Stands}
 use Rattle.dwarf_frame_instructions.specs.StateViews.{row_as, state_as}
 
@@ -24,65 +26,63 @@ state_in number items context = state_as number (state_of items context)
 abbrev pub row_in : {T L : Type 0} → (T → ℕ) → UnwindTableRow T L → Row ℕ
 row_in number row = row_as number (row_of row)
 
--- the context of the instructions that are executed in a state
-abbrev pub instruction_frame : Limits → Factors → ContextState ℕ → InstructionContext ℕ
-instruction_frame limits factors s = record { factors = factors; limits = limits; initial_rules = s.initial_rules }
-
 -- The error is of the program, and not that memory ran out; in a storage that never allocates every error is.
 abbrev pub IsRefusal : Type 0 → Error → Type 0
 IsRefusal Fixed e = Fixed ⊎ (e ≢ OutOfMemory)
 
 -- ---- one instruction
 
--- An instruction was executed as its step says: the location it moves to, or the state after its effect, or the error.
-abbrev pub Executes : Type 0 → List (Effect ℕ) → ContextState ℕ → ContextState ℕ → InstructionStep ℕ → Result (Option ℕ) Error
-    → Type 0
-Executes Fixed executed old new step (Ok (Some next)) = (step ≡ Moves next) × (new ≡ old)
-Executes Fixed executed old new step (Ok None) =
-    (effect : Effect ℕ) × (step ≡ Writes effect) × Stands new (effect ∷ executed) × (new.initial_rules ≡ old.initial_rules)
-Executes Fixed executed old new step (Err e) = IsRefusal Fixed e → step ≡ Refused e
+-- an instruction moves the location, or leaves this state, or fails
+pub data StateStep : Type 0 where
+  Goes : (location : ℕ) → StateStep
+  Leaves : (state : ContextState ℕ) → StateStep
+  Fails : (error : Error) → StateStep
 
--- An instruction was executed at a location as the definition says, whichever effects led to the state.
-abbrev pub ExecutesAt : Type 0 → Limits → Factors → ℕ → ContextState ℕ → ContextState ℕ → CallFrameInstruction ℕ
-    → Result (Option ℕ) Error → Type 0
-ExecutesAt Fixed limits factors location old new instruction result =
-    (executed : List (Effect ℕ)) → Stands old executed
-    → Executes Fixed executed old new (step_of (instruction_frame limits factors old) location executed instruction) result
+-- the state that an effect leaves, or its error
+abbrev pub left_by : Result (ContextState ℕ) Error → StateStep
+left_by (Ok state) = Leaves state
+left_by (Err e) = Fails e
+
+-- what an effect does to a state, or the error of an instruction without one
+abbrev pub state_step_by : Limits → ContextState ℕ → Result (Effect ℕ) Error → StateStep
+state_step_by limits state (Ok (Move location)) = Goes location
+state_step_by limits state (Ok effect) = left_by (state_after limits effect state)
+state_step_by limits state (Err e) = Fails e
+
+-- what an instruction does at this location to a state
+abbrev pub state_step : Limits → Factors → ℕ → ContextState ℕ → CallFrameInstruction ℕ → StateStep
+state_step limits factors location state i = state_step_by limits state (effect_of factors location i)
+
+-- An instruction was executed as its step says: the location that it moves to, or another state, or the error.
+abbrev pub Executes : Type 0 → ContextState ℕ → ContextState ℕ → StateStep → Result (Option ℕ) Error → Type 0
+Executes Fixed old new step (Ok (Some next)) = (step ≡ Goes next) × (new ≡ old)
+Executes Fixed old new step (Ok None) = step ≡ Leaves new
+Executes Fixed old new step (Err e) = IsRefusal Fixed e → step ≡ Fails e
 
 -- ---- a prefix
 
 -- the result of instructions up to the first that moves: the location that it moves to, or their end, or an error
 pub data Prefix : Type 0 where
-  Moved : (location : ℕ) (executed : List (Effect ℕ)) (rest : Instructions ℕ) → Prefix
-  Ended : (executed : List (Effect ℕ)) → Prefix
+  Moved : (location : ℕ) (state : ContextState ℕ) (rest : Instructions ℕ) → Prefix
+  Ended : (state : ContextState ℕ) → Prefix
   Faulty : (error : Error) → Prefix
 
--- the result of instructions from a location on, after the effects that were executed
-abbrev pub prefix_from : InstructionContext ℕ → ℕ → List (Effect ℕ) → Instructions ℕ → Prefix
-prefix_from frame location executed [] = Ended executed
-prefix_from frame location executed (Err e ∷ rest) = Faulty e
-prefix_from frame location executed (Ok i ∷ rest) =
-    elim (step_of frame location executed i) [
-      | Moves next ↦ Moved next executed rest
-      | Writes effect ↦ prefix_from frame location (effect ∷ executed) rest
-      | Refused e ↦ Faulty e
+-- the result of instructions from a location and a state on
+abbrev pub prefix_from : Limits → Factors → ℕ → ContextState ℕ → Instructions ℕ → Prefix
+prefix_from limits factors location state [] = Ended state
+prefix_from limits factors location state (Err e ∷ rest) = Faulty e
+prefix_from limits factors location state (Ok i ∷ rest) =
+    elim (state_step limits factors location state i) [
+      | Goes next ↦ Moved next state rest
+      | Leaves other ↦ prefix_from limits factors location other rest
+      | Fails e ↦ Faulty e
     ]
 
--- Instructions were executed up to their first move, or to their end; or one failed.
-abbrev pub Runs : Type 0 → ContextState ℕ → ContextState ℕ → Instructions ℕ → Prefix → Result (Option ℕ) Error → Type 0
-Runs Fixed old new rest prefix (Ok (Some next)) =
-    (executed : List (Effect ℕ)) × (prefix ≡ Moved next executed rest)
-    × Stands new executed × (new.initial_rules ≡ old.initial_rules)
-Runs Fixed old new rest prefix (Ok None) =
-    (executed : List (Effect ℕ)) × (prefix ≡ Ended executed) × Stands new executed × (new.initial_rules ≡ old.initial_rules)
-Runs Fixed old new rest prefix (Err e) = IsRefusal Fixed e → prefix ≡ Faulty e
-
--- Instructions were executed from a location on as the definition says, whichever effects led to the state; the rest is left.
-abbrev pub RunsFrom : Type 0 → Limits → Factors → ℕ → ContextState ℕ → ContextState ℕ → Instructions ℕ → Instructions ℕ
-    → Result (Option ℕ) Error → Type 0
-RunsFrom Fixed limits factors location old new instructions rest result =
-    (executed : List (Effect ℕ)) → Stands old executed
-    → Runs Fixed old new rest (prefix_from (instruction_frame limits factors old) location executed instructions) result
+-- Instructions were executed up to their first move, or to their end, or one failed; this state and these instructions are left.
+abbrev pub Runs : Type 0 → ContextState ℕ → Instructions ℕ → Prefix → Result (Option ℕ) Error → Type 0
+Runs Fixed state rest prefix (Ok (Some next)) = prefix ≡ Moved next state rest
+Runs Fixed state rest prefix (Ok None) = prefix ≡ Ended state
+Runs Fixed state rest prefix (Err e) = IsRefusal Fixed e → prefix ≡ Faulty e
 
 -- The CIE's instructions were executed, and its rules are kept; or one failed.
 abbrev pub Starts : Type 0 → ContextState ℕ → Result (List (Effect ℕ)) Error → Result (Unit {0}) Error → Type 0

@@ -1,16 +1,18 @@
 -- Instructions of the code as those of the definitions: offsets and lengths are numbers.
 use Rattle.std.specs.Prelude.{ℕ, List, Option, option_map, Result, Ok, Err}
+use Rattle.dwarf_constants.specs.declared.constants.DwCfa.{DwCfa}
 use Rattle.dwarf_constants.specs.declared.constants.DwEhPe.{DwEhPe}
 use Rattle.dwarf_constants.specs.declared.common.Vendor.{Vendor}
 use Rattle.dwarf_constants.specs.declared.error.Error.{Error}
-use Rattle.dwarf_readers.specs.Stretch.{Stretch}
+use Rattle.dwarf_readers.specs.Operands.{Parse}
+use Rattle.dwarf_readers.specs.Stretch.{ReadsAs, Stretch}
 use Rattle.dwarf_frame_rows.specs.declared.expression.UnwindExpression.{UnwindExpression}
 use Rattle.dwarf_frame_rows.specs.declared.pointer.PointerEncodingParameters.{PointerEncodingParameters}
 use Rattle.dwarf_frame_rows.specs.EncodedPointer.{origins_of}
 use Rattle.dwarf_frame_instructions.specs.declared.instructions.CallFrameInstruction.{CallFrameInstruction}
 use Rattle.dwarf_frame_instructions.specs.declared.instructions.CallFrameInstruction.TheVariants.{SetLoc, AdvanceLoc, DefCfa, DefCfaSf, DefCfaRegister, DefCfaOffset, DefCfaOffsetSf, DefCfaExpression, Undefined, SameValue, Offset, OffsetExtendedSf, ValOffset, ValOffsetSf, Register as InRegister, Expression, ValExpression, Restore, RememberState, RestoreState, ArgsSize, NegateRaState, Nop}
 use Rattle.dwarf_frame_instructions.specs.declared.instructions.Coding.{Coding}
-use Rattle.dwarf_frame_instructions.specs.Instructions.{Conventions, instructions_of}
+use Rattle.dwarf_frame_instructions.specs.Instructions.{Conventions, Operands, instructions_of, listed_at}
 
 -- the offset and length of an expression
 abbrev pub expression_as : {T U : Type 0} → (T → U) → UnwindExpression T → UnwindExpression U
@@ -68,6 +70,16 @@ conventions_by stretch limit coding = record {
 -- the instructions that the code's record of conventions reads in a stretch
 abbrev pub instructions_by : {R : Type 0} → (R → Stretch) → ℕ → Coding R → R → List (Result (CallFrameInstruction ℕ) Error)
 instructions_by stretch limit coding input = instructions_of (conventions_by stretch limit coding) (stretch input)
+
+-- The code read as a definition reads by the code's conventions: it returned what is there, as `view` shows it, and left the rest.
+abbrev pub ReadsBy : {R X Y : Type 0} → (R → Stretch) → ℕ → (X → Y) → Coding R → (Conventions → Parse Y) → R → Result X Error → R
+    → Type 0
+ReadsBy stretch limit view coding parse old result new =
+    ReadsAs view result (parse (conventions_by stretch limit coding) (stretch old)) (stretch new)
+
+-- the instruction of an opcode, by what lists the opcodes' operands
+abbrev pub instruction_of : (Conventions → List (DwCfa × Operands)) → DwCfa → Conventions → Operands
+instruction_of table opcode conventions = listed_at (table conventions) opcode.0
 
 -- a result, its value by a view
 abbrev pub answer_as : {X Y : Type 0} → (X → Y) → Result X Error → Result Y Error

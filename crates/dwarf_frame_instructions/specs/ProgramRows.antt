@@ -1,18 +1,17 @@
--- What rows a program of the code has left.
-use Rattle.std.specs.Prelude.{◌≡◌, ℕ, suc, zero, List, [], ◌∷◌, length, Bool, true, false, Option, Some, None, Result, Ok, Err, if◌then◌else◌}
+-- The rows that a program of the code has left, and the one that it gave last.
+use Rattle.std.specs.Prelude.{◌≡◌, ◌<◌, ℕ, suc, zero, List, [], ◌∷◌, length, Bool, true, false, Option, Some, None, OnSome, option_map, Result, Ok, Err, IfErr, IfOk, if◌then◌else◌}
 use Rattle.std.specs.Borrow.{Bor}
 use Rattle.dwarf_constants.specs.declared.error.Error.{Error}
 use Rattle.dwarf_readers.specs.Stretch.{Stretch}
-use Rattle.dwarf_frame_rows.specs.declared.effect.Effect.{Effect}
 use Rattle.dwarf_frame_rows.specs.declared.row.UnwindTableRow.{UnwindTableRow}
-use Rattle.dwarf_frame_rows.specs.Effects.{Limits, ContextState}
+use Rattle.dwarf_frame_rows.specs.Effects.{Limits, ContextState, with_bounds}
 use Rattle.dwarf_frame_rows.specs.Row.{Row}
+use Rattle.dwarf_frame_instructions.specs.declared.effects.Factors.{Factors}
 use Rattle.dwarf_frame_instructions.specs.declared.rows.FrameProgram.{FrameProgram}
 use Rattle.dwarf_frame_instructions.specs.declared.rows.ProgramRows.{ProgramRows}
-use Rattle.dwarf_frame_instructions.specs.Execution.{IsRefusal, instruction_frame, row_in, state_in}
+use Rattle.dwarf_frame_instructions.specs.Execution.{Fails, Goes, IsRefusal, Leaves, row_in, state_in, state_step}
 use Rattle.dwarf_frame_instructions.specs.InstructionViews.{instructions_by}
-use Rattle.dwarf_frame_instructions.specs.Programs.{Instructions, EntryProgram, RowList, no_rows, refused_rows, rows_from}
-use Rattle.dwarf_frame_instructions.specs.Standing.{Stands}
+use Rattle.dwarf_frame_instructions.specs.Programs.{Instructions, EntryProgram, RowList, no_rows, refused_rows, row_before}
 
 -- a program of the code
 abbrev pub program_of : {R E O : Type 0} → FrameProgram R E O → EntryProgram ℕ
@@ -24,38 +23,69 @@ program_of program = record {
   instructions = program.instructions;
 }
 
+-- ---- lists of rows
+
+-- no row, or the error that ends the rows
+abbrev pub end_of_rows : Option Error → Result (Option (Row ℕ)) Error
+end_of_rows None = Ok None
+end_of_rows (Some e) = Err e
+
+-- the first of the rows that are left, or that none is, or their error
+abbrev pub first_of : RowList ℕ → Result (Option (Row ℕ)) Error
+first_of left = elim left.rows [
+  | [] ↦ end_of_rows left.refusal
+  | row ∷ others ↦ Ok (Some row)
+]
+
 -- the rows after the first
-abbrev pub behind_first : RowList ℕ → List (Row ℕ) → RowList ℕ
-behind_first left [] = no_rows
-behind_first left (row ∷ others) = record { rows = others; refusal = left.refusal }
+abbrev pub after_first : RowList ℕ → RowList ℕ
+after_first left = elim left.rows [
+  | [] ↦ no_rows
+  | row ∷ others ↦ record { rows = others; refusal = left.refusal }
+]
 
-module _ {O L : Type 0} (number : O → ℕ) (Fixed : Type 0) where
-  -- A call gave the first of the rows, or said that none is left, or failed as the program does.
-  abbrev pub NextIs : RowList ℕ → List (Row ℕ) → Result (Option (Bor (UnwindTableRow O L))) Error → Type 0
-  NextIs left [] (Ok None) = left.refusal ≡ None
-  NextIs left (row ∷ others) (Ok (Some shown)) = row_in number shown.now ≡ row
-  NextIs left rows (Err e) = IsRefusal Fixed e → left ≡ refused_rows e
-  NextIs left _ _ = ⊥
+-- what a call leaves of rows: those after the first, and none after an error
+abbrev pub rows_left_by : {A : Type 0} → RowList ℕ → Result A Error → RowList ℕ
+rows_left_by left (Ok _) = after_first left
+rows_left_by left (Err _) = no_rows
 
-  -- A call gave the row for an address, or failed as the rows do.
-  abbrev pub IsRowFor : Result (Row ℕ) Error → Result (Bor (UnwindTableRow O L)) Error → Type 0
-  IsRowFor answer (Ok shown) = answer ≡ Ok (row_in number shown.now)
-  IsRowFor answer (Err e) = IsRefusal Fixed e → answer ≡ Err e
-
-  -- the row that a call gave, if it gave one
-  abbrev pub row_given : Result (Option (Bor (UnwindTableRow O L))) Error → Option (Row ℕ)
-  row_given (Ok (Some shown)) = Some (row_in number shown.now)
-  row_given _ = None
+-- ---- the answers of calls
 
 -- whether a call gave a row
 abbrev pub is_given : Result Bool Error → Bool
 is_given (Ok given) = given
 is_given (Err e) = false
 
--- what a call leaves of rows; after an error none are left
-abbrev pub rows_left_by : {A : Type 0} → RowList ℕ → Result A Error → RowList ℕ
-rows_left_by left (Ok _) = behind_first left left.rows
-rows_left_by left (Err _) = no_rows
+module _ {O L : Type 0} (number : O → ℕ) where
+  -- the row that a call gave, if it gave one
+  abbrev pub row_given : Result (Option (Bor (UnwindTableRow O L))) Error → Option (Row ℕ)
+  row_given (Ok given) = option_map (λ row. row_in number row.now) given
+  row_given (Err _) = None
+
+  module _ (Fixed : Type 0) where
+    -- A call gave the first of the rows that are left, or said that none is, or failed as they do.
+    abbrev pub GivesFirst : RowList ℕ → Result (Option (Bor (UnwindTableRow O L))) Error → Type 0
+    GivesFirst left (Ok given) = first_of left ≡ Ok (option_map (λ row. row_in number row.now) given)
+    GivesFirst left (Err e) = IsRefusal Fixed e → first_of left ≡ Err e
+
+    -- A call gave the row for an address, or failed as the rows do.
+    abbrev pub IsRowFor : Result (Row ℕ) Error → Result (Bor (UnwindTableRow O L)) Error → Type 0
+    IsRowFor answer (Ok shown) = answer ≡ Ok (row_in number shown.now)
+    IsRowFor answer (Err e) = IsRefusal Fixed e → answer ≡ Err e
+
+-- ---- what is left
+
+-- the rows that instructions make of a state, from a start to the end of the code
+abbrev pub rows_of_state : Limits → Factors → ℕ → ℕ → ContextState ℕ → Instructions ℕ → RowList ℕ
+rows_of_state limits factors end start state [] = row_before (with_bounds start end state).row no_rows
+rows_of_state limits factors end start state (Err e ∷ rest) = refused_rows e
+rows_of_state limits factors end start state (Ok i ∷ rest) =
+    elim (state_step limits factors start state i) [
+      | Goes next ↦
+          row_before (with_bounds start next state).row (rows_of_state limits factors end next (with_bounds start next state) rest)
+      | Leaves other ↦ rows_of_state limits factors end start other rest
+      | Fails e ↦ refused_rows e
+    ]
 
 module _ {R S E O L K : Type 0} (stretch : R → Stretch) (limit : ℕ) where
   -- the instructions that are left
@@ -66,7 +96,7 @@ module _ {R S E O L K : Type 0} (stretch : R → Stretch) (limit : ℕ) where
   abbrev pub steps_left : ProgramRows R S E O L K → ℕ
   steps_left rows = if rows.is_ended then zero else suc (length (instructions_left rows))
 
-module _ {R S E O L K : Type 0} (number : O → ℕ) (items : K → List (UnwindTableRow O L)) (limits : Limits) where
+module _ {R S E O L K : Type 0} (number : O → ℕ) (items : K → List (UnwindTableRow O L)) where
   -- the state of the context of rows
   abbrev pub rows_state : ProgramRows R S E O L K → ContextState ℕ
   rows_state rows = state_in number items rows.context.now
@@ -76,37 +106,24 @@ module _ {R S E O L K : Type 0} (number : O → ℕ) (items : K → List (Unwind
   current_row rows = if rows.has_row then Some (rows_state rows).row else None
 
 module _ {R S E O L K : Type 0} (stretch : R → Stretch) (limit : ℕ) (number : O → ℕ) (items : K → List (UnwindTableRow O L)) (limits : Limits) where
-  -- these are left from the next start on, after some effects
-  abbrev pub GoesOn : ProgramRows R S E O L K → RowList ℕ → Type 0
-  GoesOn rows left =
-      let state = rows_state number items limits rows in
-      (executed : List (Effect ℕ)) × Stands state executed
-      × (rows_from (instruction_frame limits rows.factors state) rows.end_address rows.next_start_address executed
-      (instructions_left stretch limit rows) ≡ left)
+  -- the rows that are left, and the error that ends them, if one does
+  abbrev pub rows_left : ProgramRows R S E O L K → RowList ℕ
+  rows_left rows =
+      if rows.is_ended
+      then no_rows
+      else rows_of_state limits rows.factors rows.end_address rows.next_start_address (rows_state number items rows)
+      (instructions_left stretch limit rows)
 
-  -- nothing is left once the rows are ended
-  abbrev pub LeftAt : Bool → ProgramRows R S E O L K → RowList ℕ → Type 0
-  LeftAt true rows left = left ≡ no_rows
-  LeftAt false rows left = GoesOn rows left
+  -- A call went on to the first of the rows, or said that none is left, or failed as they do; the others are left.
+  pub record Advances (Fixed : Type 0) (old : ProgramRows R S E O L K) (result : Result Bool Error) (new : ProgramRows R S E O L K) : Type 0 where
+    pub first : IfOk result (λ more. first_of (rows_left old) ≡ Ok (current_row number items new))
+    pub refused : IfErr result (λ e. IsRefusal Fixed e → first_of (rows_left old) ≡ Err e)
+    pub left : rows_left new ≡ rows_left_by (rows_left old) result
+    pub given : new.has_row ≡ is_given result
 
-  -- these are left
-  abbrev pub HasLeft : ProgramRows R S E O L K → RowList ℕ → Type 0
-  HasLeft rows left = LeftAt rows.is_ended rows left
-
-  -- The first of the rows is the current one, and the others are left; or none was left.
-  abbrev pub Advances : Type 0 → RowList ℕ → List (Row ℕ) → Result Bool Error → ProgramRows R S E O L K → Type 0
-  Advances Fixed left [] (Ok false) rows = (left.refusal ≡ None) × HasLeft rows no_rows × (rows.has_row ≡ false)
-  Advances Fixed left (row ∷ others) (Ok true) rows =
-      ((rows_state number items limits rows).row ≡ row)
-      × HasLeft rows (record { rows = others; refusal = left.refusal }) × (rows.has_row ≡ true)
-  Advances Fixed left all (Err e) rows =
-      (IsRefusal Fixed e → left ≡ refused_rows e) × HasLeft rows no_rows × (rows.has_row ≡ false)
-  Advances Fixed left _ _ rows = ⊥
-
-  -- Whichever rows were left, a call went on to the first of them.
-  abbrev pub AdvancesFrom : Type 0 → ProgramRows R S E O L K → Result Bool Error → ProgramRows R S E O L K → Type 0
-  AdvancesFrom Fixed old result new = (left : RowList ℕ) → HasLeft old left → Advances Fixed left left.rows result new
-
-  -- Whichever rows were left, a call gave the first of them.
-  abbrev pub GivesNextRow : Type 0 → ProgramRows R S E O L K → Result (Option (Bor (UnwindTableRow O L))) Error → Type 0
-  GivesNextRow Fixed old result = (left : RowList ℕ) → HasLeft old left → NextIs number Fixed left left.rows result
+  -- After a call of `next_row` and once its row is given back: the other rows are left, the row that it gave is the current one, and
+  -- where it gave one fewer steps are left.
+  pub record NextLeaves (old : ProgramRows R S E O L K) (result : Result (Option (Bor (UnwindTableRow O L))) Error) (last : ProgramRows R S E O L K) : Type 0 where
+    pub left : rows_left last ≡ rows_left_by (rows_left old) result
+    pub current : current_row number items last ≡ row_given number result
+    pub falls : IfOk result (λ given. OnSome given (steps_left stretch limit last < steps_left stretch limit old))

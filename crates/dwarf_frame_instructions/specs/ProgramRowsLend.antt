@@ -1,5 +1,5 @@
 -- What rows are left once the row that was lent is given back.
-use Rattle.std.specs.Prelude.{⊤, ◌≡◌, ℕ, List, [], Option, Result}
+use Rattle.std.specs.Prelude.{⊤, ℕ, List, [], Option, Result}
 use Rattle.std.specs.Borrow.{Bor, follows_so, MutBor, Fml, RattleType}
 use mathlib.Core.Option.{none}
 use mir.Syntax.{named}
@@ -12,14 +12,12 @@ use Rattle.dwarf_frame_rows.specs.declared.rules.RuledRegister.{RuledRegister}
 use Rattle.dwarf_frame_rows.specs.Effects.{Limits}
 use Rattle.dwarf_frame_instructions.specs.declared.rows.ProgramRows.{ProgramRows}
 use Rattle.dwarf_frame_instructions.specs.contracts.rows.ProgramRows.{the_row}
-use Rattle.dwarf_frame_instructions.specs.Programs.{RowList}
-use Rattle.dwarf_frame_instructions.specs.ProgramRows.{HasLeft, current_row, rows_left_by, row_given}
+use Rattle.dwarf_frame_instructions.specs.ProgramRows.{NextLeaves}
 
 module _ (R S E O L K : RattleType) (rules : Ghosts L.Denot (RuledRegister (RegisterRule O.Denot))) (stretch : R.Denot → Stretch) (limit : ℕ) (number : O.Denot → ℕ) (items : K.Denot → List (UnwindTableRow O.Denot L.Denot)) (limits : Limits) where
-  -- the rows after the first are left, and the row that was given is the current one
+  -- the rows are as `NextLeaves` says once the row that was lent is given back
   abbrev pub LeavesRows : MutBor (ProgramRows R.Denot S.Denot E.Denot O.Denot L.Denot K.Denot)
       → Result (Option (Bor (UnwindTableRow O.Denot L.Denot))) Error → Fml
   LeavesRows rows result =
       let row = the_row (record { mir = named 0; lft = [] }) (record { mir = named 1; lft = [] }) R S E O L K rules in
-      follows_so row row rows.ghost_name none (λ _ _. ⊤)
-      (λ last. ((left : RowList ℕ) → HasLeft stretch limit number items limits rows.now left → HasLeft stretch limit number items limits last (rows_left_by left result)) × (current_row number items limits last ≡ row_given number ⊤ result))
+      follows_so row row rows.ghost_name none (λ _ _. ⊤) (λ last. NextLeaves stretch limit number items limits rows.now result last)

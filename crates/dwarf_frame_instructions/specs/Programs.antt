@@ -145,10 +145,13 @@ rows_after_cie limits program (Ok executed) =
     program.end_address program.initial_address executed program.instructions
 rows_after_cie limits program (Err e) = refused_rows e
 
+-- the effects of a program's CIE, or why the program has no rows
+abbrev pub effects_of_cie : {T : Type 0} → Limits → EntryProgram T → Result (List (Effect T)) Error
+effects_of_cie limits program = executed_by_cie limits program.factors program.initial_instructions
+
 -- the rows of a program
 abbrev pub rows_of_program : {T : Type 0} → Limits → EntryProgram T → RowList T
-rows_of_program limits program =
-    rows_after_cie limits program (executed_by_cie limits program.factors program.initial_instructions)
+rows_of_program limits program = rows_after_cie limits program (effects_of_cie limits program)
 
 -- No error ends the rows of a program.
 abbrev pub IsComplete : {T : Type 0} → Limits → EntryProgram T → Type 0

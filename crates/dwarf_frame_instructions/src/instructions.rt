@@ -2,10 +2,10 @@
 
 ghost use Rattle.std.specs.Prelude.{◌≡◌};
 ghost use Rattle.list_laws.specs.Items.{GivesNext};
-ghost use Rattle.dwarf_readers.specs.Stretch.{Reads, ReadsAs};
-ghost use Rattle.dwarf_frame_instructions.specs.Instructions.{expression_at, extended_instruction, instruction_at, instructions_of, listed_at, location_at, register_at};
+ghost use Rattle.dwarf_readers.specs.Stretch.{Reads};
+ghost use Rattle.dwarf_frame_instructions.specs.Instructions.{expression_at, extended_instruction, instruction_at, instructions_of, location_at, register_at};
 ghost use Rattle.dwarf_frame_instructions.specs.OpcodeTables.{from_cfa_definition, from_offset_rules, from_other_rules, from_row_state};
-ghost use Rattle.dwarf_frame_instructions.specs.InstructionViews.{conventions_by, conventions_of, expression_as, instruction_as, instructions_by};
+ghost use Rattle.dwarf_frame_instructions.specs.InstructionViews.{ReadsBy, conventions_by, conventions_of, expression_as, instruction_as, instruction_of, instructions_by};
 
 use dwarf_constants::constants::{
     DW_CFA_AARCH64_negate_ra_state, DW_CFA_GNU_args_size, DW_CFA_advance_loc, DW_CFA_advance_loc1,
@@ -218,9 +218,8 @@ impl<'a, R: Reader> Coding<'a, R> {
     // Reads the next instruction, if bytes are left. After an error none are.
     #[inline(always)]
     pub(crate) fn next(&self, input: &mut R) -> Result<Option<CallFrameInstruction<R::Offset>>>
-        ensures { GivesNext (instruction_as R.Offset.value) result
-            (instructions_by R.stretch R.Offset.limit self.now input.old)
-            (instructions_by R.stretch R.Offset.limit self.now input.new) }
+        ensures { let list = instructions_by R.stretch R.Offset.limit self.now in
+            GivesNext (instruction_as R.Offset.value) result (list input.old) (list input.new) }
     {
         if input.is_empty() {
             return Ok(None);
@@ -237,10 +236,8 @@ impl<'a, R: Reader> Coding<'a, R> {
     // Reads an instruction, whose opcode is in the high two bits or in all eight.
     #[inline(always)]
     fn parse(&self, input: &mut R) -> Result<CallFrameInstruction<R::Offset>>
-        ensures { ReadsAs (instruction_as R.Offset.value) result
-            (instruction_at (conventions_by R.stretch R.Offset.limit self.now)
-            (R.stretch input.old))
-            (R.stretch input.new) }
+        ensures { ReadsBy R.stretch R.Offset.limit (instruction_as R.Offset.value) self.now
+            instruction_at input.old result input.new }
     {
         let opcode = input.read_u8()?;
         let low = opcode % LOW_VALUES;
@@ -266,9 +263,8 @@ impl<'a, R: Reader> Coding<'a, R> {
         opcode: DwCfa,
         input: &mut R,
     ) -> Result<CallFrameInstruction<R::Offset>>
-        ensures { ReadsAs (instruction_as R.Offset.value) result
-            (extended_instruction (conventions_by R.stretch R.Offset.limit self.now) opcode.0
-            (R.stretch input.old)) (R.stretch input.new) }
+        ensures { ReadsBy R.stretch R.Offset.limit (instruction_as R.Offset.value) self.now
+            (λ conventions. extended_instruction conventions opcode.0) input.old result input.new }
     {
         let instruction = match opcode {
             DW_CFA_set_loc => CallFrameInstruction::SetLoc {
@@ -291,10 +287,8 @@ impl<'a, R: Reader> Coding<'a, R> {
     // Reads the operands of an opcode that defines the CFA, or of one after these.
     #[inline(always)]
     fn parse_cfa(&self, opcode: DwCfa, input: &mut R) -> Result<CallFrameInstruction<R::Offset>>
-        ensures { ReadsAs (instruction_as R.Offset.value) result
-            (listed_at (from_cfa_definition (conventions_by R.stretch R.Offset.limit self.now))
-            opcode.0
-            (R.stretch input.old)) (R.stretch input.new) }
+        ensures { ReadsBy R.stretch R.Offset.limit (instruction_as R.Offset.value) self.now
+            (instruction_of from_cfa_definition opcode) input.old result input.new }
     {
         let instruction = match opcode {
             DW_CFA_def_cfa => CallFrameInstruction::DefCfa {
@@ -326,10 +320,8 @@ impl<'a, R: Reader> Coding<'a, R> {
     // these.
     #[inline(always)]
     fn parse_rule(&self, opcode: DwCfa, input: &mut R) -> Result<CallFrameInstruction<R::Offset>>
-        ensures { ReadsAs (instruction_as R.Offset.value) result
-            (listed_at (from_offset_rules (conventions_by R.stretch R.Offset.limit self.now))
-            opcode.0
-            (R.stretch input.old)) (R.stretch input.new) }
+        ensures { ReadsBy R.stretch R.Offset.limit (instruction_as R.Offset.value) self.now
+            (instruction_of from_offset_rules opcode) input.old result input.new }
     {
         let instruction = match opcode {
             DW_CFA_undefined => CallFrameInstruction::Undefined {
@@ -366,10 +358,8 @@ impl<'a, R: Reader> Coding<'a, R> {
         opcode: DwCfa,
         input: &mut R,
     ) -> Result<CallFrameInstruction<R::Offset>>
-        ensures { ReadsAs (instruction_as R.Offset.value) result
-            (listed_at (from_other_rules
-            (conventions_by R.stretch R.Offset.limit self.now)) opcode.0
-            (R.stretch input.old)) (R.stretch input.new) }
+        ensures { ReadsBy R.stretch R.Offset.limit (instruction_as R.Offset.value) self.now
+            (instruction_of from_other_rules opcode) input.old result input.new }
     {
         let instruction = match opcode {
             DW_CFA_register => CallFrameInstruction::Register {
@@ -395,9 +385,8 @@ impl<'a, R: Reader> Coding<'a, R> {
     // Reads the operands of an opcode of row state, of padding, or of a vendor.
     #[inline(always)]
     fn parse_other(&self, opcode: DwCfa, input: &mut R) -> Result<CallFrameInstruction<R::Offset>>
-        ensures { ReadsAs (instruction_as R.Offset.value) result
-            (listed_at (from_row_state (conventions_by R.stretch R.Offset.limit self.now)) opcode.0
-            (R.stretch input.old)) (R.stretch input.new) }
+        ensures { ReadsBy R.stretch R.Offset.limit (instruction_as R.Offset.value) self.now
+            (instruction_of from_row_state opcode) input.old result input.new }
     {
         let instruction = match opcode {
             DW_CFA_remember_state => CallFrameInstruction::RememberState,
@@ -438,9 +427,8 @@ impl<'a, R: Reader> Coding<'a, R> {
     // Passes over an expression after its length, and keeps its offset.
     #[inline(always)]
     fn parse_expression(&self, input: &mut R) -> Result<UnwindExpression<R::Offset>>
-        ensures { ReadsAs (expression_as R.Offset.value) result (expression_at
-            (conventions_by R.stretch R.Offset.limit self.now) (R.stretch input.old))
-            (R.stretch input.new) }
+        ensures { ReadsBy R.stretch R.Offset.limit (expression_as R.Offset.value) self.now
+            expression_at input.old result input.new }
     {
         let length = R::Offset::from_u64(input.read_uleb128()?)?;
         let section = self.section.offset_id().0;

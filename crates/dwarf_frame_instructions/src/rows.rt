@@ -1,7 +1,7 @@
 //! The rows that a program makes, one after the other (DWARF 5, 6.4.3).
 
-ghost use Rattle.std.specs.Prelude.{◌≡◌, ◌<◌, length, IfErr, IfOk, OnSome, None, option_map, true};
-ghost use Rattle.dwarf_frame_instructions.specs.Execution.{ExecutesAt, RunsFrom, Starts, state_in};
+ghost use Rattle.std.specs.Prelude.{◌≡◌, ◌<◌, length, IfErr, IfOk, IsOk, OnSome, None, option_map, true};
+ghost use Rattle.dwarf_frame_instructions.specs.Execution.{Executes, Runs, Starts, prefix_from, state_in, state_step};
 ghost use Rattle.dwarf_frame_instructions.specs.InstructionViews.{instruction_as, instructions_by};
 ghost use Rattle.dwarf_frame_instructions.specs.ProgramRows.{IsRowFor, program_of};
 ghost use Rattle.dwarf_frame_instructions.specs.Programs.{destination_of, executed_by_cie, row_for};
@@ -22,9 +22,10 @@ fn execute<T: ReaderOffset, S: UnwindContextStorage<T>>(
     location: u64,
     instruction: CallFrameInstruction<T>,
 ) -> Result<Option<u64>>
-    ensures { ExecutesAt S.never_allocates S.limits factors.now location
-        (state_in T.value S.Stack.items context.old) (state_in T.value S.Stack.items context.new)
-        (instruction_as T.value instruction) result }
+    ensures { let state = state_in T.value S.Stack.items in
+        Executes S.never_allocates (state context.old) (state context.new)
+        (state_step S.limits factors.now location (state context.old)
+        (instruction_as T.value instruction)) result }
 {
     let effect = factors.effect(location, instruction)?;
     match destination(effect) {
@@ -55,14 +56,12 @@ fn run<R: Reader, S: UnwindContextStorage<R::Offset>>(
     coding: &Coding<'_, R>,
     input: &mut R,
 ) -> Result<Option<u64>>
-    ensures prefix { RunsFrom S.never_allocates S.limits factors.now location
-        (state_in R.Offset.value S.Stack.items context.old)
-        (state_in R.Offset.value S.Stack.items context.new)
-        (instructions_by R.stretch R.Offset.limit coding.now input.old)
-        (instructions_by R.stretch R.Offset.limit coding.now input.new) result }
-    ensures falls { IfOk result (λ next. OnSome next
-        (length (instructions_by R.stretch R.Offset.limit coding.now input.new)
-        < length (instructions_by R.stretch R.Offset.limit coding.now input.old))) }
+    ensures prefix { let state = state_in R.Offset.value S.Stack.items in
+        let list = instructions_by R.stretch R.Offset.limit coding.now in
+        Runs S.never_allocates (state context.new) (list input.new)
+        (prefix_from S.limits factors.now location (state context.old) (list input.old)) result }
+    ensures falls { let list = instructions_by R.stretch R.Offset.limit coding.now in
+        IfOk result (λ next. OnSome next (length (list input.new) < length (list input.old))) }
 {
     while let Some(instruction) = coding.next(input)? {
         if let Some(next) = execute(context, factors, location, instruction)? {
@@ -130,8 +129,8 @@ impl<'a, 'ctx, R: Reader, S: UnwindContextStorage<R::Offset>> ProgramRows<'a, 'c
     ghost use Rattle.dwarf_frame_rows.specs.Effects.{with_bounds};
     ghost use Rattle.dwarf_frame_rows.specs.Row.{holds_at};
     ghost use Rattle.dwarf_frame_instructions.specs.Execution.{IsRefusal, row_in};
-    ghost use Rattle.dwarf_frame_instructions.specs.Programs.{refused_rows, rows_of_program};
-    ghost use Rattle.dwarf_frame_instructions.specs.ProgramRows.{AdvancesFrom, GivesNextRow, HasLeft, current_row, is_given, rows_state, steps_left};
+    ghost use Rattle.dwarf_frame_instructions.specs.Programs.{effects_of_cie, rows_of_program};
+    ghost use Rattle.dwarf_frame_instructions.specs.ProgramRows.{Advances, GivesFirst, current_row, rows_left, rows_state, steps_left};
     ghost use Rattle.dwarf_frame_instructions.specs.ProgramRowsLend.{LeavesRows};
 
     /// Executes the CIE's own instructions, after which the rows are made. The context is cleared first.
@@ -142,12 +141,13 @@ impl<'a, 'ctx, R: Reader, S: UnwindContextStorage<R::Offset>> ProgramRows<'a, 'c
         program: FrameProgram<'a, R>,
     ) -> Result<Self>
         ensures rows { IfOk result (λ rows.
-            HasLeft R.stretch R.Offset.limit R.Offset.value S.Stack.items S.limits rows
-            (rows_of_program S.limits (program_of program.entry))) }
+            rows_left R.stretch R.Offset.limit R.Offset.value S.Stack.items S.limits rows
+            ≡ rows_of_program S.limits (program_of program.entry)) }
+        ensures started { IfOk result (λ _. IsOk (effects_of_cie S.limits (program_of program.entry))) }
         ensures refused { IfErr result (λ e. IsRefusal S.never_allocates e
-            → rows_of_program S.limits (program_of program.entry) ≡ refused_rows e) }
+            → effects_of_cie S.limits (program_of program.entry) ≡ Err e) }
         ensures none_yet { IfOk result (λ rows.
-            current_row R.Offset.value S.Stack.items S.limits rows ≡ None) }
+            current_row R.Offset.value S.Stack.items rows ≡ None) }
     {
         let factors = program.factors;
         let (coding, input) = program.initial_instructions.into_parts();
@@ -168,11 +168,10 @@ impl<'a, 'ctx, R: Reader, S: UnwindContextStorage<R::Offset>> ProgramRows<'a, 'c
     /// Goes on to the next row, which is then the current one, and returns whether there is one. Fails
     /// if an instruction before the end of that row fails. After an error no row is left.
     pub fn advance(&mut self) -> Result<bool>
-        ensures row { AdvancesFrom R.stretch R.Offset.limit R.Offset.value S.Stack.items S.limits
+        ensures row { Advances R.stretch R.Offset.limit R.Offset.value S.Stack.items S.limits
             S.never_allocates self.old result self.new }
-        ensures falls { IfOk result (λ more. OnTrue more (steps_left R.stretch R.Offset.limit self.new
-            < steps_left R.stretch R.Offset.limit self.old)) }
-        ensures given { self.new.has_row ≡ is_given result }
+        ensures falls { let steps = steps_left R.stretch R.Offset.limit in
+            IfOk result (λ more. OnTrue more (steps self.new < steps self.old)) }
         ensures same_reference { self.new.context.ghost_name ≡ self.old.context.ghost_name }
     {
         self.has_row = false;
@@ -204,9 +203,8 @@ impl<'a, 'ctx, R: Reader, S: UnwindContextStorage<R::Offset>> ProgramRows<'a, 'c
 
     // Ends the row at this address, where the next one starts.
     fn end_row(&mut self, end: u64)
-        ensures row { rows_state R.Offset.value S.Stack.items S.limits self.new
-            ≡ with_bounds self.old.next_start_address end
-            (rows_state R.Offset.value S.Stack.items S.limits self.old) }
+        ensures row { let state = rows_state R.Offset.value S.Stack.items in
+            state self.new ≡ with_bounds self.old.next_start_address end (state self.old) }
         ensures kept { self.new ≡ record self.old {
           context = self.new.context;
           next_start_address = end;
@@ -225,8 +223,8 @@ impl<'a, 'ctx, R: Reader, S: UnwindContextStorage<R::Offset>> ProgramRows<'a, 'c
         ensures* leaves { sem 𝓛 (LeavesRows R.row S.row R.Endian.row R.Offset.row S.Rules.row
             S.Stack.row S.Rules.ArrayLike R.stretch R.Offset.limit R.Offset.value S.Stack.items
             S.limits self.entry result) }
-        ensures row { GivesNextRow R.stretch R.Offset.limit R.Offset.value S.Stack.items S.limits
-            S.never_allocates self.old result }
+        ensures row { GivesFirst R.Offset.value S.never_allocates (rows_left R.stretch R.Offset.limit
+            R.Offset.value S.Stack.items S.limits self.old) result }
     {
         if self.advance()? {
             return Ok(Some(self.context.row()));
@@ -237,7 +235,7 @@ impl<'a, 'ctx, R: Reader, S: UnwindContextStorage<R::Offset>> ProgramRows<'a, 'c
     /// The current row: the one that the last call gave, if it gave one.
     pub fn current_row(&self) -> Option<&UnwindTableRow<R::Offset, S::Rules>>
         ensures { option_map (λ row. row_in R.Offset.value row.now) result
-            ≡ current_row R.Offset.value S.Stack.items S.limits self.now }
+            ≡ current_row R.Offset.value S.Stack.items self.now }
     {
         if self.has_row {
             Some(self.context.row())
@@ -249,7 +247,7 @@ impl<'a, 'ctx, R: Reader, S: UnwindContextStorage<R::Offset>> ProgramRows<'a, 'c
     /// The current row, for as long as the context is borrowed.
     pub fn into_current_row(self) -> Option<&'ctx UnwindTableRow<R::Offset, S::Rules>>
         ensures { option_map (λ row. row_in R.Offset.value row.now) result
-            ≡ current_row R.Offset.value S.Stack.items S.limits self.entry }
+            ≡ current_row R.Offset.value S.Stack.items self.entry }
     {
         if !self.has_row {
             return None;
@@ -260,7 +258,7 @@ impl<'a, 'ctx, R: Reader, S: UnwindContextStorage<R::Offset>> ProgramRows<'a, 'c
     // Whether the row of the context contains the address.
     fn is_at(&self, address: u64) -> bool
         ensures { result ≡ holds_at address
-            (rows_state R.Offset.value S.Stack.items S.limits self.now).row }
+            (rows_state R.Offset.value S.Stack.items self.now).row }
     {
         self.context.row().contains(address)
     }
@@ -268,7 +266,7 @@ impl<'a, 'ctx, R: Reader, S: UnwindContextStorage<R::Offset>> ProgramRows<'a, 'c
     // The row of the context.
     fn into_row(self) -> &'ctx UnwindTableRow<R::Offset, S::Rules>
         ensures { row_in R.Offset.value result.now
-            ≡ (rows_state R.Offset.value S.Stack.items S.limits self.entry).row }
+            ≡ (rows_state R.Offset.value S.Stack.items self.entry).row }
     {
         let context = self.context;
         context.row()

@@ -1,4 +1,5 @@
 -- The lines of rows.
+use Rattle.std.specs.Prelude.{if◌then◌else◌}
 use Rattle.std.proofs.Common.{◌≡◌, ◌≢◌, ℕ, ◌*◌, List, [], ◌∷◌, ◌++◌, append_assoc, Bool, true, false, Option, Some, None, Result, Ok, Err, IfErr, OnOk, cond, option_map, refl, sym, ap, subst, ◌∙◌, inr}
 use Rattle.dwarf_constants.specs.declared.error.Error.{Error}
 use Rattle.dwarf_constants.specs.declared.error.Error.TheVariants.{OutOfMemory}
@@ -12,9 +13,9 @@ use Rattle.dwarf_frame_rows.specs.declared.rules.RegisterRule.TheVariants as rul
 use Rattle.dwarf_frame_rows.specs.Effects.{Limits}
 use Rattle.dwarf_frame_rows.specs.Row.{Row, row_of}
 use Rattle.dwarf_frame_instructions.proofs.Laws.{rule_seen}
-use Rattle.dwarf_frame_instructions.specs.ProgramRows.{Advances, HasLeft, behind_first, current_row, rows_state}
+use Rattle.dwarf_frame_instructions.specs.ProgramRows.{Advances, after_first, current_row, first_of, rows_left, rows_state}
 use Rattle.dwarf_frame_instructions.specs.Execution.{row_in}
-use Rattle.dwarf_frame_instructions.specs.Programs.{RowList, refused_rows}
+use Rattle.dwarf_frame_instructions.specs.Programs.{RowList}
 use Rattle.dwarf_frame_instructions.specs.StateViews.{cfa_as, row_as, rule_as}
 use Rattle.dwarf_frame_instructions.specs.declared.rows.ProgramRows.{ProgramRows}
 use Rattle.dwarf_readers.specs.Stretch.{Stretch}
@@ -52,12 +53,12 @@ same_row_line number table row =
     ∙ ap (λ (texts : ℕ → List ℕ). line_of_cells table (hex_of (2 * table.address_size) row.start) (cfa_text table.machine row.cfa) texts) all
 
 -- one more line, and the others with their error
-pub goes_on : (IsLeft : RowList ℕ → Type 0) (table : Table) (left all : RowList ℕ) (answer : Result Bool Error) (text new whole : List ℕ)
-    → ShowsNext IsLeft table left text new answer → answer ≡ Ok true → left.refusal ≡ all.refusal → text ++ row_lines table left.rows ≡ whole
-    → (others : RowList ℕ) × IsLeft others × (others.refusal ≡ all.refusal) × (new ++ row_lines table others.rows ≡ whole)
-goes_on IsLeft table left all answer text new whole shown given refusal lines =
-    let more = subst (λ (r : Result Bool Error). ShowsNext IsLeft table left text new r) given shown in
-    (more.0, more.1, more.2 ∙ refusal, more.3 ∙ lines)
+pub goes_on : (others : RowList ℕ) (table : Table) (left all : RowList ℕ) (answer : Result Bool Error) (text new whole : List ℕ)
+    → ShowsNext others table left text new answer → answer ≡ Ok true → left.refusal ≡ all.refusal → text ++ row_lines table left.rows ≡ whole
+    → (others.refusal ≡ all.refusal) × (new ++ row_lines table others.rows ≡ whole)
+goes_on others table left all answer text new whole shown given refusal lines =
+    let more = subst (λ (r : Result Bool Error). ShowsNext others table left text new r) given shown in
+    (more.0 ∙ refusal, more.1 ∙ lines)
 
 -- the line of the row that is current, as it lies in memory
 pub same_if_given : {O L : Type 0} (number : O → ℕ) (table : Table) (row : UnwindTableRow O L) (given : Option (Row ℕ)) (answer : Result (Unit {0}) AllocError) (text new : List ℕ)
@@ -69,51 +70,58 @@ same_if_given number table row given (Ok done) text new is added =
     ∙ ap (λ (l : List ℕ). text ++ if_shown table l) (sym (same_row_line number table (row_of row)))
     ∙ ap (λ (o : Option (Row ℕ)). text ++ line_if_given table o) is
 
-module _ {R S E O L K : Type 0} (stretch : R → Stretch) (limit : ℕ) (number : O → ℕ) (items : K → List (UnwindTableRow O L)) (limits : Limits) (Fixed : Type 0) (u : ProgramRows R S E O L K) where
-  -- the line of a row that is given now
-  line_there : (table : Table) (row : Row ℕ) → (rows_state number items limits u).row ≡ row → u.has_row ≡ true
-      → line_if_given table (current_row number items limits u) ≡ if_shown table (row_line table row)
-  line_there table row same there =
-      ap (λ (b : Bool). line_if_given table (cond b (Some (rows_state number items limits u).row) None)) there
-      ∙ ap (λ (r : Row ℕ). if_shown table (row_line table r)) same
+-- the line of the first row, and the others
+shows_row : (table : Table) (rows : List (Row ℕ)) (refusal : Option Error) (row : Row ℕ) (others : RowList ℕ) (text new : List ℕ)
+    → first_of (record { rows = rows; refusal = refusal }) ≡ Ok (Some row) → others ≡ after_first (record { rows = rows; refusal = refusal }) → new ≡ text ++ if_shown table (row_line table row)
+    → (others.refusal ≡ refusal) × (new ++ row_lines table others.rows ≡ text ++ row_lines table rows)
+shows_row table [] None row others text new is left added = let none : ◌≡◌ {A = Option (Row ℕ)} None (Some row) = cc in cc
+shows_row table [] (Some e) row others text new is left added = cc
+shows_row table (first ∷ rest) refusal row others text new is left added =
+    let same : row ≡ first = cc in (
+      ap (λ (l : RowList ℕ). l.refusal) left,
+      ap (λ (l : RowList ℕ). new ++ row_lines table l.rows) left
+          ∙ ap (λ (t : List ℕ). t ++ row_lines table rest) (added ∙ ap (λ (r : Row ℕ). text ++ if_shown table (row_line table r)) same)
+          ∙ append_assoc text (if_shown table (row_line table first)) (row_lines table rest),
+    )
 
-  -- if no row is given, there is no line
-  no_line : (table : Table) (text new : List ℕ) → u.has_row ≡ false → new ≡ text ++ line_if_given table (current_row number items limits u)
-      → new ≡ text ++ []
-  no_line table text new none added =
-      added ∙ ap (λ (b : Bool). text ++ line_if_given table (cond b (Some (rows_state number items limits u).row) None)) none
+-- no row, and no error
+shows_end : (table : Table) (rows : List (Row ℕ)) (refusal : Option Error) (text new : List ℕ)
+    → first_of (record { rows = rows; refusal = refusal }) ≡ Ok None → new ≡ text ++ [] → (refusal ≡ None) × (new ≡ text ++ row_lines table rows)
+shows_end table [] None text new is added = (refl, added)
+shows_end table [] (Some e) text new is added = cc
+shows_end table (first ∷ rest) refusal text new is added = let none : ◌≡◌ {A = Option (Row ℕ)} (Some first) None = cc in cc
 
-  -- an error leaves no line
-  none_next : (table : Table) (left : RowList ℕ) (all : List (Row ℕ)) (e : Error) (text new : List ℕ) → left ≡ refused_rows e → u.has_row ≡ false → left.rows ≡ all
-      → new ≡ text ++ line_if_given table (current_row number items limits u) → (left.refusal ≡ Some e) × (new ≡ text ++ row_lines table all)
-  none_next table left all e text new refused none same added =
-      let rows : [] ≡ all = ap (λ (l : RowList ℕ). l.rows) (sym refused) ∙ same in (
-        ap (λ (l : RowList ℕ). l.refusal) refused,
-        no_line table text new none added ∙ ap (λ (rs : List (Row ℕ)). text ++ row_lines table rs) rows,
-      )
+-- no row, but an error
+shows_error : (table : Table) (rows : List (Row ℕ)) (refusal : Option Error) (e : Error) (text new : List ℕ)
+    → first_of (record { rows = rows; refusal = refusal }) ≡ Err e → new ≡ text ++ [] → (refusal ≡ Some e) × (new ≡ text ++ row_lines table rows)
+shows_error table [] None e text new is added = cc
+shows_error table [] (Some x) e text new is added = let same : x ≡ e = cc in (ap (λ (y : Error). Some y) same, added)
+shows_error table (first ∷ rest) refusal e text new is added = cc
+
+module _ {R S E O L K : Type 0} (stretch : R → Stretch) (limit : ℕ) (number : O → ℕ) (items : K → List (UnwindTableRow O L)) (limits : Limits) (Fixed : Type 0) (t u : ProgramRows R S E O L K) where
+  abbrev Left : ProgramRows R S E O L K → RowList ℕ
+  Left rows = rows_left stretch limit number items limits rows
+
+  -- the row that is current, as one is given or none
+  abbrev row_if : Bool → Option (Row ℕ)
+  row_if given = if given then Some (rows_state number items u).row else None
 
   -- the line of the next row is there, or all lines are
-  shows : (table : Table) (left : RowList ℕ) (all : List (Row ℕ)) (answer : Result Bool Error) (text new : List ℕ)
-      → Advances stretch limit number items limits Fixed left all answer u → left.rows ≡ all → IfErr answer (λ e. e ≢ OutOfMemory)
-      → new ≡ text ++ line_if_given table (current_row number items limits u)
-      → ShowsNext (HasLeft stretch limit number items limits u) table (record { rows = all; refusal = left.refusal }) text new answer
-  shows table left [] (Ok true) text new advanced same wanted added = absurd advanced
-  shows table left (row ∷ others) (Ok true) text new advanced same wanted added = (
-    behind_first left (row ∷ others),
-    advanced.1,
-    refl,
-    ap (λ (t : List ℕ). t ++ row_lines table others) (added ∙ ap (λ (l : List ℕ). text ++ l) (line_there table row advanced.0 advanced.2))
-        ∙ append_assoc text (if_shown table (row_line table row)) (row_lines table others),
-  )
-  shows table left [] (Ok false) text new advanced same wanted added = (advanced.0, no_line table text new advanced.2 added)
-  shows table left (row ∷ others) (Ok false) text new advanced same wanted added = absurd advanced
-  shows table left [] (Err e) text new advanced same wanted added = none_next table left [] e text new (advanced.0 (inr wanted)) advanced.2 same added
-  shows table left (row ∷ others) (Err e) text new advanced same wanted added = none_next table left (row ∷ others) e text new (advanced.0 (inr wanted)) advanced.2 same added
+  shows : (table : Table) (answer : Result Bool Error) (text new : List ℕ)
+      → Advances stretch limit number items limits Fixed t answer u → IfErr answer (λ e. e ≢ OutOfMemory)
+      → new ≡ text ++ line_if_given table (current_row number items u)
+      → ShowsNext (Left u) table (Left t) text new answer
+  shows table (Ok true) text new went wanted added =
+      shows_row table (Left t).rows (Left t).refusal (rows_state number items u).row (Left u) text new (went.first ∙ ap (λ b. Ok (row_if b)) went.given) went.left
+      (added ∙ ap (λ b. text ++ line_if_given table (row_if b)) went.given)
+  shows table (Ok false) text new went wanted added =
+      shows_end table (Left t).rows (Left t).refusal text new (went.first ∙ ap (λ b. Ok (row_if b)) went.given) (added ∙ ap (λ b. text ++ line_if_given table (row_if b)) went.given)
+  shows table (Err e) text new went wanted added =
+      shows_error table (Left t).rows (Left t).refusal e text new (went.refused (inr wanted)) (added ∙ ap (λ b. text ++ line_if_given table (row_if b)) went.given)
 
-  pub shows_next : (table : Table) (left : RowList ℕ) (all : List (Row ℕ)) (answer given : Result Bool Error) (text new : List ℕ)
-      → Advances stretch limit number items limits Fixed left all answer u → given ≡ answer → left.rows ≡ all → IfErr answer (λ e. e ≢ OutOfMemory)
-      → new ≡ text ++ line_if_given table (current_row number items limits u)
-      → ShowsNext (HasLeft stretch limit number items limits u) table (record { rows = all; refusal = left.refusal }) text new given
-  shows_next table left all answer given text new advanced is same wanted added =
-      subst (λ (r : Result Bool Error). ShowsNext (HasLeft stretch limit number items limits u) table (record { rows = all; refusal = left.refusal }) text new r) (sym is)
-      (shows table left all answer text new advanced same wanted added)
+  pub shows_next : (table : Table) (answer given : Result Bool Error) (text new : List ℕ)
+      → Advances stretch limit number items limits Fixed t answer u → given ≡ answer → IfErr answer (λ e. e ≢ OutOfMemory)
+      → new ≡ text ++ line_if_given table (current_row number items u)
+      → ShowsNext (Left u) table (Left t) text new given
+  shows_next table answer given text new went is wanted added =
+      subst (λ (r : Result Bool Error). ShowsNext (Left u) table (Left t) text new r) (sym is) (shows table answer text new went wanted added)

@@ -15,11 +15,10 @@ table_view table = record {
   is_shown = table.is_shown;
 }
 
--- A call appended the line of the first of the rows, and others are left; or all lines are there, and it returned the error that ends
--- the rows, if one does.
-abbrev pub ShowsNext : (RowList ℕ → Type 0) → Table → RowList ℕ → List ℕ → List ℕ → Result Bool Error → Type 0
-ShowsNext IsLeft table left old new (Ok true) =
-    (others : RowList ℕ) × IsLeft others × (others.refusal ≡ left.refusal)
-    × (new ++ row_lines table others.rows ≡ old ++ row_lines table left.rows)
-ShowsNext IsLeft table left old new (Ok false) = (left.refusal ≡ None) × (new ≡ old ++ row_lines table left.rows)
-ShowsNext IsLeft table left old new (Err refusal) = (left.refusal ≡ Some refusal) × (new ≡ old ++ row_lines table left.rows)
+-- A call appended the line of the first of the rows, and these others are left; or all lines are there, and it returned the error
+-- that ends the rows, if one does.
+abbrev pub ShowsNext : RowList ℕ → Table → RowList ℕ → List ℕ → List ℕ → Result Bool Error → Type 0
+ShowsNext others table left old new (Ok true) =
+    (others.refusal ≡ left.refusal) × (new ++ row_lines table others.rows ≡ old ++ row_lines table left.rows)
+ShowsNext others table left old new (Ok false) = (left.refusal ≡ None) × (new ≡ old ++ row_lines table left.rows)
+ShowsNext others table left old new (Err refusal) = (left.refusal ≡ Some refusal) × (new ≡ old ++ row_lines table left.rows)

@@ -2,7 +2,7 @@
 
 ghost use Rattle.std.specs.Prelude.{◌≡◌, ◌≢◌, ◌<◌, ◌*◌, ◌++◌, ℕ, IfErr, IfOk, OnOk, string_bytes};
 ghost use Rattle.std.specs.Bool.{OnTrue};
-ghost use Rattle.dwarf_frame_instructions.specs.ProgramRows.{HasLeft, current_row, program_of, steps_left};
+ghost use Rattle.dwarf_frame_instructions.specs.ProgramRows.{current_row, program_of, rows_left, steps_left};
 ghost use Rattle.dwarf_frame_instructions.specs.Programs.{RowList, rows_of_program};
 ghost use Rattle.dwarf_frame_rows.specs.Row.{row_of};
 ghost use Rattle.frame_table_text.specs.TableViews.{ShowsNext, table_view};
@@ -189,7 +189,7 @@ impl Table {
     ) -> Result<(), AllocError>
         ensures { OnOk result (text.new.items ≡ text.old.items ++ line_if_given
             (table_view self.now)
-            (current_row R.Offset.value S.Stack.items S.limits rows.now)) }
+            (current_row R.Offset.value S.Stack.items rows.now)) }
     {
         match rows.current_row() {
             Some(row) => self.push_row(alloc, row, text),
@@ -204,11 +204,9 @@ impl Table {
         rows: &mut ProgramRows<'_, '_, R, S>,
         text: &mut Vec<u8>,
     ) -> Result<dwarf_constants::Result<bool>, AllocError>
-        ensures next { let IsLeft =
-            HasLeft R.stretch R.Offset.limit R.Offset.value S.Stack.items S.limits in
-            (left : RowList ℕ) → IsLeft rows.old left
-            → IfOk result (ShowsNext (IsLeft rows.new)
-            (table_view self.now) left text.old.items text.new.items) }
+        ensures next { let left = rows_left R.stretch R.Offset.limit R.Offset.value S.Stack.items S.limits in
+            IfOk result (ShowsNext (left rows.new) (table_view self.now) (left rows.old)
+            text.old.items text.new.items) }
         ensures falls { IfOk result (λ answer. IfOk answer (λ more. OnTrue more
             (steps_left R.stretch R.Offset.limit rows.new
             < steps_left R.stretch R.Offset.limit rows.old))) }

@@ -1,55 +1,46 @@
-use Rattle.std.proofs.Common.{Ok, refl, sym, ap, ◌∙◌}
+use Rattle.std.proofs.Common.{Ok, Some, None, cond, refl, sym, ap, ◌∙◌}
 use Rattle.std.proofs.lemmas.Result.{err_from_is_err_and}
-use Rattle.dwarf_frame_instructions.specs.Programs.{row_among}
-use Rattle.dwarf_frame_instructions.proofs.Execution.{found_here, found_later, found_nowhere, refusal_is, row_leaves}
+use Rattle.dwarf_frame_instructions.specs.ProgramRows.{program_of, rows_left, rows_state}
+use Rattle.dwarf_frame_instructions.specs.Programs.{row_among, rows_after_cie}
+use Rattle.dwarf_frame_instructions.proofs.Execution.{found_here, found_later, found_nowhere, found_refused}
 use Rattle.dwarf_frame_instructions.proofs.rows.row_for_address.Goals as goal
 
 pub returns-in_err-rows : goal.returns-in_err-rows
 returns-in_err-rows g c =
     let p = err_from_is_err_and c.from_residual.result c.from_residual.ensures.1 in
-    rw (p.1, p.2) (λ told. ap (row_among c.args.address) (c.in_err-rows.ensures.refused told))
+    rw (p.1, p.2) (λ told. ap (λ effects. row_among c.args.address (rows_after_cie g.S.UnwindContextStorage.limits (program_of c.args.program) effects)) (c.in_err-rows.ensures.refused told))
 
 pub loop-rows-init : goal.loop-rows-init
-loop-rows-init g c = (_, c.in_ok-rows.ensures.rows, refl)
+loop-rows-init g c = ap (row_among c.args.address) c.in_ok-rows.ensures.rows
 
 pub returns-in_err-advance : goal.returns-in_err-advance
 returns-in_err-advance g c =
-    let limits = g.S.UnwindContextStorage.limits in
-    let was = c.loop-rows.invariant in
+    let left = rows_left g.R.Reader.stretch g.R.Offset.ReaderOffset.limit g.R.Offset.ReaderOffset.value g.S-Stack-ArrayLike.items g.S.UnwindContextStorage.limits c.loop-rows.rows in
     let p = err_from_is_err_and c.from_residual-in_err-advance.result c.from_residual-in_err-advance.ensures.1 in
-    rw (p.1, p.2) (λ told. sym was.2 ∙ ap (row_among c.args.address)
-    (refusal_is g.R.Reader.stretch g.R.Offset.ReaderOffset.limit g.R.Offset.ReaderOffset.value g.S-Stack-ArrayLike.items limits g.S.UnwindContextStorage.never_allocates c.advance.new.self was.0 was.0.rows
-    c.in_err-advance.field-0.0 (c.in_err-advance.ensures.row was.0 was.1) told))
+    rw (p.1, p.2) (λ told. sym c.loop-rows.invariant ∙ found_refused c.args.address left c.in_err-advance.field-0.0 (c.in_err-advance.ensures.row.refused told))
 
 pub returns-then-is_at : goal.returns-then-is_at
 returns-then-is_at g c =
-    let limits = g.S.UnwindContextStorage.limits in
-    let was = c.loop-rows.invariant in
-    let advanced = rw c.if-branch.true at c.in_ok-advance.ensures.row in
-    sym was.2 ∙ found_here g.R.Reader.stretch g.R.Offset.ReaderOffset.limit g.R.Offset.ReaderOffset.value g.S-Stack-ArrayLike.items limits g.S.UnwindContextStorage.never_allocates c.advance.new.self was.0
-    c.args.address was.0.rows (advanced was.0 was.1) (sym c.is_at.ensures ∙ c.if-is_at.true)
+    let left = rows_left g.R.Reader.stretch g.R.Offset.ReaderOffset.limit g.R.Offset.ReaderOffset.value g.S-Stack-ArrayLike.items g.S.UnwindContextStorage.limits c.loop-rows.rows in
+    let row = (rows_state g.R.Offset.ReaderOffset.value g.S-Stack-ArrayLike.items c.advance.new.self).row in
+    let given = c.in_ok-advance.ensures.row.given ∙ c.if-branch.true in
+    sym c.loop-rows.invariant
+    ∙ found_here c.args.address left row (c.in_ok-advance.ensures.row.first ∙ ap (λ b. Ok (cond b (Some row) None)) given) (sym c.is_at.ensures ∙ c.if-is_at.true)
     ∙ ap (λ r. Ok r) (sym c.into_row.ensures)
 
 pub loop-rows-preserved : goal.loop-rows-preserved
 loop-rows-preserved g c =
-    let stretch = g.R.Reader.stretch in
-    let limit = g.R.Offset.ReaderOffset.limit in
-    let number = g.R.Offset.ReaderOffset.value in
-    let items = g.S-Stack-ArrayLike.items in
-    let limits = g.S.UnwindContextStorage.limits in
-    let fixed = g.S.UnwindContextStorage.never_allocates in
-    let was = c.loop-rows.invariant in
-    let advanced = rw c.if-branch.true at c.in_ok-advance.ensures.row in
-    let now = advanced was.0 was.1 in (
-      _,
-      row_leaves stretch limit number items limits fixed c.advance.new.self was.0 was.0.rows now,
-      sym (found_later stretch limit number items limits fixed c.advance.new.self was.0 c.args.address was.0.rows now (sym c.is_at.ensures ∙ c.if-is_at.false)) ∙ was.2,
-    )
+    let left = rows_left g.R.Reader.stretch g.R.Offset.ReaderOffset.limit g.R.Offset.ReaderOffset.value g.S-Stack-ArrayLike.items g.S.UnwindContextStorage.limits c.loop-rows.rows in
+    let row = (rows_state g.R.Offset.ReaderOffset.value g.S-Stack-ArrayLike.items c.advance.new.self).row in
+    let given = c.in_ok-advance.ensures.row.given ∙ c.if-branch.true in
+    ap (row_among c.args.address) c.in_ok-advance.ensures.row.left
+    ∙ sym (found_later c.args.address left row (c.in_ok-advance.ensures.row.first ∙ ap (λ b. Ok (cond b (Some row) None)) given) (sym c.is_at.ensures ∙ c.if-is_at.false))
+    ∙ c.loop-rows.invariant
 
 pub returns : goal.returns
 returns g c =
-    let limits = g.S.UnwindContextStorage.limits in
-    let was = c.loop-rows.invariant in
-    let advanced = rw c.if-branch.false at c.in_ok-advance.ensures.row in
-    λ told. sym was.2 ∙ found_nowhere g.R.Reader.stretch g.R.Offset.ReaderOffset.limit g.R.Offset.ReaderOffset.value g.S-Stack-ArrayLike.items limits g.S.UnwindContextStorage.never_allocates c.advance.new.self was.0
-    c.args.address was.0.rows (advanced was.0 was.1)
+    let left = rows_left g.R.Reader.stretch g.R.Offset.ReaderOffset.limit g.R.Offset.ReaderOffset.value g.S-Stack-ArrayLike.items g.S.UnwindContextStorage.limits c.loop-rows.rows in
+    let row = (rows_state g.R.Offset.ReaderOffset.value g.S-Stack-ArrayLike.items c.advance.new.self).row in
+    let given = c.in_ok-advance.ensures.row.given ∙ c.if-branch.false in
+    λ told. sym c.loop-rows.invariant
+    ∙ found_nowhere c.args.address left (c.in_ok-advance.ensures.row.first ∙ ap (λ b. Ok (cond b (Some row) None)) given)

@@ -1,6 +1,6 @@
 use Rattle.std.proofs.Common.{length, ap, arith}
 use Rattle.std.proofs.lemmas.Result.{err_from_is_err_and}
-use Rattle.dwarf_frame_instructions.specs.Execution.{state_in}
+use Rattle.dwarf_frame_instructions.specs.Execution.{prefix_from, state_in}
 use Rattle.dwarf_frame_instructions.specs.InstructionViews.{conventions_by, instruction_as}
 use Rattle.dwarf_frame_instructions.specs.Instructions.{instructions_of}
 use Rattle.dwarf_frame_instructions.proofs.Execution.{reached_next, runs_ended, runs_faulty, runs_moved, runs_refused}
@@ -15,9 +15,10 @@ returns-in_err-instruction g c =
     let listed = λ (r : _). instructions_of (conventions_by g.R.Reader.stretch g.R.Offset.ReaderOffset.limit c.args.coding.now) (g.R.Reader.stretch r) in
     let old = state_in number items c.args.context.now in
     let now = state_in number items c.loop-instruction.context in
+    let whole = prefix_from limits c.args.factors.now c.args.location old (listed c.args.input.now) in
     let p = err_from_is_err_and c.from_residual.result c.from_residual.ensures.1 in
     rw (p.1, p.2) (record {
-      prefix = λ executed h. runs_faulty fixed limits c.args.factors.now c.args.location old now (listed c.args.input.now) (listed c.loop-instruction.input) executed (c.loop-instruction.invariant.reached executed h)
+      prefix = runs_faulty fixed limits c.args.factors.now c.args.location now whole (listed c.loop-instruction.input) c.loop-instruction.invariant.reached
           (listed c.next.new.input) now c.in_err-instruction.field-0.0 c.in_err-instruction.ensures.0;
       falls = tt;
     })
@@ -32,11 +33,12 @@ returns-in_err-next g c =
     let old = state_in number items c.args.context.now in
     let now = state_in number items c.loop-instruction.context in
     let new = state_in number items c.execute.new.context in
+    let whole = prefix_from limits c.args.factors.now c.args.location old (listed c.args.input.now) in
     let list = rw c.in-Some.is at c.in_ok-instruction.ensures in
     let p = err_from_is_err_and c.from_residual-in_err-next.result c.from_residual-in_err-next.ensures.1 in
     rw (p.1, p.2) (record {
-      prefix = λ executed h. runs_refused fixed limits c.args.factors.now c.args.location old now (listed c.args.input.now) (listed c.loop-instruction.input) executed (c.loop-instruction.invariant.reached executed h)
-          (instruction_as number c.in-Some.instruction) (listed c.next.new.input) new c.in_err-next.field-0.0 list (c.in_err-next.ensures (c.loop-instruction.invariant.reached executed h).executed (c.loop-instruction.invariant.reached executed h).stands);
+      prefix = runs_refused fixed limits c.args.factors.now c.args.location now whole (listed c.loop-instruction.input) c.loop-instruction.invariant.reached
+          (instruction_as number c.in-Some.instruction) (listed c.next.new.input) (listed c.next.new.input) new c.in_err-next.field-0.0 list c.in_err-next.ensures;
       falls = tt;
     })
 
@@ -50,12 +52,13 @@ returns-in-Some-2 g c =
     let old = state_in number items c.args.context.now in
     let now = state_in number items c.loop-instruction.context in
     let new = state_in number items c.execute.new.context in
+    let whole = prefix_from limits c.args.factors.now c.args.location old (listed c.args.input.now) in
     let list = rw c.in-Some.is at c.in_ok-instruction.ensures in
     let len = ap length list in
     let left = c.loop-instruction.invariant.falls in
     record {
-      prefix = λ executed h. runs_moved fixed limits c.args.factors.now c.args.location old now (listed c.args.input.now) (listed c.loop-instruction.input) executed (c.loop-instruction.invariant.reached executed h)
-          (instruction_as number c.in-Some.instruction) (listed c.next.new.input) new c.in-Some-2.next list (rw c.in-Some-2.is at (c.in_ok-next.ensures (c.loop-instruction.invariant.reached executed h).executed (c.loop-instruction.invariant.reached executed h).stands));
+      prefix = runs_moved fixed limits c.args.factors.now c.args.location now whole (listed c.loop-instruction.input) c.loop-instruction.invariant.reached
+          (instruction_as number c.in-Some.instruction) (listed c.next.new.input) new c.in-Some-2.next list (rw c.in-Some-2.is at c.in_ok-next.ensures);
       falls = omega (arith, len, left);
     }
 
@@ -68,10 +71,10 @@ returns g c =
     let listed = λ (r : _). instructions_of (conventions_by g.R.Reader.stretch g.R.Offset.ReaderOffset.limit c.args.coding.now) (g.R.Reader.stretch r) in
     let old = state_in number items c.args.context.now in
     let now = state_in number items c.loop-instruction.context in
+    let whole = prefix_from limits c.args.factors.now c.args.location old (listed c.args.input.now) in
     let list = rw c.in_default.is at c.in_ok-instruction.ensures in
     record {
-      prefix = λ executed h. runs_ended fixed limits c.args.factors.now c.args.location old now (listed c.args.input.now) (listed c.loop-instruction.input) executed (c.loop-instruction.invariant.reached executed h)
-          (listed c.next.new.input) list.0;
+      prefix = runs_ended fixed limits c.args.factors.now c.args.location now whole (listed c.loop-instruction.input) c.loop-instruction.invariant.reached (listed c.next.new.input) list.0;
       falls = tt;
     }
 
@@ -85,11 +88,12 @@ loop-instruction-preserved g c =
     let old = state_in number items c.args.context.now in
     let now = state_in number items c.loop-instruction.context in
     let new = state_in number items c.execute.new.context in
+    let whole = prefix_from limits c.args.factors.now c.args.location old (listed c.args.input.now) in
     let list = rw c.in-Some.is at c.in_ok-instruction.ensures in
     let len = ap length list in
     let left = c.loop-instruction.invariant.falls in
     record {
-      reached = λ executed h. reached_next fixed limits c.args.factors.now c.args.location old now (listed c.args.input.now) (listed c.loop-instruction.input) executed (c.loop-instruction.invariant.reached executed h)
-          (instruction_as number c.in-Some.instruction) (listed c.next.new.input) new list (rw c.in_default-2.is at (c.in_ok-next.ensures (c.loop-instruction.invariant.reached executed h).executed (c.loop-instruction.invariant.reached executed h).stands));
+      reached = reached_next fixed limits c.args.factors.now c.args.location now whole (listed c.loop-instruction.input) c.loop-instruction.invariant.reached
+          (instruction_as number c.in-Some.instruction) (listed c.next.new.input) new list (rw c.in_default-2.is at c.in_ok-next.ensures);
       falls = omega (arith, len, left);
     }

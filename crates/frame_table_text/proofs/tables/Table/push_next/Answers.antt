@@ -1,4 +1,3 @@
-use Rattle.std.proofs.Common.{refl}
 use Rattle.frame_table_text.specs.TableViews.{table_view}
 use Rattle.frame_table_text.proofs.Rows.{shows_next}
 use Rattle.frame_table_text.proofs.tables.Table.push_next.Goals as goal
@@ -11,6 +10,5 @@ returns-clause-next g c =
     let items = g.S-Stack-ArrayLike.items in
     let limits = g.S.UnwindContextStorage.limits in
     let fixed = g.S.UnwindContextStorage.never_allocates in
-    λ left has.
-    shows_next stretch limit number items limits fixed c.advance.new.self (table_view c.args.self.now) left left.rows c.advance.result c.in_ok-answer.answer c.args.text.now.items c.push_current.new.text.items
-    (c.advance.ensures.row left has) c.in_ok-answer.ensures.same refl c.in_ok-answer.ensures.memory c.in_ok-push_current.ensures
+    shows_next stretch limit number items limits fixed c.args.rows.now c.advance.new.self (table_view c.args.self.now) c.advance.result c.in_ok-answer.answer c.args.text.now.items c.push_current.new.text.items
+    c.advance.ensures.row c.in_ok-answer.ensures.same c.in_ok-answer.ensures.memory c.in_ok-push_current.ensures
