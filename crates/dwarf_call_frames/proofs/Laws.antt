@@ -8,9 +8,10 @@ use Rattle.dwarf_frame_entries.specs.AddressLookups.{fde_for_address}
 use Rattle.dwarf_frame_entries.specs.Entries.{Fde, contains}
 use Rattle.dwarf_frame_entries.specs.SectionFdes.{whole_fdes, nearest_fde}
 use Rattle.dwarf_call_frames.specs.Header.{Header}
-use Rattle.dwarf_call_frames.specs.HeaderEntries.{named_offset}
+use Rattle.dwarf_call_frames.specs.HeaderEntries.{fde_by_header, named_offset}
 use Rattle.dwarf_call_frames.specs.Truthful.{IsTruthful}
 use Rattle.dwarf_call_frames.proofs.TruthfulRows as truthful
+use Rattle.dwarf_call_frames.proofs.HeadersAndScans as scans
 
 module _ (section : FrameSection) (bases : BaseAddresses) (header : Header) (t : IsTruthful section bases header) where
   -- an FDE that contains an address stands where the header says, is the nearest, and is found from the first entry on
@@ -41,3 +42,7 @@ module _ (section : FrameSection) (bases : BaseAddresses) (header : Header) (t :
   -- there are rows, where there is an FDE
   pub has_rows : (fde : Fde) → Contains (whole_fdes section) fde → 0 < header.count
   has_rows = truthful.has_rows section bases header t
+
+  -- for each address a lookup by the header finds what a scan does
+  pub header_as_scan : (address : ℕ) → fde_by_header section bases header address ≡ fde_for_address section address
+  header_as_scan = scans.header_as_scan section bases header t

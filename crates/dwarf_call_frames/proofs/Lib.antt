@@ -1,5 +1,6 @@
 pub mod Halves
 pub mod HeaderRows
+pub mod HeadersAndScans
 pub mod Increasing
 pub mod Laws
 pub mod NamedEntries

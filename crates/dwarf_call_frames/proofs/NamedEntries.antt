@@ -16,19 +16,26 @@ use Rattle.dwarf_frame_instructions.specs.ProgramRows.{IsRowFor}
 use Rattle.dwarf_frame_entries.specs.Entries.{Fde, contains, fde_from_offset}
 use Rattle.dwarf_frame_entries.specs.EntryPrograms.{fde_row}
 use Rattle.dwarf_call_frames.specs.Header.{Header, offset_of_pointer}
-use Rattle.dwarf_call_frames.specs.HeaderEntries.{fde_by_header, row_by_header}
+use Rattle.dwarf_call_frames.specs.HeaderEntries.{fde_by_header, named_offset, row_by_header}
 use Rattle.dwarf_call_frames.specs.HeaderTable.{header_row, header_table}
 
 -- an FDE, if it contains an address
 abbrev Containing : ℕ → Result Fde Error → Result Fde Error
 Containing address found = found >>= λ fde. requirement (contains address fde) NoUnwindInfoForAddress >>= λ _. Ok fde
 
-module _ (section : FrameSection) (bases : BaseAddresses) (header : Header) (address : ℕ) (pointer : Pointer) (offset : ℕ)
-    (row : Ok pointer ≡ header_row section.limit address (header_table bases.eh_frame_hdr header)) (place : offset_of_pointer section.limit header pointer ≡ Ok offset) where
+-- the offset by the pointer in a row
+pub offset-named : (limit : ℕ) (bases : BaseAddresses) (header : Header) (address : ℕ) (pointer : Pointer) (offset : ℕ) → Ok pointer ≡ header_row limit address (header_table bases.eh_frame_hdr header)
+    → offset_of_pointer limit header pointer ≡ Ok offset → named_offset limit bases header address ≡ Ok offset
+offset-named limit bases header address pointer offset row place = ap (λ (r : Result Pointer Error). r >>= λ p. offset_of_pointer limit header p) (sym row) ∙ place
+
+-- no offset is named
+pub fde-unnamed : (section : FrameSection) (bases : BaseAddresses) (header : Header) (address : ℕ) (e : Error) → named_offset section.limit bases header address ≡ Err e
+    → fde_by_header section bases header address ≡ Err e
+fde-unnamed section bases header address e is = ap (λ (r : Result ℕ Error). r >>= λ o. Containing address (fde_from_offset section o)) is
+
+module _ (section : FrameSection) (bases : BaseAddresses) (header : Header) (address offset : ℕ) (place : named_offset section.limit bases header address ≡ Ok offset) where
   named : fde_by_header section bases header address ≡ Containing address (fde_from_offset section offset)
-  named =
-      ap (λ (r : Result Pointer Error). r >>= λ p. offset_of_pointer section.limit header p >>= λ o. Containing address (fde_from_offset section o)) (sym row)
-      ∙ ap (λ (r : Result ℕ Error). r >>= λ o. Containing address (fde_from_offset section o)) place
+  named = ap (λ (r : Result ℕ Error). r >>= λ o. Containing address (fde_from_offset section o)) place
 
   -- it is refused, or memory is wanted
   pub fde-refused : (may_allocate : Bool) (e : Error) → (fde_from_offset section offset ≡ Err e) ⊎ (IsTrue may_allocate × (e ≡ OutOfMemory))

@@ -24,7 +24,7 @@ use Rattle.dwarf_frame_entries.specs.declared.entries.Entry.TheVariants as which
 use Rattle.list_laws.specs.Greatest.{first_greatest, greater_of, is_greatest}
 use Rattle.list_laws.specs.Last.{last_of}
 use Rattle.list_laws.proofs.Laws.{by_case, by_option, first_greatest-cons, last_of-cons}
-use Rattle.dwarf_call_frames.specs.Halving.{halving, read_row, target_at_or_below, target_or_first}
+use Rattle.dwarf_call_frames.specs.Halving.{halving, row_with_start, target_at_or_below, target_or_first}
 use Rattle.dwarf_call_frames.specs.Header.{Header, offset_of_pointer}
 use Rattle.dwarf_call_frames.specs.HeaderEntries.{named_offset}
 use Rattle.dwarf_call_frames.specs.HeaderTable.{header_row, row_at_index, rows_by_index, header_table}
@@ -170,6 +170,9 @@ nearest-is address fdes fde h =
     let test : Fde → Bool = is_greatest (λ fde. fde.initial_address) within in
     let is = find-has (λ (f : Fde). Contains fdes f × (starts_by address f ≡ true)) test within fde (filter-all (Contains fdes) (starts_by address) fdes (All-contains_itself fdes)) h in
     record { there = is.0; low = is.1; near = all-low address fde.initial_address fdes (find-passes test within fde h) }
+
+pub nearest_there : (address : ℕ) (fdes : List Fde) (fde : Fde) → nearest_fde address fdes ≡ Some fde → Contains fdes fde
+nearest_there address fdes fde h = (nearest-is address fdes fde h).there
 
 -- there is one, where an FDE starts at or below the address
 some-greatest : (fde : Fde) (fdes : List Fde) → first_greatest (λ (f : Fde). f.initial_address) (fde ∷ fdes) ≡ None → ⊥
@@ -346,7 +349,7 @@ module _ (section : FrameSection) (bases : BaseAddresses) (header : Header) (t :
       let count = length-between (row_at_index section.limit t.size table) 0 table.count in
       some (Contains-permutation all t.fdes fde t.are_all there) (sym count ∙ len)
     where
-      length-rows : (fdes : List Fde) → length (map read_row (map (row_of_fde t.section_start) fdes)) ≡ length fdes
+      length-rows : (fdes : List Fde) → length (map row_with_start (map (row_of_fde t.section_start) fdes)) ≡ length fdes
       length-rows [] = refl
       length-rows (fde ∷ fdes) = ap suc (length-rows fdes)
 
@@ -361,7 +364,7 @@ module _ (section : FrameSection) (bases : BaseAddresses) (header : Header) (t :
       first : (fdes : List Fde) → t.fdes ≡ fdes → (fde : Fde) × (Contains all fde × ((address < fde.initial_address) × (named_offset section.limit bases header address ≡ Ok fde.head.offset)))
       first [] is =
           let table = header_table bases.eh_frame_hdr header in
-          let len : length (rows_by_index section.limit t.size table) ≡ 0 = ap length (t.rows ∙ ap (λ (fdes : List Fde). map read_row (map (row_of_fde t.section_start) fdes)) is) in
+          let len : length (rows_by_index section.limit t.size table) ≡ 0 = ap length (t.rows ∙ ap (λ (fdes : List Fde). map row_with_start (map (row_of_fde t.section_start) fdes)) is) in
           let count = length-between (row_at_index section.limit t.size table) 0 table.count in
           absurd (omega arith)
       first (fde ∷ fdes) is =

@@ -59,22 +59,23 @@ pub record GivesHalving (halved : Halving) (answer : Result Pointer Error) (befo
 
 -- ---- rows whose starts increase
 
--- a row both of whose pointers can be read
-abbrev pub read_row : ℕ × Pointer → TableRow
-read_row row = record { start = Ok row.0; target = Ok row.1 }
+-- a row whose start can be read, with its pointer to the FDE, or the error of reading that
+abbrev pub row_with_start : ℕ × Result Pointer Error → TableRow
+row_with_start row = record { start = Ok row.0; target = row.1 }
 
 -- the pointer in a row, or else in the first of these
-abbrev pub target_or_first : Option (ℕ × Pointer) → List (ℕ × Pointer) → Result Pointer Error
-target_or_first (Some row) rows = Ok row.1
+abbrev pub target_or_first : Option (ℕ × Result Pointer Error) → List (ℕ × Result Pointer Error) → Result Pointer Error
+target_or_first (Some row) rows = row.1
 target_or_first None [] = Err NoUnwindInfoForAddress
-target_or_first None (row ∷ rows) = Ok row.1
+target_or_first None (row ∷ rows) = row.1
 
 -- the pointer in the last row whose start is at or below the address, else in the first row
-abbrev pub target_at_or_below : ℕ → List (ℕ × Pointer) → Result Pointer Error
+abbrev pub target_at_or_below : ℕ → List (ℕ × Result Pointer Error) → Result Pointer Error
 target_at_or_below address rows = target_or_first (last_of (filter (λ row. nat_le row.0 address) rows)) rows
 
--- If all rows can be read and their starts increase, halving reaches the last row at or below the address, or else the first.
-abbrev pub FindsRowAtOrBelow : ℕ → List (ℕ × Pointer) → Type 0
+-- If all starts can be read and increase, halving reaches the last row at or below the address, or else the first; whether its
+-- pointer can be read or not.
+abbrev pub FindsRowAtOrBelow : ℕ → List (ℕ × Result Pointer Error) → Type 0
 FindsRowAtOrBelow address rows =
     IsStrictlyIncreasing (map (λ row. row.0) rows)
-    → (halving address (map read_row rows)).reached ≡ target_at_or_below address rows
+    → (halving address (map row_with_start rows)).reached ≡ target_at_or_below address rows

@@ -2,4 +2,5 @@ pub mod Header
 pub mod HeaderTable
 pub mod Halving
 pub mod HeaderEntries
+pub mod EhFrameCies
 pub mod Truthful

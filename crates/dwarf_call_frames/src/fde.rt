@@ -1,7 +1,7 @@
 //! The FDE for an address, by the table.
 
-ghost use Rattle.dwarf_frame_entries.specs.CieReaders.{GivesByCies, IsRowByCies};
-ghost use Rattle.dwarf_call_frames.specs.HeaderEntries.{ReadsEhFrameCies, eh_frame_in, fde_by_header, row_by_header};
+ghost use Rattle.dwarf_call_frames.specs.EhFrameCies.{NamesFde, NamesRow};
+ghost use Rattle.dwarf_call_frames.specs.HeaderEntries.{fde_by_header, row_by_header};
 
 use crate::table::EhHdrTable;
 use dwarf_constants::{Error, Result};
@@ -31,9 +31,8 @@ impl<'a, R: Reader> EhHdrTable<'a, R> {
         get_cie: F,
     ) -> Result<FrameDescriptionEntry<R>>
         requires { F.IsAlwaysCallable get_cie }
-        ensures { GivesByCies (ReadsEhFrameCies F.step R.stretch R.Offset.value R.Offset.limit)
-            result (fde_by_header (eh_frame_in R.stretch R.Offset.limit frame.now bases.now)
-            bases.now self.now address) }
+        ensures { NamesFde F.step R.stretch R.Offset.value R.Offset.limit frame.now bases.now get_cie result
+            (λ section. fde_by_header section bases.now self.now address) }
     {
         let pointer = self.lookup(address, bases)?;
         let offset = self.pointer_to_offset(pointer)?;
@@ -64,10 +63,9 @@ impl<'a, R: Reader> EhHdrTable<'a, R> {
         get_cie: F,
     ) -> Result<&'ctx UnwindTableRow<R::Offset, S::Rules>>
         requires { F.IsAlwaysCallable get_cie }
-        ensures { IsRowByCies (ReadsEhFrameCies F.step R.stretch R.Offset.value R.Offset.limit)
-            R.Offset.value S.never_allocates
-            (row_by_header S.limits (eh_frame_in R.stretch R.Offset.limit frame.now bases.now)
-            frame.now.vendor bases.now self.now address) result }
+        ensures { NamesRow F.step R.stretch R.Offset.value R.Offset.limit S.never_allocates
+            frame.now bases.now get_cie result
+            (λ section. row_by_header S.limits section frame.now.vendor bases.now self.now address) }
     {
         let fde = self.fde_for_address(frame, bases, address, get_cie)?;
         fde.unwind_info_for_address(frame, bases, ctx, address)

@@ -166,15 +166,18 @@ among-within section offset None is = each_err
 among-within section offset (Some (which.Cie cie)) is = each_err
 among-within section offset (Some (which.Fde partial)) is = each_ok is
 
--- an FDE at an offset of a section is read in it
 there-is-of : (section : FrameSection) (offset : ℕ) → Each (λ (partial : PartialFde). partial.within ≡ section.within) (partial_fde_from_offset section offset)
 there-is-of section offset =
     each_value (behind_at offset section.within.bytes) (λ rest.
     each_then (read-within section rest) (λ read is. among-within section offset read.0 is))
 
+-- an FDE at an offset of a section is read in it
+pub partial_of_section : (section : FrameSection) (offset : ℕ) (partial : PartialFde) → partial_fde_from_offset section offset ≡ Ok partial → partial.within ≡ section.within
+partial_of_section section offset partial is = each_known _ (partial_fde_from_offset section offset) partial (there-is-of section offset) is
+
 there-of : (section : FrameSection) (item : Result AnyEntry Error) → StandsThere section item → IsOfSection section item
 there-of section (Ok (which.Cie cie)) h = tt
-there-of section (Ok (which.Fde partial)) h = each_known _ (partial_fde_from_offset section partial.head.offset) partial (there-is-of section partial.head.offset) h
+there-of section (Ok (which.Fde partial)) h = partial_of_section section partial.head.offset partial h
 there-of section (Err e) h = tt
 
 all-of : (section : FrameSection) (entries : List (Result AnyEntry Error)) → All (StandsThere section) entries → All (IsOfSection section) entries

@@ -1,5 +1,6 @@
 pub mod AddressLookups
 pub mod Behind
+pub mod CieReaders
 pub mod Each
 pub mod EntryLists
 pub mod EntryOffsets

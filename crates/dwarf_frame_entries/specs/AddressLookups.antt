@@ -1,5 +1,5 @@
 -- The FDE of a section for an address, and its row there (DWARF 5, 6.4.3).
-use Rattle.std.specs.Prelude.{ℕ, Bool, true, List, Option, Some, None, unwrap_or, Result, Ok, Err}
+use Rattle.std.specs.Prelude.{ℕ, Bool, true, List, Option, Some, unwrap_or, Result, Ok, Err}
 use Rattle.std.specs.List.{filter_map, find}
 use Rattle.dwarf_constants.specs.declared.common.Vendor.{Vendor}
 use Rattle.dwarf_constants.specs.declared.error.Error.{Error}
@@ -8,16 +8,14 @@ use Rattle.dwarf_readers.specs.Stretch.{◌>>=◌}
 use Rattle.dwarf_frame_rows.specs.Effects.{Limits}
 use Rattle.dwarf_frame_rows.specs.Row.{Row}
 use Rattle.dwarf_frame_rows.specs.FrameSection.{FrameSection}
-use Rattle.dwarf_frame_entries.specs.declared.entries.Entry.TheVariants as which
-use Rattle.dwarf_frame_entries.specs.Entries.{AnyEntry, Fde, contains, fde_of}
+use Rattle.dwarf_frame_entries.specs.Entries.{AnyEntry, Fde, contains, fde_of_entry}
 use Rattle.dwarf_frame_entries.specs.EntryLists.{entries_of}
 use Rattle.dwarf_frame_entries.specs.EntryPrograms.{fde_row}
 
 -- what an item of a section's list is for a lookup: an FDE with its CIE, or the error of reading it, or the error that ends the
 -- list; a CIE is passed over
 abbrev pub fde_or_error : FrameSection → Result AnyEntry Error → Option (Result Fde Error)
-fde_or_error section (Ok (which.Cie cie)) = None
-fde_or_error section (Ok (which.Fde partial)) = Some (fde_of section.limit section.kind partial)
+fde_or_error section (Ok entry) = fde_of_entry section entry
 fde_or_error section (Err e) = Some (Err e)
 
 -- a lookup ends at an FDE that contains the address, and at any error

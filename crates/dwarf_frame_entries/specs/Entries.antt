@@ -234,6 +234,11 @@ fde_of limit kind partial = do
   cie ← cie_of limit kind partial
   fde_with limit partial cie
 
+-- the FDE that an entry is, or the error of reading it, if it isn't a CIE
+abbrev pub fde_of_entry : FrameSection → AnyEntry → Option (Result Fde Error)
+fde_of_entry section (which.Cie cie) = None
+fde_of_entry section (which.Fde partial) = Some (fde_of section.limit section.kind partial)
+
 -- the FDE at an offset of the section
 abbrev pub fde_from_offset : FrameSection → ℕ → Result Fde Error
 fde_from_offset section offset = do

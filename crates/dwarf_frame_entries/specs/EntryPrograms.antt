@@ -1,14 +1,14 @@
 -- The instructions of entries, and the rows of an FDE (DWARF 5, 6.4.1 to 6.4.3).
-use Rattle.std.specs.Prelude.{ℕ, Option, Some, None, option_map, Result}
+use Rattle.std.specs.Prelude.{◌≡◌, ℕ, true, length, Option, Some, None, option_map, Result}
 use Rattle.dwarf_constants.specs.declared.common.Vendor.{Vendor}
 use Rattle.dwarf_constants.specs.declared.error.Error.{Error}
 use Rattle.dwarf_frame_rows.specs.Effects.{Limits}
 use Rattle.dwarf_frame_rows.specs.Row.{Row}
 use Rattle.dwarf_frame_instructions.specs.declared.effects.Factors.{Factors}
 use Rattle.dwarf_frame_instructions.specs.Instructions.{Conventions, instructions_of}
-use Rattle.dwarf_frame_instructions.specs.Programs.{Instructions, EntryProgram, RowList, row_for, rows_of_program}
+use Rattle.dwarf_frame_instructions.specs.Programs.{Instructions, EntryProgram, IsComplete, RowList, row_for, rows_at, rows_of_program}
 use Rattle.dwarf_frame_rows.specs.FrameSection.{FrameSection, origins_in}
-use Rattle.dwarf_frame_entries.specs.Entries.{Cie, Fde, address_encoding, end_address}
+use Rattle.dwarf_frame_entries.specs.Entries.{Cie, Fde, address_encoding, contains, end_address}
 
 -- what decides how the instructions of a CIE and of its FDEs are read: the operand of DW_CFA_set_loc is encoded as the addresses
 -- of FDEs, and may be relative to the start of the FDE's function
@@ -54,3 +54,9 @@ fde_rows limits section vendor fde = rows_of_program limits (fde_program section
 -- the row of an FDE for an address
 abbrev pub fde_row : Limits → FrameSection → Vendor → Fde → ℕ → Result (Row ℕ) Error
 fde_row limits section vendor fde address = row_for limits (fde_program section vendor fde) address
+
+-- If no error ends an FDE's rows, each address of its code is in exactly one of them.
+abbrev pub RowsCoverCode : Limits → FrameSection → Vendor → Fde → Type 0
+RowsCoverCode limits section vendor fde =
+    let program = fde_program section vendor fde in
+    IsComplete limits program → (address : ℕ) → contains address fde ≡ true → length (rows_at limits program address) ≡ 1

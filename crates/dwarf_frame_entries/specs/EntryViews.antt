@@ -1,6 +1,7 @@
 -- Entries of the code as values of the definitions: readers as stretches, and offsets as numbers.
 use Rattle.std.specs.Prelude.{ℕ, Result, Ok, Err}
 use Rattle.dwarf_constants.specs.declared.error.Error.{Error}
+use Rattle.dwarf_endianity.specs.Answers.{Gives}
 use Rattle.dwarf_readers.specs.Stretch.{Stretch}
 use Rattle.dwarf_frame_entries.specs.Entries.{AnyEntry, Cie, PartialFde}
 use Rattle.dwarf_frame_entries.specs.HeadViews.{head_view}
@@ -32,3 +33,7 @@ abbrev pub item_view : {R E O : Type 0} → (R → Stretch) → (O → ℕ)
     → Result (Entry (CommonInformationEntry R E O) PartialFde) Error → Result AnyEntry Error
 item_view stretch value (Ok entry) = Ok (entry_view stretch value entry)
 item_view stretch value (Err e) = Err e
+
+-- A call returned this CIE, or this error.
+abbrev pub GivesCie : {R E O : Type 0} → (R → Stretch) → (O → ℕ) → Result (CommonInformationEntry R E O) Error → Result Cie Error → Type 0
+GivesCie stretch value result answer = Gives (cie_view stretch value) result answer

@@ -1,18 +1,17 @@
 -- The FDEs of a section, and what is at the offsets of its entries.
-use Rattle.std.specs.Prelude.{◌≡◌, ℕ, List, Option, Some, None, Result, Ok, Err, nat_le}
+use Rattle.std.specs.Prelude.{◌≡◌, ℕ, List, Option, None, Result, Ok, Err, nat_le}
 use Rattle.std.specs.List.{filter, filter_map}
 use Rattle.std.specs.Result.{result_ok}
 use Rattle.list_laws.specs.Greatest.{first_greatest}
 use Rattle.dwarf_constants.specs.declared.error.Error.{Error}
 use Rattle.dwarf_frame_rows.specs.FrameSection.{FrameSection}
 use Rattle.dwarf_frame_entries.specs.declared.entries.Entry.TheVariants as which
-use Rattle.dwarf_frame_entries.specs.Entries.{AnyEntry, Fde, cie_from_offset, fde_from_offset, fde_of, partial_fde_from_offset}
+use Rattle.dwarf_frame_entries.specs.Entries.{AnyEntry, Fde, cie_from_offset, fde_from_offset, fde_of_entry, partial_fde_from_offset}
 use Rattle.dwarf_frame_entries.specs.EntryLists.{entries_of}
 
 -- the FDE of an item of a section's list, or the error of reading it, if the item is an FDE
 abbrev pub fde_in : FrameSection → Result AnyEntry Error → Option (Result Fde Error)
-fde_in section (Ok (which.Cie cie)) = None
-fde_in section (Ok (which.Fde partial)) = Some (fde_of section.limit section.kind partial)
+fde_in section (Ok entry) = fde_of_entry section entry
 fde_in section (Err e) = None
 
 -- the FDEs of a section in their order, or the error of each that can't be read

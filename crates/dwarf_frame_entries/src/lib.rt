@@ -11,6 +11,7 @@ mod entry_offsets;
 mod fde;
 mod parse;
 mod programs;
+mod row_laws;
 mod section;
 mod table;
 
@@ -28,5 +29,6 @@ pub use entry_offsets::{
     listed_fdes_stand_at_their_offsets,
 };
 pub use fde::{FrameDescriptionEntry, PartialFrameDescriptionEntry};
+pub use row_laws::each_address_of_an_fde_has_one_row;
 pub use section::UnwindSection;
 pub use table::UnwindTable;

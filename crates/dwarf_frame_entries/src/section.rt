@@ -3,10 +3,10 @@
 ghost use Rattle.std.specs.Prelude.{◌≡◌};
 ghost use Rattle.dwarf_endianity.specs.Answers.{Gives};
 ghost use Rattle.dwarf_frame_entries.specs.AddressLookups.{fde_for_address, section_row};
-ghost use Rattle.dwarf_frame_entries.specs.CieReaders.{GivesByCies, IsRowByCies, ReadsCies};
+ghost use Rattle.dwarf_frame_entries.specs.CieReaders.{FindsFde, FindsRow, ReadsFde};
 ghost use Rattle.dwarf_frame_entries.specs.Entries.{cie_from_offset, fde_from_offset, partial_fde_from_offset};
 ghost use Rattle.dwarf_frame_entries.specs.EntryLists.{entry_list_of};
-ghost use Rattle.dwarf_frame_entries.specs.EntryViews.{cie_view};
+ghost use Rattle.dwarf_frame_entries.specs.EntryViews.{GivesCie};
 
 use crate::cie::CommonInformationEntry;
 use crate::entries::{CfiEntriesIter, CieOrFde};
@@ -26,8 +26,8 @@ use std::fmt::Debug;
 /// pointers are relative.
 ///
 /// Lookups read the CIE of an FDE by `get_cie`: [`UnwindSection::cie_from_offset`] itself, or a
-/// function that keeps what that returned. A function that returns anything else is safe, and its
-/// lookups are unspecified.
+/// function that keeps what that returned for this section and these bases. A function that returns
+/// anything else is safe, and its lookups are unspecified.
 pub trait UnwindSection<R: Reader>: Copy + Debug + _UnwindSectionPrivate<R> {
     /// The type of offsets in the section.
     type Offset: UnwindOffset<R::Offset>;
@@ -51,9 +51,8 @@ pub trait UnwindSection<R: Reader>: Copy + Debug + _UnwindSectionPrivate<R> {
     ) -> Result<CommonInformationEntry<R>>
     where
         Self: Sized,
-        ensures { Gives (cie_view R.stretch R.Offset.value) result (cie_from_offset
-            (Self.frame self.now bases.now)
-            (Self.Offset.number offset)) }
+        ensures { GivesCie R.stretch R.Offset.value result
+            (cie_from_offset (Self.frame self.now bases.now) (Self.Offset.number offset)) }
     {
         let offset = UnwindOffset::into(offset);
         let mut input = *self.section();
@@ -102,8 +101,8 @@ pub trait UnwindSection<R: Reader>: Copy + Debug + _UnwindSectionPrivate<R> {
     where
         Self: Sized,
         requires { F.IsAlwaysCallable get_cie }
-        ensures { GivesByCies (ReadsCies F.step R.stretch R.Offset.value Self.frame Self.Offset.number)
-            result (fde_from_offset (Self.frame self.now bases.now) (Self.Offset.number offset)) }
+        ensures { ReadsFde F.step R.stretch R.Offset.value Self.frame Self.Offset.number self.now bases.now
+            get_cie result (λ section. fde_from_offset section (Self.Offset.number offset)) }
     {
         let partial = self.partial_fde_from_offset(bases, offset)?;
         partial.parse(get_cie)
@@ -123,8 +122,8 @@ pub trait UnwindSection<R: Reader>: Copy + Debug + _UnwindSectionPrivate<R> {
     where
         Self: Sized,
         requires { F.IsAlwaysCallable get_cie }
-        ensures { GivesByCies (ReadsCies F.step R.stretch R.Offset.value Self.frame Self.Offset.number)
-            result (fde_for_address (Self.frame self.now bases.now) address) }
+        ensures { FindsFde F.step R.stretch R.Offset.value Self.frame Self.Offset.number self.now bases.now
+            get_cie result (λ section. fde_for_address section address) }
     {
         let mut entries = self.entries(bases);
         while let Some(entry) = entries.next()? {
@@ -155,9 +154,9 @@ pub trait UnwindSection<R: Reader>: Copy + Debug + _UnwindSectionPrivate<R> {
     where
         Self: Sized,
         requires { F.IsAlwaysCallable get_cie }
-        ensures { IsRowByCies (ReadsCies F.step R.stretch R.Offset.value Self.frame Self.Offset.number)
-            R.Offset.value S.never_allocates (section_row S.limits (Self.frame self.now bases.now)
-            (Self.extensions self.now) address) result }
+        ensures { FindsRow F.step R.stretch R.Offset.value Self.frame Self.Offset.number S.never_allocates
+            self.now bases.now get_cie result
+            (λ section. section_row S.limits section (Self.extensions self.now) address) }
     {
         let fde = self.fde_for_address(bases, address, get_cie)?;
         fde.unwind_info_for_address(self, bases, ctx, address)

@@ -1,0 +1,27 @@
+-- What a lookup by a header gives, by a function that reads the CIEs of `.eh_frame`.
+use Rattle.std.specs.Prelude.{ℕ, Result}
+use Rattle.std.specs.Borrow.{Bor}
+use Rattle.dwarf_constants.specs.declared.error.Error.{Error}
+use Rattle.dwarf_offsets.specs.declared.EhFrameOffset.{EhFrameOffset}
+use Rattle.dwarf_readers.specs.Stretch.{Stretch}
+use Rattle.dwarf_frame_rows.specs.Row.{Row}
+use Rattle.dwarf_frame_rows.specs.declared.base_addresses.BaseAddresses.{BaseAddresses}
+use Rattle.dwarf_frame_rows.specs.declared.row.UnwindTableRow.{UnwindTableRow}
+use Rattle.dwarf_frame_rows.specs.FrameSection.{FrameSection}
+use Rattle.dwarf_frame_sections.specs.Sections.{FrameData}
+use Rattle.dwarf_frame_entries.specs.CieReaders.{CieResult, ReadsFde, ReadsRow}
+use Rattle.dwarf_frame_entries.specs.Entries.{Fde}
+use Rattle.dwarf_call_frames.specs.HeaderEntries.{eh_frame_in}
+
+module _ {F R E O : Type 0} (step : F → Bor (FrameData R) → Bor BaseAddresses → EhFrameOffset O → CieResult R E O → F → Type 0)
+    (stretch : R → Stretch) (value : O → ℕ) (limit : ℕ) where
+  -- If the function reads a CIE of the section, as it is called once, a lookup returned this FDE, or this error; or OutOfMemory,
+  -- if the function may allocate.
+  abbrev pub NamesFde : FrameData R → BaseAddresses → F → Result Fde Error → (FrameSection → Result Fde Error) → Type 0
+  NamesFde = ReadsFde step stretch value (eh_frame_in stretch limit) (λ offset. value offset.0)
+
+  -- If the function reads a CIE of the section, as it is called once, a lookup returned this row, or this error; or OutOfMemory,
+  -- if the storage or the function may allocate. `Fixed` says that the storage doesn't.
+  abbrev pub NamesRow : {L : Type 0} → (Fixed : Type 0) → FrameData R → BaseAddresses → F
+      → Result (Bor (UnwindTableRow O L)) Error → (FrameSection → Result (Row ℕ) Error) → Type 0
+  NamesRow = ReadsRow step stretch value (eh_frame_in stretch limit) (λ offset. value offset.0)
