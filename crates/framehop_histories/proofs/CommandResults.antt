@@ -232,7 +232,7 @@ module _ {D R Regs : Type 0} where
 
   frame-reply-by : (wanted takes : Bool) (m : Meanings D R Regs) (s after : SessionState D R) (walks : List (StackWalk Regs)) (i c w : ℕ) (old new : StackWalk Regs) (words : Words) (answer : Result (Option FrameAddress) Error) (reply : Option (Reply Regs))
       → i < length s.unwinders → c < length s.caches → w < length walks → old ≡ get_or walks w old → after.unwinders ≡ s.unwinders → after.next ≡ s.next → length after.caches ≡ length s.caches
-      → (wanted ≡ true → reply ≡ None) → (wanted ≡ false → reply ≡ Some (Moved (frame_answer answer) (walk_of new).registers)) → (takes ≡ false → wanted ≡ false) → (wanted ≡ true → new ≡ old)
+      → (wanted ≡ true → reply ≡ None) → (wanted ≡ false → reply ≡ Some (Moved (frame_answer answer) (walk_of new).registers)) → (takes ≡ false → wanted ≡ false) → (wanted ≡ true → walk_of new ≡ walk_of old)
       → (wanted ≡ false → move_made (frame_answer answer) new ≡ move (judge m (unwinder_at s.unwinders i).modules) words (walk_of old))
       → (let state = state_of s (map walk_of walks) in IsResult takes state (result_of_frame m i c w words state) reply (state_of after (map walk_of (slice_set walks w new))))
   frame-reply-by true takes m s after walks i c w old new words answer reply less there here at p q r refused answered none stays made =
@@ -244,7 +244,7 @@ module _ {D R Regs : Type 0} where
       ∙ ap (λ (x : Option (Walk Regs)). if_known x state (λ there. moved w (move (judge m modules) words there) state)) known in
       let set = map-set walk_of walks w new in
       rw (refused refl) (is-refused takes state _ (Moved (move (judge m modules) words (walk_of old)).answer (move (judge m modules) words (walk_of old)).walk.registers) _ _ e (takes-if takes true none refl)
-      (unchanged s after _ _ p q r (ap (λ x. map walk_of (slice_set walks w x)) (stays refl ∙ at) ∙ ap (map walk_of) (set-same walks w old here))))
+      (unchanged s after _ _ p q r (set ∙ ap (slice_set (map walk_of walks) w) (stays refl) ∙ sym (map-set walk_of walks w old) ∙ ap (λ x. map walk_of (slice_set walks w x)) at ∙ ap (map walk_of) (set-same walks w old here))))
   frame-reply-by false takes m s after walks i c w old new words answer reply less there here at p q r refused answered none stays made =
       let state = state_of s (map walk_of walks) in
       let modules = (unwinder_at s.unwinders i).modules in
@@ -259,7 +259,7 @@ module _ {D R Regs : Type 0} where
 
   pub frame-reply : (takes : Bool) (m : Meanings D R Regs) (s after : SessionState D R) (walks : List (StackWalk Regs)) (i c w : ℕ) (old new : StackWalk Regs) (words : Words) (answer : Result (Option FrameAddress) Error) (reply : Option (Reply Regs))
       → i < length s.unwinders → c < length s.caches → w < length walks → old ≡ get_or walks w old → after.unwinders ≡ s.unwinders → after.next ≡ s.next → length after.caches ≡ length s.caches
-      → (wants_memory answer ≡ true → reply ≡ None) → (wants_memory answer ≡ false → reply ≡ Some (Moved (frame_answer answer) (walk_of new).registers)) → (takes ≡ false → wants_memory answer ≡ false) → (wants_memory answer ≡ true → new ≡ old)
+      → (wants_memory answer ≡ true → reply ≡ None) → (wants_memory answer ≡ false → reply ≡ Some (Moved (frame_answer answer) (walk_of new).registers)) → (takes ≡ false → wants_memory answer ≡ false) → (wants_memory answer ≡ true → walk_of new ≡ walk_of old)
       → (wants_memory answer ≡ false → move_made (frame_answer answer) new ≡ move (judge m (unwinder_at s.unwinders i).modules) words (walk_of old))
       → (let state = state_of s (map walk_of walks) in IsResult takes state (result_of_frame m i c w words state) reply (state_of after (map walk_of (slice_set walks w new))))
   frame-reply takes m s after walks i c w old new words answer reply = frame-reply-by (wants_memory answer) takes m s after walks i c w old new words answer reply

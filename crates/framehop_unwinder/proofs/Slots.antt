@@ -8,8 +8,10 @@ use Rattle.std.proofs.lemmas.List.{get_or_past}
 use Rattle.std.proofs.lemmas.Bool.{cases_lt}
 use Rattle.std.proofs.lemmas.Bool.Decides.{Decides-eqb}
 use Rattle.std.specs.Cmp.{booleans_Decides}
-use Rattle.framehop_rules.specs.Slots.{Key, KeptRule, Finding, Hits, EmptySlot, OtherModules, OtherAddress, finding_for, entry_in, slot_of}
-use Rattle.framehop_unwinder.specs.RulesKept.{Fits, FitsEntry, KeysBelow, finding_in, slots_after, with_any, with_missed}
+use Rattle.framehop_rules.specs.Slots.{Key, KeptRule, Kept, Finding, Hits, EmptySlot, OtherModules, OtherAddress, finding_for, entry_in, slot_of}
+use Rattle.framehop_unwinder.specs.Attempt.{Meanings}
+use Rattle.framehop_unwinder.specs.Modules.{Loaded, Loads, AreOneBook}
+use Rattle.framehop_unwinder.specs.RulesKept.{Fits, FitsEntry, FitsLoads, KeysBelow, StepsCache, finding_in, rule_kept, slots_after, with_any, with_missed}
 
 any_fits : {R : Type 0} (kept : Key → Option R) (generation : ℕ) (slots : List (Option (KeptRule R))) (key : Key) (rule : Option R)
     → (key.generation ≡ generation → kept key ≡ rule) → Fits kept generation slots → Fits kept generation (with_any slots key rule)
@@ -30,6 +32,14 @@ pub fits_after : {R : Type 0} (wanted : Bool) (mine theirs : Key → Option R) (
     → (key.generation ≡ generation → theirs key ≡ mine key) → Fits theirs generation slots → Fits theirs generation (slots_after wanted mine key slots)
 fits_after true mine theirs generation key slots same fits = fits
 fits_after false mine theirs generation key slots same fits = missed_fits theirs generation slots key (mine key) (finding_in slots key) same fits
+
+-- a cache that a step of one unwinder changed fits each other that it fitted, if those of one generation have the same modules
+pub loads_fit : {Data R Registers : Type 0} (m : Meanings Data R Registers) (one other : Loads (Loaded Data)) (wanted : Bool) (key : Key) (old new : Kept R)
+    → key.generation ≡ one.generation → AreOneBook one other → StepsCache (rule_kept m one.modules) key wanted old new → FitsLoads m other old → FitsLoads m other new
+loads_fit m one other wanted key old new of_one same steps fits =
+    subst (Fits (rule_kept m other.modules) other.generation) (sym steps.slots)
+    (fits_after wanted (rule_kept m one.modules) (rule_kept m other.modules) other.generation key old.slots
+    (λ e. ap (λ modules. rule_kept m modules key) (sym (same (sym of_one ∙ e)))) fits)
 
 below_any : {R : Type 0} (next : ℕ) (slots : List (Option (KeptRule R))) (key : Key) (rule : Option R) → key.generation < next → KeysBelow next slots → KeysBelow next (with_any slots key rule)
 below_any {R} next slots key (Some rule) less below = record {

@@ -7,9 +7,9 @@ use Rattle.std.proofs.lemmas.List.Elements.{All-set, All-get_or, All-from_get_or
 use Rattle.framehop_rules.specs.Slots.{KeptRule, Key, Kept}
 use Rattle.framehop_rules.specs.declared.rule_cache.CacheStats.{CacheStats}
 use Rattle.framehop_unwinder.specs.Attempt.{Meanings}
-use Rattle.framehop_unwinder.specs.Modules.{Loaded, Loads}
+use Rattle.framehop_unwinder.specs.Modules.{Loaded, Loads, AreOneBook}
 use Rattle.framehop_unwinder.specs.RulesKept.{Fits, KeysBelow, rule_kept, slots_after}
-use Rattle.framehop_unwinder.specs.State.{IsSound, AreOneBook}
+use Rattle.framehop_unwinder.specs.State.{IsSound}
 use Rattle.framehop_unwinder.proofs.Slots.{fits_after, below_after, new_fits, below_more, empty_fits, empty_below}
 
 All-both : {X : Type 0} (P Q : X → Type 0) (xs : List X) (d : X) → All P xs → All Q xs → All (λ x. P x × Q x) xs

@@ -4,9 +4,10 @@ pub mod Frames
 pub mod History
 pub mod Judge
 pub mod Memory
-pub mod Modules
 pub mod ModuleViews
+pub mod Modules
 pub mod ModulesApart
+pub mod Moves
 pub mod Progress
 pub mod RulesKept
 pub mod State

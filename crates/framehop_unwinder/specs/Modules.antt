@@ -18,6 +18,10 @@ pub record Loads (Module : Type 0) : Type 0 where
   pub modules : List Module
   pub generation : ℕ
 
+-- two unwinders of one generation have the same modules
+abbrev pub AreOneBook : {Module : Type 0} → Loads Module → Loads Module → Type 0
+AreOneBook one other = one.generation ≡ other.generation → one.modules ≡ other.modules
+
 -- the last of the modules with the greatest start at or below an address
 abbrev pub nearest_module : {Data : Type 0} → List (Loaded Data) → ℕ → Option (Loaded Data)
 nearest_module modules address =

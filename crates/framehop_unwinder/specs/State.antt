@@ -5,7 +5,7 @@ use Rattle.framehop_rules.specs.Slots.{KeptRule, Kept, no_counts}
 use Rattle.framehop_unwinder.specs.Attempt.{Meanings}
 use Rattle.framehop_unwinder.specs.Frames.{Frame}
 use Rattle.framehop_unwinder.specs.History.{KeyHistory, HaveHistories, histories_after}
-use Rattle.framehop_unwinder.specs.Modules.{Loaded, Loads}
+use Rattle.framehop_unwinder.specs.Modules.{Loaded, Loads, AreOneBook}
 use Rattle.framehop_unwinder.specs.RulesKept.{Fits, KeysBelow, rule_kept, key_for}
 use Rattle.framehop_unwinder.specs.Walk.{WalkPosition, Starts, At, Over}
 
@@ -69,10 +69,6 @@ pub record ChangesCaches {Data Rule : Type 0} (after : List KeyHistory → List 
 -- the slots of each cache
 abbrev pub slots_of_all : {Rule : Type 0} → List (Kept Rule) → List (List (Option (KeptRule Rule)))
 slots_of_all caches = map (λ cache. cache.slots) caches
-
--- two unwinders of one generation have the same modules
-abbrev pub AreOneBook : {Data : Type 0} → Loads (Loaded Data) → Loads (Loaded Data) → Type 0
-AreOneBook one other = one.generation ≡ other.generation → one.modules ≡ other.modules
 
 -- Why caches can be shared: generations and the keys that were kept are below the next number, unwinders of one generation
 -- have the same modules, and each cache fits each unwinder.

@@ -1,9 +1,9 @@
 -- What a module's attempt answers and leaves, before any rule is executed.
-use Rattle.std.specs.Prelude.{◌≡◌, ℕ, Bool, true, false, Option, Some, None, Result, Ok, Err}
+use Rattle.std.specs.Prelude.{◌≡◌, ℕ, Bool, true, false, Option, Some, None, Result, Ok, Err, IfErr}
 use Rattle.framehop_registers.specs.Callback.{Words, OverWords}
 use Rattle.framehop_registers.specs.declared.error.Error.{Error}
 use Rattle.framehop_registers.specs.declared.error.Error.TheVariants.{CouldNotReadStack, FramepointerUnwindingMovedBackwards, DidNotAdvance, IntegerOverflow, ReturnAddressIsNull, OutOfMemory}
-use Rattle.framehop_rules.specs.Outcome.{Outcome, Caller, IsStep}
+use Rattle.framehop_rules.specs.Outcome.{Outcome, Caller, IsStep, StaysUnlessAnswered}
 use Rattle.framehop_rules.specs.UnwindResults.{KeepsUnlessDirect}
 use Rattle.framehop_unwinder.specs.Attempt.{Attempt, Says, Evaluates, SaysNothing}
 use Rattle.framehop_unwinder.specs.RulesKept.{rule_of_attempt}
@@ -72,3 +72,8 @@ IsOfStep DidNotAdvance = Unit {0}
 IsOfStep IntegerOverflow = Unit {0}
 IsOfStep ReturnAddressIsNull = ⊥
 IsOfStep OutOfMemory = Unit {0}
+
+-- A step that gives no caller leaves the registers as they were, and fails by an error of a step alone.
+pub record StaysUnlessStepped {Registers : Type 0} (result : Result (Option ℕ) Error) (old new : Registers) : Type 0 where
+  pub registers : StaysUnlessAnswered result old new
+  pub errors : IfErr result IsOfStep

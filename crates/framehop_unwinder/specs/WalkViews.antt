@@ -29,10 +29,6 @@ walk_of walk = record { position = place_of walk.state; registers = walk.regs }
 abbrev pub walk_from : {Registers : Type 0} → ℕ → Registers → Walk Registers
 walk_from pc registers = record { position = Starts pc; registers = registers }
 
--- the walk of an iterator in this state, with these registers
-abbrev pub walk_at : {Registers : Type 0} → UnwindIteratorState → Registers → Walk Registers
-walk_at state registers = record { position = place_of state; registers = registers }
-
 -- unless it is out of memory, a move from one walk to another is the one that these judgments give
 abbrev pub MovesAs : {Registers : Type 0} → Judgment Registers → Words → Walk Registers → Result (Option FrameAddress) Error → Walk Registers → Type 0
 MovesAs judgment words old result new =

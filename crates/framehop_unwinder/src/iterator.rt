@@ -3,9 +3,12 @@
 ghost use Rattle.std.specs.Prelude.{◌≡◌, ◌≢◌, false, true, Ok, Err, Some, None, IfErr, IfSome};
 ghost use Rattle.framehop_registers.specs.Callback.{OverWords};
 ghost use Rattle.framehop_unwinder.specs.Frames.{first_frame, frame_of, later_frame};
+ghost use Rattle.framehop_unwinder.specs.Memory.{WantsMemoryOnlyIf};
+ghost use Rattle.framehop_unwinder.specs.Modules.{AreOneBook};
+ghost use Rattle.framehop_unwinder.specs.Moves.{MoveAsks, MovesCache, MovesOn};
 ghost use Rattle.framehop_unwinder.specs.Trials.{wants_memory};
-ghost use Rattle.framehop_unwinder.specs.Walk.{At, Over, Starts};
-ghost use Rattle.framehop_unwinder.specs.WalkViews.{MovesAs, place_of, frame_answer, walk_at};
+ghost use Rattle.framehop_unwinder.specs.Walk.{At, Over};
+ghost use Rattle.framehop_unwinder.specs.WalkViews.{MovesAs, place_of, frame_answer, walk_from, walk_of};
 
 use crate::unwinders::Unwinder;
 use framehop_rules::{Error, FrameAddress};
@@ -53,70 +56,6 @@ impl UnwindIteratorState {
     }
 }
 
-/// The frames of a stack, one after the other.
-#[derive(Drop)]
-pub struct UnwindIterator<'u, 'c, 'r, U: Unwinder, F> {
-    unwinder: &'u U,
-    state: UnwindIteratorState,
-    regs: U::UnwindRegs,
-    cache: &'c mut U::Cache,
-    read_stack: &'r mut F,
-}
-
-impl<'u, 'c, 'r, U: Unwinder, F: FnMut(u64) -> Result<u64, ()>> UnwindIterator<'u, 'c, 'r, U, F> {
-    /// A walk from a frame at the instruction pointer `pc` with these registers.
-    pub fn new(
-        unwinder: &'u U,
-        pc: u64,
-        regs: U::UnwindRegs,
-        cache: &'c mut U::Cache,
-        read_stack: &'r mut F,
-    ) -> Self
-        ensures unwinder { result.unwinder.now ≡ unwinder.now }
-        ensures place { place_of result.state ≡ Starts pc }
-        ensures regs { result.regs ≡ regs }
-        ensures cache { result.cache ≡ cache.entry }
-        ensures read_stack { result.read_stack ≡ read_stack.entry }
-    {
-        UnwindIterator {
-            unwinder,
-            state: UnwindIteratorState::Initial(pc),
-            regs,
-            cache,
-            read_stack,
-        }
-    }
-
-    /// The next frame, `None` at the end of the stack and from then on. The first is the instruction
-    /// pointer. After an error the walk is where it was, and the next call makes the step again.
-    pub fn next(&mut self) -> Result<Option<FrameAddress>, Error>
-        requires { F.IsAlwaysCallable self.old.read_stack.now }
-        ensures callable { F.IsAlwaysCallable self.new.read_stack.now }
-        ensures moved { OverWords F.step self.old.read_stack.now self.new.read_stack.now (λ words.
-            U.fits self.old.unwinder.now self.old.cache.now
-            → MovesAs (U.judgment self.old.unwinder.now) words
-            (walk_at self.old.state self.old.regs) result (walk_at self.new.state self.new.regs)) }
-        ensures fits { U.fits self.old.unwinder.now self.old.cache.now
-            → U.fits self.new.unwinder.now self.new.cache.now }
-        ensures wanting { wants_memory result ≡ true
-            → (self.new.state ≡ self.old.state) × (self.new.regs ≡ self.old.regs) }
-        ensures memory { U.takes_memory ≡ false → wants_memory result ≡ false }
-        ensures unwinder { self.new.unwinder ≡ self.old.unwinder }
-        ensures same_cache { self.new.cache.ghost_name ≡ self.old.cache.ghost_name }
-        ensures same_stack { self.new.read_stack.ghost_name ≡ self.old.read_stack.ghost_name }
-    {
-        let address = match self.state {
-            UnwindIteratorState::Initial(pc) => return Ok(Some(self.state.begin(pc))),
-            UnwindIteratorState::Unwinding(address) => address,
-            UnwindIteratorState::Done => return Ok(None),
-        };
-        let step = self
-            .unwinder
-            .unwind_frame(address, &mut self.regs, self.cache, self.read_stack)?;
-        self.state.go_on(step)
-    }
-}
-
 /// Where a walk is, and the registers there, for a walk that is made move by move.
 #[derive(Debug, Clone, Copy)]
 pub struct StackWalk<R> {
@@ -125,8 +64,6 @@ pub struct StackWalk<R> {
 }
 
 impl<R: Copy> StackWalk<R> {
-    ghost use Rattle.framehop_unwinder.specs.WalkViews.{walk_of, walk_from};
-
     /// A walk from a frame at the instruction pointer `pc` with these registers.
     pub fn new(pc: u64, regs: R) -> Self
         ensures { walk_of result ≡ walk_from pc regs }
@@ -142,5 +79,71 @@ impl<R: Copy> StackWalk<R> {
         ensures { result ≡ (walk_of self.now).registers }
     {
         self.regs
+    }
+}
+
+/// The frames of a stack, one after the other.
+#[derive(Drop)]
+pub struct UnwindIterator<'u, 'c, 'r, U: Unwinder, F> {
+    unwinder: &'u U,
+    walk: StackWalk<U::UnwindRegs>,
+    cache: &'c mut U::Cache,
+    read_stack: &'r mut F,
+}
+
+impl<'u, 'c, 'r, U: Unwinder, F: FnMut(u64) -> Result<u64, ()>> UnwindIterator<'u, 'c, 'r, U, F> {
+    /// A walk from a frame at the instruction pointer `pc` with these registers.
+    pub fn new(
+        unwinder: &'u U,
+        pc: u64,
+        regs: U::UnwindRegs,
+        cache: &'c mut U::Cache,
+        read_stack: &'r mut F,
+    ) -> Self
+        ensures unwinder { result.unwinder.now ≡ unwinder.now }
+        ensures walk { walk_of result.walk ≡ walk_from pc regs }
+        ensures cache { result.cache ≡ cache.entry }
+        ensures read_stack { result.read_stack ≡ read_stack.entry }
+    {
+        UnwindIterator {
+            unwinder,
+            walk: StackWalk::new(pc, regs),
+            cache,
+            read_stack,
+        }
+    }
+
+    /// The next frame, `None` at the end of the stack and from then on. The first is the instruction
+    /// pointer. After an error the walk is where it was, and the next call makes the step again.
+    ///
+    /// Through a cache that fits the unwinder the frames are those without a cache. The cache goes on
+    /// fitting all unwinders that it fitted, if those of the generation of this one have its modules.
+    pub fn next(&mut self) -> Result<Option<FrameAddress>, Error>
+        requires { F.IsAlwaysCallable self.old.read_stack.now }
+        ensures callable { F.IsAlwaysCallable self.new.read_stack.now }
+        ensures moved { OverWords F.step self.old.read_stack.now self.new.read_stack.now (λ words.
+            U.fits self.old.unwinder.now self.old.cache.now
+            → MovesAs (U.judgment self.old.unwinder.now) words
+            (walk_of self.old.walk) result (walk_of self.new.walk)) }
+        ensures walk { MovesOn (walk_of self.old.walk) result (walk_of self.new.walk) }
+        ensures cache { MovesCache (U.steps_cache self.old.unwinder.now (wants_memory result))
+            (place_of self.old.walk.state) self.old.cache.now self.new.cache.now }
+        ensures fits { (other : U) → AreOneBook (U.loads self.old.unwinder.now) (U.loads other)
+            → U.fits other self.old.cache.now → U.fits other self.new.cache.now }
+        ensures memory { WantsMemoryOnlyIf U.takes_memory (wants_memory result)
+            (MoveAsks (U.asks_memory self.old.unwinder.now) (place_of self.old.walk.state)) }
+        ensures unwinder { self.new.unwinder ≡ self.old.unwinder }
+        ensures loans { (self.new.cache.ghost_name ≡ self.old.cache.ghost_name)
+            × (self.new.read_stack.ghost_name ≡ self.old.read_stack.ghost_name) }
+    {
+        let address = match self.walk.state {
+            UnwindIteratorState::Initial(pc) => return Ok(Some(self.walk.state.begin(pc))),
+            UnwindIteratorState::Unwinding(address) => address,
+            UnwindIteratorState::Done => return Ok(None),
+        };
+        let step = self
+            .unwinder
+            .unwind_frame(address, &mut self.walk.regs, self.cache, self.read_stack)?;
+        self.walk.state.go_on(step)
     }
 }

@@ -3,7 +3,6 @@
 #![tactic(auto)]
 
 mod cache;
-mod impls;
 mod iterator;
 pub mod laws;
 mod module;

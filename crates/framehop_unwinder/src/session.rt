@@ -2,21 +2,22 @@
 
 ghost use Rattle.std.specs.Prelude.{◌≡◌, ◌<◌, ◌≤◌, ◌+◌, ◌^◌, ◌-◌, ◌∷◌, ◌++◌, [], true, false, Ok, Err, None, length, List, IfOk, IfErr, IsErr, OnOk, OnErr};
 ghost use Rattle.framehop_registers.specs.Callback.{OverWords};
-ghost use Rattle.framehop_rules.specs.Outcome.{StaysUnlessAnswered};
 ghost use Rattle.framehop_modules.specs.LoadErrors.{module_returned, is_exhausted};
 ghost use Rattle.framehop_unwinder.specs.Frames.{frame_of};
 ghost use Rattle.framehop_unwinder.specs.Judge.{judge};
 ghost use Rattle.framehop_unwinder.specs.Memory.{AsksMemory, WantsMemoryOnlyIf};
 ghost use Rattle.framehop_unwinder.specs.Modules.{is_loaded_at, with_loaded, without_loaded};
+ghost use Rattle.framehop_unwinder.specs.Moves.{MoveAsks, MovesOn};
 ghost use Rattle.framehop_unwinder.specs.History.{KeyHistory, HaveHistories, history_at, no_history};
 ghost use Rattle.framehop_unwinder.specs.State.{ChangesCaches, empty_state, unwinder_at, cache_at, histories_after_step, histories_after_move, new_cache, loads_with, modules_at, with_modules};
-ghost use Rattle.framehop_unwinder.specs.Trials.{StepsAs, wants_memory, IsOfStep};
+ghost use Rattle.framehop_unwinder.specs.Trials.{StaysUnlessStepped, StepsAs, wants_memory};
 ghost use Rattle.framehop_unwinder.specs.WalkViews.{MovesAs, place_of, walk_of};
 
 use crate::cache::Cache;
 use crate::iterator::{StackWalk, UnwindIteratorState};
 use crate::module::Module;
 use crate::unwinder::UnwinderInternal;
+use crate::unwinders::Unwinder;
 use crate::unwinding::ModuleUnwinding;
 use framehop_modules::{Generations, GenerationsExhausted, LoadError};
 use framehop_rules::{CacheStats, Error, FrameAddress};
@@ -203,8 +204,7 @@ impl<A: ModuleUnwinding> Session<A> {
             (judge A.meanings (modules_at self.old unwinder) (frame_of address) regs.old words)) }
         ensures caches { ChangesCaches (histories_after_step A.meanings (wants_memory result)
             (frame_of address) (unwinder_at self.old.unwinders unwinder) cache) self.old self.new }
-        ensures stays { StaysUnlessAnswered result regs.old regs.new }
-        ensures refusals { IfErr result IsOfStep }
+        ensures stays { StaysUnlessStepped result regs.old regs.new }
         ensures memory { WantsMemoryOnlyIf A.takes_memory (wants_memory result)
             (AsksMemory A.asks_memory (modules_at self.old unwinder) (frame_of address)) }
     {
@@ -229,11 +229,13 @@ impl<A: ModuleUnwinding> Session<A> {
         ensures moved { OverWords F.step read_stack.old read_stack.new (λ words.
             MovesAs (judge A.meanings (modules_at self.old unwinder)) words
             (walk_of walk.old) result (walk_of walk.new)) }
-        ensures wanting { wants_memory result ≡ true → walk.new ≡ walk.old }
+        ensures walk { MovesOn (walk_of walk.old) result (walk_of walk.new) }
         ensures caches { ChangesCaches (histories_after_move A.meanings (wants_memory result)
             (place_of walk.old.state) (unwinder_at self.old.unwinders unwinder) cache)
             self.old self.new }
-        ensures memory { A.takes_memory ≡ false → wants_memory result ≡ false }
+        ensures memory { WantsMemoryOnlyIf A.takes_memory (wants_memory result)
+            (MoveAsks (AsksMemory A.asks_memory (modules_at self.old unwinder))
+            (place_of walk.old.state)) }
     {
         let address = match walk.state {
             UnwindIteratorState::Initial(pc) => return Ok(Some(walk.state.begin(pc))),

@@ -5,19 +5,19 @@ ghost use Rattle.std.specs.List.Sorted.{IsNonDecreasingBy};
 ghost use Rattle.framehop_registers.specs.Callback.{OverWords};
 ghost use Rattle.framehop_rules.specs.Outcome.{IsStep, StaysUnlessAnswered};
 ghost use Rattle.framehop_rules.specs.Slots.{key_of};
-ghost use Rattle.framehop_modules.specs.LoadErrors.{module_returned, is_exhausted};
 ghost use Rattle.framehop_unwinder.specs.Attempt.{Attempt, attempt_at};
 ghost use Rattle.framehop_unwinder.specs.CacheViews.{rules_of};
 ghost use Rattle.framehop_unwinder.specs.Frames.{frame_of};
 ghost use Rattle.framehop_unwinder.specs.Judge.{by_attempt, judge, judge_at};
 ghost use Rattle.framehop_unwinder.specs.Memory.{AsksMemory, AsksMemoryAt, WantsMemoryOnlyIf};
-ghost use Rattle.framehop_unwinder.specs.Modules.{ChangesNothing, Loaded, TakesNumber, nearest_module, module_found, is_loaded_at, with_loaded, without_loaded, last_end};
+ghost use Rattle.framehop_unwinder.specs.Modules.{Loaded, nearest_module, module_found, is_loaded_at, with_loaded, without_loaded};
 ghost use Rattle.framehop_unwinder.specs.RulesKept.{FitsLoads, StepsCache, rule_kept, key_for, with_any};
 ghost use Rattle.framehop_rules.specs.UnwindResults.{HasValidRule, KeepsUnlessDirect};
-ghost use Rattle.framehop_unwinder.specs.Trials.{AnswersAttempt, StepsAs, trial, has_wanted, rule_of_result, wants_memory, IsOfStep};
+ghost use Rattle.framehop_unwinder.specs.Trials.{AnswersAttempt, StaysUnlessStepped, StepsAs, trial, has_wanted, rule_of_result, wants_memory, IsOfStep};
 
 use crate::cache::Cache;
 use crate::module::Module;
+use crate::unwinders::Unwinder;
 use crate::unwinding::{ModuleUnwinding, UnwindFailure};
 use framehop_modules::{Generations, GenerationsExhausted, LoadError};
 use framehop_rules::{
@@ -192,86 +192,6 @@ impl<A: ModuleUnwinding> UnwinderInternal<A> {
         }
     }
 
-    /// An unwinder with the same modules and the same generation.
-    pub fn try_clone(&self, alloc: Global) -> Result<Self, AllocError>
-        ensures { IfOk result (λ unwinder. unwinder ≡ self.now) }
-    {
-        Ok(UnwinderInternal {
-            modules: clones_of(alloc, &self.modules)?,
-            generation: self.generation,
-        })
-    }
-
-    /// Puts a module before those of an equal or a greater start, and takes a generation. If no
-    /// generation is left, or else there is no memory for the list, the error has the module and
-    /// nothing changes.
-    pub fn add_module(
-        &mut self,
-        generations: &mut Generations,
-        module: Module<A::UnwindData>,
-    ) -> Result<(), LoadError<Module<A::UnwindData>>>
-        ensures modules { OnOk result
-            (self.new.modules ≡ with_loaded «module» self.old.modules) }
-        ensures number { TakesNumber result self.new generations.old generations.new }
-        ensures exhausted { 2 ^ 64 - 1 ≤ generations.old
-            → result ≡ Err (LoadError.GenerationsExhausted «module») }
-        ensures only { IfErr result (λ error. is_exhausted error ≡ true
-            → generations.old ≡ 2 ^ 64 - 1) }
-        ensures returned { IfErr result (λ error. module_returned error ≡ «module») }
-        ensures failure { ChangesNothing result self.old self.new
-            generations.old generations.new }
-    {
-        if generations.left() == 0 {
-            return Err(LoadError::GenerationsExhausted(module));
-        }
-        let index = place_for(&self.modules, module.start());
-        match self.modules.insert(index, module) {
-            Ok(()) => {
-                self.generation = generations.take();
-                Ok(())
-            }
-            Err(failed) => Err(LoadError::OutOfMemory(failed.value)),
-        }
-    }
-
-    /// Takes out the last of the modules that start at an address, and takes a generation. If none
-    /// starts there, nothing changes and no generation is taken. Fails if none is left, and changes
-    /// nothing then.
-    pub fn remove_module(
-        &mut self,
-        generations: &mut Generations,
-        module_avma_range_start: u64,
-    ) -> Result<(), GenerationsExhausted>
-        ensures unknown { is_loaded_at module_avma_range_start self.old.modules ≡ false
-            → (result ≡ Ok tt) × (self.new ≡ self.old) × (generations.new ≡ generations.old) }
-        ensures modules { OnOk result (self.new.modules
-            ≡ without_loaded module_avma_range_start self.old.modules) }
-        ensures number { is_loaded_at module_avma_range_start self.old.modules ≡ true
-            → TakesNumber result self.new generations.old generations.new }
-        ensures exhausted { is_loaded_at module_avma_range_start self.old.modules
-            ≡ true → 2 ^ 64 - 1 ≤ generations.old → IsErr result }
-        ensures refused { OnErr result (generations.old ≡ 2 ^ 64 - 1) }
-        ensures failure { ChangesNothing result self.old self.new
-            generations.old generations.new }
-    {
-        let Some(index) = last_with_start(&self.modules, module_avma_range_start) else {
-            return Ok(());
-        };
-        self.generation = generations.try_take()?;
-        self.modules.remove(index);
-        Ok(())
-    }
-
-    /// The end of the last module, else 0.
-    pub fn max_known_code_address(&self) -> u64
-        ensures { result ≡ last_end (λ m. m.end) self.now.modules }
-    {
-        match self.modules.last() {
-            Some(module) => module.end(),
-            None => 0,
-        }
-    }
-
     // The number that the list of modules is told by.
     fn generation(&self) -> u64
         ensures { result ≡ self.now.generation }
@@ -328,8 +248,7 @@ impl<A: ModuleUnwinding> UnwinderInternal<A> {
         ensures cache { StepsCache (rule_kept A.meanings self.now.modules)
             (key_of address is_first_frame self.now.generation) (wants_memory result)
             (rules_of cache.old) (rules_of cache.new) }
-        ensures stays { StaysUnlessAnswered result regs.old regs.new }
-        ensures refusals { IfErr result IsOfStep }
+        ensures stays { StaysUnlessStepped result regs.old regs.new }
         ensures memory { WantsMemoryOnlyIf A.takes_memory (wants_memory result)
             (AsksMemoryAt A.asks_memory self.now.modules is_first_frame address) }
     {
@@ -345,33 +264,87 @@ impl<A: ModuleUnwinding> UnwinderInternal<A> {
         keep(&mut cache.rule_cache, handle, answer);
         execute::<A, F>(answer, is_first_frame, regs, read_stack)
     }
+}
 
-    /// Makes the step from a frame with these registers: returns the return address and leaves the
-    /// caller's registers, or returns `None` at the end of the stack. `None` and an error leave the
-    /// registers as they were. `read_stack` reads a word of the stack at an address.
-    ///
-    /// The rule that the cache has for the frame is executed; if it has none, what the module says
-    /// of the frame is done and kept. If no module says anything, the fallback rule is executed. Through a cache that fits the unwinder the step is the one without a cache.
-    pub fn unwind_frame<F: FnMut(u64) -> Result<u64, ()>>(
+impl<A: ModuleUnwinding> Unwinder for UnwinderInternal<A> {
+    type UnwindRegs = A::UnwindRegs;
+
+    type Cache = Cache<A::UnwindRule, A::UnwindContext>;
+
+    type Module = Module<A::UnwindData>;
+
+    ghost loads = { λ unwinder. unwinder };
+
+    ghost start = { λ module_. module_.start };
+
+    ghost end = { λ module_. module_.end };
+
+    ghost judgment = { λ unwinder.
+        judge A.meanings unwinder.modules };
+
+    ghost fits = { λ unwinder cache.
+        FitsLoads A.meanings unwinder (rules_of cache) };
+
+    ghost takes_memory = { A.takes_memory };
+
+    ghost asks_memory = { λ unwinder frame. AsksMemory A.asks_memory unwinder.modules frame };
+
+    ghost steps_cache = { λ unwinder wanted frame old new.
+        StepsCache (rule_kept A.meanings unwinder.modules) (key_for frame unwinder.generation)
+        wanted (rules_of old) (rules_of new) };
+
+    fn try_clone(&self, alloc: Global) -> Result<Self, AllocError> {
+        Ok(UnwinderInternal {
+            modules: clones_of(alloc, &self.modules)?,
+            generation: self.generation,
+        })
+    }
+
+    fn add_module(
+        &mut self,
+        generations: &mut Generations,
+        module: Module<A::UnwindData>,
+    ) -> Result<(), LoadError<Module<A::UnwindData>>> {
+        if generations.left() == 0 {
+            return Err(LoadError::GenerationsExhausted(module));
+        }
+        let index = place_for(&self.modules, module.start());
+        match self.modules.insert(index, module) {
+            Ok(()) => {
+                self.generation = generations.take();
+                Ok(())
+            }
+            Err(failed) => Err(LoadError::OutOfMemory(failed.value)),
+        }
+    }
+
+    fn remove_module(
+        &mut self,
+        generations: &mut Generations,
+        module_avma_range_start: u64,
+    ) -> Result<(), GenerationsExhausted> {
+        let Some(index) = last_with_start(&self.modules, module_avma_range_start) else {
+            return Ok(());
+        };
+        self.generation = generations.try_take()?;
+        self.modules.remove(index);
+        Ok(())
+    }
+
+    fn max_known_code_address(&self) -> u64 {
+        match self.modules.last() {
+            Some(module) => module.end(),
+            None => 0,
+        }
+    }
+
+    fn unwind_frame<F: FnMut(u64) -> Result<u64, ()>>(
         &self,
         address: FrameAddress,
         regs: &mut A::UnwindRegs,
         cache: &mut Cache<A::UnwindRule, A::UnwindContext>,
         read_stack: &mut F,
-    ) -> Result<Option<u64>, Error>
-        requires { F.IsAlwaysCallable read_stack.old }
-        ensures callable { F.IsAlwaysCallable read_stack.new }
-        ensures step { OverWords F.step read_stack.old read_stack.new (λ words.
-            FitsLoads A.meanings self.now (rules_of cache.old) → StepsAs result regs.old regs.new
-            (judge A.meanings self.now.modules (frame_of address) regs.old words)) }
-        ensures cache { StepsCache (rule_kept A.meanings self.now.modules)
-            (key_for (frame_of address) self.now.generation) (wants_memory result)
-            (rules_of cache.old) (rules_of cache.new) }
-        ensures stays { StaysUnlessAnswered result regs.old regs.new }
-        ensures refusals { IfErr result IsOfStep }
-        ensures memory { WantsMemoryOnlyIf A.takes_memory (wants_memory result)
-            (AsksMemory A.asks_memory self.now.modules (frame_of address)) }
-    {
+    ) -> Result<Option<u64>, Error> {
         let lookup_address = address.address_for_lookup();
         let is_first_frame = !address.is_return_address();
         self.step(lookup_address, is_first_frame, regs, cache, read_stack)

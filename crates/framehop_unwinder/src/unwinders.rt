@@ -2,14 +2,13 @@
 
 ghost use Rattle.std.specs.Prelude.{◌≡◌, ◌≤◌, ◌+◌, ◌-◌, ◌^◌, ℕ, Bool, true, false, Ok, Err, None, IfOk, IfErr, IsErr, OnOk, OnErr};
 ghost use Rattle.framehop_registers.specs.Callback.{Words, OverWords};
-ghost use Rattle.framehop_rules.specs.Outcome.{Outcome, Caller, StaysUnlessAnswered};
+ghost use Rattle.framehop_rules.specs.Outcome.{Outcome, Caller};
 ghost use Rattle.framehop_modules.specs.LoadErrors.{module_returned, is_exhausted};
 ghost use Rattle.framehop_unwinder.specs.Frames.{Frame, frame_of};
 ghost use Rattle.framehop_unwinder.specs.Memory.{WantsMemoryOnlyIf};
-ghost use Rattle.framehop_unwinder.specs.Modules.{ChangesNothing, Loads, TakesNumber, with_module, without_module, has_start, last_end};
-ghost use Rattle.framehop_unwinder.specs.Trials.{StepsAs, wants_memory, IsOfStep};
-ghost use Rattle.framehop_unwinder.specs.Walk.{Starts};
-ghost use Rattle.framehop_unwinder.specs.WalkViews.{place_of};
+ghost use Rattle.framehop_unwinder.specs.Modules.{AreOneBook, ChangesNothing, Loads, TakesNumber, with_module, without_module, has_start, last_end};
+ghost use Rattle.framehop_unwinder.specs.Trials.{StaysUnlessStepped, StepsAs, wants_memory};
+ghost use Rattle.framehop_unwinder.specs.WalkViews.{walk_from, walk_of};
 
 use crate::iterator::UnwindIterator;
 use framehop_modules::{Generations, GenerationsExhausted, LoadError};
@@ -45,6 +44,10 @@ pub trait Unwinder {
 
     /// The frames from which one may.
     ghost asks_memory: { Self → Frame → Type 0 };
+
+    /// What a step from a frame leaves in the cache: from whether the step is out of memory, the
+    /// frame, and the cache before and after it.
+    ghost steps_cache: { Self → Bool → Frame → Self.Cache → Self.Cache → Type 0 };
 
     /// Loads a module, and takes a generation. An error has the module, and nothing changes then.
     fn add_module(
@@ -95,6 +98,9 @@ pub trait Unwinder {
     /// Makes the step from a frame with these registers: returns the return address and leaves the
     /// caller's registers, or returns `None` at the end of the stack. `None` and an error leave the
     /// registers as they were. `read_stack` reads a word of the stack at an address.
+    ///
+    /// Through a cache that fits the unwinder the step is the one without a cache. The cache goes on
+    /// fitting all unwinders that it fitted, if those of the generation of this one have its modules.
     fn unwind_frame<F: FnMut(u64) -> Result<u64, ()>>(
         &self,
         address: FrameAddress,
@@ -107,9 +113,11 @@ pub trait Unwinder {
         ensures step { OverWords F.step read_stack.old read_stack.new (λ words.
             fits self.now cache.old → StepsAs result regs.old regs.new
             (judgment self.now (frame_of address) regs.old words)) }
-        ensures fits { fits self.now cache.old → fits self.now cache.new }
-        ensures stays { StaysUnlessAnswered result regs.old regs.new }
-        ensures refusals { IfErr result IsOfStep }
+        ensures cache { steps_cache self.now (wants_memory result) (frame_of address)
+            cache.old cache.new }
+        ensures fits { (other : Self) → AreOneBook (loads self.now) (loads other)
+            → fits other cache.old → fits other cache.new }
+        ensures stays { StaysUnlessStepped result regs.old regs.new }
         ensures memory { WantsMemoryOnlyIf takes_memory (wants_memory result)
             (asks_memory self.now (frame_of address)) };
 
@@ -124,8 +132,7 @@ pub trait Unwinder {
     where
         Self: Sized,
         ensures unwinder { result.unwinder.now ≡ self.now }
-        ensures place { place_of result.state ≡ Starts pc }
-        ensures regs { result.regs ≡ regs }
+        ensures walk { walk_of result.walk ≡ walk_from pc regs }
         ensures cache { result.cache ≡ cache.entry }
         ensures read_stack { result.read_stack ≡ read_stack.entry }
     {

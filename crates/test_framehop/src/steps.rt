@@ -4,7 +4,7 @@ use framehop::aarch64::CacheAarch64;
 use framehop::x86_64::{CacheX86_64, UnwindRegsX86_64, UnwinderX86_64};
 use framehop::{
     AllocationPolicy, ExplicitModuleSectionInfo, FrameAddress, Generations,
-    MayAllocateDuringUnwind, Module, MustNotAllocateDuringUnwind, load_module,
+    MayAllocateDuringUnwind, Module, MustNotAllocateDuringUnwind, Unwinder, load_module,
 };
 use std::alloc::Global;
 use std::test::Fail;

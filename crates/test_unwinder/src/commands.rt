@@ -10,7 +10,7 @@ use framehop_histories::{Answer, Command, perform};
 use framehop_registers::x86_64::UnwindRegsX86_64;
 use framehop_rules::x86_64::ArchX86_64;
 use framehop_unwinder::{
-    Cache, Error, FrameAddress, Generations, Module, Session, UnwinderInternal,
+    Cache, Error, FrameAddress, Generations, Module, Session, Unwinder, UnwinderInternal,
 };
 use std::alloc::{AllocError, Global};
 use std::collections::VecDeque;

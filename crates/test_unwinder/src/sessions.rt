@@ -5,7 +5,7 @@ use framehop_registers::x86_64::UnwindRegsX86_64;
 use framehop_rules::x86_64::ArchX86_64;
 use framehop_unwinder::{
     Cache, Error, FrameAddress, Generations, GenerationsExhausted, LoadError, Module, Session,
-    UnwinderInternal,
+    Unwinder, UnwinderInternal,
 };
 use std::alloc::Global;
 use std::process::Abort;

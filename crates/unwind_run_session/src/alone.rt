@@ -9,7 +9,7 @@ ghost use Rattle.framehop_unwinder.specs.Trials.{wants_memory};
 
 use framehop_modules::Generations;
 use framehop_rules::{Error, FrameAddress};
-use framehop_unwinder::{Cache, Module, UnwinderInternal, ModuleUnwinding};
+use framehop_unwinder::{Cache, Module, ModuleUnwinding, Unwinder, UnwinderInternal};
 use std::alloc::Global;
 
 /// Makes the step from a frame over one module, through a new cache with this context. If memory for

@@ -19,7 +19,7 @@ returns-clause-reply g c =
     let here : c.args.walk < length c.args.walks.now.items = omega (arith, c.len.ensures, c.if-walk-len.false) in
     let e = c.next_frame-answer.ensures in
     λ words answers. frame-reply g.A.ModuleUnwinding.takes_memory m s c.next_frame-answer.new.self c.args.walks.now.items c.args.unwinder c.args.cache c.args.walk c.index_mut-walk.result.now c.next_frame-answer.new.walk words c.next_frame-answer.result (reply_of c.of_move.result)
-    less there here c.index_mut-walk.ensures.value e.caches.unwinders e.caches.next e.caches.count c.of_move.ensures.wanted (λ no. rw (c.regs.ensures) at (c.of_move.ensures.answered no)) e.memory e.wanting (e.moved.said words answers)
+    less there here c.index_mut-walk.ensures.value e.caches.unwinders e.caches.next e.caches.count c.of_move.ensures.wanted (λ no. rw (c.regs.ensures) at (c.of_move.ensures.answered no)) e.memory.never e.walk.wanting (e.moved.said words answers)
 
 pub returns-clause-model : goal.returns-clause-model
 returns-clause-model g c =

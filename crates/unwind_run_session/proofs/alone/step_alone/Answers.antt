@@ -42,4 +42,4 @@ returns-clause-step g c =
     }
 
 pub returns-clause-error_keeps : goal.returns-clause-error_keeps
-returns-clause-error_keeps g c = c.unwind_frame.ensures.stays.error
+returns-clause-error_keeps g c = c.unwind_frame.ensures.stays.registers.error

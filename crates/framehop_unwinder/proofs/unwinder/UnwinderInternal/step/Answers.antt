@@ -61,10 +61,13 @@ pub returns-in-Hit-clause-cache : goal.returns-in-Hit-clause-cache
 returns-in-Hit-clause-cache g c = record { slots = search rules; counts = search rules }
 
 pub returns-clause-stays : goal.returns-clause-stays
-returns-clause-stays g c = c.execute.ensures.stays c.args.regs.now c.attempt-answer.ensures.answers.registers
+returns-clause-stays g c = record {
+  registers = c.execute.ensures.stays c.args.regs.now c.attempt-answer.ensures.answers.registers;
+  errors = c.execute.ensures.refusals;
+}
 
 pub returns-in-Hit-clause-stays : goal.returns-in-Hit-clause-stays
-returns-in-Hit-clause-stays g c = c.exec.ensures.stays
+returns-in-Hit-clause-stays g c = record { registers = c.exec.ensures.stays; errors = search rules }
 
 -- the module that is found wants memory
 pub returns-clause-memory : goal.returns-clause-memory

@@ -1,7 +1,7 @@
 use Rattle.std.proofs.Common.{◌∙◌, ap}
 use Rattle.framehop_unwinder.specs.Modules.{Loaded, Loads, last_end}
 use Rattle.framehop_unwinder.proofs.ModulesInOrder.{last-end-at}
-use Rattle.framehop_unwinder.proofs.unwinder.UnwinderInternal.max_known_code_address.Goals as goal
+use Rattle.framehop_unwinder.proofs.unwinder.UnwinderInternalUnwinder.max_known_code_address.Goals as goal
 
 pub returns-in-Some : goal.returns-in-Some
 returns-in-Some g c =

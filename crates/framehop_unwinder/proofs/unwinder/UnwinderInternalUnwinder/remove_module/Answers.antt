@@ -1,7 +1,7 @@
 use Rattle.std.proofs.Common.{ap, sym, ◌∙◌}
 use Rattle.framehop_unwinder.specs.Modules.{Loaded, Loads, has_start}
 use Rattle.framehop_unwinder.proofs.ModulesInOrder.{without-none}
-use Rattle.framehop_unwinder.proofs.unwinder.UnwinderInternal.remove_module.Goals as goal
+use Rattle.framehop_unwinder.proofs.unwinder.UnwinderInternalUnwinder.remove_module.Goals as goal
 
 pub returns-in_default-clause-modules : goal.returns-in_default-clause-modules
 returns-in_default-clause-modules g c =

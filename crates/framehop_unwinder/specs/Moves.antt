@@ -1,0 +1,42 @@
+-- What a move of a walk does whatever the callback answers: where the walk is then, what is in the cache, and from where it may
+-- run out of memory.
+use Rattle.std.specs.Prelude.{ℕ, ◌≡◌, true, Option, Some, None, Result, Ok, OnErr, IfOk, IfErr}
+use Rattle.framehop_registers.specs.declared.code_address.FrameAddress.{FrameAddress}
+use Rattle.framehop_registers.specs.declared.error.Error.{Error}
+use Rattle.framehop_unwinder.specs.Frames.{Frame, frame_of}
+use Rattle.framehop_unwinder.specs.Trials.{IsOfStep, wants_memory}
+use Rattle.framehop_unwinder.specs.Walk.{WalkPosition, Starts, At, Over, Walk}
+
+-- the walk is at a frame: only from there a step is made
+abbrev pub IsAtFrame : WalkPosition → Type 0
+IsAtFrame (Starts pc) = ⊥
+IsAtFrame (At frame) = Unit {0}
+IsAtFrame Over = ⊥
+
+-- from a frame, a move leaves in the cache what a step from there does, else what was in it
+abbrev pub MovesCache : {Cache : Type 0} → (Frame → Cache → Cache → Type 0) → WalkPosition → Cache → Cache → Type 0
+MovesCache steps (Starts pc) old new = new ≡ old
+MovesCache steps (At frame) old new = steps frame old new
+MovesCache steps Over old new = new ≡ old
+
+-- from a frame, a move may allocate if a step from there may, else it doesn't
+abbrev pub MoveAsks : (Frame → Type 0) → WalkPosition → Type 0
+MoveAsks asks (Starts pc) = ⊥
+MoveAsks asks (At frame) = asks frame
+MoveAsks asks Over = ⊥
+
+-- where a walk is that returned this: at the frame, or over
+abbrev pub position_after : Option FrameAddress → WalkPosition
+position_after (Some address) = At (frame_of address)
+position_after None = Over
+
+-- A move, for every callback. Only a walk at a frame fails: it stays there, with the registers that it had unless the return
+-- address is 0, and as it was if it is out of memory. The walk goes to the frame that is returned, and is over after None; it
+-- stays over.
+pub record MovesOn {Registers : Type 0} (old : Walk Registers) (result : Result (Option FrameAddress) Error) (new : Walk Registers) : Type 0 where
+  pub refusals : OnErr result (IsAtFrame old.position)
+  pub error_stays : OnErr result (new.position ≡ old.position)
+  pub error_keeps : IfErr result (λ error. IsOfStep error → new.registers ≡ old.registers)
+  pub wanting : wants_memory result ≡ true → new ≡ old
+  pub goes : IfOk result (λ answer. new.position ≡ position_after answer)
+  pub end_stays : old.position ≡ Over → (result ≡ Ok None) × (new ≡ old)
