@@ -15,7 +15,7 @@ ghost use Rattle.framehop_unwinder.specs.WalkViews.{walk_of, walk_from, frame_an
 
 use framehop_modules::LoadError;
 use framehop_rules::{Error, FrameAddress};
-use framehop_unwinder::{AddUnwinderError, Module, Session, StackWalk, ModuleUnwinding};
+use framehop_unwinder::{AddUnwinderError, Module, ModuleUnwinding, Session, StackWalk};
 use std::alloc::{AllocError, Global};
 use std::collections::VecDeque;
 
@@ -86,7 +86,10 @@ impl<R: Copy> Answer<R> {
     }
 }
 
-fn new_unwinder<A: ModuleUnwinding>(session: &mut Session<A>, alloc: Global) -> Answer<A::UnwindRegs>
+fn new_unwinder<A: ModuleUnwinding>(
+    session: &mut Session<A>,
+    alloc: Global,
+) -> Answer<A::UnwindRegs>
     ensures reply { (walks : List (Walk A.UnwindRegs)) → let state = state_of session.old walks in
         IsResult A.takes_memory state (result_of_unwinder state) (reply_of result)
         (state_of session.new walks) }

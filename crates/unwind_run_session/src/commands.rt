@@ -10,7 +10,7 @@ ghost use Rattle.unwind_run_session.specs.Outputs.{Outputs, gives_frame, move_li
 use crate::lines::{counts_line, frame_line, stop_line};
 use framehop_modules::LoadError;
 use framehop_rules::{Error, FrameAddress};
-use framehop_unwinder::{AddUnwinderError, Module, Session, StackWalk, ModuleUnwinding};
+use framehop_unwinder::{AddUnwinderError, Module, ModuleUnwinding, Session, StackWalk};
 use std::alloc::{AllocError, Global};
 
 /// The text that a command wrote, and whether the command was `refused`, which ends the run.
