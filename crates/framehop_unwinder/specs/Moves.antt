@@ -1,6 +1,6 @@
 -- What a move of a walk does whatever the callback answers: where the walk is then, what is in the cache, and from where it may
 -- run out of memory.
-use Rattle.std.specs.Prelude.{ℕ, ◌≡◌, true, Option, Some, None, Result, Ok, OnErr, IfOk, IfErr}
+use Rattle.std.specs.Prelude.{◌≡◌, true, Option, Some, None, Result, Ok, OnErr, IfOk, IfErr}
 use Rattle.framehop_registers.specs.declared.code_address.FrameAddress.{FrameAddress}
 use Rattle.framehop_registers.specs.declared.error.Error.{Error}
 use Rattle.framehop_unwinder.specs.Frames.{Frame, frame_of}

@@ -21,6 +21,14 @@ rule_kept m modules key = rule_of_attempt m.fallback (attempt_at m modules key.i
 abbrev pub key_for : Frame → ℕ → Key
 key_for frame generation = key_of (lookup_address frame) frame.is_first generation
 
+-- the slots of a cache
+abbrev pub Slots : Type 0 → Type 0
+Slots Rule = List (Option (KeptRule Rule))
+
+-- a key of this generation has the same rule kept by both
+abbrev pub KeepsAlike : {Rule : Type 0} → ℕ → Key → (Key → Option Rule) → (Key → Option Rule) → Type 0
+KeepsAlike generation key mine theirs = key.generation ≡ generation → theirs key ≡ mine key
+
 -- the slots with a rule kept, if there is one to keep
 abbrev pub with_any : {Rule : Type 0} → List (Option (KeptRule Rule)) → Key → Option Rule → List (Option (KeptRule Rule))
 with_any slots key None = slots

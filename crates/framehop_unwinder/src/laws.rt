@@ -1,18 +1,16 @@
 //! Laws of caches that are shared. The functions do nothing when the program runs.
 
-ghost use Rattle.std.specs.Prelude.{◌≡◌, ◌≢◌, ◌<◌, ◌+◌, ℕ, Bool, List, [], Option, None, Some, Result, replicate};
-ghost use Rattle.framehop_registers.specs.Callback.{Words};
+ghost use Rattle.std.specs.Prelude.{◌≡◌, ◌<◌, ◌+◌, ℕ, Bool, List, [], Option, None, Result, replicate};
 ghost use Rattle.framehop_registers.specs.declared.error.Error.{Error};
 ghost use Rattle.framehop_rules.specs.Outcome.{Outcome, Caller, IsStep};
-ghost use Rattle.framehop_rules.specs.Slots.{Key, KeptRule, counts_after};
+ghost use Rattle.framehop_rules.specs.Slots.{Key, counts_after};
 ghost use Rattle.framehop_rules.specs.declared.rule_cache.CacheStats.{CacheStats};
 ghost use Rattle.framehop_unwinder.specs.Attempt.{Meanings};
-ghost use Rattle.framehop_unwinder.specs.Frames.{Frame, lookup_address};
+ghost use Rattle.framehop_unwinder.specs.Frames.{Frame};
 ghost use Rattle.framehop_unwinder.specs.History.{HasLastKeys, finding_after, keys_after};
-ghost use Rattle.framehop_unwinder.specs.Judge.{judge};
-ghost use Rattle.framehop_unwinder.specs.Modules.{Loaded, module_found, with_loaded};
-ghost use Rattle.framehop_unwinder.specs.ModulesApart.{IsApart};
-ghost use Rattle.framehop_unwinder.specs.RulesKept.{Fits, KeysBelow, finding_in, slots_after};
+ghost use Rattle.framehop_unwinder.specs.Modules.{Loaded, with_loaded};
+ghost use Rattle.framehop_unwinder.specs.ModulesApart.{HasSameSteps, IsElsewhere};
+ghost use Rattle.framehop_unwinder.specs.RulesKept.{Fits, KeepsAlike, KeysBelow, Slots, finding_in, slots_after};
 
 use crate::unwinding::ModuleUnwinding;
 use framehop_rules::{Arch, UnwindRule};
@@ -21,21 +19,20 @@ use framehop_rules::{Arch, UnwindRule};
 /// generation differs or which keeps the same rule for the key of the step.
 pub fn fits_after_step<R: UnwindRule>()
     ensures fits { (wanted : Bool) (mine theirs : Key → Option R) (generation : ℕ)
-        (key : Key) (slots : List (Option (KeptRule R)))
-        → (key.generation ≡ generation → theirs key ≡ mine key)
-        → Fits theirs generation slots
-        → Fits theirs generation (slots_after wanted mine key slots) }
+        (key : Key) (slots : Slots R)
+        → KeepsAlike generation key mine theirs
+        → Fits theirs generation slots → Fits theirs generation (slots_after wanted mine key slots) }
     ensures below { (wanted : Bool) (mine : Key → Option R) (next : ℕ)
-        (key : Key) (slots : List (Option (KeptRule R)))
+        (key : Key) (slots : Slots R)
         → key.generation < next → KeysBelow next slots
         → KeysBelow next (slots_after wanted mine key slots) }
 {}
 
 /// A cache fits an unwinder with a generation that none of its keys has, and a new cache fits all.
 pub fn fits_if_new<R: UnwindRule>()
-    ensures fits { (theirs : Key → Option R) (generation : ℕ) (slots : List (Option (KeptRule R)))
+    ensures fits { (theirs : Key → Option R) (generation : ℕ) (slots : Slots R)
         → KeysBelow generation slots → Fits theirs generation slots }
-    ensures more { (next : ℕ) (slots : List (Option (KeptRule R)))
+    ensures more { (next : ℕ) (slots : Slots R)
         → KeysBelow next slots → KeysBelow (next + 1) slots }
     ensures empty { (theirs : Key → Option R) (generation : ℕ)
         → Fits theirs generation (replicate 509 None) }
@@ -48,9 +45,9 @@ pub fn fits_if_new<R: UnwindRule>()
 pub fn keys_after_step<R: UnwindRule>()
     ensures empty { HasLastKeys {Rule = R} [] (replicate 509 None) }
     ensures kept { (wanted : Bool) (kept : Key → Option R) (key : Key) (keys : List Key)
-        (slots : List (Option (KeptRule R))) → HasLastKeys keys slots
+        (slots : Slots R) → HasLastKeys keys slots
         → HasLastKeys (keys_after wanted kept key keys) (slots_after wanted kept key slots) }
-    ensures counts { (key : Key) (keys : List Key) (slots : List (Option (KeptRule R)))
+    ensures counts { (key : Key) (keys : List Key) (slots : Slots R)
         (counts : CacheStats) → HasLastKeys keys slots
         → counts_after (finding_in slots key) counts
         ≡ counts_after (finding_after keys key) counts }
@@ -60,8 +57,8 @@ pub fn keys_after_step<R: UnwindRule>()
 /// answer and leave the same registers.
 pub fn equal_steps<A: Arch>()
     ensures { (one other : Result (Option ℕ) Error) (old new also : A.UnwindRegs)
-        (outcome : Outcome (Caller A.UnwindRegs))
-        → IsStep one old new outcome → IsStep other old also outcome
+        (judged : Outcome (Caller A.UnwindRegs))
+        → IsStep one old new judged → IsStep other old also judged
         → (one ≡ other) × (new ≡ also) }
 {}
 
@@ -70,10 +67,6 @@ pub fn equal_steps<A: Arch>()
 /// the order of their starts, as those of an unwinder are.
 pub fn modules_elsewhere_change_no_step<A: ModuleUnwinding>()
     ensures { (m : Meanings A.UnwindData A.UnwindRule A.UnwindRegs) (module_ : Loaded A.UnwindData)
-        (modules : List (Loaded A.UnwindData)) (frame : Frame) (registers : A.UnwindRegs)
-        (words : Words)
-        → IsApart module_ modules
-        → module_found (with_loaded module_ modules) (lookup_address frame) ≢ Some module_
-        → judge m (with_loaded module_ modules) frame registers words
-        ≡ judge m modules frame registers words }
+        (modules : List (Loaded A.UnwindData)) (frame : Frame) → IsElsewhere module_ modules frame
+        → HasSameSteps m frame (with_loaded module_ modules) modules }
 {}

@@ -1,6 +1,6 @@
 use Rattle.std.proofs.Common.{ap, ◌≡◌, ◌<◌, length, map, arith, sym, subst, ◌∙◌, [], refl}
 use Rattle.std.specs.Prelude.{slice_set}
-use Rattle.std.proofs.lemmas.List.{map-set, length-map, length-set, get_or-map, get_or_default}
+use Rattle.std.proofs.lemmas.List.{map-set, length-map, length-set, get_or-map}
 use Rattle.framehop_rules.specs.Outcome.{IsStep}
 use Rattle.framehop_rules.specs.Slots.{Key, Kept, no_counts}
 use Rattle.framehop_unwinder.specs.CacheViews.{rules_of}
