@@ -1,12 +1,12 @@
 //! The architectures that walks are timed on.
 
 use crate::work::FirstRegisters;
-use framehop::DwarfUnwinding;
+use framehop::Unwinding;
 use framehop::aarch64::{ArchAarch64, PtrAuthMask, UnwindRegsAarch64};
 use framehop::x86_64::{ArchX86_64, UnwindRegsX86_64};
 
 /// An architecture, by the registers of a walk's first frame.
-pub trait TimedArch: DwarfUnwinding {
+pub trait TimedArch: Unwinding {
     /// The registers that a walk begins with.
     fn registers(first: FirstRegisters) -> Self::UnwindRegs;
 }

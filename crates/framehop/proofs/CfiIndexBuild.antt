@@ -14,8 +14,8 @@ use Rattle.list_laws.specs.First.{first_value}
 use Rattle.dwarf_constants.specs.declared.error.Error.{Error}
 use Rattle.dwarf_frame_rows.specs.FrameSection.{FrameSection}
 use Rattle.framehop.specs.declared.cfi_index.IndexedFde.{IndexedFde}
-use Rattle.framehop.specs.declared.cfi_index.DwarfCfiIndexError.{DwarfCfiIndexError}
-use Rattle.framehop.specs.declared.cfi_index.DwarfCfiIndexError.TheVariants.{OutOfMemory}
+use Rattle.framehop_errors.specs.declared.cfi_index.DwarfCfiIndexError.{DwarfCfiIndexError}
+use Rattle.framehop_errors.specs.declared.cfi_index.DwarfCfiIndexError.TheVariants.{OutOfMemory}
 use Rattle.dwarf_frame_entries.specs.Entries.{AnyEntry, Cie, Fde, PartialFde, fde_of}
 use Rattle.dwarf_frame_entries.specs.EntryLists.{entries_of}
 use Rattle.dwarf_frame_entries.specs.SectionFdes.{IsOfSection, fde_in, whole_fdes, nearest_fde}

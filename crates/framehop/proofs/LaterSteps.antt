@@ -5,11 +5,17 @@ use Rattle.std.specs.Result.{result_ok}
 use Rattle.std.proofs.lemmas.Bool.{leb-false}
 use Rattle.dwarf_readers.specs.Stretch.{Stretch}
 use Rattle.dwarf_frame_rows.specs.Expressions.{expression_in}
+use Rattle.dwarf_frame_rows.specs.FrameSection.{FrameSection}
 use Rattle.dwarf_frame_rows.specs.Row.{Row}
+use Rattle.dwarf_frame_rows.specs.declared.base_addresses.BaseAddresses.{BaseAddresses}
 use Rattle.dwarf_frame_rows.specs.declared.rules.CfaRule.{CfaRule}
 use Rattle.dwarf_frame_rows.specs.declared.rules.CfaRule.TheVariants.{RegisterAndOffset, Expression}
-use Rattle.framehop.specs.Coverage.{Coverage, Covered, Uncovered, NoEntry, attempt_by, row_meanings}
-use Rattle.framehop.specs.UnwindData.{UnwindData, Room, coverage_of}
+use Rattle.framehop.specs.Attempts.{StepLimits, attempt_by_method}
+use Rattle.framehop.specs.Coverage.{Coverage, Covered, Uncovered, NoFde, NoAddress, attempt_by, covered_by_fde, covered_by_scan}
+use Rattle.framehop.specs.Lookups.{Lookup, ByIndex, ByHeader, ByScan, method_by, offset_by_header, offset_by_index, parsed_header}
+use Rattle.framehop.specs.FrameSections.{section_of_type}
+use Rattle.framehop.specs.Methods.{method_at}
+use Rattle.framehop.specs.UnwindData.{UnwindData, ModuleFormat, CallFrames, NoFormat, method_by_format}
 use Rattle.framehop_registers.specs.Callback.{Words}
 use Rattle.framehop_registers.specs.RegistersAarch64.{lr_of, sp_of, fp_of}
 use Rattle.framehop_registers.specs.declared.aarch64.unwindregs.UnwindRegsAarch64.{UnwindRegsAarch64}
@@ -18,12 +24,12 @@ use Rattle.framehop_rows.specs.DirectRowAarch64.{restored, direct_by_fp, direct_
 use Rattle.framehop_rows.specs.RowAnswerAarch64.{register_value, caller_with}
 use Rattle.framehop_rows.specs.RowAttempt.{said_or_given}
 use Rattle.framehop.specs.RowAttempts.{attempt_by_row}
-use Rattle.framehop_rows.specs.RowAttemptAarch64.{row_attempt}
+use Rattle.framehop_rows.specs.RowAttemptAarch64.{rows}
 use Rattle.framehop_rows.specs.RowParts.{parts_of}
 use Rattle.framehop_rows.specs.RowSources.{direct_sources, sum_of, in_half}
 use Rattle.framehop_rows.specs.ScaledRowAarch64.{X29, X30, scaled_rule}
-use Rattle.framehop_rows.specs.declared.dwarf.DwarfUnwinderError.{DwarfUnwinderError}
-use Rattle.framehop_rows.specs.declared.dwarf.DwarfUnwinderError.TheVariants.{StackPointerMovedBackwards}
+use Rattle.framehop_errors.specs.declared.dwarf.DwarfUnwinderError.{DwarfUnwinderError}
+use Rattle.framehop_errors.specs.declared.dwarf.DwarfUnwinderError.TheVariants.{StackPointerMovedBackwards}
 use Rattle.framehop_rules.specs.Outcome.{Answers, Caller}
 use Rattle.framehop_rules.specs.RuleMeaningAarch64.{rule_meaning}
 use Rattle.framehop_rules.specs.declared.aarch64.unwind_rule.UnwindRuleAarch64.{UnwindRuleAarch64}
@@ -33,7 +39,7 @@ use Rattle.framehop_unwinder.specs.Frames.{later_frame}
 use Rattle.framehop_unwinder.specs.Judge.{by_attempt, or_else, judge}
 use Rattle.framehop_unwinder.specs.Modules.{Loaded, module_found}
 use Rattle.framehop.specs.WalkLengths.{IsRaised}
-use Rattle.framehop.specs.WalksAarch64.{meanings_in}
+use Rattle.framehop.specs.StepMeanings.{meanings_aarch64}
 use Rattle.framehop.proofs.WalkValues.{expression-fits}
 
 -- ---- direct rows
@@ -94,10 +100,10 @@ module _ (limit : Option ℕ) (size : ℕ) (section : Stretch) (registers : Unwi
 abbrev pub RulesRaise : Type 0
 RulesRaise = (rule : UnwindRuleAarch64) (registers : UnwindRegsAarch64) (words : Words) (caller : Caller UnwindRegsAarch64) → rule_meaning rule false registers words ≡ Answers caller → IsRaised (sp_of registers) (sp_of caller.registers)
 
-module _ (rules : RulesRaise) (room : Room) (registers : UnwindRegsAarch64) (words : Words) (caller : Caller UnwindRegsAarch64) where
+module _ (rules : RulesRaise) (limits : StepLimits) (registers : UnwindRegsAarch64) (words : Words) (caller : Caller UnwindRegsAarch64) where
   -- by a row
   row-raised : (limit : Option ℕ) (size : ℕ) (section : Stretch) (row : Row ℕ) (o : Option UnwindRuleAarch64)
-      → by_attempt (meanings_in room) false registers words (attempt_by_row (said_or_given (λ registers words. direct_answer limit size false registers words section (parts_of X29 X30 row)) o)) ≡ Answers caller → IsRaised (sp_of registers) (sp_of caller.registers)
+      → by_attempt (meanings_aarch64 limits) false registers words (attempt_by_row (said_or_given (λ registers words. direct_answer limit size false registers words section (parts_of X29 X30 row)) o)) ≡ Answers caller → IsRaised (sp_of registers) (sp_of caller.registers)
   row-raised limit size section row (Some rule) is = rules rule registers words caller is
   row-raised limit size section row None is = by (direct_answer limit size false registers words section (parts_of X29 X30 row)) refl is
     where
@@ -108,17 +114,37 @@ module _ (rules : RulesRaise) (room : Room) (registers : UnwindRegsAarch64) (wor
 
   -- by coverage
   coverage-raised : (limit : Option ℕ) (coverage : Coverage)
-      → by_attempt (meanings_in room) false registers words (attempt_by (row_meanings row_attempt NoOpIfFirstFrameOtherwiseFp) false limit coverage) ≡ Answers caller → IsRaised (sp_of registers) (sp_of caller.registers)
+      → by_attempt (meanings_aarch64 limits) false registers words (attempt_by rows false limit coverage) ≡ Answers caller → IsRaised (sp_of registers) (sp_of caller.registers)
   coverage-raised limit (Covered size section row) is = row-raised limit size section row (scaled_rule (parts_of X29 X30 row)) is
   coverage-raised limit Uncovered is = rules NoOpIfFirstFrameOtherwiseFp registers words caller is
-  coverage-raised limit NoEntry is = rules UseFramePointer registers words caller is
+  coverage-raised limit (NoFde e) is = rules UseFramePointer registers words caller is
+  coverage-raised limit NoAddress is = rules UseFramePointer registers words caller is
+
+  -- by the FDE that was found, if one was
+  offset-raised : (base relative : ℕ) (section : FrameSection) (o : Option ℕ)
+      → by_attempt (meanings_aarch64 limits) false registers words (attempt_by_method rows limits base relative false (method_at section o)) ≡ Answers caller → IsRaised (sp_of registers) (sp_of caller.registers)
+  offset-raised base relative section (Some offset) is = coverage-raised limits.values (covered_by_fde limits.rows rows.vendor section base relative offset) is
+  offset-raised base relative section None is = rules UseFramePointer registers words caller is
+
+  -- by a lookup
+  lookup-raised : (bases : BaseAddresses) (base relative : ℕ) (section : FrameSection) (lookup : Lookup)
+      → by_attempt (meanings_aarch64 limits) false registers words (attempt_by_method rows limits base relative false (method_by lookup bases section base relative)) ≡ Answers caller → IsRaised (sp_of registers) (sp_of caller.registers)
+  lookup-raised bases base relative section ByIndex is = offset-raised base relative section (offset_by_index section base relative) is
+  lookup-raised bases base relative section (ByHeader bytes) is = offset-raised base relative section (offset_by_header bases (parsed_header bases (Some bytes)) base relative) is
+  lookup-raised bases base relative section ByScan is = coverage-raised limits.values (covered_by_scan limits.rows rows.vendor section base relative) is
+
+  -- by a format
+  format-raised : (bases : BaseAddresses) (base relative : ℕ) (format : ModuleFormat)
+      → by_attempt (meanings_aarch64 limits) false registers words (attempt_by_method rows limits base relative false (method_by_format bases base relative format)) ≡ Answers caller → IsRaised (sp_of registers) (sp_of caller.registers)
+  format-raised bases base relative (CallFrames section lookup) is = lookup-raised bases base relative (section_of_type bases section) lookup is
+  format-raised bases base relative NoFormat is = rules UseFramePointer registers words caller is
 
   -- by the module that was found
   found-raised : (address : ℕ) (found : Option (Loaded UnwindData))
-      → by_attempt (meanings_in room) false registers words (attempt_of (meanings_in room) false address found) ≡ Answers caller → IsRaised (sp_of registers) (sp_of caller.registers)
+      → by_attempt (meanings_aarch64 limits) false registers words (attempt_of (meanings_aarch64 limits) false address found) ≡ Answers caller → IsRaised (sp_of registers) (sp_of caller.registers)
   found-raised address None is = rules UseFramePointer registers words caller is
-  found-raised address (Some module_) is = coverage-raised room.values (coverage_of room module_.unwind_data (address - module_.base)) is
+  found-raised address (Some module_) is = format-raised module_.unwind_data.bases module_.unwind_data.base_svma (address - module_.base) module_.unwind_data.format is
 
   -- each step
-  pub step-raised : (modules : List (Loaded UnwindData)) (return_address : ℕ) → judge (meanings_in room) modules (later_frame return_address) registers words ≡ Answers caller → IsRaised (sp_of registers) (sp_of caller.registers)
+  pub step-raised : (modules : List (Loaded UnwindData)) (return_address : ℕ) → judge (meanings_aarch64 limits) modules (later_frame return_address) registers words ≡ Answers caller → IsRaised (sp_of registers) (sp_of caller.registers)
   step-raised modules return_address is = found-raised (return_address - 1) (module_found modules (return_address - 1)) is

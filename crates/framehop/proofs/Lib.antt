@@ -1,10 +1,12 @@
 pub mod CfiIndexBuild
 pub mod CfiIndexOrder
+pub mod CoverageAnswers
 pub mod Coverages
 pub mod EntryIndex
 pub mod EntryPlaces
 pub mod Halves
 pub mod LaterSteps
+pub mod MethodAnswers
 pub mod RowTrials
 pub mod SectionsMade
 pub mod TruthfulLookups

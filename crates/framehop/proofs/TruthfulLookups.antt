@@ -1,6 +1,6 @@
 -- If a header is truthful, all lookups lead to the same FDEs.
-use Rattle.std.proofs.Common.{◌≡◌, ◌<◌, ◌^◌, ℕ, ◌+◌, true, false, cond, List, Option, Some, None, Result, Ok, Err, refl, sym, ap, ◌∙◌, arith}
-use Rattle.std.specs.Prelude.{is_none, nat_le, nat_lt, ◌==◌}
+use Rattle.std.proofs.Common.{◌≡◌, ◌<◌, ◌^◌, ℕ, ◌+◌, Bool, true, false, cond, List, Option, Some, None, Result, Ok, Err, refl, sym, ap, ◌∙◌, arith}
+use Rattle.std.specs.Prelude.{is_none, nat_le, nat_lt, option_map, ◌==◌}
 use Rattle.std.specs.List.{All, Contains, filter}
 use Rattle.std.specs.Option.{ok_or}
 use Rattle.std.specs.Result.{result_ok}
@@ -20,21 +20,29 @@ use Rattle.dwarf_frame_entries.specs.SectionFdes.{StandsAtItsOffset, whole_fdes,
 use Rattle.dwarf_frame_entries.proofs.Laws.{fdes_there}
 use Rattle.dwarf_call_frames.specs.HeaderEntries.{named_offset}
 use Rattle.dwarf_call_frames.proofs.Laws as header_laws
-use Rattle.framehop.specs.Coverage.{NoEntry, by_entry, by_lookup}
+use Rattle.dwarf_frame_entries.specs.AddressLookups.{fde_for_address}
+use Rattle.dwarf_frame_entries.specs.Entries.{fde_from_offset}
+use Rattle.framehop_rows.specs.RowMeanings.{RowMeanings}
+use Rattle.framehop_unwinder.specs.Attempt.{Attempt, SaysNothing}
+use Rattle.framehop.specs.Attempts.{StepLimits, attempt, attempt_by_method}
+use Rattle.framehop.specs.Coverage.{Coverage, NoAddress, attempt_by, by_entry, by_fde, by_scanned}
 use Rattle.framehop.specs.EntryFor.{index_error, indexed_entry}
 use Rattle.framehop.specs.FrameSections.{eh_frame_of}
-use Rattle.framehop.specs.Lookups.{ByHeader, ByIndex, ByScan, entry_by, headed_entry, scanned_entry}
-use Rattle.framehop.specs.TruthfulLookups.{AreTruthful, HeadedSection, LeadsAbove, eh_frame_in, headed_data, indexed_data, scanned_data}
-use Rattle.framehop.specs.UnwindData.{Room, coverage_of}
-use Rattle.framehop.specs.declared.lookups.NoFde.{NoFde}
-use Rattle.framehop.specs.declared.lookups.NoFde.TheVariants.{Uncovered, Unknown}
+use Rattle.framehop.specs.Lookups.{offset_by_index}
+use Rattle.framehop.specs.Methods.{Method, UsesFde, UsesScan, method_at}
+use Rattle.framehop.specs.TruthfulLookups.{AllLeadTo, AreTruthful, HeadedSection, LeadsAbove, LookupsBelowAll, eh_frame_in, headed_data, indexed_data, offset_headed, scanned_data}
 use Rattle.framehop.proofs.CfiIndexBuild.{fits_index, offset-fits, whole-fit}
 use Rattle.framehop.proofs.EntryIndex.{find-has}
 use Rattle.list_laws.specs.Greatest.{is_greatest}
+use Rattle.list_laws.proofs.Laws.{by_case}
 
 -- a number above 0 isn't 0
 not-zero : (n : ℕ) → 0 < n → (n == 0) ≡ false
 not-zero n above = grind (arith, nat_tests)
+
+-- an address of 64 bits
+pub fits-64 : {n : ℕ} → n < 2 ^ 64 → nat_lt n (2 ^ 64) ≡ true
+fits-64 {n} below = grind (arith, nat_tests)
 
 -- an option that is none
 without : {A : Type 0} (o : Option A) → is_none o ≡ true → o ≡ None
@@ -70,74 +78,107 @@ module _ (h : HeadedSection) (t : AreTruthful h) where
   unfolding index_error whole_fdes
   all-fit = AllPass-from_list_all (fits_index base) (whole_fdes s) (whole-fit base s (entries_of s) (without (index_error base s) t.indexed))
 
-  -- the FDE that the header names is what it leads to
-  leads : (address : ℕ) (fde : Fde) → fits_index base fde ≡ true → StandsAtItsOffset s fde → 0 < t.says.count → named_offset (2 ^ 64) bases t.says address ≡ Ok fde.head.offset
-      → headed_entry bases s header address ≡ Ok fde
-  leads address fde fits stands rows named =
-      let small : nat_lt fde.head.offset (2 ^ 32) ≡ true = offset-fits base fde fits in
-      let some = not-zero t.says.count rows in
-      rw (t.parses, some, named, small) stands
+  -- an FDE of the section is at its offset, which has 32 bits
+  there : (fde : Fde) → Contains (whole_fdes s) fde → fde_from_offset s fde.head.offset ≡ Ok fde
+  there fde inside = All-contains (StandsAtItsOffset s) (whole_fdes s) fde (fdes_there s) inside
+
+  small : (fde : Fde) → Contains (whole_fdes s) fde → nat_lt fde.head.offset (2 ^ 32) ≡ true
+  small fde inside = offset-fits base fde (All-contains (λ f. fits_index base f ≡ true) (whole_fdes s) fde all-fit inside)
 
   module _ (relative : ℕ) where
+    -- the offset that the header names is what it leads to
+    named : (fde : Fde) → Contains (whole_fdes s) fde → nat_lt (base + relative) (2 ^ 64) ≡ true → 0 < t.says.count
+        → named_offset (2 ^ 64) bases t.says (base + relative) ≡ Ok fde.head.offset → offset_headed h relative ≡ Some fde.head.offset
+    named fde inside fits rows is =
+        let near = small fde inside in
+        let some = not-zero t.says.count rows in
+        rw (t.parses, fits, some, is, near) refl
+
     -- where an FDE contains the address
     module _ (fde : Fde) (inside : Contains (whole_fdes s) fde) (holds : contains (base + relative) fde ≡ true) where
-      pub header-contained : entry_by (ByHeader header) bases s base relative ≡ Ok fde
-      header-contained =
-          ap (λ (r : Result Fde Error). ok_or (result_ok r) Unknown)
-          (leads (base + relative) fde (All-contains (λ f. fits_index base f ≡ true) (whole_fdes s) fde all-fit inside) (All-contains (StandsAtItsOffset s) (whole_fdes s) fde (fdes_there s) inside)
-          (header_laws.has_rows s bases t.says t.is_truthful fde inside) (header_laws.named_contained s bases t.says t.is_truthful (base + relative) fde inside holds))
+      nearest-contained : nearest_fde (base + relative) (whole_fdes s) ≡ Some fde
+      nearest-contained = header_laws.nearest_contained s bases t.says t.is_truthful (base + relative) fde inside holds
 
-      pub index-contained : entry_by ByIndex bases s base relative ≡ Ok fde
-      unfolding indexed_entry
-      index-contained = rw t.indexed (ap (λ (o : Option Fde). ok_or o Unknown) (header_laws.nearest_contained s bases t.says t.is_truthful (base + relative) fde inside holds))
-
-      pub scan-contained : entry_by ByScan bases s base relative ≡ Ok fde
-      scan-contained = ap scanned_entry (header_laws.scanned_contained s bases t.says t.is_truthful (base + relative) fde inside holds)
+      pub scan-contained : fde_for_address s (base + relative) ≡ Ok fde
+      scan-contained = header_laws.scanned_contained s bases t.says t.is_truthful (base + relative) fde inside holds
 
     -- from the lowest start on
     module _ (fde : Fde) (nearest : nearest_fde (base + relative) (whole_fdes s) ≡ Some fde) where
-      header-nearest : entry_by (ByHeader header) bases s base relative ≡ Ok fde
-      header-nearest =
-          let inside = nearest-has (Contains (whole_fdes s)) (base + relative) (whole_fdes s) fde (All-contains_itself (whole_fdes s)) nearest in
-          ap (λ (r : Result Fde Error). ok_or (result_ok r) Unknown)
-          (leads (base + relative) fde (All-contains (λ f. fits_index base f ≡ true) (whole_fdes s) fde all-fit inside) (All-contains (StandsAtItsOffset s) (whole_fdes s) fde (fdes_there s) inside)
-          (header_laws.has_rows s bases t.says t.is_truthful fde inside) (header_laws.named_nearest s bases t.says t.is_truthful (base + relative) fde nearest))
+      pub listed : Contains (whole_fdes s) fde
+      listed = nearest-has (Contains (whole_fdes s)) (base + relative) (whole_fdes s) fde (All-contains_itself (whole_fdes s)) nearest
 
-      index-nearest : entry_by ByIndex bases s base relative ≡ Ok fde
+      pub header-nearest : nat_lt (base + relative) (2 ^ 64) ≡ true → offset_headed h relative ≡ Some fde.head.offset
+      header-nearest fits =
+          named fde listed fits (header_laws.has_rows s bases t.says t.is_truthful fde listed) (header_laws.named_nearest s bases t.says t.is_truthful (base + relative) fde nearest)
+
+      pub index-nearest : offset_by_index s base relative ≡ Some fde.head.offset
       unfolding indexed_entry
-      index-nearest = rw t.indexed (ap (λ (o : Option Fde). ok_or o Unknown) nearest)
+      index-nearest = rw t.indexed (ap (option_map (λ (f : Fde). f.head.offset)) nearest)
 
-      pub alike-nearest : entry_by ByIndex bases s base relative ≡ entry_by (ByHeader header) bases s base relative
-      alike-nearest = index-nearest ∙ sym header-nearest
-
-    -- below it
-    pub header-below : 0 < t.says.count → nearest_fde (base + relative) (whole_fdes s) ≡ None → LeadsAbove h relative
-    header-below rows none =
-        let found = header_laws.named_below s bases t.says t.is_truthful rows (base + relative) none in
-        let fde : Fde = found.0 in
-        let inside : Contains (whole_fdes s) fde = found.1.0 in
-        let named : named_offset (2 ^ 64) bases t.says (base + relative) ≡ Ok fde.head.offset = found.1.1.1 in
-        let fits = All-contains (λ f. fits_index base f ≡ true) (whole_fdes s) fde all-fit inside in
-        let there = All-contains (StandsAtItsOffset s) (whole_fdes s) fde (fdes_there s) inside in
+    -- each lookup leads to the FDE that contains the address
+    pub lead-to-one : (fde : Fde) → nat_lt (base + relative) (2 ^ 64) ≡ true → Contains (whole_fdes s) fde → contains (base + relative) fde ≡ true → AllLeadTo h relative fde
+    lead-to-one fde fits inside holds =
+        let nearest = nearest-contained fde inside holds in
         record {
-          fde = fde;
-          above = found.1.1.0;
-          leads = ap (λ (r : Result Fde Error). ok_or (result_ok r) Unknown) (leads (base + relative) fde fits there rows named);
+          by_header = header-nearest fde nearest fits;
+          by_index = index-nearest fde nearest;
+          at_offset = there fde inside;
+          by_scan = scan-contained fde inside holds;
         }
 
-    pub scan-below : nearest_fde (base + relative) (whole_fdes s) ≡ None → entry_by ByScan bases s base relative ≡ Err Uncovered
-    scan-below none = ap scanned_entry (header_laws.scanned_below s bases t.says t.is_truthful (base + relative) none)
+    -- below the lowest start
+    pub below-all : nat_lt (base + relative) (2 ^ 64) ≡ true → nearest_fde (base + relative) (whole_fdes s) ≡ None → LookupsBelowAll h t.says relative
+    unfolding indexed_entry
+    below-all fits none = record {
+      by_header = λ rows.
+          let found = header_laws.named_below s bases t.says t.is_truthful rows (base + relative) none in
+          let fde : Fde = found.0 in
+          let inside : Contains (whole_fdes s) fde = found.1.0 in
+          record { fde = fde; above = found.1.1.0; leads = named fde inside fits rows found.1.1.1; at_offset = there fde inside };
+      by_index = rw t.indexed (ap (option_map (λ (f : Fde). f.head.offset)) none);
+      by_scan = header_laws.scanned_below s bases t.says t.is_truthful (base + relative) none;
+    }
 
-    -- what a lookup leads to decides how the address is covered
-    module _ (other : BaseAddresses) (same : other.eh_frame ≡ bases.eh_frame) (room : Room) where
-      pub index-covers : entry_by ByIndex bases s base relative ≡ entry_by (ByHeader header) bases s base relative
-          → coverage_of room (indexed_data other h) relative ≡ coverage_of room (headed_data h) relative
-      index-covers alike =
-          ap (λ (sec : FrameSection). by_lookup room.rows ByIndex other sec Default base relative) (same-section bases other h.section same)
-          ∙ ap (λ (found : Result Fde NoFde). cond (nat_lt (base + relative) (2 ^ 64)) (by_entry room.rows s Default (base + relative) found) NoEntry) alike
+    -- the attempts
+    module _ {Rule Registers : Type 0} (m : RowMeanings Rule Registers) (limits : StepLimits) (other : BaseAddresses) (same : other.eh_frame ≡ bases.eh_frame) (first : Bool) where
+      abbrev by_method : Method Rule Registers → Attempt Rule Registers
+      by_method method = attempt_by_method m limits base relative first method
 
-      pub scan-covers : entry_by ByScan bases s base relative ≡ entry_by (ByHeader header) bases s base relative
-          → coverage_of room (scanned_data other h) relative ≡ coverage_of room (headed_data h) relative
-      scan-covers alike =
-          ap (λ (sec : FrameSection). by_lookup room.rows ByScan other sec Default base relative) (same-section bases other h.section same)
-          ∙ ap (λ (found : Result Fde NoFde). cond (nat_lt (base + relative) (2 ^ 64)) (by_entry room.rows s Default (base + relative) found) NoEntry) alike
+      -- without an address of 64 bits nothing is said
+      overflows : (offset : ℕ) → nat_lt (base + relative) (2 ^ 64) ≡ false → by_method (UsesFde s offset) ≡ SaysNothing
+      overflows offset not = rw not refl
+
+      unheaded : nat_lt (base + relative) (2 ^ 64) ≡ false → offset_headed h relative ≡ None
+      unheaded not = rw (t.parses, not) refl
+
+      -- by the header the attempt is that by the nearest FDE
+      headed : (fde : Fde) → nearest_fde (base + relative) (whole_fdes s) ≡ Some fde → attempt m limits (headed_data h) relative first ≡ by_method (UsesFde s fde.head.offset)
+      headed fde nearest =
+          by_case (nat_lt (base + relative) (2 ^ 64))
+          (λ fits. ap (λ (o : Option ℕ). by_method (method_at s o)) (header-nearest fde nearest fits))
+          (λ not. ap (λ (o : Option ℕ). by_method (method_at s o)) (unheaded not) ∙ sym (overflows fde.head.offset not))
+
+      -- and so it is by the index
+      indexed : (fde : Fde) → nearest_fde (base + relative) (whole_fdes s) ≡ Some fde → attempt m limits (indexed_data other h) relative first ≡ by_method (UsesFde s fde.head.offset)
+      indexed fde nearest =
+          ap (λ (sec : FrameSection). by_method (method_at sec (offset_by_index sec base relative))) (same-section bases other h.section same)
+          ∙ ap (λ (o : Option ℕ). by_method (method_at s o)) (index-nearest fde nearest)
+
+      -- and by the scan, where the FDE contains the address
+      scanned : (fde : Fde) → Contains (whole_fdes s) fde → contains (base + relative) fde ≡ true → attempt m limits (scanned_data other h) relative first ≡ by_method (UsesFde s fde.head.offset)
+      scanned fde inside holds =
+          let at : by_entry limits.rows m.vendor s (base + relative) (fde_from_offset s fde.head.offset) ≡ by_fde limits.rows m.vendor s (base + relative) fde
+          = ap (by_entry limits.rows m.vendor s (base + relative)) (there fde inside) in
+          let found : by_scanned limits.rows m.vendor s (base + relative) (fde_for_address s (base + relative)) ≡ by_fde limits.rows m.vendor s (base + relative) fde
+          = ap (by_scanned limits.rows m.vendor s (base + relative)) (scan-contained fde inside holds) ∙ (rw (small fde inside) refl) in
+          ap (λ (sec : FrameSection). by_method (UsesScan sec)) (same-section bases other h.section same)
+          ∙ ap (λ (c : Coverage). attempt_by m first limits.values (cond (nat_lt (base + relative) (2 ^ 64)) c NoAddress)) (found ∙ sym at)
+
+      pub index-alike : (fde : Fde) → nearest_fde (base + relative) (whole_fdes s) ≡ Some fde → attempt m limits (indexed_data other h) relative first ≡ attempt m limits (headed_data h) relative first
+      index-alike fde nearest = indexed fde nearest ∙ sym (headed fde nearest)
+
+      pub index-alike-contained : (fde : Fde) → Contains (whole_fdes s) fde → contains (base + relative) fde ≡ true → attempt m limits (indexed_data other h) relative first ≡ attempt m limits (headed_data h) relative first
+      index-alike-contained fde inside holds = index-alike fde (nearest-contained fde inside holds)
+
+      pub scan-alike : (fde : Fde) → Contains (whole_fdes s) fde → contains (base + relative) fde ≡ true → attempt m limits (scanned_data other h) relative first ≡ attempt m limits (headed_data h) relative first
+      scan-alike fde inside holds = scanned fde inside holds ∙ sym (headed fde (nearest-contained fde inside holds))

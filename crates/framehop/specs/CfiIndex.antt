@@ -8,8 +8,8 @@ use Rattle.dwarf_frame_entries.specs.Entries.{Fde}
 use Rattle.dwarf_frame_entries.specs.SectionFdes.{whole_fdes}
 use Rattle.framehop.specs.EntryFor.{index_refusal, fde_error, index_error, has_index, indexed_entry}
 use Rattle.framehop.specs.declared.cfi_index.IndexedFde.{IndexedFde}
-use Rattle.framehop.specs.declared.cfi_index.DwarfCfiIndexError.{DwarfCfiIndexError}
-use Rattle.framehop.specs.declared.cfi_index.DwarfCfiIndexError.TheVariants.{OutOfMemory}
+use Rattle.framehop_errors.specs.declared.cfi_index.DwarfCfiIndexError.{DwarfCfiIndexError}
+use Rattle.framehop_errors.specs.declared.cfi_index.DwarfCfiIndexError.TheVariants.{OutOfMemory}
 
 -- The result of making something of a section for its index: the section has one, and this holds of what was made; or the error is
 -- why the section has none, unless memory ran out.

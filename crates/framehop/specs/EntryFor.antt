@@ -8,8 +8,8 @@ use Rattle.dwarf_frame_entries.specs.Entries.{AnyEntry, Fde, fde_of}
 use Rattle.dwarf_frame_entries.specs.EntryLists.{entries_of}
 use Rattle.dwarf_frame_entries.specs.SectionFdes.{whole_fdes, nearest_fde}
 use Rattle.dwarf_frame_entries.specs.declared.entries.Entry.TheVariants as which
-use Rattle.framehop.specs.declared.cfi_index.DwarfCfiIndexError.{DwarfCfiIndexError}
-use Rattle.framehop.specs.declared.cfi_index.DwarfCfiIndexError.TheVariants.{Gimli, CouldNotSubtractBaseAddress, RelativeAddressTooBig, FdeOffsetTooBig}
+use Rattle.framehop_errors.specs.declared.cfi_index.DwarfCfiIndexError.{DwarfCfiIndexError}
+use Rattle.framehop_errors.specs.declared.cfi_index.DwarfCfiIndexError.TheVariants.{Gimli, CouldNotSubtractBaseAddress, RelativeAddressTooBig, FdeOffsetTooBig}
 
 -- why an index can't hold an FDE, if it can't
 abbrev pub index_refusal : (base : ℕ) → Fde → Option DwarfCfiIndexError

@@ -4,6 +4,8 @@ use Rattle.dwarf_readers.specs.Stretch.{whole}
 use Rattle.dwarf_frame_rows.specs.declared.base_addresses.BaseAddresses.{BaseAddresses}
 use Rattle.dwarf_frame_rows.specs.FrameSection.{FrameSection, frame_section}
 use Rattle.dwarf_frame_sections.specs.Sections.{eh_frame, debug_frame}
+use Rattle.framehop.specs.declared.dwarf.UnwindSectionType.{UnwindSectionType}
+use Rattle.framehop.specs.declared.dwarf.UnwindSectionType.TheVariants.{EhFrame, DebugFrame}
 
 -- a section `.eh_frame` of these bytes: numbers are little-endian, addresses and offsets have 8 bytes
 abbrev pub eh_frame_of : BaseAddresses → List ℕ → FrameSection
@@ -12,3 +14,8 @@ eh_frame_of bases bytes = frame_section (2 ^ 64) eh_frame 8 (whole false bytes) 
 -- a section `.debug_frame` of these bytes: numbers are little-endian, and addresses have 8 bytes unless a CIE says another size
 abbrev pub debug_frame_of : BaseAddresses → List ℕ → FrameSection
 debug_frame_of bases bytes = frame_section (2 ^ 64) debug_frame 8 (whole false bytes) bases
+
+-- the section of this type and these bytes
+abbrev pub section_of_type : BaseAddresses → UnwindSectionType (List ℕ) → FrameSection
+section_of_type bases (EhFrame bytes) = eh_frame_of bases bytes
+section_of_type bases (DebugFrame bytes) = debug_frame_of bases bytes

@@ -1,5 +1,5 @@
 -- Modules with one section `.eh_frame`, each unwound by another lookup, and when the lookups lead to the same FDEs.
-use Rattle.std.specs.Prelude.{◌≡◌, ℕ, ◌+◌, ◌<◌, List, true, false, Option, Some, None, Result, Ok, Err}
+use Rattle.std.specs.Prelude.{◌≡◌, ℕ, ◌+◌, ◌<◌, Bool, List, true, Option, Some, None, Ok, Err}
 use Rattle.std.specs.List.{Contains}
 use Rattle.dwarf_frame_rows.specs.declared.base_addresses.BaseAddresses.{BaseAddresses}
 use Rattle.dwarf_frame_rows.specs.FrameSection.{FrameSection}
@@ -7,13 +7,16 @@ use Rattle.dwarf_frame_entries.specs.Entries.{Fde, contains}
 use Rattle.dwarf_frame_entries.specs.SectionFdes.{whole_fdes, nearest_fde}
 use Rattle.dwarf_call_frames.specs.Header.{Header}
 use Rattle.dwarf_call_frames.specs.Truthful.{IsTruthful}
-use Rattle.framehop_modules.specs.declared.module_sections.ModuleSections.TheVariants.{EhFrame}
+use Rattle.dwarf_constants.specs.declared.error.Error.TheVariants.{NoUnwindInfoForAddress}
+use Rattle.dwarf_frame_entries.specs.AddressLookups.{fde_for_address}
+use Rattle.dwarf_frame_entries.specs.Entries.{fde_from_offset}
+use Rattle.framehop_rows.specs.RowMeanings.{RowMeanings}
+use Rattle.framehop.specs.Attempts.{StepLimits, attempt}
 use Rattle.framehop.specs.EntryFor.{has_index}
 use Rattle.framehop.specs.FrameSections.{eh_frame_of}
-use Rattle.framehop.specs.Lookups.{Lookup, ByHeader, ByIndex, ByScan, entry_by, header_of}
-use Rattle.framehop.specs.UnwindData.{UnwindData, Room, coverage_of}
-use Rattle.framehop.specs.declared.lookups.NoFde.{NoFde}
-use Rattle.framehop.specs.declared.lookups.NoFde.TheVariants.{Uncovered}
+use Rattle.framehop.specs.Lookups.{Lookup, ByHeader, ByIndex, ByScan, header_of, offset_by_header, offset_by_index, parsed_header}
+use Rattle.framehop.specs.UnwindData.{UnwindData, CallFrames}
+use Rattle.framehop.specs.declared.dwarf.UnwindSectionType.TheVariants.{EhFrame}
 
 -- The bytes of a section `.eh_frame` and of its header, the addresses that pointers in them are relative to, and the base that
 -- relative addresses are relative to.
@@ -27,17 +30,21 @@ pub record HeadedSection : Type 0 where
 abbrev pub eh_frame_in : HeadedSection → FrameSection
 eh_frame_in h = eh_frame_of h.bases h.section
 
+-- a module with this section alone, whose FDEs are found by a lookup
+abbrev pub data_with : HeadedSection → BaseAddresses → Lookup → UnwindData
+data_with h bases lookup = record { format = CallFrames (EhFrame h.section) lookup; bases = bases; base_svma = h.base }
+
 -- a module that is unwound by the header
 abbrev pub headed_data : HeadedSection → UnwindData
-headed_data h = record { sections = EhFrame h.section (Some h.header); bases = h.bases; base_svma = h.base; is_scanned = false }
+headed_data h = data_with h h.bases (ByHeader h.header)
 
--- a module with the section alone, which is unwound by an index
+-- a module that is unwound by an index
 abbrev pub indexed_data : BaseAddresses → HeadedSection → UnwindData
-indexed_data bases h = record { sections = EhFrame h.section None; bases = bases; base_svma = h.base; is_scanned = false }
+indexed_data bases h = data_with h bases ByIndex
 
--- a module with the section alone, which is read at each step
+-- a module whose section is read at each step
 abbrev pub scanned_data : BaseAddresses → HeadedSection → UnwindData
-scanned_data bases h = record { sections = EhFrame h.section None; bases = bases; base_svma = h.base; is_scanned = true }
+scanned_data bases h = data_with h bases ByScan
 
 -- The header is truthful, and the section has an index from this base.
 pub record AreTruthful (h : HeadedSection) : Type 0 where
@@ -55,37 +62,38 @@ pub record IsFdeFor (h : HeadedSection) (relative : ℕ) (fde : Fde) : Type 0 wh
 abbrev pub nearest_in : HeadedSection → (relative : ℕ) → Option Fde
 nearest_in h relative = nearest_fde (h.base + relative) (whole_fdes (eh_frame_in h))
 
--- the FDE for a relative address by a lookup
-abbrev pub entry_found : HeadedSection → Lookup → (relative : ℕ) → Result Fde NoFde
-entry_found h lookup relative = entry_by lookup h.bases (eh_frame_in h) h.base relative
+-- the offset that the header names for a relative address
+abbrev pub offset_headed : HeadedSection → (relative : ℕ) → Option ℕ
+offset_headed h relative = offset_by_header h.bases (parsed_header h.bases (Some h.header)) h.base relative
 
--- Each lookup leads to this FDE.
+-- Each lookup leads to this FDE: the header and the index by its offset, the scan by itself.
 pub record AllLeadTo (h : HeadedSection) (relative : ℕ) (fde : Fde) : Type 0 where
-  pub by_header : entry_found h (ByHeader h.header) relative ≡ Ok fde
-  pub by_index : entry_found h ByIndex relative ≡ Ok fde
-  pub by_scan : entry_found h ByScan relative ≡ Ok fde
+  pub by_header : offset_headed h relative ≡ Some fde.head.offset
+  pub by_index : offset_by_index (eh_frame_in h) h.base relative ≡ Some fde.head.offset
+  pub at_offset : fde_from_offset (eh_frame_in h) fde.head.offset ≡ Ok fde
+  pub by_scan : fde_for_address (eh_frame_in h) (h.base + relative) ≡ Ok fde
 
--- By an index, with these bases, a relative address is covered as it is by the header.
-abbrev pub IndexCoversAlike : HeadedSection → BaseAddresses → Room → (relative : ℕ) → Type 0
-IndexCoversAlike h bases room relative = coverage_of room (indexed_data bases h) relative ≡ coverage_of room (headed_data h) relative
+-- By the data of either of two modules the attempt at a relative address is the same.
+abbrev pub AttemptsAlike : {Rule Registers : Type 0} → RowMeanings Rule Registers → StepLimits → (relative : ℕ) → UnwindData → UnwindData
+    → Type 0
+AttemptsAlike m limits relative one other = (first : Bool) → attempt m limits one relative first ≡ attempt m limits other relative first
 
--- And so it is by reading the section.
-abbrev pub ScanCoversAlike : HeadedSection → BaseAddresses → Room → (relative : ℕ) → Type 0
-ScanCoversAlike h bases room relative = coverage_of room (scanned_data bases h) relative ≡ coverage_of room (headed_data h) relative
-
--- By each lookup, with these bases in place of the header's, a relative address is covered as it is by the header.
-pub record AllCoverAlike (h : HeadedSection) (bases : BaseAddresses) (room : Room) (relative : ℕ) : Type 0 where
-  pub by_index : IndexCoversAlike h bases room relative
-  pub by_scan : ScanCoversAlike h bases room relative
+-- By each lookup, with these bases in place of the header's, the attempt at a relative address is that by the header.
+pub record AllAttemptAlike {Rule Registers : Type 0} (m : RowMeanings Rule Registers) (limits : StepLimits) (h : HeadedSection)
+    (bases : BaseAddresses) (relative : ℕ) : Type 0 where
+  pub by_index : AttemptsAlike m limits relative (indexed_data bases h) (headed_data h)
+  pub by_scan : AttemptsAlike m limits relative (scanned_data bases h) (headed_data h)
 
 -- The header leads to an FDE that starts above the address.
 pub record LeadsAbove (h : HeadedSection) (relative : ℕ) : Type 0 where
   pub fde : Fde
   pub above : h.base + relative < fde.initial_address
-  pub leads : entry_found h (ByHeader h.header) relative ≡ Ok fde
+  pub leads : offset_headed h relative ≡ Some fde.head.offset
+  pub at_offset : fde_from_offset (eh_frame_in h) fde.head.offset ≡ Ok fde
 
--- The lookups of an address below all FDEs: a header with rows leads to an FDE above the address, and after reading the section it is
--- known that no FDE contains the address.
+-- The lookups of an address below all FDEs: a header with rows leads to an FDE above the address, an index to none, and after reading
+-- the section it is known that no FDE contains the address.
 pub record LookupsBelowAll (h : HeadedSection) (says : Header) (relative : ℕ) : Type 0 where
   pub by_header : 0 < says.count → LeadsAbove h relative
-  pub by_scan : entry_found h ByScan relative ≡ Err Uncovered
+  pub by_index : offset_by_index (eh_frame_in h) h.base relative ≡ None
+  pub by_scan : fde_for_address (eh_frame_in h) (h.base + relative) ≡ Err NoUnwindInfoForAddress

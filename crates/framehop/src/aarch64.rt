@@ -1,17 +1,28 @@
 //! The unwinder of aarch64.
 
-ghost use Rattle.std.specs.Prelude.{◌≡◌, IfOk, None, replicate};
+ghost use Rattle.std.specs.Prelude.{◌≡◌, IfOk, OnOk, OnErr, None, [], replicate};
+ghost use Rattle.std.specs.List.{All};
+ghost use Rattle.framehop_registers.specs.Callback.{Words};
+ghost use Rattle.framehop_histories.specs.Commands.{OfCallback};
+ghost use Rattle.framehop_histories.specs.Performs.{AnswerBy, Performs};
 ghost use Rattle.framehop_rules.specs.Slots.{no_counts};
 ghost use Rattle.framehop_unwinder.specs.CacheViews.{rules_of};
+ghost use Rattle.framehop_rows.specs.Memory.{takes_memory};
+ghost use Rattle.framehop.specs.Attempts.{step_limits};
+ghost use Rattle.framehop.specs.StepMeanings.{meanings_aarch64};
 
 use crate::arch::BySections;
 use crate::cache::{AllocationPolicy, MayAllocateDuringUnwind};
-use crate::dwarf::DwarfUnwindContext;
+use crate::context::DwarfUnwindContext;
+use crate::histories::{self, Answer, Command};
+use crate::unwind_data::ModuleUnwindData;
+use framehop_modules::SectionBytes;
 pub use framehop_rows::aarch64::rule_answers_as_its_row;
 use framehop_rules::CacheStats;
 pub use framehop_rules::aarch64::{ArchAarch64, PtrAuthMask, UnwindRegsAarch64, UnwindRuleAarch64};
-use framehop_unwinder::{Cache, UnwinderInternal};
+use framehop_unwinder::{Cache, Session, UnwinderInternal};
 use std::alloc::{AllocError, Global};
+use std::collections::VecDeque;
 
 /// The unwinder of a process on aarch64. Its modules are unwound by their sections, which are values of
 /// `D`; `P` says whether a step may allocate.
@@ -52,4 +63,34 @@ impl<P: AllocationPolicy> CacheAarch64<P> {
     {
         self.0.stats()
     }
+}
+
+/// Does what the commands ask, one after the other, and answers each, as
+/// [`histories::perform`](crate::histories::perform) does, on aarch64: each step and each move of a
+/// walk is answered from the bytes of the modules that are loaded then, whatever the commands before it did
+/// and through any of the caches. `limits` of the policy are those of
+/// [`policies_set_limits`](crate::policies_set_limits).
+pub fn perform<
+    D: SectionBytes + Drop,
+    P: AllocationPolicy,
+    F: FnMut(u64) -> Result<u64, ()> + Drop,
+>(
+    alloc: Global,
+    session: &mut Session<BySections<ArchAarch64, D, P>>,
+    commands: &mut VecDeque<
+        Command<ModuleUnwindData<D>, DwarfUnwindContext<P>, UnwindRegsAarch64, F>,
+    >,
+) -> Result<Vec<Answer<UnwindRegsAarch64>>, AllocError>
+    requires { All (OfCallback F.IsAlwaysCallable) commands.old.items }
+    ensures performs { (words : F → Words) → AnswerBy F.step words commands.old.items
+        → IfOk result (λ answers. Performs (takes_memory
+        P.GimliEvaluationStorage.Stack.is_made_in_place P.GimliEvaluationStorage.Stack.capacity)
+        (meanings_aarch64 (step_limits P.GimliUnwindContextStorage.limits
+        P.GimliEvaluationStorage.Stack.capacity)) words
+        session.old commands.old.items session.new answers.items) }
+    ensures performed { OnOk result (commands.new.items ≡ []) }
+    ensures refused { OnErr result (session.new ≡ session.old) }
+    ensures waiting { OnErr result (commands.new ≡ commands.old) }
+{
+    histories::perform(alloc, session, commands)
 }

@@ -1,21 +1,29 @@
 //! Architectures, if modules are unwound by their sections.
 
 ghost use Rattle.std.specs.Prelude.{refl};
-ghost use Rattle.framehop_unwinder.specs.Attempt.{meanings_of};
-ghost use Rattle.framehop.specs.Coverage.{row_meanings};
 ghost use Rattle.framehop_rows.specs.Memory.{takes_memory};
-ghost use Rattle.framehop.specs.UnwindData.{AsksExpression, attempt, room_of};
+ghost use Rattle.framehop.specs.Attempts.{AsksExpression, step_limits};
+ghost use Rattle.framehop.specs.StepMeanings.{meanings_by};
 
 use crate::cache::AllocationPolicy;
-use crate::dwarf::{DwarfUnwindContext, unwind_frame_by_lookup};
+use crate::call_frames::{failure_of, unwind_frame_by_call_frames};
+use crate::context::DwarfUnwindContext;
 use crate::unwind_data::ModuleUnwindData;
-use dwarf_frame_entries::{DebugFrame, EhFrame};
-use dwarf_read_core::{EndianSlice, LittleEndian};
-use framehop_modules::{ModuleSections, SectionBytes};
+use framehop_errors::UnwinderError;
+use framehop_modules::SectionBytes;
 use framehop_rows::DwarfUnwinding;
+use framehop_rules::aarch64::ArchAarch64;
+use framehop_rules::x86_64::ArchX86_64;
 use framehop_rules::{Arch, UnwindResult};
 use framehop_unwinder::{ModuleUnwinding, UnwindFailure};
 use std::marker::PhantomData;
+
+/// An architecture whose modules are unwound by their sections, in each format that is read.
+pub trait Unwinding: DwarfUnwinding {}
+
+impl Unwinding for ArchX86_64 {}
+
+impl Unwinding for ArchAarch64 {}
 
 /// The architecture `A`, if modules are unwound by their sections. Sections are values of `D`; `P` says
 /// whether a step may allocate.
@@ -25,22 +33,20 @@ pub struct BySections<A, D, P> {
     policy: PhantomData<P>,
 }
 
-impl<A: DwarfUnwinding, D: SectionBytes + Drop, P: AllocationPolicy> Arch for BySections<A, D, P> {
+impl<A: Unwinding, D: SectionBytes + Drop, P: AllocationPolicy> Arch for BySections<A, D, P> {
     type UnwindRegs = A::UnwindRegs;
 
     type UnwindRule = A::UnwindRule;
 }
 
-impl<A: DwarfUnwinding, D: SectionBytes + Drop, P: AllocationPolicy> ModuleUnwinding
+impl<A: Unwinding, D: SectionBytes + Drop, P: AllocationPolicy> ModuleUnwinding
     for BySections<A, D, P> {
     type UnwindData = ModuleUnwindData<D>;
 
     type UnwindContext = DwarfUnwindContext<P>;
 
-    ghost meanings = { let room = room_of P.GimliUnwindContextStorage.limits
-        P.GimliEvaluationStorage.Stack.capacity in
-        meanings_of A.UnwindRule.meaning A.UnwindRule.fallback
-        (attempt (row_meanings A.row_attempt A.uncovered) room) };
+    ghost meanings = { meanings_by A.UnwindRule.meaning A.UnwindRule.fallback A.rows
+        (step_limits P.GimliUnwindContextStorage.limits P.GimliEvaluationStorage.Stack.capacity) };
 
     ghost meaning_is = { refl };
 
@@ -49,10 +55,8 @@ impl<A: DwarfUnwinding, D: SectionBytes + Drop, P: AllocationPolicy> ModuleUnwin
     ghost takes_memory = { takes_memory P.GimliEvaluationStorage.Stack.is_made_in_place
         P.GimliEvaluationStorage.Stack.capacity };
 
-    ghost asks_memory = { λ given relative first.
-        let room = room_of P.GimliUnwindContextStorage.limits
-        P.GimliEvaluationStorage.Stack.capacity in
-        AsksExpression A.MeetsExpression room given relative };
+    ghost asks_memory = { AsksExpression A.MeetsExpression A.rows
+        (step_limits P.GimliUnwindContextStorage.limits P.GimliEvaluationStorage.Stack.capacity) };
 
     fn unwind_frame<F: FnMut(u64) -> Result<u64, ()>>(
         unwind_data: &ModuleUnwindData<D>,
@@ -62,43 +66,19 @@ impl<A: DwarfUnwinding, D: SectionBytes + Drop, P: AllocationPolicy> ModuleUnwin
         unwind_context: &mut DwarfUnwindContext<P>,
         read_stack: &mut F,
     ) -> Result<UnwindResult<A::UnwindRule>, UnwindFailure> {
-        let Some(lookup) = unwind_data.lookup() else {
-            return Err(UnwindFailure::OfModule);
+        let Some((section, lookup)) = unwind_data.call_frames() else {
+            return Err(failure_of(UnwinderError::NoModuleUnwindData));
         };
-        let bases = unwind_data.bases();
-        let base_svma = unwind_data.base_svma();
-        match unwind_data.sections() {
-            ModuleSections::EhFrame { eh_frame, .. } => {
-                let section = EhFrame::new(eh_frame.bytes(), LittleEndian);
-                unwind_frame_by_lookup::<A, P, EndianSlice<'_, LittleEndian>, _, F>(
-                    &section,
-                    bases,
-                    &lookup,
-                    base_svma,
-                    relative_address,
-                    is_first_frame,
-                    regs,
-                    unwind_context,
-                    read_stack,
-                )
-            }
-            ModuleSections::DebugFrame { debug_frame } => {
-                let section = DebugFrame::new(debug_frame.bytes(), LittleEndian);
-                unwind_frame_by_lookup::<A, P, EndianSlice<'_, LittleEndian>, _, F>(
-                    &section,
-                    bases,
-                    &lookup,
-                    base_svma,
-                    relative_address,
-                    is_first_frame,
-                    regs,
-                    unwind_context,
-                    read_stack,
-                )
-            }
-            ModuleSections::CompactUnwindInfoAndEhFrame { .. }
-            | ModuleSections::PeUnwindInfo { .. }
-            | ModuleSections::NoSections => Err(UnwindFailure::OfModule),
-        }
+        unwind_frame_by_call_frames::<A, P, F>(
+            section,
+            lookup,
+            unwind_data.bases(),
+            unwind_data.base_svma(),
+            regs,
+            is_first_frame,
+            relative_address,
+            unwind_context,
+            read_stack,
+        )
     }
 }

@@ -3,6 +3,8 @@
 ghost use Rattle.std.specs.Prelude.{◌≡◌, false, true, Some};
 ghost use Rattle.dwarf_frame_rows.specs.Effects.{TakesNoMemory, limits_of};
 ghost use Rattle.framehop_rows.specs.Memory.{TakesMemory, takes_memory};
+ghost use Rattle.framehop.specs.Attempts.{step_limits};
+ghost use Rattle.framehop.specs.StepMeanings.{limits_may_allocate, limits_must_not_allocate};
 
 use arrayvec::ArrayVec;
 use dwarf_expressions::EvaluationStorage;
@@ -93,16 +95,22 @@ impl EvaluationStorage for StoreOnStack {
 // The list of the values of an expression under a policy.
 type Values<P> = <<P as AllocationPolicy>::GimliEvaluationStorage as EvaluationStorage>::Stack;
 
-// The list of rows under a policy.
-type Rows<P> = <<P as AllocationPolicy>::GimliUnwindContextStorage as UnwindContextStorage<
-    usize,
->>::Stack;
+// The storage of rows under a policy.
+type Rows<P> = <P as AllocationPolicy>::GimliUnwindContextStorage;
 
-/// A law of [`MustNotAllocateDuringUnwind`]: there is room for 64 values of an expression and for 4
-/// rows, and no step allocates. The function does nothing when the program runs.
+/// A law of both policies: how many rows and rules of a row there is room for, and how many values of an
+/// expression. The function does nothing when the program runs.
+pub fn policies_set_limits()
+    ensures may { step_limits ⟦<Rows<MayAllocateDuringUnwind> as UnwindContextStorage<usize>>⟧.limits
+        ⟦<Values<MayAllocateDuringUnwind> as ArrayLike>⟧.capacity ≡ limits_may_allocate }
+    ensures must { step_limits
+        ⟦<Rows<MustNotAllocateDuringUnwind> as UnwindContextStorage<usize>>⟧.limits
+        ⟦<Values<MustNotAllocateDuringUnwind> as ArrayLike>⟧.capacity ≡ limits_must_not_allocate }
+{}
+
+/// A law of [`MustNotAllocateDuringUnwind`]: no step allocates. The function does nothing when the program
+/// runs.
 pub fn must_not_allocate_takes_no_memory()
-    ensures limit { ⟦<Values<MustNotAllocateDuringUnwind> as ArrayLike>⟧.capacity ≡ Some 64 }
-    ensures rows { ⟦<Rows<MustNotAllocateDuringUnwind> as ArrayLike>⟧.capacity ≡ Some 4 }
     ensures none { TakesMemory
         ⟦<Values<MustNotAllocateDuringUnwind> as ArrayLike>⟧.is_made_in_place
         ⟦<Values<MustNotAllocateDuringUnwind> as ArrayLike>⟧.capacity → ⊥ }

@@ -11,72 +11,15 @@ ghost use Rattle.dwarf_frame_entries.specs.SectionFdes.{whole_fdes};
 ghost use Rattle.framehop.specs.EntryFor.{index_refusal, indexed_entry};
 ghost use Rattle.framehop.specs.FrameSections.{eh_frame_of, debug_frame_of};
 ghost use Rattle.framehop.specs.CfiIndex.{index_entry, IsKept, IsMadeOf};
-ghost use Rattle.framehop.specs.declared.cfi_index.DwarfCfiIndexError.TheVariants.{OutOfMemory};
+ghost use Rattle.framehop_errors.specs.declared.cfi_index.DwarfCfiIndexError.TheVariants.{OutOfMemory};
 
 use dwarf_frame_entries::{
     BaseAddresses, CommonInformationEntry, DebugFrame, EhFrame, Entry, FrameDescriptionEntry,
     PartialFrameDescriptionEntry, UnwindOffset, UnwindSection,
 };
-use dwarf_read_core::{Error, LittleEndian, Reader, ReaderOffset};
+use dwarf_read_core::{LittleEndian, Reader, ReaderOffset};
+use framehop_errors::DwarfCfiIndexError;
 use std::alloc::{AllocError, Global};
-use std::{error, fmt};
-
-/// Why a section has no index. Its text is the variant's name.
-#[derive(Debug, Clone, Copy, PartialEq, Eq)]
-pub enum DwarfCfiIndexError {
-    /// An entry doesn't parse.
-    Gimli(Error),
-    /// An FDE's code starts below the base.
-    CouldNotSubtractBaseAddress,
-    /// An FDE's code starts 2^32 bytes or more above the base.
-    RelativeAddressTooBig,
-    /// An FDE is 2^32 bytes or more from the section's start.
-    FdeOffsetTooBig,
-    /// Out of memory.
-    OutOfMemory,
-}
-
-impl fmt::Display for DwarfCfiIndexError {
-    ghost use Rattle.framehop.specs.declared.cfi_index.DwarfCfiIndexError.TheVariants as error;
-
-    ghost output = { elim [
-      | error.Gimli _ ↦ Some (codes "Gimli")
-      | error.CouldNotSubtractBaseAddress ↦ Some (codes "CouldNotSubtractBaseAddress")
-      | error.RelativeAddressTooBig ↦ Some (codes "RelativeAddressTooBig")
-      | error.FdeOffsetTooBig ↦ Some (codes "FdeOffsetTooBig")
-      | error.OutOfMemory ↦ Some (codes "OutOfMemory")
-    ] };
-
-    fn fmt<W: fmt::Write>(&self, f: &mut fmt::Formatter<W>) -> fmt::Result {
-        f.write_str(match self {
-            DwarfCfiIndexError::Gimli(_) => "Gimli",
-            DwarfCfiIndexError::CouldNotSubtractBaseAddress => "CouldNotSubtractBaseAddress",
-            DwarfCfiIndexError::RelativeAddressTooBig => "RelativeAddressTooBig",
-            DwarfCfiIndexError::FdeOffsetTooBig => "FdeOffsetTooBig",
-            DwarfCfiIndexError::OutOfMemory => "OutOfMemory",
-        })
-    }
-}
-
-impl error::Error for DwarfCfiIndexError {}
-
-impl From<Error> for DwarfCfiIndexError {
-    ghost use Rattle.framehop.specs.declared.cfi_index.DwarfCfiIndexError.TheVariants.{Gimli};
-
-    ghost from_gives = { λ error result. result ≡ Gimli error };
-
-    fn from(error: Error) -> Self {
-        DwarfCfiIndexError::Gimli(error)
-    }
-}
-
-impl From<AllocError> for DwarfCfiIndexError {
-    ghost from_gives = { λ error result. result ≡ OutOfMemory };
-
-    fn from(_error: AllocError) -> Self {
-        DwarfCfiIndexError::OutOfMemory
-    }
-}
 
 // What the index keeps of an FDE.
 #[derive(Debug, Clone, Copy, PartialEq, Eq)]

@@ -7,7 +7,9 @@
 pub mod aarch64;
 mod arch;
 mod cache;
+mod call_frames;
 mod cfi_index;
+mod context;
 mod dwarf;
 pub mod histories;
 pub mod lookup_laws;
@@ -17,19 +19,24 @@ mod unwind_data;
 pub mod walk_laws;
 pub mod x86_64;
 
-pub use arch::BySections;
+pub use arch::{BySections, Unwinding};
 pub use cache::{
     AllocationPolicy, MayAllocateDuringUnwind, MustNotAllocateDuringUnwind, StoreOnStack,
-    must_not_allocate_takes_no_memory,
+    must_not_allocate_takes_no_memory, policies_set_limits,
 };
-pub use cfi_index::{DwarfCfiIndex, DwarfCfiIndexError, IndexLookup};
-pub use dwarf::DwarfUnwindContext;
+pub use cfi_index::{DwarfCfiIndex, IndexLookup};
+pub use context::DwarfUnwindContext;
+pub use dwarf::{DwarfUnwinder, UnwindSectionType};
 pub use dwarf_frame_entries::BaseAddresses;
+pub use framehop_errors::{
+    CompactFormatError, CompactUnwindInfoUnwinderError, DwarfCfiIndexError, DwarfUnwinderError,
+    PeUnwinderError, UnwinderError,
+};
 pub use framehop_modules::{
     ExplicitModuleSectionInfo, Generations, GenerationsExhausted, LoadError, ModuleSectionInfo,
     SectionBytes,
 };
-pub use framehop_rows::{DwarfUnwindRegs, DwarfUnwinderError, DwarfUnwinding};
+pub use framehop_rows::{DwarfUnwindRegs, DwarfUnwinding, eval_cfa_rule, eval_register_rule};
 pub use framehop_rules::{
     AddSigned, Arch, CacheHandle, CacheResult, CacheStats, Error, FrameAddress, HexNum, RuleCache,
     UnwindResult, UnwindRule, checked_add_signed, wrapping_add_signed,

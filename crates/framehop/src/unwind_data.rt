@@ -1,59 +1,81 @@
 //! The unwind data of a module.
 
-ghost use Rattle.std.specs.Prelude.{◌≡◌, ℕ, Some, IfOk, IfSome, IfNone, false};
-ghost use Rattle.std.specs.Option.{ForSome};
+ghost use Rattle.std.specs.Prelude.{◌≡◌, ℕ, List, IfOk, IfSome, IfNone};
 ghost use Rattle.framehop_modules.specs.ChosenViews.{sections_bytes};
 ghost use Rattle.dwarf_frame_rows.specs.FrameSection.{FrameSection};
 ghost use Rattle.framehop.specs.CfiIndex.{IsMadeOf};
-ghost use Rattle.framehop.specs.CfiIndexView.{IsIndexOf, IsIndexed, IsUnindexed};
-ghost use Rattle.framehop.specs.EntryFor.{has_index};
-ghost use Rattle.framehop.specs.LookupViews.{lookup_view, LeadsInto};
-ghost use Rattle.framehop.specs.Lookups.{ByIndex, ByHeader};
-ghost use Rattle.framehop.specs.UnwindData.{bases_of, lookup_among, lookup_of, scanned_data_of, section_among, section_of, unwind_data_of};
+ghost use Rattle.framehop.specs.CfiIndexView.{IsIndexOf};
+ghost use Rattle.framehop.specs.DwarfViews.{frame_section_bytes};
+ghost use Rattle.framehop.specs.FrameSections.{section_of_type};
+ghost use Rattle.dwarf_frame_rows.specs.declared.base_addresses.BaseAddresses.{BaseAddresses};
+ghost use Rattle.framehop.specs.Lookups.{ByIndex};
+ghost use Rattle.framehop.specs.UnwindData.{CallFrames, bases_of, format_of, scanned, scanned_data_of, unwind_data_of};
+ghost use Rattle.framehop.specs.UnwindDataViews.{AreFoundBy, IsIndexedBy, IsUnindexed, IsUnused, LeadsInto, entries_view, format_view, lookup_view};
 
-use crate::cfi_index::{DwarfCfiIndex, DwarfCfiIndexError};
-use crate::lookups::Lookup;
+use crate::cfi_index::DwarfCfiIndex;
+use crate::dwarf::UnwindSectionType;
 use dwarf_frame_entries::BaseAddresses;
+use framehop_errors::DwarfCfiIndexError;
 use framehop_modules::{BaseSvmas, ModuleSectionInfo, ModuleSections, SectionBytes};
 use std::alloc::{AllocError, Global};
 use std::marker::Model;
 
-/// The unwind data of a module: its sections, the base addresses of their pointers, the module's base as
-/// the file states it, and the index of its FDEs, unless they are found by a header or by reading the
-/// section at each step.
+// How the FDEs of a section are found.
+#[derive(Drop)]
+enum Entries<D> {
+    // By the table of the section's header.
+    Header(D),
+    // By an index of the section.
+    Index(DwarfCfiIndex),
+    // By an index, which the section doesn't have.
+    Unindexed,
+    // By reading the section from its first entry on.
+    Scan,
+}
+
+// What a module is unwound by.
+#[derive(Drop)]
+enum ModuleFormat<D> {
+    // A section of call frames.
+    CallFrames(UnwindSectionType<D>, Entries<D>),
+    // Nothing that is read.
+    NoFormat,
+}
+
+// How the FDE for an address is found, with what is lent for it.
+#[derive(Clone, Copy)]
+pub(crate) enum Lookup<'a> {
+    // By an index of the section.
+    Index(&'a DwarfCfiIndex),
+    // By the table of the section's header, which has these bytes.
+    Header(&'a [u8]),
+    // By reading the section from its first entry on.
+    Scan,
+}
+
+/// The unwind data of a module: what it is unwound by, the addresses that pointers in its sections are
+/// relative to, and the module's base as the file states it.
 #[derive(Drop)]
 pub struct ModuleUnwindData<D: SectionBytes> {
-    sections: ModuleSections<D>,
+    format: ModuleFormat<D>,
     bases: BaseAddresses,
     base_svma: u64,
-    index: Option<DwarfCfiIndex>,
-    is_scanned: bool,
 }
 
 impl<D: SectionBytes> Model for ModuleUnwindData<D> {
-    ghost use Rattle.framehop_modules.specs.ChosenViews.{sections_bytes};
-    ghost use Rattle.framehop.specs.CfiIndexView.{IsIndexed, IsUnindexed};
-    ghost use Rattle.std.specs.Prelude.{◌≡◌, false};
-    ghost use Rattle.framehop.specs.Lookups.{ByIndex};
-    ghost use Rattle.framehop.specs.UnwindData.{UnwindData, section_among, lookup_among};
+    ghost use Rattle.framehop.specs.UnwindData.{UnwindData};
+    ghost use Rattle.framehop.specs.UnwindDataViews.{IsIndexedBy, format_view};
 
     ghost Value = { UnwindData };
 
     ghost view = { λ given. record {
-      sections = sections_bytes D.content given.sections;
+      format = format_view D.content given.format;
       bases = given.bases;
       base_svma = given.base_svma;
-      is_scanned = given.is_scanned;
     } };
 
-    // the index is that of the section; and if FDEs are found by an index, there is none only if there is
-    // no section of call frames, or one that has no index
-    ghost invariant = { λ given.
-        let sections = sections_bytes D.content given.sections in
-        let section = section_among given.bases sections in
-        IsIndexed given.index given.base_svma section
-        × (given.is_scanned ≡ false → lookup_among sections ≡ ByIndex
-        → IsUnindexed given.index given.base_svma section) };
+    // an index is that of the section, and only a section that has none lacks one
+    ghost invariant = { λ given. IsIndexedBy D.content given.bases given.base_svma given.format };
 }
 
 // The addresses that pointers are relative to, by the starts of sections.
@@ -67,60 +89,78 @@ fn base_addresses(starts: &BaseSvmas) -> BaseAddresses
         .set_got(starts.got)
 }
 
-// The index of a section, if it has one. Fails if it failed to allocate.
-fn index_made(
-    index: Result<DwarfCfiIndex, DwarfCfiIndexError>,
-) -> Result<Option<DwarfCfiIndex>, AllocError>
+// The lookup by an index of a section, if it has one. Fails if the index failed to allocate.
+fn index_made<D>(index: Result<DwarfCfiIndex, DwarfCfiIndexError>) -> Result<Entries<D>, AllocError>
+    ensures view { (content : D → List ℕ)
+        → IfOk result (λ entries. entries_view content entries ≡ ByIndex) }
     ensures indexed { (base_svma : ℕ) (section : FrameSection)
         → IsMadeOf index IsIndexOf base_svma section
-        → IfOk result (λ index. IsIndexed index base_svma (Some section)) }
-    ensures unindexed { (base_svma : ℕ) (section : FrameSection)
-        → IsMadeOf index IsIndexOf base_svma section
-        → IfOk result (λ index. IsUnindexed index base_svma (Some section)) }
+        → IfOk result (AreFoundBy base_svma section) }
 {
     match index {
-        Ok(index) => Ok(Some(index)),
+        Ok(index) => Ok(Entries::Index(index)),
         Err(error) => match error {
             DwarfCfiIndexError::OutOfMemory => Err(AllocError),
-            _ => Ok(None),
+            _ => Ok(Entries::Unindexed),
         },
     }
 }
 
-// The index of the call frame information among a module's sections, if there is some, it has no header,
-// and it has an index. Sections of other kinds have none yet.
-fn index_among<D: SectionBytes>(
+// The format of a module with these sections. Makes an index of a section of call frames without a header;
+// fails if it fails to allocate it.
+fn format_with<D: SectionBytes + Drop>(
     alloc: Global,
-    sections: &ModuleSections<D>,
+    sections: ModuleSections<D>,
     bases: &BaseAddresses,
     base_svma: u64,
-) -> Result<Option<DwarfCfiIndex>, AllocError>
-    ensures indexed { IfOk result (λ index. IsIndexed index base_svma
-        (section_among bases.now (sections_bytes D.content sections.now))) }
-    ensures unindexed { IfOk result (λ index.
-        let sections = sections_bytes D.content sections.now in
-        lookup_among sections ≡ ByIndex
-        → IsUnindexed index base_svma (section_among bases.now sections)) }
+) -> Result<ModuleFormat<D>, AllocError>
+    ensures view { IfOk result (λ format.
+        format_view D.content format ≡ format_of (sections_bytes D.content sections)) }
+    ensures indexed { IfOk result (IsIndexedBy D.content bases.now base_svma) }
 {
     match sections {
         ModuleSections::EhFrame {
             eh_frame,
-            eh_frame_hdr: None,
+            eh_frame_hdr,
         } => {
-            let bytes = eh_frame.bytes();
-            index_made(DwarfCfiIndex::try_new_eh_frame(alloc, bytes, bases, base_svma))
+            let entries = match eh_frame_hdr {
+                Some(header) => Entries::Header(header),
+                None => {
+                    let bytes = eh_frame.bytes();
+                    let index = DwarfCfiIndex::try_new_eh_frame(alloc, bytes, bases, base_svma);
+                    index_made(index)?
+                }
+            };
+            Ok(ModuleFormat::CallFrames(UnwindSectionType::EhFrame(eh_frame), entries))
         }
         ModuleSections::DebugFrame { debug_frame } => {
             let bytes = debug_frame.bytes();
-            index_made(DwarfCfiIndex::try_new_debug_frame(alloc, bytes, bases, base_svma))
+            let index = DwarfCfiIndex::try_new_debug_frame(alloc, bytes, bases, base_svma);
+            let entries = index_made(index)?;
+            Ok(ModuleFormat::CallFrames(UnwindSectionType::DebugFrame(debug_frame), entries))
         }
-        ModuleSections::EhFrame {
-            eh_frame_hdr: Some(_),
-            ..
-        }
-        | ModuleSections::CompactUnwindInfoAndEhFrame { .. }
+        ModuleSections::CompactUnwindInfoAndEhFrame { .. }
         | ModuleSections::PeUnwindInfo { .. }
-        | ModuleSections::NoSections => Ok(None),
+        | ModuleSections::NoSections => Ok(ModuleFormat::NoFormat),
+    }
+}
+
+// The format of a module with these sections, if its section of call frames is read at each step.
+fn scanned_format<D: SectionBytes + Drop>(sections: ModuleSections<D>) -> ModuleFormat<D>
+    ensures view { format_view D.content result ≡ scanned (format_of (sections_bytes D.content sections)) }
+    ensures indexed { (bases : BaseAddresses) (base_svma : ℕ)
+        → IsIndexedBy D.content bases base_svma result }
+{
+    match sections {
+        ModuleSections::EhFrame { eh_frame, .. } => {
+            ModuleFormat::CallFrames(UnwindSectionType::EhFrame(eh_frame), Entries::Scan)
+        }
+        ModuleSections::DebugFrame { debug_frame } => {
+            ModuleFormat::CallFrames(UnwindSectionType::DebugFrame(debug_frame), Entries::Scan)
+        }
+        ModuleSections::CompactUnwindInfoAndEhFrame { .. }
+        | ModuleSections::PeUnwindInfo { .. }
+        | ModuleSections::NoSections => ModuleFormat::NoFormat,
     }
 }
 
@@ -135,13 +175,11 @@ impl<D: SectionBytes + Drop> ModuleUnwindData<D> {
         let bases = base_addresses(&BaseSvmas::of(info));
         let base_svma = info.base_svma();
         let sections = ModuleSections::choose(info);
-        let index = index_among(alloc, &sections, &bases, base_svma)?;
+        let format = format_with(alloc, sections, &bases, base_svma)?;
         Ok(ModuleUnwindData {
-            sections,
+            format,
             bases,
             base_svma,
-            index,
-            is_scanned: false,
         })
     }
 
@@ -152,40 +190,44 @@ impl<D: SectionBytes + Drop> ModuleUnwindData<D> {
     {
         let bases = base_addresses(&BaseSvmas::of(info));
         let base_svma = info.base_svma();
-        let sections = ModuleSections::choose(info);
+        let format = scanned_format(ModuleSections::choose(info));
         ModuleUnwindData {
-            sections,
+            format,
             bases,
             base_svma,
-            index: None,
-            is_scanned: true,
         }
     }
 }
 
-// The bytes of the header of a module's call frame information, if there is one.
-fn header_among<D: SectionBytes>(sections: &ModuleSections<D>) -> Option<&[u8]>
-    ensures some { IfSome result (λ header.
-        lookup_among (sections_bytes D.content sections.now) ≡ ByHeader header.now) }
-    ensures none { IfNone result (lookup_among (sections_bytes D.content sections.now) ≡ ByIndex) }
+// A section of call frames by its bytes.
+fn bytes_of<D: SectionBytes>(section: &UnwindSectionType<D>) -> UnwindSectionType<&[u8]>
+    ensures { frame_section_bytes (λ b. b.now) result ≡ frame_section_bytes D.content section.now }
 {
-    match sections {
-        ModuleSections::EhFrame {
-            eh_frame_hdr: Some(header),
-            ..
-        } => Some(header.bytes()),
-        _ => None,
+    match section {
+        UnwindSectionType::EhFrame(data) => UnwindSectionType::EhFrame(data.bytes()),
+        UnwindSectionType::DebugFrame(data) => UnwindSectionType::DebugFrame(data.bytes()),
+    }
+}
+
+// What is lent for finding FDEs; `None` if the index that they would be found by isn't there.
+fn lookup_by<D: SectionBytes>(entries: &Entries<D>) -> Option<Lookup<'_>>
+    ensures view { IfSome result (λ lookup.
+        lookup_view lookup ≡ entries_view D.content entries.now) }
+    ensures into { (base_svma : ℕ) (section : FrameSection)
+        → AreFoundBy base_svma section entries.now → IfSome result (LeadsInto base_svma section) }
+    ensures none { (base_svma : ℕ) (section : FrameSection)
+        → AreFoundBy base_svma section entries.now
+        → IfNone result (IsUnindexed base_svma section (entries_view D.content entries.now)) }
+{
+    match entries {
+        Entries::Header(header) => Some(Lookup::Header(header.bytes())),
+        Entries::Index(index) => Some(Lookup::Index(index)),
+        Entries::Scan => Some(Lookup::Scan),
+        Entries::Unindexed => None,
     }
 }
 
 impl<D: SectionBytes> ModuleUnwindData<D> {
-    // The sections.
-    pub(crate) fn sections(&self) -> &ModuleSections<D>
-        ensures { sections_bytes D.content result.now ≡ self.now.sections }
-    {
-        &self.sections
-    }
-
     // The addresses that pointers are relative to.
     pub(crate) fn bases(&self) -> &BaseAddresses
         ensures { result.now ≡ self.now.bases }
@@ -200,24 +242,20 @@ impl<D: SectionBytes> ModuleUnwindData<D> {
         self.base_svma
     }
 
-    // How the FDE for an address is found, if there is a way.
-    pub(crate) fn lookup(&self) -> Option<Lookup<'_>>
-        ensures some { IfSome result (λ lookup. lookup_view lookup ≡ lookup_of self.now) }
-        ensures into { IfSome result (λ lookup.
-            ForSome (section_of self.now) (λ section. LeadsInto self.now.base_svma section lookup)) }
-        ensures none { IfNone result (lookup_of self.now ≡ ByIndex) }
-        ensures unindexed { IfNone result (ForSome (section_of self.now)
-            (λ section. has_index self.now.base_svma section ≡ false)) }
+    // The section of call frames that the module is unwound by, and how its FDEs are found.
+    pub(crate) fn call_frames(&self) -> Option<(UnwindSectionType<&[u8]>, Lookup<'_>)>
+        ensures format { IfSome result (λ found. self.now.format
+            ≡ CallFrames (frame_section_bytes (λ b. b.now) found.0) (lookup_view found.1)) }
+        ensures into { IfSome result (λ found. LeadsInto self.now.base_svma
+            (section_of_type self.now.bases (frame_section_bytes (λ b. b.now) found.0)) found.1) }
+        ensures unused { IfNone result (IsUnused self.now.bases self.now.base_svma self.now.format) }
     {
-        if self.is_scanned {
-            return Some(Lookup::Scan);
-        }
-        if let Some(header) = header_among(&self.sections) {
-            return Some(Lookup::Header(header));
-        }
-        match &self.index {
-            Some(index) => Some(Lookup::Index(index)),
-            None => None,
+        match &self.format {
+            ModuleFormat::CallFrames(section, entries) => {
+                let lookup = lookup_by(entries)?;
+                Some((bytes_of(section), lookup))
+            }
+            ModuleFormat::NoFormat => None,
         }
     }
 }

@@ -5,7 +5,7 @@ use Rattle.framehop_registers.specs.Callback.{Words, read_answer}
 use Rattle.framehop_rules.specs.Outcome.{Caller}
 use Rattle.framehop_rules.specs.RuleMeaning.{caller_registers}
 use Rattle.framehop_registers.specs.declared.x86_64.unwindregs.UnwindRegsX86_64.{UnwindRegsX86_64}
-use Rattle.framehop_rows.specs.declared.dwarf.DwarfUnwinderError.{DwarfUnwinderError}
+use Rattle.framehop_errors.specs.declared.dwarf.DwarfUnwinderError.{DwarfUnwinderError}
 use Rattle.framehop_rows.specs.Columns.{Sources, cfa_by}
 use Rattle.framehop_rows.specs.DirectRow.{direct_return_address, direct_bp, direct_refusal, caller_unless, direct_by_return_address, direct_by_cfa, direct_by}
 use Rattle.framehop_rows.specs.RowSources.{word_below_cfa}

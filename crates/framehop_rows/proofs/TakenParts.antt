@@ -14,8 +14,8 @@ use Rattle.framehop_rules.specs.declared.unwind_result.UnwindResult.TheVariants.
 use Rattle.framehop_rows.specs.Memory.{HasExpressionPart}
 use Rattle.framehop_rows.specs.RowAttempt.{AnswersRow, DirectAnswer, MeetsExpressionPart, RowAttempt, RowTrial, Translates, attempt_by_parts, direct_trial, row_trial, rule_of_row, said_or_given}
 use Rattle.framehop_rows.specs.RowParts.{parts_as, parts_of}
-use Rattle.framehop_rows.specs.declared.dwarf.DwarfUnwinderError.{DwarfUnwinderError}
-use Rattle.framehop_rows.specs.declared.dwarf.DwarfUnwinderError.TheVariants.{OutOfMemory}
+use Rattle.framehop_errors.specs.declared.dwarf.DwarfUnwinderError.{DwarfUnwinderError}
+use Rattle.framehop_errors.specs.declared.dwarf.DwarfUnwinderError.TheVariants.{OutOfMemory}
 use Rattle.framehop_rows.specs.declared.parts.Parts.{Parts}
 
 -- the parts of a row whose expressions' places are numbers

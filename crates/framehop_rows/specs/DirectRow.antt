@@ -8,8 +8,8 @@ use Rattle.framehop_rules.specs.RuleMeaning.{caller_registers}
 use Rattle.framehop_registers.specs.declared.x86_64.unwindregs.UnwindRegsX86_64.{UnwindRegsX86_64}
 use Rattle.dwarf_readers.specs.Stretch.{Stretch}
 use Rattle.dwarf_frame_rows.specs.declared.rules.RegisterRule.{RegisterRule}
-use Rattle.framehop_rows.specs.declared.dwarf.DwarfUnwinderError.{DwarfUnwinderError}
-use Rattle.framehop_rows.specs.declared.dwarf.DwarfUnwinderError.TheVariants.{CouldNotRecoverCfa, CouldNotRecoverReturnAddress, DidNotAdvance, StackPointerMovedBackwards}
+use Rattle.framehop_errors.specs.declared.dwarf.DwarfUnwinderError.{DwarfUnwinderError}
+use Rattle.framehop_errors.specs.declared.dwarf.DwarfUnwinderError.TheVariants.{CouldNotRecoverCfa, CouldNotRecoverReturnAddress, DidNotAdvance, StackPointerMovedBackwards}
 use Rattle.framehop_rows.specs.Columns.{Sources, cfa_by, column_by}
 use Rattle.framehop_rows.specs.RowAnswer.{register_value}
 use Rattle.framehop_rows.specs.RowSources.{direct_sources, word_below_cfa}

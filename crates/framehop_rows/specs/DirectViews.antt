@@ -3,7 +3,7 @@ use Rattle.std.specs.Prelude.{Result, Ok, Err}
 use Rattle.framehop_rules.specs.Outcome.{Caller}
 use Rattle.framehop_rules.specs.RuleMeaning.{caller_registers}
 use Rattle.framehop_registers.specs.declared.x86_64.unwindregs.UnwindRegsX86_64.{UnwindRegsX86_64}
-use Rattle.framehop_rows.specs.declared.dwarf.DwarfUnwinderError.{DwarfUnwinderError}
+use Rattle.framehop_errors.specs.declared.dwarf.DwarfUnwinderError.{DwarfUnwinderError}
 use Rattle.framehop_rows.specs.declared.x86_64.dwarf.DirectCaller.{DirectCaller}
 
 -- the caller's return address and registers, by those of the frame

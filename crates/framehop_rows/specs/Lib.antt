@@ -10,6 +10,8 @@ pub mod RowAnswerAarch64
 pub mod RowAttempt
 pub mod RowAttemptAarch64
 pub mod RowAttemptX86_64
+pub mod RowErrors
+pub mod RowMeanings
 pub mod RowParts
 pub mod RowSources
 pub mod RuleFields

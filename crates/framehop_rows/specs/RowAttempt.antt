@@ -7,8 +7,8 @@ use Rattle.framehop_rules.specs.UnwindResults.{KeepsUnlessDirect}
 use Rattle.framehop_rules.specs.declared.unwind_result.UnwindResult.{UnwindResult}
 use Rattle.framehop_rules.specs.declared.unwind_result.UnwindResult.TheVariants.{ExecRule, Uncacheable}
 use Rattle.framehop_rows.specs.Memory.{HasExpressionPart}
-use Rattle.framehop_rows.specs.declared.dwarf.DwarfUnwinderError.{DwarfUnwinderError}
-use Rattle.framehop_rows.specs.declared.dwarf.DwarfUnwinderError.TheVariants as why
+use Rattle.framehop_errors.specs.declared.dwarf.DwarfUnwinderError.{DwarfUnwinderError}
+use Rattle.framehop_errors.specs.declared.dwarf.DwarfUnwinderError.TheVariants as why
 use Rattle.framehop_rows.specs.declared.parts.Parts.{Parts}
 
 -- An attempt at a step by a row: by an unwind rule that says the row exactly; or the caller that the row gives by itself, from the

@@ -1,11 +1,14 @@
 -- The attempt at a step by a row of call frames, on aarch64.
 use Rattle.std.specs.Prelude.{ℕ, Bool, Option}
+use Rattle.dwarf_constants.specs.declared.common.Vendor.TheVariants.{Default}
 use Rattle.dwarf_readers.specs.Stretch.{Stretch}
 use Rattle.dwarf_frame_rows.specs.Row.{Row}
 use Rattle.framehop_registers.specs.declared.aarch64.unwindregs.UnwindRegsAarch64.{UnwindRegsAarch64}
 use Rattle.framehop_rules.specs.declared.aarch64.unwind_rule.UnwindRuleAarch64.{UnwindRuleAarch64}
+use Rattle.framehop_rules.specs.declared.aarch64.unwind_rule.UnwindRuleAarch64.TheVariants.{NoOpIfFirstFrameOtherwiseFp}
 use Rattle.framehop_rows.specs.DirectRowAarch64.{direct_answer}
 use Rattle.framehop_rows.specs.RowAttempt.{RowAttempt, attempt_by_parts, MeetsExpressionPart}
+use Rattle.framehop_rows.specs.RowMeanings.{RowMeanings, row_meanings}
 use Rattle.framehop_rows.specs.RowParts.{parts_of}
 use Rattle.framehop_rows.specs.ScaledRowAarch64.{X29, X30, scaled_rule}
 
@@ -17,3 +20,8 @@ row_attempt first values address_size section row =
 -- no rule says the row, and one of its parts is an expression
 abbrev pub MeetsExpression : Row ℕ → Type 0
 MeetsExpression row = MeetsExpressionPart scaled_rule (parts_of X29 X30 row)
+
+-- what call frames mean: code that no row covers has the rule of a first frame without a frame of its own, or of the frame pointer; no
+-- vendor's extensions are read
+abbrev pub rows : RowMeanings UnwindRuleAarch64 UnwindRegsAarch64
+rows = row_meanings row_attempt NoOpIfFirstFrameOtherwiseFp Default

@@ -125,8 +125,10 @@ fn offset_value<G: DwarfUnwindRegs>(register: Register, offset: i64, regs: &G) -
     offset_sum(regs.get(register)?, offset)
 }
 
-// The canonical frame address, if it has a value. Only the values of an expression may allocate.
-pub(crate) fn eval_cfa_rule<
+/// The canonical frame address (DWARF 5, 6.4.1), if it has a value: a register of the frame plus an offset in
+/// bytes, or the value of an expression. Addresses have the size that `encoding` says. Only the values of an
+/// expression may allocate.
+pub fn eval_cfa_rule<
     S: EvaluationStorage,
     R: Reader,
     Section: _UnwindSectionPrivate<R>,
@@ -222,9 +224,10 @@ fn read_found<F: FnMut(u64) -> Result<u64, ()>>(found: Found, read_stack: &mut F
     }
 }
 
-// The value that a register rule gives at a CFA, if there is a rule and it gives one; `own` is the
-// register's value in the frame. Only the values of an expression may allocate.
-pub(crate) fn eval_register_rule<
+/// The value that a register rule (DWARF 5, 6.4.1) gives at a CFA, if there is a rule and it gives one; `own` is
+/// the register's value in the frame. `read_stack` reads a word of the stack at an address. Only the values of
+/// an expression may allocate.
+pub fn eval_register_rule<
     S: EvaluationStorage,
     R: Reader,
     Section: _UnwindSectionPrivate<R>,
@@ -235,8 +238,8 @@ pub(crate) fn eval_register_rule<
     section: &Section,
     rule: Option<RegisterRule<R::Offset>>,
     cfa: u64,
-    own: u64,
     encoding: Encoding,
+    own: u64,
     regs: &G,
     read_stack: &mut F,
 ) -> Result<Option<u64>, AllocError>

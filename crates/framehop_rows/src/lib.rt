@@ -10,5 +10,5 @@ mod rows;
 mod rule_fields;
 pub mod x86_64;
 
-pub use dwarf::{DwarfUnwinderError, DwarfUnwinding};
-pub use evaluation::DwarfUnwindRegs;
+pub use dwarf::DwarfUnwinding;
+pub use evaluation::{DwarfUnwindRegs, eval_cfa_rule, eval_register_rule};

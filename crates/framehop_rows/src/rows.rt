@@ -1,23 +1,24 @@
 //! Steps by the parts of rows, on any architecture.
 
-ghost use Rattle.std.specs.Prelude.{◌≡◌, ◌≢◌, ℕ, Option, Err, IfSome, OnErr};
+ghost use Rattle.std.specs.Prelude.{◌≡◌, ◌≢◌, ℕ, Option, Err, IfErr, IfSome, OnErr};
 ghost use Rattle.dwarf_constants.specs.declared.common.Register.{Register};
 ghost use Rattle.dwarf_frame_instructions.specs.Execution.{row_in};
 ghost use Rattle.framehop_registers.specs.Callback.{OverWords};
 ghost use Rattle.framehop_rules.specs.UnwindResults.{HasValidRule};
 ghost use Rattle.framehop_rows.specs.Memory.{HasExpressionPart, TakesMemory};
 ghost use Rattle.framehop_rows.specs.RowAttempt.{AnswersRow, DirectAnswer, MeetsExpressionPart, attempt_by_parts, direct_trial};
+ghost use Rattle.framehop_rows.specs.RowErrors.{IsOfRow};
 ghost use Rattle.framehop_rows.specs.RowParts.{parts_as, parts_of};
-ghost use Rattle.framehop_rows.specs.declared.dwarf.DwarfUnwinderError.TheVariants.{OutOfMemory};
+ghost use Rattle.framehop_errors.specs.declared.dwarf.DwarfUnwinderError.TheVariants.{OutOfMemory};
 ghost use Rattle.framehop_rows.specs.declared.parts.Parts.{Parts};
 
-use crate::dwarf::DwarfUnwinderError;
 use crate::parts::{Parts, parts_of_row};
 use dwarf_constants::{Encoding, Register};
 use dwarf_expressions::EvaluationStorage;
 use dwarf_frame_rows::{_UnwindSectionPrivate, RegisterRule, RuledRegister, UnwindTableRow};
 use dwarf_readers::{Reader, ReaderOffset};
 use dwarf_storage::ArrayLike;
+use framehop_errors::DwarfUnwinderError;
 use framehop_rules::{Arch, UnwindResult};
 use std::alloc::Global;
 
@@ -60,8 +61,8 @@ pub(crate) trait PartsUnwinding: Arch {
         section: &Section,
         parts: &Parts<R::Offset>,
         encoding: Encoding,
-        is_first_frame: bool,
         regs: &mut Self::UnwindRegs,
+        is_first_frame: bool,
         read_stack: &mut F,
     ) -> Result<u64, DwarfUnwinderError>
         requires { F.IsAlwaysCallable read_stack.old }
@@ -71,6 +72,7 @@ pub(crate) trait PartsUnwinding: Arch {
             (direct_answer S.Stack.capacity encoding.address_size is_first_frame regs.old words
             (R.stretch (Section.reader section.now)) (parts_as R.Offset.value parts.now))) }
         ensures keeps { OnErr result (regs.new ≡ regs.old) }
+        ensures refusals { IfErr result IsOfRow }
         ensures expression { result ≡ Err OutOfMemory
             → HasExpressionPart (parts_as R.Offset.value parts.now) }
         ensures memory { result ≡ Err OutOfMemory
@@ -91,8 +93,8 @@ pub(crate) fn unwind_frame_by_row<
     section: &Section,
     row: &UnwindTableRow<R::Offset, Rules>,
     encoding: Encoding,
-    is_first_frame: bool,
     regs: &mut A::UnwindRegs,
+    is_first_frame: bool,
     read_stack: &mut F,
 ) -> Result<UnwindResult<A::UnwindRule>, DwarfUnwinderError>
     requires { F.IsAlwaysCallable read_stack.old }
@@ -102,6 +104,7 @@ pub(crate) fn unwind_frame_by_row<
         encoding.address_size (R.stretch (Section.reader section.now))
         (parts_of A.frame_pointer A.return_address (row_in R.Offset.value row.now))) }
     ensures valid { HasValidRule A.UnwindRule.is_valid result }
+    ensures refusals { IfErr result IsOfRow }
     ensures expression { result ≡ Err OutOfMemory → MeetsExpressionPart A.scaled_rule
         (parts_of A.frame_pointer A.return_address (row_in R.Offset.value row.now)) }
     ensures memory { result ≡ Err OutOfMemory
@@ -116,8 +119,8 @@ pub(crate) fn unwind_frame_by_row<
         section,
         &parts,
         encoding,
-        is_first_frame,
         regs,
+        is_first_frame,
         read_stack,
     ) {
         Ok(return_address) => Ok(UnwindResult::Uncacheable(return_address)),

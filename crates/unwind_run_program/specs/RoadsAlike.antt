@@ -1,9 +1,10 @@
 -- When a step writes the same line by each lookup.
-use Rattle.std.specs.Prelude.{◌≡◌, ℕ, List, [], ◌∷◌, ◌++◌, Option, codes, true}
+use Rattle.std.specs.Prelude.{◌≡◌, ℕ, List, [], ◌∷◌, ◌++◌, codes, true}
 use Rattle.std.specs.List.{Contains}
 use Rattle.dwarf_frame_entries.specs.Entries.{Fde, contains}
 use Rattle.dwarf_frame_entries.specs.SectionFdes.{whole_fdes}
 use Rattle.dwarf_frame_rows.specs.declared.base_addresses.BaseAddresses.{BaseAddresses}
+use Rattle.framehop.specs.Attempts.{StepLimits}
 use Rattle.framehop.specs.FrameSections.{eh_frame_of}
 use Rattle.framehop.specs.TruthfulLookups.{AreTruthful, HeadedSection}
 use Rattle.framehop.specs.UnwindData.{UnwindData, bases_of}
@@ -43,8 +44,8 @@ address_looked_up steps = lookup_address (frame_at steps.kind steps.address)
 abbrev pub scan_line : {Rule Registers : Type 0} → Meanings UnwindData Rule Registers → RegisterForms Registers → RoadSteps → List ℕ
 scan_line m forms steps = road_line m forms steps (data_stated.scanned steps.tables.base_svma (stated_section steps.tables ∷ []))
 
--- However many values an expression has room for, each lookup writes the line of the step that reads the section.
-abbrev pub WriteAlike : {Rule Registers : Type 0} → (Option ℕ → Meanings UnwindData Rule Registers) → RoadSteps → Type 0
+-- Within any limits, each lookup writes the line of the step that reads the section.
+abbrev pub WriteAlike : {Rule Registers : Type 0} → (StepLimits → Meanings UnwindData Rule Registers) → RoadSteps → Type 0
 WriteAlike {Registers} meanings steps =
-    (limit : Option ℕ) (forms : RegisterForms Registers)
-    → road_lines (meanings limit) forms data_stated steps ≡ named_alike (scan_line (meanings limit) forms steps)
+    (limits : StepLimits) (forms : RegisterForms Registers)
+    → road_lines (meanings limits) forms data_stated steps ≡ named_alike (scan_line (meanings limits) forms steps)

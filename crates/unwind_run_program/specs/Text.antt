@@ -1,30 +1,16 @@
 -- What a run writes for a document: the lines of each step, walk and count and of the steps by each lookup, or the line of the
 -- document's first fault.
-use Rattle.std.specs.Prelude.{ℕ, Bool, ◌-◌, ◌/◌, ◌%◌, List, [], ◌∷◌, ◌++◌, ◌&&◌, length, codes, Option, Some, None, Result, Ok, Err, slice_get, ◌==◌, nat_le, if◌then◌else◌}
+use Rattle.std.specs.Prelude.{ℕ, Bool, ◌-◌, ◌/◌, ◌%◌, List, [], ◌∷◌, ◌++◌, ◌&&◌, length, codes, None, Result, Ok, Err, slice_get, ◌==◌, nat_le, if◌then◌else◌}
 use Rattle.json_program.specs.Faults.{fault_line}
 use Rattle.json_program.specs.Lines.{line}
 use Rattle.json_program.specs.declared.fault.Fault.{Fault}
 use Rattle.json_program.specs.declared.status.Outcome.{Outcome as RunOutcome}
 use Rattle.json_program.specs.declared.status.Outcome.TheVariants.{Completed, Faulted}
 use Rattle.framehop_registers.specs.Callback.{Words}
-use Rattle.framehop_registers.specs.declared.aarch64.unwindregs.UnwindRegsAarch64.{UnwindRegsAarch64}
-use Rattle.framehop_registers.specs.declared.x86_64.unwindregs.UnwindRegsX86_64.{UnwindRegsX86_64}
-use Rattle.framehop_rules.specs.Outcome.{Outcome, Caller}
-use Rattle.framehop_rules.specs.RuleMeaning.{rule_meaning}
-use Rattle.framehop_rules.specs.RuleMeaningAarch64 as aarch64
-use Rattle.framehop_rules.specs.declared.aarch64.unwind_rule.UnwindRuleAarch64.{UnwindRuleAarch64}
-use Rattle.framehop_rules.specs.declared.aarch64.unwind_rule.UnwindRuleAarch64.TheVariants as aarch64_rule
-use Rattle.framehop_rules.specs.declared.x86_64.unwind_rule.UnwindRuleX86_64.{UnwindRuleX86_64}
-use Rattle.framehop_rules.specs.declared.x86_64.unwind_rule.UnwindRuleX86_64.TheVariants.{UseFramePointer, JustReturnIfFirstFrameOtherwiseFp}
-use Rattle.framehop_unwinder.specs.Attempt.{Meanings, meanings_of}
-use Rattle.dwarf_frame_rows.specs.Effects.{limits_of}
-use Rattle.dwarf_frame_rows.specs.Row.{Row}
-use Rattle.dwarf_readers.specs.Stretch.{Stretch}
-use Rattle.framehop.specs.Coverage.{row_meanings}
-use Rattle.framehop_rows.specs.RowAttempt.{RowAttempt}
-use Rattle.framehop_rows.specs.RowAttemptAarch64 as aarch64_row
-use Rattle.framehop_rows.specs.RowAttemptX86_64.{row_attempt}
-use Rattle.framehop.specs.UnwindData.{UnwindData, attempt, room_of}
+use Rattle.framehop_unwinder.specs.Attempt.{Meanings}
+use Rattle.framehop.specs.Attempts.{StepLimits}
+use Rattle.framehop.specs.StepMeanings.{limits_may_allocate, limits_must_not_allocate, meanings_aarch64, meanings_x86_64}
+use Rattle.framehop.specs.UnwindData.{UnwindData}
 use Rattle.unwind_run_program.specs.Sections.{DataForms, data_stated}
 use Rattle.framehop_unwinder.specs.Frames.{Frame, first_frame, later_frame}
 use Rattle.framehop_unwinder.specs.Judge.{judge}
@@ -58,10 +44,10 @@ abbrev pub frame_at : FrameKind → ℕ → Frame
 frame_at Ip address = first_frame address
 frame_at Ra address = later_frame address
 
--- how many values of an expression there is room for under a policy: `may` has no limit
-abbrev pub value_limit : Policy → Option ℕ
-value_limit May = None
-value_limit Must = Some 64
+-- the limits of a policy
+abbrev pub limits_of_policy : Policy → StepLimits
+limits_of_policy May = limits_may_allocate
+limits_of_policy Must = limits_must_not_allocate
 
 -- the module that a command loads, with the unwind data of its sections
 abbrev pub loaded_by : {Data : Type 0} → DataForms Data → Loading → Loaded Data
@@ -122,36 +108,19 @@ lines_of m forms data_of model (task ∷ tasks) =
 abbrev pub made_in : {Data Rule : Type 0} → SessionState Data Rule → Made
 made_in state = record { unwinders = length state.unwinders; caches = length state.caches }
 
--- what steps go by, with a limit on the values of an expression, if there is one: rows have room for the rules of 192 registers, and
--- there is room for 4 rows
-abbrev pub sections_meanings : {Rule Registers : Type 0} → (Rule → Bool → Registers → Words → Outcome (Caller Registers)) → Rule
-    → (Bool → Option ℕ → ℕ → Stretch → Row ℕ → RowAttempt Rule Registers) → Rule → Option ℕ → Meanings UnwindData Rule Registers
-sections_meanings meaning fallback row_attempt uncovered limit =
-    meanings_of meaning fallback (attempt (row_meanings row_attempt uncovered) (room_of (limits_of (Some 192) (Some 4)) limit))
-
--- what steps on x86_64 go by
-abbrev pub meanings_x86_64 : Option ℕ → Meanings UnwindData UnwindRuleX86_64 UnwindRegsX86_64
-meanings_x86_64 limit = sections_meanings rule_meaning UseFramePointer row_attempt JustReturnIfFirstFrameOtherwiseFp limit
-
--- what steps on aarch64 go by
-abbrev pub meanings_aarch64 : Option ℕ → Meanings UnwindData UnwindRuleAarch64 UnwindRegsAarch64
-meanings_aarch64 limit =
-    sections_meanings aarch64.rule_meaning aarch64_rule.UseFramePointer aarch64_row.row_attempt
-    aarch64_rule.NoOpIfFirstFrameOtherwiseFp limit
-
--- the lines of commands by what steps go by under a limit on the values of an expression, from a generation on
-abbrev pub lines_under : {Rule Registers : Type 0} → (Option ℕ → Meanings UnwindData Rule Registers) → RegisterForms Registers
-    → Option ℕ → ℕ → List Task → List ℕ
-lines_under meanings forms limit generation tasks = lines_of (meanings limit) forms data_stated (beginning generation) tasks
+-- the lines of commands by what steps go by within limits, from a generation on
+abbrev pub lines_under : {Rule Registers : Type 0} → (StepLimits → Meanings UnwindData Rule Registers) → RegisterForms Registers
+    → StepLimits → ℕ → List Task → List ℕ
+lines_under meanings forms limits generation tasks = lines_of (meanings limits) forms data_stated (beginning generation) tasks
 
 -- the lines of commands on an architecture, from a generation on
-abbrev pub lines_on : Architecture → Option ℕ → ℕ → List Task → List ℕ
-lines_on arch.X86_64 limit generation tasks = lines_under meanings_x86_64 forms_x86_64 limit generation tasks
-lines_on arch.Aarch64 limit generation tasks = lines_under meanings_aarch64 forms_aarch64 limit generation tasks
+abbrev pub lines_on : Architecture → StepLimits → ℕ → List Task → List ℕ
+lines_on arch.X86_64 limits generation tasks = lines_under meanings_x86_64 forms_x86_64 limits generation tasks
+lines_on arch.Aarch64 limits generation tasks = lines_under meanings_aarch64 forms_aarch64 limits generation tasks
 
--- the lines of a document's commands: its policy limits the values of an expression, its counter begins with its generation
+-- the lines of a document's commands: its policy sets the limits, its counter begins with its generation
 abbrev pub content_lines : Content → List ℕ
-content_lines content = lines_on content.arch (value_limit content.policy) content.generation content.tasks
+content_lines content = lines_on content.arch (limits_of_policy content.policy) content.generation content.tasks
 
 -- what is written for the commands of a document, or for its fault
 abbrev pub answer_to : Result Content Fault → List ℕ

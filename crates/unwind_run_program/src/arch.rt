@@ -3,7 +3,7 @@
 ghost use Rattle.std.specs.Prelude.{◌≡◌, Some, IfOk, string_bytes};
 ghost use Rattle.unwind_run_program.specs.Registers.{RegisterForms};
 
-use framehop::DwarfUnwinding;
+use framehop::Unwinding;
 use framehop_rules::aarch64::{ArchAarch64, PtrAuthMask, UnwindRegsAarch64};
 use framehop_rules::x86_64::{ArchX86_64, UnwindRegsX86_64};
 use std::alloc::{AllocError, Global};
@@ -11,7 +11,7 @@ use std::fmt;
 use unwind_run_document::StatedRegisters;
 
 /// An architecture, by how documents state its registers and how these are written.
-pub(crate) trait DocumentArch: DwarfUnwinding {
+pub(crate) trait DocumentArch: Unwinding {
     ghost forms: { RegisterForms Self.UnwindRegs };
 
     /// The registers that are stated.

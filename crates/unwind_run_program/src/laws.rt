@@ -2,17 +2,16 @@
 
 ghost use Rattle.unwind_run_document.specs.Tasks.{RoadSteps};
 ghost use Rattle.unwind_run_program.specs.RoadsAlike.{Covers, WriteAlike, address_looked_up};
-ghost use Rattle.unwind_run_program.specs.Text.{sections_meanings};
+ghost use Rattle.framehop.specs.StepMeanings.{meanings_by};
 
 use framehop::DwarfUnwinding;
-use framehop::lookup_laws::truthful_lookups_cover_alike;
+use framehop::lookup_laws::truthful_lookups_attempt_alike;
 
 /// Under a truthful header, and at an address that an FDE of the section contains, the lines of `roads`
 /// are one line: that of the step by reading the section.
 pub fn truthful_lookups_write_alike<A: DwarfUnwinding>()
     ensures { (steps : RoadSteps) → Covers steps.tables (address_looked_up steps)
-        → WriteAlike (sections_meanings A.UnwindRule.meaning A.UnwindRule.fallback
-        A.row_attempt A.uncovered) steps }
+        → WriteAlike (meanings_by A.UnwindRule.meaning A.UnwindRule.fallback A.rows) steps }
 {
-    truthful_lookups_cover_alike();
+    truthful_lookups_attempt_alike::<A>();
 }

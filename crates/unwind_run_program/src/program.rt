@@ -7,7 +7,8 @@ ghost use Rattle.unwind_run_session.specs.Outputs.{beginning};
 ghost use Rattle.unwind_run_document.specs.Sound.{AreSound};
 ghost use Rattle.unwind_run_document.specs.Document.{nothing_made};
 ghost use Rattle.unwind_run_document.specs.CommandViews.{content_view, tasks_of};
-ghost use Rattle.unwind_run_program.specs.Text.{text_of, ending_of, content_lines, lines_of, lines_under, sections_meanings, value_limit};
+ghost use Rattle.framehop.specs.StepMeanings.{meanings_by};
+ghost use Rattle.unwind_run_program.specs.Text.{text_of, ending_of, content_lines, lines_of, lines_under, limits_of_policy};
 
 use crate::arch::DocumentArch;
 use crate::perform::{DocumentModules, perform};
@@ -110,8 +111,8 @@ fn run_on<A: DocumentArch, W: Sink>(
     requires writer { W.has_failed writer.old ≡ false }
     requires sound { AreSound nothing_made (tasks_of commands.items) }
     ensures text { WritesText result (W.contents writer.old) (W.contents writer.new) (lines_under
-        (sections_meanings A.UnwindRule.meaning A.UnwindRule.fallback A.row_attempt A.uncovered)
-        A.forms (value_limit policy) generation (tasks_of commands.items)) }
+        (meanings_by A.UnwindRule.meaning A.UnwindRule.fallback A.rows)
+        A.forms (limits_of_policy policy) generation (tasks_of commands.items)) }
     ensures errors { ReportsFailures result false (W.has_failed writer.new) }
 {
     match policy {

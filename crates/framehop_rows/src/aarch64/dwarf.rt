@@ -1,6 +1,6 @@
 //! The rows of aarch64: as unwind rules, or evaluated.
 
-ghost use Rattle.std.specs.Prelude.{◌≡◌, ◌≢◌, ◌&&◌, Err, not, nat_le};
+ghost use Rattle.std.specs.Prelude.{◌≡◌, ◌≢◌, ◌&&◌, Err, IfErr, not, nat_le};
 ghost use Rattle.framehop_registers.specs.Callback.{OverWords};
 ghost use Rattle.framehop_registers.specs.RegistersAarch64.{sp_of};
 ghost use Rattle.framehop_rules.specs.RuleMeaningAarch64.{rule_meaning, caller_registers};
@@ -8,23 +8,25 @@ ghost use Rattle.framehop_rows.specs.DirectRowAarch64.{direct_answer, restored};
 ghost use Rattle.framehop_rows.specs.DirectViewsAarch64.{caller_shown};
 ghost use Rattle.framehop_rows.specs.Memory.{HasExpressionPart, TakesMemory};
 ghost use Rattle.framehop_rows.specs.RowAnswerAarch64.{row_answer, register_value};
+ghost use Rattle.framehop_rows.specs.RowErrors.{IsOfRow};
 ghost use Rattle.framehop_rows.specs.RowParts.{parts_as};
 ghost use Rattle.framehop_rows.specs.RuleLaws.{RulesAnswerAsRows};
 ghost use Rattle.framehop_rows.specs.ScaledRowAarch64.{saved_by, raised_sp, restored_lr, restored_both, from_sp, restored_from_fp, followed_fp, from_fp, scaled_rule};
-ghost use Rattle.framehop_rows.specs.declared.dwarf.DwarfUnwinderError.TheVariants.{OutOfMemory};
+ghost use Rattle.framehop_errors.specs.declared.dwarf.DwarfUnwinderError.TheVariants.{OutOfMemory};
 
-use crate::dwarf::{DwarfUnwinderError, DwarfUnwinding};
+use crate::dwarf::DwarfUnwinding;
 use crate::evaluation::{DwarfUnwindRegs, eval_cfa_rule, eval_register_rule};
 use crate::parts::Parts;
 use crate::rows::{PartsUnwinding, unwind_frame_by_row};
 use crate::rule_fields::{unsigned_pairs, unsigned_words, words_from_base};
-use dwarf_constants::{AArch64, Encoding, Register};
+use dwarf_constants::{AArch64, Encoding, Register, Vendor};
 use dwarf_expressions::EvaluationStorage;
 use dwarf_frame_rows::{
     _UnwindSectionPrivate, CfaRule, RegisterRule, RuledRegister, UnwindTableRow,
 };
 use dwarf_readers::{Reader, ReaderOffset};
 use dwarf_storage::ArrayLike;
+use framehop_errors::DwarfUnwinderError;
 use framehop_rules::UnwindResult;
 use framehop_rules::aarch64::{ArchAarch64, UnwindRegsAarch64, UnwindRuleAarch64};
 use std::alloc::Global;
@@ -205,6 +207,7 @@ fn eval_parts<
         result ≢ Err OutOfMemory → caller_shown result
         ≡ direct_answer S.Stack.capacity encoding.address_size is_first_frame regs.now words
         (R.stretch (Section.reader section.now)) (parts_as R.Offset.value parts.now)) }
+    ensures refusals { IfErr result IsOfRow }
     ensures expression { result ≡ Err OutOfMemory
         → HasExpressionPart (parts_as R.Offset.value parts.now) }
     ensures memory { result ≡ Err OutOfMemory
@@ -219,14 +222,14 @@ fn eval_parts<
     }
     let own_fp = regs.fp();
     let stored_fp = eval_register_rule::<S, R, Section, _, F>(
-        alloc, section, parts.fp, cfa, own_fp, encoding, regs, read_stack,
+        alloc, section, parts.fp, cfa, encoding, own_fp, regs, read_stack,
     )?;
     let Some(fp) = restored(is_first_frame, own_fp, stored_fp) else {
         return Err(DwarfUnwinderError::CouldNotRecoverFramePointer);
     };
     let own_lr = regs.lr();
     let stored_lr = eval_register_rule::<S, R, Section, _, F>(
-        alloc, section, parts.ra, cfa, own_lr, encoding, regs, read_stack,
+        alloc, section, parts.ra, cfa, encoding, own_lr, regs, read_stack,
     )?;
     let Some(lr) = restored(is_first_frame, own_lr, stored_lr) else {
         return Err(DwarfUnwinderError::CouldNotRecoverReturnAddress);
@@ -278,8 +281,8 @@ impl PartsUnwinding for ArchAarch64 {
         section: &Section,
         parts: &Parts<R::Offset>,
         encoding: Encoding,
-        is_first_frame: bool,
         regs: &mut UnwindRegsAarch64,
+        is_first_frame: bool,
         read_stack: &mut F,
     ) -> Result<u64, DwarfUnwinderError> {
         match eval_parts::<S, R, Section, F>(
@@ -301,14 +304,11 @@ impl PartsUnwinding for ArchAarch64 {
 }
 
 impl DwarfUnwinding for ArchAarch64 {
-    ghost use Rattle.framehop_rows.specs.RowAttemptAarch64.{row_attempt, MeetsExpression};
-    ghost use Rattle.framehop_rules.specs.declared.aarch64.unwind_rule.UnwindRuleAarch64.TheVariants.{NoOpIfFirstFrameOtherwiseFp};
+    ghost use Rattle.framehop_rows.specs.RowAttemptAarch64.{rows, MeetsExpression};
 
-    ghost row_attempt = { row_attempt };
+    ghost rows = { rows };
 
     ghost MeetsExpression = { MeetsExpression };
-
-    ghost uncovered = { NoOpIfFirstFrameOtherwiseFp };
 
     fn unwind_frame<
         S: EvaluationStorage,
@@ -321,8 +321,8 @@ impl DwarfUnwinding for ArchAarch64 {
         section: &Section,
         row: &UnwindTableRow<R::Offset, Rules>,
         encoding: Encoding,
-        is_first_frame: bool,
         regs: &mut UnwindRegsAarch64,
+        is_first_frame: bool,
         read_stack: &mut F,
     ) -> Result<UnwindResult<UnwindRuleAarch64>, DwarfUnwinderError> {
         unwind_frame_by_row::<ArchAarch64, S, R, Section, Rules, F>(
@@ -330,14 +330,18 @@ impl DwarfUnwinding for ArchAarch64 {
             section,
             row,
             encoding,
-            is_first_frame,
             regs,
+            is_first_frame,
             read_stack,
         )
     }
 
     fn rule_if_uncovered_by_fde() -> UnwindRuleAarch64 {
         UnwindRuleAarch64::NoOpIfFirstFrameOtherwiseFp
+    }
+
+    fn vendor() -> Vendor {
+        Vendor::Default
     }
 }
 

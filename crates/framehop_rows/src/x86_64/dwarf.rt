@@ -8,23 +8,25 @@ ghost use Rattle.framehop_rows.specs.Memory.{HasExpressionPart, IsColumnExpressi
 ghost use Rattle.dwarf_frame_instructions.specs.StateViews.{rule_as};
 ghost use Rattle.framehop_rules.specs.RuleMeaning.{rule_meaning, IsValid};
 ghost use Rattle.framehop_rows.specs.RowAnswer.{row_answer, register_value};
-ghost use Rattle.framehop_rows.specs.declared.dwarf.DwarfUnwinderError.TheVariants.{OutOfMemory};
+ghost use Rattle.framehop_errors.specs.declared.dwarf.DwarfUnwinderError.TheVariants.{OutOfMemory};
+ghost use Rattle.framehop_rows.specs.RowErrors.{IsOfRow};
 ghost use Rattle.framehop_rows.specs.RowParts.{parts_as};
 ghost use Rattle.framehop_rows.specs.RuleLaws.{RulesAnswerAsRows};
 ghost use Rattle.framehop_rows.specs.ScaledRow.{raised_sp, restored_bp, from_sp, from_bp, scaled_rule};
 
-use crate::dwarf::{DwarfUnwinderError, DwarfUnwinding};
+use crate::dwarf::DwarfUnwinding;
 use crate::evaluation::{DwarfUnwindRegs, eval_cfa_rule, eval_register_rule, read_below};
 use crate::parts::Parts;
 use crate::rows::{PartsUnwinding, unwind_frame_by_row};
 use crate::rule_fields::{unsigned_words, words_from_base};
-use dwarf_constants::{Encoding, Register, X86_64};
+use dwarf_constants::{Encoding, Register, Vendor, X86_64};
 use dwarf_expressions::EvaluationStorage;
 use dwarf_frame_rows::{
     _UnwindSectionPrivate, CfaRule, RegisterRule, RuledRegister, UnwindTableRow,
 };
 use dwarf_readers::{Reader, ReaderOffset};
 use dwarf_storage::ArrayLike;
+use framehop_errors::DwarfUnwinderError;
 use framehop_rules::UnwindResult;
 use framehop_rules::x86_64::{ArchX86_64, UnwindRegsX86_64, UnwindRuleX86_64};
 use std::alloc::{AllocError, Global};
@@ -149,7 +151,7 @@ fn eval_return_address<
 {
     let ip = regs.ip();
     let stored = eval_register_rule::<S, R, Section, _, F>(
-        alloc, section, rule, cfa, ip, encoding, regs, read_stack,
+        alloc, section, rule, cfa, encoding, ip, regs, read_stack,
     )?;
     match stored {
         Some(return_address) => Ok(Some(return_address)),
@@ -164,7 +166,8 @@ fn refusal(
     is_first_frame: bool,
     regs: &UnwindRegsX86_64,
 ) -> Option<DwarfUnwinderError>
-    ensures { result ≡ direct_refusal is_first_frame regs.now cfa return_address }
+    ensures refusal { result ≡ direct_refusal is_first_frame regs.now cfa return_address }
+    ensures of_row { IfSome result IsOfRow }
 {
     if cfa == regs.sp() && return_address == regs.ip() {
         return Some(DwarfUnwinderError::DidNotAdvance);
@@ -196,6 +199,7 @@ fn eval_parts<
         result ≢ Err OutOfMemory → caller_shown regs.now result
         ≡ direct_answer S.Stack.capacity encoding.address_size is_first_frame regs.now words
         (R.stretch (Section.reader section.now)) (parts_as R.Offset.value parts.now)) }
+    ensures refusals { IfErr result IsOfRow }
     ensures expression { result ≡ Err OutOfMemory
         → HasExpressionPart (parts_as R.Offset.value parts.now) }
     ensures memory { result ≡ Err OutOfMemory
@@ -207,7 +211,7 @@ fn eval_parts<
     };
     let bp = regs.bp();
     let stored_bp = eval_register_rule::<S, R, Section, _, F>(
-        alloc, section, parts.fp, cfa, bp, encoding, regs, read_stack,
+        alloc, section, parts.fp, cfa, encoding, bp, regs, read_stack,
     )?;
     let Some(return_address) = eval_return_address::<S, R, Section, F>(
         alloc, section, parts.ra, cfa, encoding, regs, read_stack,
@@ -258,8 +262,8 @@ impl PartsUnwinding for ArchX86_64 {
         section: &Section,
         parts: &Parts<R::Offset>,
         encoding: Encoding,
-        is_first_frame: bool,
         regs: &mut UnwindRegsX86_64,
+        is_first_frame: bool,
         read_stack: &mut F,
     ) -> Result<u64, DwarfUnwinderError> {
         match eval_parts::<S, R, Section, F>(
@@ -283,14 +287,11 @@ impl PartsUnwinding for ArchX86_64 {
 }
 
 impl DwarfUnwinding for ArchX86_64 {
-    ghost use Rattle.framehop_rows.specs.RowAttemptX86_64.{row_attempt, MeetsExpression};
-    ghost use Rattle.framehop_rules.specs.declared.x86_64.unwind_rule.UnwindRuleX86_64.TheVariants.{JustReturnIfFirstFrameOtherwiseFp};
+    ghost use Rattle.framehop_rows.specs.RowAttemptX86_64.{rows, MeetsExpression};
 
-    ghost row_attempt = { row_attempt };
+    ghost rows = { rows };
 
     ghost MeetsExpression = { MeetsExpression };
-
-    ghost uncovered = { JustReturnIfFirstFrameOtherwiseFp };
 
     fn unwind_frame<
         S: EvaluationStorage,
@@ -303,8 +304,8 @@ impl DwarfUnwinding for ArchX86_64 {
         section: &Section,
         row: &UnwindTableRow<R::Offset, Rules>,
         encoding: Encoding,
-        is_first_frame: bool,
         regs: &mut UnwindRegsX86_64,
+        is_first_frame: bool,
         read_stack: &mut F,
     ) -> Result<UnwindResult<UnwindRuleX86_64>, DwarfUnwinderError> {
         unwind_frame_by_row::<ArchX86_64, S, R, Section, Rules, F>(
@@ -312,14 +313,18 @@ impl DwarfUnwinding for ArchX86_64 {
             section,
             row,
             encoding,
-            is_first_frame,
             regs,
+            is_first_frame,
             read_stack,
         )
     }
 
     fn rule_if_uncovered_by_fde() -> UnwindRuleX86_64 {
         UnwindRuleX86_64::JustReturnIfFirstFrameOtherwiseFp
+    }
+
+    fn vendor() -> Vendor {
+        Vendor::Default
     }
 }
 

@@ -1,8 +1,5 @@
-use Rattle.framehop.proofs.TruthfulLookups.{header-below, scan-below}
+use Rattle.framehop.proofs.TruthfulLookups.{below-all, fits-64}
 use Rattle.framehop.proofs.lookup_laws.truthful_lookups_below_all.Goals as goal
 
 pub returns : goal.returns
-returns c h relative t none = record {
-  by_header = λ rows. header-below h t relative rows none;
-  by_scan = scan-below h t relative none;
-}
+returns c h relative t fits none = below-all h t relative (fits-64 fits) none

@@ -1,7 +1,7 @@
 use Rattle.std.proofs.Common.{◌≡◌, Err, ap}
 use Rattle.dwarf_frame_instructions.specs.Execution.{row_in}
 use Rattle.framehop_rows.specs.RowParts.{parts_as}
-use Rattle.framehop_rows.specs.declared.dwarf.DwarfUnwinderError.TheVariants.{OutOfMemory}
+use Rattle.framehop_errors.specs.declared.dwarf.DwarfUnwinderError.TheVariants.{OutOfMemory}
 use Rattle.framehop_rows.proofs.TakenParts.{answers-by_rule, answers-by_caller, answers-by_refusal, expression-met}
 use Rattle.framehop_rows.proofs.rows.unwind_frame_by_row.Goals as goal
 

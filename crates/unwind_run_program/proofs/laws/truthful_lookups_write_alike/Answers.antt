@@ -1,9 +1,9 @@
-use Rattle.std.proofs.Common.{◌≡◌, ℕ, ◌+◌, List, [], ◌∷◌, ◌++◌, true, Some, refl, sym, ap, subst, ◌∙◌}
+use Rattle.std.proofs.Common.{◌≡◌, ℕ, ◌+◌, List, [], ◌∷◌, ◌++◌, true, refl, sym, ap, subst, ◌∙◌}
 use Rattle.std.specs.Prelude.{codes}
 use Rattle.dwarf_frame_entries.specs.Entries.{contains}
-use Rattle.dwarf_frame_rows.specs.Effects.{limits_of}
-use Rattle.framehop.specs.Coverage.{Coverage, attempt_by, row_meanings}
-use Rattle.framehop.specs.UnwindData.{UnwindData, bases_of, coverage_of, room_of}
+use Rattle.framehop.specs.Attempts.{attempt}
+use Rattle.framehop.specs.StepMeanings.{meanings_by}
+use Rattle.framehop.specs.UnwindData.{UnwindData, bases_of}
 use Rattle.framehop_modules.specs.Chosen.{base_svmas}
 use Rattle.framehop_unwinder.specs.Attempt.{Attempt}
 use Rattle.framehop_unwinder.specs.Frames.{lookup_address}
@@ -12,15 +12,14 @@ use Rattle.unwind_run_program.specs.Lines.{outcome_line}
 use Rattle.unwind_run_program.specs.Roads.{stated_section, stated_header}
 use Rattle.unwind_run_program.specs.RoadsAlike.{headed_in}
 use Rattle.unwind_run_program.specs.Sections.{data_stated, sections_stated}
-use Rattle.unwind_run_program.specs.Text.{frame_at, road_line, sections_meanings, words_of}
+use Rattle.unwind_run_program.specs.Text.{frame_at, road_line, words_of}
 use Rattle.unwind_run_program.proofs.OneModule.{alone_alike}
 use Rattle.unwind_run_program.proofs.laws.truthful_lookups_write_alike.Goals as goal
 
 pub returns : goal.returns
-returns g c r covers limit forms =
-    let rows = row_meanings g.A.DwarfUnwinding.row_attempt g.A.DwarfUnwinding.uncovered in
-    let room = room_of (limits_of (Some 192) (Some 4)) limit in
-    let m = sections_meanings g.A.UnwindRule.UnwindRule.meaning g.A.UnwindRule.UnwindRule.fallback g.A.DwarfUnwinding.row_attempt g.A.DwarfUnwinding.uncovered limit in
+returns g c r covers limits forms =
+    let rows = g.A.DwarfUnwinding.rows in
+    let m = meanings_by g.A.UnwindRule.UnwindRule.meaning g.A.UnwindRule.UnwindRule.fallback rows limits in
     let t = r.tables in
     let base = t.base_svma in
     let frame = frame_at r.kind r.address in
@@ -32,16 +31,15 @@ returns g c r covers limit forms =
     let scanned = data_stated.scanned base alone in
     let contained : (relative : ℕ) → base + relative ≡ lookup_address frame → contains (base + relative) covers.fde ≡ true =
     λ relative is. subst (λ (x : ℕ). contains x covers.fde ≡ true) (sym is) covers.contained in
-    let law = c.truthful_lookups_cover_alike.ensures in
-    let as_scanned : (relative : ℕ) → base + relative ≡ lookup_address frame → coverage_of room headed relative ≡ coverage_of room scanned relative =
-    λ relative is. sym ((law (headed_in t) other relative covers.fde room covers.truthful refl (record { listed = covers.listed; contained = contained relative is })).by_scan) in
-    let as_headed : (relative : ℕ) → base + relative ≡ lookup_address frame → coverage_of room indexed relative ≡ coverage_of room headed relative =
-    λ relative is. (law (headed_in t) other relative covers.fde room covers.truthful refl (record { listed = covers.listed; contained = contained relative is })).by_index in
-    let same : (one : UnwindData) → ((relative : ℕ) → base + relative ≡ lookup_address frame → coverage_of room one relative ≡ coverage_of room scanned relative)
+    let law = c.truthful_lookups_attempt_alike.ensures in
+    let as_scanned : (relative : ℕ) → base + relative ≡ lookup_address frame → attempt rows limits headed relative frame.is_first ≡ attempt rows limits scanned relative frame.is_first =
+    λ relative is. sym ((law limits (headed_in t) other relative covers.fde covers.truthful refl (record { listed = covers.listed; contained = contained relative is })).by_scan frame.is_first) in
+    let as_headed : (relative : ℕ) → base + relative ≡ lookup_address frame → attempt rows limits indexed relative frame.is_first ≡ attempt rows limits headed relative frame.is_first =
+    λ relative is. (law limits (headed_in t) other relative covers.fde covers.truthful refl (record { listed = covers.listed; contained = contained relative is })).by_index frame.is_first in
+    let same : (one : UnwindData) → ((relative : ℕ) → base + relative ≡ lookup_address frame → attempt rows limits one relative frame.is_first ≡ attempt rows limits scanned relative frame.is_first)
     → road_line m forms r one ≡ road_line m forms r scanned =
-    λ one covered. ap (λ (a : Attempt g.row.A-UnwindRule.Denot g.row.A-UnwindRegs.Denot). outcome_line forms.text registers (by_attempt m frame.is_first registers (words_of r.stack) a))
-    (alone_alike m base one scanned frame.is_first (lookup_address frame)
-    (λ relative is. ap (λ (v : Coverage). attempt_by rows frame.is_first room.values v) (covered relative is))) in
+    λ one alike. ap (λ (a : Attempt g.row.A-UnwindRule.Denot g.row.A-UnwindRegs.Denot). outcome_line forms.text registers (by_attempt m frame.is_first registers (words_of r.stack) a))
+    (alone_alike m base one scanned frame.is_first (lookup_address frame) alike) in
     let last = road_line m forms r scanned in
     ap (λ (xs : List ℕ). codes "header " ++ xs ++ codes "index " ++ road_line m forms r indexed ++ codes "scan " ++ last) (same headed as_scanned)
     ∙ ap (λ (xs : List ℕ). codes "header " ++ last ++ codes "index " ++ xs ++ codes "scan " ++ last)

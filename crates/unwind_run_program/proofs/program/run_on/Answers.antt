@@ -2,17 +2,18 @@ use Rattle.std.proofs.Common.{sym, subst}
 use Rattle.json_program.specs.Stream.{WritesText}
 use Rattle.unwind_run_document.specs.CommandViews.{tasks_of}
 use Rattle.unwind_run_document.specs.declared.document.Policy.{Policy}
-use Rattle.unwind_run_program.specs.Text.{lines_under, sections_meanings, value_limit}
+use Rattle.framehop.specs.StepMeanings.{meanings_by}
+use Rattle.unwind_run_program.specs.Text.{lines_under, limits_of_policy}
 use Rattle.unwind_run_program.proofs.program.run_on.Goals as goal
 
 pub returns-in-May-clause-text : goal.returns-in-May-clause-text
 returns-in-May-clause-text g c =
     subst (λ (policy : Policy). WritesText c.run_commands.result (g.W.Sink.contents c.args.writer.now) (g.W.Sink.contents c.run_commands.new.writer)
-    (lines_under (sections_meanings g.A.UnwindRule.UnwindRule.meaning g.A.UnwindRule.UnwindRule.fallback g.A.DwarfUnwinding.row_attempt g.A.DwarfUnwinding.uncovered) g.A.DocumentArch.forms (value_limit policy) c.args.generation (tasks_of c.args.commands.items)))
+    (lines_under (meanings_by g.A.UnwindRule.UnwindRule.meaning g.A.UnwindRule.UnwindRule.fallback g.A.DwarfUnwinding.rows) g.A.DocumentArch.forms (limits_of_policy policy) c.args.generation (tasks_of c.args.commands.items)))
     (sym c.in-May.is) c.run_commands.ensures.text
 
 pub returns-in-Must-clause-text : goal.returns-in-Must-clause-text
 returns-in-Must-clause-text g c =
     subst (λ (policy : Policy). WritesText c.run_commands-in-Must.result (g.W.Sink.contents c.args.writer.now) (g.W.Sink.contents c.run_commands-in-Must.new.writer)
-    (lines_under (sections_meanings g.A.UnwindRule.UnwindRule.meaning g.A.UnwindRule.UnwindRule.fallback g.A.DwarfUnwinding.row_attempt g.A.DwarfUnwinding.uncovered) g.A.DocumentArch.forms (value_limit policy) c.args.generation (tasks_of c.args.commands.items)))
+    (lines_under (meanings_by g.A.UnwindRule.UnwindRule.meaning g.A.UnwindRule.UnwindRule.fallback g.A.DwarfUnwinding.rows) g.A.DocumentArch.forms (limits_of_policy policy) c.args.generation (tasks_of c.args.commands.items)))
     (sym c.in-Must.is) c.run_commands-in-Must.ensures.text

@@ -42,7 +42,7 @@ returns-in-Some-refusal-clause-caller g c =
     answer_is sources c.args.is_first_frame registers words parts cfa (Some to) _
     (sym c.in-Some.is ∙ c.in_ok-cfa.ensures.value)
     (sym c.in-Some-2.is ∙ read)
-    (refused_is sources c.args.is_first_frame registers words parts cfa to c.in-Some-refusal.refusal c.in-Some-refusal.ensures))
+    (refused_is sources c.args.is_first_frame registers words parts cfa to c.in-Some-refusal.refusal c.in-Some-refusal.ensures.refusal))
 
 -- the caller is answered
 pub returns-in-None-clause-caller : goal.returns-in-None-clause-caller
@@ -61,4 +61,4 @@ returns-in-None-clause-caller g c =
     answer_is sources c.args.is_first_frame registers words parts cfa (Some to) _
     (sym c.in-Some.is ∙ c.in_ok-cfa.ensures.value)
     (sym c.in-Some-2.is ∙ read)
-    (caller_is sources c.args.is_first_frame registers words parts cfa to c.unwrap_or.result c.in-None.ensures bp))
+    (caller_is sources c.args.is_first_frame registers words parts cfa to c.unwrap_or.result c.in-None.ensures.refusal bp))

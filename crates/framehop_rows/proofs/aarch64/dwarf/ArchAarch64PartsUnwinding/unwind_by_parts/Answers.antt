@@ -1,7 +1,7 @@
 use Rattle.std.proofs.Common.{◌≡◌, Ok, Err, ap, ◌∙◌}
 use Rattle.framehop_registers.proofs.Laws.{over_weaker}
 use Rattle.framehop_rows.specs.RowAttempt.{direct_trial}
-use Rattle.framehop_rows.specs.declared.dwarf.DwarfUnwinderError.TheVariants.{OutOfMemory}
+use Rattle.framehop_errors.specs.declared.dwarf.DwarfUnwinderError.TheVariants.{OutOfMemory}
 use Rattle.framehop_rows.proofs.aarch64.dwarf.ArchAarch64PartsUnwinding.unwind_by_parts.Goals as goal
 
 -- the caller is answered

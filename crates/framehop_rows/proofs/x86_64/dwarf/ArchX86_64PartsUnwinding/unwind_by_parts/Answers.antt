@@ -3,7 +3,7 @@ use Rattle.framehop_rules.specs.RuleMeaning.{caller_registers}
 use Rattle.framehop_registers.proofs.Laws.{over_weaker}
 use Rattle.framehop_registers.specs.declared.x86_64.unwindregs.UnwindRegsX86_64.{UnwindRegsX86_64}
 use Rattle.framehop_rows.specs.RowAttempt.{direct_trial}
-use Rattle.framehop_rows.specs.declared.dwarf.DwarfUnwinderError.TheVariants.{OutOfMemory}
+use Rattle.framehop_errors.specs.declared.dwarf.DwarfUnwinderError.TheVariants.{OutOfMemory}
 use Rattle.framehop_rows.proofs.x86_64.dwarf.ArchX86_64PartsUnwinding.unwind_by_parts.Goals as goal
 
 -- the caller is answered

@@ -1,0 +1,21 @@
+use Rattle.framehop.specs.Attempts.{step_limits}
+use Rattle.framehop.proofs.MethodAnswers.{fde-answers, fde-fails}
+use Rattle.framehop.proofs.call_frames.unwind_frame_if_found.Goals as goal
+
+pub returns-in-Ok-clause-answers : goal.returns-in-Ok-clause-answers
+returns-in-Ok-clause-answers g c =
+    let m = g.A.DwarfUnwinding.rows in
+    let meets = g.A.DwarfUnwinding.MeetsExpression in
+    let limits = step_limits g.P.GimliUnwindContextStorage.UnwindContextStorage.limits g.P.GimliEvaluationStorage.Stack.ArrayLike.capacity in
+    let in_place = g.P.GimliEvaluationStorage.Stack.ArrayLike.is_made_in_place in
+    fde-answers m meets limits in_place c.args.unwinder.now.base_svma c.args.relative_address c.args.is_first_frame _ c.args.fde_offset c.in-Some.fde_offset c.in-Some.is
+    _ _ _ _ c.in-Ok.answer c.in-Ok.ensures.answers
+
+pub returns-in-Err-clause-answers : goal.returns-in-Err-clause-answers
+returns-in-Err-clause-answers g c =
+    let m = g.A.DwarfUnwinding.rows in
+    let meets = g.A.DwarfUnwinding.MeetsExpression in
+    let limits = step_limits g.P.GimliUnwindContextStorage.UnwindContextStorage.limits g.P.GimliEvaluationStorage.Stack.ArrayLike.capacity in
+    let in_place = g.P.GimliEvaluationStorage.Stack.ArrayLike.is_made_in_place in
+    fde-fails m meets limits in_place c.args.unwinder.now.base_svma c.args.relative_address c.args.is_first_frame _ c.args.fde_offset c.in-Some.fde_offset c.in-Some.is
+    _ _ _ _ c.in-Err.error c.failure_of-in-Err.result c.failure_of-in-Err.ensures c.in-Err.ensures.memory c.in-Err.ensures.answers

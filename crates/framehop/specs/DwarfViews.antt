@@ -1,0 +1,35 @@
+-- Unwinding by call frames as contracts see it.
+use Rattle.std.specs.Prelude.{ℕ, Bool, List, Option, Result, Ok, Err, ◌≡◌, IfOk, IfErr}
+use Rattle.dwarf_constants.specs.declared.error.Error.{Error}
+use Rattle.dwarf_constants.specs.declared.error.Error.TheVariants.{NoUnwindInfoForAddress}
+use Rattle.dwarf_frame_rows.specs.Row.{Row}
+use Rattle.framehop_rules.specs.declared.unwind_result.UnwindResult.{UnwindResult}
+use Rattle.framehop_rules.specs.declared.unwind_result.UnwindResult.TheVariants.{ExecRule}
+use Rattle.framehop_rows.specs.RowAttempt.{AnswersRow}
+use Rattle.framehop_rows.specs.RowMeanings.{RowMeanings}
+use Rattle.framehop_errors.specs.declared.dwarf.DwarfUnwinderError.{DwarfUnwinderError}
+use Rattle.framehop_errors.specs.declared.dwarf.DwarfUnwinderError.TheVariants.{FdeFromOffsetFailed, OutOfMemory}
+use Rattle.framehop.specs.Coverage.{Coverage, EvaluatesExpression, IsErrorOf, IsKnown, row_attempt_by}
+use Rattle.framehop.specs.declared.dwarf.UnwindSectionType.{UnwindSectionType}
+use Rattle.framehop.specs.declared.dwarf.UnwindSectionType.TheVariants.{EhFrame, DebugFrame}
+
+-- a section of call frames, by the bytes of what has them
+abbrev pub frame_section_bytes : {D : Type 0} → (D → List ℕ) → UnwindSectionType D → UnwindSectionType (List ℕ)
+frame_section_bytes content (EhFrame data_) = EhFrame (content data_)
+frame_section_bytes content (DebugFrame data_) = DebugFrame (content data_)
+
+-- A step by call frames, which took the callback from `old` to `new` and the registers from `before` to `after`, at an address that is
+-- covered so: it answers the attempt by the coverage; there is an answer only if the FDE is known, and an error is one of that
+-- coverage's; and memory runs out only for an expression, where `meets` says which rows evaluate one.
+pub record AnswersCoverage {Rule Registers S : Type 0} (step : S → ℕ → Result ℕ (Unit {0}) → S → Type 0) (old new : S)
+    (before after : Registers) (result : Result (UnwindResult Rule) DwarfUnwinderError) (m : RowMeanings Rule Registers)
+    (meets : Row ℕ → Type 0) (first : Bool) (values : Option ℕ) (coverage : Coverage) : Type 0 where
+  pub row : AnswersRow step old new before after result (row_attempt_by m first values coverage)
+  pub answer : IfOk result (λ _. IsKnown coverage)
+  pub error : IfErr result (IsErrorOf coverage)
+  pub expression : result ≡ Err OutOfMemory → EvaluatesExpression meets coverage
+
+-- what a scan that found no FDE gives
+abbrev pub scan_failure : {Rule : Type 0} → Rule → Error → Result (UnwindResult Rule) DwarfUnwinderError
+scan_failure uncovered NoUnwindInfoForAddress = Ok (ExecRule uncovered)
+scan_failure uncovered e = Err (FdeFromOffsetFailed e)

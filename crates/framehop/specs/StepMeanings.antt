@@ -1,0 +1,41 @@
+-- What steps go by on each architecture, if modules are unwound by their sections.
+use Rattle.std.specs.Prelude.{ℕ, Bool, Some, None}
+use Rattle.dwarf_frame_rows.specs.Effects.{limits_of}
+use Rattle.framehop_registers.specs.Callback.{Words}
+use Rattle.framehop_registers.specs.declared.aarch64.unwindregs.UnwindRegsAarch64.{UnwindRegsAarch64}
+use Rattle.framehop_registers.specs.declared.x86_64.unwindregs.UnwindRegsX86_64.{UnwindRegsX86_64}
+use Rattle.framehop_rules.specs.Outcome.{Outcome, Caller}
+use Rattle.framehop_rules.specs.RuleMeaning as x86_64
+use Rattle.framehop_rules.specs.RuleMeaningAarch64 as aarch64
+use Rattle.framehop_rules.specs.declared.aarch64.unwind_rule.UnwindRuleAarch64.{UnwindRuleAarch64}
+use Rattle.framehop_rules.specs.declared.aarch64.unwind_rule.UnwindRuleAarch64.TheVariants as aarch64_rule
+use Rattle.framehop_rules.specs.declared.x86_64.unwind_rule.UnwindRuleX86_64.{UnwindRuleX86_64}
+use Rattle.framehop_rules.specs.declared.x86_64.unwind_rule.UnwindRuleX86_64.TheVariants as x86_64_rule
+use Rattle.framehop_unwinder.specs.Attempt.{Meanings, meanings_of}
+use Rattle.framehop_rows.specs.RowAttemptAarch64 as aarch64_rows
+use Rattle.framehop_rows.specs.RowAttemptX86_64 as x86_64_rows
+use Rattle.framehop_rows.specs.RowMeanings.{RowMeanings}
+use Rattle.framehop.specs.Attempts.{StepLimits, attempt, step_limits}
+use Rattle.framehop.specs.UnwindData.{UnwindData}
+
+-- the limits if steps may allocate: rows have room for the rules of 192 registers, there is room for 4 rows, and for any number of values
+-- of an expression
+abbrev pub limits_may_allocate : StepLimits
+limits_may_allocate = step_limits (limits_of (Some 192) (Some 4)) None
+
+-- the limits if they must not: there is room for 64 values of an expression
+abbrev pub limits_must_not_allocate : StepLimits
+limits_must_not_allocate = step_limits (limits_of (Some 192) (Some 4)) (Some 64)
+
+-- what steps go by: the meanings of rules, the rule that is executed if no module says anything, and what call frames mean
+abbrev pub meanings_by : {Rule Registers : Type 0} → (Rule → Bool → Registers → Words → Outcome (Caller Registers)) → Rule
+    → RowMeanings Rule Registers → StepLimits → Meanings UnwindData Rule Registers
+meanings_by meaning fallback rows limits = meanings_of meaning fallback (attempt rows limits)
+
+-- what steps on x86_64 go by
+abbrev pub meanings_x86_64 : StepLimits → Meanings UnwindData UnwindRuleX86_64 UnwindRegsX86_64
+meanings_x86_64 limits = meanings_by x86_64.rule_meaning x86_64_rule.UseFramePointer x86_64_rows.rows limits
+
+-- what steps on aarch64 go by
+abbrev pub meanings_aarch64 : StepLimits → Meanings UnwindData UnwindRuleAarch64 UnwindRegsAarch64
+meanings_aarch64 limits = meanings_by aarch64.rule_meaning aarch64_rule.UseFramePointer aarch64_rows.rows limits

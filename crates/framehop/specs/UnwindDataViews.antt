@@ -1,0 +1,64 @@
+-- The unwind data of a module as contracts see it.
+use Rattle.std.specs.Prelude.{◌≡◌, ℕ, List, false}
+use Rattle.dwarf_frame_rows.specs.declared.base_addresses.BaseAddresses.{BaseAddresses}
+use Rattle.dwarf_frame_rows.specs.FrameSection.{FrameSection}
+use Rattle.framehop.specs.CfiIndexView.{IsIndexOf}
+use Rattle.framehop.specs.DwarfViews.{frame_section_bytes}
+use Rattle.framehop.specs.EntryFor.{has_index}
+use Rattle.framehop.specs.FrameSections.{section_of_type}
+use Rattle.framehop.specs.Lookups as said
+use Rattle.framehop.specs.UnwindData as data_
+use Rattle.framehop.specs.declared.unwind_data.Entries.{Entries}
+use Rattle.framehop.specs.declared.unwind_data.Entries.TheVariants as by
+use Rattle.framehop.specs.declared.unwind_data.Lookup.{Lookup}
+use Rattle.framehop.specs.declared.unwind_data.Lookup.TheVariants as which
+use Rattle.framehop.specs.declared.unwind_data.ModuleFormat.{ModuleFormat}
+use Rattle.framehop.specs.declared.unwind_data.ModuleFormat.TheVariants as format
+
+-- the lookup that a module has, by the bytes of its header
+abbrev pub entries_view : {D : Type 0} → (D → List ℕ) → Entries D → said.Lookup
+entries_view content (by.Header header) = said.ByHeader (content header)
+entries_view content (by.Index index) = said.ByIndex
+entries_view content by.Unindexed = said.ByIndex
+entries_view content by.Scan = said.ByScan
+
+-- the format of a module, by the bytes of its sections
+abbrev pub format_view : {D : Type 0} → (D → List ℕ) → ModuleFormat D → data_.ModuleFormat
+format_view content (format.CallFrames section entries) =
+    data_.CallFrames (frame_section_bytes content section) (entries_view content entries)
+format_view content format.NoFormat = data_.NoFormat
+
+-- an index is that of the section, with starts relative to this base; and a section that has one doesn't lack it
+abbrev pub AreFoundBy : {D : Type 0} → (base : ℕ) → FrameSection → Entries D → Type 0
+AreFoundBy base section (by.Header header) = Unit {0}
+AreFoundBy base section (by.Index index) = IsIndexOf index base section
+AreFoundBy base section by.Unindexed = has_index base section ≡ false
+AreFoundBy base section by.Scan = Unit {0}
+
+-- and so it is in a module's format
+abbrev pub IsIndexedBy : {D : Type 0} → (D → List ℕ) → BaseAddresses → (base : ℕ) → ModuleFormat D → Type 0
+IsIndexedBy content bases base (format.CallFrames section entries) =
+    AreFoundBy base (section_of_type bases (frame_section_bytes content section)) entries
+IsIndexedBy content bases base format.NoFormat = Unit {0}
+
+-- the lookup that is lent
+abbrev pub lookup_view : Lookup → said.Lookup
+lookup_view (which.Index index) = said.ByIndex
+lookup_view (which.Header bytes) = said.ByHeader bytes.now
+lookup_view which.Scan = said.ByScan
+
+-- an index that is lent is that of the section, with starts relative to this base
+abbrev pub LeadsInto : (base : ℕ) → FrameSection → Lookup → Type 0
+LeadsInto base section (which.Index index) = IsIndexOf index.now base section
+LeadsInto base section (which.Header bytes) = Unit {0}
+LeadsInto base section which.Scan = Unit {0}
+
+-- FDEs of the section would be found by an index that it doesn't have
+pub record IsUnindexed (base : ℕ) (section : FrameSection) (lookup : said.Lookup) : Type 0 where
+  pub by_index : lookup ≡ said.ByIndex
+  pub none : has_index base section ≡ false
+
+-- the module isn't unwound by its sections
+abbrev pub IsUnused : BaseAddresses → (base : ℕ) → data_.ModuleFormat → Type 0
+IsUnused bases base (data_.CallFrames section lookup) = IsUnindexed base (section_of_type bases section) lookup
+IsUnused bases base data_.NoFormat = Unit {0}
