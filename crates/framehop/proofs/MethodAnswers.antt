@@ -12,7 +12,8 @@ use Rattle.framehop_errors.specs.declared.dwarf.DwarfUnwinderError.{DwarfUnwinde
 use Rattle.framehop_errors.specs.declared.dwarf.DwarfUnwinderError.TheVariants as why
 use Rattle.framehop_rows.specs.Memory.{TakesMemory, takes_memory}
 use Rattle.framehop_rows.specs.RowMeanings.{RowMeanings}
-use Rattle.framehop.specs.Attempts.{AnswersMethod, StepLimits}
+use Rattle.framehop.specs.Attempts.{StepLimits}
+use Rattle.framehop.specs.MethodViews.{AnswersMethod}
 use Rattle.framehop.specs.Coverage.{covered_by_fde, covered_by_scan}
 use Rattle.framehop.specs.DwarfViews.{AnswersCoverage}
 use Rattle.framehop.specs.Methods.{Method, UsesScan, method_at}
@@ -73,3 +74,11 @@ module _ {Rule Registers S : Type 0} {step : S → ℕ → Result ℕ (Unit {0})
   method-as old new before after result base also one other same alike answers =
       subst (λ (n : ℕ). AnswersMethod step old new before after result m meets limits takes n relative first other) same
       (subst (λ (w : Method Rule Registers). AnswersMethod step old new before after result m meets limits takes base relative first w) alike answers)
+
+module _ {Rule Registers S : Type 0} {step : S → ℕ → Result ℕ (Unit {0}) → S → Type 0} (m : RowMeanings Rule Registers) (meets : Row ℕ → Type 0) (base relative : ℕ) (first : Bool) where
+  -- limits, and whether memory is taken, that are the same
+  pub policy-as : (old new : S) (before after : Registers) (result : Result (UnwindResult Rule) UnwindFailure) (method : Method Rule Registers) (limits also : StepLimits) (takes too : Bool) → limits ≡ also → takes ≡ too
+      → AnswersMethod step old new before after result m meets also too base relative first method → AnswersMethod step old new before after result m meets limits takes base relative first method
+  policy-as old new before after result method limits also takes too same alike answers =
+      subst (λ (b : Bool). AnswersMethod step old new before after result m meets limits b base relative first method) (sym alike)
+      (subst (λ (l : StepLimits). AnswersMethod step old new before after result m meets l too base relative first method) (sym same) answers)

@@ -1,13 +1,9 @@
 -- The attempt at a step by what a module's data says, on any architecture.
-use Rattle.std.specs.Prelude.{ℕ, Bool, Option, Result}
+use Rattle.std.specs.Prelude.{ℕ, Bool, Option}
 use Rattle.dwarf_constants.specs.declared.common.Vendor.{Vendor}
 use Rattle.dwarf_frame_rows.specs.Effects.{Limits}
 use Rattle.dwarf_frame_rows.specs.Row.{Row}
 use Rattle.framehop_unwinder.specs.Attempt.{Attempt, Says, Evaluates, SaysNothing}
-use Rattle.framehop_unwinder.specs.Memory.{WantsMemoryOnlyIf}
-use Rattle.framehop_unwinder.specs.Trials.{AnswersAttempt, has_wanted}
-use Rattle.framehop_unwinder.specs.declared.unwinding.UnwindFailure.{UnwindFailure}
-use Rattle.framehop_rules.specs.declared.unwind_result.UnwindResult.{UnwindResult}
 use Rattle.framehop_rows.specs.RowMeanings.{RowMeanings}
 use Rattle.framehop.specs.Coverage.{attempt_by, covered_by_fde, covered_by_scan, EvaluatesExpression}
 use Rattle.framehop.specs.Methods.{Method, UsesRule, UsesFde, UsesScan, UsesCodes, UsesNothing}
@@ -54,13 +50,3 @@ abbrev pub AsksExpression : {Rule Registers : Type 0} → (Row ℕ → Type 0) �
     → Type 0
 AsksExpression {Rule} {Registers} meets m limits given relative first =
     EvaluatesByMethod {Rule = Rule} {Registers = Registers} meets limits.rows m.vendor given.base_svma relative (method_of given relative first)
-
--- A step by a module's data, which took the callback from `old` to `new` and the registers from `before` to `after`, answers the attempt
--- by a method, and memory runs out only for an expression.
-pub record AnswersMethod {Rule Registers S : Type 0} (step : S → ℕ → Result ℕ (Unit {0}) → S → Type 0) (old new : S)
-    (before after : Registers) (result : Result (UnwindResult Rule) UnwindFailure) (m : RowMeanings Rule Registers)
-    (meets : Row ℕ → Type 0) (limits : StepLimits) (takes_memory : Bool) (base relative : ℕ) (first : Bool)
-    (method : Method Rule Registers) : Type 0 where
-  pub answer : AnswersAttempt step old new before after result (attempt_by_method m limits base relative first method)
-  pub memory : WantsMemoryOnlyIf takes_memory (has_wanted result)
-      (EvaluatesByMethod meets limits.rows m.vendor base relative method)

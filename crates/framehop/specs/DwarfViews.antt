@@ -2,7 +2,10 @@
 use Rattle.std.specs.Prelude.{ℕ, Bool, List, Option, Result, Ok, Err, ◌≡◌, IfOk, IfErr}
 use Rattle.dwarf_constants.specs.declared.error.Error.{Error}
 use Rattle.dwarf_constants.specs.declared.error.Error.TheVariants.{NoUnwindInfoForAddress}
+use Rattle.std.specs.Borrow.{Bor}
+use Rattle.dwarf_frame_rows.specs.FrameSection.{FrameSection}
 use Rattle.dwarf_frame_rows.specs.Row.{Row}
+use Rattle.dwarf_frame_rows.specs.declared.base_addresses.BaseAddresses.{BaseAddresses}
 use Rattle.framehop_rules.specs.declared.unwind_result.UnwindResult.{UnwindResult}
 use Rattle.framehop_rules.specs.declared.unwind_result.UnwindResult.TheVariants.{ExecRule}
 use Rattle.framehop_rows.specs.RowAttempt.{AnswersRow}
@@ -10,6 +13,7 @@ use Rattle.framehop_rows.specs.RowMeanings.{RowMeanings}
 use Rattle.framehop_errors.specs.declared.dwarf.DwarfUnwinderError.{DwarfUnwinderError}
 use Rattle.framehop_errors.specs.declared.dwarf.DwarfUnwinderError.TheVariants.{FdeFromOffsetFailed, OutOfMemory}
 use Rattle.framehop.specs.Coverage.{Coverage, EvaluatesExpression, IsErrorOf, IsKnown, row_attempt_by}
+use Rattle.framehop.specs.FrameSections.{section_of_type}
 use Rattle.framehop.specs.declared.dwarf.UnwindSectionType.{UnwindSectionType}
 use Rattle.framehop.specs.declared.dwarf.UnwindSectionType.TheVariants.{EhFrame, DebugFrame}
 
@@ -17,6 +21,10 @@ use Rattle.framehop.specs.declared.dwarf.UnwindSectionType.TheVariants.{EhFrame,
 abbrev pub frame_section_bytes : {D : Type 0} → (D → List ℕ) → UnwindSectionType D → UnwindSectionType (List ℕ)
 frame_section_bytes content (EhFrame data_) = EhFrame (content data_)
 frame_section_bytes content (DebugFrame data_) = DebugFrame (content data_)
+
+-- the section of what is lent: its bytes, and the addresses that its pointers are relative to
+abbrev pub section_lent : Bor BaseAddresses → UnwindSectionType (Bor (List ℕ)) → FrameSection
+section_lent bases section = section_of_type bases.now (frame_section_bytes (λ b. b.now) section)
 
 -- A step by call frames, which took the callback from `old` to `new` and the registers from `before` to `after`, at an address that is
 -- covered so: it answers the attempt by the coverage; there is an answer only if the FDE is known, and an error is one of that

@@ -7,6 +7,7 @@ pub mod EntryFor
 pub mod FrameSections
 pub mod LastCie
 pub mod Lookups
+pub mod MethodViews
 pub mod Methods
 pub mod RowAttempts
 pub mod StepMeanings

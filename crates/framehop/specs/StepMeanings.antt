@@ -1,5 +1,5 @@
 -- What steps go by on each architecture, if modules are unwound by their sections.
-use Rattle.std.specs.Prelude.{ℕ, Bool, Some, None}
+use Rattle.std.specs.Prelude.{ℕ, Bool, List, Some, None}
 use Rattle.dwarf_frame_rows.specs.Effects.{limits_of}
 use Rattle.framehop_registers.specs.Callback.{Words}
 use Rattle.framehop_registers.specs.declared.aarch64.unwindregs.UnwindRegsAarch64.{UnwindRegsAarch64}
@@ -12,6 +12,9 @@ use Rattle.framehop_rules.specs.declared.aarch64.unwind_rule.UnwindRuleAarch64.T
 use Rattle.framehop_rules.specs.declared.x86_64.unwind_rule.UnwindRuleX86_64.{UnwindRuleX86_64}
 use Rattle.framehop_rules.specs.declared.x86_64.unwind_rule.UnwindRuleX86_64.TheVariants as x86_64_rule
 use Rattle.framehop_unwinder.specs.Attempt.{Meanings, meanings_of}
+use Rattle.framehop_unwinder.specs.Judge.{judge}
+use Rattle.framehop_unwinder.specs.Modules.{Loaded}
+use Rattle.framehop_unwinder.specs.Walk.{Judgment}
 use Rattle.framehop_rows.specs.RowAttemptAarch64 as aarch64_rows
 use Rattle.framehop_rows.specs.RowAttemptX86_64 as x86_64_rows
 use Rattle.framehop_rows.specs.RowMeanings.{RowMeanings}
@@ -39,3 +42,7 @@ meanings_x86_64 limits = meanings_by x86_64.rule_meaning x86_64_rule.UseFramePoi
 -- what steps on aarch64 go by
 abbrev pub meanings_aarch64 : StepLimits → Meanings UnwindData UnwindRuleAarch64 UnwindRegsAarch64
 meanings_aarch64 limits = meanings_by aarch64.rule_meaning aarch64_rule.UseFramePointer aarch64_rows.rows limits
+
+-- the steps on aarch64, over modules that are unwound by their sections
+abbrev pub steps_aarch64 : StepLimits → List (Loaded UnwindData) → Judgment UnwindRegsAarch64
+steps_aarch64 limits modules = judge (meanings_aarch64 limits) modules

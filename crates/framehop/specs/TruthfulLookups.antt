@@ -53,6 +53,11 @@ pub record AreTruthful (h : HeadedSection) : Type 0 where
   pub is_truthful : IsTruthful (eh_frame_in h) h.bases says
   pub indexed : has_index h.base (eh_frame_in h) ≡ true
 
+-- The header is truthful, and these bases are the header's for the section.
+pub record AreTruthfulFor (h : HeadedSection) (bases : BaseAddresses) : Type 0 where
+  pub truthful : AreTruthful h
+  pub same : bases.eh_frame ≡ h.bases.eh_frame
+
 -- An FDE of the section contains a relative address.
 pub record IsFdeFor (h : HeadedSection) (relative : ℕ) (fde : Fde) : Type 0 where
   pub listed : Contains (whole_fdes (eh_frame_in h)) fde
@@ -78,10 +83,15 @@ abbrev pub AttemptsAlike : {Rule Registers : Type 0} → RowMeanings Rule Regist
     → Type 0
 AttemptsAlike m limits relative one other = (first : Bool) → attempt m limits one relative first ≡ attempt m limits other relative first
 
+-- By an index, with these bases in place of the header's, the attempt at a relative address is that by the header.
+abbrev pub IndexAttemptsAlike : {Rule Registers : Type 0} → RowMeanings Rule Registers → StepLimits → HeadedSection → BaseAddresses → (relative : ℕ)
+    → Type 0
+IndexAttemptsAlike m limits h bases relative = AttemptsAlike m limits relative (indexed_data bases h) (headed_data h)
+
 -- By each lookup, with these bases in place of the header's, the attempt at a relative address is that by the header.
 pub record AllAttemptAlike {Rule Registers : Type 0} (m : RowMeanings Rule Registers) (limits : StepLimits) (h : HeadedSection)
     (bases : BaseAddresses) (relative : ℕ) : Type 0 where
-  pub by_index : AttemptsAlike m limits relative (indexed_data bases h) (headed_data h)
+  pub by_index : IndexAttemptsAlike m limits h bases relative
   pub by_scan : AttemptsAlike m limits relative (scanned_data bases h) (headed_data h)
 
 -- The header leads to an FDE that starts above the address.

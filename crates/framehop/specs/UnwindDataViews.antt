@@ -1,5 +1,5 @@
 -- The unwind data of a module as contracts see it.
-use Rattle.std.specs.Prelude.{◌≡◌, ℕ, List, false}
+use Rattle.std.specs.Prelude.{◌≡◌, ℕ, List, Option, Some, None, false}
 use Rattle.dwarf_frame_rows.specs.declared.base_addresses.BaseAddresses.{BaseAddresses}
 use Rattle.dwarf_frame_rows.specs.FrameSection.{FrameSection}
 use Rattle.framehop.specs.CfiIndexView.{IsIndexOf}
@@ -62,3 +62,9 @@ pub record IsUnindexed (base : ℕ) (section : FrameSection) (lookup : said.Look
 abbrev pub IsUnused : BaseAddresses → (base : ℕ) → data_.ModuleFormat → Type 0
 IsUnused bases base (data_.CallFrames section lookup) = IsUnindexed base (section_of_type bases section) lookup
 IsUnused bases base data_.NoFormat = Unit {0}
+
+-- the bytes of the header that FDEs are found by
+abbrev pub header_bytes : said.Lookup → Option (List ℕ)
+header_bytes said.ByIndex = None
+header_bytes (said.ByHeader bytes) = Some bytes
+header_bytes said.ByScan = None

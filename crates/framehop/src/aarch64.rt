@@ -7,8 +7,6 @@ ghost use Rattle.framehop_histories.specs.Commands.{OfCallback};
 ghost use Rattle.framehop_histories.specs.Performs.{AnswerBy, Performs};
 ghost use Rattle.framehop_rules.specs.Slots.{no_counts};
 ghost use Rattle.framehop_unwinder.specs.CacheViews.{rules_of};
-ghost use Rattle.framehop_rows.specs.Memory.{takes_memory};
-ghost use Rattle.framehop.specs.Attempts.{step_limits};
 ghost use Rattle.framehop.specs.StepMeanings.{meanings_aarch64};
 
 use crate::arch::BySections;
@@ -83,11 +81,8 @@ pub fn perform<
 ) -> Result<Vec<Answer<UnwindRegsAarch64>>, AllocError>
     requires { All (OfCallback F.IsAlwaysCallable) commands.old.items }
     ensures performs { (words : F → Words) → AnswerBy F.step words commands.old.items
-        → IfOk result (λ answers. Performs (takes_memory
-        P.GimliEvaluationStorage.Stack.is_made_in_place P.GimliEvaluationStorage.Stack.capacity)
-        (meanings_aarch64 (step_limits P.GimliUnwindContextStorage.limits
-        P.GimliEvaluationStorage.Stack.capacity)) words
-        session.old commands.old.items session.new answers.items) }
+        → IfOk result (λ answers. Performs P.may_allocate
+        (meanings_aarch64 P.limits) words session.old commands.old.items session.new answers.items) }
     ensures performed { OnOk result (commands.new.items ≡ []) }
     ensures refused { OnErr result (session.new ≡ session.old) }
     ensures waiting { OnErr result (commands.new ≡ commands.old) }

@@ -1,8 +1,7 @@
 //! Architectures, if modules are unwound by their sections.
 
 ghost use Rattle.std.specs.Prelude.{refl};
-ghost use Rattle.framehop_rows.specs.Memory.{takes_memory};
-ghost use Rattle.framehop.specs.Attempts.{AsksExpression, step_limits};
+ghost use Rattle.framehop.specs.Attempts.{AsksExpression};
 ghost use Rattle.framehop.specs.StepMeanings.{meanings_by};
 
 use crate::cache::AllocationPolicy;
@@ -46,17 +45,15 @@ impl<A: Unwinding, D: SectionBytes + Drop, P: AllocationPolicy> ModuleUnwinding
     type UnwindContext = DwarfUnwindContext<P>;
 
     ghost meanings = { meanings_by A.UnwindRule.meaning A.UnwindRule.fallback A.rows
-        (step_limits P.GimliUnwindContextStorage.limits P.GimliEvaluationStorage.Stack.capacity) };
+        P.limits };
 
     ghost meaning_is = { refl };
 
     ghost fallback_is = { refl };
 
-    ghost takes_memory = { takes_memory P.GimliEvaluationStorage.Stack.is_made_in_place
-        P.GimliEvaluationStorage.Stack.capacity };
+    ghost takes_memory = { P.may_allocate };
 
-    ghost asks_memory = { AsksExpression A.MeetsExpression A.rows
-        (step_limits P.GimliUnwindContextStorage.limits P.GimliEvaluationStorage.Stack.capacity) };
+    ghost asks_memory = { AsksExpression A.MeetsExpression A.rows P.limits };
 
     fn unwind_frame<F: FnMut(u64) -> Result<u64, ()>>(
         unwind_data: &ModuleUnwindData<D>,

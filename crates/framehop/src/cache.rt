@@ -1,9 +1,9 @@
 //! Whether a step may allocate.
 
-ghost use Rattle.std.specs.Prelude.{◌≡◌, false, true, Some};
+ghost use Rattle.std.specs.Prelude.{◌≡◌, Bool, false, true, Some};
 ghost use Rattle.dwarf_frame_rows.specs.Effects.{TakesNoMemory, limits_of};
-ghost use Rattle.framehop_rows.specs.Memory.{TakesMemory, takes_memory};
-ghost use Rattle.framehop.specs.Attempts.{step_limits};
+ghost use Rattle.framehop_rows.specs.Memory.{takes_memory};
+ghost use Rattle.framehop.specs.Attempts.{StepLimits, step_limits};
 ghost use Rattle.framehop.specs.StepMeanings.{limits_may_allocate, limits_must_not_allocate};
 
 use arrayvec::ArrayVec;
@@ -20,8 +20,20 @@ pub trait AllocationPolicy {
     /// The storage of the values of an expression.
     type GimliEvaluationStorage: EvaluationStorage;
 
+    /// The limits that both storages set.
+    ghost limits: { StepLimits };
+
+    /// Whether the values of an expression may allocate.
+    ghost may_allocate: { Bool };
+
     /// A step allocates no rows: their storage is made before.
     ghost rows_take_none: { Self.GimliUnwindContextStorage.never_allocates };
+
+    ghost limited: { limits ≡ step_limits Self.GimliUnwindContextStorage.limits
+        Self.GimliEvaluationStorage.Stack.capacity };
+
+    ghost taken: { may_allocate ≡ takes_memory Self.GimliEvaluationStorage.Stack.is_made_in_place
+        Self.GimliEvaluationStorage.Stack.capacity };
 }
 
 /// A step allocates the values of expressions alone. There is room for any number of them, for 4 rows, and
@@ -30,13 +42,22 @@ pub trait AllocationPolicy {
 pub struct MayAllocateDuringUnwind;
 
 impl AllocationPolicy for MayAllocateDuringUnwind {
-    ghost use Rattle.std.proofs.Common.{refl};
+    ghost use Rattle.std.proofs.Common.{refl, true};
+    ghost use Rattle.framehop.specs.StepMeanings.{limits_may_allocate};
 
     type GimliUnwindContextStorage = StoreOnHeap;
 
     type GimliEvaluationStorage = StoreOnHeap;
 
+    ghost limits = { limits_may_allocate };
+
+    ghost may_allocate = { true };
+
     ghost rows_take_none = { record { in_place = refl; rules = refl; rows = refl } };
+
+    ghost limited = { refl };
+
+    ghost taken = { refl };
 }
 
 /// A step never allocates. There is room for 64 values of an expression, for 4 rows, and for 192 rules of a
@@ -45,13 +66,22 @@ impl AllocationPolicy for MayAllocateDuringUnwind {
 pub struct MustNotAllocateDuringUnwind;
 
 impl AllocationPolicy for MustNotAllocateDuringUnwind {
-    ghost use Rattle.std.proofs.Common.{refl};
+    ghost use Rattle.std.proofs.Common.{refl, false};
+    ghost use Rattle.framehop.specs.StepMeanings.{limits_must_not_allocate};
 
     type GimliUnwindContextStorage = StoreOnStack;
 
     type GimliEvaluationStorage = StoreOnStack;
 
+    ghost limits = { limits_must_not_allocate };
+
+    ghost may_allocate = { false };
+
     ghost rows_take_none = { record { in_place = refl; rules = refl; rows = refl } };
+
+    ghost limited = { refl };
+
+    ghost taken = { refl };
 }
 
 /// Rows and values in place: at most 4 rows of 192 rules, and 64 values.
@@ -92,29 +122,11 @@ impl EvaluationStorage for StoreOnStack {
     type Stack = ArrayVec<u64, MAX_VALUES>;
 }
 
-// The list of the values of an expression under a policy.
-type Values<P> = <<P as AllocationPolicy>::GimliEvaluationStorage as EvaluationStorage>::Stack;
-
-// The storage of rows under a policy.
-type Rows<P> = <P as AllocationPolicy>::GimliUnwindContextStorage;
-
-/// A law of both policies: how many rows and rules of a row there is room for, and how many values of an
-/// expression. The function does nothing when the program runs.
+/// A law of both policies: how many rows, rules of a row and values of an expression there is room for, and that
+/// under [`MustNotAllocateDuringUnwind`] no step allocates. The function does nothing when the program runs.
 pub fn policies_set_limits()
-    ensures may { step_limits ⟦<Rows<MayAllocateDuringUnwind> as UnwindContextStorage<usize>>⟧.limits
-        ⟦<Values<MayAllocateDuringUnwind> as ArrayLike>⟧.capacity ≡ limits_may_allocate }
-    ensures must { step_limits
-        ⟦<Rows<MustNotAllocateDuringUnwind> as UnwindContextStorage<usize>>⟧.limits
-        ⟦<Values<MustNotAllocateDuringUnwind> as ArrayLike>⟧.capacity ≡ limits_must_not_allocate }
-{}
-
-/// A law of [`MustNotAllocateDuringUnwind`]: no step allocates. The function does nothing when the program
-/// runs.
-pub fn must_not_allocate_takes_no_memory()
-    ensures none { TakesMemory
-        ⟦<Values<MustNotAllocateDuringUnwind> as ArrayLike>⟧.is_made_in_place
-        ⟦<Values<MustNotAllocateDuringUnwind> as ArrayLike>⟧.capacity → ⊥ }
-    ensures never { takes_memory
-        ⟦<Values<MustNotAllocateDuringUnwind> as ArrayLike>⟧.is_made_in_place
-        ⟦<Values<MustNotAllocateDuringUnwind> as ArrayLike>⟧.capacity ≡ false }
+    ensures may { ⟦<MayAllocateDuringUnwind as AllocationPolicy>⟧.limits ≡ limits_may_allocate }
+    ensures must { ⟦<MustNotAllocateDuringUnwind as AllocationPolicy>⟧.limits
+        ≡ limits_must_not_allocate }
+    ensures never { ⟦<MustNotAllocateDuringUnwind as AllocationPolicy>⟧.may_allocate ≡ false }
 {}

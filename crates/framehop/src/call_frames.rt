@@ -2,19 +2,15 @@
 
 ghost use Rattle.std.specs.Prelude.{◌≡◌, option_map};
 ghost use Rattle.framehop_rules.specs.UnwindResults.{HasValidRule};
-ghost use Rattle.framehop_rows.specs.Memory.{takes_memory};
-ghost use Rattle.framehop.specs.Attempts.{AnswersMethod, step_limits};
-ghost use Rattle.framehop.specs.CfiIndexView.{IsIndexOf};
-ghost use Rattle.framehop.specs.DwarfViews.{frame_section_bytes};
-ghost use Rattle.framehop.specs.FrameSections.{section_of_type};
-ghost use Rattle.framehop.specs.Lookups.{ByHeader, ByIndex, ByScan, method_by};
+ghost use Rattle.framehop.specs.DwarfViews.{section_lent};
+ghost use Rattle.framehop.specs.Lookups.{method_by};
+ghost use Rattle.framehop.specs.MethodViews.{AnswersMethod};
 ghost use Rattle.framehop.specs.Methods.{method_at};
 ghost use Rattle.framehop.specs.RowAttempts.{dwarf_failure, failure_of};
-ghost use Rattle.framehop.specs.UnwindDataViews.{LeadsInto, lookup_view};
+ghost use Rattle.framehop.specs.UnwindDataViews.{LeadsInto, header_bytes, lookup_view};
 ghost use Rattle.framehop_unwinder.specs.declared.unwinding.UnwindFailure.TheVariants.{OfModule};
 
 use crate::cache::AllocationPolicy;
-use crate::cfi_index::DwarfCfiIndex;
 use crate::context::DwarfUnwindContext;
 use crate::dwarf::{DwarfUnwinder, UnwindSectionType};
 use crate::unwind_data::Lookup;
@@ -73,13 +69,9 @@ fn unwind_frame_if_found<A: DwarfUnwinding, P: AllocationPolicy, F: FnMut(u64) -
     requires nothing { failure_of not_found ≡ OfModule }
     requires callable { F.IsAlwaysCallable read_stack.old }
     ensures callable { F.IsAlwaysCallable read_stack.new }
-    ensures answers { let limits = step_limits P.GimliUnwindContextStorage.limits
-        P.GimliEvaluationStorage.Stack.capacity in
-        AnswersMethod F.step read_stack.old read_stack.new regs.old regs.new result A.rows
-        A.MeetsExpression limits (takes_memory P.GimliEvaluationStorage.Stack.is_made_in_place
-        P.GimliEvaluationStorage.Stack.capacity) unwinder.old.base_svma relative_address is_first_frame
-        (method_at (section_of_type unwinder.old.bases.now
-        (frame_section_bytes (λ b. b.now) unwinder.old.section))
+    ensures answers { AnswersMethod F.step read_stack.old read_stack.new regs.old regs.new result
+        A.rows A.MeetsExpression P.limits P.may_allocate unwinder.old.base_svma relative_address is_first_frame
+        (method_at (section_lent unwinder.old.bases unwinder.old.section)
         fde_offset) }
     ensures valid { HasValidRule A.UnwindRule.is_valid result }
 {
@@ -99,139 +91,13 @@ fn unwind_frame_if_found<A: DwarfUnwinding, P: AllocationPolicy, F: FnMut(u64) -
     }
 }
 
-// The step by the FDE that the header of these bytes names.
-fn unwind_frame_by_header<A: DwarfUnwinding, P: AllocationPolicy, F: FnMut(u64) -> Result<u64, ()>>(
-    section: UnwindSectionType<&[u8]>,
-    header: &[u8],
-    bases: &BaseAddresses,
-    base_svma: u64,
-    regs: &mut A::UnwindRegs,
-    is_first_frame: bool,
-    relative_address: u32,
-    unwind_context: &mut DwarfUnwindContext<P>,
-    read_stack: &mut F,
-) -> Result<UnwindResult<A::UnwindRule>, UnwindFailure>
-    requires callable { F.IsAlwaysCallable read_stack.old }
-    ensures callable { F.IsAlwaysCallable read_stack.new }
-    ensures answers { let limits = step_limits P.GimliUnwindContextStorage.limits
-        P.GimliEvaluationStorage.Stack.capacity in
-        AnswersMethod F.step read_stack.old read_stack.new regs.old regs.new result A.rows
-        A.MeetsExpression limits (takes_memory P.GimliEvaluationStorage.Stack.is_made_in_place
-        P.GimliEvaluationStorage.Stack.capacity) base_svma relative_address is_first_frame
-        (method_by (ByHeader header.now) bases.now
-        (section_of_type bases.now (frame_section_bytes (λ b. b.now) section.entry)) base_svma relative_address) }
-    ensures valid { HasValidRule A.UnwindRule.is_valid result }
+// The bytes of the header that FDEs are found by.
+fn header_in<'a>(lookup: &Lookup<'a>) -> Option<&'a [u8]>
+    ensures { option_map (λ b. b.now) result ≡ header_bytes (lookup_view lookup.now) }
 {
-    let alloc = unwind_context.alloc;
-    let mut unwinder = DwarfUnwinder::<A, P::GimliUnwindContextStorage>::new(
-        section,
-        Some(header),
-        &mut *unwind_context.rows,
-        bases,
-        base_svma,
-    );
-    let fde_offset = unwinder.get_fde_offset_for_relative_address(relative_address);
-    unwind_frame_if_found::<A, P, F>(
-        &mut unwinder,
-        alloc,
-        regs,
-        is_first_frame,
-        relative_address,
-        fde_offset,
-        UnwinderError::EhFrameHdrCouldNotFindAddress,
-        read_stack,
-    )
-}
-
-// The step by the FDE that an index of the section has.
-fn unwind_frame_by_index<A: DwarfUnwinding, P: AllocationPolicy, F: FnMut(u64) -> Result<u64, ()>>(
-    section: UnwindSectionType<&[u8]>,
-    index: &DwarfCfiIndex,
-    bases: &BaseAddresses,
-    base_svma: u64,
-    regs: &mut A::UnwindRegs,
-    is_first_frame: bool,
-    relative_address: u32,
-    unwind_context: &mut DwarfUnwindContext<P>,
-    read_stack: &mut F,
-) -> Result<UnwindResult<A::UnwindRule>, UnwindFailure>
-    requires index { IsIndexOf index.now base_svma
-        (section_of_type bases.now (frame_section_bytes (λ b. b.now) section)) }
-    requires callable { F.IsAlwaysCallable read_stack.old }
-    ensures callable { F.IsAlwaysCallable read_stack.new }
-    ensures answers { let limits = step_limits P.GimliUnwindContextStorage.limits
-        P.GimliEvaluationStorage.Stack.capacity in
-        AnswersMethod F.step read_stack.old read_stack.new regs.old regs.new result A.rows
-        A.MeetsExpression limits (takes_memory P.GimliEvaluationStorage.Stack.is_made_in_place
-        P.GimliEvaluationStorage.Stack.capacity) base_svma relative_address is_first_frame
-        (method_by ByIndex bases.now
-        (section_of_type bases.now (frame_section_bytes (λ b. b.now) section.entry)) base_svma relative_address) }
-    ensures valid { HasValidRule A.UnwindRule.is_valid result }
-{
-    let alloc = unwind_context.alloc;
-    let mut unwinder = DwarfUnwinder::<A, P::GimliUnwindContextStorage>::new(
-        section,
-        None,
-        &mut *unwind_context.rows,
-        bases,
-        base_svma,
-    );
-    let fde_offset = index.fde_offset_for_relative_address(relative_address);
-    unwind_frame_if_found::<A, P, F>(
-        &mut unwinder,
-        alloc,
-        regs,
-        is_first_frame,
-        relative_address,
-        fde_offset,
-        UnwinderError::DwarfCfiIndexCouldNotFindAddress,
-        read_stack,
-    )
-}
-
-// The step by the first FDE that contains the address.
-fn unwind_frame_by_reading<
-    A: DwarfUnwinding,
-    P: AllocationPolicy,
-    F: FnMut(u64) -> Result<u64, ()>,
->(
-    section: UnwindSectionType<&[u8]>,
-    bases: &BaseAddresses,
-    base_svma: u64,
-    regs: &mut A::UnwindRegs,
-    is_first_frame: bool,
-    relative_address: u32,
-    unwind_context: &mut DwarfUnwindContext<P>,
-    read_stack: &mut F,
-) -> Result<UnwindResult<A::UnwindRule>, UnwindFailure>
-    requires callable { F.IsAlwaysCallable read_stack.old }
-    ensures callable { F.IsAlwaysCallable read_stack.new }
-    ensures answers { let limits = step_limits P.GimliUnwindContextStorage.limits
-        P.GimliEvaluationStorage.Stack.capacity in
-        AnswersMethod F.step read_stack.old read_stack.new regs.old regs.new result A.rows
-        A.MeetsExpression limits (takes_memory P.GimliEvaluationStorage.Stack.is_made_in_place
-        P.GimliEvaluationStorage.Stack.capacity) base_svma relative_address is_first_frame
-        (method_by ByScan bases.now
-        (section_of_type bases.now (frame_section_bytes (λ b. b.now) section.entry)) base_svma relative_address) }
-    ensures valid { HasValidRule A.UnwindRule.is_valid result }
-{
-    let alloc = unwind_context.alloc;
-    let mut unwinder = DwarfUnwinder::<A, P::GimliUnwindContextStorage>::new(
-        section,
-        None,
-        &mut *unwind_context.rows,
-        bases,
-        base_svma,
-    );
-    match unwinder.unwind_frame_by_scan::<P::GimliEvaluationStorage, F>(
-        alloc,
-        regs,
-        is_first_frame,
-        relative_address,
-        read_stack,
-    ) {
-        Ok(answer) => Ok(answer),
-        Err(error) => Err(failure_of(UnwinderError::Dwarf(error))),
+    match *lookup {
+        Lookup::Header(bytes) => Some(bytes),
+        Lookup::Index(_) | Lookup::Scan => None,
     }
 }
 
@@ -252,50 +118,59 @@ pub(crate) fn unwind_frame_by_call_frames<
     read_stack: &mut F,
 ) -> Result<UnwindResult<A::UnwindRule>, UnwindFailure>
     requires lookup { LeadsInto base_svma
-        (section_of_type bases.now (frame_section_bytes (λ b. b.now) section)) lookup }
+        (section_lent bases section) lookup }
     requires callable { F.IsAlwaysCallable read_stack.old }
     ensures callable { F.IsAlwaysCallable read_stack.new }
-    ensures answers { let limits = step_limits P.GimliUnwindContextStorage.limits
-        P.GimliEvaluationStorage.Stack.capacity in
-        AnswersMethod F.step read_stack.old read_stack.new regs.old regs.new result A.rows
-        A.MeetsExpression limits (takes_memory P.GimliEvaluationStorage.Stack.is_made_in_place
-        P.GimliEvaluationStorage.Stack.capacity) base_svma relative_address is_first_frame
+    ensures answers { AnswersMethod F.step read_stack.old read_stack.new regs.old regs.new result
+        A.rows A.MeetsExpression P.limits P.may_allocate base_svma relative_address is_first_frame
         (method_by (lookup_view lookup.entry) bases.now
-        (section_of_type bases.now (frame_section_bytes (λ b. b.now) section.entry)) base_svma relative_address) }
+        (section_lent bases.entry section.entry) base_svma relative_address) }
     ensures valid { HasValidRule A.UnwindRule.is_valid result }
 {
+    let alloc = unwind_context.alloc;
+    let mut unwinder = DwarfUnwinder::<A, P::GimliUnwindContextStorage>::new(
+        section,
+        header_in(&lookup),
+        &mut *unwind_context.rows,
+        bases,
+        base_svma,
+    );
     match lookup {
-        Lookup::Header(header) => unwind_frame_by_header::<A, P, F>(
-            section,
-            header,
-            bases,
-            base_svma,
+        Lookup::Header(_) => {
+            let fde_offset = unwinder.get_fde_offset_for_relative_address(relative_address);
+            unwind_frame_if_found::<A, P, F>(
+                &mut unwinder,
+                alloc,
+                regs,
+                is_first_frame,
+                relative_address,
+                fde_offset,
+                UnwinderError::EhFrameHdrCouldNotFindAddress,
+                read_stack,
+            )
+        }
+        Lookup::Index(index) => {
+            let fde_offset = index.fde_offset_for_relative_address(relative_address);
+            unwind_frame_if_found::<A, P, F>(
+                &mut unwinder,
+                alloc,
+                regs,
+                is_first_frame,
+                relative_address,
+                fde_offset,
+                UnwinderError::DwarfCfiIndexCouldNotFindAddress,
+                read_stack,
+            )
+        }
+        Lookup::Scan => match unwinder.unwind_frame_by_scan::<P::GimliEvaluationStorage, F>(
+            alloc,
             regs,
             is_first_frame,
             relative_address,
-            unwind_context,
             read_stack,
-        ),
-        Lookup::Index(index) => unwind_frame_by_index::<A, P, F>(
-            section,
-            index,
-            bases,
-            base_svma,
-            regs,
-            is_first_frame,
-            relative_address,
-            unwind_context,
-            read_stack,
-        ),
-        Lookup::Scan => unwind_frame_by_reading::<A, P, F>(
-            section,
-            bases,
-            base_svma,
-            regs,
-            is_first_frame,
-            relative_address,
-            unwind_context,
-            read_stack,
-        ),
+        ) {
+            Ok(answer) => Ok(answer),
+            Err(error) => Err(failure_of(UnwinderError::Dwarf(error))),
+        },
     }
 }

@@ -6,8 +6,7 @@ ghost use Rattle.dwarf_frame_entries.specs.Entries.{fde_from_offset};
 ghost use Rattle.framehop_rules.specs.UnwindResults.{HasValidRule};
 ghost use Rattle.framehop_rows.specs.Memory.{TakesMemory};
 ghost use Rattle.framehop.specs.Coverage.{by_entry, by_fde, by_near, by_scanned, covered_by_fde, covered_by_scan};
-ghost use Rattle.framehop.specs.DwarfViews.{AnswersCoverage, scan_failure, frame_section_bytes};
-ghost use Rattle.framehop.specs.FrameSections.{section_of_type};
+ghost use Rattle.framehop.specs.DwarfViews.{AnswersCoverage, scan_failure, section_lent};
 ghost use Rattle.framehop.specs.Lookups.{offset_by_header, parsed_header};
 ghost use Rattle.framehop_errors.specs.declared.dwarf.DwarfUnwinderError.TheVariants.{OutOfMemory};
 
@@ -320,7 +319,7 @@ impl<'a, A: DwarfUnwinding, UCS: UnwindContextStorage<usize>> DwarfUnwinder<'a, 
         ensures callable { F.IsAlwaysCallable read_stack.new }
         ensures answers { AnswersCoverage F.step read_stack.old read_stack.new regs.old regs.new
             result A.rows A.MeetsExpression is_first_frame ES.Stack.capacity (covered_by_fde UCS.limits A.rows.vendor
-            (section_of_type self.old.bases.now (frame_section_bytes (λ b. b.now) self.old.section)) self.old.base_svma relative_address
+            (section_lent self.old.bases self.old.section) self.old.base_svma relative_address
             fde_offset) }
         ensures valid { HasValidRule A.UnwindRule.is_valid result }
         ensures memory { result ≡ Err OutOfMemory
@@ -378,7 +377,7 @@ impl<'a, A: DwarfUnwinding, UCS: UnwindContextStorage<usize>> DwarfUnwinder<'a, 
         ensures callable { F.IsAlwaysCallable read_stack.new }
         ensures answers { AnswersCoverage F.step read_stack.old read_stack.new regs.old regs.new
             result A.rows A.MeetsExpression is_first_frame ES.Stack.capacity (covered_by_scan UCS.limits
-            A.rows.vendor (section_of_type self.old.bases.now (frame_section_bytes (λ b. b.now) self.old.section)) self.old.base_svma
+            A.rows.vendor (section_lent self.old.bases self.old.section) self.old.base_svma
             relative_address) }
         ensures valid { HasValidRule A.UnwindRule.is_valid result }
         ensures memory { result ≡ Err OutOfMemory

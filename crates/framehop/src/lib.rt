@@ -22,7 +22,7 @@ pub mod x86_64;
 pub use arch::{BySections, Unwinding};
 pub use cache::{
     AllocationPolicy, MayAllocateDuringUnwind, MustNotAllocateDuringUnwind, StoreOnStack,
-    must_not_allocate_takes_no_memory, policies_set_limits,
+    policies_set_limits,
 };
 pub use cfi_index::{DwarfCfiIndex, IndexLookup};
 pub use context::DwarfUnwindContext;

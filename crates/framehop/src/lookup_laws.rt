@@ -5,7 +5,7 @@ ghost use Rattle.std.specs.Prelude.{◌≡◌, ◌<◌, ◌+◌, ◌^◌, ℕ, S
 ghost use Rattle.dwarf_frame_rows.specs.declared.base_addresses.BaseAddresses.{BaseAddresses};
 ghost use Rattle.dwarf_frame_entries.specs.Entries.{Fde};
 ghost use Rattle.framehop.specs.Attempts.{StepLimits};
-ghost use Rattle.framehop.specs.TruthfulLookups.{AllAttemptAlike, AllLeadTo, AreTruthful, AttemptsAlike, HeadedSection, IsFdeFor, LookupsBelowAll, headed_data, indexed_data, nearest_in};
+ghost use Rattle.framehop.specs.TruthfulLookups.{AllAttemptAlike, AllLeadTo, AreTruthful, AreTruthfulFor, HeadedSection, IndexAttemptsAlike, IsFdeFor, LookupsBelowAll, nearest_in};
 
 use framehop_rows::DwarfUnwinding;
 
@@ -19,16 +19,15 @@ pub fn truthful_lookups_lead_to_one_fde()
 /// reading the section at each step, whatever other sections than `.eh_frame` the other two modules have.
 pub fn truthful_lookups_attempt_alike<A: DwarfUnwinding>()
     ensures { (limits : StepLimits) (h : HeadedSection) (other : BaseAddresses) (relative : ℕ) (fde : Fde)
-        → AreTruthful h → other.eh_frame ≡ h.bases.eh_frame
-        → IsFdeFor h relative fde → AllAttemptAlike A.rows limits h other relative }
+        → AreTruthfulFor h other → IsFdeFor h relative fde → AllAttemptAlike A.rows limits h other relative }
 {}
 
 /// From the lowest start on the attempt at an address is the same by a truthful header and by an index, also if no
 /// FDE contains it.
 pub fn truthful_headers_attempt_as_an_index<A: DwarfUnwinding>()
     ensures { (limits : StepLimits) (h : HeadedSection) (other : BaseAddresses) (relative : ℕ) (fde : Fde)
-        → AreTruthful h → other.eh_frame ≡ h.bases.eh_frame → nearest_in h relative ≡ Some fde
-        → AttemptsAlike A.rows limits relative (indexed_data other h) (headed_data h) }
+        → AreTruthfulFor h other → nearest_in h relative ≡ Some fde
+        → IndexAttemptsAlike A.rows limits h other relative }
 {}
 
 /// Below the lowest start a truthful header leads to an FDE that starts above the address, an index to none, and

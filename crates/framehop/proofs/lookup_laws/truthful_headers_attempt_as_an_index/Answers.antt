@@ -2,4 +2,4 @@ use Rattle.framehop.proofs.TruthfulLookups.{index-alike}
 use Rattle.framehop.proofs.lookup_laws.truthful_headers_attempt_as_an_index.Goals as goal
 
 pub returns : goal.returns
-returns g c limits h other relative fde t same nearest first = index-alike h t relative g.A.DwarfUnwinding.rows limits other same first fde nearest
+returns g c limits h other relative fde t nearest first = index-alike h t.truthful relative g.A.DwarfUnwinding.rows limits other t.same first fde nearest

@@ -33,9 +33,9 @@ returns g c r covers limits forms =
     λ relative is. subst (λ (x : ℕ). contains x covers.fde ≡ true) (sym is) covers.contained in
     let law = c.truthful_lookups_attempt_alike.ensures in
     let as_scanned : (relative : ℕ) → base + relative ≡ lookup_address frame → attempt rows limits headed relative frame.is_first ≡ attempt rows limits scanned relative frame.is_first =
-    λ relative is. sym ((law limits (headed_in t) other relative covers.fde covers.truthful refl (record { listed = covers.listed; contained = contained relative is })).by_scan frame.is_first) in
+    λ relative is. sym ((law limits (headed_in t) other relative covers.fde (record { truthful = covers.truthful; same = refl }) (record { listed = covers.listed; contained = contained relative is })).by_scan frame.is_first) in
     let as_headed : (relative : ℕ) → base + relative ≡ lookup_address frame → attempt rows limits indexed relative frame.is_first ≡ attempt rows limits headed relative frame.is_first =
-    λ relative is. (law limits (headed_in t) other relative covers.fde covers.truthful refl (record { listed = covers.listed; contained = contained relative is })).by_index frame.is_first in
+    λ relative is. (law limits (headed_in t) other relative covers.fde (record { truthful = covers.truthful; same = refl }) (record { listed = covers.listed; contained = contained relative is })).by_index frame.is_first in
     let same : (one : UnwindData) → ((relative : ℕ) → base + relative ≡ lookup_address frame → attempt rows limits one relative frame.is_first ≡ attempt rows limits scanned relative frame.is_first)
     → road_line m forms r one ≡ road_line m forms r scanned =
     λ one alike. ap (λ (a : Attempt g.row.A-UnwindRule.Denot g.row.A-UnwindRegs.Denot). outcome_line forms.text registers (by_attempt m frame.is_first registers (words_of r.stack) a))

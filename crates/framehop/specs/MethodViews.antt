@@ -1,0 +1,20 @@
+-- Steps by a module's data as contracts see them.
+use Rattle.std.specs.Prelude.{ℕ, Bool, Result}
+use Rattle.dwarf_frame_rows.specs.Row.{Row}
+use Rattle.framehop_rules.specs.declared.unwind_result.UnwindResult.{UnwindResult}
+use Rattle.framehop_unwinder.specs.Memory.{WantsMemoryOnlyIf}
+use Rattle.framehop_unwinder.specs.Trials.{AnswersAttempt, has_wanted}
+use Rattle.framehop_unwinder.specs.declared.unwinding.UnwindFailure.{UnwindFailure}
+use Rattle.framehop_rows.specs.RowMeanings.{RowMeanings}
+use Rattle.framehop.specs.Attempts.{EvaluatesByMethod, StepLimits, attempt_by_method}
+use Rattle.framehop.specs.Methods.{Method}
+
+-- A step by a module's data, which took the callback from `old` to `new` and the registers from `before` to `after`, answers the attempt
+-- by a method, and memory runs out only for an expression.
+pub record AnswersMethod {Rule Registers S : Type 0} (step : S → ℕ → Result ℕ (Unit {0}) → S → Type 0) (old new : S)
+    (before after : Registers) (result : Result (UnwindResult Rule) UnwindFailure) (m : RowMeanings Rule Registers)
+    (meets : Row ℕ → Type 0) (limits : StepLimits) (takes_memory : Bool) (base relative : ℕ) (first : Bool)
+    (method : Method Rule Registers) : Type 0 where
+  pub answer : AnswersAttempt step old new before after result (attempt_by_method m limits base relative first method)
+  pub memory : WantsMemoryOnlyIf takes_memory (has_wanted result)
+      (EvaluatesByMethod meets limits.rows m.vendor base relative method)
