@@ -2,7 +2,8 @@
 ghost use Rattle.std.specs.Prelude.{true};
 
 use framehop::{
-    ExplicitModuleSectionInfo, FrameAddress, Generations, Module, Session, ModuleUnwinding, load_module,
+    ExplicitModuleSectionInfo, FrameAddress, Generations, Module, ModuleUnwinding, Session,
+    load_module,
 };
 use std::alloc::Global;
 use std::ops::Range;
