@@ -8,4 +8,5 @@ pub mod SignedSpellings
 pub mod Following
 pub mod Lengths
 pub mod Onward
+pub mod Rests
 pub mod Laws

@@ -1,7 +1,7 @@
 -- What reads leave: the bytes that they take are gone.
-use Rattle.std.specs.Prelude.{ℕ, ◌+◌, ◌==◌, ◌≤◌, length, Option, Some, None, option_map, Result, Ok, Err, if◌then◌else◌}
+use Rattle.std.specs.Prelude.{ℕ, ◌≡◌, ◌+◌, ◌==◌, ◌≤◌, length, Option, Some, None, option_map, Result, Ok, Err, if◌then◌else◌}
 use Rattle.dwarf_constants.specs.declared.error.Error.{Error}
-use Rattle.dwarf_readers.specs.Stretch.{Stretch, ◌>>=◌}
+use Rattle.dwarf_readers.specs.Stretch.{Stretch, ◌>>=◌, behind}
 use Rattle.list_laws.specs.Items.{Answer}
 
 -- What is left, if anything, is at least n bytes shorter than the stretch.
@@ -39,3 +39,9 @@ item_at read s = if length s.bytes == 0 then Ok None else (do
 -- how many bytes a stretch has
 abbrev pub size_of : Stretch → ℕ
 size_of s = length s.bytes
+
+-- What is left is the stretch without as many of its first bytes as count says.
+pub record IsRest (s rest : Stretch) : Type 0 where
+  pub count : ℕ
+  pub inside : count ≤ length s.bytes
+  pub is : rest ≡ behind count s

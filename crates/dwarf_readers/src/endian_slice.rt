@@ -188,6 +188,10 @@ impl<'a, E: Endianity> DerefSlice for EndianSlice<'a, E> {
 }
 
 impl<'a, E: Endianity> Reader for EndianSlice<'a, E> {
+    ghost use Rattle.std.specs.Prelude.{IfOk, IfErr, IsOk, ◌⊎◌};
+    ghost use Rattle.std.specs.Cow.{cow_slice_items, cow_str_bytes};
+    ghost use Rattle.std.specs.Str.{IsUtf8};
+    ghost use Rattle.dwarf_constants.specs.declared.error.Error.TheVariants.{BadUtf8, OutOfMemory};
     ghost use Rattle.dwarf_readers.specs.EndianSlice.{stretch_of};
 
     type Endian = E;
@@ -255,11 +259,23 @@ impl<'a, E: Endianity> Reader for EndianSlice<'a, E> {
         Ok(part)
     }
 
-    fn to_slice(&self, _alloc: Global) -> Result<CowSlice<'_, u8, Global>> {
+    // The bytes that are left. They are never copied, so that this doesn't fail.
+    fn to_slice(&self, _alloc: Global) -> Result<CowSlice<'_, u8, Global>>
+        ensures bytes { IfOk result (λ bytes. cow_slice_items bytes ≡ (stretch_of E.is_big self.now).bytes) }
+        ensures memory { IfErr result (λ e. e ≡ OutOfMemory) }
+        ensures lent { IsOk result }
+    {
         Ok(CowSlice::Borrowed(self.slice))
     }
 
-    fn to_string(&self, _alloc: Global) -> Result<CowStr<'_, Global>> {
+    // The bytes that are left, as a text. They are never copied. Fails with `BadUtf8` if they aren't UTF-8.
+    fn to_string(&self, _alloc: Global) -> Result<CowStr<'_, Global>>
+        ensures text { IfOk result (λ text. cow_str_bytes text ≡ (stretch_of E.is_big self.now).bytes) }
+        ensures valid { IfOk result (λ text. IsUtf8 (stretch_of E.is_big self.now).bytes) }
+        ensures refused { IfErr result
+            (λ e. (e ≡ BadUtf8) × ¬ (IsUtf8 (stretch_of E.is_big self.now).bytes) ⊎ (e ≡ OutOfMemory)) }
+        ensures lent { IfErr result (λ e. e ≡ BadUtf8) }
+    {
         Ok(CowStr::Borrowed(EndianSlice::to_string(self)?))
     }
 

@@ -1,14 +1,14 @@
 //! What reads leave: how many bytes each takes at least, so that items that are read one after the
 //! other end, and that nothing begins before the read.
 
-ghost use Rattle.std.specs.Prelude.{ℕ, Result};
+ghost use Rattle.std.specs.Prelude.{◌≡◌, ℕ, Result, Ok};
 ghost use Rattle.dwarf_constants.specs.Format.{word_size};
 ghost use Rattle.dwarf_constants.specs.declared.common.Format.{Format};
 ghost use Rattle.dwarf_constants.specs.declared.error.Error.{Error};
 ghost use Rattle.dwarf_readers.specs.InitialLength.{address_at, address_size_at, initial_length_at, sized_offset_at, word_at};
 ghost use Rattle.dwarf_readers.specs.Leb128.{behind_string, signed_at, string_of, unsigned_16_at, unsigned_32_at, unsigned_at};
 ghost use Rattle.dwarf_readers.specs.Stretch.{Stretch, string_at};
-ghost use Rattle.dwarf_readers.specs.Remainder.{Passes, Takes, TakesItem, item_at, size_of};
+ghost use Rattle.dwarf_readers.specs.Remainder.{IsRest, Passes, Takes, TakesItem, item_at, size_of};
 ghost use Rattle.dwarf_readers.specs.ReadLaws.{AnswersGoOn, AnswersLeave, FixedReadsTake, ReadsGoOn};
 ghost use Rattle.list_laws.specs.Items.{Answer, Shrinks};
 
@@ -24,6 +24,11 @@ pub fn leb128_reads_take()
     ensures unsigned_32 { (s : Stretch) → Takes 1 s (unsigned_32_at s) }
     ensures signed { (s : Stretch) → Takes 1 s (signed_at s) }
     ensures skip { (s : Stretch) → Passes 1 s (behind_string s (string_of s.bytes)) }
+{}
+
+/// After an unsigned number of variable length the other bytes of the stretch are left.
+pub fn unsigned_leaves_the_rest()
+    ensures { (s rest : Stretch) (n : ℕ) → unsigned_at s ≡ Ok (n, rest) → IsRest s rest }
 {}
 
 /// Lengths, offsets and addresses (DWARF 5, 7.2.2, 7.4 and 7.5.5). No address has the size 0.
