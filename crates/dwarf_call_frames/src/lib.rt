@@ -29,7 +29,7 @@ pub use dwarf_frame_entries::{
 };
 pub use dwarf_frame_instructions::{
     CallFrameInstruction, CallFrameInstructionIter, each_address_has_one_row,
-    each_rule_is_seen_alike,
+    each_rule_is_seen_alike, expressions_have_their_bytes,
 };
 pub use dwarf_frame_rows::{
     _UnwindSectionPrivate, BaseAddresses, CfaRule, CieOffsetEncoding, Pointer, RegisterRule,

@@ -1,4 +1,5 @@
 pub mod Execution
+pub mod ExpressionBytes
 pub mod InstructionLists
 pub mod Laws
 pub mod OneRow

@@ -1,5 +1,6 @@
 pub mod Effects
 pub mod Execution
+pub mod ExpressionBytes
 pub mod InstructionViews
 pub mod Instructions
 pub mod OpcodeTables
