@@ -4,6 +4,7 @@
 
 mod abbrev;
 mod addr;
+pub mod laws;
 pub mod more;
 mod section;
 mod str;
@@ -31,8 +32,8 @@ pub use dwarf_offsets::{
     LocationListsOffset, RangeListsOffset, RawRangeListsOffset, UnitOffset, UnitSectionOffset,
 };
 pub use dwarf_readers::{
-    BigEndian, DebugStrOffsetsBase, EndianSlice, Endianity, LittleEndian, NativeEndian, Reader,
-    ReaderOffset, RunTimeEndian, Steps, TwoPieces, leb128, read_u8_array,
+    BigEndian, Counted, DebugStrOffsetsBase, EndianSlice, Endianity, LittleEndian, NativeEndian,
+    Reader, ReaderOffset, RunTimeEndian, Steps, TwoPieces, count_steps, leb128, read_u8_array,
 };
 pub use section::Section;
 pub use str::{DebugLineStr, DebugStr, DebugStrOffsets};
