@@ -38,6 +38,10 @@ length_behind limit n =
 abbrev pub initial_length_at : ℕ → Stretch → Result ((ℕ × Format) × Stretch) Error
 initial_length_at limit s = number_at 4 s >>= length_behind limit
 
+-- a length with its format, as the number that value shows it to be
+abbrev pub length_shown : {O : Type 0} → (O → ℕ) → O × Format → ℕ × Format
+length_shown value length = (value length.0, length.1)
+
 -- what is left after an error in an initial length whose first four bytes were read
 abbrev pub left_by_length : ℕ × Stretch → Stretch
 left_by_length n = if n.0 == 0xffffffff then left_by (number_at 8 n.1) n.1 else n.1

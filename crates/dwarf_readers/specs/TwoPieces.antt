@@ -1,7 +1,8 @@
 -- Two pieces of a section, as the stretch that they are for a reader.
-use Rattle.std.specs.Prelude.{◌≡◌, ℕ, ◌+◌, ◌<◌, Bool, List, ◌++◌, length}
+use Rattle.std.specs.Prelude.{◌≡◌, ℕ, ◌+◌, ◌<◌, Bool, List, ◌++◌, length, Result}
+use Rattle.dwarf_constants.specs.declared.error.Error.{Error}
 use Rattle.dwarf_readers.specs.declared.two_pieces.TwoPieces.{TwoPieces}
-use Rattle.dwarf_readers.specs.Stretch.{Stretch}
+use Rattle.dwarf_readers.specs.Stretch.{ReadsAs, Stretch, split_at}
 
 -- the bytes of the first piece and then those of the second
 abbrev pub joined_bytes : {E : Type 0} → TwoPieces E → List ℕ
@@ -10,6 +11,11 @@ joined_bytes s = s.first.now ++ s.second.now
 -- the stretch of two pieces
 abbrev pub joined_stretch : {E : Type 0} → (E → Bool) → TwoPieces E → Stretch
 joined_stretch is_big s = record { bytes = joined_bytes s; offset = s.offset; big = is_big s.endian }
+
+-- A call took the first n bytes of two pieces, and its result is a reader of them.
+abbrev pub SplitsPieces : {E : Type 0} → (E → Bool) → ℕ → TwoPieces E → TwoPieces E → Result (TwoPieces E) Error → Type 0
+SplitsPieces is_big n old new result =
+    ReadsAs (joined_stretch is_big) result (split_at n (joined_stretch is_big old)) (joined_stretch is_big new)
 
 -- the joint: the offset at which the first piece ends and the second begins
 abbrev pub joint_of : {E : Type 0} → TwoPieces E → ℕ

@@ -42,7 +42,7 @@ impl<'a, E: Endianity> EndianSlice<'a, E> {
     ghost use Rattle.std.specs.Cow.{cow_str_bytes};
     ghost use Rattle.std.specs.Str.{IsUtf8};
     ghost use Rattle.dwarf_constants.specs.declared.error.Error.TheVariants.{BadUtf8, OutOfMemory};
-    ghost use Rattle.dwarf_readers.specs.EndianSlice.{stretch_of};
+    ghost use Rattle.dwarf_readers.specs.EndianSlice.{slice_bytes, stretch_of};
     ghost use Rattle.dwarf_readers.specs.Stretch.{whole, prefix, behind, end_of, count_before};
 
     /// A section as a whole: its first byte is at offset 0.
@@ -109,10 +109,10 @@ impl<'a, E: Endianity> EndianSlice<'a, E> {
 
     /// The bytes as a text. Fails with `BadUtf8` if they aren't UTF-8.
     pub fn to_string(&self) -> Result<&'a str>
-        ensures text { IfOk result (λ text. text.now ≡ (stretch_of E.is_big self.now).bytes) }
-        ensures valid { IfOk result (λ text. IsUtf8 (stretch_of E.is_big self.now).bytes) }
+        ensures text { IfOk result (λ text. text.now ≡ slice_bytes self.now) }
+        ensures valid { IfOk result (λ text. IsUtf8 (slice_bytes self.now)) }
         ensures refused { IfErr result
-            (λ e. (e ≡ BadUtf8) × ¬ (IsUtf8 (stretch_of E.is_big self.now).bytes)) }
+            (λ e. (e ≡ BadUtf8) × ¬ (IsUtf8 (slice_bytes self.now))) }
     {
         match str::from_utf8(self.slice) {
             Ok(text) => Ok(text),
@@ -123,8 +123,8 @@ impl<'a, E: Endianity> EndianSlice<'a, E> {
     /// The bytes as a text with U+FFFD for what is no character. It is copied only if there is such a
     /// part.
     pub fn to_string_lossy(&self, alloc: Global) -> Result<CowStr<'a, Global>>
-        ensures text { IfOk result (λ text. IsUtf8 (stretch_of E.is_big self.now).bytes
-            → cow_str_bytes text ≡ (stretch_of E.is_big self.now).bytes) }
+        ensures text { IfOk result (λ text. IsUtf8 (slice_bytes self.now)
+            → cow_str_bytes text ≡ slice_bytes self.now) }
         ensures memory { IfErr result (λ e. e ≡ OutOfMemory) }
     {
         match str::from_utf8(self.slice) {

@@ -1,9 +1,8 @@
 //! The meaning of equality of slices.
 
-ghost use Rattle.std.specs.Prelude.{◌≡◌, IsTrue};
+ghost use Rattle.std.specs.Prelude.{IsTrue};
 ghost use Rattle.dwarf_readers.specs.declared.endian_slice.EndianSlice.{EndianSlice};
-ghost use Rattle.dwarf_readers.specs.EndianSlice.{stretch_of};
-ghost use Rattle.dwarf_readers.specs.Stretch.{AreAlike};
+ghost use Rattle.dwarf_readers.specs.EndianSlice.{SameWhereAlike, SlicesAreAlike};
 
 use crate::endian_slice::EndianSlice;
 use dwarf_endianity::Endianity;
@@ -13,10 +12,8 @@ use std::hash::Hash;
 /// they hash alike.
 pub fn equal_slices_are_alike<'a, E: Endianity + Hash>()
     ensures equal { (a b : EndianSlice E) → IsTrue (⟦<EndianSlice<'a, E> as PartialEq>⟧.eq a b)
-        → AreAlike (stretch_of E.is_big a) (stretch_of E.is_big b) }
-    ensures alike { (a b : EndianSlice E) → AreAlike (stretch_of E.is_big a) (stretch_of E.is_big b)
+        → SlicesAreAlike E.is_big a b }
+    ensures alike { (a b : EndianSlice E) → SlicesAreAlike E.is_big a b
         → IsTrue (⟦<EndianSlice<'a, E> as PartialEq>⟧.eq a b) }
-    ensures hash { (a b : EndianSlice E) → AreAlike (stretch_of E.is_big a) (stretch_of E.is_big b)
-        → ⟦<EndianSlice<'a, E> as Hash>⟧.hash_input a
-        ≡ ⟦<EndianSlice<'a, E> as Hash>⟧.hash_input b }
+    ensures hash { SameWhereAlike E.is_big ⟦<EndianSlice<'a, E> as Hash>⟧.hash_input }
 {}

@@ -16,7 +16,7 @@ pub use dwarf_endianity::{
     BigEndian, Endianity, LittleEndian, NativeEndian, ReaderOffset, RunTimeEndian,
 };
 pub use endian_slice::EndianSlice;
-pub use reader::{Reader, read_u8_array};
+pub use reader::{Reader, is_address_size, read_u8_array};
 pub use steps::{Counted, Steps, count_steps};
 pub use str_offsets_base::DebugStrOffsetsBase;
 pub use two_pieces::TwoPieces;

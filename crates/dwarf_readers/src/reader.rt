@@ -6,7 +6,7 @@ ghost use Rattle.std.specs.Int.{w8, w16, w32, w64};
 ghost use Rattle.std.specs.Str.{IsUtf8};
 ghost use Rattle.dwarf_constants.specs.declared.error.Error.TheVariants.{BadUtf8, OutOfMemory};
 ghost use Rattle.dwarf_constants.specs.Format.{word_size};
-ghost use Rattle.dwarf_readers.specs.InitialLength.{address_at, address_size_at, initial_length_at, left_by, left_by_initial_length, sized_number_at, sized_offset_at, word_at};
+ghost use Rattle.dwarf_readers.specs.InitialLength.{address_at, address_size_at, initial_length_at, is_size, left_by, left_by_initial_length, length_shown, sized_number_at, sized_offset_at, word_at};
 ghost use Rattle.dwarf_readers.specs.Leb128.{behind_string, left_by_leb128, signed_at, string_of, unsigned_16_at, unsigned_32_at, unsigned_at};
 ghost use Rattle.dwarf_endianity.specs.Answers.{Gives};
 ghost use Rattle.dwarf_readers.specs.Stretch.{Moves, Reads, ReadsAs, Stretch, behind, behind_at, byte_at, bytes_at, count_before, empty_stretch, end_of, found_at, prefix_at, number_at, relative_offset, signed_byte_at, signed_number_at, split_at, string_at};
@@ -210,7 +210,7 @@ pub trait Reader: Debug + Copy {
     /// Reads an initial length (DWARF 5, 7.2.2 and 7.4). Fails with `UnknownReservedLength` if the first
     /// four bytes are a reserved value, and with `UnsupportedOffset` if the offset type is too small.
     fn read_initial_length(&mut self) -> Result<(Self::Offset, Format)>
-        ensures read { ReadsAs (λ r. (Self.Offset.value r.0, r.1)) result
+        ensures read { ReadsAs (length_shown Self.Offset.value) result
             (initial_length_at Self.Offset.limit (stretch self.old)) (stretch self.new) }
         ensures refused { OnErr result (stretch self.new
             ≡ left_by_initial_length (number_at 4 (stretch self.old)) (stretch self.old)) }
@@ -232,10 +232,10 @@ pub trait Reader: Debug + Copy {
             (stretch self.new ≡ left_by (byte_at (stretch self.old)) (stretch self.old)) }
     {
         let size = self.read_u8()?;
-        match size {
-            1 | 2 | 4 | 8 => Ok(size),
-            _ => Err(Error::UnsupportedAddressSize(size)),
+        if !is_address_size(size) {
+            return Err(Error::UnsupportedAddressSize(size));
         }
+        Ok(size)
     }
 
     /// Reads an address of this size in bytes: 1, 2, 4 or 8, else `UnsupportedAddressSize`.
@@ -244,10 +244,10 @@ pub trait Reader: Debug + Copy {
             (stretch self.new) }
         ensures unchanged { OnErr result (stretch self.new ≡ stretch self.old) }
     {
-        match address_size {
-            1 | 2 | 4 | 8 => self.read_uint(address_size as usize),
-            _ => Err(Error::UnsupportedAddressSize(address_size)),
+        if !is_address_size(address_size) {
+            return Err(Error::UnsupportedAddressSize(address_size));
         }
+        self.read_uint(address_size as usize)
     }
 
     /// Reads an offset of the format's size.
@@ -291,10 +291,10 @@ pub trait Reader: Debug + Copy {
         ensures refused { OnErr result (stretch self.new
             ≡ left_by (sized_number_at size (stretch self.old)) (stretch self.old)) }
     {
-        match size {
-            1 | 2 | 4 | 8 => Self::Offset::from_u64(self.read_uint(size as usize)?),
-            _ => Err(Error::UnsupportedOffsetSize(size)),
+        if !is_address_size(size) {
+            return Err(Error::UnsupportedOffsetSize(size));
         }
+        Self::Offset::from_u64(self.read_uint(size as usize)?)
     }
 
     /// Skips a number of variable length.
@@ -361,6 +361,14 @@ pub trait Reader: Debug + Copy {
     {
         leb128::read::signed(self)
     }
+}
+
+/// Whether addresses and offsets may have this size in bytes: 1, 2, 4 or 8.
+#[inline(always)]
+pub fn is_address_size(size: u8) -> bool
+    ensures { result ≡ is_size size }
+{
+    matches!(size, 1 | 2 | 4 | 8)
 }
 
 /// Reads the next `N` bytes.

@@ -1,7 +1,7 @@
 //! What reads leave: how many bytes each takes at least, so that items that are read one after the
 //! other end, and that nothing begins before the read.
 
-ghost use Rattle.std.specs.Prelude.{◌≡◌, ℕ, Result, Ok};
+ghost use Rattle.std.specs.Prelude.{◌≡◌, ℕ, Ok};
 ghost use Rattle.dwarf_constants.specs.Format.{word_size};
 ghost use Rattle.dwarf_constants.specs.declared.common.Format.{Format};
 ghost use Rattle.dwarf_constants.specs.declared.error.Error.{Error};
@@ -9,6 +9,7 @@ ghost use Rattle.dwarf_readers.specs.InitialLength.{address_at, address_size_at,
 ghost use Rattle.dwarf_readers.specs.Leb128.{behind_string, signed_at, string_of, unsigned_16_at, unsigned_32_at, unsigned_at};
 ghost use Rattle.dwarf_readers.specs.Stretch.{Stretch, string_at};
 ghost use Rattle.dwarf_readers.specs.Remainder.{IsRest, Passes, Takes, TakesItem, item_at, size_of};
+ghost use Rattle.dwarf_readers.specs.Operands.{Parse};
 ghost use Rattle.dwarf_readers.specs.ReadLaws.{AnswersGoOn, AnswersLeave, FixedReadsTake, ReadsGoOn};
 ghost use Rattle.list_laws.specs.Items.{Answer, Shrinks};
 
@@ -55,8 +56,8 @@ pub fn answers_leave<X, Y>()
 
 /// Items that take a byte each are a list with an end.
 pub fn items_take<A>()
-    ensures item { (n : ℕ) (read : Stretch → Result (A × Stretch) Error) (s : Stretch)
-        → Takes n s (read s) → TakesItem n s (item_at read s) }
+    ensures item { (n : ℕ) (read : Parse A) (s : Stretch) → Takes n s (read s)
+        → TakesItem n s (item_at read s) }
     ensures shrink { (step : Stretch → Answer Stretch A Error)
         → ((s : Stretch) → TakesItem 1 s (step s)) → Shrinks size_of step }
 {}

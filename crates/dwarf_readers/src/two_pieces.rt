@@ -154,8 +154,8 @@ impl<'a, E: Endianity> Reader for TwoPieces<'a, E> {
     ghost use Rattle.std.specs.Cow.{cow_slice_items, cow_str_bytes};
     ghost use Rattle.std.specs.Str.{IsUtf8};
     ghost use Rattle.dwarf_constants.specs.declared.error.Error.TheVariants.{BadUtf8, OutOfMemory};
-    ghost use Rattle.dwarf_readers.specs.Stretch.{Moves, ReadsAs, behind_at, prefix_at, split_at};
-    ghost use Rattle.dwarf_readers.specs.TwoPieces.{joined_stretch, joined_bytes, CrossesJoint, KeepsJoint};
+    ghost use Rattle.dwarf_readers.specs.Stretch.{Moves, behind_at, prefix_at};
+    ghost use Rattle.dwarf_readers.specs.TwoPieces.{joined_stretch, joined_bytes, CrossesJoint, KeepsJoint, SplitsPieces};
 
     type Endian = E;
 
@@ -226,8 +226,7 @@ impl<'a, E: Endianity> Reader for TwoPieces<'a, E> {
     }
 
     fn split(&mut self, len: usize) -> Result<Self>
-        ensures read { ReadsAs (joined_stretch E.is_big) result
-            (split_at len (joined_stretch E.is_big self.old)) (joined_stretch E.is_big self.new) }
+        ensures read { SplitsPieces E.is_big len self.old self.new result }
         ensures unchanged { OnErr result
             (joined_stretch E.is_big self.new ≡ joined_stretch E.is_big self.old) }
         ensures joint { KeepsJoint self.old self.new }

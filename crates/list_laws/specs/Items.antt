@@ -37,6 +37,14 @@ rest_within (suc n) step s = rest_from (rest_within n step) s (step s)
 abbrev pub rest_of : {S A E : Type 0} → (S → ℕ) → (S → Answer S A E) → S → S
 rest_of size step s = rest_within (suc (size s)) step s
 
+-- The items are the one that the first step gives and then those of what it leaves.
+abbrev pub ComeByStep : {S A E : Type 0} → (S → ℕ) → (S → Answer S A E) → Type 0
+ComeByStep {S} size step = (s : S) → items_of size step s ≡ items_from (items_of size step) (step s)
+
+-- What the items leave is what those after the first step's item leave.
+abbrev pub RestComesByStep : {S A E : Type 0} → (S → ℕ) → (S → Answer S A E) → Type 0
+RestComesByStep {S} size step = (s : S) → rest_of size step s ≡ rest_from (rest_of size step) s (step s)
+
 -- Each item makes what is left smaller.
 pub record Shrinks {S A E : Type 0} (size : S → ℕ) (step : S → Answer S A E) : Type 0 where
   pub smaller : (s rest : S) (item : A) → step s ≡ Ok (Some (item, rest)) → size rest < size s

@@ -7,7 +7,7 @@ ghost use Rattle.std.specs.Prelude.{◌≡◌, ◌+◌, ℕ, Bool, true, false, 
 ghost use Rattle.std.specs.List.{slice_index_or};
 ghost use Rattle.std.specs.List.Sorted.{IsNonDecreasingBy};
 ghost use Rattle.list_laws.specs.Greatest.{first_greatest, last_greatest, greater_of};
-ghost use Rattle.list_laws.specs.Items.{Answer, CallsGiveItems, Shrinks, items_from, items_of, rest_from, rest_of};
+ghost use Rattle.list_laws.specs.Items.{Answer, CallsGiveItems, ComeByStep, RestComesByStep, Shrinks};
 ghost use Rattle.list_laws.specs.Last.{last_of};
 
 /// A test holds or fails, and an option has a value or none.
@@ -39,10 +39,10 @@ pub fn greatest_in_order<A>()
 
 /// The items are the one that the first step gives and then those of what it leaves.
 pub fn items_by_steps<S, A, E>()
-    ensures items { (size : S → ℕ) (step : S → Answer S A E) → Shrinks size step → (s : S)
-        → items_of size step s ≡ items_from (items_of size step) (step s) }
-    ensures rest { (size : S → ℕ) (step : S → Answer S A E) → Shrinks size step → (s : S)
-        → rest_of size step s ≡ rest_from (rest_of size step) s (step s) }
+    ensures items { (size : S → ℕ) (step : S → Answer S A E) → Shrinks size step
+        → ComeByStep size step }
+    ensures rest { (size : S → ℕ) (step : S → Answer S A E) → Shrinks size step
+        → RestComesByStep size step }
 {}
 
 /// A call that takes a step gives the first of the items that were to come, and leaves the others.
