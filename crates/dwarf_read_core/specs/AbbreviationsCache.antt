@@ -1,6 +1,8 @@
 -- What caches of abbreviation tables keep.
 use Rattle.std.specs.Prelude.{ℕ, ◌==◌, ◌≡◌, Bool, true, unwrap_or, List, Option, Some, None, Result, Ok, Err, count_by, if◌then◌else◌, map, nat_le, option_map}
 use Rattle.std.specs.BTreeMap.{get}
+use Rattle.std.specs.BTreeSet.{BTreeSet, contains}
+use Rattle.std.specs.Iterator.{Drains, YieldsThen}
 use Rattle.std.specs.Ordering.{nat_cmp}
 use Rattle.std.specs.declared.rc.Rc.{Rc}
 use Rattle.dwarf_constants.specs.declared.error.Error.{Error}
@@ -13,10 +15,14 @@ use Rattle.dwarf_read_core.specs.declared.abbrev.cache.AbbreviationsCacheStrateg
 use Rattle.dwarf_read_core.specs.declared.abbrev.cache.AbbreviationsCacheStrategy.TheVariants.{All, Duplicates}
 use Rattle.dwarf_readers.specs.Stretch.{Stretch}
 
+-- the declarations of a table that is shared
+abbrev pub shared_declarations : {Z : Type 0} → Rc Abbreviations Z → List Declaration
+shared_declarations table = declarations table.value
+
 -- a table in memory as its declarations, or an error
 abbrev pub table_answer : {Z : Type 0} → Result (Rc Abbreviations Z) Error
     → Result (List Declaration) Error
-table_answer (Ok table) = Ok (declarations table.value)
+table_answer (Ok table) = Ok (shared_declarations table)
 table_answer (Err e) = Err e
 
 -- what a cache keeps for an offset, if anything
@@ -45,10 +51,31 @@ abbrev pub cached_answer : AbbreviationsCache → Stretch → ℕ → Result (Li
 cached_answer cache section offset = unwrap_or (kept_answer cache offset) (table_in offset section)
 
 -- A cache keeps what is kept after these offsets came, whose numbers are their values.
-abbrev pub KeepsPopulated : {O : Type 0} → (value : O → ℕ) → AbbreviationsCacheStrategy → List (DebugAbbrevOffset O)
-    → Stretch → AbbreviationsCache → Type 0
-KeepsPopulated value strategy came section cache = (offset : ℕ)
+abbrev pub Populates : {O : Type 0} → (value : O → ℕ) → AbbreviationsCacheStrategy → Stretch → AbbreviationsCache
+    → List (DebugAbbrevOffset O) → Type 0
+Populates value strategy section cache came = (offset : ℕ)
     → kept_answer cache offset ≡ populated_answer strategy (map (λ o. value o.0) came) section offset
+
+-- An iterator gives offsets alone and ends, and this holds of the offsets that came.
+abbrev pub GivesAll : {I O : Type 0} → (I → Option (Result (DebugAbbrevOffset O) Error) → I → Type 0) → I
+    → (List (DebugAbbrevOffset O) → Type 0) → Type 0
+GivesAll {I} {O} next_gives offsets Holds = (came : List (DebugAbbrevOffset O))
+    × Drains next_gives offsets (map (λ offset. Ok offset) came) × Holds came
+
+-- An iterator gives an error as its first.
+abbrev pub GivesError : {I O : Type 0} → (I → Option (Result (DebugAbbrevOffset O) Error) → I → Type 0) → I → Error → Type 0
+GivesError {I} {O} next_gives offsets e = (came : List (DebugAbbrevOffset O)) × (left : I)
+    × YieldsThen next_gives offsets (map (λ offset. Ok offset) came) (Some (Err e)) left
+
+-- A cache keeps the answer for an offset, and for all others what it kept before.
+abbrev pub KeepsAt : ℕ → (ℕ → Result (List Declaration) Error) → AbbreviationsCache → AbbreviationsCache → Type 0
+KeepsAt added answer old new = (offset : ℕ)
+    → kept_answer new offset ≡ (if offset == added then Some (answer offset) else kept_answer old offset)
+
+-- A set of offsets has one more.
+abbrev pub HasAlso : ℕ → BTreeSet ℕ → BTreeSet ℕ → Type 0
+HasAlso added old new = (offset : ℕ)
+    → contains nat_cmp new offset ≡ (if offset == added then true else contains nat_cmp old offset)
 
 -- Both caches keep the same.
 abbrev pub KeepsSame : AbbreviationsCache → AbbreviationsCache → Type 0

@@ -1,8 +1,8 @@
 -- Tables of abbreviations that code 0 closes (DWARF 5, 7.5.3), and not the section's end.
-use Rattle.std.specs.Prelude.{◌≡◌, ℕ, length, ◌==◌, ◌&&◌, Bool, true, false, not, Some, None, Result, Ok, Err}
+use Rattle.std.specs.Prelude.{◌≡◌, ℕ, IsTrue, List, length, ◌==◌, ◌&&◌, Bool, true, false, not, Some, None, Result, Ok, Err}
 use Rattle.dwarf_constants.specs.declared.error.Error.{Error}
 use Rattle.dwarf_read_core.specs.AbbreviationTable.{next_declaration}
-use Rattle.dwarf_readers.specs.More.{IsLasting}
+use Rattle.dwarf_readers.specs.More.{IsLasting, extended_stretch}
 use Rattle.dwarf_readers.specs.Stretch.{Stretch, behind}
 use Rattle.dwarf_readers.specs.Remainder.{size_of}
 use Rattle.list_laws.specs.Items.{Answer, rest_of}
@@ -29,3 +29,8 @@ is_closed_in offset section = is_closed_at (behind offset section)
 abbrev pub StaysIf : {A : Type 0} → Type 0 → Result A Error → Result A Error → Type 0
 StaysIf Condition (Ok x) after = Condition → after ≡ Ok x
 StaysIf Condition (Err e) after = IsLasting e → after ≡ Err e
+
+-- What is read stays wherever this test holds, whatever bytes follow.
+abbrev pub IsSteadyIf : {A : Type 0} → (Stretch → Bool) → (Stretch → Result A Error) → Type 0
+IsSteadyIf test read = (more : List ℕ) (s : Stretch)
+    → StaysIf (IsTrue (test s)) (read s) (read (extended_stretch more s))

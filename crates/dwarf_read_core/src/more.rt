@@ -1,15 +1,14 @@
 //! What stays of an answer when more bytes follow a section: no byte after those that are read
 //! changes it.
 
-ghost use Rattle.std.specs.Prelude.{◌<◌, ℕ, List, length, IsTrue};
+ghost use Rattle.std.specs.Prelude.{ℕ};
 ghost use Rattle.dwarf_constants.specs.declared.common.Format.{Format};
 ghost use Rattle.dwarf_read_core.specs.AbbreviationTable.{attributes_at, table_at, table_in};
 ghost use Rattle.dwarf_read_core.specs.AddressSets.{next_address, next_set, set_at};
-ghost use Rattle.dwarf_read_core.specs.ClosedTables.{StaysIf, is_closed_at, is_closed_in};
-ghost use Rattle.dwarf_read_core.specs.MoreItems.{StaysNext};
+ghost use Rattle.dwarf_read_core.specs.ClosedTables.{IsSteadyIf, is_closed_at, is_closed_in};
+ghost use Rattle.dwarf_read_core.specs.MoreItems.{IsSteadyNext};
 ghost use Rattle.dwarf_read_core.specs.Sections.{address_in, range_in, string_in, string_offset_in};
-ghost use Rattle.dwarf_readers.specs.More.{IsSteady, IsSteadySearch, extended_stretch};
-ghost use Rattle.dwarf_readers.specs.Stretch.{Stretch};
+ghost use Rattle.dwarf_readers.specs.More.{IsSteady, IsSteadySearch};
 
 /// What is found by its offset in a section: strings, string offsets and addresses, and parts of the
 /// section.
@@ -26,20 +25,14 @@ pub fn searches_stay()
 /// left.
 pub fn address_sets_stay()
     ensures set { (limit offset : ℕ) → IsSteady (set_at limit offset) }
-    ensures next_set { (limit offset : ℕ) (more : List ℕ) (s : Stretch) → 0 < length s.bytes
-        → StaysNext more (next_set limit offset s)
-        (next_set limit offset (extended_stretch more s)) }
-    ensures next_address { (size : ℕ) (more : List ℕ) (s : Stretch) → 0 < length s.bytes
-        → StaysNext more (next_address size s) (next_address size (extended_stretch more s)) }
+    ensures next_set { (limit offset : ℕ) → IsSteadyNext (next_set limit offset) }
+    ensures next_address { (size : ℕ) → IsSteadyNext (next_address size) }
 {}
 
 /// Tables of abbreviations (DWARF 5, 7.5.3). A table that the section's end closes may become longer,
 /// and one that code 0 closes stays.
 pub fn abbreviation_tables_stay()
     ensures attributes { IsSteady attributes_at }
-    ensures table { (more : List ℕ) (s : Stretch)
-        → StaysIf (IsTrue (is_closed_at s)) (table_at s) (table_at (extended_stretch more s)) }
-    ensures table_in { (offset : ℕ) (more : List ℕ) (section : Stretch)
-        → StaysIf (IsTrue (is_closed_in offset section)) (table_in offset section)
-        (table_in offset (extended_stretch more section)) }
+    ensures table { IsSteadyIf is_closed_at table_at }
+    ensures table_in { (offset : ℕ) → IsSteadyIf (is_closed_in offset) (table_in offset) }
 {}

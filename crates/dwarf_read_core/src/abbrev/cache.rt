@@ -1,13 +1,12 @@
 //! Tables of `.debug_abbrev` that are read once and shared.
 
-ghost use Rattle.std.specs.Prelude.{◌≡◌, ℕ, ◌==◌, ◌⊎◌, List, if◌then◌else◌, true, None, Some, Ok, Err, IfOk, IfErr, OnErr, OnOk, map};
+ghost use Rattle.std.specs.Prelude.{◌≡◌, ℕ, ◌⊎◌, None, Ok, IfOk, IfErr, OnErr, OnOk};
 ghost use Rattle.std.specs.BTreeSet.{contains};
-ghost use Rattle.std.specs.Iterator.{Drains, IsFinite, YieldsThen};
+ghost use Rattle.std.specs.Iterator.{IsFinite};
 ghost use Rattle.std.specs.Ordering.{nat_cmp};
-ghost use Rattle.dwarf_offsets.specs.declared.DebugAbbrevOffset.{DebugAbbrevOffset};
 ghost use Rattle.dwarf_constants.specs.declared.error.Error.TheVariants as error;
 ghost use Rattle.dwarf_read_core.specs.AbbreviationTable.{GivesOrMemory, table_in};
-ghost use Rattle.dwarf_read_core.specs.AbbreviationsCache.{KeepsPopulated, KeepsSame, cached_answer, is_kept, kept_answer, table_answer};
+ghost use Rattle.dwarf_read_core.specs.AbbreviationsCache.{GivesError, GivesAll, HasAlso, KeepsAt, Populates, KeepsSame, cached_answer, is_kept, kept_answer, shared_declarations, table_answer};
 ghost use Rattle.dwarf_read_core.specs.declared.abbrev.cache.AbbreviationsCacheStrategy.TheVariants as strategies;
 ghost use Rattle.dwarf_read_core.specs.DebugAbbrev.{declarations};
 
@@ -57,13 +56,10 @@ impl AbbreviationsCache {
     ) -> Result<()>
         requires can { I.can_next offsets }
         requires ends { IsFinite (I.remaining offsets) }
-        ensures populated { OnOk result ((came : List (DebugAbbrevOffset R.Offset))
-            × Drains I.next_gives offsets (map (λ o. Ok o) came)
-            × KeepsPopulated R.Offset.value strategy came (R.stretch debug_abbrev.now)
-            self.new) }
-        ensures refused { IfErr result (λ e. (e ≡ error.OutOfMemory)
-            ⊎ ((came : List (DebugAbbrevOffset R.Offset)) × (left : I)
-            × YieldsThen I.next_gives offsets (map (λ o. Ok o) came) (Some (Err e)) left)) }
+        ensures populated { OnOk result (GivesAll I.next_gives offsets
+            (Populates R.Offset.value strategy (R.stretch debug_abbrev.now) self.new)) }
+        ensures refused { IfErr result
+            (λ e. (e ≡ error.OutOfMemory) ⊎ GivesError I.next_gives offsets e) }
         ensures unchanged { OnErr result (KeepsSame self.old self.new) }
     {
         let mut seen = BTreeSet::new(self.alloc);
@@ -86,10 +82,8 @@ impl AbbreviationsCache {
         debug_abbrev: &DebugAbbrev<R>,
         offset: DebugAbbrevOffset<R::Offset>,
     ) -> Result<()>
-        ensures kept { OnOk result ((q : ℕ) → kept_answer self.new q
-            ≡ (if q == R.Offset.value offset.0
-            then Some (cached_answer self.old (R.stretch debug_abbrev.now) q)
-            else kept_answer self.old q)) }
+        ensures kept { OnOk result (KeepsAt (R.Offset.value offset.0)
+            (cached_answer self.old (R.stretch debug_abbrev.now)) self.old self.new) }
         ensures memory { IfErr result (λ e. e ≡ error.OutOfMemory) }
     {
         let number = offset.0.into_u64();
@@ -108,9 +102,8 @@ impl AbbreviationsCache {
         offset: DebugAbbrevOffset<Offset>,
         abbreviations: Rc<Abbreviations>,
     ) -> Result<()>
-        ensures kept { OnOk result ((q : ℕ) → kept_answer self.new q
-            ≡ (if q == Offset.value offset.0 then Some (Ok (declarations abbreviations.value))
-            else kept_answer self.old q)) }
+        ensures kept { OnOk result (KeepsAt (Offset.value offset.0)
+            (λ _. Ok (shared_declarations abbreviations)) self.old self.new) }
         ensures unchanged { OnErr result (KeepsSame self.old self.new) }
         ensures memory { IfErr result (λ e. e ≡ error.OutOfMemory) }
     {
@@ -125,7 +118,7 @@ impl AbbreviationsCache {
         debug_abbrev: &DebugAbbrev<R>,
         offset: DebugAbbrevOffset<R::Offset>,
     ) -> Result<Rc<Abbreviations>>
-        ensures { GivesOrMemory (λ table. declarations table.value) result
+        ensures { GivesOrMemory shared_declarations result
             (cached_answer self.now (R.stretch debug_abbrev.now) (R.Offset.value offset.0)) }
     {
         match self.tables.get(&offset.0.into_u64()) {
@@ -138,7 +131,7 @@ impl AbbreviationsCache {
 
 // The table, to be shared.
 fn shared(alloc: Global, table: Abbreviations) -> Result<Rc<Abbreviations>>
-    ensures { GivesOrMemory (λ table. declarations table.value) result (Ok (declarations table)) }
+    ensures { GivesOrMemory shared_declarations result (Ok (declarations table)) }
 {
     Ok(Rc::new(alloc, table)?)
 }
@@ -169,9 +162,8 @@ fn is_wanted(
 ) -> Result<bool>
     ensures wanted { IfOk result
         (λ wanted. wanted ≡ is_kept strategy (contains nat_cmp seen.old offset)) }
-    ensures seen { OnOk result (strategy ≡ strategies.Duplicates
-        → (q : ℕ) → contains nat_cmp seen.new q
-        ≡ (if q == offset then true else contains nat_cmp seen.old q)) }
+    ensures seen { OnOk result
+        (strategy ≡ strategies.Duplicates → HasAlso offset seen.old seen.new) }
     ensures memory { IfErr result (λ e. e ≡ error.OutOfMemory) }
 {
     match strategy {
