@@ -34,6 +34,11 @@ pub data EvaluationState : Type 0 where
   Finished : ℕ → EvaluationState
   Refused : Error → EvaluationState
 
+-- what an evaluation of these bytes takes, with this size of an address and this capacity of its stack
+abbrev pub input_of : Stretch → ℕ → Option ℕ → EvaluationInput
+input_of expression address_size capacity =
+    record { expression = expression; address_size = address_size; capacity = capacity }
+
 -- how many operations may still run
 abbrev pub operations_left : EvaluationState → ℕ
 operations_left (Ready m) = m.left
@@ -53,6 +58,10 @@ operation_limit = 4096
 -- the machine before the first operation
 abbrev pub first_machine : StackMachine
 first_machine = record { stack = []; offset = 0; left = operation_limit }
+
+-- an evaluation of this expression before its first operation
+abbrev pub first_evaluation : EvaluationInput → EvaluationModel
+first_evaluation input = record { program = input; state = Ready first_machine }
 
 -- the target of a branch in an expression of this length, or at its end; the error names any other modulo 2^64
 abbrev pub branch_target : ℕ → ℤ → Result ℕ Error
@@ -152,6 +161,10 @@ CanResume (Ready m) = ⊥
 CanResume (Asking register offset m) = Unit {0}
 CanResume (Finished value) = ⊥
 CanResume (Refused e) = Unit {0}
+
+-- If a register is asked for, this holds.
+abbrev pub IfAsks : Result EvaluationResult Error → Type 0 → Type 0
+IfAsks result Holds = (register : Register) → result ≡ Ok (RequiresRegister register) → Holds
 
 -- The state is the expected one; or there was no memory for a stack that grows.
 abbrev pub ComesTo : Option ℕ → EvaluationState → EvaluationState → Type 0

@@ -3,7 +3,7 @@ use Rattle.std.specs.Prelude.{◌≡◌, ◌≤◌, ◌-◌, ◌+ℤ◌, ℕ, �
 use Rattle.dwarf_constants.specs.declared.error.Error.{Error}
 use Rattle.dwarf_constants.specs.declared.error.Error.TheVariants.{OutOfMemory}
 use Rattle.dwarf_readers.specs.Stretch.{Stretch, ◌>>=◌, behind}
-use Rattle.dwarf_expressions.specs.Evaluation.{StackMachine, EvaluationInput, EvaluationState, Ready, Asking, Finished, Refused, branch_target}
+use Rattle.dwarf_expressions.specs.Evaluation.{StackMachine, EvaluationInput, EvaluationState, Ready, Asking, Finished, Refused, branch_target, first_machine}
 use Rattle.dwarf_expressions.specs.declared.evaluation.EvaluationState.{EvaluationState as StoredState}
 use Rattle.dwarf_expressions.specs.declared.evaluation.EvaluationState.TheVariants as kept
 use Rattle.dwarf_expressions.specs.declared.machine.Stop.{Stop}
@@ -13,6 +13,10 @@ use Rattle.dwarf_expressions.specs.declared.machine.Stop.TheVariants as stop
 pub record Course : Type 0 where
   pub program : EvaluationInput
   pub machine : StackMachine
+
+-- a machine before the first operation of its program
+abbrev pub first_course : EvaluationInput → Course
+first_course input = record { program = input; machine = first_machine }
 
 -- the state of an evaluation, by what the code stores of it and by its machine
 abbrev pub evaluation_state : StoredState → StackMachine → EvaluationState

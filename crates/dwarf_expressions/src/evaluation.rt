@@ -1,14 +1,12 @@
 //! The evaluation of expressions (DWARF 5, 2.5).
 
-ghost use Rattle.std.specs.Prelude.{◌≡◌, ◌<◌, true, Err, IfOk, IfErr, IsOk, IsTrue, Ok};
+ghost use Rattle.std.specs.Prelude.{◌≡◌, ◌<◌, true, Err, IfOk, IfErr, IsOk, IsTrue};
 ghost use Rattle.dwarf_constants.specs.declared.error.Error.TheVariants.{OutOfMemory};
 ghost use Rattle.dwarf_readers.specs.InitialLength.{is_size};
-ghost use Rattle.dwarf_expressions.specs.Evaluation.{CanResume, EvaluationModel, GoesTo, IsNotMade, Ready, Refused, StaysStopped, WantsMemory, first_machine, operations_left, state_reached, state_reached_with, value_in};
+ghost use Rattle.dwarf_expressions.specs.Evaluation.{CanResume, EvaluationModel, GoesTo, IfAsks, IsNotMade, Refused, StaysStopped, WantsMemory, first_evaluation, input_of, operations_left, state_reached, state_reached_with, value_in};
 ghost use Rattle.dwarf_expressions.specs.EvaluationViews.{AddsOffset, IsReady, evaluation_state};
 ghost use Rattle.dwarf_expressions.specs.Values.{generic_of};
-ghost use Rattle.dwarf_constants.specs.declared.common.Register.{Register};
 ghost use Rattle.dwarf_constants.specs.declared.error.Error.{Error};
-ghost use Rattle.dwarf_expressions.specs.declared.evaluation.EvaluationResult.TheVariants.{RequiresRegister};
 
 use crate::machine::{StackMachine, Stop};
 use crate::value::Value;
@@ -73,14 +71,8 @@ impl<R: Reader, S: EvaluationStorage> Evaluation<R, S> {
         expression: Expression<R>,
         encoding: Encoding,
     ) -> Result<Evaluation<R, S>>
-        ensures first { IfOk result (λ e. e ≡ record {
-          program = record {
-            expression = R.stretch expression.0;
-            address_size = encoding.address_size;
-            capacity = S.Stack.capacity;
-          };
-          state = Ready first_machine;
-        }) }
+        ensures first { IfOk result (λ e. e ≡ first_evaluation
+            (input_of (R.stretch expression.0) encoding.address_size S.Stack.capacity)) }
         ensures size { IfOk result (λ e. is_size encoding.address_size ≡ true) }
         ensures refused { IfErr result (λ e. IsNotMade encoding.address_size e) }
         ensures memory { IsTrue S.Stack.is_made_in_place → is_size encoding.address_size ≡ true
@@ -99,8 +91,7 @@ impl<R: Reader, S: EvaluationStorage> Evaluation<R, S> {
         ensures goes { GoesTo self.old self.new
             (state_reached self.old.program self.old.state) result }
         ensures stays { StaysStopped self.old.state self.new.state }
-        ensures asks { (register : Register) → result ≡ Ok (RequiresRegister register)
-            → CanResume self.new.state }
+        ensures asks { IfAsks result (CanResume self.new.state) }
         ensures memory { result ≡ Err OutOfMemory → WantsMemory self.old }
     {
         match self.state {
@@ -120,10 +111,9 @@ impl<R: Reader, S: EvaluationStorage> Evaluation<R, S> {
         ensures goes { GoesTo self.old self.new
             (state_reached_with self.old.program (generic_of value) self.old.state) result }
         ensures again { (e : Error) → self.old.state ≡ Refused e → self.new.state ≡ Refused e }
-        ensures asks { (register : Register) → result ≡ Ok (RequiresRegister register)
-            → CanResume self.new.state }
-        ensures fewer { (register : Register) → result ≡ Ok (RequiresRegister register)
-            → operations_left self.new.state < operations_left self.old.state }
+        ensures asks { IfAsks result (CanResume self.new.state) }
+        ensures fewer { IfAsks result
+            (operations_left self.new.state < operations_left self.old.state) }
         ensures memory { result ≡ Err OutOfMemory → WantsMemory self.old }
     {
         let Value::Generic(number) = value;
@@ -149,10 +139,9 @@ impl<R: Reader, S: EvaluationStorage> Evaluation<R, S> {
         requires { AddsOffset self.old.state offset }
         ensures goes { GoesTo self.old self.new
             (state_reached_with self.old.program number self.old.state) result }
-        ensures asks { (register : Register) → result ≡ Ok (RequiresRegister register)
-            → CanResume self.new.state }
-        ensures fewer { (register : Register) → result ≡ Ok (RequiresRegister register)
-            → operations_left self.new.state < operations_left self.old.state }
+        ensures asks { IfAsks result (CanResume self.new.state) }
+        ensures fewer { IfAsks result
+            (operations_left self.new.state < operations_left self.old.state) }
         ensures memory { result ≡ Err OutOfMemory → WantsMemory self.old }
     {
         match self.machine.push_sum(number, offset) {
@@ -179,10 +168,9 @@ impl<R: Reader, S: EvaluationStorage> Evaluation<R, S> {
         requires { IsReady self.old.state }
         ensures goes { GoesTo self.old self.new
             (state_reached self.old.program self.old.state) result }
-        ensures asks { (register : Register) → result ≡ Ok (RequiresRegister register)
-            → CanResume self.new.state }
-        ensures fewer { (register : Register) → result ≡ Ok (RequiresRegister register)
-            → operations_left self.new.state < operations_left self.old.state }
+        ensures asks { IfAsks result (CanResume self.new.state) }
+        ensures fewer { IfAsks result
+            (operations_left self.new.state < operations_left self.old.state) }
         ensures memory { result ≡ Err OutOfMemory → WantsMemory self.old }
     {
         match self.machine.run() {

@@ -5,8 +5,8 @@ ghost use Rattle.std.specs.Prelude.{◌==◌};
 ghost use Rattle.dwarf_readers.specs.InitialLength.{is_size};
 ghost use Rattle.dwarf_endianity.specs.Answers.{Gives};
 ghost use Rattle.dwarf_readers.specs.Stretch.{end_of};
-ghost use Rattle.dwarf_expressions.specs.Evaluation.{IsNotMade, first_machine, machine_after, machine_with, operation_step, branch_target, run, state_by_operation, top_of};
-ghost use Rattle.dwarf_expressions.specs.EvaluationViews.{Changes, Comes, Course, IsRestAt, Stops, rest_at_target};
+ghost use Rattle.dwarf_expressions.specs.Evaluation.{IsNotMade, input_of, machine_after, machine_with, operation_step, branch_target, run, state_by_operation, top_of};
+ghost use Rattle.dwarf_expressions.specs.EvaluationViews.{Changes, Comes, Course, IsRestAt, Stops, first_course, rest_at_target};
 
 use crate::stack::ValueStack;
 use crate::value::AddressSize;
@@ -69,14 +69,8 @@ impl<R: Reader, L: ArrayLike<Item = u64>> StackMachine<R, L> {
         expression: Expression<R>,
         encoding: Encoding,
     ) -> Result<StackMachine<R, L>>
-        ensures first { IfOk result (λ m. m ≡ record {
-          program = record {
-            expression = R.stretch expression.0;
-            address_size = encoding.address_size;
-            capacity = L.capacity;
-          };
-          machine = first_machine;
-        }) }
+        ensures first { IfOk result (λ m. m ≡ first_course
+            (input_of (R.stretch expression.0) encoding.address_size L.capacity)) }
         ensures size { IfOk result (λ m. is_size encoding.address_size ≡ true) }
         ensures refused { IfErr result (λ e. IsNotMade encoding.address_size e) }
         ensures memory { IsTrue L.is_made_in_place → is_size encoding.address_size ≡ true

@@ -1,10 +1,10 @@
 //! The stack of an evaluation (DWARF 5, 2.5.1).
 
-ghost use Rattle.std.specs.Prelude.{◌≡◌, ◌<◌, ◌≤◌, [], ◌∷◌, All, IfOk, IfErr, IfSome, IsTrue, IsOk, MatchResult, Ok, length, reverse, slice_get, slice_set};
+ghost use Rattle.std.specs.Prelude.{◌≡◌, ◌<◌, ◌≤◌, [], ◌∷◌, All, IfOk, IfErr, IfSome, IsTrue, IsOk, Ok, length, reverse, slice_get, slice_set};
 ghost use Rattle.dwarf_constants.specs.declared.error.Error.TheVariants.{NotEnoughStackItems, OutOfMemory};
 ghost use Rattle.dwarf_storage.specs.Capacity.{IsWithin};
 ghost use Rattle.dwarf_expressions.specs.Effects.{of_top, of_two, rotated_stack, stack_after, stack_with, stack_with_copy, stack_without_top, swapped_stack, with_top, with_two};
-ghost use Rattle.dwarf_expressions.specs.StackViews.{Becomes, Leaves, SizedValues};
+ghost use Rattle.dwarf_expressions.specs.StackViews.{Becomes, Leaves, Pops, SizedValues};
 ghost use Rattle.dwarf_expressions.specs.Evaluation.{branch_of};
 ghost use Rattle.dwarf_expressions.specs.Values.{modulus};
 ghost use Rattle.std.specs.Prelude.{pos, ◌+ℤ◌};
@@ -64,7 +64,6 @@ impl<L: ArrayLike<Item = u64>> ValueStack<L> {
         ensures becomes { Becomes L.capacity
             (Ok (value ∷ self.old.values)) result self.new.values }
     {
-        let _ = &self.size;
         match self.items.try_push(value) {
             Ok(()) => Ok(()),
             Err(PushError::CapacityFull) => Err(Error::StackFull),
@@ -96,9 +95,7 @@ impl<L: ArrayLike<Item = u64>> ValueStack<L> {
     // Removes the top, and returns it.
     fn pop(&mut self) -> Result<u64>
         ensures size { self.new.address_size ≡ self.old.address_size }
-        ensures top { MatchResult result (λ top. self.old.values ≡ top ∷ self.new.values)
-            (λ e. (self.old.values ≡ []) × (self.new.values ≡ [])
-            × (e ≡ NotEnoughStackItems)) }
+        ensures top { Pops self.old.values self.new.values result }
         ensures below { IfOk result (λ top. top < modulus self.old.address_size) }
     {
         self.items.pop().ok_or(Error::NotEnoughStackItems)

@@ -11,6 +11,7 @@ ghost use Rattle.dwarf_expressions.specs.Values.{modulus, signed, value_from, va
 
 use dwarf_constants::{Error, Result};
 use dwarf_operations::Operation;
+use dwarf_readers::is_address_size;
 
 /// A value of an expression.
 #[derive(Debug, Clone, Copy, PartialEq, Eq)]
@@ -31,10 +32,10 @@ impl AddressSize {
         ensures { MatchResult result (λ size. size.bytes ≡ bytes)
             (λ e. (is_size bytes ≡ false) × (e ≡ UnsupportedAddressSize bytes)) }
     {
-        match bytes {
-            1 | 2 | 4 | 8 => Ok(AddressSize { bytes }),
-            _ => Err(Error::UnsupportedAddressSize(bytes)),
+        if !is_address_size(bytes) {
+            return Err(Error::UnsupportedAddressSize(bytes));
         }
+        Ok(AddressSize { bytes })
     }
 
     // How many of 64 bits no value has.

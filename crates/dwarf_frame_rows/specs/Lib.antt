@@ -1,3 +1,4 @@
+pub mod BaseAddresses
 pub mod CfaRules
 pub mod Contexts
 pub mod Effects

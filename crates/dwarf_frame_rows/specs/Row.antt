@@ -1,5 +1,5 @@
 -- A row of the table that call frame instructions describe (DWARF 5, 6.4.1).
-use Rattle.std.specs.Prelude.{ℕ, Bool, ◌&&◌, nat_le, nat_lt}
+use Rattle.std.specs.Prelude.{◌≡◌, ℕ, ◌+◌, Bool, ◌&&◌, List, [], ◌∷◌, ◌++◌, map, nat_le, nat_lt, take}
 use Rattle.std.specs.FinMap.{empty}
 use Rattle.dwarf_frame_rows.specs.declared.row.UnwindTableRow.{UnwindTableRow}
 use Rattle.dwarf_frame_rows.specs.declared.rules.CfaRule.{CfaRule}
@@ -25,6 +25,14 @@ row_of row = record {
   cfa = row.cfa;
   rules = row.registers;
 }
+
+-- the first n of some rows
+abbrev pub first_rows : {T L : Type 0} → ℕ → List (UnwindTableRow T L) → List (Row T)
+first_rows n rows = map row_of (take n rows)
+
+-- A list has the rows before an index that it had, and at the index this row.
+abbrev pub FollowsRows : {T L : Type 0} → ℕ → List (UnwindTableRow T L) → List (UnwindTableRow T L) → Row T → Type 0
+FollowsRows index old new row = first_rows (index + 1) new ≡ first_rows index old ++ row ∷ []
 
 -- the row before any instruction
 abbrev pub first_row : {T : Type 0} → Row T

@@ -1,6 +1,7 @@
 //! The addresses that pointers are relative to.
 
 ghost use Rattle.std.specs.Prelude.{◌≡◌, Some};
+ghost use Rattle.dwarf_frame_rows.specs.BaseAddresses.{with_text};
 
 /// The addresses that the pointers of one section are relative to, as far as they are known. Each is an
 /// address in the memory in which the code runs or is looked up.
@@ -54,8 +55,8 @@ impl BaseAddresses {
     /// With the address at which the code starts, for both sections.
     pub fn set_text(mut self, address: u64) -> Self
         ensures { result ≡ record self {
-          eh_frame_hdr = record self.eh_frame_hdr { text = Some address };
-          eh_frame = record self.eh_frame { text = Some address };
+          eh_frame_hdr = with_text address self.eh_frame_hdr;
+          eh_frame = with_text address self.eh_frame;
         } }
     {
         self.eh_frame_hdr.text = Some(address);

@@ -1,8 +1,8 @@
 //! The context in which call frame instructions are executed (DWARF 5, 6.4.2).
 
-ghost use Rattle.std.specs.Prelude.{◌≡◌, ◌≢◌, ◌≤◌, ◌<◌, ◌+◌, ◌^◌, ◌++◌, ◌∷◌, [], ◌↔◌, IfErr, IfOk, IsOk, IsSome, IsTrue, Some, true, OnErr, OnOk, length, map, take, slice_index_or};
+ghost use Rattle.std.specs.Prelude.{◌≡◌, ◌≤◌, ◌<◌, ◌+◌, ◌↔◌, IfErr, IfOk, IsOk, IsSome, IsTrue, Some, true, OnOk, length, take, slice_index_or};
 ghost use Rattle.dwarf_storage.specs.Capacity.{HasRoom, IsWithin};
-ghost use Rattle.dwarf_frame_rows.specs.Row.{row_of, with_parts_of};
+ghost use Rattle.dwarf_frame_rows.specs.Row.{FollowsRows, row_of, with_parts_of};
 ghost use Rattle.dwarf_frame_rows.specs.Effects.{Limits, TakesNoMemory, initial_rows, limits_of, negated_rule};
 
 use crate::rule_map::RegisterRuleMap;
@@ -64,6 +64,16 @@ impl<T: ReaderOffset> UnwindContextStorage<T> for StoreOnHeap {
     ghost room = { lit≤ tt };
 }
 
+/// A law of [`StoreOnHeap`]: a row has room for 192 rules, which are in place, there is room for 4 rows,
+/// and no call on a context allocates. The function does nothing when the program runs.
+pub fn store_on_heap_has_room<T: ReaderOffset>()
+    ensures limits { ⟦<StoreOnHeap as UnwindContextStorage<T>>⟧.limits
+        ≡ limits_of (Some 192) (Some 4) }
+    ensures in_place { IsTrue
+        ⟦<<StoreOnHeap as UnwindContextStorage<T>>::Rules as ArrayLike>⟧.is_made_in_place }
+    ensures never { ⟦<StoreOnHeap as UnwindContextStorage<T>>⟧.never_allocates }
+{}
+
 /// The current row of a program, the rows on its stack, and the rules that its CIE's instructions left.
 /// A context can be used for one program after another.
 #[derive(Drop)]
@@ -95,8 +105,8 @@ impl<T: ReaderOffset> UnwindContext<T, StoreOnHeap> {
 }
 
 impl<T: ReaderOffset, S: UnwindContextStorage<T>> UnwindContext<T, S> {
-    ghost use Rattle.dwarf_frame_rows.specs.Contexts.{Acts, state_of};
-    ghost use Rattle.dwarf_frame_rows.specs.Effects.{first_state, negated_state, popped_state, pushed_state, ruled_state, state_after, state_by_initial_rules, state_with_initial_rules, with_bounds};
+    ghost use Rattle.dwarf_frame_rows.specs.Contexts.{Acts, NeedsNoMemory, SavesInitialRules, state_of};
+    ghost use Rattle.dwarf_frame_rows.specs.Effects.{first_state, negated_state, popped_state, pushed_state, ruled_state, state_after, state_by_initial_rules, with_bounds};
 
     /// A context before any instruction. Allocates only for lists that aren't made in place, and fails
     /// only if it fails to allocate.
@@ -144,11 +154,9 @@ impl<T: ReaderOffset, S: UnwindContextStorage<T>> UnwindContext<T, S> {
     /// that row, and with `OutOfMemory` only if the rules of a row have no limit. After an `Err` none are
     /// kept.
     pub fn save_initial_rules(&mut self) -> Result<()>
-        ensures acts { Acts (state_with_initial_rules S.limits)
-            (record (state_of S.Stack.items self.old) { initial_rules = None })
+        ensures acts { SavesInitialRules S.limits (state_of S.Stack.items self.old)
             (state_of S.Stack.items self.new) result }
-        ensures memory { IsSome S.Rules.capacity
-            → IfErr result (λ e. e ≢ Error.OutOfMemory) }
+        ensures memory { IsSome S.Rules.capacity → NeedsNoMemory result }
     {
         self.is_initialized = false;
         if !self.has_room(1 + counted_rows(self.row.rules())) {
@@ -167,7 +175,7 @@ impl<T: ReaderOffset, S: UnwindContextStorage<T>> UnwindContext<T, S> {
     pub fn apply(&mut self, effect: Effect<T>) -> Result<()>
         ensures acts { Acts (state_after S.limits effect)
             (state_of S.Stack.items self.old) (state_of S.Stack.items self.new) result }
-        ensures memory { S.never_allocates → IfErr result (λ e. e ≢ Error.OutOfMemory) }
+        ensures memory { S.never_allocates → NeedsNoMemory result }
     {
         match effect {
             Effect::Move(_) | Effect::Nothing => Ok(()),
@@ -202,19 +210,16 @@ impl<T: ReaderOffset, S: UnwindContextStorage<T>> UnwindContext<T, S> {
         ensures acts { Acts
             (ruled_state S.limits register.0 rule)
             (state_of S.Stack.items self.old) (state_of S.Stack.items self.new) result }
-        ensures memory { IsSome S.Rules.capacity
-            → IfErr result (λ e. e ≢ Error.OutOfMemory) }
+        ensures memory { IsSome S.Rules.capacity → NeedsNoMemory result }
     {
         self.row.set_rule(register, rule)
     }
 
     // Gives the register the rule that the CIE's own instructions left, or none.
     fn restore_rule(&mut self, register: Register) -> Result<()>
-        ensures acts { Acts
-            (state_by_initial_rules S.limits register.0)
+        ensures acts { Acts (state_by_initial_rules S.limits register.0)
             (state_of S.Stack.items self.old) (state_of S.Stack.items self.new) result }
-        ensures memory { IsSome S.Rules.capacity
-            → IfErr result (λ e. e ≢ Error.OutOfMemory) }
+        ensures memory { IsSome S.Rules.capacity → NeedsNoMemory result }
     {
         if !self.is_initialized {
             return Err(Error::CfiInstructionInInvalidContext);
@@ -232,8 +237,7 @@ impl<T: ReaderOffset, S: UnwindContextStorage<T>> UnwindContext<T, S> {
     fn negate_ra_state(&mut self) -> Result<()>
         ensures acts { Acts (negated_state S.limits)
             (state_of S.Stack.items self.old) (state_of S.Stack.items self.new) result }
-        ensures memory { IsSome S.Rules.capacity
-            → IfErr result (λ e. e ≢ Error.OutOfMemory) }
+        ensures memory { IsSome S.Rules.capacity → NeedsNoMemory result }
     {
         let rule = negated(self.row.register(AArch64::RA_SIGN_STATE))?;
         self.set_rule(AArch64::RA_SIGN_STATE, rule)
@@ -244,16 +248,16 @@ impl<T: ReaderOffset, S: UnwindContextStorage<T>> UnwindContext<T, S> {
         ensures acts { Acts (pushed_state S.limits)
             (state_of S.Stack.items self.old) (state_of S.Stack.items self.new) result }
         ensures memory { IsTrue S.Rules.is_made_in_place → IsSome S.Rules.capacity
-            → IsSome S.Stack.capacity → IfErr result (λ e. e ≢ Error.OutOfMemory) }
+            → IsSome S.Stack.capacity → NeedsNoMemory result }
     {
         if !self.has_room(2 + self.initial_rows()) {
             return Err(Error::StackFull);
         }
         let index = self.remembered_rows();
         self.depth = index;
-        make_room(&mut self.saved, index, self.alloc)?;
+        let depth = make_room(&mut self.saved, index, self.alloc)?;
         save(&mut self.saved, index, &self.row)?;
-        self.depth = index + 1;
+        self.depth = depth;
         Ok(())
     }
 
@@ -261,7 +265,7 @@ impl<T: ReaderOffset, S: UnwindContextStorage<T>> UnwindContext<T, S> {
     fn restore(&mut self) -> Result<()>
         ensures acts { Acts popped_state
             (state_of S.Stack.items self.old) (state_of S.Stack.items self.new) result }
-        ensures memory { IfErr result (λ e. e ≢ Error.OutOfMemory) }
+        ensures memory { NeedsNoMemory result }
     {
         let rows = self.remembered_rows();
         if rows == 0 {
@@ -324,29 +328,31 @@ fn negated<T: Copy>(rule: Option<RegisterRule<T>>) -> Result<RegisterRule<T>>
     }
 }
 
-// Makes sure that there is a row at this index to be written over. A call of its own, so that a
-// function that executes instructions has no room for a row on its stack.
+// Makes sure that there is a row at this index to be written over, and returns how many rows there are
+// with it. A call of its own, so that a function that executes instructions has no room for a row on
+// its stack.
 #[inline(never)]
 fn make_room<
     T: ReaderOffset,
     Rules: ArrayLike<Item = RuledRegister<RegisterRule<T>>>,
     Stack: ArrayLike<Item = UnwindTableRow<T, Rules>>,
->(saved: &mut Stack, index: usize, alloc: Global) -> Result<()>
+>(saved: &mut Stack, index: usize, alloc: Global) -> Result<usize>
     requires index { index ≤ length (Stack.items saved.old) }
     requires room { HasRoom Stack.capacity index }
     ensures there { OnOk result (index < length (Stack.items saved.new)) }
+    ensures count { IfOk result (λ count. count ≡ index + 1) }
     ensures before { take index (Stack.items saved.new) ≡ take index (Stack.items saved.old) }
     ensures error { IfErr result (λ e. e ≡ Error.OutOfMemory) }
     ensures memory { IsTrue Rules.is_made_in_place → IsSome Stack.capacity → IsOk result }
 {
     if index < saved.as_slice().len() {
-        return Ok(());
+        return Ok(index + 1);
     }
     let Ok(row) = UnwindTableRow::new_in(alloc) else {
         return Err(Error::OutOfMemory);
     };
     match saved.try_push(row) {
-        Ok(()) => Ok(()),
+        Ok(()) => Ok(saved.as_slice().len()),
         Err(_) => Err(Error::OutOfMemory),
     }
 }
@@ -358,15 +364,12 @@ fn save<
     Stack: ArrayLike<Item = UnwindTableRow<T, Rules>>,
 >(saved: &mut Stack, index: usize, row: &UnwindTableRow<T, Rules>) -> Result<()>
     requires { index < length (Stack.items saved.old) }
-    ensures there { OnOk result (map row_of (take (index + 1) (Stack.items saved.new))
-        ≡ map row_of (take index (Stack.items saved.old)) ++ row_of row.now ∷ []) }
+    ensures there { OnOk result (FollowsRows index (Stack.items saved.old) (Stack.items saved.new)
+        (row_of row.now)) }
     ensures before { take index (Stack.items saved.new) ≡ take index (Stack.items saved.old) }
-    ensures fits { index + 1 < 2 ^ 64 }
     ensures error { IfErr result (λ e. e ≡ Error.OutOfMemory) }
     ensures memory { IsSome Rules.capacity → IsOk result }
 {
-    // That there is such a row bounds the index.
-    let _rows = saved.as_slice().len();
     match saved.item_mut(index) {
         Some(saved_row) => saved_row.copy_from(row),
         None => Ok(()),

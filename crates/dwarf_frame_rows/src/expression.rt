@@ -1,7 +1,7 @@
 //! Expressions of call frames, by their offsets (DWARF 5, 6.4.2).
 
 ghost use Rattle.dwarf_endianity.specs.Answers.{Gives};
-ghost use Rattle.dwarf_frame_rows.specs.Expressions.{expression_in};
+ghost use Rattle.dwarf_frame_rows.specs.Expressions.{expression_bytes};
 
 use crate::_UnwindSectionPrivate;
 use dwarf_constants::Result;
@@ -23,9 +23,8 @@ impl<T: Copy> UnwindExpression<T> {
         &self,
         section: &S,
     ) -> Result<Expression<R>>
-        ensures { Gives (λ expression. R.stretch expression.0) result (expression_in
-            (R.stretch (S.reader section.now)) (T.value self.now.offset)
-            (T.value self.now.length)) }
+        ensures { Gives (λ e. R.stretch e.0) result
+            (expression_bytes T.value (R.stretch (S.reader section.now)) self.now) }
     {
         let reader: &R = _UnwindSectionPrivate::section(section);
         let mut rest = *reader;

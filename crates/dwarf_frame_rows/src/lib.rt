@@ -14,7 +14,7 @@ mod rules;
 mod section;
 
 pub use base_addresses::{BaseAddresses, SectionBaseAddresses};
-pub use context::{UnwindContext, UnwindContextStorage};
+pub use context::{UnwindContext, UnwindContextStorage, store_on_heap_has_room};
 pub use dwarf_storage::StoreOnHeap;
 pub use effect::Effect;
 pub use expression::UnwindExpression;

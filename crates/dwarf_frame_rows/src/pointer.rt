@@ -13,7 +13,7 @@ use dwarf_constants::constants::{
     DW_EH_PE_udata4, DW_EH_PE_udata8, DW_EH_PE_uleb128,
 };
 use dwarf_constants::{DwEhPe, Error, Result};
-use dwarf_readers::Reader;
+use dwarf_readers::{Reader, is_address_size};
 
 /// A pointer once it is read.
 #[derive(Debug, Clone, Copy, PartialEq, Eq)]
@@ -191,10 +191,10 @@ fn pointer_origin<R: Reader>(
         },
         _ => return Err(Error::UnsupportedPointerEncoding),
     };
-    match parameters.address_size {
-        1 | 2 | 4 | 8 => Ok(base),
-        size => Err(Error::UnsupportedAddressSize(size)),
+    if !is_address_size(parameters.address_size) {
+        return Err(Error::UnsupportedAddressSize(parameters.address_size));
     }
+    Ok(base)
 }
 
 // Reads a value of this format.

@@ -2,7 +2,7 @@
 
 ghost use Rattle.std.specs.Prelude.{◌≡◌, IfErr, IfOk, IsOk, IsSome, IsTrue, OnErr, OnOk};
 ghost use Rattle.std.specs.Slice.Iter.{iter_rest};
-ghost use Rattle.std.specs.FinMap.{get, insert, len, remove};
+ghost use Rattle.std.specs.FinMap.{empty, get, insert, len, remove};
 ghost use Rattle.dwarf_frame_rows.specs.RuleMap.{HasEachOnce, HoldsRules, map_of};
 
 use crate::rule_map::RegisterRuleMap;
@@ -35,14 +35,13 @@ pub struct UnwindTableRow<
 /// An element of a list that holds no row yet.
 impl<T: ReaderOffset, Rules: ArrayLike<Item = RuledRegister<RegisterRule<T>>> + Default> Default
     for UnwindTableRow<T, Rules> {
+    ghost use Rattle.std.specs.Prelude.{◌≡◌};
+    ghost use Rattle.dwarf_frame_rows.specs.Row.{first_row, row_of};
+
+    ghost is_default = { λ row. row_of row ≡ first_row };
+
     fn default() -> Self {
-        UnwindTableRow {
-            start_address: 0,
-            end_address: 0,
-            saved_args_size: 0,
-            cfa: CfaRule::default(),
-            registers: RegisterRuleMap::default(),
-        }
+        UnwindTableRow::before_any_instruction(RegisterRuleMap::default())
     }
 }
 
@@ -57,13 +56,21 @@ impl<T: ReaderOffset, Rules: ArrayLike<Item = RuledRegister<RegisterRule<T>>>> U
         ensures empty { IfOk result (λ row. row_of row ≡ first_row) }
         ensures memory { IsTrue Rules.is_made_in_place → IsOk result }
     {
-        Ok(UnwindTableRow {
+        Ok(UnwindTableRow::before_any_instruction(RegisterRuleMap::new_in(alloc)?))
+    }
+
+    // A row before any instruction, which keeps its rules in a map that has none.
+    fn before_any_instruction(registers: RegisterRuleMap<RegisterRule<T>, Rules>) -> Self
+        requires { registers ≡ empty }
+        ensures { row_of result ≡ first_row }
+    {
+        UnwindTableRow {
             start_address: 0,
             end_address: 0,
             saved_args_size: 0,
             cfa: CfaRule::default(),
-            registers: RegisterRuleMap::new_in(alloc)?,
-        })
+            registers,
+        }
     }
 
     /// The address at which the row starts.

@@ -38,6 +38,11 @@ impl<V, Rules: ArrayLike<Item = RuledRegister<V>>> Model for RegisterRuleMap<V, 
 
 /// The rules of no row.
 impl<V, Rules: ArrayLike<Item = RuledRegister<V>> + Default> Default for RegisterRuleMap<V, Rules> {
+    ghost use Rattle.std.specs.Prelude.{◌≡◌};
+    ghost use Rattle.std.specs.FinMap as map;
+
+    ghost is_default = { λ rules. rules ≡ map.empty };
+
     fn default() -> Self {
         let mut rules = Rules::default();
         rules.clear();

@@ -107,10 +107,12 @@ pub struct RuledRegister<V> {
 
 /// An element of a list that holds no rule yet.
 impl<V: Default> Default for RuledRegister<V> {
+    ghost use Rattle.std.specs.Prelude.{◌≡◌};
+
+    ghost is_default = { λ pair. (pair.register.0 ≡ 0) × V.is_default pair.rule };
+
     fn default() -> Self {
-        RuledRegister {
-            register: Register(0),
-            rule: V::default(),
-        }
+        let (register, rule) = (Register(0), V::default());
+        RuledRegister { register, rule }
     }
 }
