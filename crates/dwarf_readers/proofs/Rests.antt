@@ -1,5 +1,5 @@
 -- What a number of variable length leaves: the stretch without its first bytes.
-use Rattle.std.proofs.Common.{◌≡◌, ℕ, ◌+◌, ◌≤◌, List, length, take, Option, Some, None, Result, Ok, Err, cond, Bool, true, false, refl, ap, sym, arith}
+use Rattle.std.proofs.Common.{◌≡◌, ℕ, ◌+◌, ◌≤◌, List, length, take, Option, Some, None, Result, Ok, Err, cond, Bool, true, false, refl, ap, sym}
 use Rattle.std.specs.Prelude.{nat_lt}
 use Rattle.dwarf_constants.specs.declared.error.Error.{Error}
 use Rattle.dwarf_constants.specs.declared.error.Error.TheVariants.{BadUnsignedLeb128}
