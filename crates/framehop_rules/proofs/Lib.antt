@@ -1,4 +1,5 @@
 mod LastKept
+pub mod Laws
 mod Parts
 mod PopReads
 mod PopSteps

@@ -1,9 +1,11 @@
 -- What is known of the parts of a rule, and of each where the whole answers.
-use Rattle.std.proofs.Common.{◌≡◌, ◌≢◌, ◌≤◌, ◌<◌, ◌^◌, ℕ, ◌+◌, refl, arith, Bool, true, false}
+use Rattle.std.proofs.Common.{◌≡◌, ◌≢◌, ◌≤◌, ◌<◌, ◌^◌, ℕ, ◌+◌, refl, ap, arith, Bool, true, false, Option, Some, None}
 use Rattle.std.specs.Prelude.{ℤ, pos, negsuc, ◌+ℤ◌, ◌==◌, if◌then◌else◌}
 use Rattle.std.proofs.lemmas.Bool.Decides.{Decides-eqb}
 use Rattle.std.proofs.lemmas.Int.{ints}
-use Rattle.framehop_rules.specs.Outcome.{Outcome, Ends, Refuses, Answers, and_then, address}
+use Rattle.framehop_registers.specs.Callback.{Words}
+use Rattle.framehop_rules.specs.Answered.{IsAddressFrom}
+use Rattle.framehop_rules.specs.Outcome.{Outcome, Ends, Refuses, Answers, and_then, address, word}
 use Rattle.framehop_registers.specs.declared.error.Error.{Error}
 
 -- the first part answers, and then the second
@@ -14,7 +16,7 @@ and_then-answers (Refuses error) next answer is = cc
 and_then-answers (Answers value) next answer is = (value, refl, is)
 
 -- an address is the number that it was asked for
-address-answers : (z : ℤ) (a : ℕ) → address z ≡ Answers a → z ≡ pos a
+pub address-answers : (z : ℤ) (a : ℕ) → address z ≡ Answers a → z ≡ pos a
 address-answers (pos n) a is = grind arith
 address-answers (negsuc n) a is = cc
 
@@ -23,24 +25,27 @@ pub above-answers : (base bytes a : ℕ) → address (pos base +ℤ pos bytes) �
 above-answers base bytes a is = omega (arith, ints, address-answers (pos base +ℤ pos bytes) a is)
 
 -- and it has 64 bits
-above-fits : (base bytes a : ℕ) → address (pos base +ℤ pos bytes) ≡ Answers a → a < 2 ^ 64
+pub above-fits : (base bytes a : ℕ) → address (pos base +ℤ pos bytes) ≡ Answers a → a < 2 ^ 64
 above-fits base bytes a is = fits (pos base +ℤ pos bytes) is
   where
     fits : (z : ℤ) → address z ≡ Answers a → a < 2 ^ 64
     fits (pos n) is = grind arith
     fits (negsuc n) is = cc
 
--- a stack pointer isn't below another, and has 64 bits
-pub record IsPlaced (low high : ℕ) : Type 0 where
-  pub not_below : low ≤ high
-  pub fits : high < 2 ^ 64
-
 -- what is so many bytes above an address
-pub above : (base bytes a high : ℕ) → a ≡ high → address (pos base +ℤ pos bytes) ≡ Answers a → IsPlaced base high
+pub above : (base bytes a high : ℕ) → a ≡ high → address (pos base +ℤ pos bytes) ≡ Answers a → IsAddressFrom base high
 above base bytes a high same is = record {
   not_below = omega (arith, above-answers base bytes a is);
   fits = omega (arith, above-fits base bytes a is);
 }
+
+-- a word that is read is there
+pub word-answers : (words : Words) (at value : ℕ) → word words at ≡ Answers value → words at ≡ Some value
+word-answers words at value is = by (words at) is
+  where
+    by : (there : Option ℕ) → word (λ _. there) at ≡ Answers value → there ≡ Some value
+    by (Some found) is = let e : found ≡ value = cc in ap (λ (v : ℕ). Some v) e
+    by None is = cc
 
 -- three parts, one after the other
 pub and_then-assoc : {A B C : Type 0} (first : Outcome A) (second : A → Outcome B) (third : B → Outcome C)

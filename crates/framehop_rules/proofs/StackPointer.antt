@@ -15,7 +15,8 @@ use Rattle.framehop_registers.specs.declared.x86_64.unwindregs.Reg.{Reg}
 use Rattle.framehop_registers.specs.declared.x86_64.unwindregs.Reg.TheVariants.{RSP}
 use Rattle.framehop_registers.specs.declared.x86_64.unwindregs.UnwindRegsX86_64.{UnwindRegsX86_64}
 use Rattle.framehop_registers.specs.declared.error.Error.TheVariants.{FramepointerUnwindingMovedBackwards, DidNotAdvance}
-use Rattle.framehop_rules.proofs.Parts.{IsPlaced, and_then-answers, and_then-assoc, above-answers, above, past-refusal, past-end, differ, equal, unequal}
+use Rattle.framehop_rules.specs.Answered.{IsAddressFrom}
+use Rattle.framehop_rules.proofs.Parts.{and_then-answers, and_then-assoc, above-answers, above, past-refusal, past-end, differ, equal, unequal}
 
 -- ---- the stack pointer that a rule moves to
 
@@ -26,13 +27,13 @@ raised-to registers bytes frame is =
     let high : sp ≡ frame.0 = ap (λ (f : StackFrame). f.0) same in
     omega (arith, above-answers (sp_of registers) bytes sp sp_is)
 
-raised-above : (registers : UnwindRegsX86_64) (bytes : ℕ) (frame : StackFrame) → raised_frame registers bytes ≡ Answers frame → IsPlaced (sp_of registers) frame.0
+raised-above : (registers : UnwindRegsX86_64) (bytes : ℕ) (frame : StackFrame) → raised_frame registers bytes ≡ Answers frame → IsAddressFrom (sp_of registers) frame.0
 raised-above registers bytes frame is =
     let (sp, sp_is, there) = and_then-answers (address (pos (sp_of registers) +ℤ pos bytes)) (λ sp. Answers (sp, bp_of registers)) frame is in
     let same : (sp, bp_of registers) ≡ frame = cc in
     above (sp_of registers) bytes sp frame.0 (ap (λ (f : StackFrame). f.0) same) sp_is
 
-followed-above : (registers : UnwindRegsX86_64) (words : Words) (frame : StackFrame) → by_frame_pointer registers words ≡ Answers frame → IsPlaced (sp_of registers) frame.0
+followed-above : (registers : UnwindRegsX86_64) (words : Words) (frame : StackFrame) → by_frame_pointer registers words ≡ Answers frame → IsAddressFrom (sp_of registers) frame.0
 followed-above registers words frame is =
     let read : ℕ → Outcome StackFrame = λ sp. and_then (word words (bp_of registers)) (λ bp. Answers (sp, bp)) in
     let (sp, sp_is, more) = and_then-answers (address (pos (bp_of registers) +ℤ pos 16)) (λ sp. if nat_le sp (sp_of registers) then Refuses FramepointerUnwindingMovedBackwards else read sp) frame is in
@@ -44,7 +45,7 @@ followed-above registers words frame is =
     record { not_below = omega (arith, leb-false sp (sp_of registers) up); fits = placed.fits }
 
 restored-above : (is_first : Bool) (registers : UnwindRegsX86_64) (words : Words) (bytes : ℕ) (offset : ℤ) (frame : StackFrame)
-    → restored_frame is_first registers words bytes offset ≡ Answers frame → IsPlaced (sp_of registers) frame.0
+    → restored_frame is_first registers words bytes offset ≡ Answers frame → IsAddressFrom (sp_of registers) frame.0
 restored-above is_first registers words bytes offset frame is =
     let last : ℕ → ℕ → Outcome StackFrame = λ sp at. and_then (stored_bp is_first registers words at) (λ bp. Answers (sp, bp)) in
     let (sp, sp_is, more) = and_then-answers (address (pos (sp_of registers) +ℤ pos bytes)) (λ sp. and_then (address (pos (sp_of registers) +ℤ offset)) (last sp)) frame is in
@@ -55,7 +56,7 @@ restored-above is_first registers words bytes offset frame is =
     above (sp_of registers) bytes sp frame.0 high sp_is
 
 moved-above : (rule : UnwindRuleX86_64) (is_first : Bool) (registers : UnwindRegsX86_64) (words : Words) (frame : StackFrame)
-    → moves rule is_first registers words ≡ Answers frame → IsPlaced (sp_of registers) frame.0
+    → moves rule is_first registers words ≡ Answers frame → IsAddressFrom (sp_of registers) frame.0
 moved-above EndOfStack is_first registers words frame is = cc
 moved-above JustReturn is_first registers words frame is = raised-above registers 8 frame is
 moved-above JustReturnIfFirstFrameOtherwiseFp true registers words frame is = raised-above registers 8 frame is

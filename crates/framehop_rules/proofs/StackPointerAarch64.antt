@@ -10,11 +10,12 @@ use Rattle.framehop_rules.specs.declared.aarch64.unwind_rule.UnwindRuleAarch64.{
 use Rattle.framehop_rules.specs.declared.aarch64.unwind_rule.UnwindRuleAarch64.TheVariants.{NoOp, NoOpIfFirstFrameOtherwiseFp, OffsetSp, OffsetSpIfFirstFrameOtherwiseStackEndsHere, OffsetSpAndRestoreLr, OffsetSpAndRestoreFpAndLr, UseFramePointer, UseFramepointerWithOffsets}
 use Rattle.framehop_registers.specs.declared.aarch64.unwindregs.UnwindRegsAarch64.{UnwindRegsAarch64}
 use Rattle.framehop_registers.specs.declared.error.Error.TheVariants.{FramepointerUnwindingMovedBackwards, DidNotAdvance}
-use Rattle.framehop_rules.proofs.Parts.{IsPlaced, and_then-answers, above, past-refusal, past-end, differ}
+use Rattle.framehop_rules.specs.Answered.{IsAddressFrom}
+use Rattle.framehop_rules.proofs.Parts.{and_then-answers, above, past-refusal, past-end, differ}
 
 -- a stored frame is above its base
 stored-above : (words : Words) (base bytes : ℕ) (fp_offset lr_offset : ℤ) (frame : CallerFrame)
-    → stored_frame words base bytes fp_offset lr_offset ≡ Answers frame → IsPlaced base frame.1
+    → stored_frame words base bytes fp_offset lr_offset ≡ Answers frame → IsAddressFrom base frame.1
 stored-above words base bytes fp_offset lr_offset frame is =
     let (sp, sp_is, more) = and_then-answers (address (pos base +ℤ pos bytes)) (λ sp. and_then (stored_word words base lr_offset) (λ lr. and_then (stored_word words base fp_offset) (λ fp. Answers (lr, sp, fp)))) frame is in
     let (lr, lr_is, last) = and_then-answers (stored_word words base lr_offset) (λ lr. and_then (stored_word words base fp_offset) (λ fp. Answers (lr, sp, fp))) frame more in
@@ -25,7 +26,7 @@ stored-above words base bytes fp_offset lr_offset frame is =
 
 -- so is one whose link register alone is stored
 stored_lr-above : (registers : UnwindRegsAarch64) (words : Words) (bytes : ℕ) (lr_offset : ℤ) (frame : CallerFrame)
-    → frame_with_stored_lr registers words bytes lr_offset ≡ Answers frame → IsPlaced (sp_of registers) frame.1
+    → frame_with_stored_lr registers words bytes lr_offset ≡ Answers frame → IsAddressFrom (sp_of registers) frame.1
 stored_lr-above registers words bytes lr_offset frame is =
     let (sp, sp_is, more) = and_then-answers (address (pos (sp_of registers) +ℤ pos bytes)) (λ sp. and_then (stored_word words (sp_of registers) lr_offset) (λ lr. Answers (lr, sp, fp_of registers))) frame is in
     let (lr, lr_is, there) = and_then-answers (stored_word words (sp_of registers) lr_offset) (λ lr. Answers (lr, sp, fp_of registers)) frame more in
@@ -34,7 +35,7 @@ stored_lr-above registers words bytes lr_offset frame is =
     above (sp_of registers) bytes sp frame.1 high sp_is
 
 -- a frame that has to be above is
-if_above-above : (registers : UnwindRegsAarch64) (from frame : CallerFrame) → if_above registers from ≡ Answers frame → from.1 < 2 ^ 64 → IsPlaced (sp_of registers) frame.1
+if_above-above : (registers : UnwindRegsAarch64) (from frame : CallerFrame) → if_above registers from ≡ Answers frame → from.1 < 2 ^ 64 → IsAddressFrom (sp_of registers) frame.1
 if_above-above registers (lr, sp, fp) frame is fits =
     let (up, there) = past-refusal (nat_le sp (sp_of registers)) FramepointerUnwindingMovedBackwards (Answers (lr, sp, fp)) frame is in
     let same : (lr, sp, fp) ≡ frame = cc in
@@ -42,7 +43,7 @@ if_above-above registers (lr, sp, fp) frame is fits =
     record { not_below = omega (arith, leb-false sp (sp_of registers) up); fits = omega arith }
 
 -- and a frame of a chain
-if_chained-above : (registers : UnwindRegsAarch64) (from frame : CallerFrame) → if_chained registers from ≡ Answers frame → from.1 < 2 ^ 64 → IsPlaced (sp_of registers) frame.1
+if_chained-above : (registers : UnwindRegsAarch64) (from frame : CallerFrame) → if_chained registers from ≡ Answers frame → from.1 < 2 ^ 64 → IsAddressFrom (sp_of registers) frame.1
 if_chained-above registers (lr, sp, fp) frame is fits =
     let goes = past-end (fp == 0) (if nat_le fp (fp_of registers) || nat_le sp (sp_of registers) then Refuses FramepointerUnwindingMovedBackwards else Answers (lr, sp, fp)) frame is in
     let (higher, there) = past-refusal (nat_le fp (fp_of registers) || nat_le sp (sp_of registers)) FramepointerUnwindingMovedBackwards (Answers (lr, sp, fp)) frame goes.1 in
@@ -57,7 +58,7 @@ if_chained-above registers (lr, sp, fp) frame is fits =
 
 -- what a rule moves to in a later frame isn't below it
 moved-above : (rule : UnwindRuleAarch64) (registers : UnwindRegsAarch64) (words : Words) (frame : CallerFrame)
-    → moves rule false registers words ≡ Answers frame → IsPlaced (sp_of registers) frame.1
+    → moves rule false registers words ≡ Answers frame → IsAddressFrom (sp_of registers) frame.1
 moved-above NoOp registers words frame is = cc
 moved-above NoOpIfFirstFrameOtherwiseFp registers words frame is =
     let (from, from_is, there) = and_then-answers (stored_frame words (fp_of registers) 16 (pos 0) (pos 1)) (if_above registers) frame is in

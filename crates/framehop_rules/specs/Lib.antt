@@ -1,3 +1,4 @@
+pub mod Answered
 pub mod CacheViews
 pub mod Callers
 pub mod CallersAarch64

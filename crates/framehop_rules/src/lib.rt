@@ -8,6 +8,7 @@
 
 pub mod aarch64;
 mod arch;
+mod outcome_laws;
 mod rule_cache;
 mod unwind_result;
 mod unwind_rule;
@@ -18,6 +19,7 @@ pub use framehop_registers::{
     AddSigned, Error, FrameAddress, HexNum, Statement, calls_over_words, checked_add_signed,
     one_read_over_words, wrapping_add_signed,
 };
+pub use outcome_laws::{addresses_and_words_that_answer, parts_that_answer};
 pub use rule_cache::{CacheHandle, CacheResult, CacheStats, RuleCache};
 pub use unwind_result::UnwindResult;
 pub use unwind_rule::UnwindRule;
