@@ -1,4 +1,5 @@
 pub mod Callback
+pub mod CallbackLaws
 pub mod FrameAddress
 pub mod PopLists
 pub mod PopListViews

@@ -14,7 +14,8 @@ use Rattle.framehop_registers.specs.declared.x86_64.unwindregs.Reg.TheVariants.{
 use Rattle.framehop_registers.specs.declared.x86_64.unwindregs.UnwindRegsX86_64.{UnwindRegsX86_64}
 use Rattle.framehop_registers.proofs.Laws.{leads_both}
 use Rattle.framehop_rules.specs.Outcome.{Outcome, Ends, Refuses, Answers, and_then, if_answered, address, word}
-use Rattle.framehop_rules.specs.Pops.{registers_after_pops, words_from}
+use Rattle.framehop_rules.specs.CodeViews.{words_from}
+use Rattle.framehop_rules.specs.Pops.{registers_after_pops}
 use Rattle.framehop_rules.specs.RuleMeaning.{raised_frame}
 use Rattle.framehop_rules.specs.RuleReads.{reads_of_pops, reads_of_return, rule_reads}
 use Rattle.framehop_rules.specs.declared.x86_64.unwind_rule.UnwindRuleX86_64.TheVariants.{OffsetSpAndPopRegisters}

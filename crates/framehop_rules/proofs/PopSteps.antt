@@ -15,7 +15,8 @@ use Rattle.framehop_registers.specs.declared.x86_64.unwindregs.Reg.TheVariants.{
 use Rattle.framehop_registers.specs.declared.x86_64.unwindregs.UnwindRegsX86_64.{UnwindRegsX86_64}
 use Rattle.framehop_registers.proofs.Laws.{pop_list-begins}
 use Rattle.framehop_rules.specs.Outcome.{Outcome, Ends, Refuses, Answers, Caller, and_then, address, word}
-use Rattle.framehop_rules.specs.Pops.{registers_after_pops, words_from}
+use Rattle.framehop_rules.specs.CodeViews.{words_from}
+use Rattle.framehop_rules.specs.Pops.{registers_after_pops}
 use Rattle.framehop_rules.specs.RuleMeaning.{raised_frame, returned_caller, caller_registers, rule_meaning}
 use Rattle.framehop_rules.specs.declared.x86_64.unwind_rule.UnwindRuleX86_64.TheVariants.{OffsetSpAndPopRegisters}
 use Rattle.framehop_rules.proofs.Parts.{and_then-assoc, and_then-same, above-answers, above, unequal}

@@ -2,8 +2,12 @@ pub mod Answered
 pub mod CacheViews
 pub mod Callers
 pub mod CallersAarch64
+pub mod CodeViews
+pub mod CodeViewsAarch64
+pub mod KeptLaws
 pub mod LastKept
 pub mod Outcome
+pub mod OverWords
 pub mod Pops
 pub mod RuleMeaning
 pub mod RuleMeaningAarch64

@@ -1,5 +1,5 @@
 -- Pops: registers that take words from the stack, over a map of words and unbounded numbers.
-use Rattle.std.specs.Prelude.{ℕ, zero, suc, pos, ◌+ℤ◌, List, [], ◌∷◌}
+use Rattle.std.specs.Prelude.{ℕ, pos, ◌+ℤ◌, List, [], ◌∷◌}
 use Rattle.framehop_registers.specs.Callback.{Words}
 use Rattle.framehop_rules.specs.Outcome.{Outcome, Answers, and_then, address, word}
 use Rattle.framehop_registers.specs.Registers.{sp_of, with_register}
@@ -26,12 +26,3 @@ registers_after_pops [] registers words = Answers registers
 registers_after_pops (register ∷ more) registers words =
     and_then (registers_after_pop register registers words) (λ next.
     registers_after_pops more next words)
-
--- The n words from an address on, one after the other, and the address after them.
-unfoldable pub words_from : Words → ℕ → ℕ → Outcome (List ℕ × ℕ)
-words_from words zero at = Answers ([], at)
-words_from words (suc count) at =
-    and_then (word words at) (λ value.
-    and_then (address (pos at +ℤ pos 8)) (λ next.
-    and_then (words_from words count next) (λ read.
-    Answers (value ∷ read.0, read.1))))

@@ -85,11 +85,14 @@ returned_caller registers words (sp, bp) =
     and_then (return_address registers words sp) (λ to.
     Answers (record { return_address = to; registers = caller_registers registers to sp bp }))
 
+-- The caller by a rule, once its registers are popped.
+abbrev pub moved_caller : UnwindRuleX86_64 → Bool → UnwindRegsX86_64 → Words → Outcome (Caller UnwindRegsX86_64)
+moved_caller rule is_first registers words = and_then (moves rule is_first registers words) (returned_caller registers words)
+
 -- The meaning of a rule, for a frame with these registers, first or later, on a stack of these words.
 abbrev pub rule_meaning : UnwindRuleX86_64 → Bool → UnwindRegsX86_64 → Words → Outcome (Caller UnwindRegsX86_64)
 rule_meaning rule is_first registers words =
-    and_then (registers_after_pops_of rule registers words) (λ popped.
-    and_then (moves rule is_first popped words) (returned_caller popped words))
+    and_then (registers_after_pops_of rule registers words) (λ popped. moved_caller rule is_first popped words)
 
 -- The word below a stack pointer, where a call leaves its return address.
 abbrev pub word_below : Words → ℕ → Outcome ℕ

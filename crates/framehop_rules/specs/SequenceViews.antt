@@ -1,4 +1,4 @@
--- What contracts see of a sequence in memory.
+-- Words of private functions' contracts alone: a sequence as the code collects it.
 use Rattle.std.specs.Prelude.{List, take}
 use Rattle.framehop_rules.specs.Sequences.{offset_then_pops}
 use Rattle.framehop_rules.specs.declared.x86_64.offset_or_pop.OffsetOrPop.{OffsetOrPop}

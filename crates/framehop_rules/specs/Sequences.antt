@@ -1,5 +1,6 @@
 -- Sequences of what a function's end does to the stack pointer and the registers, and the unwind rules for them.
 use Rattle.std.specs.Prelude.{◌≡◌, ◌<◌, ◌^◌, ℕ, zero, ◌*◌, Bool, List, [], ◌∷◌, length, map, Option, Some, None, unwrap_or}
+use Rattle.std.specs.List.{AllZip}
 use Rattle.framehop_registers.specs.Callback.{Words}
 use Rattle.framehop_rules.specs.Outcome.{Outcome, Answers, and_then, Caller}
 use Rattle.framehop_registers.specs.PopLists.{IsPopList, order_number}
@@ -65,3 +66,12 @@ HasNoRule operations = (offset : Option ℕ) (registers : List Reg)
 abbrev pub IsRuleFor : List OffsetOrPop → Option UnwindRuleX86_64 → Type 0
 IsRuleFor operations None = HasNoRule operations
 IsRuleFor operations (Some rule) = IsRuleOf operations rule
+
+-- The rule of a sequence that is given as items, one for each operation: of those that are read.
+abbrev pub IsRuleOfItems : {Item : Type 0} → (AreRead : List Item → Type 0) → (converts : Item → OffsetOrPop → Type 0)
+    → Option UnwindRuleX86_64 → Type 0
+IsRuleOfItems {Item} AreRead converts result =
+    (items : List Item) × (operations : List OffsetOrPop)
+    × AreRead items
+    × AllZip converts items operations
+    × IsRuleFor operations result

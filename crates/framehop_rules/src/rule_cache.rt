@@ -207,25 +207,23 @@ impl<R: UnwindRule> RuleCache<R> {
 }
 
 impl<R: UnwindRule> RuleCache<R> {
-    ghost use Rattle.std.specs.Prelude.{◌↔◌, ◌++◌, [], ◌∷◌, ℕ, List, Option, Some, map};
-    ghost use Rattle.framehop_rules.specs.Slots.{Key, KeptRule, kept_under, Hits, with_kept, finding_for, key_in, counts_by};
+    ghost use Rattle.std.specs.Prelude.{◌↔◌, [], ℕ, List, Option, map};
+    ghost use Rattle.framehop_rules.specs.Slots.{Key, KeptRule, Hits, finding_for, key_in};
     ghost use Rattle.framehop_rules.specs.LastKept.{last_entry, last_key, HasLast};
+    ghost use Rattle.framehop_rules.specs.KeptLaws.{SlotsOf, HasLastWith, IsKeptUnder, CountAlike};
 
     /// Laws of the slots; the function does nothing when the program runs. Each slot has the
     /// last of what was kept for it. A rule is found if and only if it was kept under the very key of
     /// the look-up, and what is counted is decided by the key in the slot.
     pub fn slots_have_the_last()
         ensures new { HasLast {Rule = R} [] (replicate 509 None) }
-        ensures kept { (kept : List (KeptRule R)) (slots : List (Option (KeptRule R)))
-            (entry : KeptRule R) → HasLast kept slots
-            → HasLast (kept ++ entry ∷ []) (with_kept slots entry.key entry.rule) }
+        ensures kept { (kept : List (KeptRule R)) (slots : SlotsOf R) (entry : KeptRule R)
+            → HasLast kept slots → HasLastWith kept slots entry }
         ensures keys { (kept : List (KeptRule R)) (slot : ℕ)
             → last_key (map (λ entry. entry.key) kept) slot ≡ key_in (last_entry kept slot) }
         ensures hits { (key : Key) (there : Option (KeptRule R)) (rule : R)
-            → (finding_for key there ≡ Hits rule)
-            ↔ (there ≡ Some (kept_under key rule)) }
-        ensures counts { (key : Key) (one other : Option (KeptRule R)) (counts : CacheStats)
-            → key_in one ≡ key_in other
-            → counts_by key one counts ≡ counts_by key other counts }
+            → (finding_for key there ≡ Hits rule) ↔ IsKeptUnder key rule there }
+        ensures counts { (key : Key) (a b : Option (KeptRule R)) (counts : CacheStats)
+            → key_in a ≡ key_in b → CountAlike key a b counts }
     {}
 }

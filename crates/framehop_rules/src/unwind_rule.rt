@@ -2,7 +2,8 @@
 
 ghost use Rattle.std.specs.Prelude.{◌≡◌, ◌↔◌, ◌*◌, pos, ◌+ℤ◌, ℕ, Bool, List, [], ◌∷◌, Option, IsTrue, IfErr};
 ghost use Rattle.framehop_registers.specs.Callback.{Words, OverWords, ReadsOverWords, Leads};
-ghost use Rattle.framehop_rules.specs.Outcome.{Outcome, Caller, IsStep, StaysUnlessAnswered, outcome_of, address, word, IsOfRule};
+ghost use Rattle.framehop_rules.specs.Outcome.{Outcome, Caller, StaysUnlessAnswered, outcome_of, address, word, IsOfRule};
+ghost use Rattle.framehop_rules.specs.OverWords.{StepsOverWords};
 
 use framehop_registers::Error;
 use std::fmt::Debug;
@@ -42,8 +43,8 @@ pub trait UnwindRule: Copy + Debug {
         requires valid { is_valid self }
         requires callable { F.IsAlwaysCallable read_stack.old }
         ensures callable { F.IsAlwaysCallable read_stack.new }
-        ensures step { OverWords F.step read_stack.old read_stack.new (λ words.
-            IsStep result regs.old regs.new (meaning self is_first_frame regs.old words)) }
+        ensures step { StepsOverWords F.step read_stack.old read_stack.new regs.old regs.new result
+            (meaning self is_first_frame regs.old) }
         ensures order { ReadsOverWords F.step read_stack.old read_stack.new
             (reads self is_first_frame regs.old) }
         ensures stays { StaysUnlessAnswered result regs.old regs.new }

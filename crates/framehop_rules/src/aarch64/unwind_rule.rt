@@ -2,9 +2,11 @@
 
 ghost use Rattle.std.specs.Prelude.{◌≡◌, ◌*◌, IfErr, OnErr};
 ghost use Rattle.framehop_registers.specs.Callback.{OverWords, ReadsOverWords, Leads};
+ghost use Rattle.framehop_rules.specs.CodeViewsAarch64.{frame_by_lr, frame_by_base, reads_by_base};
 ghost use Rattle.framehop_rules.specs.Outcome.{outcome_of, outcome_or_end_of, IsOfRule};
-ghost use Rattle.framehop_rules.specs.RuleMeaningAarch64.{raised_frame, frame_with_stored_lr, stored_word, stored_frame, if_above, if_chained, moves, return_address, rule_meaning, IsValid};
-ghost use Rattle.framehop_rules.specs.RuleReadsAarch64.{reads_of_stored_word, reads_of_stored_lr, reads_of_stored_frame, rule_reads};
+ghost use Rattle.framehop_rules.specs.OverWords.{IsOverWords};
+ghost use Rattle.framehop_rules.specs.RuleMeaningAarch64.{raised_frame, stored_word, if_above, if_chained, moves, return_address, rule_meaning, IsValid};
+ghost use Rattle.framehop_rules.specs.RuleReadsAarch64.{reads_of_stored_word, reads_of_stored_lr, rule_reads};
 ghost use Rattle.framehop_rules.specs.declared.aarch64.unwind_rule.UnwindRuleAarch64.TheVariants.{NoOp, UseFramePointer};
 
 use crate::unwind_rule::{UnwindRule, address_above, address_at_offset, bytes_of, read_word};
@@ -110,8 +112,8 @@ fn raise_sp_and_restore_lr<F: FnMut(u64) -> Result<u64, ()>>(
 ) -> Result<CallerFrame, Error>
     requires { F.IsAlwaysCallable read_stack.old }
     ensures callable { F.IsAlwaysCallable read_stack.new }
-    ensures moves { OverWords F.step read_stack.old read_stack.new (λ words.
-        outcome_of result ≡ frame_with_stored_lr regs.now words bytes lr_offset) }
+    ensures moves { IsOverWords F.step read_stack.old read_stack.new
+        (outcome_of result) (frame_by_lr regs.now bytes lr_offset) }
     ensures order { Leads F.step read_stack.old
         (reads_of_stored_lr regs.now bytes lr_offset) read_stack.new }
     ensures refusals { IfErr result IsOfRule }
@@ -133,10 +135,10 @@ fn restore_fp_and_lr<F: FnMut(u64) -> Result<u64, ()>>(
 ) -> Result<CallerFrame, Error>
     requires { F.IsAlwaysCallable read_stack.old }
     ensures callable { F.IsAlwaysCallable read_stack.new }
-    ensures moves { OverWords F.step read_stack.old read_stack.new (λ words.
-        outcome_of result ≡ stored_frame words base bytes fp_offset lr_offset) }
-    ensures order { ReadsOverWords F.step read_stack.old read_stack.new (λ words.
-        reads_of_stored_frame words base bytes fp_offset lr_offset) }
+    ensures moves { IsOverWords F.step read_stack.old read_stack.new
+        (outcome_of result) (frame_by_base base bytes fp_offset lr_offset) }
+    ensures order { ReadsOverWords F.step read_stack.old read_stack.new
+        (reads_by_base base bytes fp_offset lr_offset) }
     ensures refusals { IfErr result IsOfRule }
 {
     let sp = address_above(base, bytes)?;
@@ -210,8 +212,8 @@ impl UnwindRuleAarch64 {
     ) -> Result<Option<CallerFrame>, Error>
         requires { F.IsAlwaysCallable read_stack.old }
         ensures callable { F.IsAlwaysCallable read_stack.new }
-        ensures moves { OverWords F.step read_stack.old read_stack.new (λ words.
-            outcome_or_end_of result ≡ moves self is_first_frame regs.now words) }
+        ensures moves { IsOverWords F.step read_stack.old read_stack.new
+            (outcome_or_end_of result) (moves self is_first_frame regs.now) }
         ensures order { ReadsOverWords F.step read_stack.old read_stack.new
             (rule_reads self is_first_frame regs.now) }
         ensures refusals { IfErr result IsOfRule }

@@ -1,10 +1,9 @@
 //! The unwind rule for a sequence of stack operations.
 
 ghost use Rattle.std.specs.Prelude.{◌≡◌, ◌++◌, List, None, IsSome};
-ghost use Rattle.std.specs.List.{AllZip};
 ghost use Rattle.std.specs.Iterator.{IsFinite, DrainsIf};
 ghost use Rattle.framehop_rules.specs.RuleMeaning.{IsValid};
-ghost use Rattle.framehop_rules.specs.Sequences.{IsRuleOf, MeansSequence, HasNoRule, IsRuleFor};
+ghost use Rattle.framehop_rules.specs.Sequences.{IsRuleOf, IsRuleOfItems, MeansSequence, HasNoRule};
 ghost use Rattle.framehop_rules.specs.declared.x86_64.offset_or_pop.OffsetOrPop.{OffsetOrPop};
 ghost use Rattle.framehop_rules.specs.declared.x86_64.unwind_rule.UnwindRuleX86_64.{UnwindRuleX86_64};
 
@@ -33,10 +32,7 @@ impl UnwindRuleX86_64 {
         T: Into<OffsetOrPop>,
         requires can { I.can_next iter }
         requires ends { IsFinite (I.remaining iter) }
-        ensures { (items : List T) × (operations : List OffsetOrPop)
-            × DrainsIf I.next_gives (IsSome result) iter items
-            × AllZip T.converts items operations
-            × IsRuleFor operations result }
+        ensures { IsRuleOfItems (DrainsIf I.next_gives (IsSome result) iter) T.converts result }
     {
         let mut taken = OffsetThenPops::new();
         for item in iter {
@@ -49,12 +45,11 @@ impl UnwindRuleX86_64 {
 /// Laws of sequences: a rule means what its sequence does, register by register, and no sequence
 /// has a rule that begins with one that has none. It does nothing when the program runs.
 pub fn rules_of_sequences()
-    ensures valid { (operations : List OffsetOrPop) (rule : UnwindRuleX86_64)
-        → IsRuleOf operations rule → IsValid rule }
-    ensures meaning { (operations : List OffsetOrPop) (rule : UnwindRuleX86_64)
-        → IsRuleOf operations rule → MeansSequence rule operations }
-    ensures one { (operations : List OffsetOrPop) (rule other : UnwindRuleX86_64)
-        → IsRuleOf operations rule → IsRuleOf operations other → rule ≡ other }
-    ensures none { (operations more : List OffsetOrPop)
-        → HasNoRule operations → HasNoRule (operations ++ more) }
+    ensures valid { (list : List OffsetOrPop) (rule : UnwindRuleX86_64)
+        → IsRuleOf list rule → IsValid rule }
+    ensures meaning { (list : List OffsetOrPop) (rule : UnwindRuleX86_64)
+        → IsRuleOf list rule → MeansSequence rule list }
+    ensures one { (list : List OffsetOrPop) (rule other : UnwindRuleX86_64)
+        → IsRuleOf list rule → IsRuleOf list other → rule ≡ other }
+    ensures none { (list more : List OffsetOrPop) → HasNoRule list → HasNoRule (list ++ more) }
 {}

@@ -2,8 +2,10 @@
 
 ghost use Rattle.std.specs.Prelude.{◌≡◌, ◌*◌, ◌<◌, ◌^◌, pos, ◌*ℤ◌, ◌+ℤ◌, [], ◌∷◌, IfErr};
 ghost use Rattle.framehop_registers.specs.Callback.{OverWords, ReadsOverWords, Leads};
-ghost use Rattle.framehop_rules.specs.Outcome.{outcome_of, outcome_or_end_of, and_then, address, IsOfRule, IsStep, StaysUnlessAnswered};
-ghost use Rattle.framehop_rules.specs.RuleMeaning.{raised_frame, by_frame_pointer, stored_bp, restored_frame, moves, return_address, returned_caller, rule_meaning, IsValid};
+ghost use Rattle.framehop_rules.specs.CodeViews.{restored_by};
+ghost use Rattle.framehop_rules.specs.Outcome.{outcome_of, outcome_or_end_of, address, IsOfRule, StaysUnlessAnswered};
+ghost use Rattle.framehop_rules.specs.OverWords.{IsOverWords, StepsOverWords};
+ghost use Rattle.framehop_rules.specs.RuleMeaning.{raised_frame, by_frame_pointer, stored_bp, moves, return_address, moved_caller, rule_meaning, IsValid};
 ghost use Rattle.framehop_rules.specs.RuleReads.{reads_by_frame_pointer, reads_of_stored_bp, reads_of_moves, reads_of_return, reads_after_pops, rule_reads};
 ghost use Rattle.framehop_rules.specs.declared.x86_64.unwind_rule.UnwindRuleX86_64.TheVariants.{JustReturn, UseFramePointer};
 
@@ -121,50 +123,50 @@ fn read_stored_bp<F: FnMut(u64) -> Result<u64, ()>>(
     }
 }
 
-// The caller's stack pointer, `bytes` higher, and its frame pointer, stored at `bp_offset` from
+// The caller's stack pointer, `bytes` higher, and its frame pointer, stored at `offset` from
 // this frame's stack pointer.
 #[inline(always)]
 fn raise_sp_and_restore_bp<F: FnMut(u64) -> Result<u64, ()>>(
-    is_first_frame: bool,
+    is_first: bool,
     regs: &UnwindRegsX86_64,
     read_stack: &mut F,
     bytes: u64,
-    bp_offset: i64,
+    offset: i64,
 ) -> Result<(u64, u64), Error>
     requires { F.IsAlwaysCallable read_stack.old }
     ensures callable { F.IsAlwaysCallable read_stack.new }
-    ensures moves { OverWords F.step read_stack.old read_stack.new (λ words.
-        outcome_of result ≡ restored_frame is_first_frame regs.now words bytes bp_offset) }
+    ensures moves { IsOverWords F.step read_stack.old read_stack.new
+        (outcome_of result) (restored_by is_first regs.now bytes offset) }
     ensures order { Leads F.step read_stack.old
-        (reads_of_stored_bp regs.now bytes bp_offset) read_stack.new }
+        (reads_of_stored_bp regs.now bytes offset) read_stack.new }
     ensures refusals { IfErr result IsOfRule }
 {
     let (new_sp, _) = raise_sp(regs, bytes)?;
-    let bp_location = address_at_offset(regs.sp(), bp_offset)?;
-    let new_bp = read_stored_bp(is_first_frame, regs, read_stack, bp_location)?;
+    let bp_location = address_at_offset(regs.sp(), offset)?;
+    let new_bp = read_stored_bp(is_first, regs, read_stack, bp_location)?;
     Ok((new_sp, new_bp))
 }
 
-// The return address, if the caller's stack pointer is `new_sp`; `None` if it is 0.
+// The return address, if the caller's stack pointer is `sp`; `None` if it is 0.
 #[inline(always)]
 fn read_return_address<F: FnMut(u64) -> Result<u64, ()>>(
     regs: &UnwindRegsX86_64,
-    new_sp: u64,
+    sp: u64,
     read_stack: &mut F,
 ) -> Result<Option<u64>, Error>
     requires { F.IsAlwaysCallable read_stack.old }
     ensures callable { F.IsAlwaysCallable read_stack.new }
     ensures address { OverWords F.step read_stack.old read_stack.new (λ words.
-        outcome_or_end_of result ≡ return_address regs.now words new_sp) }
-    ensures order { Leads F.step read_stack.old (reads_of_return new_sp) read_stack.new }
+        outcome_or_end_of result ≡ return_address regs.now words sp) }
+    ensures order { Leads F.step read_stack.old (reads_of_return sp) read_stack.new }
     ensures refusals { IfErr result IsOfRule }
 {
-    let location = new_sp.checked_sub(8).ok_or(Error::IntegerOverflow)?;
+    let location = sp.checked_sub(8).ok_or(Error::IntegerOverflow)?;
     let return_address = read_word(read_stack, location)?;
     if return_address == 0 {
         return Ok(None);
     }
-    if new_sp == regs.sp() && return_address == regs.ip() {
+    if sp == regs.sp() && return_address == regs.ip() {
         return Err(Error::DidNotAdvance);
     }
     Ok(Some(return_address))
@@ -181,8 +183,8 @@ impl UnwindRuleX86_64 {
     ) -> Result<Option<(u64, u64)>, Error>
         requires { F.IsAlwaysCallable read_stack.old }
         ensures callable { F.IsAlwaysCallable read_stack.new }
-        ensures moves { OverWords F.step read_stack.old read_stack.new (λ words.
-            outcome_or_end_of result ≡ moves self is_first_frame regs.now words) }
+        ensures moves { IsOverWords F.step read_stack.old read_stack.new
+            (outcome_or_end_of result) (moves self is_first_frame regs.now) }
         ensures order { Leads F.step read_stack.old
             (reads_of_moves self is_first_frame regs.now) read_stack.new }
         ensures refusals { IfErr result IsOfRule }
@@ -233,10 +235,8 @@ impl UnwindRuleX86_64 {
     ) -> Result<Option<u64>, Error>
         requires { F.IsAlwaysCallable read_stack.old }
         ensures callable { F.IsAlwaysCallable read_stack.new }
-        ensures step { OverWords F.step read_stack.old read_stack.new (λ words.
-            IsStep result regs.old regs.new
-            (and_then (moves self is_first_frame regs.old words)
-            (returned_caller regs.old words))) }
+        ensures step { StepsOverWords F.step read_stack.old read_stack.new regs.old regs.new result
+            (moved_caller self is_first_frame regs.old) }
         ensures order { ReadsOverWords F.step read_stack.old read_stack.new
             (reads_after_pops self is_first_frame regs.old) }
         ensures stays { StaysUnlessAnswered result regs.old regs.new }

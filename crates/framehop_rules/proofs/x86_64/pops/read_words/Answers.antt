@@ -6,7 +6,7 @@ use Rattle.framehop_registers.specs.Callback.{Words, Leads}
 use Rattle.framehop_registers.specs.declared.error.Error.{Error}
 use Rattle.framehop_registers.proofs.Laws.{over_weaker, over_both, leads_both}
 use Rattle.framehop_rules.specs.Outcome.{Outcome, Refuses, Answers, and_then, address, word}
-use Rattle.framehop_rules.specs.Pops.{words_from}
+use Rattle.framehop_rules.specs.CodeViews.{words_from}
 use Rattle.framehop_rules.specs.RuleReads.{reads_of_pops}
 use Rattle.framehop_rules.proofs.Parts.{and_then-assoc, and_then-same}
 use Rattle.framehop_rules.proofs.PopReads.{reads_more, reads_refused, reads_at_the_end, reads_done}

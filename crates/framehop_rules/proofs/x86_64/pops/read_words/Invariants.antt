@@ -1,7 +1,7 @@
 use Rattle.std.proofs.Common.{◌≡◌, ◌-◌, ◌++◌, length, take}
 use Rattle.framehop_registers.specs.Callback.{OverWords}
 use Rattle.framehop_rules.specs.Outcome.{Answers, and_then}
-use Rattle.framehop_rules.specs.Pops.{words_from}
+use Rattle.framehop_rules.specs.CodeViews.{words_from}
 use Rattle.framehop_rules.specs.RuleReads.{reads_of_pops}
 use Rattle.framehop_rules.proofs.PopReads.{ReadsLeft}
 use Rattle.framehop_rules.proofs.x86_64.pops.read_words.Given as goal

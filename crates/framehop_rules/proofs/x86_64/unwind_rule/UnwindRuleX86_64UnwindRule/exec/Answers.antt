@@ -36,7 +36,7 @@ pub returns-in-OffsetSpAndPopRegisters-clause-step :
 returns-in-OffsetSpAndPopRegisters-clause-step g c =
     let a = c.args in
     let o = c.in-OffsetSpAndPopRegisters in
-    over_weaker (c.pop_and_return.ensures.step a.is_first_frame) (λ words step.
+    over_weaker c.pop_and_return.ensures.step (λ words step.
     step-is (sym (ap (λ r. rule_meaning r a.is_first_frame a.regs.now words) o.is)) step)
 
 pub returns-in-OffsetSpAndPopRegisters-clause-order :
@@ -44,7 +44,7 @@ pub returns-in-OffsetSpAndPopRegisters-clause-order :
 returns-in-OffsetSpAndPopRegisters-clause-order g c = λ words answers.
     let a = c.args in
     subst (λ rule. Leads (given.F-step g) a.read_stack.now (rule_reads rule a.is_first_frame a.regs.now words) c.pop_and_return.new.read_stack)
-    (sym c.in-OffsetSpAndPopRegisters.is) (c.pop_and_return.ensures.order a.is_first_frame words answers)
+    (sym c.in-OffsetSpAndPopRegisters.is) (c.pop_and_return.ensures.order words answers)
 
 pub returns-in_default : goal.returns-in_default
 returns-in_default g c =
