@@ -35,8 +35,9 @@ fn read_words<F: FnMut(u64) -> Result<u64, ()>>(
     Ok(at)
 }
 
-/// The step of a rule that pops registers, by its offset in words, and the count and the order number of its list. No register is written before all words are read, so
-/// that the registers needn't be kept for a failed read.
+/// The step of a rule that pops registers, by its offset in words, and the count and the order number
+/// of its list. No register is written before all words are read, so that the registers needn't be kept
+/// for a failed read.
 #[inline(always)]
 pub(crate) fn pop_and_return<F: FnMut(u64) -> Result<u64, ()>>(
     offset: u16,
