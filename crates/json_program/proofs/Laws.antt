@@ -1,7 +1,7 @@
 -- Laws of checks, of lists that are checked, and of lines that are written. Those that other crates cite are the contracts of the functions
 -- of `decoding` and `writing`.
 use Rattle.std.proofs.Common.{◌≡◌, ℕ, suc, ◌+◌, ◌<◌, List, [], ◌∷◌, ◌++◌, length, get_or, take, drop, Option, Some, None, Result, Ok, Err, Bool, true, false, IsTrue, ◌↔◌, refl, sym, ap, subst, ◌∙◌, arith, append_assoc, add-one}
-use Rattle.std.specs.Prelude.{IsErr, IsErrAnd, IsErrOf}
+use Rattle.std.specs.Prelude.{IfOk, IsErr, IsErrAnd, IsErrOf}
 use Rattle.std.specs.Io.KnownBytes.{Appends}
 use Rattle.std.proofs.Math.Seq.{drop-cons, take-append_seam}
 use Rattle.std.proofs.lemmas.List.{append-nil, take-append-drop}
@@ -12,10 +12,9 @@ use Rattle.serde_json.specs.declared.value.Value.{Value}
 use Rattle.json_program.specs.declared.fault.FaultName.{FaultName}
 use Rattle.json_program.specs.declared.fault.DecodeError.{DecodeError}
 use Rattle.json_program.specs.declared.fault.DecodeError.TheVariants as decode_error
-use Rattle.json_program.specs.declared.status.RunError.{RunError}
 use Rattle.json_program.specs.declared.status.RunError.TheVariants.{Write}
-use Rattle.json_program.specs.Decoded.{Decodes, result_map}
-use Rattle.json_program.specs.Elements.{SoFar, completed, first, joined, so_far, with_element}
+use Rattle.json_program.specs.Decoded.{Decodes, FailAlike, result_map}
+use Rattle.json_program.specs.Elements.{IsNext, ListCheck, SoFar, completed, first, joined, so_far, with_element}
 use Rattle.json_program.specs.Faults.{Checked, first_fault, with_fault, unit_answer, keep_fault, ◌⊛◌, both, in_unit}
 use Rattle.json_program.specs.Errors.{written}
 use Rattle.json_program.specs.Json.{list_of}
@@ -102,6 +101,17 @@ unit_answer-good view n (Ok given) decoded value is same = is ∙ ap (λ v. Ok (
 unit_answer-good view n (Err (decode_error.Fault name)) decoded value is same = absurd cc
 unit_answer-good view n (Err decode_error.OutOfMemory) decoded value is same = absurd cc
 
+-- two checks that fail alike decode alike
+pub fails_alike : {A B F : Type 0} (view : A → B) (one other : Result A (DecodeError F)) (decoded : Result B F)
+    → FailAlike one other → Decodes view other decoded → Decodes view one decoded
+fails_alike view (Ok value) other decoded alike is = absurd alike
+fails_alike view (Err error) other decoded alike is = subst (λ r. Decodes view r decoded) alike is
+
+-- what holds of the value, whichever it is
+pub if_ok : {T E : Type 0} (result : Result T E) (P : T → Type 0) → ((value : T) → result ≡ Ok value → P value) → IfOk result P
+if_ok (Ok value) P holds = holds value refl
+if_ok (Err error) P holds = tt
+
 -- a fault that ends the check of a value that takes no memory
 pub same_fault : {A : Type 0} (answer : Checked A) (name : FaultName) (decoded : Checked A)
     → IsErrAnd answer (λ given. given ≡ name) → Err name ≡ decoded → answer ≡ decoded
@@ -167,10 +177,12 @@ kept-bad value_in vs i v fault later xs ys name all within is before gives same 
     ∙ ap (λ zs. joined (so_far (with_fault fault name) zs) rest) (sym same) ∙ ap (λ f. joined (so_far f ys) rest) (sym more)
 
 -- One more element, whatever it gives.
-pub kept-more : {A : Type 0} (value_in : Data → Checked A) (vs : List Value) (i : ℕ) (v : Value) (s : SoFar A) (given : Checked A) → i < length vs → v ≡ get_or vs i v
-    → value_in (view v) ≡ given → completed value_in vs i s ≡ completed value_in vs (i + 1) (with_element s given)
-kept-more value_in vs i v s (Ok x) within is gives = kept-good value_in vs i v s.fault s.fault s.values _ x _ within is refl gives refl refl
-kept-more value_in vs i v s (Err name) within is gives = kept-bad value_in vs i v s.fault _ s.values s.values name _ within is refl gives refl refl
+pub kept-more : {A : Type 0} (list : ListCheck A) (s : SoFar A) (v : Value) (given : Checked A) → IsNext list s v
+    → list.value_in (view v) ≡ given → completed list s ≡ completed list (with_element s given)
+kept-more list s v (Ok x) next gives =
+    kept-good list.value_in list.elements s.count v s.fault s.fault s.values _ x _ next.0 next.1 refl gives refl refl
+kept-more list s v (Err name) next gives =
+    kept-bad list.value_in list.elements s.count v s.fault _ s.values s.values name _ next.0 next.1 refl gives refl refl
 
 -- ---- lines
 

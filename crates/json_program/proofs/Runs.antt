@@ -1,11 +1,9 @@
 -- Runs: the part of a document that is read has the text of the whole.
-use Rattle.std.proofs.Common.{◌≡◌, ◌+◌, ◌<◌, ◌↔◌, ℕ, Bool, true, false, IsTrue, List, length, take, Option, Some, None, Result, Ok, Err, inl, inr, refl, ap, arith}
-use Rattle.std.specs.Prelude.{IfSome, IsErrOf}
+use Rattle.std.proofs.Common.{◌≡◌, ◌+◌, ◌<◌, ℕ, List, length, take, Option, Some, None, inl, inr, ap, arith}
+use Rattle.std.specs.Prelude.{IfSome}
 use Rattle.std.proofs.lemmas.List.{length-take, take_all}
 use Rattle.std.proofs.lemmas.Bool.{cases_lt}
 use Rattle.json_program.specs.declared.transfer.TheConstants.{DOCUMENT_LIMIT}
-use Rattle.json_program.specs.declared.status.RunError.{RunError}
-use Rattle.json_program.specs.declared.status.RunError.TheVariants.{Write}
 
 -- what holds of a value holds of it in another way
 pub if_some_map : {A : Type 0} (o : Option A) (P Q : A → Type 0) → ((x : A) → P x → Q x) → IfSome o P → IfSome o Q

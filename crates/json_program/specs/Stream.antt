@@ -1,5 +1,6 @@
 -- Streams as contracts see them, and what calls read and write.
-use Rattle.std.specs.Prelude.{◌≡◌, Bool, ℕ, ◌+◌, ◌<◌, ◌≤◌, List, ◌++◌, length, take, Option, Result, IfSome, OnErr, OnOk}
+use Rattle.std.specs.Prelude.{◌≡◌, Bool, ℕ, ◌+◌, ◌<◌, ◌≤◌, List, ◌++◌, length, take, Option, Result, IfSome, IsErr, OnErr, OnOk, Vec}
+use Rattle.std.specs.Global.{Global}
 use Rattle.std.specs.Io.KnownBytes.{Appends, Consumes}
 use Rattle.json_program.specs.declared.stream.Streamed.{Streamed}
 
@@ -28,13 +29,32 @@ pub record ReadsUpTo (most : ℕ) (old new : Option (List ℕ)) (bytes : List �
   pub bound : length bytes ≤ most
 
 -- One read took a count of bytes of a source, at most as many as there is room for, and appended them to a document.
-pub record ReadsPiece (room count : ℕ) (old new : Option (List ℕ)) (before after : List ℕ) : Type 0 where
+pub record ReadsPiece (room count : ℕ) (old new : Option (List ℕ)) (before after : Vec ℕ Global) : Type 0 where
   pub bound : count ≤ room
   pub piece : List ℕ
-  pub appended : after ≡ before ++ piece
+  pub appended : after.items ≡ before.items ++ piece
   pub consumed : Consumes old new piece
-  pub grows : length after ≡ length before + count
+  pub grows : length after.items ≡ length before.items + count
 
 -- a prefix of all the lines is written, and these are left
 abbrev pub IsWritten : Option (List ℕ) → Option (List ℕ) → List ℕ → List ℕ → Type 0
 IsWritten old now left all = (written : List ℕ) × Appends old now written × (written ++ left ≡ all)
+
+-- The line of a text that is next, and what a sink held at first, holds before a call writes the line, and holds after it.
+pub record NextLine : Type 0 where
+  pub first : Option (List ℕ)
+  pub before : Option (List ℕ)
+  pub after : Option (List ℕ)
+  pub line : List ℕ
+  pub left : List ℕ
+  pub all : List ℕ
+  pub written : IsWritten first before (line ++ left) all
+
+-- A call failed after it wrote a prefix of a text.
+pub record FailedWrite (T E : Type 0) : Type 0 where
+  pub result : Result T E
+  pub before : Option (List ℕ)
+  pub after : Option (List ℕ)
+  pub text : List ℕ
+  pub failed : IsErr result
+  pub prefix : AppendsPrefix before after text

@@ -49,10 +49,10 @@ pub trait Program {
     ) -> Result<Self::Ending, RunError>
         requires reader { R.has_failed reader.old ≡ false }
         requires writer { W.has_failed writer.old ≡ false }
-        ensures text { IfSome (R.remaining reader.old) (λ document. WritesText result
-            (W.contents writer.old) (W.contents writer.new) (text_of document)) }
+        ensures text { IfSome (R.remaining reader.old) (λ all. WritesText result
+            (W.contents writer.old) (W.contents writer.new) (text_of all)) }
         ensures ending { IfOk result (λ ending.
-            IfSome (R.remaining reader.old) (λ document. ending ≡ ending_of document)) }
+            IfSome (R.remaining reader.old) (λ all. ending ≡ ending_of all)) }
         ensures errors { ReportsFailures result
             (R.has_failed reader.new) (W.has_failed writer.new) }
         ensures unwritten { IsErrOf result RunError.Read

@@ -20,8 +20,8 @@ const CHUNK: usize = 65_536;
 /// more than that.
 pub fn read_document<S: Source>(alloc: Global, source: &mut S) -> Result<Vec<u8>, RunError>
     requires { S.has_failed source.old ≡ false }
-    ensures document { IfOk result (λ document. ReadsUpTo (DOCUMENT_LIMIT + 1)
-        (S.remaining source.old) (S.remaining source.new) document.items) }
+    ensures document { IfOk result (λ bytes. ReadsUpTo (DOCUMENT_LIMIT + 1)
+        (S.remaining source.old) (S.remaining source.new) bytes.items) }
     ensures errors { ReportsFailures result (S.has_failed source.new) false }
 {
     read_up_to(alloc, source, DOCUMENT_LIMIT + 1)
@@ -65,7 +65,7 @@ fn read_piece<S: Source>(
     requires chunk { room ≤ length chunk.old }
     requires fresh { S.has_failed source.old ≡ false }
     ensures piece { IfOk result (λ count. ReadsPiece room count
-        (S.remaining source.old) (S.remaining source.new) document.old.items document.new.items) }
+        (S.remaining source.old) (S.remaining source.new) document.old document.new) }
     ensures end { result ≡ Ok 0 → IsAtEnd (S.remaining source.new) }
     ensures errors { ReportsFailures result (S.has_failed source.new) false }
 {

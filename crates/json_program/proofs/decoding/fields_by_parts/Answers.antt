@@ -5,6 +5,6 @@ use Rattle.json_program.proofs.decoding.fields_by_parts.Goals as goal
 pub returns : goal.returns
 returns g c = record {
   first = λ f seen x. first-field f seen x _ refl;
-  next = λ f seen x y. and-field f seen x y _ _ _ refl refl refl;
+  next = λ fields last. and-field fields.view last.view fields.checked last.checked _ _ _ refl refl refl;
   plain = λ x. as_it_is x x refl;
 }

@@ -4,8 +4,8 @@ use Rattle.json_program.proofs.writing.lines_by_parts.Goals as goal
 pub returns : goal.returns
 returns c = record {
   none = written_none;
-  more = written_more;
-  begun = begun_line;
+  more = λ next. written_more next.first next.before next.after next.line next.left next.all next.written;
+  begun = λ next. begun_line next.first next.before next.after next.line next.left next.all next.written;
   prefix = written_prefix;
   all = written_all;
 }
