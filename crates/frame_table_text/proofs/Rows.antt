@@ -1,6 +1,6 @@
 -- The lines of rows.
 use Rattle.std.specs.Prelude.{if◌then◌else◌}
-use Rattle.std.proofs.Common.{◌≡◌, ◌≢◌, ℕ, ◌*◌, List, [], ◌∷◌, ◌++◌, append_assoc, Bool, true, false, Option, Some, None, Result, Ok, Err, IfErr, OnOk, cond, option_map, refl, sym, ap, subst, ◌∙◌, inr}
+use Rattle.std.proofs.Common.{◌≡◌, ◌≢◌, ℕ, ◌*◌, List, [], ◌∷◌, ◌++◌, append_assoc, Bool, true, false, Option, Some, None, Result, Ok, Err, IfErr, OnOk, option_map, refl, sym, ap, subst, ◌∙◌, inr}
 use Rattle.dwarf_constants.specs.declared.error.Error.{Error}
 use Rattle.dwarf_constants.specs.declared.error.Error.TheVariants.{OutOfMemory}
 use Rattle.std.specs.FinMap.{get}
@@ -21,7 +21,7 @@ use Rattle.dwarf_frame_instructions.specs.declared.rows.ProgramRows.{ProgramRows
 use Rattle.dwarf_readers.specs.Stretch.{Stretch}
 use Rattle.frame_table_text.specs.Cells.{hex_of}
 use Rattle.frame_table_text.specs.TableViews.{ShowsNext}
-use Rattle.frame_table_text.specs.Tables.{Table, cfa_text, rule_text_in, found_text, if_shown, line_if_given, line_of_cells, row_line, row_lines, rule_text}
+use Rattle.frame_table_text.specs.Tables.{Table, cfa_text, rule_text_in, found_text, if_shown, given_line, line_of_cells, row_line, row_lines, rule_text}
 use Rattle.frame_table_text.specs.declared.names.Machine.{Machine}
 
 -- the text of a row doesn't have the offsets of its expressions
@@ -63,12 +63,12 @@ goes_on others table left all answer text new whole shown given refusal lines =
 -- the line of the row that is current, as it lies in memory
 pub same_if_given : {O L : Type 0} (number : O → ℕ) (table : Table) (row : UnwindTableRow O L) (given : Option (Row ℕ)) (answer : Result (Unit {0}) AllocError) (text new : List ℕ)
     → Some (row_in number row) ≡ given → OnOk answer (new ≡ text ++ if_shown table (row_line table (row_of row)))
-    → OnOk answer (new ≡ text ++ line_if_given table given)
+    → OnOk answer (new ≡ text ++ given_line table given)
 same_if_given number table row given (Err e) text new is added = tt
 same_if_given number table row given (Ok done) text new is added =
     added
     ∙ ap (λ (l : List ℕ). text ++ if_shown table l) (sym (same_row_line number table (row_of row)))
-    ∙ ap (λ (o : Option (Row ℕ)). text ++ line_if_given table o) is
+    ∙ ap (λ (o : Option (Row ℕ)). text ++ given_line table o) is
 
 -- the line of the first row, and the others
 shows_row : (table : Table) (rows : List (Row ℕ)) (refusal : Option Error) (row : Row ℕ) (others : RowList ℕ) (text new : List ℕ)
@@ -109,19 +109,19 @@ module _ {R S E O L K : Type 0} (stretch : R → Stretch) (limit : ℕ) (number 
   -- the line of the next row is there, or all lines are
   shows : (table : Table) (answer : Result Bool Error) (text new : List ℕ)
       → Advances stretch limit number items limits Fixed t answer u → IfErr answer (λ e. e ≢ OutOfMemory)
-      → new ≡ text ++ line_if_given table (current_row number items u)
+      → new ≡ text ++ given_line table (current_row number items u)
       → ShowsNext (Left u) table (Left t) text new answer
   shows table (Ok true) text new went wanted added =
       shows_row table (Left t).rows (Left t).refusal (rows_state number items u).row (Left u) text new (went.first ∙ ap (λ b. Ok (row_if b)) went.given) went.left
-      (added ∙ ap (λ b. text ++ line_if_given table (row_if b)) went.given)
+      (added ∙ ap (λ b. text ++ given_line table (row_if b)) went.given)
   shows table (Ok false) text new went wanted added =
-      shows_end table (Left t).rows (Left t).refusal text new (went.first ∙ ap (λ b. Ok (row_if b)) went.given) (added ∙ ap (λ b. text ++ line_if_given table (row_if b)) went.given)
+      shows_end table (Left t).rows (Left t).refusal text new (went.first ∙ ap (λ b. Ok (row_if b)) went.given) (added ∙ ap (λ b. text ++ given_line table (row_if b)) went.given)
   shows table (Err e) text new went wanted added =
-      shows_error table (Left t).rows (Left t).refusal e text new (went.refused (inr wanted)) (added ∙ ap (λ b. text ++ line_if_given table (row_if b)) went.given)
+      shows_error table (Left t).rows (Left t).refusal e text new (went.refused (inr wanted)) (added ∙ ap (λ b. text ++ given_line table (row_if b)) went.given)
 
   pub shows_next : (table : Table) (answer given : Result Bool Error) (text new : List ℕ)
       → Advances stretch limit number items limits Fixed t answer u → given ≡ answer → IfErr answer (λ e. e ≢ OutOfMemory)
-      → new ≡ text ++ line_if_given table (current_row number items u)
+      → new ≡ text ++ given_line table (current_row number items u)
       → ShowsNext (Left u) table (Left t) text new given
   shows_next table answer given text new went is wanted added =
       subst (λ (r : Result Bool Error). ShowsNext (Left u) table (Left t) text new r) (sym is) (shows table answer text new went wanted added)

@@ -64,6 +64,10 @@ heading_line table = line_of_cells table (codes "   LOC") (codes "CFA") (column_
 abbrev pub rule_text_in : {T : Type 0} → Table → Row T → ℕ → List ℕ
 rule_text_in table row register = found_text table.machine (get row.rules register)
 
+-- the cells of how a row finds the registers of the columns
+abbrev pub rule_cells : {T : Type 0} → Table → Row T → List ℕ
+rule_cells table row = column_cells table (rule_text_in table row)
+
 -- the line of a row: its start, the CFA, and how each column is found
 abbrev pub row_line : {T : Type 0} → Table → Row T → List ℕ
 row_line table row =
@@ -73,14 +77,18 @@ row_line table row =
 abbrev pub if_shown : Table → List ℕ → List ℕ
 if_shown table text = if table.is_shown then text else []
 
--- the line of a row, if there is one
-abbrev pub line_if_given : {T : Type 0} → Table → Option (Row T) → List ℕ
-line_if_given table None = []
-line_if_given table (Some row) = if_shown table (row_line table row)
+-- the line of a row, in a table that is shown
+abbrev pub shown_line : {T : Type 0} → Table → Row T → List ℕ
+shown_line table row = if_shown table (row_line table row)
+
+-- the line of a row, if one is given
+abbrev pub given_line : {T : Type 0} → Table → Option (Row T) → List ℕ
+given_line table None = []
+given_line table (Some row) = shown_line table row
 
 -- the lines of rows
 abbrev pub row_lines : {T : Type 0} → Table → List (Row T) → List ℕ
-row_lines table rows = flat_map (λ row. if_shown table (row_line table row)) rows
+row_lines table rows = flat_map (shown_line table) rows
 
 -- the lines of a table
 abbrev pub table_text : Table → RowList ℕ → List ℕ

@@ -1,15 +1,16 @@
 //! Parts of lines, which are appended to a text. They fail if memory runs out, and may have appended a
 //! part then.
 
-ghost use Rattle.std.specs.Prelude.{◌≡◌, ◌++◌, IfOk, OnOk, decimal, replicate, string_bytes};
+ghost use Rattle.std.specs.Prelude.{◌≡◌, IfOk, decimal, replicate, string_bytes};
 ghost use Rattle.std.specs.Fmt.{signed_decimal};
 ghost use Rattle.frame_table_text.specs.Cells.{cell_of, hex_of, with_sign};
+ghost use Rattle.frame_table_text.specs.Pushes.{Pushes};
 
 use std::alloc::{AllocError, Global};
 
 // Appends a byte `count` times.
 fn push_times(text: &mut Vec<u8>, byte: u8, count: usize) -> Result<(), AllocError>
-    ensures { OnOk result (text.new.items ≡ text.old.items ++ replicate count byte) }
+    ensures { Pushes result text.old text.new (replicate count byte) }
 {
     for i in 0..count {
         text.push(byte)?;
@@ -19,14 +20,14 @@ fn push_times(text: &mut Vec<u8>, byte: u8, count: usize) -> Result<(), AllocErr
 
 /// Appends bytes as they are.
 pub fn push_bytes(text: &mut Vec<u8>, bytes: &[u8]) -> Result<(), AllocError>
-    ensures { OnOk result (text.new.items ≡ text.old.items ++ bytes.now) }
+    ensures { Pushes result text.old text.new bytes.now }
 {
     text.extend_from_slice(bytes)
 }
 
 /// Appends a cell of a table: a text, the spaces that bring it to its width, and one more.
 pub(crate) fn push_cell(text: &mut Vec<u8>, width: usize, cell: &[u8]) -> Result<(), AllocError>
-    ensures { OnOk result (text.new.items ≡ text.old.items ++ cell_of width cell.now) }
+    ensures { Pushes result text.old text.new (cell_of width cell.now) }
 {
     push_bytes(text, cell)?;
     push_times(text, b' ', width.saturating_sub(cell.len()))?;
@@ -40,7 +41,7 @@ pub fn push_hex(
     width: usize,
     number: u64,
 ) -> Result<(), AllocError>
-    ensures { OnOk result (text.new.items ≡ text.old.items ++ hex_of width number) }
+    ensures { Pushes result text.old text.new (hex_of width number) }
 {
     let digits = format!(in alloc; "{number:x}")?;
     push_times(text, b'0', width.saturating_sub(digits.len()))?;
@@ -49,7 +50,7 @@ pub fn push_hex(
 
 /// Appends a number in decimal digits.
 pub fn push_decimal(alloc: Global, text: &mut Vec<u8>, number: u64) -> Result<(), AllocError>
-    ensures { OnOk result (text.new.items ≡ text.old.items ++ decimal number) }
+    ensures { Pushes result text.old text.new (decimal number) }
 {
     let digits = format!(in alloc; "{number}")?;
     push_bytes(text, digits.as_bytes())
@@ -57,7 +58,7 @@ pub fn push_decimal(alloc: Global, text: &mut Vec<u8>, number: u64) -> Result<()
 
 /// Appends a number in decimal digits, with a minus if it is negative.
 pub fn push_signed(alloc: Global, text: &mut Vec<u8>, number: i64) -> Result<(), AllocError>
-    ensures { OnOk result (text.new.items ≡ text.old.items ++ signed_decimal number) }
+    ensures { Pushes result text.old text.new (signed_decimal number) }
 {
     let digits = format!(in alloc; "{number}")?;
     push_bytes(text, digits.as_bytes())

@@ -1,12 +1,11 @@
 //! The table of an entry: a line of headings, and one for each row.
 
-ghost use Rattle.std.specs.Prelude.{◌≡◌, ◌≢◌, ◌<◌, ◌*◌, ◌++◌, ℕ, IfErr, IfOk, OnOk, string_bytes};
-ghost use Rattle.std.specs.Bool.{OnTrue};
-ghost use Rattle.dwarf_frame_instructions.specs.ProgramRows.{current_row, program_of, rows_left, steps_left};
-ghost use Rattle.dwarf_frame_instructions.specs.Programs.{RowList, rows_of_program};
+ghost use Rattle.std.specs.Prelude.{◌≡◌, ◌≢◌, ◌<◌, ◌*◌, IfErr, IfOk, OnOk, string_bytes};
+ghost use Rattle.dwarf_frame_instructions.specs.ProgramRows.{current_row, rows_left, steps_left};
 ghost use Rattle.dwarf_frame_rows.specs.Row.{row_of};
-ghost use Rattle.frame_table_text.specs.TableViews.{ShowsNext, table_view};
-ghost use Rattle.frame_table_text.specs.Tables.{cfa_text, column_cells, column_name, rule_text_in, found_text, heading_line, if_shown, line_if_given, row_line, row_lines, rule_text, table_text};
+ghost use Rattle.frame_table_text.specs.Pushes.{Pushes};
+ghost use Rattle.frame_table_text.specs.TableViews.{IfMore, ShowsNext, rows_within, table_view};
+ghost use Rattle.frame_table_text.specs.Tables.{cfa_text, column_cells, column_name, found_text, given_line, heading_line, if_shown, row_lines, rule_cells, rule_text, shown_line, table_text};
 
 use crate::cells::{push_bytes, push_cell, push_hex, signed_text};
 use crate::names::{Machine, register_in_full, register_name};
@@ -115,8 +114,8 @@ impl Table {
 
     // Appends the headings of the columns.
     fn push_names(&self, alloc: Global, text: &mut Vec<u8>) -> Result<(), AllocError>
-        ensures { OnOk result (text.new.items ≡ text.old.items
-            ++ column_cells (table_view self.now) (column_name (table_view self.now))) }
+        ensures { Pushes result text.old text.new
+            (column_cells (table_view self.now) (column_name (table_view self.now))) }
     {
         for register in &self.columns {
             let name = self.column_name(alloc, *register)?;
@@ -127,8 +126,8 @@ impl Table {
 
     // Appends the line of headings, if the table is shown.
     fn push_headings(&self, alloc: Global, text: &mut Vec<u8>) -> Result<(), AllocError>
-        ensures { OnOk result (text.new.items ≡ text.old.items
-            ++ if_shown (table_view self.now) (heading_line (table_view self.now))) }
+        ensures { Pushes result text.old text.new
+            (if_shown (table_view self.now) (heading_line (table_view self.now))) }
     {
         if !self.is_shown {
             return Ok(());
@@ -146,9 +145,8 @@ impl Table {
         row: &UnwindTableRow<T, Rules>,
         text: &mut Vec<u8>,
     ) -> Result<(), AllocError>
-        ensures { OnOk result (text.new.items ≡ text.old.items
-            ++ column_cells (table_view self.now)
-            (rule_text_in (table_view self.now) (row_of row.now))) }
+        ensures { Pushes result text.old text.new
+            (rule_cells (table_view self.now) (row_of row.now)) }
     {
         for register in &self.columns {
             let rule = row.register(Register(*register));
@@ -165,8 +163,8 @@ impl Table {
         row: &UnwindTableRow<T, Rules>,
         text: &mut Vec<u8>,
     ) -> Result<(), AllocError>
-        ensures { OnOk result (text.new.items ≡ text.old.items
-            ++ if_shown (table_view self.now) (row_line (table_view self.now) (row_of row.now))) }
+        ensures { Pushes result text.old text.new
+            (shown_line (table_view self.now) (row_of row.now)) }
     {
         if !self.is_shown {
             return Ok(());
@@ -187,9 +185,8 @@ impl Table {
         rows: &ProgramRows<'_, '_, R, S>,
         text: &mut Vec<u8>,
     ) -> Result<(), AllocError>
-        ensures { OnOk result (text.new.items ≡ text.old.items ++ line_if_given
-            (table_view self.now)
-            (current_row R.Offset.value S.Stack.items rows.now)) }
+        ensures { Pushes result text.old text.new
+            (given_line (table_view self.now) (current_row R.Offset.value S.Stack.items rows.now)) }
     {
         match rows.current_row() {
             Some(row) => self.push_row(alloc, row, text),
@@ -207,9 +204,8 @@ impl Table {
         ensures next { let left = rows_left R.stretch R.Offset.limit R.Offset.value S.Stack.items S.limits in
             IfOk result (ShowsNext (left rows.new) (table_view self.now) (left rows.old)
             text.old.items text.new.items) }
-        ensures falls { IfOk result (λ answer. IfOk answer (λ more. OnTrue more
-            (steps_left R.stretch R.Offset.limit rows.new
-            < steps_left R.stretch R.Offset.limit rows.old))) }
+        ensures falls { IfOk result (IfMore (steps_left R.stretch R.Offset.limit rows.new
+            < steps_left R.stretch R.Offset.limit rows.old)) }
         ensures same_reference { rows.new.context.ghost_name ≡ rows.old.context.ghost_name }
     {
         let answer = wanted(rows.advance())?;
@@ -226,9 +222,9 @@ impl Table {
         text: &mut Vec<u8>,
     ) -> Result<Option<Error>, AllocError>
         ensures refusal { IfOk result (λ refusal.
-            refusal ≡ (rows_of_program S.limits (program_of program.entry)).refusal) }
-        ensures rows { OnOk result (text.new.items ≡ text.old.items ++ row_lines (table_view self.now)
-            (rows_of_program S.limits (program_of program.entry)).rows) }
+            refusal ≡ (rows_within S.limits program.entry).refusal) }
+        ensures rows { Pushes result text.old text.new
+            (row_lines (table_view self.now) (rows_within S.limits program.entry).rows) }
     {
         let mut rows = match wanted(ProgramRows::new(context, program))? {
             Ok(rows) => rows,
@@ -255,9 +251,9 @@ impl Table {
         text: &mut Vec<u8>,
     ) -> Result<Option<Error>, AllocError>
         ensures refusal { IfOk result (λ refusal.
-            refusal ≡ (rows_of_program S.limits (program_of program.entry)).refusal) }
-        ensures lines { OnOk result (text.new.items ≡ text.old.items ++ table_text (table_view self.now)
-            (rows_of_program S.limits (program_of program.entry))) }
+            refusal ≡ (rows_within S.limits program.entry).refusal) }
+        ensures lines { Pushes result text.old text.new
+            (table_text (table_view self.now) (rows_within S.limits program.entry)) }
     {
         self.push_headings(alloc, text)?;
         self.push_rows(alloc, context, program, text)
