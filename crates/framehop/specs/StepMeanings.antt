@@ -18,7 +18,7 @@ use Rattle.framehop_unwinder.specs.Walk.{Judgment}
 use Rattle.framehop_rows.specs.RowAttemptAarch64 as aarch64_rows
 use Rattle.framehop_rows.specs.RowAttemptX86_64 as x86_64_rows
 use Rattle.framehop_rows.specs.RowMeanings.{RowMeanings}
-use Rattle.framehop.specs.Attempts.{StepLimits, attempt, step_limits}
+use Rattle.framehop.specs.Attempts.{AsksExpression, StepLimits, attempt, step_limits}
 use Rattle.framehop.specs.UnwindData.{UnwindData}
 
 -- the limits if steps may allocate: rows have room for the rules of 192 registers, there is room for 4 rows, and for any number of values
@@ -42,6 +42,13 @@ meanings_x86_64 limits = meanings_by x86_64.rule_meaning x86_64_rule.UseFramePoi
 -- what steps on aarch64 go by
 abbrev pub meanings_aarch64 : StepLimits → Meanings UnwindData UnwindRuleAarch64 UnwindRegsAarch64
 meanings_aarch64 limits = meanings_by aarch64.rule_meaning aarch64_rule.UseFramePointer aarch64_rows.rows limits
+
+-- which modules' data asks for memory at a relative address: that by which a row evaluates an expression, on x86_64 and on aarch64
+abbrev pub asks_x86_64 : StepLimits → UnwindData → ℕ → Bool → Type 0
+asks_x86_64 limits = AsksExpression x86_64_rows.MeetsExpression x86_64_rows.rows limits
+
+abbrev pub asks_aarch64 : StepLimits → UnwindData → ℕ → Bool → Type 0
+asks_aarch64 limits = AsksExpression aarch64_rows.MeetsExpression aarch64_rows.rows limits
 
 -- the steps on aarch64, over modules that are unwound by their sections
 abbrev pub steps_aarch64 : StepLimits → List (Loaded UnwindData) → Judgment UnwindRegsAarch64

@@ -2,12 +2,11 @@
 
 ghost use Rattle.std.specs.Prelude.{◌≡◌, IfOk, OnOk, OnErr, None, [], replicate};
 ghost use Rattle.std.specs.List.{All};
-ghost use Rattle.framehop_registers.specs.Callback.{Words};
-ghost use Rattle.framehop_histories.specs.Commands.{OfCallback};
-ghost use Rattle.framehop_histories.specs.Performs.{AnswerBy, Performs};
+ghost use Rattle.framehop_histories.specs.CommandViews.{OfCallback};
+ghost use Rattle.framehop_histories.specs.Performs.{Performs};
 ghost use Rattle.framehop_rules.specs.Slots.{no_counts};
 ghost use Rattle.framehop_unwinder.specs.CacheViews.{rules_of};
-ghost use Rattle.framehop.specs.StepMeanings.{meanings_aarch64};
+ghost use Rattle.framehop.specs.StepMeanings.{asks_aarch64, meanings_aarch64};
 
 use crate::arch::BySections;
 use crate::cache::{AllocationPolicy, MayAllocateDuringUnwind};
@@ -80,9 +79,9 @@ pub fn perform<
     >,
 ) -> Result<Vec<Answer<UnwindRegsAarch64>>, AllocError>
     requires { All (OfCallback F.IsAlwaysCallable) commands.old.items }
-    ensures performs { (words : F → Words) → AnswerBy F.step words commands.old.items
-        → IfOk result (λ answers. Performs P.may_allocate
-        (meanings_aarch64 P.limits) words session.old commands.old.items session.new answers.items) }
+    ensures performs { IfOk result (λ answers.
+        Performs F.step P.may_allocate (asks_aarch64 P.limits) (meanings_aarch64 P.limits)
+        session.old commands.old.items session.new answers.items) }
     ensures performed { OnOk result (commands.new.items ≡ []) }
     ensures refused { OnErr result (session.new ≡ session.old) }
     ensures waiting { OnErr result (commands.new ≡ commands.old) }

@@ -1,3 +1,3 @@
-mod CommandResults
+mod Obeyed
 mod CommandLists
-mod CommandModels
+mod Alike

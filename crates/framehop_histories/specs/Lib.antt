@@ -1,4 +1,6 @@
+pub mod Alike
 pub mod Commands
 pub mod CommandViews
 pub mod Performs
-pub mod Progress
+pub mod Replies
+pub mod StateAfter

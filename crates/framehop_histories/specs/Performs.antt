@@ -1,27 +1,100 @@
--- What a list of commands does to a session.
-use Rattle.std.specs.Prelude.{ℕ, ◌≡◌, List, [], map, Bool, Result}
+-- What commands do to a session.
+use Rattle.std.specs.Prelude.{ℕ, ◌≡◌, List, [], length, map, Bool, Option, Result}
 use Rattle.std.specs.List.{All}
-use Rattle.framehop_registers.specs.Callback.{Words, AnswersBy}
+use Rattle.framehop_registers.specs.Callback.{Words, AnswersBy, OverWords}
 use Rattle.framehop_unwinder.specs.Attempt.{Meanings}
-use Rattle.framehop_unwinder.specs.Progress.{SessionModel, IsAt}
+use Rattle.framehop_unwinder.specs.History.{HaveHistories}
 use Rattle.framehop_unwinder.specs.State.{SessionState}
-use Rattle.framehop_histories.specs.CommandViews.{reply_of, state_of}
-use Rattle.framehop_histories.specs.Commands.{AreReplies, OfCallback, state_after_all}
-use Rattle.framehop_histories.specs.Progress.{model_after_all}
+use Rattle.framehop_unwinder.specs.Walk.{Walk}
+use Rattle.framehop_unwinder.specs.declared.iterator.StackWalk.{StackWalk}
+use Rattle.framehop_histories.specs.Commands.{Act, CommandState, Reply}
+use Rattle.framehop_histories.specs.StateAfter.{state_after}
+use Rattle.framehop_histories.specs.Replies.{IsReply, AreReplies, state_after_all}
+use Rattle.framehop_histories.specs.CommandViews.{OfCallback, act_of, reply_of, walks_of}
 use Rattle.framehop_histories.specs.declared.commands.Answer.{Answer}
+use Rattle.framehop_histories.specs.declared.commands.Answer.TheVariants.{Added, Removed, Unknown, GenerationsExhausted, OutOfMemory, Stepped, Moved}
 use Rattle.framehop_histories.specs.declared.commands.Command.{Command}
 
--- the callbacks of these commands answer by these words
-abbrev pub AnswerBy : {Data Context Registers Callback : Type 0} → (Callback → ℕ → Result ℕ (Unit {0}) → Callback → Type 0) → (Callback → Words)
-    → List (Command Data Context Registers Callback) → Type 0
-AnswerBy step words commands = All (OfCallback (λ callback. AnswersBy step callback (words callback))) commands
+-- A session and walks in this state, whatever its caches keep: its unwinders, its counter, and as many caches as there are histories.
+pub record IsIn {Data Rule Registers : Type 0} (state : CommandState Data Registers) (session : SessionState Data Rule)
+    (all_walks : List (Walk Registers)) : Type 0 where
+  pub unwinders : session.unwinders ≡ state.model.unwinders
+  pub next : session.next ≡ state.model.next
+  pub caches : length session.caches ≡ length state.model.histories
+  pub walks : all_walks ≡ state.walks
 
--- Commands that take a session from an old state to a new one: each answer is that of the judge, who remembers nothing; and where the
--- commands lead there is the session, with the generations of its unwinders and the histories of its caches.
-pub record Performs {Data Rule Context Registers Callback : Type 0} (takes_memory : Bool) (m : Meanings Data Rule Registers) (words : Callback → Words)
-    (old : SessionState Data Rule) (commands : List (Command Data Context Registers Callback)) (new : SessionState Data Rule)
-    (answers : List (Answer Registers)) : Type 0 where
-  pub replies : AreReplies takes_memory m words (state_of old []) commands (map reply_of answers)
-  pub state : let after = state_after_all m words (state_of old []) commands (map reply_of answers) in state_of new after.walks ≡ after
-  pub model : (model : SessionModel Data) → IsAt model old
-      → IsAt (model_after_all m words (state_of old []) commands (map reply_of answers) model) new
+-- A command that was answered so, from a state that the session was in: its reply, and the session in the state after it. If the
+-- histories of the state have made the caches, so have those of the state after it.
+pub record IsObeyed {Data Rule Registers : Type 0} (takes_memory : Bool) (asks : Data → ℕ → Bool → Type 0) (m : Meanings Data Rule Registers)
+    (act : Act Data Registers) (before : CommandState Data Registers) (old : SessionState Data Rule) (answer : Option (Reply Registers))
+    (new : SessionState Data Rule) (walks : List (Walk Registers)) : Type 0 where
+  pub reply : IsReply takes_memory asks m act before answer
+  pub state : IsIn (state_after m act before answer) new walks
+  pub histories : HaveHistories before.model.histories old.caches → HaveHistories (state_after m act before answer).model.histories new.caches
+
+-- a command that was answered so, from every state that the session and the walks were in
+abbrev pub Obeys : {Data Rule Registers : Type 0} → Bool → (Data → ℕ → Bool → Type 0) → Meanings Data Rule Registers → Act Data Registers
+    → SessionState Data Rule → List (StackWalk Registers) → Answer Registers → SessionState Data Rule → List (StackWalk Registers) → Type 0
+Obeys {Data} {Rule} {Registers} takes_memory asks m act old walks answer new walks_after =
+    (state : CommandState Data Registers) → IsIn state old (walks_of walks)
+    → IsObeyed takes_memory asks m act state old (reply_of answer) new (walks_of walks_after)
+
+-- a command that leaves all walks as they are
+abbrev pub ObeysInSession : {Data Rule Registers : Type 0} → Bool → (Data → ℕ → Bool → Type 0) → Meanings Data Rule Registers → Act Data Registers
+    → SessionState Data Rule → Answer Registers → SessionState Data Rule → Type 0
+ObeysInSession {Data} {Rule} {Registers} takes_memory asks m act old answer new =
+    (walks : List (StackWalk Registers)) → Obeys takes_memory asks m act old walks answer new walks
+
+-- a command over the words by which a callback answers, that was answered so by a call that took the callback from old to new
+abbrev pub ObeysOverWords : {Data Rule Registers Callback : Type 0} → (Callback → ℕ → Result ℕ (Unit {0}) → Callback → Type 0) → Callback → Callback
+    → Bool → (Data → ℕ → Bool → Type 0) → Meanings Data Rule Registers → (Words → Act Data Registers) → SessionState Data Rule
+    → List (StackWalk Registers) → Answer Registers → SessionState Data Rule → List (StackWalk Registers) → Type 0
+ObeysOverWords step first last takes_memory asks m act old walks answer new walks_after =
+    OverWords step first last (λ words. Obeys takes_memory asks m (act words) old walks answer new walks_after)
+
+-- what is as it was if a command is out of memory, names what isn't there or finds no number left
+abbrev pub StaysUnlessDone : {X Registers : Type 0} → Answer Registers → X → X → Type 0
+StaysUnlessDone Added old new = Unit {0}
+StaysUnlessDone Removed old new = Unit {0}
+StaysUnlessDone Unknown old new = new ≡ old
+StaysUnlessDone GenerationsExhausted old new = new ≡ old
+StaysUnlessDone OutOfMemory old new = new ≡ old
+StaysUnlessDone (Stepped answer regs) old new = Unit {0}
+StaysUnlessDone (Moved answer regs) old new = Unit {0}
+
+-- The unwinders and the counter stay, and there are as many caches.
+pub record LoadsStay {Data Rule : Type 0} (old new : SessionState Data Rule) : Type 0 where
+  pub unwinders : new.unwinders ≡ old.unwinders
+  pub next : new.next ≡ old.next
+  pub caches : length new.caches ≡ length old.caches
+
+-- the callback of a command, if it has one, answers by these words
+abbrev pub IsAnsweredBy : {Data Context Registers Callback : Type 0} → (Callback → ℕ → Result ℕ (Unit {0}) → Callback → Type 0) → (Callback → Words)
+    → Command Data Context Registers Callback → Type 0
+IsAnsweredBy step words command = OfCallback (λ callback. AnswersBy step callback (words callback)) command
+
+-- a command that was answered so, by whatever words its callback answers
+abbrev pub ObeysByWords : {Data Rule Context Registers Callback : Type 0} → (Callback → ℕ → Result ℕ (Unit {0}) → Callback → Type 0) → Bool
+    → (Data → ℕ → Bool → Type 0) → Meanings Data Rule Registers → Command Data Context Registers Callback → SessionState Data Rule
+    → List (StackWalk Registers) → Answer Registers → SessionState Data Rule → List (StackWalk Registers) → Type 0
+ObeysByWords {Callback} step takes_memory asks m command old walks answer new walks_after =
+    (words : Callback → Words) → IsAnsweredBy step words command
+    → Obeys takes_memory asks m (act_of words command) old walks answer new walks_after
+
+-- Commands that take a session from an old state to a new one, from a state of theirs that it was in: each answer is the reply, and
+-- where the commands lead there is the session, with the generations of its unwinders and the histories of its caches.
+pub record PerformsFrom {Data Rule Registers : Type 0} (takes_memory : Bool) (asks : Data → ℕ → Bool → Type 0) (m : Meanings Data Rule Registers)
+    (first : CommandState Data Registers) (old : SessionState Data Rule) (acts : List (Act Data Registers)) (new : SessionState Data Rule)
+    (answers : List (Option (Reply Registers))) : Type 0 where
+  pub replies : AreReplies takes_memory asks m first acts answers
+  pub state : let last = state_after_all m first acts answers in IsIn last new last.walks
+  pub histories : HaveHistories first.model.histories old.caches → HaveHistories (state_after_all m first acts answers).model.histories new.caches
+
+-- the same from every state without walks that the session was in, by whatever words the callbacks of the commands answer
+abbrev pub Performs : {Data Rule Context Registers Callback : Type 0} → (Callback → ℕ → Result ℕ (Unit {0}) → Callback → Type 0) → Bool
+    → (Data → ℕ → Bool → Type 0) → Meanings Data Rule Registers → SessionState Data Rule → List (Command Data Context Registers Callback)
+    → SessionState Data Rule → List (Answer Registers) → Type 0
+Performs {Data} {Registers} {Callback} step takes_memory asks m old commands new answers =
+    (words : Callback → Words) → All (IsAnsweredBy step words) commands
+    → (state : CommandState Data Registers) → IsIn state old []
+    → PerformsFrom takes_memory asks m state old (map (act_of words) commands) new (map reply_of answers)

@@ -1,17 +1,15 @@
-//! Lists of commands, with their answers.
+//! Commands to a session, one by one and in lists, with their answers.
 
 ghost use Rattle.std.specs.Prelude.{◌≡◌, ◌∷◌, ◌++◌, true, false, Some, None, [], List, length, map, IfOk, OnOk, OnErr};
 ghost use Rattle.std.specs.List.{All};
-ghost use Rattle.framehop_registers.specs.Callback.{Words, AnswersBy};
-ghost use Rattle.framehop_histories.specs.Commands.{Stepped, Moved, IsResult, OfCallback, command_result, result_of_unwinder, result_of_cache, result_of_load, result_of_unload, result_of_clone, result_of_step, result_of_frame};
-ghost use Rattle.framehop_histories.specs.CommandViews.{reply_of, state_of};
-ghost use Rattle.framehop_histories.specs.Performs.{AnswerBy, Performs};
-ghost use Rattle.framehop_unwinder.specs.Progress.{SessionModel, IsAt};
-ghost use Rattle.framehop_histories.specs.Progress.{model_after_unwinder, model_after_cache, model_after_load, model_after_unload, model_after_clone, model_after_step, model_after_frame, model_after};
+ghost use Rattle.framehop_registers.specs.Callback.{OverWords};
+ghost use Rattle.framehop_histories.specs.Commands.{NewUnwinder, NewCache, Load, Unload, Clone, Step, NewWalk, NextFrame, Stepped, Moved};
+ghost use Rattle.framehop_histories.specs.CommandViews.{OfCallback, reply_of};
+ghost use Rattle.framehop_histories.specs.Performs.{LoadsStay, Obeys, ObeysByWords, ObeysInSession, ObeysOverWords, Performs, StaysUnlessDone};
 ghost use Rattle.framehop_unwinder.specs.Frames.{frame_of};
+ghost use Rattle.framehop_unwinder.specs.State.{SessionState};
 ghost use Rattle.framehop_unwinder.specs.Trials.{wants_memory};
-ghost use Rattle.framehop_unwinder.specs.Walk.{Walk};
-ghost use Rattle.framehop_unwinder.specs.WalkViews.{walk_of, walk_from, frame_answer};
+ghost use Rattle.framehop_unwinder.specs.WalkViews.{frame_answer};
 
 use framehop_modules::LoadError;
 use framehop_rules::{Error, FrameAddress};
@@ -86,15 +84,14 @@ impl<R: Copy> Answer<R> {
     }
 }
 
-fn new_unwinder<A: ModuleUnwinding>(
+/// A new unwinder without a module, the last.
+pub fn new_unwinder<A: ModuleUnwinding>(
     session: &mut Session<A>,
     alloc: Global,
 ) -> Answer<A::UnwindRegs>
-    ensures reply { (walks : List (Walk A.UnwindRegs)) → let state = state_of session.old walks in
-        IsResult A.takes_memory state (result_of_unwinder state) (reply_of result)
-        (state_of session.new walks) }
-    ensures model { (model : SessionModel A.UnwindData) → IsAt model session.old
-        → IsAt (model_after_unwinder (reply_of result) model) session.new }
+    ensures obeys { ObeysInSession A.takes_memory A.asks_memory A.meanings NewUnwinder
+        session.old result session.new }
+    ensures stays { StaysUnlessDone result session.old session.new }
 {
     match session.add_unwinder(alloc) {
         Ok(()) => Answer::Added,
@@ -103,16 +100,15 @@ fn new_unwinder<A: ModuleUnwinding>(
     }
 }
 
-fn new_cache<A: ModuleUnwinding>(
+/// A new cache with this room, the last.
+pub fn new_cache<A: ModuleUnwinding>(
     session: &mut Session<A>,
     alloc: Global,
     unwind_context: A::UnwindContext,
 ) -> Answer<A::UnwindRegs>
-    ensures reply { (walks : List (Walk A.UnwindRegs)) → let state = state_of session.old walks in
-        IsResult A.takes_memory state (result_of_cache state) (reply_of result)
-        (state_of session.new walks) }
-    ensures model { (model : SessionModel A.UnwindData) → IsAt model session.old
-        → IsAt (model_after_cache (reply_of result) model) session.new }
+    ensures obeys { ObeysInSession A.takes_memory A.asks_memory A.meanings NewCache
+        session.old result session.new }
+    ensures stays { StaysUnlessDone result session.old session.new }
 {
     match session.add_cache(alloc, unwind_context) {
         Ok(()) => Answer::Added,
@@ -120,16 +116,15 @@ fn new_cache<A: ModuleUnwinding>(
     }
 }
 
-fn load<A: ModuleUnwinding>(
+/// Loads a module in an unwinder.
+pub fn load<A: ModuleUnwinding>(
     session: &mut Session<A>,
     unwinder: usize,
     module: Module<A::UnwindData>,
 ) -> Answer<A::UnwindRegs>
-    ensures reply { (walks : List (Walk A.UnwindRegs)) → let state = state_of session.old walks in
-        IsResult A.takes_memory state (result_of_load unwinder «module» state) (reply_of result)
-        (state_of session.new walks) }
-    ensures model { (model : SessionModel A.UnwindData) → IsAt model session.old
-        → IsAt (model_after_load unwinder «module» (reply_of result) model) session.new }
+    ensures obeys { ObeysInSession A.takes_memory A.asks_memory A.meanings (Load unwinder «module»)
+        session.old result session.new }
+    ensures stays { StaysUnlessDone result session.old session.new }
 {
     if unwinder >= session.unwinders() {
         return Answer::Unknown;
@@ -141,16 +136,15 @@ fn load<A: ModuleUnwinding>(
     }
 }
 
-fn unload<A: ModuleUnwinding>(
+/// Unloads the last of the modules of an unwinder that start at an address, if one does.
+pub fn unload<A: ModuleUnwinding>(
     session: &mut Session<A>,
     unwinder: usize,
     start: u64,
 ) -> Answer<A::UnwindRegs>
-    ensures reply { (walks : List (Walk A.UnwindRegs)) → let state = state_of session.old walks in
-        IsResult A.takes_memory state (result_of_unload unwinder start state) (reply_of result)
-        (state_of session.new walks) }
-    ensures model { (model : SessionModel A.UnwindData) → IsAt model session.old
-        → IsAt (model_after_unload unwinder start (reply_of result) model) session.new }
+    ensures obeys { ObeysInSession A.takes_memory A.asks_memory A.meanings (Unload unwinder start)
+        session.old result session.new }
+    ensures stays { StaysUnlessDone result session.old session.new }
 {
     if unwinder >= session.unwinders() {
         return Answer::Unknown;
@@ -161,16 +155,15 @@ fn unload<A: ModuleUnwinding>(
     }
 }
 
-fn clone<A: ModuleUnwinding>(
+/// A new unwinder with the modules of another, the last.
+pub fn clone_unwinder<A: ModuleUnwinding>(
     session: &mut Session<A>,
     alloc: Global,
     unwinder: usize,
 ) -> Answer<A::UnwindRegs>
-    ensures reply { (walks : List (Walk A.UnwindRegs)) → let state = state_of session.old walks in
-        IsResult A.takes_memory state (result_of_clone unwinder state) (reply_of result)
-        (state_of session.new walks) }
-    ensures model { (model : SessionModel A.UnwindData) → IsAt model session.old
-        → IsAt (model_after_clone unwinder (reply_of result) model) session.new }
+    ensures obeys { ObeysInSession A.takes_memory A.asks_memory A.meanings (Clone unwinder)
+        session.old result session.new }
+    ensures stays { StaysUnlessDone result session.old session.new }
 {
     if unwinder >= session.unwinders() {
         return Answer::Unknown;
@@ -181,65 +174,71 @@ fn clone<A: ModuleUnwinding>(
     }
 }
 
-fn step<A: ModuleUnwinding, F: FnMut(u64) -> Result<u64, ()> + Drop>(
+/// The step of an unwinder with a cache, from a frame with these registers.
+pub fn step<A: ModuleUnwinding, F: FnMut(u64) -> Result<u64, ()>>(
     session: &mut Session<A>,
     unwinder: usize,
     cache: usize,
     address: FrameAddress,
     regs: A::UnwindRegs,
-    read_stack: F,
+    read_stack: &mut F,
 ) -> Answer<A::UnwindRegs>
-    requires { F.IsAlwaysCallable read_stack }
-    ensures reply { (words : Words) → AnswersBy F.step read_stack words
-        → (walks : List (Walk A.UnwindRegs)) → let state = state_of session.old walks in
-        let command_result = result_of_step A.meanings unwinder cache (frame_of address) regs words state in
-        IsResult A.takes_memory state command_result (reply_of result) (state_of session.new walks) }
-    ensures model { (model : SessionModel A.UnwindData) → IsAt model session.old
-        → IsAt (model_after_step A.meanings unwinder cache (frame_of address) (reply_of result) model)
-        session.new }
+    requires { F.IsAlwaysCallable read_stack.old }
+    ensures callable { F.IsAlwaysCallable read_stack.new }
+    ensures obeys { OverWords F.step read_stack.old read_stack.new (λ words.
+        ObeysInSession A.takes_memory A.asks_memory A.meanings
+        (Step unwinder cache (frame_of address) regs words)
+        session.old result session.new) }
+    ensures loads { LoadsStay session.old session.new }
+    ensures unknown { result ≡ Answer.Unknown → session.new ≡ session.old }
 {
     if unwinder >= session.unwinders() || cache >= session.caches() {
         return Answer::Unknown;
     }
     let mut regs = regs;
-    let mut read_stack = read_stack;
-    let answer = session.step(unwinder, cache, address, &mut regs, &mut read_stack);
+    let answer = session.step(unwinder, cache, address, &mut regs, read_stack);
     Answer::of_step(answer, regs)
 }
 
-fn add_walk<R: Copy>(walks: &mut Vec<StackWalk<R>>, pc: u64, regs: R) -> Result<(), AllocError>
-    ensures ok { OnOk result (map walk_of walks.new.items
-        ≡ map walk_of walks.old.items ++ walk_from pc regs ∷ []) }
-    ensures refused { OnErr result (walks.new.items ≡ walks.old.items) }
+/// A new walk from a frame at an instruction pointer with these registers, the last.
+pub fn new_walk<A: ModuleUnwinding>(
+    walks: &mut Vec<StackWalk<A::UnwindRegs>>,
+    pc: u64,
+    regs: A::UnwindRegs,
+) -> Answer<A::UnwindRegs>
+    ensures obeys { (session : SessionState A.UnwindData A.UnwindRule)
+        → Obeys A.takes_memory A.asks_memory A.meanings (NewWalk pc regs)
+        session walks.old.items result session walks.new.items }
+    ensures stays { StaysUnlessDone result walks.old.items walks.new.items }
 {
-    walks.push(StackWalk::new(pc, regs))?;
-    Ok(())
+    match walks.push(StackWalk::new(pc, regs)) {
+        Ok(()) => Answer::Added,
+        Err(_) => Answer::OutOfMemory,
+    }
 }
 
-fn next_frame<A: ModuleUnwinding, F: FnMut(u64) -> Result<u64, ()> + Drop>(
+/// The next move over the frames of an unwinder with a cache, of a walk.
+pub fn next_frame<A: ModuleUnwinding, F: FnMut(u64) -> Result<u64, ()>>(
     session: &mut Session<A>,
     walks: &mut Vec<StackWalk<A::UnwindRegs>>,
     unwinder: usize,
     cache: usize,
     walk: usize,
-    read_stack: F,
+    read_stack: &mut F,
 ) -> Answer<A::UnwindRegs>
-    requires { F.IsAlwaysCallable read_stack }
-    ensures reply { (words : Words) → AnswersBy F.step read_stack words
-        → let state = state_of session.old (map walk_of walks.old.items) in
-        IsResult A.takes_memory state (result_of_frame A.meanings unwinder cache walk words state)
-        (reply_of result) (state_of session.new (map walk_of walks.new.items)) }
-    ensures model { let there = map walk_of walks.old.items in
-        (model : SessionModel A.UnwindData) → IsAt model session.old
-        → IsAt (model_after_frame A.meanings there unwinder cache walk (reply_of result) model)
-        session.new }
+    requires { F.IsAlwaysCallable read_stack.old }
+    ensures callable { F.IsAlwaysCallable read_stack.new }
+    ensures obeys { ObeysOverWords F.step read_stack.old read_stack.new
+        A.takes_memory A.asks_memory A.meanings (NextFrame unwinder cache walk)
+        session.old walks.old.items result session.new walks.new.items }
+    ensures loads { LoadsStay session.old session.new }
+    ensures unknown { result ≡ Answer.Unknown → session.new ≡ session.old }
 {
     if unwinder >= session.unwinders() || cache >= session.caches() || walk >= walks.len() {
         return Answer::Unknown;
     }
-    let mut read_stack = read_stack;
     let walk = &mut walks[walk];
-    let answer = session.next_frame(unwinder, cache, walk, &mut read_stack);
+    let answer = session.next_frame(unwinder, cache, walk, read_stack);
     Answer::of_move(answer, walk.regs())
 }
 
@@ -251,30 +250,23 @@ fn obey<A: ModuleUnwinding, F: FnMut(u64) -> Result<u64, ()> + Drop>(
     command: Command<A::UnwindData, A::UnwindContext, A::UnwindRegs, F>,
 ) -> Answer<A::UnwindRegs>
     requires { OfCallback F.IsAlwaysCallable command }
-    ensures reply { (words : F → Words)
-        → OfCallback (λ read_stack. AnswersBy F.step read_stack (words read_stack)) command
-        → let state = state_of session.old (map walk_of walks.old.items) in
-        IsResult A.takes_memory state (command_result A.meanings words command state) (reply_of result)
-        (state_of session.new (map walk_of walks.new.items)) }
-    ensures model { let there = map walk_of walks.old.items in
-        (model : SessionModel A.UnwindData) → IsAt model session.old
-        → IsAt (model_after A.meanings there command (reply_of result) model) session.new }
+    ensures { ObeysByWords F.step A.takes_memory A.asks_memory A.meanings command
+        session.old walks.old.items result session.new walks.new.items }
 {
     match command {
         Command::NewUnwinder => new_unwinder(session, alloc),
         Command::NewCache(unwind_context) => new_cache(session, alloc, unwind_context),
         Command::Load(unwinder, module) => load(session, unwinder, module),
         Command::Unload(unwinder, start) => unload(session, unwinder, start),
-        Command::Clone(unwinder) => clone(session, alloc, unwinder),
+        Command::Clone(unwinder) => clone_unwinder(session, alloc, unwinder),
         Command::Step(unwinder, cache, address, regs, read_stack) => {
-            step(session, unwinder, cache, address, regs, read_stack)
+            let mut read_stack = read_stack;
+            step(session, unwinder, cache, address, regs, &mut read_stack)
         }
-        Command::NewWalk(pc, regs) => match add_walk(walks, pc, regs) {
-            Ok(()) => Answer::Added,
-            Err(_) => Answer::OutOfMemory,
-        },
+        Command::NewWalk(pc, regs) => new_walk::<A>(walks, pc, regs),
         Command::NextFrame(unwinder, cache, walk, read_stack) => {
-            next_frame(session, walks, unwinder, cache, walk, read_stack)
+            let mut read_stack = read_stack;
+            next_frame(session, walks, unwinder, cache, walk, &mut read_stack)
         }
     }
 }
@@ -282,7 +274,9 @@ fn obey<A: ModuleUnwinding, F: FnMut(u64) -> Result<u64, ()> + Drop>(
 /// Does what the commands ask, one after the other, and answers each. After any loads, unloads, clones
 /// and walks, and through any of the caches, each step and each move of a walk is answered as by a
 /// judge who remembers nothing, from the modules that are loaded then. Each looks up in the cache that
-/// its command names: there alone it is counted, and there alone a rule is kept.
+/// its command names: there alone it is counted, and there alone a rule is kept. A step or a move is
+/// answered `OutOfMemory` only if modules may take memory, and what the module that is found says of
+/// the frame asks for it.
 ///
 /// Fails if there is no memory for the list of answers: no command is taken then, and nothing done.
 pub fn perform<A: ModuleUnwinding, F: FnMut(u64) -> Result<u64, ()> + Drop>(
@@ -291,8 +285,8 @@ pub fn perform<A: ModuleUnwinding, F: FnMut(u64) -> Result<u64, ()> + Drop>(
     commands: &mut VecDeque<Command<A::UnwindData, A::UnwindContext, A::UnwindRegs, F>>,
 ) -> Result<Vec<Answer<A::UnwindRegs>>, AllocError>
     requires { All (OfCallback F.IsAlwaysCallable) commands.old.items }
-    ensures performs { (words : F → Words) → AnswerBy F.step words commands.old.items
-        → IfOk result (λ answers. Performs A.takes_memory A.meanings words
+    ensures performs { IfOk result (λ answers.
+        Performs F.step A.takes_memory A.asks_memory A.meanings
         session.old commands.old.items session.new answers.items) }
     ensures performed { OnOk result (commands.new.items ≡ []) }
     ensures refused { OnErr result (session.new ≡ session.old) }

@@ -3,5 +3,9 @@
 #![tactic(auto)]
 
 mod commands;
+pub mod laws;
 
-pub use commands::{Answer, Command, perform};
+pub use commands::{
+    Answer, Command, clone_unwinder, load, new_cache, new_unwinder, new_walk, next_frame, perform,
+    step, unload,
+};

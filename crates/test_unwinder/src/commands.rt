@@ -2,7 +2,7 @@
 
 ghost use Rattle.std.specs.Prelude.{IfOk};
 ghost use Rattle.std.specs.List.{All};
-ghost use Rattle.framehop_histories.specs.Commands.{OfCallback};
+ghost use Rattle.framehop_histories.specs.CommandViews.{OfCallback};
 
 use crate::tables::{Row, Said, Tables};
 use crate::worked::{counts, first, loaded, module, next_random, word_at};

@@ -1,5 +1,5 @@
 use Rattle.std.proofs.lemmas.List.Elements.{All-push}
-use Rattle.framehop_histories.specs.Commands.{OfCallback}
+use Rattle.framehop_histories.specs.CommandViews.{OfCallback}
 use Rattle.test_unwinder.proofs.commands.commands_of.Goals as goal
 
 pub loop-number-preserved : goal.loop-number-preserved

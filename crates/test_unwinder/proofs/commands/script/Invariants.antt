@@ -1,5 +1,5 @@
 use Rattle.std.specs.List.{All}
-use Rattle.framehop_histories.specs.Commands.{OfCallback}
+use Rattle.framehop_histories.specs.CommandViews.{OfCallback}
 use Rattle.test_unwinder.proofs.commands.script.Given as goal
 
 abbrev pub invariant-loop : goal.invariant-loop

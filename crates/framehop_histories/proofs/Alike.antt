@@ -1,0 +1,177 @@
+-- States with the same modules, number of caches, next number and walks.
+use Rattle.std.proofs.Common.{◌≡◌, ◌∙◌, ℕ, zero, suc, ◌^◌, ◌-◌, ◌+◌, Bool, true, false, List, [], ◌∷◌, ◌++◌, Option, Some, None, sym, ap, refl, length, get_or, map, subst}
+use Rattle.std.specs.Prelude.{nat_lt, if◌then◌else◌, slice_set}
+use Rattle.std.specs.List.{slice_get}
+use Rattle.std.proofs.lemmas.List.{length-append, length-set, map-set, map_push}
+use Rattle.framehop_unwinder.specs.Attempt.{Meanings}
+use Rattle.framehop_unwinder.specs.Frames.{Frame}
+use Rattle.framehop_unwinder.specs.History.{KeyHistory, no_history}
+use Rattle.framehop_unwinder.specs.Judge.{judge}
+use Rattle.framehop_unwinder.specs.Modules.{Loaded, Loads, is_loaded_at, with_loaded, without_loaded}
+use Rattle.framehop_unwinder.specs.Progress.{modules_in}
+use Rattle.framehop_unwinder.specs.State.{unwinder_at, loads_with, histories_after_step, histories_after_move}
+use Rattle.framehop_unwinder.specs.Walk.{Walk, WalkPosition, Starts, At, Over, move}
+use Rattle.framehop_unwinder.specs.WalkViews.{walk_from}
+use Rattle.framehop_histories.specs.Alike.{AreAlike}
+use Rattle.framehop_histories.specs.Commands.{Act, NewUnwinder, NewCache, Load, Unload, Clone, Step, NewWalk, NextFrame, CommandState, Reply, Added, Removed, Unknown, Exhausted, Stepped, Moved, if_known, stepped, moved, reply_to}
+use Rattle.framehop_histories.specs.StateAfter.{state_after, state_done, walk_place, with_modules, with_moved}
+
+-- the reply from these parts of a state
+abbrev reply_by : {D R Regs : Type 0} → Meanings D R Regs → Act D Regs → List (List (Loaded D)) → ℕ → ℕ → List (Walk Regs) → Reply Regs
+reply_by m NewUnwinder modules caches next walks = if nat_lt next (2 ^ 64 - 1) then Added else Exhausted
+reply_by m NewCache modules caches next walks = Added
+reply_by m (Load i module_) modules caches next walks = if_known (slice_get modules i) (λ found. if nat_lt next (2 ^ 64 - 1) then Added else Exhausted)
+reply_by m (Unload i start) modules caches next walks =
+    if_known (slice_get modules i) (λ found. if is_loaded_at start found then (if nat_lt next (2 ^ 64 - 1) then Removed else Exhausted) else Removed)
+reply_by m (Clone i) modules caches next walks = if_known (slice_get modules i) (λ found. Added)
+reply_by m (Step i c frame registers words) modules caches next walks =
+    if_known (if nat_lt c caches then slice_get modules i else None) (λ found. stepped registers (judge m found frame registers words))
+reply_by m (NewWalk pc registers) modules caches next walks = Added
+reply_by m (NextFrame i c w words) modules caches next walks =
+    if_known (if nat_lt c caches then slice_get modules i else None) (λ found. if_known (slice_get walks w) (λ there. moved (move (judge m found) words there)))
+
+abbrev modules-in : {D : Type 0} → List (Loads (Loaded D)) → List (List (Loaded D))
+modules-in {D} unwinders = map (λ (u : Loads (Loaded D)). u.modules) unwinders
+
+by-parts : {D R Regs : Type 0} (m : Meanings D R Regs) (act : Act D Regs) (state : CommandState D Regs)
+    → reply_to m act state ≡ reply_by m act (modules-in state.model.unwinders) (length state.model.histories) state.model.next state.walks
+by-parts m NewUnwinder state = refl
+by-parts m NewCache state = refl
+by-parts m (Load i module_) state = refl
+by-parts m (Unload i start) state = refl
+by-parts m (Clone i) state = refl
+by-parts m (Step i c frame registers words) state = refl
+by-parts m (NewWalk pc registers) state = refl
+by-parts m (NextFrame i c w words) state = refl
+
+pub reply-alike : {D R Regs : Type 0} (m : Meanings D R Regs) (act : Act D Regs) (one other : CommandState D Regs) → AreAlike one other → reply_to m act one ≡ reply_to m act other
+reply-alike {D} {R} {Regs} m act one other alike =
+    by-parts m act one
+    ∙ ap (λ (modules : List (List (Loaded D))). reply_by m act modules (length one.model.histories) one.model.next one.walks) alike.modules
+    ∙ ap (λ (caches : ℕ). reply_by m act (modules-in other.model.unwinders) caches one.model.next one.walks) alike.caches
+    ∙ ap (λ (next : ℕ). reply_by m act (modules-in other.model.unwinders) (length other.model.histories) next one.walks) alike.next
+    ∙ ap (λ (walks : List (Walk Regs)). reply_by m act (modules-in other.model.unwinders) (length other.model.histories) other.model.next walks) alike.walks
+    ∙ sym (by-parts m act other)
+
+-- the modules of an unwinder, by the modules of all
+modules-got : {D : Type 0} (us : List (Loads (Loaded D))) (i : ℕ) → (unwinder_at us i).modules ≡ get_or (modules-in us) i []
+modules-got [] i = refl
+modules-got (u ∷ us) zero = refl
+modules-got (u ∷ us) (suc i) = modules-got us i
+
+modules-at : {D : Type 0} (us vs : List (Loads (Loaded D))) (i : ℕ) → modules-in us ≡ modules-in vs → (unwinder_at us i).modules ≡ (unwinder_at vs i).modules
+modules-at {D} us vs i same = modules-got us i ∙ ap (λ (modules : List (List (Loaded D))). get_or modules i []) same ∙ sym (modules-got vs i)
+
+push-alike : {D : Type 0} (us vs : List (Loads (Loaded D))) (u v : Loads (Loaded D)) → modules-in us ≡ modules-in vs → u.modules ≡ v.modules → modules-in (us ++ u ∷ []) ≡ modules-in (vs ++ v ∷ [])
+push-alike {D} us vs u v same also =
+    map_push (λ (x : Loads (Loaded D)). x.modules) us u
+    ∙ ap (λ (modules : List (List (Loaded D))). modules ++ u.modules ∷ []) same
+    ∙ ap (λ (last : List (Loaded D)). modules-in vs ++ last ∷ []) also
+    ∙ sym (map_push (λ (x : Loads (Loaded D)). x.modules) vs v)
+
+set-alike : {D : Type 0} (us vs : List (Loads (Loaded D))) (i : ℕ) (u v : Loads (Loaded D)) → modules-in us ≡ modules-in vs → u.modules ≡ v.modules → modules-in (slice_set us i u) ≡ modules-in (slice_set vs i v)
+set-alike {D} us vs i u v same also =
+    map-set (λ (x : Loads (Loaded D)). x.modules) us i u
+    ∙ ap (λ (modules : List (List (Loaded D))). slice_set modules i u.modules) same
+    ∙ ap (λ (one : List (Loaded D)). slice_set (modules-in vs) i one) also
+    ∙ sym (map-set (λ (x : Loads (Loaded D)). x.modules) vs i v)
+
+module _ {D R Regs : Type 0} (m : Meanings D R Regs) where
+  step-count : (wanted : Bool) (frame : Frame) (loads : Loads (Loaded D)) (c : ℕ) (hs : List KeyHistory) → length (histories_after_step m wanted frame loads c hs) ≡ length hs
+  step-count wanted frame loads c hs = length-set hs c _
+
+  move-count : (wanted : Bool) (place : WalkPosition) (loads : Loads (Loaded D)) (c : ℕ) (hs : List KeyHistory) → length (histories_after_move m wanted place loads c hs) ≡ length hs
+  move-count wanted (Starts pc) loads c hs = refl
+  move-count wanted (At frame) loads c hs = length-set hs c _
+  move-count wanted Over loads c hs = refl
+
+  set-modules-alike : (one other : CommandState D Regs) (i : ℕ) (found also : List (Loaded D)) → AreAlike one other → found ≡ also
+      → AreAlike (record one { model = with_modules i found one.model }) (record other { model = with_modules i also other.model })
+  set-modules-alike one other i found also alike same = record {
+    modules = set-alike one.model.unwinders other.model.unwinders i (loads_with found one.model.next) (loads_with also other.model.next) alike.modules same;
+    caches = alike.caches;
+    next = ap (λ n. n + 1) alike.next;
+    walks = alike.walks;
+  }
+
+  unload-alike : (has : Bool) (one other : CommandState D Regs) (i : ℕ) (found also : List (Loaded D)) → AreAlike one other → found ≡ also
+      → AreAlike (record one { model = if has then with_modules i found one.model else one.model }) (record other { model = if has then with_modules i also other.model else other.model })
+  unload-alike true one other i found also alike same = set-modules-alike one other i found also alike same
+  unload-alike false one other i found also alike same = alike
+
+  done-alike : (act : Act D Regs) (one other : CommandState D Regs) → AreAlike one other → AreAlike (state_done m act one) (state_done m act other)
+  done-alike NewUnwinder one other alike = record {
+    modules = push-alike one.model.unwinders other.model.unwinders (loads_with [] one.model.next) (loads_with [] other.model.next) alike.modules refl;
+    caches = alike.caches;
+    next = ap (λ n. n + 1) alike.next;
+    walks = alike.walks;
+  }
+  done-alike NewCache one other alike = record {
+    modules = alike.modules;
+    caches = length-append one.model.histories (no_history ∷ []) ∙ ap (λ n. n + 1) alike.caches ∙ sym (length-append other.model.histories (no_history ∷ []));
+    next = alike.next;
+    walks = alike.walks;
+  }
+  done-alike (Load i module_) one other alike =
+      set-modules-alike one other i (with_loaded module_ (modules_in i one.model)) (with_loaded module_ (modules_in i other.model)) alike
+      (ap (λ (found : List (Loaded D)). with_loaded module_ found) (modules-at one.model.unwinders other.model.unwinders i alike.modules))
+  done-alike (Unload i start) one other alike =
+      let same = modules-at one.model.unwinders other.model.unwinders i alike.modules in
+      let less = without_loaded start (modules_in i other.model) in
+      subst (λ (has : Bool). AreAlike (state_done m (Unload i start) one) (record other { model = if has then with_modules i less other.model else other.model }))
+      (ap (λ (found : List (Loaded D)). is_loaded_at start found) same)
+      (unload-alike (is_loaded_at start (modules_in i one.model)) one other i (without_loaded start (modules_in i one.model)) less alike (ap (λ (found : List (Loaded D)). without_loaded start found) same))
+  done-alike (Clone i) one other alike = record {
+    modules = push-alike one.model.unwinders other.model.unwinders (unwinder_at one.model.unwinders i) (unwinder_at other.model.unwinders i) alike.modules (modules-at one.model.unwinders other.model.unwinders i alike.modules);
+    caches = alike.caches;
+    next = alike.next;
+    walks = alike.walks;
+  }
+  done-alike (Step i c frame registers words) one other alike = record {
+    modules = alike.modules;
+    caches = step-count false frame (unwinder_at one.model.unwinders i) c one.model.histories ∙ alike.caches ∙ sym (step-count false frame (unwinder_at other.model.unwinders i) c other.model.histories);
+    next = alike.next;
+    walks = alike.walks;
+  }
+  done-alike (NewWalk pc registers) one other alike = record {
+    modules = alike.modules;
+    caches = alike.caches;
+    next = alike.next;
+    walks = ap (λ (walks : List (Walk Regs)). walks ++ walk_from pc registers ∷ []) alike.walks;
+  }
+  done-alike (NextFrame i c w words) one other alike = record {
+    modules = alike.modules;
+    caches = move-count false (walk_place one.walks w) (unwinder_at one.model.unwinders i) c one.model.histories ∙ alike.caches ∙ sym (move-count false (walk_place other.walks w) (unwinder_at other.model.unwinders i) c other.model.histories);
+    next = alike.next;
+    walks = ap (λ (found : List (Loaded D)). with_moved (judge m found) words w one.walks) (modules-at one.model.unwinders other.model.unwinders i alike.modules)
+        ∙ ap (λ (walks : List (Walk Regs)). with_moved (judge m (modules_in i other.model)) words w walks) alike.walks;
+  }
+
+  refused-alike : (act : Act D Regs) (one other : CommandState D Regs) → AreAlike one other → AreAlike (state_after m act one None) (state_after m act other None)
+  refused-alike NewUnwinder one other alike = alike
+  refused-alike NewCache one other alike = alike
+  refused-alike (Load i module_) one other alike = alike
+  refused-alike (Unload i start) one other alike = alike
+  refused-alike (Clone i) one other alike = alike
+  refused-alike (Step i c frame registers words) one other alike = record {
+    modules = alike.modules;
+    caches = step-count true frame (unwinder_at one.model.unwinders i) c one.model.histories ∙ alike.caches ∙ sym (step-count true frame (unwinder_at other.model.unwinders i) c other.model.histories);
+    next = alike.next;
+    walks = alike.walks;
+  }
+  refused-alike (NewWalk pc registers) one other alike = alike
+  refused-alike (NextFrame i c w words) one other alike = record {
+    modules = alike.modules;
+    caches = move-count true (walk_place one.walks w) (unwinder_at one.model.unwinders i) c one.model.histories ∙ alike.caches ∙ sym (move-count true (walk_place other.walks w) (unwinder_at other.model.unwinders i) c other.model.histories);
+    next = alike.next;
+    walks = alike.walks;
+  }
+
+  pub stay-alike : (act : Act D Regs) (reply : Option (Reply Regs)) (one other : CommandState D Regs) → AreAlike one other → AreAlike (state_after m act one reply) (state_after m act other reply)
+  stay-alike act None one other alike = refused-alike act one other alike
+  stay-alike act (Some Added) one other alike = done-alike act one other alike
+  stay-alike act (Some Removed) one other alike = done-alike act one other alike
+  stay-alike act (Some Unknown) one other alike = alike
+  stay-alike act (Some Exhausted) one other alike = alike
+  stay-alike act (Some (Stepped answer registers)) one other alike = done-alike act one other alike
+  stay-alike act (Some (Moved answer registers)) one other alike = done-alike act one other alike
