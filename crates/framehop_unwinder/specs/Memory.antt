@@ -18,3 +18,11 @@ AsksMemory asks modules frame = AsksMemoryAt asks modules frame.is_first (lookup
 pub record WantsMemoryOnlyIf (takes_memory wanted : Bool) (Asks : Type 0) : Type 0 where
   pub never : takes_memory ≡ false → wanted ≡ false
   pub asked : wanted ≡ true → Asks
+
+-- a look-up for an address runs out of memory only if the module that is found may allocate there
+abbrev pub WantsAt : {Data : Type 0} → Bool → (Data → ℕ → Bool → Type 0) → List (Loaded Data) → Bool → ℕ → (wanted : Bool) → Type 0
+WantsAt takes_memory asks modules first address wanted = WantsMemoryOnlyIf takes_memory wanted (AsksMemoryAt asks modules first address)
+
+-- a step from a frame runs out of memory only if the module that is found for it may allocate
+abbrev pub WantsFrom : {Data : Type 0} → Bool → (Data → ℕ → Bool → Type 0) → List (Loaded Data) → Frame → (wanted : Bool) → Type 0
+WantsFrom takes_memory asks modules frame wanted = WantsMemoryOnlyIf takes_memory wanted (AsksMemory asks modules frame)

@@ -27,3 +27,8 @@ pub record IsElsewhere {Data : Type 0} (module_ : Loaded Data) (modules : List (
 abbrev pub HasSameSteps : {Data Rule Registers : Type 0} → Meanings Data Rule Registers → Frame → List (Loaded Data) → List (Loaded Data) → Type 0
 HasSameSteps {Registers = Registers} m frame these those =
     (registers : Registers) (words : Words) → judge m these frame registers words ≡ judge m those frame registers words
+
+-- a module that is elsewhere changes no step from a frame by being loaded
+abbrev pub ChangesNoStep : {Data Rule Registers : Type 0} → Meanings Data Rule Registers → Loaded Data → List (Loaded Data) → Frame → Type 0
+ChangesNoStep m module_ modules frame =
+    IsElsewhere module_ modules frame → HasSameSteps m frame (with_loaded module_ modules) modules

@@ -1,9 +1,11 @@
 -- What a move of a walk does whatever the callback answers: where the walk is then, what is in the cache, and from where it may
 -- run out of memory.
-use Rattle.std.specs.Prelude.{◌≡◌, true, Option, Some, None, Result, Ok, OnErr, IfOk, IfErr}
+use Rattle.std.specs.Prelude.{ℕ, ◌≡◌, List, Bool, true, Option, Some, None, Result, Ok, OnErr, IfOk, IfErr}
 use Rattle.framehop_registers.specs.declared.code_address.FrameAddress.{FrameAddress}
 use Rattle.framehop_registers.specs.declared.error.Error.{Error}
 use Rattle.framehop_unwinder.specs.Frames.{Frame, frame_of}
+use Rattle.framehop_unwinder.specs.Memory.{AsksMemory, WantsMemoryOnlyIf}
+use Rattle.framehop_unwinder.specs.Modules.{Loaded}
 use Rattle.framehop_unwinder.specs.Trials.{IsOfStep, wants_memory}
 use Rattle.framehop_unwinder.specs.Walk.{WalkPosition, Starts, At, Over, Walk}
 
@@ -24,6 +26,11 @@ abbrev pub MoveAsks : (Frame → Type 0) → WalkPosition → Type 0
 MoveAsks asks (Starts pc) = ⊥
 MoveAsks asks (At frame) = asks frame
 MoveAsks asks Over = ⊥
+
+-- a move from a position runs out of memory only if a step from there may allocate
+abbrev pub MoveWants : {Data : Type 0} → Bool → (Data → ℕ → Bool → Type 0) → List (Loaded Data) → WalkPosition → (wanted : Bool) → Type 0
+MoveWants takes_memory asks modules position wanted =
+    WantsMemoryOnlyIf takes_memory wanted (MoveAsks (AsksMemory asks modules) position)
 
 -- where a walk is that returned this: at the frame, or over
 abbrev pub position_after : Option FrameAddress → WalkPosition

@@ -71,3 +71,13 @@ FitsLoads m loads cache = Fits (rule_kept m loads.modules) loads.generation cach
 -- Each key in a slot is of a generation below this one.
 pub record KeysBelow {Rule : Type 0} (generation : ℕ) (slots : List (Option (KeptRule Rule))) : Type 0 where
   pub each : All (λ slot. IfSome slot (λ entry. entry.key.generation < generation)) slots
+
+-- a step under a key leaves slots fitting an unwinder, if both have the same rule kept for the key
+abbrev pub KeepsFitting : {Rule : Type 0} → Bool → (Key → Option Rule) → (Key → Option Rule) → ℕ → Key → Slots Rule → Type 0
+KeepsFitting wanted mine theirs generation key slots =
+    KeepsAlike generation key mine theirs → Fits theirs generation slots → Fits theirs generation (slots_after wanted mine key slots)
+
+-- a step under a key of a generation below this one leaves keys below it
+abbrev pub StaysBelow : {Rule : Type 0} → Bool → (Key → Option Rule) → ℕ → Key → Slots Rule → Type 0
+StaysBelow wanted mine next key slots =
+    key.generation < next → KeysBelow next slots → KeysBelow next (slots_after wanted mine key slots)

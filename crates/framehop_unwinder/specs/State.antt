@@ -1,11 +1,11 @@
 -- Unwinders and caches under one counter.
-use Rattle.std.specs.Prelude.{ℕ, ◌≡◌, ◌<◌, ◌+◌, List, [], length, map, Bool, Option, None, replicate, slice_index_or, slice_set}
+use Rattle.std.specs.Prelude.{ℕ, ◌≡◌, ◌<◌, ◌+◌, List, [], ◌∷◌, ◌++◌, length, map, Bool, Option, None, replicate, slice_index_or, slice_set}
 use Rattle.std.specs.List.{All}
 use Rattle.framehop_rules.specs.Slots.{KeptRule, Kept, no_counts}
 use Rattle.framehop_unwinder.specs.Attempt.{Meanings}
 use Rattle.framehop_unwinder.specs.Frames.{Frame}
 use Rattle.framehop_unwinder.specs.History.{KeyHistory, HaveHistories, histories_after}
-use Rattle.framehop_unwinder.specs.Modules.{Loaded, Loads, AreOneBook}
+use Rattle.framehop_unwinder.specs.Modules.{Loaded, Loads, AreOneBook, without_loaded}
 use Rattle.framehop_unwinder.specs.RulesKept.{Fits, KeysBelow, rule_kept, key_for}
 use Rattle.framehop_unwinder.specs.Walk.{WalkPosition, Starts, At, Over}
 
@@ -46,6 +46,24 @@ with_modules session unwinder modules = record session {
   next = session.next + 1;
 }
 
+-- a session with one more unwinder, without a module, which takes a generation
+abbrev pub with_unwinder : {Data Rule : Type 0} → SessionState Data Rule → SessionState Data Rule
+with_unwinder session = record session {
+  unwinders = session.unwinders ++ loads_with [] session.next ∷ [];
+  next = session.next + 1;
+}
+
+-- a session with one more unwinder, which has the modules and the generation of another
+abbrev pub with_clone : {Data Rule : Type 0} → SessionState Data Rule → ℕ → SessionState Data Rule
+with_clone session unwinder = record session {
+  unwinders = session.unwinders ++ unwinder_at session.unwinders unwinder ∷ [];
+}
+
+-- a session in which an unwinder has no more the last of its modules that start at an address
+abbrev pub with_unloaded : {Data Rule : Type 0} → SessionState Data Rule → ℕ → ℕ → SessionState Data Rule
+with_unloaded session unwinder start =
+    with_modules session unwinder (without_loaded start (modules_at session unwinder))
+
 -- the histories of caches after a step of an unwinder from a frame through one of them
 abbrev pub histories_after_step : {Data Rule Registers : Type 0} → Meanings Data Rule Registers → Bool → Frame
     → Loads (Loaded Data) → ℕ → List KeyHistory → List KeyHistory
@@ -65,6 +83,18 @@ pub record ChangesCaches {Data Rule : Type 0} (after : List KeyHistory → List 
   pub next : new.next ≡ old.next
   pub count : length new.caches ≡ length old.caches
   pub histories : (histories : List KeyHistory) → HaveHistories histories old.caches → HaveHistories (after histories) new.caches
+
+-- a step of an unwinder from a frame, through a cache
+abbrev pub StepsThrough : {Data Rule Registers : Type 0} → Meanings Data Rule Registers → Bool → Frame → (unwinder cache : ℕ)
+    → SessionState Data Rule → SessionState Data Rule → Type 0
+StepsThrough m wanted frame unwinder cache old new =
+    ChangesCaches (histories_after_step m wanted frame (unwinder_at old.unwinders unwinder) cache) old new
+
+-- a move of a walk from a position over the frames of an unwinder, through a cache
+abbrev pub MovesThrough : {Data Rule Registers : Type 0} → Meanings Data Rule Registers → Bool → WalkPosition → (unwinder cache : ℕ)
+    → SessionState Data Rule → SessionState Data Rule → Type 0
+MovesThrough m wanted position unwinder cache old new =
+    ChangesCaches (histories_after_move m wanted position (unwinder_at old.unwinders unwinder) cache) old new
 
 -- the slots of each cache
 abbrev pub slots_of_all : {Rule : Type 0} → List (Kept Rule) → List (List (Option (KeptRule Rule)))

@@ -1,6 +1,6 @@
 -- The position of an iterator over frames, and its answers, as contracts see them.
 use Rattle.std.specs.Prelude.{ℕ, ◌≡◌, false, Option, Result, Ok, Err, option_map}
-use Rattle.framehop_registers.specs.Callback.{Words}
+use Rattle.framehop_registers.specs.Callback.{OverWords, Words}
 use Rattle.framehop_registers.specs.declared.code_address.FrameAddress.{FrameAddress}
 use Rattle.framehop_registers.specs.declared.error.Error.{Error}
 use Rattle.framehop_unwinder.specs.Frames.{Frame, frame_of}
@@ -33,6 +33,12 @@ walk_from pc registers = record { position = Starts pc; registers = registers }
 abbrev pub MovesAs : {Registers : Type 0} → Judgment Registers → Words → Walk Registers → Result (Option FrameAddress) Error → Walk Registers → Type 0
 MovesAs judgment words old result new =
     wants_memory result ≡ false → record { answer = frame_answer result; walk = new } ≡ move judgment words old
+
+-- a call that took the callback from one state to another moves a walk by these judgments, if a premise holds
+abbrev pub MovesOverWords : {Stack Registers : Type 0} → (Stack → ℕ → Result ℕ (Unit {0}) → Stack → Type 0) → Stack → Stack → Type 0 → Judgment Registers
+    → StackWalk Registers → Result (Option FrameAddress) Error → StackWalk Registers → Type 0
+MovesOverWords step first last Premise judgment old result new =
+    OverWords step first last (λ words. Premise → MovesAs judgment words (walk_of old) result (walk_of new))
 
 -- an answer, and where the walk is then
 abbrev pub move_made : {Registers : Type 0} → Result (Option Frame) Error → StackWalk Registers → Move Registers

@@ -1,14 +1,13 @@
 //! A walk over the frames of a stack.
 
 ghost use Rattle.std.specs.Prelude.{◌≡◌, ◌≢◌, false, true, Ok, Err, Some, None, IfErr, IfSome};
-ghost use Rattle.framehop_registers.specs.Callback.{OverWords};
 ghost use Rattle.framehop_unwinder.specs.Frames.{first_frame, frame_of, later_frame};
 ghost use Rattle.framehop_unwinder.specs.Memory.{WantsMemoryOnlyIf};
 ghost use Rattle.framehop_unwinder.specs.Modules.{AreOneBook};
 ghost use Rattle.framehop_unwinder.specs.Moves.{MoveAsks, MovesCache, MovesOn};
 ghost use Rattle.framehop_unwinder.specs.Trials.{wants_memory};
 ghost use Rattle.framehop_unwinder.specs.Walk.{At, Over};
-ghost use Rattle.framehop_unwinder.specs.WalkViews.{MovesAs, place_of, frame_answer, walk_from, walk_of};
+ghost use Rattle.framehop_unwinder.specs.WalkViews.{MovesOverWords, place_of, frame_answer, walk_from, walk_of};
 
 use crate::unwinders::Unwinder;
 use framehop_rules::{Error, FrameAddress};
@@ -121,10 +120,9 @@ impl<'u, 'c, 'r, U: Unwinder, F: FnMut(u64) -> Result<u64, ()>> UnwindIterator<'
     pub fn next(&mut self) -> Result<Option<FrameAddress>, Error>
         requires { F.IsAlwaysCallable self.old.read_stack.now }
         ensures callable { F.IsAlwaysCallable self.new.read_stack.now }
-        ensures moved { OverWords F.step self.old.read_stack.now self.new.read_stack.now (λ words.
-            U.fits self.old.unwinder.now self.old.cache.now
-            → MovesAs (U.judgment self.old.unwinder.now) words
-            (walk_of self.old.walk) result (walk_of self.new.walk)) }
+        ensures moved { MovesOverWords F.step self.old.read_stack.now self.new.read_stack.now
+            (U.fits self.old.unwinder.now self.old.cache.now)
+            (U.judgment self.old.unwinder.now) self.old.walk result self.new.walk }
         ensures walk { MovesOn (walk_of self.old.walk) result (walk_of self.new.walk) }
         ensures cache { MovesCache (U.steps_cache self.old.unwinder.now (wants_memory result))
             (place_of self.old.walk.state) self.old.cache.now self.new.cache.now }

@@ -1,6 +1,6 @@
 //! Laws of caches that are shared. The functions do nothing when the program runs.
 
-ghost use Rattle.std.specs.Prelude.{◌≡◌, ◌<◌, ◌+◌, ℕ, Bool, List, [], Option, None, Result, replicate};
+ghost use Rattle.std.specs.Prelude.{◌≡◌, ◌+◌, ℕ, Bool, List, [], Option, None, Result, replicate};
 ghost use Rattle.framehop_registers.specs.declared.error.Error.{Error};
 ghost use Rattle.framehop_rules.specs.Outcome.{Outcome, Caller, IsStep};
 ghost use Rattle.framehop_rules.specs.Slots.{Key, counts_after};
@@ -8,9 +8,9 @@ ghost use Rattle.framehop_rules.specs.declared.rule_cache.CacheStats.{CacheStats
 ghost use Rattle.framehop_unwinder.specs.Attempt.{Meanings};
 ghost use Rattle.framehop_unwinder.specs.Frames.{Frame};
 ghost use Rattle.framehop_unwinder.specs.History.{HasLastKeys, finding_after, keys_after};
-ghost use Rattle.framehop_unwinder.specs.Modules.{Loaded, with_loaded};
-ghost use Rattle.framehop_unwinder.specs.ModulesApart.{HasSameSteps, IsElsewhere};
-ghost use Rattle.framehop_unwinder.specs.RulesKept.{Fits, KeepsAlike, KeysBelow, Slots, finding_in, slots_after};
+ghost use Rattle.framehop_unwinder.specs.Modules.{Loaded};
+ghost use Rattle.framehop_unwinder.specs.ModulesApart.{ChangesNoStep};
+ghost use Rattle.framehop_unwinder.specs.RulesKept.{Fits, StaysBelow, KeepsFitting, KeysBelow, Slots, finding_in, slots_after};
 
 use crate::unwinding::ModuleUnwinding;
 use framehop_rules::{Arch, UnwindRule};
@@ -19,13 +19,9 @@ use framehop_rules::{Arch, UnwindRule};
 /// generation differs or which keeps the same rule for the key of the step.
 pub fn fits_after_step<R: UnwindRule>()
     ensures fits { (wanted : Bool) (mine theirs : Key → Option R) (generation : ℕ)
-        (key : Key) (slots : Slots R)
-        → KeepsAlike generation key mine theirs
-        → Fits theirs generation slots → Fits theirs generation (slots_after wanted mine key slots) }
-    ensures below { (wanted : Bool) (mine : Key → Option R) (next : ℕ)
-        (key : Key) (slots : Slots R)
-        → key.generation < next → KeysBelow next slots
-        → KeysBelow next (slots_after wanted mine key slots) }
+        (key : Key) (slots : Slots R) → KeepsFitting wanted mine theirs generation key slots }
+    ensures below { (wanted : Bool) (mine : Key → Option R) (next : ℕ) (key : Key)
+        (slots : Slots R) → StaysBelow wanted mine next key slots }
 {}
 
 /// A cache fits an unwinder with a generation that none of its keys has, and a new cache fits all.
@@ -67,6 +63,6 @@ pub fn equal_steps<A: Arch>()
 /// the order of their starts, as those of an unwinder are.
 pub fn modules_elsewhere_change_no_step<A: ModuleUnwinding>()
     ensures { (m : Meanings A.UnwindData A.UnwindRule A.UnwindRegs) (module_ : Loaded A.UnwindData)
-        (modules : List (Loaded A.UnwindData)) (frame : Frame) → IsElsewhere module_ modules frame
-        → HasSameSteps m frame (with_loaded module_ modules) modules }
+        (modules : List (Loaded A.UnwindData)) (frame : Frame)
+        → ChangesNoStep m module_ modules frame }
 {}

@@ -5,11 +5,11 @@ ghost use Rattle.framehop_registers.specs.Callback.{OverWords};
 ghost use Rattle.framehop_modules.specs.LoadErrors.{module_returned, is_exhausted};
 ghost use Rattle.framehop_unwinder.specs.Frames.{frame_of};
 ghost use Rattle.framehop_unwinder.specs.Judge.{judge};
-ghost use Rattle.framehop_unwinder.specs.Memory.{AsksMemory, WantsMemoryOnlyIf};
-ghost use Rattle.framehop_unwinder.specs.Modules.{is_loaded_at, with_loaded, without_loaded};
-ghost use Rattle.framehop_unwinder.specs.Moves.{MoveAsks, MovesOn};
+ghost use Rattle.framehop_unwinder.specs.Memory.{WantsFrom};
+ghost use Rattle.framehop_unwinder.specs.Modules.{is_loaded_at, with_loaded};
+ghost use Rattle.framehop_unwinder.specs.Moves.{MoveWants, MovesOn};
 ghost use Rattle.framehop_unwinder.specs.History.{KeyHistory, HaveHistories, history_at, no_history};
-ghost use Rattle.framehop_unwinder.specs.State.{ChangesCaches, empty_state, unwinder_at, cache_at, histories_after_step, histories_after_move, new_cache, loads_with, modules_at, with_modules};
+ghost use Rattle.framehop_unwinder.specs.State.{MovesThrough, StepsThrough, cache_at, empty_state, modules_at, new_cache, with_clone, with_modules, with_unloaded, with_unwinder};
 ghost use Rattle.framehop_unwinder.specs.Trials.{StaysUnlessStepped, StepsAs, wants_memory};
 ghost use Rattle.framehop_unwinder.specs.WalkViews.{MovesAs, place_of, walk_of};
 
@@ -106,11 +106,7 @@ impl<A: ModuleUnwinding> Session<A> {
 
     /// Makes a new unwinder without a module, the last.
     pub fn add_unwinder(&mut self, alloc: Global) -> Result<(), AddUnwinderError>
-        ensures ok { let unwinder = loads_with [] self.old.next in
-            OnOk result (self.new ≡ record self.old {
-              unwinders = self.old.unwinders ++ unwinder ∷ [];
-              next = self.old.next + 1;
-            }) }
+        ensures ok { OnOk result (self.new ≡ with_unwinder self.old) }
         ensures exhausted { 2 ^ 64 - 1 ≤ self.old.next
             → result ≡ Err AddUnwinderError.GenerationsExhausted }
         ensures only { result ≡ Err AddUnwinderError.GenerationsExhausted
@@ -131,9 +127,7 @@ impl<A: ModuleUnwinding> Session<A> {
     /// Makes an unwinder, the last, with the modules and the generation of another.
     pub fn clone_unwinder(&mut self, alloc: Global, unwinder: usize) -> Result<(), AllocError>
         requires { unwinder < length self.old.unwinders }
-        ensures ok { let clone = unwinder_at self.old.unwinders unwinder in
-            OnOk result
-            (self.new ≡ record self.old { unwinders = self.old.unwinders ++ clone ∷ [] }) }
+        ensures ok { OnOk result (self.new ≡ with_clone self.old unwinder) }
         ensures refused { OnErr result (self.new ≡ self.old) }
     {
         let clone = self.unwinders[unwinder].try_clone(alloc)?;
@@ -166,8 +160,7 @@ impl<A: ModuleUnwinding> Session<A> {
         ensures unknown { is_loaded_at start (modules_at self.old unwinder) ≡ false
             → (result ≡ Ok tt) × (self.new ≡ self.old) }
         ensures ok { is_loaded_at start (modules_at self.old unwinder) ≡ true
-            → OnOk result (self.new ≡ with_modules self.old unwinder
-            (without_loaded start (modules_at self.old unwinder))) }
+            → OnOk result (self.new ≡ with_unloaded self.old unwinder start) }
         ensures exhausted { is_loaded_at start (modules_at self.old unwinder) ≡ true
             → 2 ^ 64 - 1 ≤ self.old.next → IsErr result }
         ensures only { OnErr result (self.old.next ≡ 2 ^ 64 - 1) }
@@ -202,11 +195,11 @@ impl<A: ModuleUnwinding> Session<A> {
         ensures step { OverWords F.step read_stack.old read_stack.new (λ words.
             StepsAs result regs.old regs.new
             (judge A.meanings (modules_at self.old unwinder) (frame_of address) regs.old words)) }
-        ensures caches { ChangesCaches (histories_after_step A.meanings (wants_memory result)
-            (frame_of address) (unwinder_at self.old.unwinders unwinder) cache) self.old self.new }
+        ensures caches { StepsThrough A.meanings (wants_memory result) (frame_of address)
+            unwinder cache self.old self.new }
         ensures stays { StaysUnlessStepped result regs.old regs.new }
-        ensures memory { WantsMemoryOnlyIf A.takes_memory (wants_memory result)
-            (AsksMemory A.asks_memory (modules_at self.old unwinder) (frame_of address)) }
+        ensures memory { WantsFrom A.takes_memory A.asks_memory (modules_at self.old unwinder)
+            (frame_of address) (wants_memory result) }
     {
         let cache = &mut self.caches[cache];
         self.unwinders[unwinder].unwind_frame(address, regs, cache, read_stack)
@@ -230,12 +223,10 @@ impl<A: ModuleUnwinding> Session<A> {
             MovesAs (judge A.meanings (modules_at self.old unwinder)) words
             (walk_of walk.old) result (walk_of walk.new)) }
         ensures walk { MovesOn (walk_of walk.old) result (walk_of walk.new) }
-        ensures caches { ChangesCaches (histories_after_move A.meanings (wants_memory result)
-            (place_of walk.old.state) (unwinder_at self.old.unwinders unwinder) cache)
-            self.old self.new }
-        ensures memory { WantsMemoryOnlyIf A.takes_memory (wants_memory result)
-            (MoveAsks (AsksMemory A.asks_memory (modules_at self.old unwinder))
-            (place_of walk.old.state)) }
+        ensures caches { MovesThrough A.meanings (wants_memory result) (place_of walk.old.state)
+            unwinder cache self.old self.new }
+        ensures memory { MoveWants A.takes_memory A.asks_memory (modules_at self.old unwinder)
+            (place_of walk.old.state) (wants_memory result) }
     {
         let address = match walk.state {
             UnwindIteratorState::Initial(pc) => return Ok(Some(walk.state.begin(pc))),

@@ -9,7 +9,7 @@ ghost use Rattle.framehop_unwinder.specs.Attempt.{Attempt, attempt_at};
 ghost use Rattle.framehop_unwinder.specs.CacheViews.{rules_of};
 ghost use Rattle.framehop_unwinder.specs.Frames.{frame_of};
 ghost use Rattle.framehop_unwinder.specs.Judge.{by_attempt, judge, judge_at};
-ghost use Rattle.framehop_unwinder.specs.Memory.{AsksMemory, AsksMemoryAt, WantsMemoryOnlyIf};
+ghost use Rattle.framehop_unwinder.specs.Memory.{AsksMemory, WantsAt};
 ghost use Rattle.framehop_unwinder.specs.Modules.{Loaded, nearest_module, module_found, is_loaded_at, with_loaded, without_loaded};
 ghost use Rattle.framehop_unwinder.specs.RulesKept.{FitsLoads, StepsCache, rule_kept, key_for, with_any};
 ghost use Rattle.framehop_rules.specs.UnwindResults.{HasValidRule, KeepsUnlessDirect};
@@ -214,8 +214,8 @@ impl<A: ModuleUnwinding> UnwinderInternal<A> {
         ensures answers { AnswersAttempt F.step read_stack.old read_stack.new regs.old regs.new
             result (attempt_at A.meanings self.now.modules is_first_frame address) }
         ensures valid { HasValidRule A.UnwindRule.is_valid result }
-        ensures memory { WantsMemoryOnlyIf A.takes_memory (has_wanted result)
-            (AsksMemoryAt A.asks_memory self.now.modules is_first_frame address) }
+        ensures memory { WantsAt A.takes_memory A.asks_memory self.now.modules is_first_frame
+            address (has_wanted result) }
     {
         match module_for_address(&self.modules, address) {
             Some((module, relative_address)) => A::unwind_frame(
@@ -249,8 +249,8 @@ impl<A: ModuleUnwinding> UnwinderInternal<A> {
             (key_of address is_first_frame self.now.generation) (wants_memory result)
             (rules_of cache.old) (rules_of cache.new) }
         ensures stays { StaysUnlessStepped result regs.old regs.new }
-        ensures memory { WantsMemoryOnlyIf A.takes_memory (wants_memory result)
-            (AsksMemoryAt A.asks_memory self.now.modules is_first_frame address) }
+        ensures memory { WantsAt A.takes_memory A.asks_memory self.now.modules is_first_frame
+            address (wants_memory result) }
     {
         let handle = match cache
             .rule_cache
