@@ -2,6 +2,7 @@ pub mod Execution
 pub mod ExpressionBytes
 pub mod InstructionLists
 pub mod Laws
+pub mod Memory
 pub mod OneRow
 pub mod Rules
 pub mod Standing

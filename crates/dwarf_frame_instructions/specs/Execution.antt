@@ -2,6 +2,7 @@
 use Rattle.std.specs.Prelude.{◌≡◌, ◌≢◌, ◌⊎◌, ℕ, List, [], ◌∷◌, Option, Some, None, Result, Ok, Err}
 use Rattle.dwarf_constants.specs.declared.error.Error.{Error}
 use Rattle.dwarf_constants.specs.declared.error.Error.TheVariants.{OutOfMemory}
+use Rattle.dwarf_readers.specs.Stretch.{Stretch}
 use Rattle.dwarf_frame_rows.specs.declared.context.UnwindContext.{UnwindContext}
 use Rattle.dwarf_frame_rows.specs.declared.effect.Effect.{Effect}
 use Rattle.dwarf_frame_rows.specs.declared.effect.Effect.TheVariants.{Move}
@@ -11,8 +12,10 @@ use Rattle.dwarf_frame_rows.specs.Effects.{Limits, ContextState, state_after}
 use Rattle.dwarf_frame_rows.specs.Row.{Row, row_of}
 use Rattle.dwarf_frame_instructions.specs.declared.effects.Factors.{Factors}
 use Rattle.dwarf_frame_instructions.specs.declared.instructions.CallFrameInstruction.{CallFrameInstruction}
+use Rattle.dwarf_frame_instructions.specs.declared.instructions.Coding.{Coding}
 use Rattle.dwarf_frame_instructions.specs.Effects.{effect_of}
-use Rattle.dwarf_frame_instructions.specs.Programs.{Instructions, rules_left}
+use Rattle.dwarf_frame_instructions.specs.InstructionViews.{instruction_as, instructions_by}
+use Rattle.dwarf_frame_instructions.specs.Programs.{Instructions, executed_by_cie, rules_left}
 use Rattle.dwarf_frame_instructions.specs.Standing.{Stands}
 use Rattle.dwarf_frame_instructions.specs.StateViews.{row_as, state_as}
 
@@ -59,6 +62,14 @@ Executes Fixed old new step (Ok (Some next)) = (step ≡ Goes next) × (new ≡ 
 Executes Fixed old new step (Ok None) = step ≡ Leaves new
 Executes Fixed old new step (Err e) = IsRefusal Fixed e → step ≡ Fails e
 
+module _ {T S L K : Type 0} (number : T → ℕ) (items : K → List (UnwindTableRow T L)) (limits : Limits) (Fixed : Type 0) where
+  -- An instruction was executed at this location in a context.
+  abbrev pub StepsIn : Factors → ℕ → CallFrameInstruction T → UnwindContext T S L K → UnwindContext T S L K → Result (Option ℕ) Error
+      → Type 0
+  StepsIn factors location i old new result =
+      Executes Fixed (state_in number items old) (state_in number items new)
+      (state_step limits factors location (state_in number items old) (instruction_as number i)) result
+
 -- ---- a prefix
 
 -- the result of instructions up to the first that moves: the location that it moves to, or their end, or an error
@@ -89,3 +100,17 @@ abbrev pub Starts : Type 0 → ContextState ℕ → Result (List (Effect ℕ)) E
 Starts Fixed new left (Ok _) =
     (executed : List (Effect ℕ)) × (left ≡ Ok executed) × (new.initial_rules ≡ Some (rules_left executed)) × Stands new executed
 Starts Fixed new left (Err e) = IsRefusal Fixed e → left ≡ Err e
+
+module _ {R S O L K : Type 0} (stretch : R → Stretch) (limit : ℕ) (number : O → ℕ) (items : K → List (UnwindTableRow O L))
+    (limits : Limits) (Fixed : Type 0) where
+  -- The instructions of a reader were executed in a context from a location on, as `Runs` says of their prefix.
+  abbrev pub RunsIn : Factors → ℕ → Coding R → UnwindContext O S L K → R → Result (Option ℕ) Error → UnwindContext O S L K → R → Type 0
+  RunsIn factors location coding context input result now rest =
+      let left = instructions_by stretch limit coding in
+      Runs Fixed (state_in number items now) (left rest)
+      (prefix_from limits factors location (state_in number items context) (left input)) result
+
+  -- The CIE's instructions, those of a reader, were executed in a context, as `Starts` says of it.
+  abbrev pub StartsIn : Factors → Coding R → R → UnwindContext O S L K → Result (Unit {0}) Error → Type 0
+  StartsIn factors coding input now result =
+      Starts Fixed (state_in number items now) (executed_by_cie limits factors (instructions_by stretch limit coding input)) result

@@ -24,3 +24,8 @@ pub record HasItsBytes (section s : Stretch) (expression : UnwindExpression ℕ)
 abbrev pub ReadsItsBytes : Conventions → (section s : Stretch) → Type 0
 ReadsItsBytes conventions section s =
     (expression : UnwindExpression ℕ) (rest : Stretch) → expression_at conventions s ≡ Ok (expression, rest) → HasItsBytes section s expression rest
+
+-- An expression that is read at the start of a piece of a section, by conventions of that section, has its bytes.
+abbrev pub PieceReadsItsBytes : Conventions → (section s : Stretch) → Type 0
+PieceReadsItsBytes conventions section s =
+    IsPiece section s → conventions.origins.section_place ≡ section.offset → ReadsItsBytes conventions section s

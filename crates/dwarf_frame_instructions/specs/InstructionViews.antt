@@ -1,5 +1,6 @@
 -- Instructions of the code as those of the definitions: offsets and lengths are numbers.
-use Rattle.std.specs.Prelude.{ℕ, List, Option, option_map, Result, Ok, Err}
+use Rattle.std.specs.Prelude.{ℕ, ◌<◌, List, length, Option, option_map, Result, Ok, Err}
+use Rattle.list_laws.specs.Items.{GivesNext}
 use Rattle.dwarf_constants.specs.declared.constants.DwCfa.{DwCfa}
 use Rattle.dwarf_constants.specs.declared.constants.DwEhPe.{DwEhPe}
 use Rattle.dwarf_constants.specs.declared.common.Vendor.{Vendor}
@@ -77,9 +78,22 @@ abbrev pub ReadsBy : {R X Y : Type 0} → (R → Stretch) → ℕ → (X → Y) 
 ReadsBy stretch limit view coding parse old result new =
     ReadsAs view result (parse (conventions_by stretch limit coding) (stretch old)) (stretch new)
 
--- the instruction of an opcode, by what lists the opcodes' operands
-abbrev pub instruction_of : (Conventions → List (DwCfa × Operands)) → DwCfa → Conventions → Operands
-instruction_of table opcode conventions = listed_at (table conventions) opcode.0
+-- The code read the operands of an opcode as a table lists them.
+abbrev pub ReadsOperands : {R O : Type 0} → (R → Stretch) → ℕ → (O → ℕ) → Coding R → (Conventions → List (DwCfa × Operands)) → DwCfa
+    → R → Result (CallFrameInstruction O) Error → R → Type 0
+ReadsOperands stretch limit number coding table opcode old result new =
+    ReadsBy stretch limit (instruction_as number) coding (λ conventions. listed_at (table conventions) opcode.0) old result new
+
+-- The code read the next instruction, or found that none is left, or failed as the list of them does; the others are left.
+abbrev pub GivesNextBy : {R O : Type 0} → (R → Stretch) → ℕ → (O → ℕ) → Coding R → Result (Option (CallFrameInstruction O)) Error
+    → R → R → Type 0
+GivesNextBy stretch limit number coding result old new =
+    GivesNext (instruction_as number) result (instructions_by stretch limit coding old) (instructions_by stretch limit coding new)
+
+-- Of the instructions that the code's record of conventions reads, fewer are left.
+abbrev pub HasFewerBy : {R : Type 0} → (R → Stretch) → ℕ → Coding R → R → R → Type 0
+HasFewerBy stretch limit coding old new =
+    length (instructions_by stretch limit coding new) < length (instructions_by stretch limit coding old)
 
 -- a result, its value by a view
 abbrev pub answer_as : {X Y : Type 0} → (X → Y) → Result X Error → Result Y Error

@@ -11,7 +11,7 @@ use Rattle.dwarf_frame_instructions.specs.declared.rows.FrameProgram.{FrameProgr
 use Rattle.dwarf_frame_instructions.specs.declared.rows.ProgramRows.{ProgramRows}
 use Rattle.dwarf_frame_instructions.specs.Execution.{Fails, Goes, IsRefusal, Leaves, row_in, state_in, state_step}
 use Rattle.dwarf_frame_instructions.specs.InstructionViews.{instructions_by}
-use Rattle.dwarf_frame_instructions.specs.Programs.{Instructions, EntryProgram, RowList, no_rows, refused_rows, row_before}
+use Rattle.dwarf_frame_instructions.specs.Programs.{Instructions, EntryProgram, RowList, no_rows, refused_rows, row_before, rows_of_program}
 
 -- a program of the code
 abbrev pub program_of : {R E O : Type 0} → FrameProgram R E O → EntryProgram ℕ
@@ -101,6 +101,10 @@ module _ {R S E O L K : Type 0} (number : O → ℕ) (items : K → List (Unwind
   abbrev pub rows_state : ProgramRows R S E O L K → ContextState ℕ
   rows_state rows = state_in number items rows.context.now
 
+  -- The row of the context now ends at an address, and starts where the last one ended.
+  abbrev pub EndsRow : ℕ → ProgramRows R S E O L K → ProgramRows R S E O L K → Type 0
+  EndsRow end old new = rows_state new ≡ with_bounds old.next_start_address end (rows_state old)
+
   -- the row that was given last, if the last call gave one
   abbrev pub current_row : ProgramRows R S E O L K → Option (Row ℕ)
   current_row rows = if rows.has_row then Some (rows_state rows).row else None
@@ -113,6 +117,14 @@ module _ {R S E O L K : Type 0} (stretch : R → Stretch) (limit : ℕ) (number 
       then no_rows
       else rows_of_state limits rows.factors rows.end_address rows.next_start_address (rows_state number items rows)
       (instructions_left stretch limit rows)
+
+  -- All rows of a program are left.
+  abbrev pub HasAllRows : EntryProgram ℕ → ProgramRows R S E O L K → Type 0
+  HasAllRows program rows = rows_left rows ≡ rows_of_program limits program
+
+  -- A call gave the first of the rows that are left, or said that none is, or failed as they do.
+  abbrev pub GivesFirstRow : (Fixed : Type 0) → ProgramRows R S E O L K → Result (Option (Bor (UnwindTableRow O L))) Error → Type 0
+  GivesFirstRow Fixed old result = GivesFirst number Fixed (rows_left old) result
 
   -- A call went on to the first of the rows, or said that none is left, or failed as they do; the others are left.
   pub record Advances (Fixed : Type 0) (old : ProgramRows R S E O L K) (result : Result Bool Error) (new : ProgramRows R S E O L K) : Type 0 where

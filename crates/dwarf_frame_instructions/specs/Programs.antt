@@ -1,6 +1,6 @@
 -- The rows that a program of call frame instructions makes (DWARF 5, 6.4.1 to 6.4.3). The program is the CIE's own instructions,
 -- and then the FDE's.
-use Rattle.std.specs.Prelude.{◌≡◌, ℕ, List, [], ◌∷◌, Option, Some, None, unwrap_or, Result, Ok, Err}
+use Rattle.std.specs.Prelude.{◌≡◌, ℕ, ◌≤◌, ◌<◌, length, List, [], ◌∷◌, Option, Some, None, unwrap_or, Result, Ok, Err}
 use Rattle.std.specs.FinMap.{empty}
 use Rattle.std.specs.List.{filter, find}
 use Rattle.dwarf_constants.specs.declared.error.Error.{Error}
@@ -16,7 +16,7 @@ use Rattle.dwarf_frame_instructions.specs.declared.effects.Factors.{Factors}
 use Rattle.dwarf_frame_instructions.specs.declared.instructions.CallFrameInstruction.{CallFrameInstruction}
 use Rattle.dwarf_frame_instructions.specs.Effects.{effect_of}
 use Rattle.dwarf_frame_instructions.specs.Parts.{RowParts, surviving_parts, surviving_rules}
-use Rattle.dwarf_frame_instructions.specs.Refusals.{InitialRules, needs, needs_room_for_rows, row_count}
+use Rattle.dwarf_frame_instructions.specs.Refusals.{InitialRules, needs, needs_room_for_rows, row_count, rules_or_none}
 use Rattle.dwarf_frame_instructions.specs.Survivors.{survivors}
 
 -- instructions in their order, up to the first that cannot be read, whose error is the last
@@ -128,12 +128,12 @@ row_after initial start end executed = row_with start end (surviving_parts initi
 
 -- the rows from a start on: each move ends one, and the end of the program ends the last at the end of the code
 abbrev pub rows_from : {T : Type 0} → InstructionContext T → ℕ → ℕ → List (Effect T) → Instructions T → RowList T
-rows_from frame end start executed [] = row_before (row_after (unwrap_or frame.initial_rules empty) start end executed) no_rows
+rows_from frame end start executed [] = row_before (row_after (rules_or_none frame.initial_rules) start end executed) no_rows
 rows_from frame end start executed (Err e ∷ rest) = refused_rows e
 rows_from frame end start executed (Ok i ∷ rest) =
     elim (step_of frame start executed i) [
       | Moves location ↦
-          row_before (row_after (unwrap_or frame.initial_rules empty) start location executed) (rows_from frame end location executed rest)
+          row_before (row_after (rules_or_none frame.initial_rules) start location executed) (rows_from frame end location executed rest)
       | Writes effect ↦ rows_from frame end start (effect ∷ executed) rest
       | Refused e ↦ refused_rows e
     ]
@@ -160,6 +160,12 @@ IsComplete limits program = (rows_of_program limits program).refusal ≡ None
 -- the rows of a program that contain an address
 abbrev pub rows_at : {T : Type 0} → Limits → EntryProgram T → ℕ → List (Row T)
 rows_at limits program address = filter (holds_at address) (rows_of_program limits program).rows
+
+-- If no error ends the rows of a program, an address of its code is in exactly one of them.
+abbrev pub IsInOneRow : {T : Type 0} → Limits → EntryProgram T → ℕ → Type 0
+IsInOneRow limits program address =
+    IsComplete limits program → program.initial_address ≤ address → address < program.end_address
+    → length (rows_at limits program address) ≡ 1
 
 -- the row that was found, or why there is none
 abbrev pub found_or : {T : Type 0} → Option Error → Option (Row T) → Result (Row T) Error

@@ -17,6 +17,10 @@ use Rattle.dwarf_frame_instructions.specs.Survivors.{open_states, survivors}
 abbrev pub InitialRules : Type 0 → Type 0
 InitialRules T = Option (RuleMap (RegisterRule T))
 
+-- these rules; none before they are known
+abbrev pub rules_or_none : {T : Type 0} → InitialRules T → RuleMap (RegisterRule T)
+rules_or_none initial_rules = unwrap_or initial_rules empty
+
 -- the CFA has to be a register and an offset
 abbrev pub needs_register_and_offset : {T : Type 0} → List (Effect T) → Result (Unit {0}) Error
 needs_register_and_offset executed = requirement (is_none (cfa_expression (survivors 0 executed))) CfiInstructionInInvalidContext
@@ -56,13 +60,13 @@ abbrev pub needs : {T : Type 0} → Limits → InitialRules T → List (Effect T
 needs limits initial_rules executed (CfaRegister register) = needs_register_and_offset executed
 needs limits initial_rules executed (CfaOffset offset) = needs_register_and_offset executed
 needs limits initial_rules executed (Rule register rule) =
-    needs_room_for_rule limits (unwrap_or initial_rules empty) register.0 (Rule register rule ∷ executed)
+    needs_room_for_rule limits (rules_or_none initial_rules) register.0 (Rule register rule ∷ executed)
 needs limits initial_rules executed (RestoreRule register) = do
   _ ← needs_rules initial_rules
-  needs_room_for_rule limits (unwrap_or initial_rules empty) register.0 (RestoreRule register ∷ executed)
+  needs_room_for_rule limits (rules_or_none initial_rules) register.0 (RestoreRule register ∷ executed)
 needs limits initial_rules executed NegateRaState = do
-  _ ← requirement (is_turnable (rule_of (unwrap_or initial_rules empty) (survivors 0 executed) sign_state)) CfiInstructionInInvalidContext
-  needs_room_for_rule limits (unwrap_or initial_rules empty) sign_state (NegateRaState ∷ executed)
+  _ ← requirement (is_turnable (rule_of (rules_or_none initial_rules) (survivors 0 executed) sign_state)) CfiInstructionInInvalidContext
+  needs_room_for_rule limits (rules_or_none initial_rules) sign_state (NegateRaState ∷ executed)
 needs limits initial_rules executed Remember = needs_room_for_rows limits (row_count initial_rules executed + 1)
 needs limits initial_rules executed Restore = needs_open_state (open_states executed)
 needs limits initial_rules executed _ = Ok tt

@@ -1,11 +1,12 @@
 //! Call frame instructions (DWARF 5, 6.4.2 and 7.24).
 
-ghost use Rattle.std.specs.Prelude.{◌≡◌};
+ghost use Rattle.std.specs.Prelude.{◌≡◌, ◌≢◌, IfErr};
 ghost use Rattle.list_laws.specs.Items.{GivesNext};
+ghost use Rattle.dwarf_constants.specs.declared.error.Error.TheVariants.{OutOfMemory};
 ghost use Rattle.dwarf_readers.specs.Stretch.{Reads};
-ghost use Rattle.dwarf_frame_instructions.specs.Instructions.{expression_at, extended_instruction, instruction_at, instructions_of, location_at, register_at};
+ghost use Rattle.dwarf_frame_instructions.specs.Instructions.{expression_at, extended_opcodes, instruction_at, instructions_of, location_at, register_at};
 ghost use Rattle.dwarf_frame_instructions.specs.OpcodeTables.{from_cfa_definition, from_offset_rules, from_other_rules, from_row_state};
-ghost use Rattle.dwarf_frame_instructions.specs.InstructionViews.{ReadsBy, conventions_by, conventions_of, expression_as, instruction_as, instruction_of, instructions_by};
+ghost use Rattle.dwarf_frame_instructions.specs.InstructionViews.{GivesNextBy, ReadsBy, ReadsOperands, conventions_of, expression_as, instruction_as, instructions_by};
 
 use dwarf_constants::constants::{
     DW_CFA_AARCH64_negate_ra_state, DW_CFA_GNU_args_size, DW_CFA_advance_loc, DW_CFA_advance_loc1,
@@ -154,19 +155,19 @@ impl<'a, R: Reader> Model for CallFrameInstructionIter<'a, R> {
 }
 
 impl<'a, R: Reader> CallFrameInstructionIter<'a, R> {
-    /// The instructions in the bytes of `input`, a part of the parameters' section. `address_encoding` is
-    /// the encoding of addresses, if the entry's augmentation has one.
+    /// The instructions in the bytes of `input`, a part of the parameters' section. `encoding` is that of
+    /// addresses, if the entry's augmentation has one.
     pub fn new(
         input: R,
-        address_encoding: Option<DwEhPe>,
+        encoding: Option<DwEhPe>,
         parameters: PointerEncodingParameters<'a, R>,
         vendor: Vendor,
     ) -> Self
         ensures { result ≡ instructions_of (conventions_of R.stretch R.Offset.limit
-            address_encoding parameters.entry vendor) (R.stretch input) }
+            encoding parameters.entry vendor) (R.stretch input) }
     {
         let coding = Coding {
-            address_encoding,
+            address_encoding: encoding,
             bases: parameters.bases,
             func_base: parameters.func_base,
             address_size: parameters.address_size,
@@ -215,11 +216,12 @@ impl<'a, R: Reader> Iterator for CallFrameInstructionIter<'a, R> {
 const LOW_VALUES: u8 = 1 << 6;
 
 impl<'a, R: Reader> Coding<'a, R> {
-    // Reads the next instruction, if bytes are left. After an error none are.
+    // Reads the next instruction, if bytes are left. After an error none are. Takes no memory.
     #[inline(always)]
     pub(crate) fn next(&self, input: &mut R) -> Result<Option<CallFrameInstruction<R::Offset>>>
-        ensures { let list = instructions_by R.stretch R.Offset.limit self.now in
-            GivesNext (instruction_as R.Offset.value) result (list input.old) (list input.new) }
+        ensures given { GivesNextBy R.stretch R.Offset.limit R.Offset.value self.now
+            result input.old input.new }
+        ensures memory { IfErr result (λ e. e ≢ OutOfMemory) }
     {
         if input.is_empty() {
             return Ok(None);
@@ -263,8 +265,8 @@ impl<'a, R: Reader> Coding<'a, R> {
         opcode: DwCfa,
         input: &mut R,
     ) -> Result<CallFrameInstruction<R::Offset>>
-        ensures { ReadsBy R.stretch R.Offset.limit (instruction_as R.Offset.value) self.now
-            (λ conventions. extended_instruction conventions opcode.0) input.old result input.new }
+        ensures { ReadsOperands R.stretch R.Offset.limit R.Offset.value self.now
+            extended_opcodes opcode input.old result input.new }
     {
         let instruction = match opcode {
             DW_CFA_set_loc => CallFrameInstruction::SetLoc {
@@ -287,8 +289,8 @@ impl<'a, R: Reader> Coding<'a, R> {
     // Reads the operands of an opcode that defines the CFA, or of one after these.
     #[inline(always)]
     fn parse_cfa(&self, opcode: DwCfa, input: &mut R) -> Result<CallFrameInstruction<R::Offset>>
-        ensures { ReadsBy R.stretch R.Offset.limit (instruction_as R.Offset.value) self.now
-            (instruction_of from_cfa_definition opcode) input.old result input.new }
+        ensures { ReadsOperands R.stretch R.Offset.limit R.Offset.value self.now
+            from_cfa_definition opcode input.old result input.new }
     {
         let instruction = match opcode {
             DW_CFA_def_cfa => CallFrameInstruction::DefCfa {
@@ -320,8 +322,8 @@ impl<'a, R: Reader> Coding<'a, R> {
     // these.
     #[inline(always)]
     fn parse_rule(&self, opcode: DwCfa, input: &mut R) -> Result<CallFrameInstruction<R::Offset>>
-        ensures { ReadsBy R.stretch R.Offset.limit (instruction_as R.Offset.value) self.now
-            (instruction_of from_offset_rules opcode) input.old result input.new }
+        ensures { ReadsOperands R.stretch R.Offset.limit R.Offset.value self.now
+            from_offset_rules opcode input.old result input.new }
     {
         let instruction = match opcode {
             DW_CFA_undefined => CallFrameInstruction::Undefined {
@@ -358,8 +360,8 @@ impl<'a, R: Reader> Coding<'a, R> {
         opcode: DwCfa,
         input: &mut R,
     ) -> Result<CallFrameInstruction<R::Offset>>
-        ensures { ReadsBy R.stretch R.Offset.limit (instruction_as R.Offset.value) self.now
-            (instruction_of from_other_rules opcode) input.old result input.new }
+        ensures { ReadsOperands R.stretch R.Offset.limit R.Offset.value self.now
+            from_other_rules opcode input.old result input.new }
     {
         let instruction = match opcode {
             DW_CFA_register => CallFrameInstruction::Register {
@@ -385,8 +387,8 @@ impl<'a, R: Reader> Coding<'a, R> {
     // Reads the operands of an opcode of row state, of padding, or of a vendor.
     #[inline(always)]
     fn parse_other(&self, opcode: DwCfa, input: &mut R) -> Result<CallFrameInstruction<R::Offset>>
-        ensures { ReadsBy R.stretch R.Offset.limit (instruction_as R.Offset.value) self.now
-            (instruction_of from_row_state opcode) input.old result input.new }
+        ensures { ReadsOperands R.stretch R.Offset.limit R.Offset.value self.now
+            from_row_state opcode input.old result input.new }
     {
         let instruction = match opcode {
             DW_CFA_remember_state => CallFrameInstruction::RememberState,
@@ -406,8 +408,8 @@ impl<'a, R: Reader> Coding<'a, R> {
     // Reads an address, which has to be direct.
     #[inline(always)]
     fn parse_location(&self, input: &mut R) -> Result<u64>
-        ensures { Reads result (location_at (conventions_by R.stretch R.Offset.limit self.now)
-            (R.stretch input.old)) (R.stretch input.new) }
+        ensures { ReadsBy R.stretch R.Offset.limit (λ address. address) self.now
+            location_at input.old result input.new }
     {
         let Some(encoding) = self.address_encoding else {
             return input.read_address(self.address_size);

@@ -1,10 +1,11 @@
 //! The rows that a program makes, one after the other (DWARF 5, 6.4.3).
 
-ghost use Rattle.std.specs.Prelude.{◌≡◌, ◌<◌, length, IfErr, IfOk, IsOk, OnSome, None, option_map, true};
-ghost use Rattle.dwarf_frame_instructions.specs.Execution.{Executes, Runs, Starts, prefix_from, state_in, state_step};
-ghost use Rattle.dwarf_frame_instructions.specs.InstructionViews.{instruction_as, instructions_by};
+ghost use Rattle.std.specs.Prelude.{◌≡◌, ◌≢◌, ◌<◌, IfErr, IfOk, IsOk, OnSome, None, option_map, true};
+ghost use Rattle.dwarf_constants.specs.declared.error.Error.TheVariants.{OutOfMemory};
+ghost use Rattle.dwarf_frame_instructions.specs.Execution.{StepsIn, RunsIn, StartsIn};
+ghost use Rattle.dwarf_frame_instructions.specs.InstructionViews.{HasFewerBy};
 ghost use Rattle.dwarf_frame_instructions.specs.ProgramRows.{IsRowFor, program_of};
-ghost use Rattle.dwarf_frame_instructions.specs.Programs.{destination_of, executed_by_cie, row_for};
+ghost use Rattle.dwarf_frame_instructions.specs.Programs.{destination_of, row_for};
 
 use crate::instructions::Coding;
 use crate::{CallFrameInstruction, CallFrameInstructionIter, Factors};
@@ -22,10 +23,9 @@ fn execute<T: ReaderOffset, S: UnwindContextStorage<T>>(
     location: u64,
     instruction: CallFrameInstruction<T>,
 ) -> Result<Option<u64>>
-    ensures { let state = state_in T.value S.Stack.items in
-        Executes S.never_allocates (state context.old) (state context.new)
-        (state_step S.limits factors.now location (state context.old)
-        (instruction_as T.value instruction)) result }
+    ensures executed { StepsIn T.value S.Stack.items S.limits S.never_allocates
+        factors.now location instruction context.old context.new result }
+    ensures memory { S.never_allocates → IfErr result (λ e. e ≢ OutOfMemory) }
 {
     let effect = factors.effect(location, instruction)?;
     match destination(effect) {
@@ -56,12 +56,12 @@ fn run<R: Reader, S: UnwindContextStorage<R::Offset>>(
     coding: &Coding<'_, R>,
     input: &mut R,
 ) -> Result<Option<u64>>
-    ensures prefix { let state = state_in R.Offset.value S.Stack.items in
-        let list = instructions_by R.stretch R.Offset.limit coding.now in
-        Runs S.never_allocates (state context.new) (list input.new)
-        (prefix_from S.limits factors.now location (state context.old) (list input.old)) result }
-    ensures falls { let list = instructions_by R.stretch R.Offset.limit coding.now in
-        IfOk result (λ next. OnSome next (length (list input.new) < length (list input.old))) }
+    ensures prefix { RunsIn R.stretch R.Offset.limit R.Offset.value S.Stack.items S.limits
+        S.never_allocates factors.now location coding.now context.old input.old result
+        context.new input.new }
+    ensures falls { IfOk result (λ next. OnSome next
+        (HasFewerBy R.stretch R.Offset.limit coding.now input.old input.new)) }
+    ensures memory { S.never_allocates → IfErr result (λ e. e ≢ OutOfMemory) }
 {
     while let Some(instruction) = coding.next(input)? {
         if let Some(next) = execute(context, factors, location, instruction)? {
@@ -79,9 +79,9 @@ fn start<R: Reader, S: UnwindContextStorage<R::Offset>>(
     coding: &Coding<'_, R>,
     input: R,
 ) -> Result<()>
-    ensures { Starts S.never_allocates (state_in R.Offset.value S.Stack.items context.new)
-        (executed_by_cie S.limits factors.now
-        (instructions_by R.stretch R.Offset.limit coding.now input)) result }
+    ensures started { StartsIn R.stretch R.Offset.limit R.Offset.value S.Stack.items S.limits
+        S.never_allocates factors.now coding.now input context.new result }
+    ensures memory { S.never_allocates → IfErr result (λ e. e ≢ OutOfMemory) }
 {
     context.clear();
     let mut location = 0;
@@ -126,11 +126,10 @@ pub struct ProgramRows<'a, 'ctx, R: Reader, S: UnwindContextStorage<R::Offset>> 
 impl<'a, 'ctx, R: Reader, S: UnwindContextStorage<R::Offset>> ProgramRows<'a, 'ctx, R, S> {
     ghost use Rattle.std.specs.Borrow.{sem};
     ghost use Rattle.std.specs.Bool.{OnTrue};
-    ghost use Rattle.dwarf_frame_rows.specs.Effects.{with_bounds};
     ghost use Rattle.dwarf_frame_rows.specs.Row.{holds_at};
     ghost use Rattle.dwarf_frame_instructions.specs.Execution.{IsRefusal, row_in};
-    ghost use Rattle.dwarf_frame_instructions.specs.Programs.{effects_of_cie, rows_of_program};
-    ghost use Rattle.dwarf_frame_instructions.specs.ProgramRows.{Advances, GivesFirst, current_row, rows_left, rows_state, steps_left};
+    ghost use Rattle.dwarf_frame_instructions.specs.Programs.{effects_of_cie};
+    ghost use Rattle.dwarf_frame_instructions.specs.ProgramRows.{Advances, EndsRow, GivesFirstRow, HasAllRows, current_row, rows_state, steps_left};
     ghost use Rattle.dwarf_frame_instructions.specs.ProgramRowsLend.{LeavesRows};
 
     /// Executes the CIE's own instructions, after which the rows are made. The context is cleared first.
@@ -140,14 +139,14 @@ impl<'a, 'ctx, R: Reader, S: UnwindContextStorage<R::Offset>> ProgramRows<'a, 'c
         context: &'ctx mut UnwindContext<R::Offset, S>,
         program: FrameProgram<'a, R>,
     ) -> Result<Self>
-        ensures rows { IfOk result (λ rows.
-            rows_left R.stretch R.Offset.limit R.Offset.value S.Stack.items S.limits rows
-            ≡ rows_of_program S.limits (program_of program.entry)) }
+        ensures rows { IfOk result (HasAllRows R.stretch R.Offset.limit R.Offset.value
+            S.Stack.items S.limits (program_of program.entry)) }
         ensures started { IfOk result (λ _. IsOk (effects_of_cie S.limits (program_of program.entry))) }
         ensures refused { IfErr result (λ e. IsRefusal S.never_allocates e
             → effects_of_cie S.limits (program_of program.entry) ≡ Err e) }
         ensures none_yet { IfOk result (λ rows.
             current_row R.Offset.value S.Stack.items rows ≡ None) }
+        ensures memory { S.never_allocates → IfErr result (λ e. e ≢ OutOfMemory) }
     {
         let factors = program.factors;
         let (coding, input) = program.initial_instructions.into_parts();
@@ -166,13 +165,15 @@ impl<'a, 'ctx, R: Reader, S: UnwindContextStorage<R::Offset>> ProgramRows<'a, 'c
     }
 
     /// Goes on to the next row, which is then the current one, and returns whether there is one. Fails
-    /// if an instruction before the end of that row fails. After an error no row is left.
+    /// if an instruction before the end of that row fails, and with `OutOfMemory` only in a storage that
+    /// allocates. After an error no row is left.
     pub fn advance(&mut self) -> Result<bool>
         ensures row { Advances R.stretch R.Offset.limit R.Offset.value S.Stack.items S.limits
             S.never_allocates self.old result self.new }
         ensures falls { let steps = steps_left R.stretch R.Offset.limit in
             IfOk result (λ more. OnTrue more (steps self.new < steps self.old)) }
         ensures same_reference { self.new.context.ghost_name ≡ self.old.context.ghost_name }
+        ensures memory { S.never_allocates → IfErr result (λ e. e ≢ OutOfMemory) }
     {
         self.has_row = false;
         if self.is_ended {
@@ -203,8 +204,7 @@ impl<'a, 'ctx, R: Reader, S: UnwindContextStorage<R::Offset>> ProgramRows<'a, 'c
 
     // Ends the row at this address, where the next one starts.
     fn end_row(&mut self, end: u64)
-        ensures row { let state = rows_state R.Offset.value S.Stack.items in
-            state self.new ≡ with_bounds self.old.next_start_address end (state self.old) }
+        ensures row { EndsRow R.Offset.value S.Stack.items end self.old self.new }
         ensures kept { self.new ≡ record self.old {
           context = self.new.context;
           next_start_address = end;
@@ -223,8 +223,9 @@ impl<'a, 'ctx, R: Reader, S: UnwindContextStorage<R::Offset>> ProgramRows<'a, 'c
         ensures* leaves { sem 𝓛 (LeavesRows R.row S.row R.Endian.row R.Offset.row S.Rules.row
             S.Stack.row S.Rules.ArrayLike R.stretch R.Offset.limit R.Offset.value S.Stack.items
             S.limits self.entry result) }
-        ensures row { GivesFirst R.Offset.value S.never_allocates (rows_left R.stretch R.Offset.limit
-            R.Offset.value S.Stack.items S.limits self.old) result }
+        ensures row { GivesFirstRow R.stretch R.Offset.limit R.Offset.value S.Stack.items S.limits
+            S.never_allocates self.old result }
+        ensures memory { S.never_allocates → IfErr result (λ e. e ≢ OutOfMemory) }
     {
         if self.advance()? {
             return Ok(Some(self.context.row()));

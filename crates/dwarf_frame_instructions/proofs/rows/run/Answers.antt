@@ -19,8 +19,9 @@ returns-in_err-instruction g c =
     let p = err_from_is_err_and c.from_residual.result c.from_residual.ensures.1 in
     rw (p.1, p.2) (record {
       prefix = runs_faulty fixed limits c.args.factors.now c.args.location now whole (listed c.loop-instruction.input) c.loop-instruction.invariant.reached
-          (listed c.next.new.input) now c.in_err-instruction.field-0.0 c.in_err-instruction.ensures.0;
+          (listed c.next.new.input) now c.in_err-instruction.field-0.0 c.in_err-instruction.ensures.given.0;
       falls = tt;
+      memory = λ _. c.in_err-instruction.ensures.memory;
     })
 
 pub returns-in_err-next : goal.returns-in_err-next
@@ -34,12 +35,13 @@ returns-in_err-next g c =
     let now = state_in number items c.loop-instruction.context in
     let new = state_in number items c.execute.new.context in
     let whole = prefix_from limits c.args.factors.now c.args.location old (listed c.args.input.now) in
-    let list = rw c.in-Some.is at c.in_ok-instruction.ensures in
+    let list = rw c.in-Some.is at c.in_ok-instruction.ensures.given in
     let p = err_from_is_err_and c.from_residual-in_err-next.result c.from_residual-in_err-next.ensures.1 in
     rw (p.1, p.2) (record {
       prefix = runs_refused fixed limits c.args.factors.now c.args.location now whole (listed c.loop-instruction.input) c.loop-instruction.invariant.reached
-          (instruction_as number c.in-Some.instruction) (listed c.next.new.input) (listed c.next.new.input) new c.in_err-next.field-0.0 list c.in_err-next.ensures;
+          (instruction_as number c.in-Some.instruction) (listed c.next.new.input) (listed c.next.new.input) new c.in_err-next.field-0.0 list c.in_err-next.ensures.executed;
       falls = tt;
+      memory = c.in_err-next.ensures.memory;
     })
 
 pub returns-in-Some-2 : goal.returns-in-Some-2
@@ -53,13 +55,14 @@ returns-in-Some-2 g c =
     let now = state_in number items c.loop-instruction.context in
     let new = state_in number items c.execute.new.context in
     let whole = prefix_from limits c.args.factors.now c.args.location old (listed c.args.input.now) in
-    let list = rw c.in-Some.is at c.in_ok-instruction.ensures in
+    let list = rw c.in-Some.is at c.in_ok-instruction.ensures.given in
     let len = ap length list in
     let left = c.loop-instruction.invariant.falls in
     record {
       prefix = runs_moved fixed limits c.args.factors.now c.args.location now whole (listed c.loop-instruction.input) c.loop-instruction.invariant.reached
-          (instruction_as number c.in-Some.instruction) (listed c.next.new.input) new c.in-Some-2.next list (rw c.in-Some-2.is at c.in_ok-next.ensures);
+          (instruction_as number c.in-Some.instruction) (listed c.next.new.input) new c.in-Some-2.next list (rw c.in-Some-2.is at c.in_ok-next.ensures.executed);
       falls = omega (arith, len, left);
+      memory = λ _. tt;
     }
 
 pub returns : goal.returns
@@ -72,10 +75,11 @@ returns g c =
     let old = state_in number items c.args.context.now in
     let now = state_in number items c.loop-instruction.context in
     let whole = prefix_from limits c.args.factors.now c.args.location old (listed c.args.input.now) in
-    let list = rw c.in_default.is at c.in_ok-instruction.ensures in
+    let list = rw c.in_default.is at c.in_ok-instruction.ensures.given in
     record {
       prefix = runs_ended fixed limits c.args.factors.now c.args.location now whole (listed c.loop-instruction.input) c.loop-instruction.invariant.reached (listed c.next.new.input) list.0;
       falls = tt;
+      memory = λ _. tt;
     }
 
 pub loop-instruction-preserved : goal.loop-instruction-preserved
@@ -89,11 +93,11 @@ loop-instruction-preserved g c =
     let now = state_in number items c.loop-instruction.context in
     let new = state_in number items c.execute.new.context in
     let whole = prefix_from limits c.args.factors.now c.args.location old (listed c.args.input.now) in
-    let list = rw c.in-Some.is at c.in_ok-instruction.ensures in
+    let list = rw c.in-Some.is at c.in_ok-instruction.ensures.given in
     let len = ap length list in
     let left = c.loop-instruction.invariant.falls in
     record {
       reached = reached_next fixed limits c.args.factors.now c.args.location now whole (listed c.loop-instruction.input) c.loop-instruction.invariant.reached
-          (instruction_as number c.in-Some.instruction) (listed c.next.new.input) new list (rw c.in_default-2.is at c.in_ok-next.ensures);
+          (instruction_as number c.in-Some.instruction) (listed c.next.new.input) new list (rw c.in_default-2.is at c.in_ok-next.ensures.executed);
       falls = omega (arith, len, left);
     }

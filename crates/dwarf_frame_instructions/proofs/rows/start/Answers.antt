@@ -31,9 +31,12 @@ returns-in_err-next g c =
     let conventions = conventions_by g.R.Reader.stretch g.R.Offset.ReaderOffset.limit c.args.coding.now in
     let s = c.loop-next.invariant in
     let p = err_from_is_err_and c.from_residual.result c.from_residual.ensures.1 in
-    rw (p.1, p.2) (starts_refused g.S.UnwindContextStorage.never_allocates limits c.args.factors.now c.loop-next.location (state_in number items c.loop-next.context) (state_in number items c.run.new.context)
-    (instructions_of conventions (g.R.Reader.stretch c.args.input)) (instructions_of conventions (g.R.Reader.stretch c.loop-next.rest)) (instructions_of conventions (g.R.Reader.stretch c.run.new.input)) s
-    c.in_err-next.field-0.0 c.in_err-next.ensures.prefix)
+    rw (p.1, p.2) (record {
+      started = starts_refused g.S.UnwindContextStorage.never_allocates limits c.args.factors.now c.loop-next.location (state_in number items c.loop-next.context) (state_in number items c.run.new.context)
+          (instructions_of conventions (g.R.Reader.stretch c.args.input)) (instructions_of conventions (g.R.Reader.stretch c.loop-next.rest)) (instructions_of conventions (g.R.Reader.stretch c.run.new.input)) s
+          c.in_err-next.field-0.0 c.in_err-next.ensures.prefix;
+      memory = c.in_err-next.ensures.memory;
+    })
 
 pub returns : goal.returns
 returns g c =
@@ -46,7 +49,12 @@ returns g c =
     let ended = started_ended g.S.UnwindContextStorage.never_allocates limits c.args.factors.now c.loop-next.location (state_in number items c.loop-next.context) (state_in number items c.run.new.context)
     (instructions_of conventions (g.R.Reader.stretch c.args.input)) (instructions_of conventions (g.R.Reader.stretch c.loop-next.rest)) (instructions_of conventions (g.R.Reader.stretch c.run.new.input)) s
     (rw c.in_default.is at c.in_ok-next.ensures.prefix) in
-    starts_by number g.S.UnwindContextStorage.never_allocates limits c.args.factors.now (instructions_of conventions (g.R.Reader.stretch c.args.input)) ended.0 (state_of items c.run.new.context)
-    ended.1 ended.2 ended.3 (state_of items c.save_initial_rules.new.self) c.save_initial_rules.result c.save_initial_rules.ensures.acts (λ never.
-    let fixed = rw law.limited at (law.allocates_never.0 never) in
-    c.save_initial_rules.ensures.memory fixed.rules)
+    record {
+      started = starts_by number g.S.UnwindContextStorage.never_allocates limits c.args.factors.now (instructions_of conventions (g.R.Reader.stretch c.args.input)) ended.0 (state_of items c.run.new.context)
+          ended.1 ended.2 ended.3 (state_of items c.save_initial_rules.new.self) c.save_initial_rules.result c.save_initial_rules.ensures.acts (λ never.
+          let fixed = rw law.limited at (law.allocates_never.0 never) in
+          c.save_initial_rules.ensures.memory fixed.rules);
+      memory = λ never.
+          let fixed = rw law.limited at (law.allocates_never.0 never) in
+          c.save_initial_rules.ensures.memory fixed.rules;
+    }

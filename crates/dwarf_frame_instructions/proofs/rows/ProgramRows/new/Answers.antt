@@ -14,4 +14,4 @@ returns-clause-rows g c =
     let state = state_in g.R.Offset.ReaderOffset.value g.S-Stack-ArrayLike.items c.start.new.context in
     let P : Instructions ℕ → Type 0 = λ list. Starts fixed state (executed_by_cie limits program.factors list) (Ok tt) in
     ap (rows_of_state limits program.factors program.end_address program.initial_address state) (sym c.into_parts-coding-2.ensures)
-    ∙ rows_begun fixed limits (program_of program) state (subst P (sym c.into_parts-coding.ensures) c.in_ok-start.ensures)
+    ∙ rows_begun fixed limits (program_of program) state (subst P (sym c.into_parts-coding.ensures) c.in_ok-start.ensures.started)

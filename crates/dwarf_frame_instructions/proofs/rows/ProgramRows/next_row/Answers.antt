@@ -9,7 +9,7 @@ returns-in_err-advance g c =
     let went = c.in_err-advance.ensures.row in
     rw (p.1, p.2) (
       (refl, λ _. tt, record { left = went.left; current = rw went.given refl; falls = tt }),
-      record { leaves = tt; row = went.refused },
+      record { leaves = tt; row = went.refused; memory = c.in_err-advance.ensures.memory },
     )
 
 pub returns-then-branch : goal.returns-then-branch
@@ -19,7 +19,7 @@ returns-then-branch g c =
     let shown = ap (row_as g.R.Offset.ReaderOffset.value) c.row.ensures in
     let falls = rw c.if-branch.true at c.in_ok-advance.ensures.falls in (
       (refl, λ _. tt, record { left = went.left; current = rw given (ap (λ r. Some r) (sym shown)); falls = falls }),
-      record { leaves = tt; row = went.first ∙ (rw given (ap (λ r. Ok (Some r)) (sym shown))) },
+      record { leaves = tt; row = went.first ∙ (rw given (ap (λ r. Ok (Some r)) (sym shown))); memory = λ _. tt },
     )
 
 pub returns : goal.returns
@@ -27,5 +27,5 @@ returns g c =
     let went = c.in_ok-advance.ensures.row in
     let given = went.given ∙ c.if-branch.false in (
       (refl, λ _. tt, record { left = went.left; current = rw given refl; falls = tt }),
-      record { leaves = tt; row = went.first ∙ (rw given refl) },
+      record { leaves = tt; row = went.first ∙ (rw given refl); memory = λ _. tt },
     )
