@@ -4,6 +4,7 @@ use Rattle.std.specs.Borrow.{Bor}
 use Rattle.dwarf_constants.specs.declared.error.Error.{Error}
 use Rattle.dwarf_offsets.specs.declared.EhFrameOffset.{EhFrameOffset}
 use Rattle.dwarf_readers.specs.Stretch.{Stretch}
+use Rattle.dwarf_frame_rows.specs.Effects.{Limits}
 use Rattle.dwarf_frame_rows.specs.Row.{Row}
 use Rattle.dwarf_frame_rows.specs.declared.base_addresses.BaseAddresses.{BaseAddresses}
 use Rattle.dwarf_frame_rows.specs.declared.row.UnwindTableRow.{UnwindTableRow}
@@ -11,7 +12,8 @@ use Rattle.dwarf_frame_rows.specs.FrameSection.{FrameSection}
 use Rattle.dwarf_frame_sections.specs.Sections.{FrameData}
 use Rattle.dwarf_frame_entries.specs.CieReaders.{CieResult, ReadsFde, ReadsRow}
 use Rattle.dwarf_frame_entries.specs.Entries.{Fde}
-use Rattle.dwarf_call_frames.specs.HeaderEntries.{eh_frame_in}
+use Rattle.dwarf_call_frames.specs.Header.{Header}
+use Rattle.dwarf_call_frames.specs.HeaderEntries.{eh_frame_in, fde_by_header, row_by_header}
 
 module _ {F R E O : Type 0} (step : F → Bor (FrameData R) → Bor BaseAddresses → EhFrameOffset O → CieResult R E O → F → Type 0)
     (stretch : R → Stretch) (value : O → ℕ) (limit : ℕ) where
@@ -20,8 +22,19 @@ module _ {F R E O : Type 0} (step : F → Bor (FrameData R) → Bor BaseAddresse
   abbrev pub NamesFde : FrameData R → BaseAddresses → F → Result Fde Error → (FrameSection → Result Fde Error) → Type 0
   NamesFde = ReadsFde step stretch value (eh_frame_in stretch limit) (λ offset. value offset.0)
 
+  -- .. the FDE that the header gives for this address
+  abbrev pub NamesFdeFor : Header → FrameData R → BaseAddresses → (address : ℕ) → F → Result Fde Error → Type 0
+  NamesFdeFor header frame bases address get_cie result =
+      NamesFde frame bases get_cie result (λ section. fde_by_header section bases header address)
+
   -- If the function reads a CIE of the section, as it is called once, a lookup returned this row, or this error; or OutOfMemory,
   -- if the storage or the function may allocate. `Fixed` says that the storage doesn't.
   abbrev pub NamesRow : {L : Type 0} → (Fixed : Type 0) → FrameData R → BaseAddresses → F
       → Result (Bor (UnwindTableRow O L)) Error → (FrameSection → Result (Row ℕ) Error) → Type 0
   NamesRow = ReadsRow step stretch value (eh_frame_in stretch limit) (λ offset. value offset.0)
+
+  -- .. the row of that FDE for this address
+  abbrev pub NamesRowFor : {L : Type 0} → (Fixed : Type 0) → Limits → Header → FrameData R → BaseAddresses → (address : ℕ) → F
+      → Result (Bor (UnwindTableRow O L)) Error → Type 0
+  NamesRowFor Fixed limits header frame bases address get_cie result =
+      NamesRow Fixed frame bases get_cie result (λ section. row_by_header limits section frame.vendor bases header address)

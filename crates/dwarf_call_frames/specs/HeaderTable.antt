@@ -1,17 +1,18 @@
 -- The table of a header: rows of two pointers, to the start of an FDE's code and to the FDE itself (LSB 5.0, 10.6.2). Rows are
 -- read one after the other, or, if their pointers have one size, by index.
-use Rattle.std.specs.Prelude.{ℕ, zero, suc, ◌-◌, ◌*◌, ◌==◌, ◌||◌, List, [], ◌∷◌, Option, Some, None, Result, Ok, Err, if◌then◌else◌}
+use Rattle.std.specs.Prelude.{◌≡◌, ℕ, zero, suc, ◌-◌, ◌*◌, ◌==◌, ◌||◌, List, [], ◌∷◌, Option, Some, None, Result, Ok, Err, OnErr, if◌then◌else◌}
 use Rattle.dwarf_constants.specs.Pointer.{format_of}
 use Rattle.dwarf_constants.specs.declared.constants.TheConstants.{DW_EH_PE_uleb128, DW_EH_PE_udata2, DW_EH_PE_udata4, DW_EH_PE_udata8, DW_EH_PE_sleb128, DW_EH_PE_sdata2, DW_EH_PE_sdata4, DW_EH_PE_sdata8}
 use Rattle.dwarf_constants.specs.declared.error.Error.{Error}
 use Rattle.dwarf_constants.specs.declared.error.Error.TheVariants.{UnknownPointerEncoding, VariableLengthSearchTable}
 use Rattle.dwarf_endianity.specs.Offset.{offset_below}
-use Rattle.dwarf_readers.specs.Stretch.{Stretch, ◌>>=◌, behind_at}
+use Rattle.dwarf_readers.specs.Operands.{Parse}
+use Rattle.dwarf_readers.specs.Stretch.{Reads, Stretch, ◌>>=◌, behind_at}
 use Rattle.dwarf_frame_rows.specs.EncodedPointer.{Origins, direct_address, left_by_pointer, pointer_at}
 use Rattle.dwarf_frame_rows.specs.declared.base_addresses.SectionBaseAddresses.{SectionBaseAddresses}
 use Rattle.dwarf_frame_rows.specs.declared.pointer.Pointer.{Pointer}
 use Rattle.dwarf_call_frames.specs.Header.{Header, origins_of_header}
-use Rattle.dwarf_call_frames.specs.Halving.{TableRow, halving}
+use Rattle.dwarf_call_frames.specs.Halving.{GivesHalving, Halving, TableRow, halving}
 
 -- a table, or what is left of it: what its pointers may be relative to, their encoding, the number of rows, and the bytes from
 -- the first on
@@ -51,6 +52,15 @@ left_by_start origins encoding s (Err e) = left_by_pointer origins encoding s
 -- what is left after a row that can't be read
 abbrev pub left_by_row : Origins → ℕ → Stretch → Stretch
 left_by_row origins encoding s = left_by_start origins encoding s (pointer_at origins encoding s)
+
+-- The code read a part of a row, as a definition reads it by the table's encoding, and left the rest.
+abbrev pub ReadsInTable : {R X : Type 0} → (R → Stretch) → (Origins → ℕ → Parse X) → HeaderTable → R → Result X Error → R → Type 0
+ReadsInTable stretch parse t old result new = Reads result (parse t.origins t.encoding (stretch old)) (stretch new)
+
+-- If a part of a row can't be read, what is left is as a definition says by the table's encoding.
+abbrev pub LeavesInTable : {R X : Type 0} → (R → Stretch) → (Origins → ℕ → Stretch → Stretch) → HeaderTable → R → Result X Error → R
+    → Type 0
+LeavesInTable stretch left t old result new = OnErr result (stretch new ≡ left t.origins t.encoding (stretch old))
 
 -- what is left after a row, whether it can be read or not
 abbrev pub after_row : Origins → ℕ → Stretch → Result ((Pointer × Pointer) × Stretch) Error → Stretch
@@ -150,15 +160,23 @@ rows_between row first (suc n) = row first ∷ rows_between row (suc first) n
 abbrev pub rows_by_index : ℕ → ℕ → HeaderTable → List TableRow
 rows_by_index limit size t = rows_between (row_at_index limit size t) 0 t.count
 
+-- how the rows of a table are halved for an address, if pointers have this size
+abbrev pub halving_in : ℕ → ℕ → ℕ → HeaderTable → Halving
+halving_in limit size address t = halving address (rows_by_index limit size t)
+
+-- A lookup returned the pointer that the halving reaches, and counted the starts that it read.
+abbrev pub GivesHalvingIn : ℕ → ℕ → ℕ → HeaderTable → Result Pointer Error → ℕ → ℕ → Type 0
+GivesHalvingIn limit size address t answer before after = GivesHalving (halving_in limit size address t) answer before after
+
 -- the pointer to the FDE for an address, if the pointers have one size
 abbrev pub header_row : ℕ → ℕ → HeaderTable → Result Pointer Error
 header_row limit address t = do
   size ← pointer_size t.encoding
-  (halving address (rows_by_index limit size t)).reached
+  (halving_in limit size address t).reached
 
 -- how many starts the lookup reads, if pointers have this size
 abbrev pub reads_with : ℕ → ℕ → HeaderTable → Result ℕ Error → ℕ
-reads_with limit address t (Ok size) = (halving address (rows_by_index limit size t)).reads
+reads_with limit address t (Ok size) = (halving_in limit size address t).reads
 reads_with limit address t (Err e) = 0
 
 -- how many starts the lookup reads

@@ -1,7 +1,6 @@
 //! The FDE for an address, by the table.
 
-ghost use Rattle.dwarf_call_frames.specs.EhFrameCies.{NamesFde, NamesRow};
-ghost use Rattle.dwarf_call_frames.specs.HeaderEntries.{fde_by_header, row_by_header};
+ghost use Rattle.dwarf_call_frames.specs.EhFrameCies.{NamesFdeFor, NamesRowFor};
 
 use crate::table::EhHdrTable;
 use dwarf_constants::{Error, Result};
@@ -31,8 +30,8 @@ impl<'a, R: Reader> EhHdrTable<'a, R> {
         get_cie: F,
     ) -> Result<FrameDescriptionEntry<R>>
         requires { F.IsAlwaysCallable get_cie }
-        ensures { NamesFde F.step R.stretch R.Offset.value R.Offset.limit frame.now bases.now get_cie result
-            (λ section. fde_by_header section bases.now self.now address) }
+        ensures { NamesFdeFor F.step R.stretch R.Offset.value R.Offset.limit self.now
+            frame.now bases.now address get_cie result }
     {
         let pointer = self.lookup(address, bases)?;
         let offset = self.pointer_to_offset(pointer)?;
@@ -63,9 +62,8 @@ impl<'a, R: Reader> EhHdrTable<'a, R> {
         get_cie: F,
     ) -> Result<&'ctx UnwindTableRow<R::Offset, S::Rules>>
         requires { F.IsAlwaysCallable get_cie }
-        ensures { NamesRow F.step R.stretch R.Offset.value R.Offset.limit S.never_allocates
-            frame.now bases.now get_cie result
-            (λ section. row_by_header S.limits section frame.now.vendor bases.now self.now address) }
+        ensures { NamesRowFor F.step R.stretch R.Offset.value R.Offset.limit S.never_allocates
+            S.limits self.now frame.now bases.now address get_cie result }
     {
         let fde = self.fde_for_address(frame, bases, address, get_cie)?;
         fde.unwind_info_for_address(frame, bases, ctx, address)

@@ -2,10 +2,10 @@
 
 ghost use Rattle.std.specs.Prelude.{◌≡◌, ◌≤◌, ◌*◌, OnErr};
 ghost use Rattle.dwarf_endianity.specs.Answers.{Gives};
-ghost use Rattle.dwarf_readers.specs.Stretch.{Moves, Reads};
+ghost use Rattle.dwarf_readers.specs.Stretch.{Moves};
 ghost use Rattle.dwarf_frame_rows.specs.EncodedPointer.{left_by_pointer, pointer_at};
 ghost use Rattle.dwarf_endianity.specs.Offset.{offset_below};
-ghost use Rattle.dwarf_call_frames.specs.HeaderTable.{after_rows, left_by_row, pointer_size, row_at, start_at, header_table, target_at};
+ghost use Rattle.dwarf_call_frames.specs.HeaderTable.{LeavesInTable, ReadsInTable, after_rows, left_by_row, pointer_size, row_at, start_at, header_table, target_at};
 
 use crate::header::ParsedEhFrameHdr;
 use dwarf_constants::constants::{
@@ -21,11 +21,10 @@ impl<R: Reader> ParsedEhFrameHdr<R> {
     #[inline(always)]
     pub(crate) fn parse_pointer(&self, bases: &BaseAddresses, input: &mut R) -> Result<Pointer>
         requires { self.now.section_offset ≤ (R.stretch input.old).offset }
-        ensures read { let table = header_table bases.now.eh_frame_hdr self.now in Reads result
-            (pointer_at table.origins table.encoding (R.stretch input.old)) (R.stretch input.new) }
-        ensures refused { let table = header_table bases.now.eh_frame_hdr self.now in OnErr result
-            (R.stretch input.new
-            ≡ left_by_pointer table.origins table.encoding (R.stretch input.old)) }
+        ensures read { ReadsInTable R.stretch pointer_at
+            (header_table bases.now.eh_frame_hdr self.now) input.old result input.new }
+        ensures refused { LeavesInTable R.stretch left_by_pointer
+            (header_table bases.now.eh_frame_hdr self.now) input.old result input.new }
     {
         let parameters = PointerEncodingParameters {
             bases: &bases.eh_frame_hdr,
@@ -43,11 +42,10 @@ impl<R: Reader> ParsedEhFrameHdr<R> {
         input: &mut R,
     ) -> Result<(Pointer, Pointer)>
         requires { self.now.section_offset ≤ (R.stretch input.old).offset }
-        ensures read { let table = header_table bases.now.eh_frame_hdr self.now in Reads result
-            (row_at table.origins table.encoding (R.stretch input.old)) (R.stretch input.new) }
-        ensures refused { let table = header_table bases.now.eh_frame_hdr self.now in OnErr result
-            (R.stretch input.new
-            ≡ left_by_row table.origins table.encoding (R.stretch input.old)) }
+        ensures read { ReadsInTable R.stretch row_at
+            (header_table bases.now.eh_frame_hdr self.now) input.old result input.new }
+        ensures refused { LeavesInTable R.stretch left_by_row
+            (header_table bases.now.eh_frame_hdr self.now) input.old result input.new }
     {
         let start = self.parse_pointer(bases, input)?;
         let target = self.parse_pointer(bases, input)?;

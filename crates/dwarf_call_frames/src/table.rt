@@ -2,9 +2,8 @@
 
 ghost use Rattle.std.specs.Prelude.{◌≡◌, ◌≤◌, ◌<◌, ◌+◌, ◌^◌, ℕ};
 ghost use Rattle.dwarf_endianity.specs.Answers.{Gives};
-ghost use Rattle.dwarf_call_frames.specs.Halving.{GivesHalving, halving};
 ghost use Rattle.dwarf_call_frames.specs.Header.{offset_of_pointer};
-ghost use Rattle.dwarf_call_frames.specs.HeaderTable.{header_row, rows_by_index, starts_read, header_table};
+ghost use Rattle.dwarf_call_frames.specs.HeaderTable.{GivesHalvingIn, header_row, starts_read, header_table};
 
 use crate::header::ParsedEhFrameHdr;
 use crate::iter::EhHdrTableIter;
@@ -97,8 +96,8 @@ impl<'a, R: Reader> EhHdrTable<'a, R> {
         bases: &BaseAddresses,
         steps: &mut Steps<L>,
     ) -> Result<Pointer>
-        ensures { GivesHalving (halving address (rows_by_index R.Offset.limit size
-            (header_table bases.now.eh_frame_hdr self.now))) result steps.old steps.new }
+        ensures { GivesHalvingIn R.Offset.limit size address
+            (header_table bases.now.eh_frame_hdr self.now) result steps.old steps.new }
     {
         let hdr = self.hdr;
         let mut first = 0;

@@ -1,15 +1,18 @@
 -- Functions that read CIEs for lookups of FDEs, and what such a lookup gives by them.
 use Rattle.std.specs.Prelude.{◌≡◌, ℕ, Bool, false, List, [], ◌∷◌, Result}
 use Rattle.std.specs.Borrow.{Bor}
+use Rattle.dwarf_constants.specs.declared.common.Vendor.{Vendor}
 use Rattle.dwarf_constants.specs.declared.error.Error.{Error}
 use Rattle.dwarf_readers.specs.Stretch.{Stretch}
+use Rattle.dwarf_frame_rows.specs.Effects.{Limits}
 use Rattle.dwarf_frame_rows.specs.Row.{Row}
 use Rattle.dwarf_frame_rows.specs.declared.base_addresses.BaseAddresses.{BaseAddresses}
 use Rattle.dwarf_frame_rows.specs.declared.row.UnwindTableRow.{UnwindTableRow}
 use Rattle.dwarf_frame_rows.specs.FrameSection.{FrameSection}
 use Rattle.dwarf_frame_instructions.specs.ProgramRows.{IsRowFor}
 use Rattle.dwarf_frame_entries.specs.declared.cie.CommonInformationEntry.{CommonInformationEntry}
-use Rattle.dwarf_frame_entries.specs.Entries.{Fde, PartialFde, cie_from_offset, cie_of}
+use Rattle.dwarf_frame_entries.specs.AddressLookups.{fde_for_address, section_row}
+use Rattle.dwarf_frame_entries.specs.Entries.{Fde, PartialFde, cie_from_offset, cie_of, fde_from_offset}
 use Rattle.dwarf_frame_entries.specs.EntryViews.{cie_view}
 use Rattle.dwarf_frame_entries.specs.Memory.{MayGive}
 
@@ -67,11 +70,19 @@ module _ {F S N R E O : Type 0} (step : F → Bor S → Bor BaseAddresses → N 
   ReadsFde given bases get_cie result answer =
       let section = frame given bases in GivesByCies (ReadsCie section get_cie) result (answer section)
 
+  -- .. the FDE at this offset
+  abbrev pub ReadsFdeAt : S → BaseAddresses → N → F → Result Fde Error → Type 0
+  ReadsFdeAt given bases offset get_cie result = ReadsFde given bases get_cie result (λ section. fde_from_offset section (number offset))
+
   -- If the function reads CIEs of the section, a lookup returned this FDE, or this error; or OutOfMemory, if the function may
   -- allocate.
   abbrev pub FindsFde : S → BaseAddresses → F → Result Fde Error → (FrameSection → Result Fde Error) → Type 0
   FindsFde given bases get_cie result answer =
       let section = frame given bases in GivesByCies (ReadsCies section get_cie) result (answer section)
+
+  -- .. the FDE for this address
+  abbrev pub FindsFdeFor : S → BaseAddresses → (address : ℕ) → F → Result Fde Error → Type 0
+  FindsFdeFor given bases address get_cie result = FindsFde given bases get_cie result (λ section. fde_for_address section address)
 
   module _ {L : Type 0} (Fixed : Type 0) where
     -- If the function reads a CIE of the section, as it is called once, a lookup returned this row, or this error; or OutOfMemory,
@@ -87,3 +98,8 @@ module _ {F S N R E O : Type 0} (step : F → Bor S → Bor BaseAddresses → N 
         → Type 0
     FindsRow given bases get_cie result answer =
         let section = frame given bases in IsRowByCies value Fixed (ReadsCies section get_cie) (answer section) result
+
+    -- .. the row for this address
+    abbrev pub FindsRowFor : Limits → Vendor → S → BaseAddresses → (address : ℕ) → F → Result (Bor (UnwindTableRow O L)) Error → Type 0
+    FindsRowFor limits vendor given bases address get_cie result =
+        FindsRow given bases get_cie result (λ section. section_row limits section vendor address)

@@ -10,6 +10,7 @@ pub mod HeadViews
 pub mod LetterViews
 pub mod Memory
 pub mod Parts
+pub mod PointerViews
 pub mod SectionFdes
 pub mod UnwindTableLends
 pub mod UnwindTables

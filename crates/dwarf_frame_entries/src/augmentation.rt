@@ -1,11 +1,10 @@
 //! The augmentation of a CIE (LSB 5.0, 10.6.1.1.1).
 
 ghost use Rattle.std.specs.Prelude.{◌≡◌, ◌≤◌, ◌<◌, length, Option, Some, None, option_map, OnOk, OnErr, Ok};
-ghost use Rattle.dwarf_endianity.specs.Answers.{Gives};
-ghost use Rattle.dwarf_readers.specs.Stretch.{Reads, ReadsAs};
-ghost use Rattle.dwarf_frame_rows.specs.EncodedPointer.{origins_of};
-ghost use Rattle.dwarf_frame_entries.specs.Augmentations.{augmentation_at, data_at, encoding_unless_omitted, letter_with_data, pointer_unless_omitted, with_letter, with_letters, no_letters, augmentation_by_letters};
-ghost use Rattle.dwarf_frame_entries.specs.LetterViews.{IsAfterStart};
+ghost use Rattle.dwarf_readers.specs.Stretch.{ReadsAs};
+ghost use Rattle.dwarf_frame_entries.specs.Augmentations.{data_at, encoding_unless_omitted, pointer_unless_omitted, no_letters};
+ghost use Rattle.dwarf_frame_entries.specs.LetterViews.{IsAfterStart, ReadsAugmentation, ReadsLetters};
+ghost use Rattle.dwarf_frame_entries.specs.PointerViews.{ReadsIn};
 
 use dwarf_constants::constants::DW_EH_PE_omit;
 use dwarf_constants::{DwEhPe, Error, Result};
@@ -65,7 +64,7 @@ struct LettersRead<R: Reader> {
 }
 
 impl<R: Reader> LettersRead<R> {
-    ghost use Rattle.dwarf_frame_entries.specs.LetterViews.{IsAfterStart, letters_view};
+    ghost use Rattle.dwarf_frame_entries.specs.LetterViews.{IsAfterStart, ReadsLetter, ReadsLetterData, letters_view};
 
     // Before any letter.
     fn new(left: Option<R>) -> Self
@@ -82,8 +81,7 @@ impl<R: Reader> LettersRead<R> {
     fn read(&mut self, letter: u8, parameters: &PointerEncodingParameters<'_, R>) -> Result<()>
         requires { IsAfterStart (R.stretch parameters.now.section.now)
             (letters_view R.stretch self.old) }
-        ensures read { Gives (λ _. letters_view R.stretch self.new) result (with_letter
-            (origins_of R.stretch parameters.now) letter (letters_view R.stretch self.old)) }
+        ensures read { ReadsLetter R.stretch parameters.now letter self.old result self.new }
         ensures placed { OnOk result (IsAfterStart (R.stretch parameters.now.section.now)
             (letters_view R.stretch self.new)) }
     {
@@ -108,8 +106,8 @@ impl<R: Reader> LettersRead<R> {
         parameters: &PointerEncodingParameters<'_, R>,
     ) -> Result<()>
         requires { (R.stretch parameters.now.section.now).offset ≤ (R.stretch left).offset }
-        ensures read { Gives (λ _. letters_view R.stretch self.new) result (letter_with_data
-            (origins_of R.stretch parameters.now) letter self.old.augmentation (R.stretch left)) }
+        ensures read { ReadsLetterData R.stretch parameters.now letter self.old left
+            result self.new }
         ensures placed { OnOk result (IsAfterStart (R.stretch parameters.now.section.now)
             (letters_view R.stretch self.new)) }
     {
@@ -156,8 +154,8 @@ fn read_pointer<R: Reader>(
     input: &mut R,
 ) -> Result<Option<(DwEhPe, Pointer)>>
     requires { (R.stretch parameters.now.section.now).offset ≤ (R.stretch input.old).offset }
-    ensures { Reads result (pointer_unless_omitted (origins_of R.stretch parameters.now) encoding.0
-        (R.stretch input.old)) (R.stretch input.new) }
+    ensures { ReadsIn R.stretch parameters.now
+        (λ origins. pointer_unless_omitted origins encoding.0) input.old result input.new }
 {
     if encoding == DW_EH_PE_omit {
         return Ok(None);
@@ -174,8 +172,7 @@ fn read_letters<R: Reader>(
 ) -> Result<Augmentation>
     requires { IsAfterStart (R.stretch parameters.now.section.now)
         (no_letters (option_map R.stretch left)) }
-    ensures { Gives (λ augmentation. augmentation) result (augmentation_by_letters
-        (origins_of R.stretch parameters.now) (R.stretch text).bytes (option_map R.stretch left)) }
+    ensures { ReadsLetters R.stretch parameters.now text left result }
 {
     let mut letters = text;
     let mut read = LettersRead::new(left);
@@ -194,8 +191,8 @@ pub(crate) fn parse_augmentation<R: Reader>(
     input: &mut R,
 ) -> Result<Option<Augmentation>>
     requires { (R.stretch parameters.now.section.now).offset ≤ (R.stretch input.old).offset }
-    ensures { Reads result (augmentation_at R.Offset.limit (origins_of R.stretch parameters.now)
-        (R.stretch text).bytes (R.stretch input.old)) (R.stretch input.new) }
+    ensures { ReadsAugmentation R.stretch R.Offset.limit parameters.now text
+        input.old result input.new }
 {
     if text.is_empty() {
         return Ok(None);

@@ -1,8 +1,8 @@
 //! Entries of either kind, and the iterator over those of a section.
 
 ghost use Rattle.std.specs.Prelude.{◌≡◌};
-ghost use Rattle.dwarf_frame_entries.specs.EntryLists.{GivesEntry, TellsEnd, entry_list_of};
-ghost use Rattle.dwarf_frame_entries.specs.EntryViews.{entry_view};
+ghost use Rattle.dwarf_frame_entries.specs.EntryLists.{TellsEnd, entry_list_of};
+ghost use Rattle.dwarf_frame_entries.specs.EntryViews.{GivesNextEntry, entry_view};
 ghost use Rattle.dwarf_frame_entries.specs.Parts.{IsPart};
 ghost use Rattle.dwarf_frame_rows.specs.FrameSection.{frame_section};
 
@@ -99,10 +99,9 @@ fn read_next<'bases, Section: UnwindSection<R>, R: Reader>(
     input: &mut R,
 ) -> Result<Option<CieOrFde<'bases, Section, R>>>
     requires { IsPart (R.stretch (Section.reader section.now)) (R.stretch input.old) }
-    ensures { GivesEntry (entry_view R.stretch R.Offset.value)
-        (frame_section R.Offset.limit Section.kind (Section.size section.now)
-        (R.stretch (Section.reader section.now)) bases.now) result
-        (R.stretch input.old) (R.stretch input.new) }
+    ensures { GivesNextEntry R.stretch R.Offset.value (frame_section R.Offset.limit Section.kind
+        (Section.size section.now) (R.stretch (Section.reader section.now)) bases.now)
+        result input.old input.new }
 {
     while !input.is_empty() {
         match parse_entry(section, bases, input) {

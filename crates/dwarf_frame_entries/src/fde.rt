@@ -2,12 +2,12 @@
 
 ghost use Rattle.std.specs.Prelude.{◌≡◌, ◌≤◌};
 ghost use Rattle.dwarf_endianity.specs.Answers.{Gives};
-ghost use Rattle.dwarf_readers.specs.Stretch.{Reads};
-ghost use Rattle.dwarf_frame_rows.specs.EncodedPointer.{origins_of, pointer_at};
+ghost use Rattle.dwarf_frame_rows.specs.EncodedPointer.{pointer_at};
 ghost use Rattle.dwarf_frame_entries.specs.CieReaders.{GivesByCies, ReadsCieOf};
 ghost use Rattle.dwarf_frame_entries.specs.Entries.{code_range_at, contains, end_address, fde_of, fde_with, lsda_at};
 ghost use Rattle.dwarf_frame_entries.specs.EntryViews.{cie_view};
 ghost use Rattle.dwarf_frame_entries.specs.Getters.{is_signal_trampoline, personality};
+ghost use Rattle.dwarf_frame_entries.specs.PointerViews.{ReadsIn};
 
 use crate::augmentation::{Augmentation, read_data};
 use crate::cie::{CommonInformationEntry, Head};
@@ -145,8 +145,8 @@ fn read_addresses<R: Reader>(
     input: &mut R,
 ) -> Result<(u64, u64)>
     requires { (R.stretch parameters.now.section.now).offset ≤ (R.stretch input.old).offset }
-    ensures { Reads result (code_range_at (origins_of R.stretch parameters.now) encoding
-        (R.stretch input.old)) (R.stretch input.new) }
+    ensures { ReadsIn R.stretch parameters.now (λ origins. code_range_at origins encoding)
+        input.old result input.new }
 {
     let size = parameters.address_size;
     match encoding {
@@ -173,8 +173,8 @@ fn read_lsda<R: Reader>(
     input: &mut R,
 ) -> Result<Option<Pointer>>
     requires { (R.stretch parameters.now.section.now).offset ≤ (R.stretch input.old).offset }
-    ensures { Reads result (lsda_at R.Offset.limit (origins_of R.stretch parameters.now)
-        augmentation.now (R.stretch input.old)) (R.stretch input.new) }
+    ensures { ReadsIn R.stretch parameters.now
+        (λ origins. lsda_at R.Offset.limit origins augmentation.now) input.old result input.new }
 {
     let Some(augmentation) = augmentation else {
         return Ok(None);
@@ -198,8 +198,8 @@ fn read_lsda_pointer<R: Reader>(
     input: &mut R,
 ) -> Result<Pointer>
     requires { (R.stretch parameters.now.section.now).offset ≤ (R.stretch input.old).offset }
-    ensures { Reads result (pointer_at (origins_of R.stretch parameters.now) encoding.0
-        (R.stretch input.old)) (R.stretch input.new) }
+    ensures { ReadsIn R.stretch parameters.now (λ origins. pointer_at origins encoding.0)
+        input.old result input.new }
 {
     parse_encoded_pointer(encoding, parameters, input)
 }

@@ -1,11 +1,9 @@
 //! Reading of entries.
 
-ghost use Rattle.std.specs.Prelude.{◌≡◌, ◌≤◌, ◌-◌, option_map};
-ghost use Rattle.dwarf_endianity.specs.Answers.{Gives};
-ghost use Rattle.dwarf_readers.specs.Stretch.{Reads, ReadsAs};
-ghost use Rattle.dwarf_frame_entries.specs.Entries.{cie_at, entry_at, entry_within, id_at, is_version, return_register_at, sizes_at};
-ghost use Rattle.dwarf_frame_entries.specs.EntryViews.{cie_view, entry_view};
-ghost use Rattle.dwarf_frame_entries.specs.HeadViews.{head_view};
+ghost use Rattle.std.specs.Prelude.{◌≡◌, ◌≤◌, ◌-◌};
+ghost use Rattle.dwarf_readers.specs.Stretch.{Reads};
+ghost use Rattle.dwarf_frame_entries.specs.Entries.{id_at, is_version, return_register_at, sizes_at};
+ghost use Rattle.dwarf_frame_entries.specs.EntryViews.{GivesCieAt, GivesEntryWithin, ReadsEntry};
 ghost use Rattle.dwarf_frame_entries.specs.Parts.{IsPart};
 ghost use Rattle.dwarf_frame_rows.specs.FrameSection.{frame_section};
 
@@ -28,10 +26,9 @@ pub(crate) fn parse_entry<'bases, Section: UnwindSection<R>, R: Reader>(
     input: &mut R,
 ) -> Result<Option<CieOrFde<'bases, Section, R>>>
     requires { IsPart (R.stretch (Section.reader section.now)) (R.stretch input.old) }
-    ensures { ReadsAs (option_map (entry_view R.stretch R.Offset.value)) result
-        (entry_at (frame_section R.Offset.limit Section.kind
+    ensures { ReadsEntry R.stretch R.Offset.value (frame_section R.Offset.limit Section.kind
         (Section.size section.now) (R.stretch (Section.reader section.now)) bases.now)
-        (R.stretch input.old)) (R.stretch input.new) }
+        input.old result input.new }
 {
     let offset = offset_in(section.section(), input);
     let (length, format) = input.read_initial_length()?;
@@ -64,10 +61,9 @@ fn parse_body<'bases, Section: UnwindSection<R>, R: Reader>(
     body: R,
 ) -> Result<CieOrFde<'bases, Section, R>>
     requires { IsPart (R.stretch (Section.reader section.now)) (R.stretch body) }
-    ensures { Gives (entry_view R.stretch R.Offset.value) result (entry_within
-        (frame_section R.Offset.limit Section.kind (Section.size section.now)
-        (R.stretch (Section.reader section.now)) bases.now)
-        (head_view R.Offset.value head) format (R.stretch body)) }
+    ensures { GivesEntryWithin R.stretch R.Offset.value (frame_section R.Offset.limit Section.kind
+        (Section.size section.now) (R.stretch (Section.reader section.now)) bases.now)
+        head format body result }
 {
     let mut rest = body;
     let id = read_id(Section::cie_offset_encoding(format), &mut rest)?;
@@ -110,10 +106,9 @@ fn parse_cie<Section: UnwindSection<R>, R: Reader>(
     input: R,
 ) -> Result<CommonInformationEntry<R>>
     requires { (R.stretch (Section.reader section.now)).offset ≤ (R.stretch input).offset }
-    ensures { Gives (cie_view R.stretch R.Offset.value) result (cie_at
-        (frame_section R.Offset.limit Section.kind (Section.size section.now)
-        (R.stretch (Section.reader section.now)) bases.now)
-        (head_view R.Offset.value head) format (R.stretch input)) }
+    ensures { GivesCieAt R.stretch R.Offset.value (frame_section R.Offset.limit Section.kind
+        (Section.size section.now) (R.stretch (Section.reader section.now)) bases.now)
+        head format input result }
 {
     let mut rest = input;
     let version = rest.read_u8()?;

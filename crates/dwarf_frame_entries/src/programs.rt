@@ -1,9 +1,9 @@
 //! The instructions of entries, and the row of an FDE for an address.
 
-ghost use Rattle.std.specs.Prelude.{◌≡◌};
+ghost use Rattle.std.specs.Prelude.{◌≡◌, ◌≢◌, IfErr};
+ghost use Rattle.dwarf_constants.specs.declared.error.Error.TheVariants.{OutOfMemory};
 ghost use Rattle.dwarf_frame_instructions.specs.Instructions.{instructions_of};
 ghost use Rattle.dwarf_frame_instructions.specs.ProgramRows.{IsRowFor, program_of};
-ghost use Rattle.dwarf_frame_rows.specs.FrameSection.{frame_section};
 ghost use Rattle.dwarf_frame_entries.specs.EntryPrograms.{cie_instructions, conventions_in, factors_of, fde_instructions, fde_program, fde_row};
 ghost use Rattle.dwarf_frame_entries.specs.EntryViews.{cie_view};
 
@@ -45,9 +45,7 @@ impl<R: Reader> CommonInformationEntry<R> {
     ) -> CallFrameInstructionIter<'a, R>
     where
         R: 'a,
-        ensures { result ≡ instructions_of
-            (conventions_in (frame_section R.Offset.limit Section.kind
-            (Section.size section.now) (R.stretch (Section.reader section.now)) bases.now)
+        ensures { result ≡ instructions_of (conventions_in (Section.frame section.now bases.now)
             (Section.extensions section.now) (cie_view R.stretch R.Offset.value self.now) func_base)
             (R.stretch input) }
     {
@@ -113,9 +111,10 @@ impl<R: Reader> FrameDescriptionEntry<R> {
         ctx: &'ctx mut UnwindContext<R::Offset, S>,
         address: u64,
     ) -> Result<&'ctx UnwindTableRow<R::Offset, S::Rules>>
-        ensures { IsRowFor R.Offset.value S.never_allocates
+        ensures row { IsRowFor R.Offset.value S.never_allocates
             (fde_row S.limits (Section.frame section.now bases.now)
             (Section.extensions section.now) self.now address) result }
+        ensures memory { S.never_allocates → IfErr result (λ e. e ≢ OutOfMemory) }
     {
         row_for_address(ctx, self.program(section, bases), address)
     }

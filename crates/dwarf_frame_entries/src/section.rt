@@ -2,9 +2,8 @@
 
 ghost use Rattle.std.specs.Prelude.{◌≡◌};
 ghost use Rattle.dwarf_endianity.specs.Answers.{Gives};
-ghost use Rattle.dwarf_frame_entries.specs.AddressLookups.{fde_for_address, section_row};
-ghost use Rattle.dwarf_frame_entries.specs.CieReaders.{FindsFde, FindsRow, ReadsFde};
-ghost use Rattle.dwarf_frame_entries.specs.Entries.{cie_from_offset, fde_from_offset, partial_fde_from_offset};
+ghost use Rattle.dwarf_frame_entries.specs.CieReaders.{FindsFdeFor, FindsRowFor, ReadsFdeAt};
+ghost use Rattle.dwarf_frame_entries.specs.Entries.{cie_from_offset, partial_fde_from_offset};
 ghost use Rattle.dwarf_frame_entries.specs.EntryLists.{entry_list_of};
 ghost use Rattle.dwarf_frame_entries.specs.EntryViews.{GivesCie};
 
@@ -101,8 +100,8 @@ pub trait UnwindSection<R: Reader>: Copy + Debug + _UnwindSectionPrivate<R> {
     where
         Self: Sized,
         requires { F.IsAlwaysCallable get_cie }
-        ensures { ReadsFde F.step R.stretch R.Offset.value Self.frame Self.Offset.number self.now bases.now
-            get_cie result (λ section. fde_from_offset section (Self.Offset.number offset)) }
+        ensures { ReadsFdeAt F.step R.stretch R.Offset.value Self.frame Self.Offset.number
+            self.now bases.now offset get_cie result }
     {
         let partial = self.partial_fde_from_offset(bases, offset)?;
         partial.parse(get_cie)
@@ -122,8 +121,8 @@ pub trait UnwindSection<R: Reader>: Copy + Debug + _UnwindSectionPrivate<R> {
     where
         Self: Sized,
         requires { F.IsAlwaysCallable get_cie }
-        ensures { FindsFde F.step R.stretch R.Offset.value Self.frame Self.Offset.number self.now bases.now
-            get_cie result (λ section. fde_for_address section address) }
+        ensures { FindsFdeFor F.step R.stretch R.Offset.value Self.frame Self.Offset.number
+            self.now bases.now address get_cie result }
     {
         let mut entries = self.entries(bases);
         while let Some(entry) = entries.next()? {
@@ -154,9 +153,9 @@ pub trait UnwindSection<R: Reader>: Copy + Debug + _UnwindSectionPrivate<R> {
     where
         Self: Sized,
         requires { F.IsAlwaysCallable get_cie }
-        ensures { FindsRow F.step R.stretch R.Offset.value Self.frame Self.Offset.number S.never_allocates
-            self.now bases.now get_cie result
-            (λ section. section_row S.limits section (Self.extensions self.now) address) }
+        ensures { FindsRowFor F.step R.stretch R.Offset.value Self.frame Self.Offset.number
+            S.never_allocates S.limits (Self.extensions self.now) self.now bases.now address
+            get_cie result }
     {
         let fde = self.fde_for_address(bases, address, get_cie)?;
         fde.unwind_info_for_address(self, bases, ctx, address)

@@ -1,10 +1,10 @@
 //! The rows of an FDE, one after the other.
 
-ghost use Rattle.std.specs.Prelude.{◌≡◌, option_map};
+ghost use Rattle.std.specs.Prelude.{◌≡◌, ◌≢◌, IfErr, option_map};
+ghost use Rattle.dwarf_constants.specs.declared.error.Error.TheVariants.{OutOfMemory};
 ghost use Rattle.dwarf_frame_instructions.specs.Execution.{row_in};
-ghost use Rattle.dwarf_frame_instructions.specs.ProgramRows.{GivesFirst};
 ghost use Rattle.dwarf_frame_entries.specs.EntryPrograms.{fde_program};
-ghost use Rattle.dwarf_frame_entries.specs.UnwindTables.{MakesTable, table_row, table_rows};
+ghost use Rattle.dwarf_frame_entries.specs.UnwindTables.{GivesTableRow, MakesTable, table_row};
 
 use crate::fde::FrameDescriptionEntry;
 use crate::section::UnwindSection;
@@ -43,14 +43,15 @@ impl<'a, 'ctx, R: Reader, S: UnwindContextStorage<R::Offset>> UnwindTable<'a, 'c
         Ok(UnwindTable { rows })
     }
 
-    /// The next row, or `None` after the last. Fails with the error of an instruction; after that
-    /// no row is left.
+    /// The next row, or `None` after the last. Fails with the error of an instruction, and with
+    /// `OutOfMemory` only if the storage allocates; after that no row is left.
     pub fn next_row(&mut self) -> Result<Option<&UnwindTableRow<R::Offset, S::Rules>>>
         ensures* leaves { sem 𝓛 (LeavesTable R.row S.row R.Endian.row R.Offset.row S.Rules.row
             S.Stack.row S.Rules.ArrayLike R.stretch R.Offset.limit R.Offset.value S.Stack.items
             S.limits self.entry result) }
-        ensures row { GivesFirst R.Offset.value S.never_allocates (table_rows R.stretch R.Offset.limit
-            R.Offset.value S.Stack.items S.limits self.old) result }
+        ensures row { GivesTableRow R.stretch R.Offset.limit R.Offset.value S.Stack.items S.limits
+            S.never_allocates self.old result }
+        ensures memory { S.never_allocates → IfErr result (λ e. e ≢ OutOfMemory) }
     {
         self.rows.advance()?;
         Ok(self.rows.current_row())

@@ -282,8 +282,9 @@ pub fn row_for_address<'a, 'ctx, R: Reader, S: UnwindContextStorage<R::Offset>>(
     program: FrameProgram<'a, R>,
     address: u64,
 ) -> Result<&'ctx UnwindTableRow<R::Offset, S::Rules>>
-    ensures { IsRowFor R.Offset.value S.never_allocates
+    ensures row { IsRowFor R.Offset.value S.never_allocates
         (row_for S.limits (program_of program.entry) address) result }
+    ensures memory { S.never_allocates → IfErr result (λ e. e ≢ OutOfMemory) }
 {
     let mut rows = ProgramRows::new(context, program)?;
     while rows.advance()? {

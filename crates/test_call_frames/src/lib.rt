@@ -4,6 +4,8 @@
 #[cfg(test)]
 mod augmentations;
 #[cfg(test)]
+mod counts;
+#[cfg(test)]
 mod entries;
 #[cfg(test)]
 mod entry_rows;

@@ -9,4 +9,4 @@ pub returns-in-Err-clause-answers : goal.returns-in-Err-clause-answers
 returns-in-Err-clause-answers g c =
     let section : FrameSection = g.Section._UnwindSectionPrivate.frame c.args.section.now c.args.bases.now in
     by-uncovered g.A.DwarfUnwinding.rows g.A.DwarfUnwinding.MeetsExpression c.args.is_first_frame g.ES.Stack.ArrayLike.capacity c.args.read_stack.now c.args.regs.now c.rule_if_uncovered_by_fde.result _
-    (ap (by_row c.args.fde.now.cie.address_size section.within.bytes) (c.in-Err.ensures (inl c.requires.rows))) c.rule_if_uncovered_by_fde.ensures.rule
+    (ap (by_row c.args.fde.now.cie.address_size section.within.bytes) (c.in-Err.ensures.row (inl c.requires.rows))) c.rule_if_uncovered_by_fde.ensures.rule

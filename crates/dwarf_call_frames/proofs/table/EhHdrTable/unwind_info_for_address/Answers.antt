@@ -13,4 +13,4 @@ pub returns : goal.returns
 returns g c may_allocate same =
     let section = eh_frame_in g.R.Reader.stretch g.R.Offset.ReaderOffset.limit c.args.frame.now c.args.bases.now in
     row-of-fde _ section c.args.frame.now.vendor c.args.bases.now c.args.self.now c.args.address g.R.Offset.ReaderOffset.value _ may_allocate c.in_ok-fde.fde
-    c.unwind_info_for_address.result (c.in_ok-fde.ensures may_allocate same) c.unwind_info_for_address.ensures
+    c.unwind_info_for_address.result (c.in_ok-fde.ensures may_allocate same) c.unwind_info_for_address.ensures.row

@@ -18,4 +18,4 @@ returns g c =
     let section = g.Self._UnwindSectionPrivate.frame c.args.self.now c.args.bases.now in
     let row : Fde → Result (Row ℕ) Error = λ fde. fde_row g.S.UnwindContextStorage.limits section (g.Self._UnwindSectionPrivate.extensions c.args.self.now) fde c.args.address in
     λ may_allocate h. fde-row g.R.Offset.ReaderOffset.value g.S.UnwindContextStorage.never_allocates (may_allocate ≡ false) _ _ c.unwind_info_for_address.result
-    (ap (λ (found : Result Fde Error). found >>= row) (c.in_ok-fde.ensures may_allocate h)) c.unwind_info_for_address.ensures
+    (ap (λ (found : Result Fde Error). found >>= row) (c.in_ok-fde.ensures may_allocate h)) c.unwind_info_for_address.ensures.row

@@ -11,4 +11,5 @@ returns-in_err-rows g c =
       none_given = tt;
       started = tt;
       error = λ told. ap (effects_of_cie g.S.UnwindContextStorage.limits) (sym c.program.ensures) ∙ c.in_err-rows.ensures.refused told;
+      memory = c.in_err-rows.ensures.memory;
     })

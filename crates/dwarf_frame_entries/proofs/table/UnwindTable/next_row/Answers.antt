@@ -18,5 +18,5 @@ returns g c =
           falls = gave_one number c.current_row.result c.in_ok-advance.field-0 c.advance.new.self.has_row _ _ went.given shown c.in_ok-advance.ensures.falls;
         },
       ),
-      record { leaves = tt; row = went.first ∙ ap (λ o. Ok o) (sym shown) },
+      record { leaves = tt; row = went.first ∙ ap (λ o. Ok o) (sym shown); memory = λ _. tt },
     )
