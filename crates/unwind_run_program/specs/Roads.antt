@@ -1,5 +1,5 @@
 -- The module over which a step is made by each lookup, and its sections.
-use Rattle.std.specs.Prelude.{ℕ, ◌+◌, ◌-◌, ◌^◌, min, List, [], length, codes, Some}
+use Rattle.std.specs.Prelude.{ℕ, ◌+◌, ◌-◌, ◌^◌, min, List, [], ◌∷◌, length, codes, Some}
 use Rattle.framehop_unwinder.specs.Modules.{Loaded}
 use Rattle.unwind_run_document.specs.Tasks.{StatedSection, TableData}
 
@@ -22,6 +22,10 @@ stated_section t = section_at (codes ".eh_frame") t.section_start t.section
 -- the header of the section
 abbrev pub stated_header : TableData → StatedSection
 stated_header t = section_at (codes ".eh_frame_hdr") t.header_start t.header
+
+-- the section with its header
+abbrev pub headed_section : TableData → List StatedSection
+headed_section t = stated_section t ∷ stated_header t ∷ []
 
 -- the module at the base: 2^32 addresses, or those up to the last
 abbrev pub module_at : {Data : Type 0} → ℕ → Data → Loaded Data

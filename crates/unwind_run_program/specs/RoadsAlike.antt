@@ -13,13 +13,13 @@ use Rattle.framehop_unwinder.specs.Attempt.{Meanings}
 use Rattle.framehop_unwinder.specs.Frames.{lookup_address}
 use Rattle.unwind_run_document.specs.Tasks.{RoadSteps, TableData}
 use Rattle.unwind_run_program.specs.Registers.{RegisterForms}
-use Rattle.unwind_run_program.specs.Roads.{stated_section, stated_header}
+use Rattle.unwind_run_program.specs.Roads.{headed_section, stated_section}
 use Rattle.unwind_run_program.specs.Sections.{data_stated, sections_stated}
 use Rattle.unwind_run_program.specs.Text.{frame_at, road_line, road_lines}
 
 -- the addresses that pointers are relative to in a module with both tables
 abbrev pub bases_in : TableData → BaseAddresses
-bases_in t = bases_of (base_svmas (sections_stated t.base_svma (stated_section t ∷ stated_header t ∷ [])))
+bases_in t = bases_of (base_svmas (sections_stated t.base_svma (headed_section t)))
 
 -- the section and its header, as both tables state them
 abbrev pub headed_in : TableData → HeadedSection
@@ -39,6 +39,10 @@ named_alike text = codes "header " ++ text ++ codes "index " ++ text ++ codes "s
 -- the address that a step looks up
 abbrev pub address_looked_up : RoadSteps → ℕ
 address_looked_up steps = lookup_address (frame_at steps.kind steps.address)
+
+-- The header is truthful, and one of the section's FDEs contains the address that a step looks up.
+abbrev pub CoversStep : RoadSteps → Type 0
+CoversStep steps = Covers steps.tables (address_looked_up steps)
 
 -- the line of the step that reads the section
 abbrev pub scan_line : {Rule Registers : Type 0} → Meanings UnwindData Rule Registers → RegisterForms Registers → RoadSteps → List ℕ

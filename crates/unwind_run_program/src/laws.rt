@@ -1,7 +1,7 @@
 //! A law of the steps by each lookup. It does nothing when the program runs.
 
 ghost use Rattle.unwind_run_document.specs.Tasks.{RoadSteps};
-ghost use Rattle.unwind_run_program.specs.RoadsAlike.{Covers, WriteAlike, address_looked_up};
+ghost use Rattle.unwind_run_program.specs.RoadsAlike.{CoversStep, WriteAlike};
 ghost use Rattle.framehop.specs.StepMeanings.{meanings_by};
 
 use framehop::DwarfUnwinding;
@@ -10,8 +10,8 @@ use framehop::lookup_laws::truthful_lookups_attempt_alike;
 /// Under a truthful header, and at an address that an FDE of the section contains, the lines of `roads`
 /// are one line: that of the step by reading the section.
 pub fn truthful_lookups_write_alike<A: DwarfUnwinding>()
-    ensures { (steps : RoadSteps) → Covers steps.tables (address_looked_up steps)
-        → WriteAlike (meanings_by A.UnwindRule.meaning A.UnwindRule.fallback A.rows) steps }
+    ensures { (s : RoadSteps) → CoversStep s
+        → WriteAlike (meanings_by A.UnwindRule.meaning A.UnwindRule.fallback A.rows) s }
 {
     truthful_lookups_attempt_alike::<A>();
 }

@@ -69,10 +69,10 @@ pub fn run<R: Source, W: Sink>(
 ) -> Result<Outcome, RunError>
     requires reader { R.has_failed reader.old ≡ false }
     requires writer { W.has_failed writer.old ≡ false }
-    ensures text { IfSome (R.remaining reader.old) (λ document. WritesText result
-        (W.contents writer.old) (W.contents writer.new) (text_of document)) }
+    ensures text { IfSome (R.remaining reader.old) (λ all. WritesText result
+        (W.contents writer.old) (W.contents writer.new) (text_of all)) }
     ensures outcome { IfOk result (λ outcome.
-        IfSome (R.remaining reader.old) (λ document. outcome ≡ ending_of document)) }
+        IfSome (R.remaining reader.old) (λ all. outcome ≡ ending_of all)) }
     ensures errors { ReportsFailures result (R.has_failed reader.new) (W.has_failed writer.new) }
     ensures unwritten { IsErrOf result RunError.Read
         → W.contents writer.new ≡ W.contents writer.old }

@@ -3,7 +3,7 @@
 ghost use Rattle.std.specs.Prelude.{◌≡◌, ◌≢◌, ◌+◌, ◌∷◌, ◌++◌, ◌^◌, [], IfOk, codes, string_bytes, Some};
 ghost use Rattle.framehop_registers.specs.Callback.{read_answer};
 ghost use Rattle.unwind_run_document.specs.CommandViews.{roads_view, section_view, sections_view, tables_view, words_view};
-ghost use Rattle.unwind_run_program.specs.Roads.{address_behind, stated_header, section_at, stated_section};
+ghost use Rattle.unwind_run_program.specs.Roads.{address_behind, headed_section, section_at, stated_section};
 ghost use Rattle.unwind_run_program.specs.Text.{road_line, road_lines, words_of};
 ghost use Rattle.unwind_run_document.specs.declared.command.FrameKind.TheVariants.{Ra};
 
@@ -52,8 +52,8 @@ fn section_with_header(
     alloc: Global,
     tables: &StatedTables,
 ) -> Result<Vec<StatedSection>, AllocError>
-    ensures { IfOk result (λ sections. let tables = tables_view tables.now in
-        sections_view sections.items ≡ stated_section tables ∷ stated_header tables ∷ []) }
+    ensures { IfOk result (λ sections.
+        sections_view sections.items ≡ headed_section (tables_view tables.now)) }
 {
     let mut sections = section_alone(alloc, tables)?;
     let header = section_at(alloc, ".eh_frame_hdr", tables.header_start, &tables.header)?;

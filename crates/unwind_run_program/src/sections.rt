@@ -3,6 +3,7 @@
 ghost use Rattle.std.specs.Prelude.{◌≡◌, ◌<◌, None, IsSome, IfSome, IfNone, length};
 ghost use Rattle.std.specs.List.{slice_index_or};
 ghost use Rattle.unwind_run_document.specs.CommandViews.{section_view, sections_view};
+ghost use Rattle.unwind_run_program.specs.SectionViews.{HasFirstData};
 ghost use Rattle.unwind_run_program.specs.Sections.{first_data_named, stated_range_named};
 ghost use Rattle.unwind_run_document.specs.declared.command.StatedSection.{StatedSection as Stated};
 
@@ -41,9 +42,7 @@ fn place_of(sections: &[StatedSection], name: &[u8]) -> Option<usize>
     ensures within { IfSome result (λ i. i < length sections.now) }
     ensures named { IfSome result (λ i. (d : Stated)
         → (section_view (slice_index_or sections.now i d)).name ≡ name.now) }
-    ensures data_ { IfSome result (λ i. (d : Stated)
-        → first_data_named name.now (sections_view sections.now)
-        ≡ (section_view (slice_index_or sections.now i d)).bytes) }
+    ensures data_ { IfSome result (λ i. HasFirstData name.now sections.now i) }
     ensures has_data { IfSome result (λ _.
         IsSome (first_data_named name.now (sections_view sections.now))) }
     ensures none { IfNone result (first_data_named name.now (sections_view sections.now) ≡ None) }
