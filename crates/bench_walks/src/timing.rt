@@ -60,14 +60,24 @@ fn module_of(alloc: Global, work: &Work, bytes: Sections) -> Result<Module<Vec<u
     Ok(load_module(alloc, name, work.base..work.end, work.base, &mut sections)?)
 }
 
-/// An unwinder with the module.
-fn unwinder_of<A: TimedArch>(alloc: Global, work: &Work) -> Result<TimedUnwinder<A>> {
-    let mut generations = Generations::new();
-    let mut unwinder = UnwinderInternal::new(alloc, &mut generations)?;
-    let module = module_of(alloc, work, sections_of(alloc, work)?)?;
-    if unwinder.add_module(&mut generations, module).is_err() {
+/// Loads a module in an unwinder.
+fn load<U: Unwinder<Module = Module<Vec<u8>>>>(
+    unwinder: &mut U,
+    generations: &mut Generations,
+    module: Module<Vec<u8>>,
+) -> Result<()> {
+    if unwinder.add_module(generations, module).is_err() {
         bail!("the module was not loaded");
     }
+    Ok(())
+}
+
+/// An unwinder with the module.
+fn unwinder_of<A: TimedArch>(alloc: Global, work: &Work) -> Result<TimedUnwinder<A>> {
+    let module = module_of(alloc, work, sections_of(alloc, work)?)?;
+    let mut generations = Generations::new();
+    let mut unwinder = UnwinderInternal::new(alloc, &mut generations)?;
+    load(&mut unwinder, &mut generations, module)?;
     Ok(unwinder)
 }
 
@@ -77,12 +87,12 @@ fn new_cache<A: TimedArch>(alloc: Global) -> Result<TimedCache<A>> {
 }
 
 /// How many frames a walk gives.
-fn frames_of<A: TimedArch>(
-    unwinder: &TimedUnwinder<A>,
-    cache: &mut TimedCache<A>,
+fn frames_of<U: Unwinder>(
+    unwinder: &U,
+    cache: &mut U::Cache,
+    regs: U::UnwindRegs,
     walk: &Walk,
 ) -> u32 {
-    let regs = A::registers(walk.first);
     let mut read_stack = |at: u64| -> std::result::Result<u64, ()> { walk.stack.word(at) };
     let mut frames = unwinder.iter_frames(walk.pc, regs, cache, &mut read_stack);
     let mut count: u32 = 0;
@@ -96,14 +106,15 @@ fn frames_of<A: TimedArch>(
 }
 
 /// How many frames all walks give through one cache.
-fn frames_of_each<A: TimedArch>(
-    unwinder: &TimedUnwinder<A>,
-    cache: &mut TimedCache<A>,
+fn frames_of_each<A: TimedArch, U: Unwinder<UnwindRegs = A::UnwindRegs>>(
+    unwinder: &U,
+    cache: &mut U::Cache,
     walks: &[Walk],
 ) -> u32 {
     let mut count: u32 = 0;
     for walk in walks {
-        count = count.wrapping_add(frames_of(unwinder, cache, walk));
+        let regs = A::registers(walk.first);
+        count = count.wrapping_add(frames_of(unwinder, cache, regs, walk));
     }
     count
 }
@@ -112,7 +123,7 @@ fn frames_of_each<A: TimedArch>(
 pub fn frames_of_all<A: TimedArch>(alloc: Global, work: &Work) -> Result<u32> {
     let unwinder = unwinder_of::<A>(alloc, work)?;
     let mut cache = new_cache::<A>(alloc)?;
-    Ok(frames_of_each(&unwinder, &mut cache, &work.walks))
+    Ok(frames_of_each::<A, TimedUnwinder<A>>(&unwinder, &mut cache, &work.walks))
 }
 
 /// How long all walks with a new cache each take, without and with the making of the caches.
@@ -127,7 +138,7 @@ fn fresh_walks<A: TimedArch>(
     for walk in walks {
         let mut cache = new_cache::<A>(alloc)?;
         let start = Instant::now(clock)?;
-        frames_of(unwinder, &mut cache, walk);
+        frames_of(unwinder, &mut cache, A::registers(walk.first), walk);
         fresh = fresh.saturating_add(start.elapsed(clock)?);
     }
     Ok((fresh, all.elapsed(clock)?))
@@ -158,10 +169,10 @@ pub fn time<A: TimedArch>(clock: &impl Clock, alloc: Global, work: &Work) -> Res
     };
     let unwinder = unwinder_of::<A>(alloc, work)?;
     let mut cache = new_cache::<A>(alloc)?;
-    frames_of_each(&unwinder, &mut cache, &work.walks);
+    frames_of_each::<A, TimedUnwinder<A>>(&unwinder, &mut cache, &work.walks);
     for _ in 0..work.rounds {
         let start = Instant::now(clock)?;
-        frames_of_each(&unwinder, &mut cache, &work.walks);
+        frames_of_each::<A, TimedUnwinder<A>>(&unwinder, &mut cache, &work.walks);
         times.warm = times.warm.min(start.elapsed(clock)?);
         let (fresh, with_making) = fresh_walks(clock, alloc, &unwinder, &work.walks)?;
         times.fresh = times.fresh.min(fresh);

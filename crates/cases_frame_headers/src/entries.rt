@@ -7,7 +7,7 @@ use dwarf_frame_entries::{
     BaseAddresses, EhFrame, UnwindContext, UnwindContextStorage, UnwindSection, UnwindTableRow,
 };
 use dwarf_frame_rows::StoreOnHeap;
-use dwarf_readers::{EndianSlice, LittleEndian};
+use dwarf_readers::{EndianSlice, LittleEndian, Reader};
 use std::alloc::Global;
 use test_frame_rows::answer_line;
 
@@ -23,9 +23,6 @@ pub struct Entries {
 
 type Slice<'a> = EndianSlice<'a, LittleEndian>;
 
-// The rules of a row.
-type Rules = <StoreOnHeap as UnwindContextStorage<usize>>::Rules;
-
 // The offset of the FDE for an address.
 fn offset_for<'a>(
     table: &EhHdrTable<'_, Slice<'a>>,
@@ -38,13 +35,13 @@ fn offset_for<'a>(
 }
 
 // The row for an address.
-fn row_for<'ctx, 'a>(
-    table: &EhHdrTable<'_, Slice<'a>>,
-    frame: &EhFrame<Slice<'a>>,
+fn row_for<'ctx, R: Reader, S: UnwindContextStorage<R::Offset>>(
+    table: &EhHdrTable<'_, R>,
+    frame: &EhFrame<R>,
     bases: &BaseAddresses,
-    context: &'ctx mut UnwindContext<usize, StoreOnHeap>,
+    context: &'ctx mut UnwindContext<R::Offset, S>,
     address: u64,
-) -> Answer<&'ctx UnwindTableRow<usize, Rules>> {
+) -> Answer<&'ctx UnwindTableRow<R::Offset, S::Rules>> {
     let cie = UnwindSection::cie_from_offset;
     table.unwind_info_for_address(frame, bases, context, address, cie)
 }

@@ -40,6 +40,20 @@ fn in_storage<S: UnwindContextStorage<usize>, Short: UnwindContextStorage<u32>>(
     over_readers(alloc, test, bytes, &mut context, &mut short)
 }
 
+// The rows and the errors of an entry in memory that grows, and in the library's own storage.
+fn in_large_storages(alloc: Global, program: &Program<'_>, bytes: &[u8]) -> Result<String> {
+    let growing = in_storage::<Growing, Growing>(alloc, program, bytes)?;
+    let heap = in_storage::<StoreOnHeap, StoreOnHeap>(alloc, program, bytes)?;
+    Ok(format!(in alloc; "growing\n{growing}on the heap\n{heap}")?)
+}
+
+// The rows and the errors of an entry in storages that few rules and rows fill.
+fn in_small_storages(alloc: Global, program: &Program<'_>, bytes: &[u8]) -> Result<String> {
+    let small = in_storage::<Small, Small>(alloc, program, bytes)?;
+    let one = in_storage::<One, One>(alloc, program, bytes)?;
+    Ok(format!(in alloc; "small\n{small}one\n{one}")?)
+}
+
 impl Case {
     /// Reads a line: which section it is, whose extensions are read, the bytes in hexadecimal, the FDE's
     /// offset or `-`, and addresses, with a space between any two.
@@ -88,11 +102,9 @@ impl Case {
             addresses: &self.addresses,
         };
         let bytes = self.bytes.as_slice();
-        let growing = in_storage::<Growing, Growing>(alloc, &program, bytes)?;
-        let heap = in_storage::<StoreOnHeap, StoreOnHeap>(alloc, &program, bytes)?;
-        let small = in_storage::<Small, Small>(alloc, &program, bytes)?;
-        let one = in_storage::<One, One>(alloc, &program, bytes)?;
-        Ok(format!(in alloc; "growing\n{growing}on the heap\n{heap}small\n{small}one\n{one}")?)
+        let large = in_large_storages(alloc, &program, bytes)?;
+        let small = in_small_storages(alloc, &program, bytes)?;
+        Ok(format!(in alloc; "{large}{small}")?)
     }
 
     // What the section has for each address.

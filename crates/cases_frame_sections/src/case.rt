@@ -9,6 +9,8 @@ use dwarf_frame_rows::StoreOnHeap;
 use dwarf_readers::{EndianSlice, RunTimeEndian};
 use std::alloc::Global;
 
+type Slice<'a> = EndianSlice<'a, RunTimeEndian>;
+
 /// A section, and what is asked of it.
 #[derive(Drop)]
 pub struct Case {
@@ -76,19 +78,45 @@ impl Case {
     ) -> Result<String> {
         let reader = EndianSlice::new(bytes, RunTimeEndian::Little);
         let mut shown = String::new(alloc);
-        let bases = BaseAddresses::default()
-            .set_eh_frame(self.start)
-            .set_text(0x20000)
-            .set_got(0x30000);
         if self.is_eh_frame {
-            let mut section = EhFrame::from(reader);
-            section.set_vendor(self.vendor);
-            show_entries(alloc, &section, &bases, context, &mut shown)?;
+            self.show_eh_frame(alloc, reader, context, &mut shown)?;
         } else {
-            let mut section = DebugFrame::from(reader);
-            section.set_vendor(self.vendor);
-            show_entries(alloc, &section, &bases, context, &mut shown)?;
+            self.show_debug_frame(alloc, reader, context, &mut shown)?;
         }
         Ok(shown)
+    }
+
+    // The addresses that pointers are relative to.
+    fn bases(&self) -> BaseAddresses {
+        BaseAddresses::default()
+            .set_eh_frame(self.start)
+            .set_text(0x20000)
+            .set_got(0x30000)
+    }
+
+    // Adds the entries of a section `.eh_frame`.
+    fn show_eh_frame(
+        &self,
+        alloc: Global,
+        reader: Slice<'_>,
+        context: &mut UnwindContext<usize, StoreOnHeap>,
+        shown: &mut String,
+    ) -> Result<()> {
+        let mut section = EhFrame::from(reader);
+        section.set_vendor(self.vendor);
+        show_entries(alloc, &section, &self.bases(), context, shown)
+    }
+
+    // Adds the entries of a section `.debug_frame`.
+    fn show_debug_frame(
+        &self,
+        alloc: Global,
+        reader: Slice<'_>,
+        context: &mut UnwindContext<usize, StoreOnHeap>,
+        shown: &mut String,
+    ) -> Result<()> {
+        let mut section = DebugFrame::from(reader);
+        section.set_vendor(self.vendor);
+        show_entries(alloc, &section, &self.bases(), context, shown)
     }
 }
