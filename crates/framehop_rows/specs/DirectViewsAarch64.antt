@@ -1,4 +1,4 @@
--- The caller that the code makes of a row on aarch64.
+-- Words of private functions' contracts alone: the caller that the code makes of a row on aarch64.
 use Rattle.std.specs.Prelude.{Result, Ok, Err}
 use Rattle.framehop_registers.specs.RegistersAarch64.{lr_of}
 use Rattle.framehop_registers.specs.declared.aarch64.unwindregs.UnwindRegsAarch64.{UnwindRegsAarch64}

@@ -28,10 +28,16 @@ value_by_requests p registers state = value_within (suc (operations_left state))
 abbrev pub expression_program : (limit : Option ℕ) → (address_size : ℕ) → Stretch → EvaluationInput
 expression_program limit address_size bytes = record { expression = bytes; address_size = address_size; capacity = limit }
 
+-- the value of an expression of these bytes
+abbrev pub program_value : (limit : Option ℕ) → (address_size : ℕ) → Stretch → RegisterValues → Option ℕ
+program_value limit address_size bytes registers =
+    let p = expression_program limit address_size bytes in
+    value_by_requests p registers (state_reached p (Ready first_machine))
+
 -- the value of an expression, if its bytes are there and addresses have 1, 2, 4 or 8 bytes
 abbrev pub expression_value : (limit : Option ℕ) → (address_size : ℕ) → RegisterValues → Result Stretch Error → Option ℕ
 expression_value limit address_size registers (Ok bytes) =
     if is_size address_size
-    then value_by_requests (expression_program limit address_size bytes) registers (state_reached (expression_program limit address_size bytes) (Ready first_machine))
+    then program_value limit address_size bytes registers
     else None
 expression_value limit address_size registers (Err e) = None

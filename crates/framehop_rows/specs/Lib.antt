@@ -14,6 +14,7 @@ pub mod RowErrors
 pub mod RowMeanings
 pub mod RowParts
 pub mod RowSources
+pub mod RowValues
 pub mod RuleFields
 pub mod RuleLaws
 pub mod ScaledRow

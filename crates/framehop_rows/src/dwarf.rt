@@ -8,6 +8,7 @@ ghost use Rattle.framehop_rows.specs.Memory.{TakesMemory};
 ghost use Rattle.framehop_rows.specs.RowAttempt.{AnswersRow};
 ghost use Rattle.framehop_rows.specs.RowErrors.{IsOfRow};
 ghost use Rattle.framehop_rows.specs.RowMeanings.{RowMeanings};
+ghost use Rattle.framehop_rows.specs.RowValues.{by_row};
 ghost use Rattle.framehop_errors.specs.declared.dwarf.DwarfUnwinderError.TheVariants.{OutOfMemory};
 
 use dwarf_constants::{Encoding, Vendor};
@@ -49,7 +50,7 @@ pub trait DwarfUnwinding: Arch {
         requires { F.IsAlwaysCallable read_stack.old }
         ensures callable { F.IsAlwaysCallable read_stack.new }
         ensures answers { AnswersRow F.step read_stack.old read_stack.new regs.old regs.new result
-            (rows.row_attempt is_first_frame S.Stack.capacity encoding.address_size
+            (by_row rows is_first_frame S.Stack.capacity encoding
             (R.stretch (Section.reader section.now)) (row_in R.Offset.value row.now)) }
         ensures valid { HasValidRule Self.UnwindRule.is_valid result }
         ensures refusals { IfErr result IsOfRow }

@@ -1,15 +1,16 @@
 //! The values of a row's CFA and register rules, if no unwind rule says the row (DWARF 5, 6.4.1).
 
-ghost use Rattle.std.specs.Prelude.{◌≡◌, ◌≢◌, ℕ, true, None, Some, Option, IfErr, IfOk, option_and_then, option_map};
+ghost use Rattle.std.specs.Prelude.{◌≡◌, ◌≢◌, ℕ, true, None, Some, Option, IfErr, IfOk, option_and_then};
 ghost use Rattle.dwarf_constants.specs.declared.common.Register.{Register};
-ghost use Rattle.dwarf_expressions.specs.Evaluation.{Ready, state_reached, first_machine};
 ghost use Rattle.dwarf_readers.specs.InitialLength.{is_size};
 ghost use Rattle.framehop_registers.specs.Callback.{OverWords};
 ghost use Rattle.dwarf_frame_instructions.specs.InstructionViews.{expression_as};
 ghost use Rattle.dwarf_frame_instructions.specs.StateViews.{cfa_as, rule_as};
-ghost use Rattle.framehop_rows.specs.Columns.{cfa_by, column_by, found_by, found_in};
+ghost use Rattle.framehop_rows.specs.Columns.{found_by, found_in};
+ghost use Rattle.framehop_rows.specs.RowValues.{Evaluates, EvaluatesOver, cfa_in, column_in};
+ghost use Rattle.framehop_rows.specs.ExpressionValue.{program_value};
+ghost use Rattle.framehop_rows.specs.RowParts.{column_as};
 ghost use Rattle.framehop_rows.specs.RowSources.{direct_sources, sum_of, value_by_expression, word_below_cfa};
-ghost use Rattle.framehop_rows.specs.ExpressionValue.{expression_program, value_by_requests};
 ghost use Rattle.framehop_rows.specs.Memory.{IsColumnExpression, IsExpression, TakesMemory};
 
 use dwarf_constants::{Encoding, Error, Register};
@@ -22,11 +23,11 @@ use std::alloc::{AllocError, Global};
 /// The registers of a frame, by their DWARF numbers.
 pub trait DwarfUnwindRegs {
     /// The registers that have values, with these.
-    ghost register_value: { Self → Register → Option ℕ };
+    ghost value: { Self → Register → Option ℕ };
 
     /// The value of a register, if it has one.
     fn get(&self, register: Register) -> Option<u64>
-        ensures { result ≡ register_value self.now register };
+        ensures { result ≡ value self.now register };
 }
 
 // A base plus an offset in bytes. `None` if the base or the sum isn't from 0 to below 2^63.
@@ -65,10 +66,8 @@ fn eval_expression<S: EvaluationStorage, R: Reader, G: DwarfUnwindRegs>(
     regs: &G,
 ) -> Result<Option<u64>, AllocError>
     requires { is_size encoding.address_size ≡ true }
-    ensures value { let p = expression_program S.Stack.capacity encoding.address_size
-        (R.stretch expression.0) in
-        IfOk result (λ value. value
-        ≡ value_by_requests p (G.register_value regs.now) (state_reached p (Ready first_machine))) }
+    ensures value { Evaluates result (program_value S.Stack.capacity encoding.address_size
+        (R.stretch expression.0) (G.value regs.now)) }
     ensures memory { IfErr result (λ _. TakesMemory S.Stack.is_made_in_place S.Stack.capacity) }
 {
     let Ok(mut evaluation) = Evaluation::<R, S>::new_in(alloc, expression, encoding) else {
@@ -103,9 +102,9 @@ fn eval_expression_in<
     encoding: Encoding,
     regs: &G,
 ) -> Result<Option<u64>, AllocError>
-    ensures value { IfOk result (λ value. value
-        ≡ value_by_expression S.Stack.capacity encoding.address_size
-        (R.stretch (Section.reader section.now)) (G.register_value regs.now)
+    ensures value { Evaluates result
+        (value_by_expression S.Stack.capacity encoding.address_size
+        (R.stretch (Section.reader section.now)) (G.value regs.now)
         (expression_as R.Offset.value expression)) }
     ensures memory { IfErr result (λ _. TakesMemory S.Stack.is_made_in_place S.Stack.capacity) }
 {
@@ -120,7 +119,7 @@ fn eval_expression_in<
 
 // A register's value plus an offset in bytes, if it has a value.
 fn offset_value<G: DwarfUnwindRegs>(register: Register, offset: i64, regs: &G) -> Option<u64>
-    ensures { result ≡ option_and_then (λ base. sum_of base offset) (G.register_value regs.now register) }
+    ensures { result ≡ option_and_then (λ base. sum_of base offset) (G.value regs.now register) }
 {
     offset_sum(regs.get(register)?, offset)
 }
@@ -140,9 +139,8 @@ pub fn eval_cfa_rule<
     encoding: Encoding,
     regs: &G,
 ) -> Result<Option<u64>, AllocError>
-    ensures value { IfOk result (λ cfa. cfa
-        ≡ cfa_by (direct_sources S.Stack.capacity encoding.address_size
-        (R.stretch (Section.reader section.now)) (G.register_value regs.now))
+    ensures value { Evaluates result (cfa_in S.Stack.capacity encoding
+        (R.stretch (Section.reader section.now)) (G.value regs.now)
         (cfa_as R.Offset.value rule)) }
     ensures expression { IfErr result (λ _. IsExpression (cfa_as R.Offset.value rule)) }
     ensures memory { IfErr result (λ _. TakesMemory S.Stack.is_made_in_place S.Stack.capacity) }
@@ -180,9 +178,9 @@ fn find_value<
     encoding: Encoding,
     regs: &G,
 ) -> Result<Option<Found>, AllocError>
-    ensures value { IfOk result (λ found. found
-        ≡ found_by (direct_sources S.Stack.capacity encoding.address_size
-        (R.stretch (Section.reader section.now)) (G.register_value regs.now)) cfa own
+    ensures value { Evaluates result
+        (found_by (direct_sources S.Stack.capacity encoding.address_size
+        (R.stretch (Section.reader section.now)) (G.value regs.now)) cfa own
         (rule_as R.Offset.value rule)) }
     ensures expression { IfErr result (λ _.
         IsColumnExpression (Some (rule_as R.Offset.value rule))) }
@@ -245,13 +243,12 @@ pub fn eval_register_rule<
 ) -> Result<Option<u64>, AllocError>
     requires { F.IsAlwaysCallable read_stack.old }
     ensures callable { F.IsAlwaysCallable read_stack.new }
-    ensures value { OverWords F.step read_stack.old read_stack.new (λ words.
-        IfOk result (λ value. value
-        ≡ option_and_then (column_by (direct_sources S.Stack.capacity encoding.address_size
-        (R.stretch (Section.reader section.now)) (G.register_value regs.now)) words cfa own)
-        (option_map (rule_as R.Offset.value) rule))) }
+    ensures value { EvaluatesOver F.step read_stack.old read_stack.new result
+        (column_in S.Stack.capacity encoding
+        (R.stretch (Section.reader section.now)) (G.value regs.now)
+        cfa own (column_as R.Offset.value rule)) }
     ensures expression { IfErr result (λ _.
-        IsColumnExpression (option_map (rule_as R.Offset.value) rule)) }
+        IsColumnExpression (column_as R.Offset.value rule)) }
     ensures memory { IfErr result (λ _. TakesMemory S.Stack.is_made_in_place S.Stack.capacity) }
 {
     let Some(rule) = rule else {

@@ -25,9 +25,9 @@ use std::alloc::Global;
 // An architecture, by the steps that it makes by the parts of a row.
 pub(crate) trait PartsUnwinding: Arch {
     // The registers whose rules are asked for.
-    ghost frame_pointer: { Register };
+    ghost fp: { Register };
 
-    ghost return_address: { Register };
+    ghost ra: { Register };
 
     // The rule that says parts of a row exactly, if one does.
     ghost scaled_rule: { Parts ℕ → Option Self.UnwindRule };
@@ -37,11 +37,11 @@ pub(crate) trait PartsUnwinding: Arch {
 
     // The frame pointer.
     fn frame_pointer() -> Register
-        ensures { result ≡ frame_pointer };
+        ensures { result ≡ fp };
 
     // The register of the return address, as DWARF numbers it.
     fn return_address() -> Register
-        ensures { result ≡ return_address };
+        ensures { result ≡ ra };
 
     // The rule that says parts of a row exactly, if one does. Offsets that are no multiples of a rule's
     // unit are never rounded.
@@ -102,11 +102,11 @@ pub(crate) fn unwind_frame_by_row<
     ensures answers { AnswersRow F.step read_stack.old read_stack.new regs.old regs.new result
         (attempt_by_parts A.scaled_rule A.direct_answer is_first_frame S.Stack.capacity
         encoding.address_size (R.stretch (Section.reader section.now))
-        (parts_of A.frame_pointer A.return_address (row_in R.Offset.value row.now))) }
+        (parts_of A.fp A.ra (row_in R.Offset.value row.now))) }
     ensures valid { HasValidRule A.UnwindRule.is_valid result }
     ensures refusals { IfErr result IsOfRow }
     ensures expression { result ≡ Err OutOfMemory → MeetsExpressionPart A.scaled_rule
-        (parts_of A.frame_pointer A.return_address (row_in R.Offset.value row.now)) }
+        (parts_of A.fp A.ra (row_in R.Offset.value row.now)) }
     ensures memory { result ≡ Err OutOfMemory
         → TakesMemory S.Stack.is_made_in_place S.Stack.capacity }
 {

@@ -33,7 +33,7 @@ use std::alloc::Global;
 
 /// SP, X29 and X30 (DWARF for the Arm 64-bit Architecture, 4.1).
 impl DwarfUnwindRegs for UnwindRegsAarch64 {
-    ghost register_value = { register_value };
+    ghost value = { register_value };
 
     fn get(&self, register: Register) -> Option<u64> {
         match register {
@@ -251,9 +251,9 @@ fn registers_with(regs: &UnwindRegsAarch64, lr: u64, sp: u64, fp: u64) -> Unwind
 impl PartsUnwinding for ArchAarch64 {
     ghost use Rattle.framehop_rows.specs.ScaledRowAarch64.{X29, X30};
 
-    ghost frame_pointer = { X29 };
+    ghost fp = { X29 };
 
-    ghost return_address = { X30 };
+    ghost ra = { X30 };
 
     ghost scaled_rule = { scaled_rule };
 

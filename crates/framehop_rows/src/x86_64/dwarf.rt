@@ -1,16 +1,16 @@
 //! The rows of x86_64: as unwind rules, or evaluated.
 
-ghost use Rattle.std.specs.Prelude.{◌≡◌, ◌≢◌, option_map, Err, IfErr, IfSome, IfOk};
+ghost use Rattle.std.specs.Prelude.{◌≡◌, ◌≢◌, Err, IfErr, IfSome};
 ghost use Rattle.framehop_registers.specs.Callback.{OverWords};
-ghost use Rattle.framehop_rows.specs.DirectRow.{direct_return_address, direct_refusal, direct_answer, frame_sources};
-ghost use Rattle.framehop_rows.specs.DirectViews.{caller_shown};
+ghost use Rattle.framehop_rows.specs.DirectRow.{direct_refusal, direct_answer};
+ghost use Rattle.framehop_rows.specs.DirectViews.{caller_shown, return_address_in};
+ghost use Rattle.framehop_rows.specs.RowValues.{EvaluatesOver};
 ghost use Rattle.framehop_rows.specs.Memory.{HasExpressionPart, IsColumnExpression, TakesMemory};
-ghost use Rattle.dwarf_frame_instructions.specs.StateViews.{rule_as};
 ghost use Rattle.framehop_rules.specs.RuleMeaning.{rule_meaning, IsValid};
 ghost use Rattle.framehop_rows.specs.RowAnswer.{row_answer, register_value};
 ghost use Rattle.framehop_errors.specs.declared.dwarf.DwarfUnwinderError.TheVariants.{OutOfMemory};
 ghost use Rattle.framehop_rows.specs.RowErrors.{IsOfRow};
-ghost use Rattle.framehop_rows.specs.RowParts.{parts_as};
+ghost use Rattle.framehop_rows.specs.RowParts.{column_as, parts_as};
 ghost use Rattle.framehop_rows.specs.RuleLaws.{RulesAnswerAsRows};
 ghost use Rattle.framehop_rows.specs.ScaledRow.{raised_sp, restored_bp, from_sp, from_bp, scaled_rule};
 
@@ -33,7 +33,7 @@ use std::alloc::{AllocError, Global};
 
 /// RSP, RBP, and RIP by the number of the return address (System V ABI for AMD64, figure 3.36).
 impl DwarfUnwindRegs for UnwindRegsX86_64 {
-    ghost register_value = { register_value };
+    ghost value = { register_value };
 
     fn get(&self, register: Register) -> Option<u64> {
         match register {
@@ -140,13 +140,12 @@ fn eval_return_address<
 ) -> Result<Option<u64>, AllocError>
     requires { F.IsAlwaysCallable read_stack.old }
     ensures callable { F.IsAlwaysCallable read_stack.new }
-    ensures value { OverWords F.step read_stack.old read_stack.new (λ words.
-        IfOk result (λ value. value ≡ direct_return_address
-        (frame_sources S.Stack.capacity encoding.address_size
-        (R.stretch (Section.reader section.now)) regs.now)
-        regs.now words cfa (option_map (rule_as R.Offset.value) rule))) }
+    ensures value { EvaluatesOver F.step read_stack.old read_stack.new result
+        (return_address_in S.Stack.capacity encoding
+        (R.stretch (Section.reader section.now)) regs.now
+        cfa (column_as R.Offset.value rule)) }
     ensures expression { IfErr result (λ _.
-        IsColumnExpression (option_map (rule_as R.Offset.value) rule)) }
+        IsColumnExpression (column_as R.Offset.value rule)) }
     ensures memory { IfErr result (λ _. TakesMemory S.Stack.is_made_in_place S.Stack.capacity) }
 {
     let ip = regs.ip();
@@ -232,9 +231,9 @@ fn eval_parts<
 impl PartsUnwinding for ArchX86_64 {
     ghost use Rattle.framehop_rows.specs.ScaledRow.{RBP, RA};
 
-    ghost frame_pointer = { RBP };
+    ghost fp = { RBP };
 
-    ghost return_address = { RA };
+    ghost ra = { RA };
 
     ghost scaled_rule = { scaled_rule };
 

@@ -15,7 +15,7 @@ pub requests-preserved : goal.requests-preserved
 requests-preserved g c =
     let limit = g.S.Stack.ArrayLike.capacity in
     let p = expression_program limit c.args.encoding.address_size (g.R.Reader.stretch c.args.expression.0) in
-    let registers = g.G.DwarfUnwindRegs.register_value c.args.regs.now in
+    let registers = g.G.DwarfUnwindRegs.value c.args.regs.now in
     let s = c.requests.evaluation.state in
     let t = c.resume_with_register-answer.new.self.state in
     let register = c.in-Ok-RequiresRegister.register in

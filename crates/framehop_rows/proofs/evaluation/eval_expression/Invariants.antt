@@ -11,7 +11,7 @@ abbrev pub invariant-requests : goal.invariant-requests
 invariant-requests g l =
     let limit = g.S.Stack.ArrayLike.capacity in
     let p = expression_program limit l.fn.encoding.address_size (g.R.Reader.stretch l.fn.expression.0) in
-    let registers = g.G.DwarfUnwindRegs.register_value l.regs in
+    let registers = g.G.DwarfUnwindRegs.value l.regs in
     record {
       program : l.evaluation.program ≡ p;
       answers : Answers l.evaluation.state l.answer;

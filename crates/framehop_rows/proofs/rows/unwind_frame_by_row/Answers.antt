@@ -11,7 +11,7 @@ returns-in-Some-clause-answers g c =
     let section = g.R.Reader.stretch (g.Section._UnwindSectionPrivate.reader c.args.section.now) in
     let number = g.R.Offset.ReaderOffset.value in
     answers-by_rule a.scaled_rule a.direct_answer c.args.is_first_frame g.S.Stack.ArrayLike.capacity c.args.encoding.address_size section
-    a.frame_pointer a.return_address c.frame_pointer.result c.return_address.result (row_in number c.args.row.now) (parts_as number c.parts_of_row-parts.result)
+    a.fp a.ra c.frame_pointer.result c.return_address.result (row_in number c.args.row.now) (parts_as number c.parts_of_row-parts.result)
     c.frame_pointer.ensures c.return_address.ensures c.parts_of_row-parts.ensures
     _ c.args.regs.now c.in-Some.rule c.in-Some.ensures.rule
 
@@ -21,7 +21,7 @@ returns-in-Ok-clause-answers g c =
     let section = g.R.Reader.stretch (g.Section._UnwindSectionPrivate.reader c.args.section.now) in
     let number = g.R.Offset.ReaderOffset.value in
     answers-by_caller a.scaled_rule a.direct_answer c.args.is_first_frame g.S.Stack.ArrayLike.capacity c.args.encoding.address_size section
-    a.frame_pointer a.return_address c.frame_pointer.result c.return_address.result (row_in number c.args.row.now) (parts_as number c.parts_of_row-parts.result)
+    a.fp a.ra c.frame_pointer.result c.return_address.result (row_in number c.args.row.now) (parts_as number c.parts_of_row-parts.result)
     c.frame_pointer.ensures c.return_address.ensures c.parts_of_row-parts.ensures
     _ _ c.args.regs.now c.unwind_by_parts.new.regs c.in-Ok.return_address c.in_default.ensures.rule c.in-Ok.ensures.trial
 
@@ -31,7 +31,7 @@ returns-in-Err-clause-answers g c =
     let section = g.R.Reader.stretch (g.Section._UnwindSectionPrivate.reader c.args.section.now) in
     let number = g.R.Offset.ReaderOffset.value in
     answers-by_refusal a.scaled_rule a.direct_answer c.args.is_first_frame g.S.Stack.ArrayLike.capacity c.args.encoding.address_size section
-    a.frame_pointer a.return_address c.frame_pointer.result c.return_address.result (row_in number c.args.row.now) (parts_as number c.parts_of_row-parts.result)
+    a.fp a.ra c.frame_pointer.result c.return_address.result (row_in number c.args.row.now) (parts_as number c.parts_of_row-parts.result)
     c.frame_pointer.ensures c.return_address.ensures c.parts_of_row-parts.ensures
     _ _ c.args.regs.now c.unwind_by_parts.new.regs c.in-Err.error c.in_default.ensures.rule c.in-Err.ensures.keeps c.in-Err.ensures.trial
 
@@ -42,6 +42,6 @@ returns-in-Err-clause-expression g c h =
     let number = g.R.Offset.ReaderOffset.value in
     let same : c.in-Err.error ≡ OutOfMemory = cc in
     expression-met a.scaled_rule a.direct_answer c.args.is_first_frame g.S.Stack.ArrayLike.capacity c.args.encoding.address_size section
-    a.frame_pointer a.return_address c.frame_pointer.result c.return_address.result (row_in number c.args.row.now) (parts_as number c.parts_of_row-parts.result)
+    a.fp a.ra c.frame_pointer.result c.return_address.result (row_in number c.args.row.now) (parts_as number c.parts_of_row-parts.result)
     c.frame_pointer.ensures c.return_address.ensures c.parts_of_row-parts.ensures
     c.in_default.ensures.rule (c.in-Err.ensures.expression (ap (λ e. Err e) same))
