@@ -1,5 +1,6 @@
 -- The sections that are taken of a module, by the bytes of their data.
-use Rattle.std.specs.Prelude.{ℕ, List, option_map}
+use Rattle.std.specs.Prelude.{◌≡◌, ℕ, List, option_map}
+use Rattle.framehop_modules.specs.Sections.{SectionLeft, Sections, bare_name}
 use Rattle.framehop_modules.specs.declared.module_sections.ModuleSections.{ModuleSections}
 use Rattle.framehop_modules.specs.declared.module_sections.ModuleSections.TheVariants.{CompactUnwindInfoAndEhFrame, PeUnwindInfo, EhFrame, DebugFrame, NoSections}
 use Rattle.framehop_modules.specs.declared.module_sections.SectionData.{SectionData}
@@ -18,3 +19,13 @@ sections_bytes content (PeUnwindInfo pdata rdata xdata text) =
 sections_bytes content (EhFrame eh_frame eh_frame_hdr) = EhFrame (content eh_frame) (option_map content eh_frame_hdr)
 sections_bytes content (DebugFrame debug_frame) = DebugFrame (content debug_frame)
 sections_bytes content NoSections = NoSections
+
+-- Sections that were taken with data which was handed out before under this name: they are what was there then says by that data.
+abbrev pub IsTakenWith : {D : Type 0} → (D → List ℕ) → (name : List ℕ) → (left : Sections) → ModuleSections D → D
+    → (Sections → List ℕ → ModuleSections (List ℕ)) → Type 0
+IsTakenWith content name left taken given sections_with =
+    (before : Sections) → SectionLeft name before left → sections_bytes content taken ≡ sections_with before (content given)
+
+-- What is left after data was handed out under either of two names, if these are of one section.
+abbrev pub LeftUnderEither : (name other : List ℕ) → (old new : Sections) → Type 0
+LeftUnderEither name other old new = bare_name other ≡ bare_name name → SectionLeft name old new

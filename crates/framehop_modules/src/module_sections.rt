@@ -1,9 +1,9 @@
 //! What is taken of a module's sections.
 
-ghost use Rattle.std.specs.Prelude.{◌≡◌, List, ℕ, option_map, IfSome, IfNone, codes};
-ghost use Rattle.framehop_modules.specs.Sections.{Sections, SectionLeft, SegmentLeft, bare_name};
+ghost use Rattle.std.specs.Prelude.{◌≡◌, option_map, IfSome, IfNone, codes};
+ghost use Rattle.framehop_modules.specs.Sections.{SectionLeft, SegmentLeft};
 ghost use Rattle.framehop_modules.specs.Chosen.{either_data, text, chosen_sections, compact_sections, pe_sections, eh_frame_sections, whole_section, whole_segment, base_svmas, start_of};
-ghost use Rattle.framehop_modules.specs.ChosenViews.{section_bytes, sections_bytes};
+ghost use Rattle.framehop_modules.specs.ChosenViews.{IsTakenWith, LeftUnderEither, section_bytes, sections_bytes};
 
 use crate::module_section_info::ModuleSectionInfo;
 use crate::section_bytes::SectionBytes;
@@ -101,8 +101,8 @@ fn either_section<D: SectionBytes, I: ModuleSectionInfo<D>>(
 ) -> Option<D>
     ensures data_ { option_map D.content result
         ≡ either_data (I.sections info.old) name.now other.now }
-    ensures given { IfSome result (λ _. bare_name other.now ≡ bare_name name.now
-        → SectionLeft name.now (I.sections info.old) (I.sections info.new)) }
+    ensures given { IfSome result (λ _.
+        LeftUnderEither name.now other.now (I.sections info.old) (I.sections info.new)) }
     ensures none { IfNone result (I.sections info.new ≡ I.sections info.old) }
 {
     match info.section_data(name) {
@@ -144,9 +144,8 @@ impl<D: SectionBytes> ModuleSections<D> {
 
     // What goes with `__unwind_info`, which was handed out before.
     fn with_compact_unwind_info<I: ModuleSectionInfo<D>>(info: &mut I, unwind_info: D) -> Self
-        ensures { (before : Sections)
-            → SectionLeft (codes "__unwind_info") before (I.sections info.old)
-            → sections_bytes D.content result ≡ compact_sections before (D.content unwind_info) }
+        ensures { IsTakenWith D.content (codes "__unwind_info") (I.sections info.old) result unwind_info
+            compact_sections }
     {
         let eh_frame = data_of(info, b"__eh_frame");
         let stubs_svma = info.section_svma_range(b"__stubs");
@@ -163,8 +162,8 @@ impl<D: SectionBytes> ModuleSections<D> {
 
     // What goes with `.pdata`, which was handed out before.
     fn with_pdata<I: ModuleSectionInfo<D>>(info: &mut I, pdata: D) -> Self
-        ensures { (before : Sections) → SectionLeft (codes ".pdata") before (I.sections info.old)
-            → sections_bytes D.content result ≡ pe_sections before (D.content pdata) }
+        ensures { IsTakenWith D.content (codes ".pdata") (I.sections info.old) result pdata
+            pe_sections }
     {
         let rdata = whole_section(info, b".rdata");
         let xdata = whole_section(info, b".xdata");
@@ -179,8 +178,8 @@ impl<D: SectionBytes> ModuleSections<D> {
 
     // What goes with `.eh_frame` or `__eh_frame`, which was handed out before.
     fn with_eh_frame<I: ModuleSectionInfo<D>>(info: &mut I, eh_frame: D) -> Self
-        ensures { (before : Sections) → SectionLeft (codes ".eh_frame") before (I.sections info.old)
-            → sections_bytes D.content result ≡ eh_frame_sections before (D.content eh_frame) }
+        ensures { IsTakenWith D.content (codes ".eh_frame") (I.sections info.old) result eh_frame
+            eh_frame_sections }
     {
         let eh_frame_hdr = either_section(info, b".eh_frame_hdr", b"__eh_frame_hdr");
         ModuleSections::EhFrame {
