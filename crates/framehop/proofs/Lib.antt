@@ -7,7 +7,10 @@ pub mod EntryPlaces
 pub mod Halves
 pub mod LaterSteps
 pub mod MethodAnswers
+pub mod RowCfas
+pub mod RowStarts
 pub mod RowTrials
+pub mod SameSteps
 pub mod SectionsMade
 pub mod TruthfulLookups
 pub mod WalkEnds

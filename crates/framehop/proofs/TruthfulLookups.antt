@@ -2,20 +2,20 @@
 use Rattle.std.proofs.Common.{◌≡◌, ◌<◌, ◌^◌, ℕ, ◌+◌, Bool, true, false, cond, List, Option, Some, None, Result, Ok, Err, refl, sym, ap, ◌∙◌, arith}
 use Rattle.std.specs.Prelude.{is_none, nat_le, nat_lt, option_map, ◌==◌}
 use Rattle.std.specs.List.{All, Contains, filter}
-use Rattle.std.specs.Option.{ok_or}
-use Rattle.std.specs.Result.{result_ok}
 use Rattle.std.proofs.lemmas.Bool.Decides.{nat_tests}
 use Rattle.std.proofs.lemmas.List.Elements.{All-contains, All-contains_itself, All-filter}
 use Rattle.std.proofs.lemmas.List.Sums.{AllPass-from_list_all}
 use Rattle.dwarf_constants.specs.declared.error.Error.{Error}
+use Rattle.dwarf_constants.specs.declared.error.Error.TheVariants.{NoUnwindInfoForAddress}
 use Rattle.dwarf_frame_rows.specs.declared.base_addresses.BaseAddresses.{BaseAddresses}
 use Rattle.dwarf_frame_rows.specs.declared.base_addresses.SectionBaseAddresses.{SectionBaseAddresses}
-use Rattle.dwarf_constants.specs.declared.common.Vendor.TheVariants.{Default}
 use Rattle.dwarf_frame_rows.specs.FrameSection.{FrameSection}
+use Rattle.dwarf_frame_rows.specs.Row.{Row}
 use Rattle.dwarf_frame_sections.specs.Sections.{eh_frame}
 use Rattle.dwarf_readers.specs.Stretch.{whole}
 use Rattle.dwarf_frame_entries.specs.Entries.{Fde, contains}
 use Rattle.dwarf_frame_entries.specs.EntryLists.{entries_of}
+use Rattle.dwarf_frame_entries.specs.EntryPrograms.{fde_row}
 use Rattle.dwarf_frame_entries.specs.SectionFdes.{StandsAtItsOffset, whole_fdes, nearest_fde}
 use Rattle.dwarf_frame_entries.proofs.Laws.{fdes_there}
 use Rattle.dwarf_call_frames.specs.HeaderEntries.{named_offset}
@@ -23,16 +23,18 @@ use Rattle.dwarf_call_frames.proofs.Laws as header_laws
 use Rattle.dwarf_frame_entries.specs.AddressLookups.{fde_for_address}
 use Rattle.dwarf_frame_entries.specs.Entries.{fde_from_offset}
 use Rattle.framehop_rows.specs.RowMeanings.{RowMeanings}
-use Rattle.framehop_unwinder.specs.Attempt.{Attempt, SaysNothing}
+use Rattle.framehop_unwinder.specs.Attempt.{Attempt, Says, SaysNothing}
 use Rattle.framehop.specs.Attempts.{StepLimits, attempt, attempt_by_method}
-use Rattle.framehop.specs.Coverage.{Coverage, NoAddress, attempt_by, by_entry, by_fde, by_scanned}
+use Rattle.framehop.specs.Coverage.{Coverage, NoAddress, Uncovered, attempt_by, by_entry, by_fde, by_row, by_scanned, covered_by_fde}
 use Rattle.framehop.specs.EntryFor.{index_error, indexed_entry}
 use Rattle.framehop.specs.FrameSections.{eh_frame_of}
 use Rattle.framehop.specs.Lookups.{offset_by_index}
 use Rattle.framehop.specs.Methods.{Method, UsesFde, UsesScan, method_at}
-use Rattle.framehop.specs.TruthfulLookups.{AllLeadTo, AreTruthful, HeadedSection, LeadsAbove, LookupsBelowAll, eh_frame_in, headed_data, indexed_data, offset_headed, scanned_data}
+use Rattle.framehop.specs.LookupsAlike.{AllLeadTo, LeadsAbove}
+use Rattle.framehop.specs.TruthfulLookups.{AreTruthful, HeadedSection, eh_frame_in, headed_data, indexed_data, offset_headed, scanned_data}
 use Rattle.framehop.proofs.CfiIndexBuild.{fits_index, offset-fits, whole-fit}
 use Rattle.framehop.proofs.EntryIndex.{find-has}
+use Rattle.framehop.proofs.RowStarts.{no-row-below}
 use Rattle.list_laws.specs.Greatest.{is_greatest}
 use Rattle.list_laws.proofs.Laws.{by_case}
 
@@ -127,17 +129,20 @@ module _ (h : HeadedSection) (t : AreTruthful h) where
         }
 
     -- below the lowest start
-    pub below-all : nat_lt (base + relative) (2 ^ 64) ≡ true → nearest_fde (base + relative) (whole_fdes s) ≡ None → LookupsBelowAll h t.says relative
-    unfolding indexed_entry
-    below-all fits none = record {
-      by_header = λ rows.
+    module _ (fits : nat_lt (base + relative) (2 ^ 64) ≡ true) (none : nearest_fde (base + relative) (whole_fdes s) ≡ None) where
+      pub header-above : 0 < t.says.count → LeadsAbove h relative
+      header-above rows =
           let found = header_laws.named_below s bases t.says t.is_truthful rows (base + relative) none in
           let fde : Fde = found.0 in
           let inside : Contains (whole_fdes s) fde = found.1.0 in
-          record { fde = fde; above = found.1.1.0; leads = named fde inside fits rows found.1.1.1; at_offset = there fde inside };
-      by_index = rw t.indexed (ap (option_map (λ (f : Fde). f.head.offset)) none);
-      by_scan = header_laws.scanned_below s bases t.says t.is_truthful (base + relative) none;
-    }
+          record { fde = fde; above = found.1.1.0; leads = named fde inside fits rows found.1.1.1; at_offset = there fde inside }
+
+      pub index-none : offset_by_index s base relative ≡ None
+      unfolding indexed_entry
+      index-none = rw t.indexed (ap (option_map (λ (f : Fde). f.head.offset)) none)
+
+      pub scan-none : fde_for_address s (base + relative) ≡ Err NoUnwindInfoForAddress
+      scan-none = header_laws.scanned_below s bases t.says t.is_truthful (base + relative) none
 
     -- the attempts
     module _ {Rule Registers : Type 0} (m : RowMeanings Rule Registers) (limits : StepLimits) (other : BaseAddresses) (same : other.eh_frame ≡ bases.eh_frame) (first : Bool) where
@@ -182,3 +187,68 @@ module _ (h : HeadedSection) (t : AreTruthful h) where
 
       pub scan-alike : (fde : Fde) → Contains (whole_fdes s) fde → contains (base + relative) fde ≡ true → attempt m limits (scanned_data other h) relative first ≡ attempt m limits (headed_data h) relative first
       scan-alike fde inside holds = scanned fde inside holds ∙ sym (headed fde (nearest-contained fde inside holds))
+
+      -- the scan, if this is found
+      scanned-as : (coverage : Coverage) → by_scanned limits.rows m.vendor s (base + relative) (fde_for_address s (base + relative)) ≡ coverage
+          → attempt m limits (scanned_data other h) relative first ≡ attempt_by m first limits.values (cond (nat_lt (base + relative) (2 ^ 64)) coverage NoAddress)
+      scanned-as coverage found =
+          ap (λ (sec : FrameSection). by_method (UsesScan sec)) (same-section bases other h.section same)
+          ∙ ap (λ (c : Coverage). attempt_by m first limits.values (cond (nat_lt (base + relative) (2 ^ 64)) c NoAddress)) found
+
+      -- an FDE at its offset
+      read-there : (fde : Fde) → fde_from_offset s fde.head.offset ≡ Ok fde
+          → by_entry limits.rows m.vendor s (base + relative) (fde_from_offset s fde.head.offset) ≡ by_fde limits.rows m.vendor s (base + relative) fde
+      read-there fde at = ap (by_entry limits.rows m.vendor s (base + relative)) at
+
+      -- without a row nothing is covered
+      no-row : (fde : Fde) → ((row : Row ℕ) → fde_row limits.rows s m.vendor fde (base + relative) ≡ Ok row → ⊥) → by_fde limits.rows m.vendor s (base + relative) fde ≡ Uncovered
+      no-row fde none = by (fde_row limits.rows s m.vendor fde (base + relative)) refl
+        where
+          by : (r : Result (Row ℕ) Error) → fde_row limits.rows s m.vendor fde (base + relative) ≡ r → by_row fde.cie.address_size s.within.bytes r ≡ Uncovered
+          by (Ok row) is = absurd (none row is)
+          by (Err e) is = refl
+
+      -- from the lowest start on
+      pub scan-from : (fde : Fde) → nearest_fde (base + relative) (whole_fdes s) ≡ Some fde
+          → ((row : Row ℕ) → fde_row limits.rows s m.vendor fde (base + relative) ≡ Ok row → contains (base + relative) fde ≡ true)
+          → attempt m limits (scanned_data other h) relative first ≡ attempt m limits (headed_data h) relative first
+      scan-from fde nearest within =
+          by_case (contains (base + relative) fde)
+          (scan-alike fde (listed fde nearest))
+          (λ out.
+          let found : by_scanned limits.rows m.vendor s (base + relative) (fde_for_address s (base + relative)) ≡ Uncovered
+          = ap (by_scanned limits.rows m.vendor s (base + relative)) (header_laws.scanned_outside s bases t.says t.is_truthful (base + relative) fde nearest out) in
+          let left : by_entry limits.rows m.vendor s (base + relative) (fde_from_offset s fde.head.offset) ≡ Uncovered
+          = read-there fde (there fde (listed fde nearest)) ∙ no-row fde (λ row is. let yes = within row is in cc) in
+          scanned-as Uncovered found
+          ∙ sym (ap (λ (c : Coverage). attempt_by m first limits.values (cond (nat_lt (base + relative) (2 ^ 64)) c NoAddress)) left)
+          ∙ sym (headed fde nearest))
+
+      -- below it
+      module _ (fits : nat_lt (base + relative) (2 ^ 64) ≡ true) (none : nearest_fde (base + relative) (whole_fdes s) ≡ None) where
+        pub left-uncovered : 0 < t.says.count → (offset : ℕ) → offset_headed h relative ≡ Some offset → covered_by_fde limits.rows m.vendor s base relative offset ≡ Uncovered
+        left-uncovered rows offset leads =
+            let found = header-above fits none rows in
+            let same : found.fde.head.offset ≡ offset = (let e : Some found.fde.head.offset ≡ Some offset = sym found.leads ∙ leads in cc) in
+            let above = no-row-below limits.rows s m.vendor found.fde (base + relative) found.above in
+            let left : by_entry limits.rows m.vendor s (base + relative) (fde_from_offset s found.fde.head.offset) ≡ Uncovered
+            = read-there found.fde found.at_offset ∙ no-row found.fde (λ row is. cc) in
+            ap (covered_by_fde limits.rows m.vendor s base relative) (sym same)
+            ∙ ap (λ (c : Coverage). cond (nat_lt (base + relative) (2 ^ 64)) c NoAddress) left
+            ∙ ap (λ (b : Bool). cond b Uncovered NoAddress) fits
+
+        pub header-below : 0 < t.says.count → attempt m limits (headed_data h) relative first ≡ Says m.uncovered
+        header-below rows =
+            let found = header-above fits none rows in
+            ap (λ (o : Option ℕ). by_method (method_at s o)) found.leads
+            ∙ ap (attempt_by m first limits.values) (left-uncovered rows found.fde.head.offset found.leads)
+
+        pub index-below : attempt m limits (indexed_data other h) relative first ≡ SaysNothing
+        index-below =
+            ap (λ (sec : FrameSection). by_method (method_at sec (offset_by_index sec base relative))) (same-section bases other h.section same)
+            ∙ ap (λ (o : Option ℕ). by_method (method_at s o)) (index-none fits none)
+
+        pub scan-below : attempt m limits (scanned_data other h) relative first ≡ Says m.uncovered
+        scan-below =
+            scanned-as Uncovered (ap (by_scanned limits.rows m.vendor s (base + relative)) (scan-none fits none))
+            ∙ ap (λ (b : Bool). attempt_by m first limits.values (cond b Uncovered NoAddress)) fits

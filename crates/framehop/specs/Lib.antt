@@ -7,9 +7,12 @@ pub mod EntryFor
 pub mod FrameSections
 pub mod LastCie
 pub mod Lookups
+pub mod LookupsAlike
 pub mod MethodViews
 pub mod Methods
 pub mod RowAttempts
+pub mod RowCfas
+pub mod SameSteps
 pub mod StepMeanings
 pub mod TruthfulLookups
 pub mod UnwindData

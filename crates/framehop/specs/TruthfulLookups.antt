@@ -1,5 +1,5 @@
--- Modules with one section `.eh_frame`, each unwound by another lookup, and when the lookups lead to the same FDEs.
-use Rattle.std.specs.Prelude.{◌≡◌, ℕ, ◌+◌, ◌<◌, Bool, List, true, Option, Some, None, Ok, Err}
+-- Modules with one section `.eh_frame`, each unwound by another lookup, and when the header of the section is truthful.
+use Rattle.std.specs.Prelude.{◌≡◌, ℕ, ◌+◌, Bool, List, true, Option, Some, Ok}
 use Rattle.std.specs.List.{Contains}
 use Rattle.dwarf_frame_rows.specs.declared.base_addresses.BaseAddresses.{BaseAddresses}
 use Rattle.dwarf_frame_rows.specs.FrameSection.{FrameSection}
@@ -7,14 +7,11 @@ use Rattle.dwarf_frame_entries.specs.Entries.{Fde, contains}
 use Rattle.dwarf_frame_entries.specs.SectionFdes.{whole_fdes, nearest_fde}
 use Rattle.dwarf_call_frames.specs.Header.{Header}
 use Rattle.dwarf_call_frames.specs.Truthful.{IsTruthful}
-use Rattle.dwarf_constants.specs.declared.error.Error.TheVariants.{NoUnwindInfoForAddress}
-use Rattle.dwarf_frame_entries.specs.AddressLookups.{fde_for_address}
-use Rattle.dwarf_frame_entries.specs.Entries.{fde_from_offset}
 use Rattle.framehop_rows.specs.RowMeanings.{RowMeanings}
 use Rattle.framehop.specs.Attempts.{StepLimits, attempt}
 use Rattle.framehop.specs.EntryFor.{has_index}
 use Rattle.framehop.specs.FrameSections.{eh_frame_of}
-use Rattle.framehop.specs.Lookups.{Lookup, ByHeader, ByIndex, ByScan, header_of, offset_by_header, offset_by_index, parsed_header}
+use Rattle.framehop.specs.Lookups.{Lookup, ByHeader, ByIndex, ByScan, header_of, offset_by_header, parsed_header}
 use Rattle.framehop.specs.UnwindData.{UnwindData, CallFrames}
 use Rattle.framehop.specs.declared.dwarf.UnwindSectionType.TheVariants.{EhFrame}
 
@@ -71,39 +68,13 @@ nearest_in h relative = nearest_fde (h.base + relative) (whole_fdes (eh_frame_in
 abbrev pub offset_headed : HeadedSection → (relative : ℕ) → Option ℕ
 offset_headed h relative = offset_by_header h.bases (parsed_header h.bases (Some h.header)) h.base relative
 
--- Each lookup leads to this FDE: the header and the index by its offset, the scan by itself.
-pub record AllLeadTo (h : HeadedSection) (relative : ℕ) (fde : Fde) : Type 0 where
-  pub by_header : offset_headed h relative ≡ Some fde.head.offset
-  pub by_index : offset_by_index (eh_frame_in h) h.base relative ≡ Some fde.head.offset
-  pub at_offset : fde_from_offset (eh_frame_in h) fde.head.offset ≡ Ok fde
-  pub by_scan : fde_for_address (eh_frame_in h) (h.base + relative) ≡ Ok fde
-
 -- By the data of either of two modules the attempt at a relative address is the same.
 abbrev pub AttemptsAlike : {Rule Registers : Type 0} → RowMeanings Rule Registers → StepLimits → (relative : ℕ) → UnwindData → UnwindData
     → Type 0
 AttemptsAlike m limits relative one other = (first : Bool) → attempt m limits one relative first ≡ attempt m limits other relative first
 
--- By an index, with these bases in place of the header's, the attempt at a relative address is that by the header.
-abbrev pub IndexAttemptsAlike : {Rule Registers : Type 0} → RowMeanings Rule Registers → StepLimits → HeadedSection → BaseAddresses → (relative : ℕ)
-    → Type 0
-IndexAttemptsAlike m limits h bases relative = AttemptsAlike m limits relative (indexed_data bases h) (headed_data h)
-
 -- By each lookup, with these bases in place of the header's, the attempt at a relative address is that by the header.
 pub record AllAttemptAlike {Rule Registers : Type 0} (m : RowMeanings Rule Registers) (limits : StepLimits) (h : HeadedSection)
     (bases : BaseAddresses) (relative : ℕ) : Type 0 where
-  pub by_index : IndexAttemptsAlike m limits h bases relative
+  pub by_index : AttemptsAlike m limits relative (indexed_data bases h) (headed_data h)
   pub by_scan : AttemptsAlike m limits relative (scanned_data bases h) (headed_data h)
-
--- The header leads to an FDE that starts above the address.
-pub record LeadsAbove (h : HeadedSection) (relative : ℕ) : Type 0 where
-  pub fde : Fde
-  pub above : h.base + relative < fde.initial_address
-  pub leads : offset_headed h relative ≡ Some fde.head.offset
-  pub at_offset : fde_from_offset (eh_frame_in h) fde.head.offset ≡ Ok fde
-
--- The lookups of an address below all FDEs: a header with rows leads to an FDE above the address, an index to none, and after reading
--- the section it is known that no FDE contains the address.
-pub record LookupsBelowAll (h : HeadedSection) (says : Header) (relative : ℕ) : Type 0 where
-  pub by_header : 0 < says.count → LeadsAbove h relative
-  pub by_index : offset_by_index (eh_frame_in h) h.base relative ≡ None
-  pub by_scan : fde_for_address (eh_frame_in h) (h.base + relative) ≡ Err NoUnwindInfoForAddress

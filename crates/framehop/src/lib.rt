@@ -15,6 +15,7 @@ pub mod histories;
 pub mod lookup_laws;
 mod lookups;
 mod module;
+pub mod row_laws;
 mod unwind_data;
 pub mod walk_laws;
 pub mod x86_64;

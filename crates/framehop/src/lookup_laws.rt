@@ -1,18 +1,24 @@
 //! Laws of the lookups of FDEs, if the header of a section is truthful. The functions do nothing when the program
 //! runs.
 
-ghost use Rattle.std.specs.Prelude.{◌≡◌, ◌<◌, ◌+◌, ◌^◌, ℕ, Some, None};
+ghost use Rattle.std.specs.Prelude.{◌<◌, ◌+◌, ◌^◌, ℕ};
 ghost use Rattle.dwarf_frame_rows.specs.declared.base_addresses.BaseAddresses.{BaseAddresses};
 ghost use Rattle.dwarf_frame_entries.specs.Entries.{Fde};
+ghost use Rattle.framehop_unwinder.specs.Attempt.{Meanings};
 ghost use Rattle.framehop.specs.Attempts.{StepLimits};
-ghost use Rattle.framehop.specs.TruthfulLookups.{AllAttemptAlike, AllLeadTo, AreTruthful, AreTruthfulFor, HeadedSection, IndexAttemptsAlike, IsFdeFor, LookupsBelowAll, nearest_in};
+ghost use Rattle.framehop.specs.SameSteps.{StepsFollowAttempts};
+ghost use Rattle.framehop.specs.StepMeanings.{meanings_aarch64, meanings_x86_64};
+ghost use Rattle.framehop.specs.LookupsAlike.{AddressBelow, AddressFrom, AddressWithin, AllLeadTo, AllStepAlike, AttemptsBelow, AttemptsFrom, LookupsBelowAll};
+ghost use Rattle.framehop.specs.TruthfulLookups.{AllAttemptAlike, AreTruthfulFor, HeadedSection, IsFdeFor};
+ghost use Rattle.framehop.specs.UnwindData.{UnwindData};
 
 use framehop_rows::DwarfUnwinding;
+use framehop_rules::Arch;
 
 /// If an FDE contains an address of 64 bits, each lookup leads to it.
 pub fn truthful_lookups_lead_to_one_fde()
-    ensures { (h : HeadedSection) (relative : ℕ) (fde : Fde) → AreTruthful h
-        → h.base + relative < 2 ^ 64 → IsFdeFor h relative fde → AllLeadTo h relative fde }
+    ensures { (a : AddressWithin) → a.h.base + a.relative < 2 ^ 64
+        → AllLeadTo a.h a.relative a.fde }
 {}
 
 /// So if an FDE contains an address, the attempt there is the same by the section's header, by an index and by
@@ -23,17 +29,35 @@ pub fn truthful_lookups_attempt_alike<A: DwarfUnwinding>()
 {}
 
 /// From the lowest start on the attempt at an address is the same by a truthful header and by an index, also if no
-/// FDE contains it.
-pub fn truthful_headers_attempt_as_an_index<A: DwarfUnwinding>()
-    ensures { (limits : StepLimits) (h : HeadedSection) (other : BaseAddresses) (relative : ℕ) (fde : Fde)
-        → AreTruthfulFor h other → nearest_in h relative ≡ Some fde
-        → IndexAttemptsAlike A.rows limits h other relative }
+/// FDE contains it; and by reading the section at each step, unless a row of the FDE before holds at the address,
+/// past the end of the FDE's code.
+pub fn truthful_lookups_attempt_alike_from_the_lowest_start<A: DwarfUnwinding>()
+    ensures { (limits : StepLimits) (a : AddressFrom) → AttemptsFrom A.rows limits a }
 {}
 
 /// Below the lowest start a truthful header leads to an FDE that starts above the address, an index to none, and
 /// the section is known to have none for it.
 pub fn truthful_lookups_below_all()
-    ensures { (h : HeadedSection) (relative : ℕ) (t : AreTruthful h)
-        → h.base + relative < 2 ^ 64 → nearest_in h relative ≡ None
-        → LookupsBelowAll h t.says relative }
+    ensures { (a : AddressBelow) → LookupsBelowAll a }
+{}
+
+/// So below the lowest start the attempt by a truthful header and by reading the section is the rule for code that
+/// no row covers. An index says nothing, so the step is that of the rule for unknown frames.
+pub fn truthful_lookups_attempt_below_all<A: DwarfUnwinding>()
+    ensures { (limits : StepLimits) (a : AddressBelow) → AttemptsBelow A.rows limits a }
+{}
+
+/// If two modules differ in their data alone, and the attempts by these at a relative address are the same, so are
+/// the steps from there, whatever other modules there are.
+pub fn equal_attempts_make_equal_steps<A: Arch>()
+    ensures { (m : Meanings UnwindData A.UnwindRule A.UnwindRegs) → StepsFollowAttempts m }
+{}
+
+/// So if an FDE contains an address, the steps there are the same by a truthful header, by an index and by reading
+/// the section at each step, whatever other modules there are.
+pub fn truthful_lookups_step_alike()
+    ensures x86_64 { (limits : StepLimits) (a : AddressWithin)
+        → AllStepAlike (meanings_x86_64 limits) a }
+    ensures aarch64 { (limits : StepLimits) (a : AddressWithin)
+        → AllStepAlike (meanings_aarch64 limits) a }
 {}
