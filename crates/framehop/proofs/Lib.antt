@@ -11,6 +11,7 @@ pub mod RowCfas
 pub mod RowStarts
 pub mod RowTrials
 pub mod SameSteps
+pub mod Scans
 pub mod SectionsMade
 pub mod TruthfulLookups
 pub mod WalkEnds

@@ -1,5 +1,5 @@
 -- What an index of a section's FDEs is made of.
-use Rattle.std.specs.Prelude.{◌≡◌, ◌≢◌, ℕ, ◌-◌, List, [], ◌∷◌, ◌++◌, length, true, Option, None, Some, option_map, Result, Ok, Err, nat_le}
+use Rattle.std.specs.Prelude.{◌≡◌, ◌≢◌, ℕ, ◌-◌, List, [], ◌∷◌, ◌++◌, length, map, true, Option, None, Some, option_map, Result, Ok, Err, nat_le}
 use Rattle.std.specs.List.{filter}
 use Rattle.list_laws.specs.Last.{last_of}
 use Rattle.dwarf_constants.specs.declared.error.Error.{Error}
@@ -20,6 +20,10 @@ IsMadeOf (Err error) Is base section = error ≢ OutOfMemory → index_error bas
 -- what an index keeps of an FDE: its start relative to the base, and its offset in the section
 abbrev pub index_entry : (base : ℕ) → Fde → IndexedFde
 index_entry base fde = record { start = fde.initial_address - base; offset = fde.head.offset }
+
+-- these are what an index keeps of the FDEs of a section, in their order
+abbrev pub KeepsAll : List IndexedFde → (base : ℕ) → FrameSection → Type 0
+KeepsAll kept base section = kept ≡ map (index_entry base) (whole_fdes section)
 
 -- The result of adding an FDE to a list that an index keeps: what is kept of it is the last; or the error is why an index can't hold
 -- it, unless memory ran out.

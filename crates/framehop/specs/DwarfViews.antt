@@ -3,6 +3,7 @@ use Rattle.std.specs.Prelude.{ℕ, Bool, List, Option, Result, Ok, Err, ◌≡�
 use Rattle.dwarf_constants.specs.declared.error.Error.{Error}
 use Rattle.dwarf_constants.specs.declared.error.Error.TheVariants.{NoUnwindInfoForAddress}
 use Rattle.std.specs.Borrow.{Bor}
+use Rattle.dwarf_frame_rows.specs.Effects.{Limits}
 use Rattle.dwarf_frame_rows.specs.FrameSection.{FrameSection}
 use Rattle.dwarf_frame_rows.specs.Row.{Row}
 use Rattle.dwarf_frame_rows.specs.declared.base_addresses.BaseAddresses.{BaseAddresses}
@@ -12,8 +13,9 @@ use Rattle.framehop_rows.specs.RowAttempt.{AnswersRow}
 use Rattle.framehop_rows.specs.RowMeanings.{RowMeanings}
 use Rattle.framehop_errors.specs.declared.dwarf.DwarfUnwinderError.{DwarfUnwinderError}
 use Rattle.framehop_errors.specs.declared.dwarf.DwarfUnwinderError.TheVariants.{FdeFromOffsetFailed, OutOfMemory}
-use Rattle.framehop.specs.Coverage.{Coverage, EvaluatesExpression, IsErrorOf, IsKnown, row_attempt_by}
+use Rattle.framehop.specs.Coverage.{Coverage, EvaluatesExpression, IsErrorOf, IsKnown, covered_by_fde, covered_by_scan, row_attempt_by}
 use Rattle.framehop.specs.FrameSections.{section_of_type}
+use Rattle.framehop.specs.declared.dwarf.DwarfUnwinder.{DwarfUnwinder}
 use Rattle.framehop.specs.declared.dwarf.UnwindSectionType.{UnwindSectionType}
 use Rattle.framehop.specs.declared.dwarf.UnwindSectionType.TheVariants.{EhFrame, DebugFrame}
 
@@ -41,3 +43,18 @@ pub record AnswersCoverage {Rule Registers S : Type 0} (step : S → ℕ → Res
 abbrev pub scan_failure : {Rule : Type 0} → Rule → Error → Result (UnwindResult Rule) DwarfUnwinderError
 scan_failure uncovered NoUnwindInfoForAddress = Ok (ExecRule uncovered)
 scan_failure uncovered e = Err (FdeFromOffsetFailed e)
+
+module _ {Rule Registers S A C L K : Type 0} (step : S → ℕ → Result ℕ (Unit {0}) → S → Type 0) (old new : S) (before after : Registers)
+    (result : Result (UnwindResult Rule) DwarfUnwinderError) (m : RowMeanings Rule Registers) (meets : Row ℕ → Type 0) (limits : Limits)
+    (values : Option ℕ) (unwinder : DwarfUnwinder A C L K) (first : Bool) (relative : ℕ) where
+  -- A step of an unwinder by call frames, within these limits: by the FDE at an offset of its section.
+  abbrev pub AnswersFde : (offset : ℕ) → Type 0
+  AnswersFde offset =
+      AnswersCoverage step old new before after result m meets first values
+      (covered_by_fde limits m.vendor (section_lent unwinder.bases unwinder.section) unwinder.base_svma relative offset)
+
+  -- By a scan of its section.
+  abbrev pub AnswersScan : Type 0
+  AnswersScan =
+      AnswersCoverage step old new before after result m meets first values
+      (covered_by_scan limits m.vendor (section_lent unwinder.bases unwinder.section) unwinder.base_svma relative)

@@ -1,19 +1,24 @@
 -- The unwind data of a module as contracts see it.
-use Rattle.std.specs.Prelude.{◌≡◌, ℕ, List, Option, Some, None, false}
+use Rattle.std.specs.Prelude.{◌≡◌, ℕ, List, Option, Some, None, Result, IfOk, false}
+use Rattle.std.specs.Borrow.{Bor}
 use Rattle.dwarf_frame_rows.specs.declared.base_addresses.BaseAddresses.{BaseAddresses}
 use Rattle.dwarf_frame_rows.specs.FrameSection.{FrameSection}
+use Rattle.framehop.specs.CfiIndex.{IsMadeOf}
 use Rattle.framehop.specs.CfiIndexView.{IsIndexOf}
 use Rattle.framehop.specs.DwarfViews.{frame_section_bytes}
 use Rattle.framehop.specs.EntryFor.{has_index}
 use Rattle.framehop.specs.FrameSections.{section_of_type}
 use Rattle.framehop.specs.Lookups as said
 use Rattle.framehop.specs.UnwindData as data_
+use Rattle.framehop.specs.declared.cfi_index.DwarfCfiIndex.{DwarfCfiIndex}
+use Rattle.framehop.specs.declared.dwarf.UnwindSectionType.{UnwindSectionType}
 use Rattle.framehop.specs.declared.unwind_data.Entries.{Entries}
 use Rattle.framehop.specs.declared.unwind_data.Entries.TheVariants as by
 use Rattle.framehop.specs.declared.unwind_data.Lookup.{Lookup}
 use Rattle.framehop.specs.declared.unwind_data.Lookup.TheVariants as which
 use Rattle.framehop.specs.declared.unwind_data.ModuleFormat.{ModuleFormat}
 use Rattle.framehop.specs.declared.unwind_data.ModuleFormat.TheVariants as format
+use Rattle.framehop_errors.specs.declared.cfi_index.DwarfCfiIndexError.{DwarfCfiIndexError}
 
 -- the lookup that a module has, by the bytes of its header
 abbrev pub entries_view : {D : Type 0} → (D → List ℕ) → Entries D → said.Lookup
@@ -57,6 +62,26 @@ LeadsInto base section which.Scan = Unit {0}
 pub record IsUnindexed (base : ℕ) (section : FrameSection) (lookup : said.Lookup) : Type 0 where
   pub by_index : lookup ≡ said.ByIndex
   pub none : has_index base section ≡ false
+
+-- What is lent for finding FDEs of a section, with starts relative to this base, is for that section; if nothing is lent, they would be
+-- found by an index that the section doesn't have.
+abbrev pub LendsFor : {D : Type 0} → (D → List ℕ) → Entries D → (base : ℕ) → FrameSection → Option Lookup → Type 0
+LendsFor content entries base section (Some lookup) = LeadsInto base section lookup
+LendsFor content entries base section None = IsUnindexed base section (entries_view content entries)
+
+-- So it is for each section whose FDEs are found so.
+abbrev pub LendsLookup : {D : Type 0} → (D → List ℕ) → Entries D → Option Lookup → Type 0
+LendsLookup content entries lent =
+    (base : ℕ) (section : FrameSection) → AreFoundBy base section entries → LendsFor content entries base section lent
+
+-- If this is the index of a section, or why it has none, then its FDEs are found as the result says, if there is one.
+abbrev pub MakesEntries : {D E : Type 0} → Result DwarfCfiIndex DwarfCfiIndexError → Result (Entries D) E → Type 0
+MakesEntries index result =
+    (base : ℕ) (section : FrameSection) → IsMadeOf index IsIndexOf base section → IfOk result (AreFoundBy base section)
+
+-- The section and the lookup that unwind data lends: an index is that of the section.
+abbrev pub IsLentBy : data_.UnwindData → UnwindSectionType (Bor (List ℕ)) → Lookup → Type 0
+IsLentBy given section lookup = LeadsInto given.base_svma (section_of_type given.bases (frame_section_bytes (λ b. b.now) section)) lookup
 
 -- the module isn't unwound by its sections
 abbrev pub IsUnused : BaseAddresses → (base : ℕ) → data_.ModuleFormat → Type 0

@@ -4,6 +4,7 @@ use Rattle.framehop_registers.specs.Callback.{Words}
 use Rattle.framehop_registers.specs.declared.error.Error.{Error}
 use Rattle.framehop_rules.specs.Outcome.{Answers, Caller}
 use Rattle.framehop_unwinder.specs.Frames.{Frame, later_frame}
+use Rattle.framehop_unwinder.specs.WalkViews.{walk_from}
 use Rattle.framehop_unwinder.specs.Walk.{Judgment, WalkPosition, At, Starts, Over, Walk, move}
 
 -- A move gives a frame.
@@ -39,10 +40,15 @@ pub record IsRaised (low high : ℕ) : Type 0 where
   pub higher : low < high
   pub fits : high < 2 ^ 64
 
+-- Each walk has at most 2^64 + 1 frames.
+abbrev pub WalksEnd : {Registers : Type 0} → Judgment Registers → Type 0
+WalksEnd {Registers} judgment =
+    (words : Words) (pc : ℕ) (registers : Registers) → WalkEnds judgment words Anything (walk_from pc registers)
+
 -- Each step of a later frame that gives a caller raises the stack pointer.
-abbrev pub LaterStepsRaise : {Registers : Type 0} → Judgment Registers → Words → (sp : Registers → ℕ) → Type 0
-LaterStepsRaise {Registers} judgment words sp =
-    (return_address : ℕ) (registers : Registers) (caller : Caller Registers)
+abbrev pub LaterStepsRaise : {Registers : Type 0} → Judgment Registers → (sp : Registers → ℕ) → Type 0
+LaterStepsRaise {Registers} judgment sp =
+    (words : Words) (return_address : ℕ) (registers : Registers) (caller : Caller Registers)
     → judgment (later_frame return_address) registers words ≡ Answers caller → IsRaised (sp registers) (sp caller.registers)
 
 -- What is known of a frame from which a step is made is known of its caller too; and the step of a later frame raises the stack

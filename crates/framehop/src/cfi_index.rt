@@ -1,21 +1,18 @@
 //! The index of a section of call frames, by which the FDE for an address is found.
 
-ghost use Rattle.std.specs.Prelude.{◌≡◌, ◌<◌, ◌≤◌, ◌^◌, ◌+◌, ◌*◌, ℕ, suc, None, Some, option_map, map, length, codes, nat_le, if◌then◌else◌, Result, Ok, Err, IfOk, IfErr};
+ghost use Rattle.std.specs.Prelude.{◌≡◌, ◌<◌, ◌≤◌, ◌^◌, ◌+◌, ◌*◌, ℕ, suc, None, Some, length, nat_le, if◌then◌else◌, Result, Ok, Err, IfOk, IfErr};
 ghost use Rattle.std.specs.List.Sorted.{IsNonDecreasingBy, IsPartitionPoint};
-ghost use Rattle.dwarf_endianity.specs.Answers.{Gives};
-ghost use Rattle.dwarf_frame_rows.specs.FrameSection.{FrameSection};
-ghost use Rattle.dwarf_frame_entries.specs.Entries.{cie_from_offset, cie_of, fde_of};
-ghost use Rattle.dwarf_frame_entries.specs.EntryViews.{cie_view};
+ghost use Rattle.dwarf_frame_entries.specs.Entries.{fde_of};
 ghost use Rattle.framehop.specs.LastCie.{IsLastCie};
-ghost use Rattle.dwarf_frame_entries.specs.SectionFdes.{whole_fdes};
-ghost use Rattle.framehop.specs.EntryFor.{index_refusal, indexed_entry};
+ghost use Rattle.framehop.specs.EntryFor.{index_refusal};
 ghost use Rattle.framehop.specs.FrameSections.{eh_frame_of, debug_frame_of};
-ghost use Rattle.framehop.specs.CfiIndex.{index_entry, IsKept, IsMadeOf};
+ghost use Rattle.framehop.specs.CfiIndex.{index_entry, IsKept, IsMadeOf, KeepsAll};
 ghost use Rattle.framehop_errors.specs.declared.cfi_index.DwarfCfiIndexError.TheVariants.{OutOfMemory};
 
+use crate::last_cie::{LastCie, fde_by_last};
 use dwarf_frame_entries::{
-    BaseAddresses, CommonInformationEntry, DebugFrame, EhFrame, Entry, FrameDescriptionEntry,
-    PartialFrameDescriptionEntry, UnwindOffset, UnwindSection,
+    BaseAddresses, DebugFrame, EhFrame, Entry, FrameDescriptionEntry, PartialFrameDescriptionEntry,
+    UnwindSection,
 };
 use dwarf_read_core::{LittleEndian, Reader, ReaderOffset};
 use framehop_errors::DwarfCfiIndexError;
@@ -52,90 +49,6 @@ fn index_entry<R: Reader>(
     Ok(IndexedFde { start, offset })
 }
 
-// The CIE that was read last, and its offset in the section.
-#[derive(Drop)]
-struct LastCie<R: Reader> {
-    offset: u64,
-    cie: CommonInformationEntry<R>,
-}
-
-// An FDE with this CIE, which is the one that it names.
-#[inline(always)]
-fn fde_with<R: Reader, Section: UnwindSection<R>>(
-    partial: &PartialFrameDescriptionEntry<'_, Section, R>,
-    cie: &CommonInformationEntry<R>,
-) -> dwarf_read_core::Result<FrameDescriptionEntry<R>>
-    requires { cie_of R.Offset.limit Section.kind partial.now ≡ Ok (cie_view R.stretch R.Offset.value cie.now) }
-    ensures { Gives (λ fde. fde) result (fde_of R.Offset.limit Section.kind partial.now) }
-{
-    let get_cie =
-        move |_section: &Section, _bases: &BaseAddresses, _offset: Section::Offset| -> dwarf_read_core::Result<
-            CommonInformationEntry<R>,
-        >
-            ensures { result ≡ Ok cie.entry.now }
-        { Ok(cie.clone()?) };
-    partial.parse(get_cie)
-}
-
-// Reads the CIE at an offset of a section and keeps it. It isn't inlined, since few FDEs need it.
-#[inline(never)]
-fn read_cie<R: Reader, Section: UnwindSection<R>>(
-    section: &Section,
-    bases: &BaseAddresses,
-    offset: Section::Offset,
-    last: &mut Option<LastCie<R>>,
-) -> dwarf_read_core::Result<CommonInformationEntry<R>>
-    requires { IsLastCie R.stretch R.Offset.value (Section.frame section.now bases.now) last.old }
-    ensures cie { Gives (cie_view R.stretch R.Offset.value) result (cie_from_offset
-        (Section.frame section.now bases.now) (Section.Offset.number offset)) }
-    ensures last { IsLastCie R.stretch R.Offset.value (Section.frame section.now bases.now) last.new }
-{
-    let cie = section.cie_from_offset(bases, offset)?;
-    *last = Some(LastCie {
-        offset: UnwindOffset::into(offset).into_u64(),
-        cie: cie.clone()?,
-    });
-    Ok(cie)
-}
-
-// The CIE at an offset of a section, which is read only if it isn't the one that was read last.
-#[inline(always)]
-fn cie_by_last<R: Reader, Section: UnwindSection<R>>(
-    section: &Section,
-    bases: &BaseAddresses,
-    offset: Section::Offset,
-    last: &mut Option<LastCie<R>>,
-) -> dwarf_read_core::Result<CommonInformationEntry<R>>
-    requires { IsLastCie R.stretch R.Offset.value (Section.frame section.now bases.now) last.old }
-    ensures cie { Gives (cie_view R.stretch R.Offset.value) result (cie_from_offset
-        (Section.frame section.now bases.now) (Section.Offset.number offset)) }
-    ensures last { IsLastCie R.stretch R.Offset.value (Section.frame section.now bases.now) last.new }
-{
-    if let Some(last) = last
-        && last.offset == UnwindOffset::into(offset).into_u64()
-    {
-        return Ok(last.cie.clone()?);
-    }
-    read_cie(section, bases, offset, last)
-}
-
-// An FDE of a section with its CIE, which is read only if it isn't the one that was read last.
-#[inline(always)]
-fn fde_by_last<R: Reader, Section: UnwindSection<R>>(
-    section: &Section,
-    bases: &BaseAddresses,
-    partial: &PartialFrameDescriptionEntry<'_, Section, R>,
-    last: &mut Option<LastCie<R>>,
-) -> dwarf_read_core::Result<FrameDescriptionEntry<R>>
-    requires within { partial.now.within ≡ (Section.frame section.now bases.now).within }
-    requires last { IsLastCie R.stretch R.Offset.value (Section.frame section.now bases.now) last.old }
-    ensures fde { Gives (λ fde. fde) result (fde_of R.Offset.limit Section.kind partial.now) }
-    ensures last { IsLastCie R.stretch R.Offset.value (Section.frame section.now bases.now) last.new }
-{
-    let cie = cie_by_last(section, bases, partial.cie_offset(), last)?;
-    fde_with(partial, &cie)
-}
-
 // Adds what the index keeps of an FDE of a section to what it keeps of those before it. Fails if the FDE
 // doesn't parse or the index can't hold it. The FDE's CIE is read only if it isn't the one that was read last.
 #[inline(always)]
@@ -168,9 +81,7 @@ fn indexed_fdes<R: Reader, Section: UnwindSection<R>>(
     bases: &BaseAddresses,
     base_svma: u64,
 ) -> Result<Vec<IndexedFde>, DwarfCfiIndexError>
-    ensures { IsMadeOf result
-        (λ kept base section. kept.items ≡ map (index_entry base) (whole_fdes section)) base_svma
-        (Section.frame section.now bases.now) }
+    ensures { IsMadeOf result (λ kept. KeepsAll kept.items) base_svma (Section.frame section.now bases.now) }
 {
     let mut fdes = Vec::new(alloc);
     let mut last = None;
@@ -266,7 +177,7 @@ pub struct DwarfCfiIndex {
 }
 
 impl DwarfCfiIndex {
-    ghost use Rattle.framehop.specs.CfiIndexView.{IsIndexOf};
+    ghost use Rattle.framehop.specs.CfiIndexView.{IsIndexOf, IsOffsetByIndex, ReadsEnough, ReadsFew};
 
     /// The index of a section. Its starts are relative to `base_svma`; the section's pointers are relative
     /// to `bases`. Fails at the first entry that doesn't parse or that an index can't hold, and if it
@@ -320,9 +231,7 @@ impl DwarfCfiIndex {
     /// the greatest start at or below it, the first in the section. `None` if each starts above. Reads at
     /// most ceil(log2(n)) + 1 of the n starts.
     pub fn fde_offset_for_relative_address(&self, rel_lookup_address: u32) -> Option<u32>
-        ensures { (base_svma : ℕ) (section : FrameSection) → IsIndexOf self.now base_svma section
-            → result ≡ option_map (λ fde. fde.head.offset)
-            (indexed_entry base_svma rel_lookup_address section) }
+        ensures { IsOffsetByIndex self.now rel_lookup_address result }
     {
         self.look_up(rel_lookup_address).fde_offset
     }
@@ -330,16 +239,9 @@ impl DwarfCfiIndex {
     /// As `fde_offset_for_relative_address`, with the number of starts that were read: of n at most
     /// ceil(log2(n)) + 1, and at least floor(log2(n + 1)).
     pub fn look_up(&self, rel_lookup_address: u32) -> IndexLookup
-        ensures found { (base_svma : ℕ) (section : FrameSection)
-            → IsIndexOf self.now base_svma section
-            → result.fde_offset ≡ option_map (λ fde. fde.head.offset)
-            (indexed_entry base_svma rel_lookup_address section) }
-        ensures few { (base_svma : ℕ) (section : FrameSection)
-            → IsIndexOf self.now base_svma section
-            → (k : ℕ) → length (whole_fdes section) ≤ 2 ^ k → result.starts_read ≤ suc k }
-        ensures counted { (base_svma : ℕ) (section : FrameSection)
-            → IsIndexOf self.now base_svma section
-            → (k : ℕ) → 2 ^ k ≤ suc (length (whole_fdes section)) → k ≤ result.starts_read }
+        ensures found { IsOffsetByIndex self.now rel_lookup_address result.fde_offset }
+        ensures few { ReadsFew self.now result.starts_read }
+        ensures counted { ReadsEnough self.now result.starts_read }
     {
         let halved = halve(&self.fdes, rel_lookup_address);
         let fde_offset = match halved.at_or_below {

@@ -5,8 +5,8 @@ ghost use Rattle.dwarf_frame_entries.specs.AddressLookups.{fde_for_address};
 ghost use Rattle.dwarf_frame_entries.specs.Entries.{fde_from_offset};
 ghost use Rattle.framehop_rules.specs.UnwindResults.{HasValidRule};
 ghost use Rattle.framehop_rows.specs.Memory.{TakesMemory};
-ghost use Rattle.framehop.specs.Coverage.{by_entry, by_fde, by_near, by_scanned, covered_by_fde, covered_by_scan};
-ghost use Rattle.framehop.specs.DwarfViews.{AnswersCoverage, scan_failure, section_lent};
+ghost use Rattle.framehop.specs.Coverage.{by_entry, by_fde, by_near, by_scanned};
+ghost use Rattle.framehop.specs.DwarfViews.{AnswersCoverage, AnswersFde, AnswersScan, scan_failure};
 ghost use Rattle.framehop.specs.Lookups.{offset_by_header, parsed_header};
 ghost use Rattle.framehop_errors.specs.declared.dwarf.DwarfUnwinderError.TheVariants.{OutOfMemory};
 
@@ -317,10 +317,9 @@ impl<'a, A: DwarfUnwinding, UCS: UnwindContextStorage<usize>> DwarfUnwinder<'a, 
         requires rows { UCS.never_allocates }
         requires callable { F.IsAlwaysCallable read_stack.old }
         ensures callable { F.IsAlwaysCallable read_stack.new }
-        ensures answers { AnswersCoverage F.step read_stack.old read_stack.new regs.old regs.new
-            result A.rows A.MeetsExpression is_first_frame ES.Stack.capacity (covered_by_fde UCS.limits A.rows.vendor
-            (section_lent self.old.bases self.old.section) self.old.base_svma relative_address
-            fde_offset) }
+        ensures answers { AnswersFde F.step read_stack.old read_stack.new regs.old regs.new result
+            A.rows A.MeetsExpression UCS.limits ES.Stack.capacity self.old is_first_frame
+            relative_address fde_offset }
         ensures valid { HasValidRule A.UnwindRule.is_valid result }
         ensures memory { result ≡ Err OutOfMemory
             → TakesMemory ES.Stack.is_made_in_place ES.Stack.capacity }
@@ -375,10 +374,9 @@ impl<'a, A: DwarfUnwinding, UCS: UnwindContextStorage<usize>> DwarfUnwinder<'a, 
         requires rows { UCS.never_allocates }
         requires callable { F.IsAlwaysCallable read_stack.old }
         ensures callable { F.IsAlwaysCallable read_stack.new }
-        ensures answers { AnswersCoverage F.step read_stack.old read_stack.new regs.old regs.new
-            result A.rows A.MeetsExpression is_first_frame ES.Stack.capacity (covered_by_scan UCS.limits
-            A.rows.vendor (section_lent self.old.bases self.old.section) self.old.base_svma
-            relative_address) }
+        ensures answers { AnswersScan F.step read_stack.old read_stack.new regs.old regs.new result
+            A.rows A.MeetsExpression UCS.limits ES.Stack.capacity self.old is_first_frame
+            relative_address }
         ensures valid { HasValidRule A.UnwindRule.is_valid result }
         ensures memory { result ≡ Err OutOfMemory
             → TakesMemory ES.Stack.is_made_in_place ES.Stack.capacity }

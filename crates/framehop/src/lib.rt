@@ -12,6 +12,7 @@ mod cfi_index;
 mod context;
 mod dwarf;
 pub mod histories;
+mod last_cie;
 pub mod lookup_laws;
 mod lookups;
 mod module;

@@ -1,17 +1,14 @@
 //! The FDE of a section of call frames for an address.
 
-ghost use Rattle.std.specs.Prelude.{◌≡◌, false};
+ghost use Rattle.std.specs.Prelude.{◌≡◌};
 ghost use Rattle.dwarf_endianity.specs.Answers.{Gives};
 ghost use Rattle.dwarf_frame_entries.specs.AddressLookups.{fde_for_address};
-ghost use Rattle.dwarf_frame_entries.specs.Entries.{cie_from_offset, fde_from_offset};
-ghost use Rattle.dwarf_frame_entries.specs.EntryViews.{cie_view};
-ghost use Rattle.dwarf_frame_entries.specs.Memory.{MayGive};
+ghost use Rattle.dwarf_frame_entries.specs.Entries.{fde_from_offset};
 ghost use Rattle.framehop.specs.Lookups.{headed_offset, offset_in_table};
 
+use crate::last_cie::fde_by_last;
 use dwarf_call_frames::{EhHdrTable, ParsedEhFrameHdr};
-use dwarf_frame_entries::{
-    BaseAddresses, CommonInformationEntry, FrameDescriptionEntry, UnwindSection,
-};
+use dwarf_frame_entries::{BaseAddresses, Entry, FrameDescriptionEntry, UnwindSection};
 use dwarf_read_core::{EndianSlice, Error, LittleEndian, Reader, ReaderOffset};
 
 // An offset in a section, in the section's type of offsets.
@@ -65,7 +62,7 @@ pub(crate) fn headed_offset(
 }
 
 // The first FDE of a section that contains an address. Fails if none does, and at the first entry before
-// it that doesn't parse.
+// it that doesn't parse. A CIE is read only if it isn't the one that was read last.
 pub(crate) fn containing_fde<R: Reader, Section: UnwindSection<R>>(
     section: &Section,
     bases: &BaseAddresses,
@@ -73,19 +70,18 @@ pub(crate) fn containing_fde<R: Reader, Section: UnwindSection<R>>(
 ) -> dwarf_read_core::Result<FrameDescriptionEntry<R>>
     ensures { Gives (λ fde. fde) result (fde_for_address (Section.frame section.now bases.now) address) }
 {
-    // A closure has to hold a value of each type parameter that its result has.
-    let reader = *section.section();
-    let held = (reader, reader.endian(), R::Offset::from_u32(0));
-    let get_cie =
-        move |section: &Section, bases: &BaseAddresses, offset: Section::Offset| -> dwarf_read_core::Result<
-            CommonInformationEntry<R>,
-        >
-            ensures { MayGive false (cie_view R.stretch R.Offset.value) result (cie_from_offset
-                (Section.frame section.now bases.now)
-                (Section.Offset.number offset)) }
-        {
-            let _held = held;
-            section.cie_from_offset(bases, offset)
+    let mut last = None;
+    let mut entries = section.entries(bases);
+    'entries: loop {
+        let Some(entry) = entries.next()? else {
+            return Err(Error::NoUnwindInfoForAddress);
         };
-    section.fde_for_address(bases, address, get_cie)
+        let Entry::Fde(partial) = entry else {
+            continue;
+        };
+        let fde = fde_by_last(section, bases, &partial, &mut last)?;
+        if fde.contains(address) {
+            return Ok(fde);
+        }
+    }
 }

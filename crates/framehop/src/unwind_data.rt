@@ -2,15 +2,11 @@
 
 ghost use Rattle.std.specs.Prelude.{◌≡◌, ℕ, List, IfOk, IfSome, IfNone};
 ghost use Rattle.framehop_modules.specs.ChosenViews.{sections_bytes};
-ghost use Rattle.dwarf_frame_rows.specs.FrameSection.{FrameSection};
-ghost use Rattle.framehop.specs.CfiIndex.{IsMadeOf};
-ghost use Rattle.framehop.specs.CfiIndexView.{IsIndexOf};
 ghost use Rattle.framehop.specs.DwarfViews.{frame_section_bytes};
-ghost use Rattle.framehop.specs.FrameSections.{section_of_type};
 ghost use Rattle.dwarf_frame_rows.specs.declared.base_addresses.BaseAddresses.{BaseAddresses};
 ghost use Rattle.framehop.specs.Lookups.{ByIndex};
 ghost use Rattle.framehop.specs.UnwindData.{CallFrames, bases_of, format_of, scanned, scanned_data_of, unwind_data_of};
-ghost use Rattle.framehop.specs.UnwindDataViews.{AreFoundBy, IsIndexedBy, IsUnindexed, IsUnused, LeadsInto, entries_view, format_view, lookup_view};
+ghost use Rattle.framehop.specs.UnwindDataViews.{IsIndexedBy, IsLentBy, IsUnused, LendsLookup, MakesEntries, entries_view, format_view, lookup_view};
 
 use crate::cfi_index::DwarfCfiIndex;
 use crate::dwarf::UnwindSectionType;
@@ -93,9 +89,7 @@ fn base_addresses(starts: &BaseSvmas) -> BaseAddresses
 fn index_made<D>(index: Result<DwarfCfiIndex, DwarfCfiIndexError>) -> Result<Entries<D>, AllocError>
     ensures view { (content : D → List ℕ)
         → IfOk result (λ entries. entries_view content entries ≡ ByIndex) }
-    ensures indexed { (base_svma : ℕ) (section : FrameSection)
-        → IsMadeOf index IsIndexOf base_svma section
-        → IfOk result (AreFoundBy base_svma section) }
+    ensures indexed { MakesEntries index result }
 {
     match index {
         Ok(index) => Ok(Entries::Index(index)),
@@ -213,11 +207,7 @@ fn bytes_of<D: SectionBytes>(section: &UnwindSectionType<D>) -> UnwindSectionTyp
 fn lookup_by<D: SectionBytes>(entries: &Entries<D>) -> Option<Lookup<'_>>
     ensures view { IfSome result (λ lookup.
         lookup_view lookup ≡ entries_view D.content entries.now) }
-    ensures into { (base_svma : ℕ) (section : FrameSection)
-        → AreFoundBy base_svma section entries.now → IfSome result (LeadsInto base_svma section) }
-    ensures none { (base_svma : ℕ) (section : FrameSection)
-        → AreFoundBy base_svma section entries.now
-        → IfNone result (IsUnindexed base_svma section (entries_view D.content entries.now)) }
+    ensures lent { LendsLookup D.content entries.now result }
 {
     match entries {
         Entries::Header(header) => Some(Lookup::Header(header.bytes())),
@@ -246,8 +236,7 @@ impl<D: SectionBytes> ModuleUnwindData<D> {
     pub(crate) fn call_frames(&self) -> Option<(UnwindSectionType<&[u8]>, Lookup<'_>)>
         ensures format { IfSome result (λ found. self.now.format
             ≡ CallFrames (frame_section_bytes (λ b. b.now) found.0) (lookup_view found.1)) }
-        ensures into { IfSome result (λ found. LeadsInto self.now.base_svma
-            (section_of_type self.now.bases (frame_section_bytes (λ b. b.now) found.0)) found.1) }
+        ensures into { IfSome result (λ found. IsLentBy self.now found.0 found.1) }
         ensures unused { IfNone result (IsUnused self.now.bases self.now.base_svma self.now.format) }
     {
         match &self.format {

@@ -13,4 +13,4 @@ returns-in_ok-lookup-in-CallFrames-clause-into g c =
     let P : UnwindData → Type 0 = λ given. LeadsInto given.base_svma (section_of_type given.bases (frame_section_bytes (λ b. b.now) c.bytes_of.result)) lookup in
     let found = subst (λ f. IsIndexedBy g.D.SectionBytes.content here.bases here.base_svma f) c.in-CallFrames.is c.self.invariant in
     subst P c.self.view_is (subst (λ t. LeadsInto here.base_svma (section_of_type here.bases t) lookup) (sym c.bytes_of.ensures)
-    (c.in_ok-lookup-in-CallFrames.ensures.into here.base_svma _ found))
+    (c.in_ok-lookup-in-CallFrames.ensures.lent here.base_svma _ found))
