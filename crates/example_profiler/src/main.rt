@@ -8,7 +8,7 @@ mod process;
 
 use anyhow::{Result, bail};
 use framehop::x86_64::{CacheX86_64, UnwindRegsX86_64, UnwinderX86_64};
-use framehop::{Generations, Unwinder};
+use framehop::{CacheStats, Generations, Module, Unwinder};
 use process::{SAMPLES, Sample, library};
 use std::alloc::Global;
 
@@ -20,23 +20,35 @@ fn main(rt: HostRuntime) -> Result<()> {
     let unwinder = unwinder_of_process(rt.alloc())?;
     let mut cache = CacheX86_64::new(rt.alloc())?;
     print_samples(&rt, &unwinder, &mut cache.0)?;
-    println!(rt; "{} rules found in the cache", cache.stats().hits())?;
-    Ok(())
+    print_hits(&rt, cache.stats())
 }
 
 /// An unwinder that knows the modules of the process.
 fn unwinder_of_process(alloc: Global) -> Result<UnwinderX86_64<Vec<u8>>> {
     let mut generations = Generations::new();
     let mut unwinder = UnwinderX86_64::new(alloc, &mut generations)?;
-    if unwinder
-        .add_module(&mut generations, library(alloc)?)
-        .is_err()
-    {
-        bail!("the module can't be loaded");
-    }
+    load(&mut unwinder, &mut generations, library(alloc)?)?;
     Ok(unwinder)
 }
+
+/// Adds a module to an unwinder.
+fn load(
+    unwinder: &mut UnwinderX86_64<Vec<u8>>,
+    generations: &mut Generations,
+    module: Module<Vec<u8>>,
+) -> Result<()> {
+    if unwinder.add_module(generations, module).is_err() {
+        bail!("the module can't be loaded");
+    }
+    Ok(())
+}
 // example: end
+
+/// Prints how many look-ups of a cache found a rule.
+fn print_hits(rt: &HostRuntime, stats: CacheStats) -> Result<()> {
+    println!(rt; "{} rules found in the cache", stats.hits())?;
+    Ok(())
+}
 
 /// Prints the code addresses of each sample's frames.
 fn print_samples<U: Unwinder<UnwindRegs = UnwindRegsX86_64>>(

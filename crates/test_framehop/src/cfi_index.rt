@@ -68,6 +68,18 @@ fn fde_of<R: Reader>(
     })
 }
 
+/// The start and the offset of an FDE.
+fn placed<R: Reader>(
+    section: &EhFrame<R>,
+    partial: &PartialFrameDescriptionEntry<'_, EhFrame<R>, R>,
+) -> Result<Placed, Error> {
+    let fde = fde_of(section, partial)?;
+    Ok(Placed {
+        start: fde.initial_address(),
+        offset: fde.offset().into_u64(),
+    })
+}
+
 /// The FDEs of a section, in their order.
 fn fdes_of<R: Reader>(alloc: Global, section: &EhFrame<R>) -> Result<Vec<Placed>, Fail> {
     let mut fdes = Vec::new(alloc);
@@ -75,13 +87,7 @@ fn fdes_of<R: Reader>(alloc: Global, section: &EhFrame<R>) -> Result<Vec<Placed>
     let mut entries = section.entries(&bases);
     for _ in 0..u64::MAX {
         match entries.next()? {
-            Some(Entry::Fde(partial)) => {
-                let fde = fde_of(section, &partial)?;
-                fdes.push(Placed {
-                    start: fde.initial_address(),
-                    offset: fde.offset().into_u64(),
-                })?;
-            }
+            Some(Entry::Fde(partial)) => fdes.push(placed(section, &partial)?)?,
             Some(Entry::Cie(_)) => {}
             None => break,
         }

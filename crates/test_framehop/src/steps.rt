@@ -30,25 +30,42 @@ fn module_with(alloc: Global, section: &[u8]) -> Result<Module<Vec<u8>>, Fail> {
     Ok(load_module(alloc, name, 0x100000..0x102000, 0x100000, &mut sections)?)
 }
 
-/// What a step gives in a module with this section, and the registers that it leaves.
-pub fn step<P: AllocationPolicy>(
-    rt: &HostRuntime,
+/// An unwinder of one module, which has this section.
+fn unwinder_of<P: AllocationPolicy>(
+    alloc: Global,
     section: &[u8],
-    (ip, sp, bp): Registers,
-) -> Result<(Option<u64>, Registers), Fail> {
-    let alloc = rt.alloc();
+) -> Result<UnwinderX86_64<Vec<u8>, P>, Fail> {
     let mut generations = Generations::new();
-    let mut unwinder = UnwinderX86_64::<Vec<u8>, P>::new(alloc, &mut generations)?;
+    let mut unwinder = UnwinderX86_64::new(alloc, &mut generations)?;
     let module = module_with(alloc, section)?;
     if unwinder.add_module(&mut generations, module).is_err() {
         return Err(Fail::new("not loaded"));
     }
-    let mut cache = CacheX86_64::<P>::new_in(alloc)?;
+    Ok(unwinder)
+}
+
+/// What a step of any unwinder on x86_64 gives, and the registers that it leaves.
+fn step_by<U: Unwinder<UnwindRegs = UnwindRegsX86_64>>(
+    unwinder: &U,
+    cache: &mut U::Cache,
+    (ip, sp, bp): Registers,
+) -> Result<(Option<u64>, Registers), Fail> {
     let mut regs = UnwindRegsX86_64::new(ip, sp, bp);
     let address = FrameAddress::from_instruction_pointer(ip);
     let mut read = word_at;
-    let return_address = unwinder.unwind_frame(address, &mut regs, &mut cache.0, &mut read)?;
+    let return_address = unwinder.unwind_frame(address, &mut regs, cache, &mut read)?;
     Ok((return_address, (regs.ip(), regs.sp(), regs.bp())))
+}
+
+/// What a step gives in a module with this section, and the registers that it leaves.
+pub fn step<P: AllocationPolicy>(
+    rt: &HostRuntime,
+    section: &[u8],
+    frame: Registers,
+) -> Result<(Option<u64>, Registers), Fail> {
+    let unwinder = unwinder_of::<P>(rt.alloc(), section)?;
+    let mut cache = CacheX86_64::<P>::new_in(rt.alloc())?;
+    step_by(&unwinder, &mut cache.0, frame)
 }
 
 /// Two equal steps through a new cache: the second finds the rule that the first kept.
