@@ -1,0 +1,14 @@
+use Rattle.std.proofs.Common.{◌∙◌, sym, arith}
+use Rattle.std.specs.Prelude.{bit_and}
+use Rattle.std.proofs.lemmas.Bool.Decides.{Decides-eqb}
+use Rattle.std.proofs.lemmas.Nat.{and_mask}
+use Rattle.framehop_analysis.proofs.EndWords.{register_branch_is}
+use Rattle.framehop_analysis.proofs.aarch64.instruction_analysis.branches.is_register_branch.Goals as goal
+
+pub returns-then-word-eq3508160 : goal.returns-then-word-eq3508160
+returns-then-word-eq3508160 c =
+    let word = c.args.word in
+    let low = and_mask word 5 in (
+      λ test. register_branch_is word c.if-word-eq3508160.true (sym low ∙ (Decides-eqb (bit_and word 31) 0).0 test),
+      λ branch. (Decides-eqb (bit_and word 31) 0).1 (omega (arith, low, branch.fits, branch.is)),
+    )

@@ -1,0 +1,17 @@
+use Rattle.std.proofs.Common.{◌∷◌}
+use Rattle.framehop_analysis.proofs.PrologueReadingAarch64.{run_and_one, whole_run}
+use Rattle.framehop_analysis.proofs.aarch64.instruction_analysis.prologue.restored_before_prologue.Goals as goal
+
+pub loop-before-preserved : goal.loop-before-preserved
+loop-before-preserved c =
+    let (instructions, run) = c.loop-before.invariant in
+    let (instruction, fits, is, seen) = c.in-Some.ensures.instruction in (
+      instruction ∷ instructions,
+      run_and_one c.args.bytes.now c.loop-before.prefix.now c.in-Some.before.now instructions instruction c.in-Some.kind c.loop-before.restored c.before-restored.result run
+          fits is seen c.before-restored.ensures.raise c.before-restored.ensures.fp c.before-restored.ensures.lr c.before-restored.ensures.above c.before-restored.ensures.below,
+    )
+
+pub returns-clause-raise : goal.returns-clause-raise
+returns-clause-raise c =
+    let (instructions, run) = c.loop-before.invariant in
+    (c.loop-before.prefix.now, instructions, whole_run c.args.bytes.now c.loop-before.prefix.now instructions c.loop-before.restored run c.in_default.ensures.none, run.lowered)

@@ -1,0 +1,31 @@
+-- What the code keeps of an instruction of an epilogue, and of all of them.
+use Rattle.std.specs.Prelude.{ℕ, ◌≡◌, ◌*◌, ◌^◌, ◌==◌, if◌then◌else◌, ℤ, pos, ◌+ℤ◌, List, Option, Some}
+use Rattle.framehop_analysis.specs.EpilogueInstructionsAarch64.{EpilogueInstruction, Load, Add}
+use Rattle.framehop_analysis.specs.MachineAarch64.{access_offset, raise}
+use Rattle.framehop_analysis.specs.EpilogueAarch64.{raise_of_all, last_load_offset}
+use Rattle.framehop_analysis.specs.declared.aarch64.instruction_analysis.epilogue.Restored.{Restored}
+use Rattle.framehop_analysis.specs.declared.aarch64.instruction_analysis.epilogue.EpilogueInstructionType.{EpilogueInstructionType}
+use Rattle.framehop_analysis.specs.declared.aarch64.instruction_analysis.epilogue.EpilogueInstructionType.TheVariants.{LoadPair, AddToSp}
+
+-- It is kept of this instruction.
+abbrev pub IsTypeOf : EpilogueInstructionType → EpilogueInstruction → Type 0
+IsTypeOf (LoadPair pair) instruction = (bit_30 : ℕ) × (instruction ≡ Load bit_30 pair)
+IsTypeOf (AddToSp bytes) instruction = (shift : ℕ) × (number : ℕ) × (instruction ≡ Add shift number) × (bytes ≡ number * 4096 ^ shift)
+
+-- By how many bytes it raises the stack pointer.
+abbrev pub raise_of_type : EpilogueInstructionType → ℤ
+raise_of_type (LoadPair pair) = raise pair
+raise_of_type (AddToSp bytes) = pos bytes
+
+-- The offset from which a register is loaded last, once one more instruction follows.
+abbrev pub load_offset_after : ℕ → EpilogueInstructionType → ℤ → Option ℤ → Option ℤ
+load_offset_after number (LoadPair pair) raised before =
+    if pair.second == number then Some ((raised +ℤ access_offset pair) +ℤ pos 8) else
+    if pair.first == number then Some (raised +ℤ access_offset pair) else before
+load_offset_after number (AddToSp bytes) raised before = before
+
+-- What is kept of the instructions is how far they move the stack pointer, and from where they load x29 and x30.
+pub record Restores (instructions : List EpilogueInstruction) (restored : Restored) : Type 0 where
+  pub raise : restored.raise ≡ raise_of_all instructions
+  pub fp : restored.fp ≡ last_load_offset 29 instructions
+  pub lr : restored.lr ≡ last_load_offset 30 instructions

@@ -1,0 +1,10 @@
+-- What a search gives: the one value that is as wanted.
+use Rattle.std.specs.Prelude.{◌≡◌, ◌⊎◌, ◌↔◌, Option, Some}
+
+-- The result is a value exactly if the value is one of these. So there is at most one, and `None` only if there is none.
+abbrev pub IsFound : {A : Type 0} → (A → Type 0) → Option A → Type 0
+IsFound {A} IsWanted result = (value : A) → (result ≡ Some value) ↔ IsWanted value
+
+-- One of the first, or if there is none of those, one of the second.
+abbrev pub IsOfFirst : {A : Type 0} → (A → Type 0) → (A → Type 0) → A → Type 0
+IsOfFirst {A} IsFirst IsSecond value = IsFirst value ⊎ (((other : A) → ¬ IsFirst other) × IsSecond value)

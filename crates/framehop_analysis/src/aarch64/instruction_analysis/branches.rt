@@ -1,0 +1,68 @@
+//! Branches, and the authenticated tail calls that they end.
+ghost use Rattle.std.specs.Prelude.{◌≡◌, ◌<◌, ◌^◌, ℕ, ◌↔◌, IsTrue, IfSome, IfNone};
+ghost use Rattle.framehop_analysis.specs.FunctionEndsAarch64.{IsBranch, IsRegisterBranch, IsMoveToX16, IsAuthBranch, BeginsWithTail, BeginsWithAuthTailCall};
+
+use crate::aarch64::instruction_analysis::fields::first_word;
+
+// `autibsp`, `eor x16, x30, x30, lsl #1`, `tbz x16, #62`, `brk #0xc471`
+const CHECK: [u8; 16] = [
+    0xff, 0x23, 0x03, 0xd5, 0xd0, 0x07, 0x1e, 0xca, 0x50, 0x00, 0xf0, 0xb6, 0x20, 0x8e, 0x38, 0xd4,
+];
+
+/// Whether this is a `b`.
+pub fn is_branch(word: u32) -> bool
+    ensures { IsTrue result ↔ IsBranch word }
+{
+    word >> 26 == 5
+}
+
+/// Whether this is a `br`.
+pub fn is_register_branch(word: u32) -> bool
+    ensures { IsTrue result ↔ IsRegisterBranch word }
+{
+    word >> 10 == 0x35_87c0 && word & 0x1f == 0
+}
+
+// Whether this is a `movz` of a number to x16.
+fn is_move_to_x16(word: u32) -> bool
+    ensures { IsTrue result ↔ IsMoveToX16 word }
+{
+    if word >> 29 != 6 {
+        return false;
+    }
+    (word >> 23) & 7 == 5 && word & 0x1f == 16
+}
+
+// Whether this is a `braa` with the modifier x16.
+fn is_auth_branch(word: u32) -> bool
+    ensures { IsTrue result ↔ IsAuthBranch word }
+{
+    word >> 10 == 0x35_c7c2 && word & 0x1f == 16
+}
+
+// The number of words of the end of an authenticated tail call that some bytes begin with.
+fn tail_words(bytes: &[u8]) -> Option<usize>
+    ensures words { IfSome result (λ words. BeginsWithTail bytes.now words) }
+    ensures none { IfNone result ((words : ℕ) → ¬ BeginsWithTail bytes.now words) }
+{
+    let (word, suffix) = first_word(bytes)?;
+    if is_branch(word) {
+        return Some(1);
+    }
+    if !is_move_to_x16(word) {
+        return None;
+    }
+    let (next, _) = first_word(suffix)?;
+    if is_auth_branch(next) { Some(2) } else { None }
+}
+
+/// The number of words of the authenticated tail call that some bytes begin with.
+pub fn auth_tail_call_words(bytes: &[u8]) -> Option<usize>
+    ensures words { IfSome result (λ words. BeginsWithAuthTailCall bytes.now words) }
+    ensures none { IfNone result ((words : ℕ) → ¬ BeginsWithAuthTailCall bytes.now words) }
+    ensures few { IfSome result (λ words. words < 7) }
+{
+    let suffix = bytes.strip_prefix(&CHECK)?;
+    let words = tail_words(suffix)?;
+    Some(4 + words)
+}

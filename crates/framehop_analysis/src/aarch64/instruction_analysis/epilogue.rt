@@ -1,0 +1,216 @@
+//! Epilogues of aarch64: pairs are loaded and the stack pointer is raised, and then the function is left.
+ghost use Rattle.std.specs.Prelude.{◌≡◌, ◌≢◌, ◌+◌, ◌*◌, ◌<◌, ◌≤◌, ◌^◌, ◌==◌, if◌then◌else◌, ◌+ℤ◌, ◌≤ℤ◌, pos, negsuc, List, length, drop, IfSome, IfNone, Option, Some, IsTrue, ◌↔◌};
+ghost use Rattle.framehop_analysis.specs.EpilogueInstructionsAarch64.{EpilogueInstruction, EpilogueFits, epilogue_word};
+ghost use Rattle.framehop_analysis.specs.FunctionEndsAarch64.{IsEndWord, IsLeft};
+ghost use Rattle.framehop_analysis.specs.Found.{IsFound};
+ghost use Rattle.framehop_analysis.specs.LookBackAarch64.{IsEpilogueRule};
+ghost use Rattle.framehop_analysis.specs.MachineAarch64.{raise, access_offset};
+ghost use Rattle.framehop_analysis.specs.EpilogueAarch64.{IsEnd, IsRuleFor, FieldsFit};
+ghost use Rattle.framehop_analysis.specs.EpilogueViewsAarch64.{IsTypeOf, Restores, raise_of_type, load_offset_after};
+ghost use Rattle.framehop_rules.specs.declared.aarch64.unwind_rule.UnwindRuleAarch64.{UnwindRuleAarch64};
+
+use crate::aarch64::instruction_analysis::branches::{auth_tail_call_words, is_branch};
+use crate::aarch64::instruction_analysis::fields::{
+    added_to_sp, first_word, units_of_8, units_of_16,
+};
+use crate::aarch64::instruction_analysis::look_back::is_in_end;
+use crate::aarch64::instruction_analysis::pair::{AddressingMode, Pair, load_pair};
+use framehop_rules::aarch64::UnwindRuleAarch64;
+
+// `ret`
+const RETURN: u32 = 0xd65f_03c0;
+
+// `retab`
+const AUTH_RETURN: u32 = 0xd65f_0fff;
+
+/// What an instruction before the end of a function does. `AddToSp` has a number of bytes.
+#[derive(Clone, Copy)]
+pub enum EpilogueInstructionType {
+    LoadPair(Pair),
+    AddToSp(u32),
+}
+
+/// What a return restores: by how many bytes the stack pointer goes up, and at which offsets in bytes from it
+/// the frame pointer and the link register are stored.
+#[derive(Clone, Copy)]
+pub struct Restored {
+    pub raise: i128,
+    pub fp: Option<i128>,
+    pub lr: Option<i128>,
+}
+
+/// What the instruction of a word does, if it can stand before the end of a function.
+pub fn epilogue_instruction_type(word: u32) -> Option<EpilogueInstructionType>
+    ensures kind { IfSome result (λ kind. (instruction : EpilogueInstruction) × EpilogueFits instruction
+        × (word ≡ epilogue_word instruction) × IsTypeOf kind instruction) }
+    ensures none { IfNone result ((instruction : EpilogueInstruction) → EpilogueFits instruction → word ≢ epilogue_word instruction) }
+{
+    if let Some(pair) = load_pair(word) {
+        return Some(EpilogueInstructionType::LoadPair(pair));
+    }
+    match added_to_sp(word) {
+        Some(bytes) => Some(EpilogueInstructionType::AddToSp(bytes)),
+        None => None,
+    }
+}
+
+// The offset from which a register is loaded last, once a pair is loaded at an offset.
+fn loaded_from(number: u8, pair: Pair, at: i128, before: Option<i128>) -> Option<i128>
+    requires low { negsuc (2 ^ 120) ≤ℤ at }
+    requires high { at ≤ℤ pos (2 ^ 120) }
+    ensures { result ≡ (if pair.second == number then Some (at +ℤ pos 8) else
+        if pair.first == number then Some at else before) }
+{
+    if pair.second == number {
+        Some(at + 8)
+    } else if pair.first == number {
+        Some(at)
+    } else {
+        before
+    }
+}
+
+/// The offset in bytes at which a pair is loaded or stored, and by how many bytes that raises the stack pointer.
+pub fn offset_and_raise(pair: Pair) -> (i128, i128)
+    ensures access_offset { result.0 ≡ access_offset pair }
+    ensures raise { result.1 ≡ raise pair }
+    ensures low { negsuc 4096 ≤ℤ result.1 }
+    ensures high { result.1 ≤ℤ pos 4096 }
+    ensures offset_low { negsuc 4096 ≤ℤ result.0 }
+    ensures offset_high { result.0 ≤ℤ pos 4096 }
+{
+    let bytes = i128::from(pair.offset_by_8) * 8;
+    match pair.mode {
+        AddressingMode::PostIndex => (0, bytes),
+        AddressingMode::SignedOffset => (bytes, 0),
+        AddressingMode::PreIndex => (bytes, bytes),
+    }
+}
+
+impl Restored {
+    // What is restored once one more instruction follows.
+    fn after(self, kind: EpilogueInstructionType) -> Restored
+        requires low { negsuc (2 ^ 100) ≤ℤ self.raise }
+        requires high { self.raise ≤ℤ pos (2 ^ 100) }
+        ensures raise { result.raise ≡ self.raise +ℤ raise_of_type kind }
+        ensures above { (self.raise +ℤ negsuc (2 ^ 33)) ≤ℤ result.raise }
+        ensures below { result.raise ≤ℤ (self.raise +ℤ pos (2 ^ 33)) }
+        ensures fp { result.fp ≡ load_offset_after 29 kind self.raise self.fp }
+        ensures lr { result.lr ≡ load_offset_after 30 kind self.raise self.lr }
+    {
+        match kind {
+            EpilogueInstructionType::LoadPair(pair) => {
+                let (access_offset, raise) = offset_and_raise(pair);
+                let at = self.raise + access_offset;
+                Restored {
+                    raise: self.raise + raise,
+                    fp: loaded_from(29, pair, at, self.fp),
+                    lr: loaded_from(30, pair, at, self.lr),
+                }
+            }
+            EpilogueInstructionType::AddToSp(bytes) => Restored {
+                raise: self.raise + i128::from(bytes),
+                fp: self.fp,
+                lr: self.lr,
+            },
+        }
+    }
+}
+
+// Whether this word alone leaves the function, once so much is restored.
+fn is_end_word(word: u32, restored: Restored) -> bool
+    ensures { IsTrue result ↔ IsEndWord word restored.raise }
+{
+    if restored.raise != 0 && is_branch(word) {
+        return true;
+    }
+    word == RETURN || word == AUTH_RETURN
+}
+
+// Whether these bytes leave the function, once so much is restored.
+fn is_left(bytes: &[u8], restored: Restored) -> bool
+    ensures { IsTrue result ↔ IsLeft bytes.now restored.raise }
+{
+    if auth_tail_call_words(bytes).is_some() {
+        return true;
+    }
+    match first_word(bytes) {
+        Some((word, _)) => is_end_word(word, restored),
+        None => false,
+    }
+}
+
+/// What is restored by the instructions that some bytes begin with, up to where the function is left.
+pub fn restored_by_epilogue(bytes: &[u8]) -> Option<Restored>
+    ensures restored { IfSome result (λ restored. (instructions : List EpilogueInstruction)
+        × IsEnd bytes.now instructions × Restores instructions restored) }
+    ensures none { IfNone result ((instructions : List EpilogueInstruction) → IsEnd bytes.now instructions → ⊥) }
+{
+    let mut restored = Restored {
+        raise: 0,
+        fp: None,
+        lr: None,
+    };
+    let mut rest = bytes;
+    while !is_left(rest, restored) {
+        let (word, suffix) = first_word(rest)?;
+        let kind = epilogue_instruction_type(word)?;
+        restored = restored.after(kind);
+        rest = suffix;
+    }
+    Some(restored)
+}
+
+/// The rule for what is restored. There is none if the frame pointer is restored without the link register, or
+/// if an offset isn't exact in the rule's units or doesn't fit its field.
+pub fn rule_of(restored: Restored) -> Option<UnwindRuleAarch64>
+    ensures rule { IfSome result (λ rule. FieldsFit rule × IsRuleFor restored.raise restored.fp restored.lr rule) }
+    ensures none { IfNone result ((rule : UnwindRuleAarch64) → FieldsFit rule
+        → IsRuleFor restored.raise restored.fp restored.lr rule → ⊥) }
+{
+    let sp_offset_by_16 = units_of_16(restored.raise)?;
+    match (restored.fp, restored.lr) {
+        (None, None) => {
+            if sp_offset_by_16 == 0 {
+                Some(UnwindRuleAarch64::NoOp)
+            } else {
+                Some(UnwindRuleAarch64::OffsetSp { sp_offset_by_16 })
+            }
+        }
+        (None, Some(lr)) => {
+            let lr_storage_offset_from_sp_by_8 = units_of_8(lr)?;
+            Some(UnwindRuleAarch64::OffsetSpAndRestoreLr {
+                sp_offset_by_16,
+                lr_storage_offset_from_sp_by_8,
+            })
+        }
+        (Some(_), None) => None,
+        (Some(fp), Some(lr)) => {
+            let fp_storage_offset_from_sp_by_8 = units_of_8(fp)?;
+            let lr_storage_offset_from_sp_by_8 = units_of_8(lr)?;
+            Some(UnwindRuleAarch64::OffsetSpAndRestoreFpAndLr {
+                sp_offset_by_16,
+                fp_storage_offset_from_sp_by_8,
+                lr_storage_offset_from_sp_by_8,
+            })
+        }
+    }
+}
+
+/// The rule for a first frame whose next instruction, at `pc_offset` of `bytes`, is in the end of its function:
+/// loads of pairs and additions to the stack pointer follow, and then the function is left; or the instructions
+/// before it show that it is one of those that leave the function.
+pub fn unwind_rule_from_detected_epilogue(
+    bytes: &[u8],
+    pc_offset: usize,
+) -> Option<UnwindRuleAarch64>
+    requires { pc_offset ≤ length bytes.now }
+    ensures { IsFound (IsEpilogueRule bytes.now pc_offset) result }
+{
+    if is_in_end(bytes, pc_offset) {
+        return Some(UnwindRuleAarch64::NoOp);
+    }
+    let (_, from) = bytes.split_at(pc_offset);
+    let restored = restored_by_epilogue(from)?;
+    rule_of(restored)
+}

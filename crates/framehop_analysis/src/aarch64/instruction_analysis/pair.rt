@@ -1,0 +1,107 @@
+//! Loads and stores of two registers relative to the stack pointer.
+ghost use Rattle.std.specs.Prelude.{◌≡◌, ◌≢◌, ◌<◌, ◌^◌, ◌≤ℤ◌, negsuc, pos, IfSome, IfNone, IsTrue, ◌↔◌};
+ghost use Rattle.framehop_analysis.specs.PairsAarch64.{IsPairWord, imm7, mode_bits};
+ghost use Rattle.framehop_analysis.specs.declared.aarch64.instruction_analysis.pair.Pair.{Pair};
+ghost use Rattle.framehop_analysis.specs.declared.aarch64.instruction_analysis.pair.AddressingMode.{AddressingMode};
+ghost use Rattle.framehop_analysis.specs.declared.aarch64.instruction_analysis.pair.AddressingMode.TheVariants.{PostIndex, SignedOffset};
+
+/// When the offset of a pair is added to the stack pointer (Arm Architecture Reference Manual, C1.3.3).
+#[derive(Clone, Copy, Debug, PartialEq, Eq)]
+pub enum AddressingMode {
+    /// afterwards: the access is at the stack pointer
+    PostIndex,
+    /// for the access alone: the stack pointer stays
+    SignedOffset,
+    /// before the access
+    PreIndex,
+}
+
+/// Two registers by their numbers, from 0 to 31, that are loaded or stored at an offset in words of 8 bytes.
+#[derive(Clone, Copy, Debug, PartialEq, Eq)]
+pub struct Pair {
+    pub mode: AddressingMode,
+    pub offset_by_8: i8,
+    pub first: u8,
+    pub second: u8,
+}
+
+/// Whether the offset is added afterwards.
+pub fn is_post_index(mode: AddressingMode) -> bool
+    ensures { IsTrue result ↔ (mode ≡ PostIndex) }
+{
+    match mode {
+        AddressingMode::PostIndex => true,
+        AddressingMode::SignedOffset | AddressingMode::PreIndex => false,
+    }
+}
+
+/// Whether the offset is for the access alone.
+pub fn is_signed_offset(mode: AddressingMode) -> bool
+    ensures { IsTrue result ↔ (mode ≡ SignedOffset) }
+{
+    match mode {
+        AddressingMode::SignedOffset => true,
+        AddressingMode::PostIndex | AddressingMode::PreIndex => false,
+    }
+}
+
+// A number of seven bits in two's complement.
+fn signed(bits: u8) -> i8
+    requires { bits < 128 }
+    ensures bits { imm7 result ≡ bits }
+    ensures low { negsuc 63 ≤ℤ result }
+    ensures high { result ≤ℤ pos 63 }
+{
+    let bits = bits as i8;
+    if bits < 64 { bits } else { (bits - 64) - 64 }
+}
+
+// The mode with these bits.
+fn mode_with(bits: u32) -> Option<AddressingMode>
+    ensures mode { IfSome result (λ mode. mode_bits mode ≡ bits) }
+    ensures none { IfNone result ((mode : AddressingMode) → mode_bits mode ≢ bits) }
+{
+    match bits {
+        1 => Some(AddressingMode::PostIndex),
+        2 => Some(AddressingMode::SignedOffset),
+        3 => Some(AddressingMode::PreIndex),
+        _ => None,
+    }
+}
+
+// The pair that a word loads, or stores for 0, relative to the stack pointer.
+fn pair_at_sp(word: u32, load: u32) -> Option<Pair>
+    requires { load < 2 }
+    ensures pair { IfSome result (λ pair. IsPairWord load word pair) }
+    ensures none { IfNone result ((pair : Pair) → ¬ IsPairWord load word pair) }
+{
+    if (word >> 22) & 1 != load {
+        return None;
+    }
+    if (word >> 22) & 0x2f8 != 0x2a0 || (word >> 5) & 0x1f != 31 {
+        return None;
+    }
+    let mode = mode_with((word >> 23) & 3)?;
+    Some(Pair {
+        mode,
+        offset_by_8: signed(((word >> 15) & 0x7f) as u8),
+        first: (word & 0x1f) as u8,
+        second: ((word >> 10) & 0x1f) as u8,
+    })
+}
+
+/// The pair that a word loads relative to the stack pointer.
+pub fn load_pair(word: u32) -> Option<Pair>
+    ensures pair { IfSome result (λ pair. IsPairWord 1 word pair) }
+    ensures none { IfNone result ((pair : Pair) → ¬ IsPairWord 1 word pair) }
+{
+    pair_at_sp(word, 1)
+}
+
+/// The pair that a word stores relative to the stack pointer.
+pub fn store_pair(word: u32) -> Option<Pair>
+    ensures pair { IfSome result (λ pair. IsPairWord 0 word pair) }
+    ensures none { IfNone result ((pair : Pair) → ¬ IsPairWord 0 word pair) }
+{
+    pair_at_sp(word, 0)
+}

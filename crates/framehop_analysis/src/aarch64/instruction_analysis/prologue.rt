@@ -1,0 +1,152 @@
+//! Prologues of aarch64: pairs are stored and the stack pointer is lowered, up to the address.
+ghost use Rattle.std.specs.Prelude.{◌≡◌, ◌≢◌, ◌*◌, ◌<◌, ◌^◌, ◌++◌, ℕ, ℤ, pos, negsuc, ◌+ℤ◌, ◌≤ℤ◌, List, length, IfSome, IfNone, IsTrue, ◌↔◌, None};
+ghost use Rattle.std.specs.Int.{to_le_bytes, w32};
+ghost use Rattle.framehop_analysis.specs.PrologueInstructionsAarch64.{PrologueInstruction, PrologueFits, prologue_word, lowering_of_all};
+ghost use Rattle.framehop_analysis.specs.Found.{IsFound};
+ghost use Rattle.framehop_analysis.specs.PrologueAarch64.{IsExpectedWord, IsExpected, IsLongestRun, IsPrologueRule};
+ghost use Rattle.framehop_analysis.specs.PrologueViewsAarch64.{IsTypeOf, lowering_of_type};
+ghost use Rattle.framehop_rules.specs.declared.aarch64.unwind_rule.UnwindRuleAarch64.{UnwindRuleAarch64};
+
+use crate::aarch64::instruction_analysis::epilogue::{Restored, offset_and_raise, rule_of};
+use crate::aarch64::instruction_analysis::fields::{
+    first_word, last_word, sets_frame_pointer, subtracted_from_sp,
+};
+use crate::aarch64::instruction_analysis::pair::{Pair, is_signed_offset, store_pair};
+use framehop_rules::aarch64::UnwindRuleAarch64;
+
+// `pacibsp`
+const SIGN_RETURN_ADDRESS: u32 = 0xd503_237f;
+
+/// What an instruction that a function begins with does. `SubtractFromSp` has a number of bytes.
+#[derive(Clone, Copy)]
+pub enum PrologueInstructionType {
+    SignReturnAddress,
+    StorePair(Pair),
+    SubtractFromSp(u32),
+}
+
+// What the instruction of a word does, if it can stand in a prologue.
+fn prologue_instruction_type(word: u32) -> Option<PrologueInstructionType>
+    ensures instruction { IfSome result (λ kind. (instruction : PrologueInstruction) × PrologueFits instruction × (word ≡ prologue_word instruction) × IsTypeOf kind instruction) }
+    ensures none { IfNone result ((instruction : PrologueInstruction) → PrologueFits instruction → word ≢ prologue_word instruction) }
+{
+    if word == SIGN_RETURN_ADDRESS {
+        return Some(PrologueInstructionType::SignReturnAddress);
+    }
+    if let Some(pair) = store_pair(word) {
+        return Some(PrologueInstructionType::StorePair(pair));
+    }
+    match subtracted_from_sp(word) {
+        Some(bytes) => Some(PrologueInstructionType::SubtractFromSp(bytes)),
+        None => None,
+    }
+}
+
+// By how many bytes an instruction of a prologue lowers the stack pointer.
+fn lowering(kind: PrologueInstructionType) -> i128
+    ensures is { result ≡ lowering_of_type kind }
+    ensures low { negsuc 4096 ≤ℤ result }
+    ensures high { result ≤ℤ pos (2 ^ 32) }
+{
+    match kind {
+        PrologueInstructionType::SignReturnAddress => 0,
+        PrologueInstructionType::StorePair(pair) => {
+            let (_, raise) = offset_and_raise(pair);
+            0 - raise
+        }
+        PrologueInstructionType::SubtractFromSp(bytes) => i128::from(bytes),
+    }
+}
+
+impl Restored {
+    // What a return restores from before one more instruction.
+    fn before(self, kind: PrologueInstructionType) -> Restored
+        requires low { negsuc (2 ^ 100) ≤ℤ self.raise }
+        requires high { self.raise ≤ℤ pos (2 ^ 100) }
+        ensures raise { result.raise ≡ self.raise +ℤ lowering_of_type kind }
+        ensures above { (self.raise +ℤ negsuc (2 ^ 33)) ≤ℤ result.raise }
+        ensures below { result.raise ≤ℤ (self.raise +ℤ pos (2 ^ 33)) }
+        ensures fp { result.fp ≡ self.fp }
+        ensures lr { result.lr ≡ self.lr }
+    {
+        Restored {
+            raise: self.raise + lowering(kind),
+            fp: self.fp,
+            lr: self.lr,
+        }
+    }
+}
+
+// What the last instruction does, if it can stand in a prologue, and the bytes before it.
+fn before_last_instruction(bytes: &[u8]) -> Option<(&[u8], PrologueInstructionType)>
+    ensures instruction { IfSome result (λ found. (instruction : PrologueInstruction) × PrologueFits instruction
+        × (bytes.now ≡ found.0.now ++ to_le_bytes w32 (prologue_word instruction)) × IsTypeOf found.1 instruction) }
+    ensures none { IfNone result ((prefix : List ℕ) (instruction : PrologueInstruction) → PrologueFits instruction
+        → bytes.now ≢ prefix ++ to_le_bytes w32 (prologue_word instruction)) }
+{
+    let (prefix, word) = last_word(bytes)?;
+    let kind = prologue_instruction_type(word)?;
+    Some((prefix, kind))
+}
+
+// What a return restores from before the instructions of a prologue that some bytes end with.
+fn restored_before_prologue(bytes: &[u8]) -> Restored
+    ensures raise { (prefix : List ℕ) × (instructions : List PrologueInstruction) × IsLongestRun bytes.now prefix instructions
+        × (result.raise ≡ lowering_of_all instructions) }
+    ensures fp { result.fp ≡ None }
+    ensures lr { result.lr ≡ None }
+{
+    let mut restored = Restored {
+        raise: 0,
+        fp: None,
+        lr: None,
+    };
+    let mut prefix = bytes;
+    while let Some((before, kind)) = before_last_instruction(prefix) {
+        restored = restored.before(kind);
+        prefix = before;
+    }
+    restored
+}
+
+// Whether this word can come next in a prologue, a return restoring so much.
+fn is_expected_word(word: u32, restored: Restored) -> bool
+    ensures { IsTrue result ↔ IsExpectedWord word restored.raise }
+{
+    match prologue_instruction_type(word) {
+        Some(PrologueInstructionType::StorePair(pair)) => {
+            if restored.raise != 0 {
+                return true;
+            }
+            !is_signed_offset(pair.mode)
+        }
+        Some(_) => true,
+        None => sets_frame_pointer(word),
+    }
+}
+
+// Whether an instruction comes next that can stand in a prologue, a return restoring so much.
+fn is_expected(bytes: &[u8], restored: Restored) -> bool
+    ensures { IsTrue result ↔ IsExpected bytes.now restored.raise }
+{
+    match first_word(bytes) {
+        Some((word, _)) => is_expected_word(word, restored),
+        None => false,
+    }
+}
+
+/// The rule for a first frame whose next instruction, the first of `slice_to_end`, is in the start of its
+/// function: it can stand in a prologue, and the instructions of a prologue at the end of `slice_from_start`
+/// have been executed. There is none if the offset isn't a multiple of 16 or doesn't fit the rule's field.
+pub fn unwind_rule_from_detected_prologue(
+    slice_from_start: &[u8],
+    slice_to_end: &[u8],
+) -> Option<UnwindRuleAarch64>
+    ensures { IsFound (IsPrologueRule slice_from_start.now slice_to_end.now) result }
+{
+    let restored = restored_before_prologue(slice_from_start);
+    if !is_expected(slice_to_end, restored) {
+        return None;
+    }
+    rule_of(restored)
+}

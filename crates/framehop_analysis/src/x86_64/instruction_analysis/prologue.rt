@@ -1,0 +1,105 @@
+//! Prologues of x86_64: pushes up to the address, after the setup of a frame pointer or not.
+ghost use Rattle.std.specs.Prelude.{◌≡◌, ◌+◌, ◌≤◌, ◌<◌, ◌^◌, ℕ, Bool, List, length, IfSome, IfNone, IsTrue, ◌↔◌};
+ghost use Rattle.framehop_analysis.specs.Instructions.{Instruction, spelling};
+ghost use Rattle.framehop_analysis.specs.Found.{IsFound};
+ghost use Rattle.framehop_analysis.specs.Prologue.{IsPrologueRule, IsLongestRun, EndsWith, rule_of_pushes, frame_setup};
+ghost use Rattle.framehop_analysis.specs.PrologueViews.{is_expected, is_push_byte, EndsWithPush, EndsWithNoPush};
+
+use framehop_rules::x86_64::UnwindRuleX86_64;
+
+// `push rbp`, `mov rbp, rsp`
+const FRAME_SETUP: [u8; 4] = [0x55, 0x48, 0x89, 0xe5];
+
+// Whether this is the byte of a push, whatever comes before it.
+fn is_push_byte(byte: u8) -> bool
+    ensures { result ≡ is_push_byte byte }
+{
+    (0x50..=0x57).contains(&byte)
+}
+
+// Whether an instruction comes next that can stand in a prologue.
+fn is_expected_in_prologue(bytes: &[u8]) -> bool
+    ensures { result ≡ is_expected bytes.now }
+{
+    if bytes.len() < 4 {
+        return false;
+    }
+    let (first, second, third) = (bytes[0], bytes[1], bytes[2]);
+    is_push_byte(first)
+        || (first == 0x40 || first == 0x41) && is_push_byte(second)
+        || (first == 0x83 || first == 0x81) && second == 0xec
+        || first == 0x48 && (second == 0x83 || second == 0x81) && third == 0xec
+        || first == 0x48 && second == 0x89 && third == 0xe5
+}
+
+// The bytes before the push that some bytes end with.
+fn before_last_push(bytes: &[u8]) -> Option<&[u8]>
+    ensures push { IfSome result (λ prefix. EndsWithPush bytes.now prefix.now) }
+    ensures none { IfNone result (EndsWithNoPush bytes.now) }
+{
+    let (&last, before) = bytes.split_last()?;
+    if !is_push_byte(last) {
+        return None;
+    }
+    let (&previous, prefix) = match before.split_last() {
+        Some(found) => found,
+        None => return Some(before),
+    };
+    if previous == 0x40 || previous == 0x41 {
+        Some(prefix)
+    } else {
+        Some(before)
+    }
+}
+
+// How many pushes some bytes end with, and the bytes before them.
+fn pushes_at_end(bytes: &[u8]) -> (usize, &[u8])
+    ensures run { (pushes : List Instruction) × IsLongestRun bytes.now result.1.now pushes
+        × (result.0 ≡ length pushes) }
+    ensures fits { result.0 ≤ length bytes.now }
+{
+    let mut count = 0;
+    let mut prefix = bytes;
+    while let Some(before) = before_last_push(prefix) {
+        count += 1;
+        prefix = before;
+    }
+    (count, prefix)
+}
+
+// Whether some bytes end with the setup of a frame pointer.
+fn ends_with_setup(bytes: &[u8]) -> bool
+    ensures { IsTrue result ↔ EndsWith bytes.now (spelling frame_setup) }
+{
+    bytes.ends_with(&FRAME_SETUP)
+}
+
+// The rule for so many pushes, after the setup of a frame pointer or not.
+fn rule_of_pushes(has_setup: bool, pushes: usize) -> Option<UnwindRuleX86_64>
+    requires { pushes + 1 < 2 ^ 64 }
+    ensures { result ≡ rule_of_pushes has_setup pushes }
+{
+    if has_setup {
+        return Some(UnwindRuleX86_64::UseFramePointer);
+    }
+    let sp_offset_by_8 = u16::try_from(pushes + 1).ok()?;
+    Some(UnwindRuleX86_64::OffsetSp { sp_offset_by_8 })
+}
+
+/// The rule for a first frame whose next instruction, at `pc_offset` of `text_bytes`, is in the start of its
+/// function: it can stand in a prologue, and the pushes before it have been executed. There is none if the
+/// offset doesn't fit the rule's field.
+pub fn unwind_rule_from_detected_prologue(
+    text_bytes: &[u8],
+    pc_offset: usize,
+) -> Option<UnwindRuleX86_64>
+    requires { pc_offset ≤ length text_bytes.now }
+    ensures { IsFound (IsPrologueRule text_bytes.now pc_offset) result }
+{
+    let (before, from) = text_bytes.split_at(pc_offset);
+    if !is_expected_in_prologue(from) {
+        return None;
+    }
+    let (pushes, prefix) = pushes_at_end(before);
+    rule_of_pushes(ends_with_setup(prefix), pushes)
+}
