@@ -2,7 +2,7 @@
 use Rattle.std.proofs.Common.{◌≡◌, ◌∙◌, ℕ, ◌+◌, ◌*◌, ◌<◌, ◌^◌, refl, ap, arith}
 use Rattle.std.specs.Prelude.{ℤ, pos, negsuc, ◌≤ℤ◌}
 use Rattle.std.proofs.lemmas.Int.{ints}
-use Rattle.framehop_analysis.specs.PairsAarch64.{mode_bits, imm7}
+use Rattle.framehop_analysis.specs.PairsAarch64.{mode_bits, imm7_of}
 use Rattle.framehop_analysis.specs.EpilogueInstructionsAarch64.{EpilogueInstruction, Load, Add, EpilogueFits, epilogue_word}
 use Rattle.framehop_analysis.specs.declared.aarch64.instruction_analysis.pair.AddressingMode.{AddressingMode}
 use Rattle.framehop_analysis.specs.declared.aarch64.instruction_analysis.pair.AddressingMode.TheVariants.{PostIndex, SignedOffset, PreIndex}
@@ -24,13 +24,13 @@ mode_few PostIndex = (omega arith, omega arith)
 mode_few SignedOffset = (omega arith, omega arith)
 mode_few PreIndex = (omega arith, omega arith)
 
-pub same_words : (a b : ℤ) → negsuc 63 ≤ℤ a → a ≤ℤ pos 63 → negsuc 63 ≤ℤ b → b ≤ℤ pos 63 → imm7 a ≡ imm7 b → a ≡ b
+pub same_words : (a b : ℤ) → negsuc 63 ≤ℤ a → a ≤ℤ pos 63 → negsuc 63 ≤ℤ b → b ≤ℤ pos 63 → imm7_of a ≡ imm7_of b → a ≡ b
 same_words (pos a) (pos b) la ha lb hb is = ap pos is
 same_words (pos a) (negsuc b) la ha lb hb is = absurd (omega (arith, ints, la, ha, lb, hb, is))
 same_words (negsuc a) (pos b) la ha lb hb is = absurd (omega (arith, ints, la, ha, lb, hb, is))
 same_words (negsuc a) (negsuc b) la ha lb hb is = let e : a ≡ b = omega (arith, ints, la, ha, lb, hb, is) in ap negsuc e
 
-pub words_few : (z : ℤ) → negsuc 63 ≤ℤ z → z ≤ℤ pos 63 → imm7 z < 128
+pub words_few : (z : ℤ) → negsuc 63 ≤ℤ z → z ≤ℤ pos 63 → imm7_of z < 128
 words_few (pos n) low high = omega (arith, ints, high)
 words_few (negsuc n) low high = omega arith
 
@@ -61,7 +61,7 @@ same_instruction (Add shift number) (Add shift2 number2) fits other_fits is =
     let numbers : number ≡ number2 = omega (arith, fits.0, fits.1, other_fits.0, other_fits.1, is) in
     cc
 same_instruction (Load bit_30 pair) (Load other_bit_30 pair2) fits other_fits is =
-    let same = same_fields 1 bit_30 (mode_bits pair.mode) (imm7 pair.offset_by_8) pair.second pair.first other_bit_30 (mode_bits pair2.mode) (imm7 pair2.offset_by_8) pair2.second pair2.first
+    let same = same_fields 1 bit_30 (mode_bits pair.mode) (imm7_of pair.offset_by_8) pair.second pair.first other_bit_30 (mode_bits pair2.mode) (imm7_of pair2.offset_by_8) pair2.second pair2.first
     fits.0 (mode_few pair.mode).1 (words_few pair.offset_by_8 fits.1.low fits.1.high) fits.1.second fits.1.first
     other_fits.0 (mode_few pair2.mode).1 (words_few pair2.offset_by_8 other_fits.1.low other_fits.1.high) other_fits.1.second other_fits.1.first is in
     let modes = same_mode pair.mode pair2.mode same.modes in

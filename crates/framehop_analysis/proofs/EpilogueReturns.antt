@@ -1,5 +1,5 @@
 -- The rule of an epilogue, and the machine that runs it.
-use Rattle.std.proofs.Common.{◌≡◌, ◌≢◌, ◌∙◌, ℕ, ◌+◌, ◌-◌, ◌*◌, ◌<◌, ◌≤◌, ◌^◌, ◌⊎◌, inl, inr, refl, sym, ap, subst, arith, Bool, true, false, List, [], ◌∷◌, length, Option, Some, None}
+use Rattle.std.proofs.Common.{◌≡◌, ◌≢◌, ◌∙◌, ℕ, ◌+◌, ◌-◌, ◌*◌, ◌<◌, ◌≤◌, ◌^◌, ◌⊎◌, inl, inr, refl, sym, ap, subst, arith, Bool, true, false, List, [], ◌∷◌, length, take, Option, Some, None}
 use Rattle.std.specs.List.{AllByRecursion}
 use Rattle.std.specs.Prelude.{pos, ◌==◌, nat_lt, if◌then◌else◌}
 use Rattle.std.proofs.lemmas.Bool.Decides.{nat_tests, Decides-eqb}
@@ -13,7 +13,7 @@ use Rattle.framehop_rules.specs.declared.x86_64.unwind_rule.UnwindRuleX86_64.The
 use Rattle.framehop_rules.proofs.Laws.{and_then-answers}
 use Rattle.framehop_analysis.specs.Instructions.{RexPrefix, NoRex, Rex, RexB, Instruction, Push, Pop, SetFramePointer, Return, Jump, Fits, is_plain_rbp_pop}
 use Rattle.framehop_analysis.specs.Machine.{State, with_register, higher, updated, effect, state_after}
-use Rattle.framehop_analysis.specs.Epilogue.{LeavesFunction, last_rbp_pop, one_further, rule_of_pops, epilogue_rule}
+use Rattle.framehop_analysis.specs.Epilogue.{IsEpilogue, ends_like_pop, LeavesFunction, last_rbp_pop, one_further, rule_of_pops, epilogue_rule}
 use Rattle.framehop_analysis.specs.Returns.{IsAt, HasReturned, IsReadAsExecuted}
 use Rattle.framehop_analysis.proofs.RuleMeanings.{IsFrame, raised_is, restored_is, caller_is}
 
@@ -163,7 +163,7 @@ answers state registers words caller pops bp_offset rule is_at none (inr (inr (y
     (restored_is state registers words is_at (8 * (pops + 1)) y frame frame_is)
     (ap (λ sp. state.memory (sp + 8 * y)) (sym is_at.sp) ∙ ap (bp_after state) (sym is_offset)) there
 
-pub returned : (list : List Instruction) (flag : Bool) (rule : UnwindRuleX86_64) (state : State) (registers : UnwindRegsX86_64) (words : Words) (caller : Caller UnwindRegsX86_64)
+returned : (list : List Instruction) (flag : Bool) (rule : UnwindRuleX86_64) (state : State) (registers : UnwindRegsX86_64) (words : Words) (caller : Caller UnwindRegsX86_64)
     → AllByRecursion Fits list → LeavesFunction flag list → AllByRecursion IsReadAsExecuted list → epilogue_rule list ≡ Some rule → IsAt state registers words
     → rule_meaning rule true registers words ≡ Answers caller → HasReturned (state_after list state) caller
 returned list flag rule state registers words caller fit leaves as_executed is_rule is_at is =
@@ -188,3 +188,9 @@ returned list flag rule state registers words caller fit leaves as_executed is_r
     shape flag (SetFramePointer ∷ more) leaves = absurd leaves
     shape flag (Return ∷ next ∷ more) leaves = absurd leaves
     shape flag (Jump first ∷ next ∷ more) leaves = absurd leaves
+
+pub recognised_returns : (text : List ℕ) (offset : ℕ) (list : List Instruction) (rule : UnwindRuleX86_64) → IsEpilogue text offset list → epilogue_rule list ≡ Some rule → AllByRecursion IsReadAsExecuted list
+    → (state : State) (registers : UnwindRegsX86_64) (words : Words) (caller : Caller UnwindRegsX86_64) → IsAt state registers words → rule_meaning rule true registers words ≡ Answers caller
+    → HasReturned (state_after list state) caller
+recognised_returns text offset list rule stands is_rule as_executed state registers words caller is_at is =
+    returned list (ends_like_pop (take offset text)) rule state registers words caller stands.fit stands.leaves as_executed is_rule is_at is

@@ -15,7 +15,8 @@ use Rattle.framehop_rules.proofs.Laws.{and_then-answers, past-end}
 use Rattle.framehop_analysis.specs.EpilogueInstructionsAarch64.{EpilogueInstruction, Load, Add}
 use Rattle.framehop_analysis.specs.FunctionEndsAarch64.{FunctionEnd}
 use Rattle.framehop_analysis.specs.MachineAarch64.{State, moved, put, access_offset, raise, epilogue_effect, state_after_epilogue, leave}
-use Rattle.framehop_analysis.specs.EpilogueAarch64.{raise_of, raise_of_all, load_offset, later, last_load_offset, IsRuleFor, IsRuleOfEpilogue}
+use Rattle.framehop_analysis.specs.EpilogueAarch64.{FieldsFit, raise_of, raise_of_all, load_offset, later, last_load_offset, IsRuleFor, IsRuleOfEpilogue}
+use Rattle.framehop_analysis.specs.LookBackAarch64.{IsEpilogue}
 use Rattle.framehop_analysis.specs.ReturnsAarch64.{IsAt, HasReturned}
 use Rattle.framehop_analysis.proofs.Wrapped.{moved_again, stays, not_wrapped, moved_fits}
 
@@ -215,9 +216,14 @@ answered state after registers words is_at raised fp_at lr_at rule caller is_rul
           fp = sym (ap (λ (c : Caller UnwindRegsAarch64). fp_of c.registers) kept) ∙ there.has_fp ∙ sym fp_is;
         }
 
-pub returned : (list : List EpilogueInstruction) (end : FunctionEnd) (rule : UnwindRuleAarch64) (state : State) (registers : UnwindRegsAarch64) (words : Words) (caller : Caller UnwindRegsAarch64)
+returned : (list : List EpilogueInstruction) (end : FunctionEnd) (rule : UnwindRuleAarch64) (state : State) (registers : UnwindRegsAarch64) (words : Words) (caller : Caller UnwindRegsAarch64)
     → IsRuleOfEpilogue list rule → IsAt state registers words → rule_meaning rule true registers words ≡ Answers caller → HasReturned (leave end (state_after_epilogue list state)) registers caller
 returned list end rule state registers words caller is_rule is_at is =
     let ran = has_run list state is_at.fits in
     answered state (leave end (state_after_epilogue list state)) registers words is_at (raise_of_all list) (last_load_offset 29 list) (last_load_offset 30 list) rule caller is_rule is
     (ap (strip registers) ran.lr_is) ran.raised ran.fp_is
+
+pub recognised_returns : (text : List ℕ) (offset : ℕ) (list : List EpilogueInstruction) (rule : UnwindRuleAarch64) → IsEpilogue text offset list → FieldsFit rule → IsRuleOfEpilogue list rule
+    → (end : FunctionEnd) (state : State) (registers : UnwindRegsAarch64) (words : Words) (caller : Caller UnwindRegsAarch64) → IsAt state registers words
+    → rule_meaning rule true registers words ≡ Answers caller → HasReturned (leave end (state_after_epilogue list state)) registers caller
+recognised_returns text offset list rule stands fits is_rule end state registers words caller is_at is = returned list end rule state registers words caller is_rule is_at is

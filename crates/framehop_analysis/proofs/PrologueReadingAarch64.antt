@@ -4,7 +4,7 @@ use Rattle.std.specs.List.{AllByRecursion}
 use Rattle.std.specs.Int.{to_le_bytes, w32}
 use Rattle.std.specs.Prelude.{ℤ, pos, negsuc, ◌+ℤ◌, ◌≤ℤ◌, IfSome, IfNone}
 use Rattle.std.proofs.lemmas.Int.{ints}
-use Rattle.framehop_analysis.specs.PairsAarch64.{mode_bits, imm7}
+use Rattle.framehop_analysis.specs.PairsAarch64.{mode_bits, imm7_of}
 use Rattle.framehop_analysis.specs.EpilogueAarch64.{IsRuleFor, FieldsFit}
 use Rattle.framehop_analysis.specs.PrologueInstructionsAarch64.{PrologueInstruction, Sign, Store, Sub, PrologueFits, prologue_word, prologue_spelling, lowering, lowering_of_all}
 use Rattle.framehop_analysis.specs.PrologueAarch64.{IsExpectedWord, IsExpected, IsLongestRun, IsPrologue, IsPrologueRule, IsRuleOfPrologue}
@@ -35,7 +35,7 @@ same_prologue_instruction (Sub shift number) (Sub shift2 number2) fits other_fit
 same_prologue_instruction (Sub shift number) Sign fits other_fits is = absurd (omega (arith, fits.0, fits.1, is))
 same_prologue_instruction Sign (Sub shift number) fits other_fits is = absurd (omega (arith, other_fits.0, other_fits.1, is))
 same_prologue_instruction (Store bit_30 pair) (Store other_bit_30 pair2) fits other_fits is =
-    let same = same_fields 0 bit_30 (mode_bits pair.mode) (imm7 pair.offset_by_8) pair.second pair.first other_bit_30 (mode_bits pair2.mode) (imm7 pair2.offset_by_8) pair2.second pair2.first
+    let same = same_fields 0 bit_30 (mode_bits pair.mode) (imm7_of pair.offset_by_8) pair.second pair.first other_bit_30 (mode_bits pair2.mode) (imm7_of pair2.offset_by_8) pair2.second pair2.first
     fits.0 (mode_few pair.mode).1 (words_few pair.offset_by_8 fits.1.low fits.1.high) fits.1.second fits.1.first
     other_fits.0 (mode_few pair2.mode).1 (words_few pair2.offset_by_8 other_fits.1.low other_fits.1.high) other_fits.1.second other_fits.1.first is in
     let modes = same_mode pair.mode pair2.mode same.modes in

@@ -13,8 +13,8 @@ use Rattle.framehop_rules.specs.declared.x86_64.unwind_rule.UnwindRuleX86_64.The
 use Rattle.framehop_rules.proofs.Laws.{and_then-answers, past-end}
 use Rattle.framehop_analysis.specs.Instructions.{NoRex, Instruction, Push, Pop, SetFramePointer, Return, Jump, register_number}
 use Rattle.framehop_analysis.specs.Machine.{State, register, lower, updated, effect, state_after, returned}
-use Rattle.framehop_analysis.specs.Prologue.{IsPush, prologue, prologue_rule, pushed_words}
-use Rattle.framehop_analysis.specs.Returns.{IsAt, HasReturned}
+use Rattle.framehop_analysis.specs.Prologue.{IsPush, prologue, prologue_rule, IsPrologue}
+use Rattle.framehop_analysis.specs.Returns.{IsAt, HasReturned, HasRoom, pushed_words}
 use Rattle.framehop_analysis.proofs.RuleMeanings.{IsFrame, raised_is, followed_is, caller_is}
 
 -- pushes lower the stack pointer, and leave the words from it on
@@ -62,8 +62,13 @@ after_return before present registers words caller (frame_sp, frame_bp) sp bp is
       bp = answered.has_bp ∙ frame.has_bp ∙ is_bp;
     }
 
-pub prologue_returns : (has_setup : Bool) (pushes : List Instruction) (rule : UnwindRuleX86_64) (before : State) (registers : UnwindRegsX86_64) (words : Words) (caller : Caller UnwindRegsX86_64)
-    → AllByRecursion IsPush pushes → prologue_rule has_setup pushes ≡ Some rule → before.sp < 2 ^ 64 → 8 * pushed_words has_setup pushes ≤ before.sp
+-- how many words they push
+abbrev words_of : Bool → List Instruction → ℕ
+words_of true pushes = length pushes + 1
+words_of false pushes = length pushes
+
+prologue_returns : (has_setup : Bool) (pushes : List Instruction) (rule : UnwindRuleX86_64) (before : State) (registers : UnwindRegsX86_64) (words : Words) (caller : Caller UnwindRegsX86_64)
+    → AllByRecursion IsPush pushes → prologue_rule has_setup pushes ≡ Some rule → before.sp < 2 ^ 64 → 8 * words_of has_setup pushes ≤ before.sp
     → IsAt (state_after (prologue has_setup pushes) before) registers words → rule_meaning rule true registers words ≡ Answers caller → HasReturned (returned before) caller
 prologue_returns true pushes rule before registers words caller all is_rule fits room is_at is =
     let same : UseFramePointer ≡ rule = cc in
@@ -98,3 +103,19 @@ prologue_returns false pushes rule before registers words caller all is_rule fit
     by : (test : Bool) → (if test then Some (OffsetSp (length pushes + 1)) else None) ≡ Some rule → rule ≡ OffsetSp (length pushes + 1)
     by true e = cc
     by false e = cc
+
+counted : (pushes : List Instruction) → AllByRecursion IsPush pushes → pushed_words pushes ≡ length pushes
+counted [] all = refl
+counted (Push rex low ∷ more) all = omega (arith, counted more all.1)
+counted (Pop rex low ∷ more) all = absurd all.0
+counted (SetFramePointer ∷ more) all = absurd all.0
+counted (Return ∷ more) all = absurd all.0
+counted (Jump first ∷ more) all = absurd all.0
+
+pub recognised_returns : (text : List ℕ) (offset : ℕ) (has_setup : Bool) (pushes : List Instruction) (rule : UnwindRuleX86_64) → IsPrologue text offset has_setup pushes → prologue_rule has_setup pushes ≡ Some rule
+    → (before : State) → HasRoom before (prologue has_setup pushes) → (registers : UnwindRegsX86_64) (words : Words) (caller : Caller UnwindRegsX86_64)
+    → IsAt (state_after (prologue has_setup pushes) before) registers words → rule_meaning rule true registers words ≡ Answers caller → HasReturned (returned before) caller
+recognised_returns text offset true pushes rule stands is_rule before room registers words caller is_at is =
+    prologue_returns true pushes rule before registers words caller stands.run.all is_rule room.fits (omega (arith, room.room, counted pushes stands.run.all)) is_at is
+recognised_returns text offset false pushes rule stands is_rule before room registers words caller is_at is =
+    prologue_returns false pushes rule before registers words caller stands.run.all is_rule room.fits (omega (arith, room.room, counted pushes stands.run.all)) is_at is

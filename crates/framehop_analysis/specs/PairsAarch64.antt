@@ -12,10 +12,10 @@ mode_bits PostIndex = 1
 mode_bits SignedOffset = 2
 mode_bits PreIndex = 3
 
--- Bits 15 to 21, imm7: the offset by 8, from -64 to 63, modulo 128.
-abbrev pub imm7 : ℤ → ℕ
-imm7 (pos n) = n
-imm7 (negsuc n) = 127 - n
+-- Bits 15 to 21, imm7_of: the offset by 8, from -64 to 63, modulo 128.
+abbrev pub imm7_of : ℤ → ℕ
+imm7_of (pos n) = n
+imm7_of (negsuc n) = 127 - n
 
 -- Each field has a value that its bits can have.
 pub record EpilogueFits (pair : Pair) : Type 0 where
@@ -29,7 +29,7 @@ pub record EpilogueFits (pair : Pair) : Type 0 where
 abbrev pub pair_word : ℕ → ℕ → Pair → ℕ
 pair_word load bit_30 pair =
     2 ^ 31 + 2 ^ 30 * bit_30 + 2 ^ 29 + 2 ^ 27 + 2 ^ 23 * mode_bits pair.mode + 2 ^ 22 * load
-    + 2 ^ 15 * imm7 pair.offset_by_8 + 2 ^ 10 * pair.second + 2 ^ 5 * 31 + pair.first
+    + 2 ^ 15 * imm7_of pair.offset_by_8 + 2 ^ 10 * pair.second + 2 ^ 5 * 31 + pair.first
 
 -- The word is one of those of the pair.
 pub record IsPairWord (load : ℕ) (word : ℕ) (pair : Pair) : Type 0 where

@@ -82,8 +82,3 @@ IsPrologueRule text offset rule =
 -- The instructions of a prologue.
 abbrev pub prologue : Bool → List Instruction → List Instruction
 prologue has_setup pushes = setup has_setup ++ pushes
-
--- How many of them push.
-abbrev pub pushed_words : Bool → List Instruction → ℕ
-pushed_words true pushes = length pushes + 1
-pushed_words false pushes = length pushes

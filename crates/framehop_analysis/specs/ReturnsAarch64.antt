@@ -1,9 +1,16 @@
 -- The machine beside the registers and the stack of a first frame, before and after its step.
-use Rattle.std.specs.Prelude.{ℕ, ◌≡◌, ◌<◌, ◌^◌, Some}
+use Rattle.std.specs.Prelude.{ℕ, ◌≡◌, ◌<◌, ◌^◌, true, List, Some}
 use Rattle.framehop_registers.specs.Callback.{Words}
 use Rattle.framehop_registers.specs.RegistersAarch64.{stripped_address, mask_of, lr_of, sp_of, fp_of}
 use Rattle.framehop_registers.specs.declared.aarch64.unwindregs.UnwindRegsAarch64.{UnwindRegsAarch64}
-use Rattle.framehop_rules.specs.Outcome.{Caller}
+use Rattle.framehop_rules.specs.Outcome.{Answers, Caller}
+use Rattle.framehop_rules.specs.RuleMeaningAarch64.{rule_meaning}
+use Rattle.framehop_rules.specs.declared.aarch64.unwind_rule.UnwindRuleAarch64.{UnwindRuleAarch64}
+use Rattle.framehop_analysis.specs.EpilogueInstructionsAarch64.{EpilogueInstruction}
+use Rattle.framehop_analysis.specs.PrologueInstructionsAarch64.{PrologueInstruction}
+use Rattle.framehop_analysis.specs.EpilogueAarch64.{FieldsFit, IsRuleOfEpilogue}
+use Rattle.framehop_analysis.specs.LookBackAarch64.{IsEpilogue}
+use Rattle.framehop_analysis.specs.PrologueAarch64.{IsPrologue, IsRuleOfPrologue}
 use Rattle.framehop_analysis.specs.MachineAarch64.{State}
 
 -- The frame is where the machine is: its registers are the machine's, the return address under the mask, and the words that can
@@ -20,3 +27,21 @@ pub record HasReturned (state : State) (registers : UnwindRegsAarch64) (caller :
   pub ip : caller.return_address ≡ stripped_address (mask_of registers) state.ip
   pub sp : sp_of caller.registers ≡ state.sp
   pub fp : fp_of caller.registers ≡ state.fp
+
+-- Of each list that is recognised as an epilogue, with its rule.
+abbrev pub OfEachEpilogue : (List EpilogueInstruction → UnwindRuleAarch64 → Type 0) → Type 0
+OfEachEpilogue P =
+    (text : List ℕ) (offset : ℕ) (instructions : List EpilogueInstruction) (rule : UnwindRuleAarch64)
+    → IsEpilogue text offset instructions → FieldsFit rule → IsRuleOfEpilogue instructions rule → P instructions rule
+
+-- Of each list that is recognised as a prologue, with its rule.
+abbrev pub OfEachPrologue : (List PrologueInstruction → UnwindRuleAarch64 → Type 0) → Type 0
+OfEachPrologue P =
+    (before from : List ℕ) (instructions : List PrologueInstruction) (rule : UnwindRuleAarch64)
+    → IsPrologue before from instructions → FieldsFit rule → IsRuleOfPrologue instructions rule → P instructions rule
+
+-- Of each caller that a rule gives to a first frame where the machine is.
+abbrev pub OfEachFirstCaller : UnwindRuleAarch64 → State → (UnwindRegsAarch64 → Caller UnwindRegsAarch64 → Type 0) → Type 0
+OfEachFirstCaller rule state P =
+    (registers : UnwindRegsAarch64) (words : Words) (caller : Caller UnwindRegsAarch64)
+    → IsAt state registers words → rule_meaning rule true registers words ≡ Answers caller → P registers caller

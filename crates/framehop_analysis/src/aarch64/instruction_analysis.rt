@@ -7,6 +7,7 @@ mod laws;
 mod look_back;
 mod pair;
 mod prologue;
+mod word;
 
 ghost use Rattle.framehop_analysis.specs.LookBackAarch64.{IsEpilogueRule};
 ghost use Rattle.framehop_analysis.specs.PrologueAarch64.{IsPrologueRule};

@@ -3,6 +3,9 @@ ghost use Rattle.std.specs.Prelude.{◌≡◌, ◌<◌, ◌^◌, ℕ, ◌↔◌,
 ghost use Rattle.framehop_analysis.specs.FunctionEndsAarch64.{IsBranch, IsRegisterBranch, IsMoveToX16, IsAuthBranch, BeginsWithTail, BeginsWithAuthTailCall};
 
 use crate::aarch64::instruction_analysis::fields::first_word;
+use crate::aarch64::instruction_analysis::word::{
+    from_bit_10, from_bit_26, from_bit_29, move_class, rd,
+};
 
 // `autibsp`, `eor x16, x30, x30, lsl #1`, `tbz x16, #62`, `brk #0xc471`
 const CHECK: [u8; 16] = [
@@ -13,31 +16,31 @@ const CHECK: [u8; 16] = [
 pub fn is_branch(word: u32) -> bool
     ensures { IsTrue result ↔ IsBranch word }
 {
-    word >> 26 == 5
+    from_bit_26(word) == 5
 }
 
 /// Whether this is a `br`.
 pub fn is_register_branch(word: u32) -> bool
     ensures { IsTrue result ↔ IsRegisterBranch word }
 {
-    word >> 10 == 0x35_87c0 && word & 0x1f == 0
+    from_bit_10(word) == 0x35_87c0 && rd(word) == 0
 }
 
 // Whether this is a `movz` of a number to x16.
 fn is_move_to_x16(word: u32) -> bool
     ensures { IsTrue result ↔ IsMoveToX16 word }
 {
-    if word >> 29 != 6 {
+    if from_bit_29(word) != 6 {
         return false;
     }
-    (word >> 23) & 7 == 5 && word & 0x1f == 16
+    move_class(word) == 5 && rd(word) == 16
 }
 
 // Whether this is a `braa` with the modifier x16.
 fn is_auth_branch(word: u32) -> bool
     ensures { IsTrue result ↔ IsAuthBranch word }
 {
-    word >> 10 == 0x35_c7c2 && word & 0x1f == 16
+    from_bit_10(word) == 0x35_c7c2 && rd(word) == 16
 }
 
 // The number of words of the end of an authenticated tail call that some bytes begin with.

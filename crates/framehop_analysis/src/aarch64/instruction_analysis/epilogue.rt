@@ -93,8 +93,8 @@ impl Restored {
         requires low { negsuc (2 ^ 100) ≤ℤ self.raise }
         requires high { self.raise ≤ℤ pos (2 ^ 100) }
         ensures raise { result.raise ≡ self.raise +ℤ raise_of_type kind }
-        ensures above { (self.raise +ℤ negsuc (2 ^ 33)) ≤ℤ result.raise }
-        ensures below { result.raise ≤ℤ (self.raise +ℤ pos (2 ^ 33)) }
+        ensures near { ((self.raise +ℤ negsuc (2 ^ 33)) ≤ℤ result.raise)
+            × (result.raise ≤ℤ (self.raise +ℤ pos (2 ^ 33))) }
         ensures fp { result.fp ≡ load_offset_after 29 kind self.raise self.fp }
         ensures lr { result.lr ≡ load_offset_after 30 kind self.raise self.lr }
     {

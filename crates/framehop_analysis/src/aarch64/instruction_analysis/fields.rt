@@ -3,6 +3,8 @@ ghost use Rattle.std.specs.Prelude.{◌≡◌, ◌≢◌, ◌*◌, ◌+◌, ◌<
 ghost use Rattle.std.specs.Int.{to_le_bytes, w32};
 ghost use Rattle.framehop_analysis.specs.EpilogueInstructionsAarch64.{immediate_word, SetsFramePointer};
 
+use crate::aarch64::instruction_analysis::word::{SP, bit_22, from_bit_23, imm12, rd, rn};
+
 /// A number of bytes in units of 16, if it is a multiple and fits.
 pub fn units_of_16(bytes: i128) -> Option<u16>
     ensures units { IfSome result (λ units. bytes ≡ pos (16 * units)) }
@@ -52,14 +54,14 @@ fn immediate(word: u32, operation: u32, to: u32) -> Option<u32>
     ensures none { IfNone result ((shift number : ℕ) → shift < 2 → number < 4096
         → word ≢ immediate_word operation shift number to) }
 {
-    if word >> 23 != operation {
+    if from_bit_23(word) != operation {
         return None;
     }
-    if (word >> 5) & 0x1f != 31 || word & 0x1f != to {
+    if rn(word) != SP || rd(word) != to {
         return None;
     }
-    let number = (word >> 10) & 0xfff;
-    if (word >> 22) & 1 == 1 {
+    let number = imm12(word);
+    if bit_22(word) == 1 {
         Some(number * 4096)
     } else {
         Some(number)

@@ -1,43 +1,27 @@
 //! Laws of the analysis. The functions do nothing when the program runs.
-ghost use Rattle.std.specs.Prelude.{◌≡◌, ◌<◌, ◌^◌, ℕ, true, List};
-ghost use Rattle.framehop_registers.specs.Callback.{Words};
-ghost use Rattle.framehop_rules.specs.Outcome.{Answers, Caller};
-ghost use Rattle.framehop_rules.specs.RuleMeaningAarch64.{rule_meaning};
+ghost use Rattle.std.specs.Prelude.{◌≡◌, ◌<◌, ◌^◌, ℕ, List};
 ghost use Rattle.framehop_analysis.specs.EpilogueInstructionsAarch64.{EpilogueInstruction, EpilogueFits, epilogue_word};
+ghost use Rattle.framehop_analysis.specs.PrologueInstructionsAarch64.{PrologueInstruction, PrologueFits, prologue_word, state_after_prologue};
 ghost use Rattle.framehop_analysis.specs.FunctionEndsAarch64.{FunctionEnd, Return};
 ghost use Rattle.framehop_analysis.specs.MachineAarch64.{State, state_after_epilogue, leave};
-ghost use Rattle.framehop_analysis.specs.EpilogueAarch64.{IsRuleOfEpilogue};
-ghost use Rattle.framehop_analysis.specs.PrologueInstructionsAarch64.{PrologueInstruction, PrologueFits, prologue_word, state_after_prologue};
-ghost use Rattle.framehop_analysis.specs.PrologueAarch64.{IsPrologue, IsRuleOfPrologue};
+ghost use Rattle.framehop_analysis.specs.PrologueAarch64.{IsPrologue};
 ghost use Rattle.framehop_analysis.specs.LookBackAarch64.{IsEpilogue};
-ghost use Rattle.framehop_analysis.specs.ReturnsAarch64.{IsAt, HasReturned};
-
-use framehop_registers::aarch64::UnwindRegsAarch64;
-use framehop_rules::aarch64::UnwindRuleAarch64;
+ghost use Rattle.framehop_analysis.specs.ReturnsAarch64.{HasReturned, OfEachEpilogue, OfEachPrologue, OfEachFirstCaller};
 
 /// If the rule of an epilogue gives a caller in a first frame, the caller's stack pointer, frame pointer and
 /// return address, under the mask, are those that the machine has after it has executed the epilogue from where
 /// the frame is, and left the function.
 pub fn epilogue_rules_return()
-    ensures { (instructions : List EpilogueInstruction) (end : FunctionEnd) (rule : UnwindRuleAarch64) (state : State)
-        (registers : UnwindRegsAarch64) (words : Words) (caller : Caller UnwindRegsAarch64)
-        → IsRuleOfEpilogue instructions rule
-        → IsAt state registers words
-        → rule_meaning rule true registers words ≡ Answers caller
-        → HasReturned (leave end (state_after_epilogue instructions state)) registers caller }
+    ensures { OfEachEpilogue (λ instructions rule. (end : FunctionEnd) (state : State)
+        → OfEachFirstCaller rule state (HasReturned (leave end (state_after_epilogue instructions state)))) }
 {}
 
 /// If the rule of a prologue gives a caller in a first frame, the caller's stack pointer, frame pointer and
 /// return address, under the mask, are those that the machine has after a return from the state before the
 /// prologue, whose instructions it executed up to where the frame is.
 pub fn prologue_rules_return()
-    ensures { (instructions : List PrologueInstruction) (rule : UnwindRuleAarch64) (before : State)
-        (registers : UnwindRegsAarch64) (words : Words) (caller : Caller UnwindRegsAarch64)
-        → before.sp < 2 ^ 64
-        → IsRuleOfPrologue instructions rule
-        → IsAt (state_after_prologue instructions before) registers words
-        → rule_meaning rule true registers words ≡ Answers caller
-        → HasReturned (leave Return before) registers caller }
+    ensures { OfEachPrologue (λ instructions rule. (before : State) → before.sp < 2 ^ 64
+        → OfEachFirstCaller rule (state_after_prologue instructions before) (HasReturned (leave Return before))) }
 {}
 
 /// A word spells one instruction of epilogues, and one of prologues, with one value of each field.

@@ -1,9 +1,13 @@
 //! Loads and stores of two registers relative to the stack pointer.
 ghost use Rattle.std.specs.Prelude.{◌≡◌, ◌≢◌, ◌<◌, ◌^◌, ◌≤ℤ◌, negsuc, pos, IfSome, IfNone, IsTrue, ◌↔◌};
-ghost use Rattle.framehop_analysis.specs.PairsAarch64.{IsPairWord, imm7, mode_bits};
+ghost use Rattle.framehop_analysis.specs.PairsAarch64.{IsPairWord, imm7_of, mode_bits};
 ghost use Rattle.framehop_analysis.specs.declared.aarch64.instruction_analysis.pair.Pair.{Pair};
 ghost use Rattle.framehop_analysis.specs.declared.aarch64.instruction_analysis.pair.AddressingMode.{AddressingMode};
 ghost use Rattle.framehop_analysis.specs.declared.aarch64.instruction_analysis.pair.AddressingMode.TheVariants.{PostIndex, SignedOffset};
+
+use crate::aarch64::instruction_analysis::word::{
+    SP, bit_22, bit_31, imm7, mode_field, pair_class, rd, rn, rt2,
+};
 
 /// When the offset of a pair is added to the stack pointer (Arm Architecture Reference Manual, C1.3.3).
 #[derive(Clone, Copy, Debug, PartialEq, Eq)]
@@ -48,7 +52,7 @@ pub fn is_signed_offset(mode: AddressingMode) -> bool
 // A number of seven bits in two's complement.
 fn signed(bits: u8) -> i8
     requires { bits < 128 }
-    ensures bits { imm7 result ≡ bits }
+    ensures bits { imm7_of result ≡ bits }
     ensures low { negsuc 63 ≤ℤ result }
     ensures high { result ≤ℤ pos 63 }
 {
@@ -75,18 +79,18 @@ fn pair_at_sp(word: u32, load: u32) -> Option<Pair>
     ensures pair { IfSome result (λ pair. IsPairWord load word pair) }
     ensures none { IfNone result ((pair : Pair) → ¬ IsPairWord load word pair) }
 {
-    if (word >> 22) & 1 != load {
+    if bit_22(word) != load || rn(word) != SP {
         return None;
     }
-    if (word >> 22) & 0x2f8 != 0x2a0 || (word >> 5) & 0x1f != 31 {
+    if bit_31(word) != 1 || pair_class(word) != 0x14 {
         return None;
     }
-    let mode = mode_with((word >> 23) & 3)?;
+    let mode = mode_with(mode_field(word))?;
     Some(Pair {
         mode,
-        offset_by_8: signed(((word >> 15) & 0x7f) as u8),
-        first: (word & 0x1f) as u8,
-        second: ((word >> 10) & 0x1f) as u8,
+        offset_by_8: signed(imm7(word) as u8),
+        first: rd(word) as u8,
+        second: rt2(word) as u8,
     })
 }
 

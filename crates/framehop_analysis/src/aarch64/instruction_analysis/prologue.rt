@@ -64,8 +64,8 @@ impl Restored {
         requires low { negsuc (2 ^ 100) ≤ℤ self.raise }
         requires high { self.raise ≤ℤ pos (2 ^ 100) }
         ensures raise { result.raise ≡ self.raise +ℤ lowering_of_type kind }
-        ensures above { (self.raise +ℤ negsuc (2 ^ 33)) ≤ℤ result.raise }
-        ensures below { result.raise ≤ℤ (self.raise +ℤ pos (2 ^ 33)) }
+        ensures near { ((self.raise +ℤ negsuc (2 ^ 33)) ≤ℤ result.raise)
+            × (result.raise ≤ℤ (self.raise +ℤ pos (2 ^ 33))) }
         ensures fp { result.fp ≡ self.fp }
         ensures lr { result.lr ≡ self.lr }
     {

@@ -1,9 +1,9 @@
-use Rattle.std.proofs.Common.{◌/◌}
+use Rattle.std.proofs.Common.{◌∙◌, sym}
 use Rattle.std.proofs.lemmas.Bool.Decides.{Decides-eqb}
 use Rattle.framehop_analysis.proofs.EndWords.{branch_is, branch_top}
 use Rattle.framehop_analysis.proofs.aarch64.instruction_analysis.branches.is_branch.Goals as goal
 
 pub returns : goal.returns
 returns c =
-    let word = c.args.word in
-    (λ test. branch_is word ((Decides-eqb (word / 67108864) 5).0 test), λ branch. (Decides-eqb (word / 67108864) 5).1 (branch_top word branch))
+    let decides = Decides-eqb c.from_bit_26.result 5 in
+    (λ test. branch_is c.args.word (sym c.from_bit_26.ensures ∙ decides.0 test), λ branch. decides.1 (c.from_bit_26.ensures ∙ branch_top c.args.word branch))

@@ -1,15 +1,12 @@
-use Rattle.std.proofs.Common.{◌∙◌, ◌/◌, ◌^◌, sym}
-use Rattle.std.specs.Prelude.{bit_and}
+use Rattle.std.proofs.Common.{◌∙◌, sym}
 use Rattle.std.proofs.lemmas.Bool.Decides.{Decides-eqb}
-use Rattle.std.proofs.lemmas.Nat.{and_mask}
 use Rattle.framehop_analysis.proofs.EndWords.{move_is, has_move}
 use Rattle.framehop_analysis.proofs.aarch64.instruction_analysis.branches.is_move_to_x16.Goals as goal
 
-pub returns-then-word-eq5 : goal.returns-then-word-eq5
-returns-then-word-eq5 c =
-    let word = c.args.word in
-    let low = and_mask word 5 in
-    let middle = and_mask (word / 2 ^ 23) 3 in (
-      λ test. move_is word c.if-word-ne6.false (sym middle ∙ c.if-word-eq5.true) (sym low ∙ (Decides-eqb (bit_and word 31) 16).0 test),
-      λ move. (Decides-eqb (bit_and word 31) 16).1 (low ∙ (has_move word move).low),
+pub returns-then-move_class-eq5 : goal.returns-then-move_class-eq5
+returns-then-move_class-eq5 c =
+    let decides = Decides-eqb c.rd.result 16 in (
+      λ test.
+          move_is c.args.word (sym c.from_bit_29.ensures ∙ c.if-from_bit_29-ne6.false) (sym c.move_class.ensures ∙ c.if-move_class-eq5.true) (sym c.rd.ensures ∙ decides.0 test),
+      λ move. decides.1 (c.rd.ensures ∙ (has_move c.args.word move).low),
     )

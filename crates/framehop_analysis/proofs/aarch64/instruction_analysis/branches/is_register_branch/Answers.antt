@@ -1,14 +1,11 @@
 use Rattle.std.proofs.Common.{◌∙◌, sym, arith}
-use Rattle.std.specs.Prelude.{bit_and}
 use Rattle.std.proofs.lemmas.Bool.Decides.{Decides-eqb}
-use Rattle.std.proofs.lemmas.Nat.{and_mask}
 use Rattle.framehop_analysis.proofs.EndWords.{register_branch_is}
 use Rattle.framehop_analysis.proofs.aarch64.instruction_analysis.branches.is_register_branch.Goals as goal
 
-pub returns-then-word-eq3508160 : goal.returns-then-word-eq3508160
-returns-then-word-eq3508160 c =
-    let word = c.args.word in
-    let low = and_mask word 5 in (
-      λ test. register_branch_is word c.if-word-eq3508160.true (sym low ∙ (Decides-eqb (bit_and word 31) 0).0 test),
-      λ branch. (Decides-eqb (bit_and word 31) 0).1 (omega (arith, low, branch.fits, branch.is)),
+pub returns-then-from_bit_10-eq3508160 : goal.returns-then-from_bit_10-eq3508160
+returns-then-from_bit_10-eq3508160 c =
+    let decides = Decides-eqb c.rd.result 0 in (
+      λ test. register_branch_is c.args.word (sym c.from_bit_10.ensures ∙ c.if-from_bit_10-eq3508160.true) (sym c.rd.ensures ∙ decides.0 test),
+      λ branch. decides.1 (omega (arith, c.rd.ensures, branch.fits, branch.is)),
     )

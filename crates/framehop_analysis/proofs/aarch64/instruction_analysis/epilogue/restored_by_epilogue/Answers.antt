@@ -21,5 +21,5 @@ loop-rest-preserved c =
     let (x, fits, is, seen) = c.in_ok-kind.ensures.kind in (
       _,
       prefix_and_one c.args.bytes.now c.loop-rest.rest.now c.in_ok-word.suffix.now done x c.in_ok-kind.kind c.in_ok-word.word c.loop-rest.restored c.after-restored.result prefix
-          c.in_ok-word.ensures.bytes fits is seen c.after-restored.ensures.raise c.after-restored.ensures.fp c.after-restored.ensures.lr c.after-restored.ensures.above c.after-restored.ensures.below,
+          c.in_ok-word.ensures.bytes fits is seen c.after-restored.ensures.raise c.after-restored.ensures.fp c.after-restored.ensures.lr c.after-restored.ensures.near.0 c.after-restored.ensures.near.1,
     )

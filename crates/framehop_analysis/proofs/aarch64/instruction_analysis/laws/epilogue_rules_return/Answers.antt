@@ -1,5 +1,5 @@
-use Rattle.framehop_analysis.proofs.EpilogueReturnsAarch64.{returned}
+use Rattle.framehop_analysis.proofs.EpilogueReturnsAarch64.{recognised_returns}
 use Rattle.framehop_analysis.proofs.aarch64.instruction_analysis.laws.epilogue_rules_return.Goals as goal
 
 pub returns : goal.returns
-returns c = returned
+returns c = recognised_returns

@@ -8,7 +8,7 @@ loop-before-preserved c =
     let (instruction, fits, is, seen) = c.in-Some.ensures.instruction in (
       instruction ∷ instructions,
       run_and_one c.args.bytes.now c.loop-before.prefix.now c.in-Some.before.now instructions instruction c.in-Some.kind c.loop-before.restored c.before-restored.result run
-          fits is seen c.before-restored.ensures.raise c.before-restored.ensures.fp c.before-restored.ensures.lr c.before-restored.ensures.above c.before-restored.ensures.below,
+          fits is seen c.before-restored.ensures.raise c.before-restored.ensures.fp c.before-restored.ensures.lr c.before-restored.ensures.near.0 c.before-restored.ensures.near.1,
     )
 
 pub returns-clause-raise : goal.returns-clause-raise

@@ -1,0 +1,6 @@
+use Rattle.std.proofs.Common.{◌/◌, ◌^◌}
+use Rattle.std.proofs.lemmas.Nat.{and_mask}
+use Rattle.framehop_analysis.proofs.aarch64.instruction_analysis.word.pair_class.Goals as goal
+
+pub returns : goal.returns
+returns c = and_mask (c.args.word / 2 ^ 25) 5
