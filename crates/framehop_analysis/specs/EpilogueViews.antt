@@ -29,6 +29,10 @@ pub record IsPopRun (bytes : List ℕ) (pops : List Instruction) (count : ℕ) (
   pub bp_offset : bp_offset_by_8 ≡ last_rbp_pop pops
   pub within : count + length suffix ≤ length bytes
 
+-- The bytes are those of pops, and then others, which begin with no pop.
+abbrev pub IsWholePopRun : List ℕ → ℕ → Option ℕ → List ℕ → Type 0
+IsWholePopRun bytes count bp_offset_by_8 suffix = (pops : List Instruction) × IsPopRun bytes pops count bp_offset_by_8 suffix × BeginsWithNoPop suffix
+
 -- The bytes begin with a return, or with a jump that comes after a pop.
 abbrev pub leaves_function : Bool → List ℕ → Bool
 leaves_function is_after_pop [] = false

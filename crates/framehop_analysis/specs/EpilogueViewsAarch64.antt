@@ -1,6 +1,6 @@
 -- What the code keeps of an instruction of an epilogue, and of all of them.
-use Rattle.std.specs.Prelude.{ℕ, ◌≡◌, ◌*◌, ◌^◌, ◌==◌, if◌then◌else◌, ℤ, pos, ◌+ℤ◌, List, Option, Some}
-use Rattle.framehop_analysis.specs.EpilogueInstructionsAarch64.{EpilogueInstruction, Load, Add}
+use Rattle.std.specs.Prelude.{ℕ, ◌≡◌, ◌≢◌, ◌<◌, ◌*◌, ◌^◌, ◌==◌, if◌then◌else◌, ℤ, pos, ◌+ℤ◌, List, Option, Some}
+use Rattle.framehop_analysis.specs.EpilogueInstructionsAarch64.{EpilogueInstruction, Load, Add, EpilogueFits, epilogue_word, immediate_word}
 use Rattle.framehop_analysis.specs.MachineAarch64.{access_offset, raise}
 use Rattle.framehop_analysis.specs.EpilogueAarch64.{raise_of_all, last_load_offset}
 use Rattle.framehop_analysis.specs.declared.aarch64.instruction_analysis.epilogue.Restored.{Restored}
@@ -11,6 +11,23 @@ use Rattle.framehop_analysis.specs.declared.aarch64.instruction_analysis.epilogu
 abbrev pub IsTypeOf : EpilogueInstructionType → EpilogueInstruction → Type 0
 IsTypeOf (LoadPair pair) instruction = (bit_30 : ℕ) × (instruction ≡ Load bit_30 pair)
 IsTypeOf (AddToSp bytes) instruction = (shift : ℕ) × (number : ℕ) × (instruction ≡ Add shift number) × (bytes ≡ number * 4096 ^ shift)
+
+-- The word spells an instruction of which this is kept.
+abbrev pub IsTypeOfWord : ℕ → EpilogueInstructionType → Type 0
+IsTypeOfWord word kind = (instruction : EpilogueInstruction) × EpilogueFits instruction × (word ≡ epilogue_word instruction) × IsTypeOf kind instruction
+
+-- The word spells no instruction of epilogues.
+abbrev pub SpellsNone : ℕ → Type 0
+SpellsNone word = (instruction : EpilogueInstruction) → EpilogueFits instruction → word ≢ epilogue_word instruction
+
+-- The word adds so many bytes to the stack pointer, or subtracts them, by its upper bits, and writes a register.
+abbrev pub IsImmediate : ℕ → ℕ → ℕ → ℕ → Type 0
+IsImmediate operation to word bytes =
+    (shift : ℕ) × (number : ℕ) × (shift < 2) × (number < 4096) × (word ≡ immediate_word operation shift number to) × (bytes ≡ number * 4096 ^ shift)
+
+-- The word does so with no number.
+abbrev pub IsNoImmediate : ℕ → ℕ → ℕ → Type 0
+IsNoImmediate operation to word = (shift number : ℕ) → shift < 2 → number < 4096 → word ≢ immediate_word operation shift number to
 
 -- By how many bytes it raises the stack pointer.
 abbrev pub raise_of_type : EpilogueInstructionType → ℤ

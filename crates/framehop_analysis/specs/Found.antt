@@ -8,3 +8,7 @@ IsFound {A} IsWanted result = (value : A) → (result ≡ Some value) ↔ IsWant
 -- One of the first, or if there is none of those, one of the second.
 abbrev pub IsOfFirst : {A : Type 0} → (A → Type 0) → (A → Type 0) → A → Type 0
 IsOfFirst {A} IsFirst IsSecond value = IsFirst value ⊎ (((other : A) → ¬ IsFirst other) × IsSecond value)
+
+-- There is one of these at most.
+abbrev pub AtMostOne : {A : Type 0} → (A → Type 0) → Type 0
+AtMostOne {A} P = (one other : A) → P one → P other → one ≡ other

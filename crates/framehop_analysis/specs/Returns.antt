@@ -54,8 +54,8 @@ OfEachPrologue P =
     (text : List ℕ) (offset : ℕ) (has_setup : Bool) (pushes : List Instruction) (rule : UnwindRuleX86_64)
     → IsPrologue text offset has_setup pushes → prologue_rule has_setup pushes ≡ Some rule → P (prologue has_setup pushes) rule
 
--- Of each caller that a rule gives to a first frame where the machine is.
-abbrev pub OfEachFirstCaller : UnwindRuleX86_64 → State → (Caller UnwindRegsX86_64 → Type 0) → Type 0
-OfEachFirstCaller rule state P =
+-- Each caller that a rule gives to a first frame where the machine is in one state is where it is in another, after its return.
+abbrev pub ReturnsTo : UnwindRuleX86_64 → State → State → Type 0
+ReturnsTo rule state after =
     (registers : UnwindRegsX86_64) (words : Words) (caller : Caller UnwindRegsX86_64)
-    → IsAt state registers words → rule_meaning rule true registers words ≡ Answers caller → P caller
+    → IsAt state registers words → rule_meaning rule true registers words ≡ Answers caller → HasReturned after caller

@@ -40,8 +40,8 @@ OfEachPrologue P =
     (before from : List ℕ) (instructions : List PrologueInstruction) (rule : UnwindRuleAarch64)
     → IsPrologue before from instructions → FieldsFit rule → IsRuleOfPrologue instructions rule → P instructions rule
 
--- Of each caller that a rule gives to a first frame where the machine is.
-abbrev pub OfEachFirstCaller : UnwindRuleAarch64 → State → (UnwindRegsAarch64 → Caller UnwindRegsAarch64 → Type 0) → Type 0
-OfEachFirstCaller rule state P =
+-- Each caller that a rule gives to a first frame where the machine is in one state is where it is in another, after its return.
+abbrev pub ReturnsTo : UnwindRuleAarch64 → State → State → Type 0
+ReturnsTo rule state after =
     (registers : UnwindRegsAarch64) (words : Words) (caller : Caller UnwindRegsAarch64)
-    → IsAt state registers words → rule_meaning rule true registers words ≡ Answers caller → P registers caller
+    → IsAt state registers words → rule_meaning rule true registers words ≡ Answers caller → HasReturned after registers caller

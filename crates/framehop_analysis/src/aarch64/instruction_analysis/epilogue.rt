@@ -1,12 +1,12 @@
 //! Epilogues of aarch64: pairs are loaded and the stack pointer is raised, and then the function is left.
 ghost use Rattle.std.specs.Prelude.{◌≡◌, ◌≢◌, ◌+◌, ◌*◌, ◌<◌, ◌≤◌, ◌^◌, ◌==◌, if◌then◌else◌, ◌+ℤ◌, ◌≤ℤ◌, pos, negsuc, List, length, drop, IfSome, IfNone, Option, Some, IsTrue, ◌↔◌};
-ghost use Rattle.framehop_analysis.specs.EpilogueInstructionsAarch64.{EpilogueInstruction, EpilogueFits, epilogue_word};
+ghost use Rattle.framehop_analysis.specs.EpilogueInstructionsAarch64.{EpilogueInstruction};
 ghost use Rattle.framehop_analysis.specs.FunctionEndsAarch64.{IsEndWord, IsLeft};
 ghost use Rattle.framehop_analysis.specs.Found.{IsFound};
 ghost use Rattle.framehop_analysis.specs.LookBackAarch64.{IsEpilogueRule};
 ghost use Rattle.framehop_analysis.specs.MachineAarch64.{raise, access_offset};
 ghost use Rattle.framehop_analysis.specs.EpilogueAarch64.{IsEnd, IsRuleFor, FieldsFit};
-ghost use Rattle.framehop_analysis.specs.EpilogueViewsAarch64.{IsTypeOf, Restores, raise_of_type, load_offset_after};
+ghost use Rattle.framehop_analysis.specs.EpilogueViewsAarch64.{IsTypeOfWord, SpellsNone, Restores, raise_of_type, load_offset_after};
 ghost use Rattle.framehop_rules.specs.declared.aarch64.unwind_rule.UnwindRuleAarch64.{UnwindRuleAarch64};
 
 use crate::aarch64::instruction_analysis::branches::{auth_tail_call_words, is_branch};
@@ -41,9 +41,8 @@ pub struct Restored {
 
 /// What the instruction of a word does, if it can stand before the end of a function.
 pub fn epilogue_instruction_type(word: u32) -> Option<EpilogueInstructionType>
-    ensures kind { IfSome result (λ kind. (instruction : EpilogueInstruction) × EpilogueFits instruction
-        × (word ≡ epilogue_word instruction) × IsTypeOf kind instruction) }
-    ensures none { IfNone result ((instruction : EpilogueInstruction) → EpilogueFits instruction → word ≢ epilogue_word instruction) }
+    ensures kind { IfSome result (IsTypeOfWord word) }
+    ensures none { IfNone result (SpellsNone word) }
 {
     if let Some(pair) = load_pair(word) {
         return Some(EpilogueInstructionType::LoadPair(pair));

@@ -1,7 +1,8 @@
 //! Numbers of bytes in the units of rules, words of code, and the immediates of `add` and `sub`.
 ghost use Rattle.std.specs.Prelude.{◌≡◌, ◌≢◌, ◌*◌, ◌+◌, ◌<◌, ◌^◌, ◌++◌, ◌≤ℤ◌, ◌*ℤ◌, ℕ, ℤ, negsuc, pos, length, IfSome, IfNone, MatchOption, IsTrue, ◌↔◌};
 ghost use Rattle.std.specs.Int.{to_le_bytes, w32};
-ghost use Rattle.framehop_analysis.specs.EpilogueInstructionsAarch64.{immediate_word, SetsFramePointer};
+ghost use Rattle.framehop_analysis.specs.EpilogueInstructionsAarch64.{SetsFramePointer};
+ghost use Rattle.framehop_analysis.specs.EpilogueViewsAarch64.{IsImmediate, IsNoImmediate};
 
 use crate::aarch64::instruction_analysis::word::{SP, bit_22, from_bit_23, imm12, rd, rn};
 
@@ -49,10 +50,8 @@ pub fn last_word(bytes: &[u8]) -> Option<(&[u8], u32)>
 // register.
 fn immediate(word: u32, operation: u32, to: u32) -> Option<u32>
     requires { to < 32 }
-    ensures bytes { IfSome result (λ bytes. (shift : ℕ) × (number : ℕ) × (shift < 2) × (number < 4096)
-        × (word ≡ immediate_word operation shift number to) × (bytes ≡ number * 4096 ^ shift)) }
-    ensures none { IfNone result ((shift number : ℕ) → shift < 2 → number < 4096
-        → word ≢ immediate_word operation shift number to) }
+    ensures bytes { IfSome result (IsImmediate operation to word) }
+    ensures none { IfNone result (IsNoImmediate operation to word) }
 {
     if from_bit_23(word) != operation {
         return None;
@@ -70,20 +69,16 @@ fn immediate(word: u32, operation: u32, to: u32) -> Option<u32>
 
 /// The number of bytes that a word adds to the stack pointer.
 pub fn added_to_sp(word: u32) -> Option<u32>
-    ensures added { IfSome result (λ bytes. (shift : ℕ) × (number : ℕ) × (shift < 2) × (number < 4096)
-        × (word ≡ immediate_word 0x122 shift number 31) × (bytes ≡ number * 4096 ^ shift)) }
-    ensures none { IfNone result ((shift number : ℕ) → shift < 2 → number < 4096
-        → word ≢ immediate_word 0x122 shift number 31) }
+    ensures added { IfSome result (IsImmediate 0x122 31 word) }
+    ensures none { IfNone result (IsNoImmediate 0x122 31 word) }
 {
     immediate(word, 0x122, 31)
 }
 
 /// The number of bytes that a word subtracts from the stack pointer.
 pub fn subtracted_from_sp(word: u32) -> Option<u32>
-    ensures taken { IfSome result (λ bytes. (shift : ℕ) × (number : ℕ) × (shift < 2) × (number < 4096)
-        × (word ≡ immediate_word 0x1a2 shift number 31) × (bytes ≡ number * 4096 ^ shift)) }
-    ensures none { IfNone result ((shift number : ℕ) → shift < 2 → number < 4096
-        → word ≢ immediate_word 0x1a2 shift number 31) }
+    ensures subtracted { IfSome result (IsImmediate 0x1a2 31 word) }
+    ensures none { IfNone result (IsNoImmediate 0x1a2 31 word) }
 {
     immediate(word, 0x1a2, 31)
 }

@@ -1,27 +1,28 @@
 //! Laws of the analysis. The functions do nothing when the program runs.
 ghost use Rattle.std.specs.Prelude.{◌≡◌, ◌<◌, ◌^◌, ℕ, List};
+ghost use Rattle.framehop_analysis.specs.Found.{AtMostOne};
 ghost use Rattle.framehop_analysis.specs.EpilogueInstructionsAarch64.{EpilogueInstruction, EpilogueFits, epilogue_word};
 ghost use Rattle.framehop_analysis.specs.PrologueInstructionsAarch64.{PrologueInstruction, PrologueFits, prologue_word, state_after_prologue};
 ghost use Rattle.framehop_analysis.specs.FunctionEndsAarch64.{FunctionEnd, Return};
 ghost use Rattle.framehop_analysis.specs.MachineAarch64.{State, state_after_epilogue, leave};
 ghost use Rattle.framehop_analysis.specs.PrologueAarch64.{IsPrologue};
 ghost use Rattle.framehop_analysis.specs.LookBackAarch64.{IsEpilogue};
-ghost use Rattle.framehop_analysis.specs.ReturnsAarch64.{HasReturned, OfEachEpilogue, OfEachPrologue, OfEachFirstCaller};
+ghost use Rattle.framehop_analysis.specs.ReturnsAarch64.{OfEachEpilogue, OfEachPrologue, ReturnsTo};
 
 /// If the rule of an epilogue gives a caller in a first frame, the caller's stack pointer, frame pointer and
 /// return address, under the mask, are those that the machine has after it has executed the epilogue from where
 /// the frame is, and left the function.
 pub fn epilogue_rules_return()
-    ensures { OfEachEpilogue (λ instructions rule. (end : FunctionEnd) (state : State)
-        → OfEachFirstCaller rule state (HasReturned (leave end (state_after_epilogue instructions state)))) }
+    ensures { OfEachEpilogue (λ list rule. (end : FunctionEnd) (state : State)
+        → ReturnsTo rule state (leave end (state_after_epilogue list state))) }
 {}
 
 /// If the rule of a prologue gives a caller in a first frame, the caller's stack pointer, frame pointer and
 /// return address, under the mask, are those that the machine has after a return from the state before the
 /// prologue, whose instructions it executed up to where the frame is.
 pub fn prologue_rules_return()
-    ensures { OfEachPrologue (λ instructions rule. (before : State) → before.sp < 2 ^ 64
-        → OfEachFirstCaller rule (state_after_prologue instructions before) (HasReturned (leave Return before))) }
+    ensures { OfEachPrologue (λ list rule. (before : State) → before.sp < 2 ^ 64
+        → ReturnsTo rule (state_after_prologue list before) (leave Return before)) }
 {}
 
 /// A word spells one instruction of epilogues, and one of prologues, with one value of each field.
@@ -34,8 +35,6 @@ pub fn words_spell_one_instruction()
 
 /// One list of instructions at most is recognised as the epilogue at an offset, and one as the prologue.
 pub fn offsets_have_one_list()
-    ensures epilogue { (text : List ℕ) (offset : ℕ) (one other : List EpilogueInstruction)
-        → IsEpilogue text offset one → IsEpilogue text offset other → one ≡ other }
-    ensures prologue { (before from : List ℕ) (one other : List PrologueInstruction)
-        → IsPrologue before from one → IsPrologue before from other → one ≡ other }
+    ensures epilogue { (text : List ℕ) (offset : ℕ) → AtMostOne (IsEpilogue text offset) }
+    ensures prologue { (before from : List ℕ) → AtMostOne (IsPrologue before from) }
 {}

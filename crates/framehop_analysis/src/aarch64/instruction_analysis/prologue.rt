@@ -1,10 +1,9 @@
 //! Prologues of aarch64: pairs are stored and the stack pointer is lowered, up to the address.
 ghost use Rattle.std.specs.Prelude.{◌≡◌, ◌≢◌, ◌*◌, ◌<◌, ◌^◌, ◌++◌, ℕ, ℤ, pos, negsuc, ◌+ℤ◌, ◌≤ℤ◌, List, length, IfSome, IfNone, IsTrue, ◌↔◌, None};
 ghost use Rattle.std.specs.Int.{to_le_bytes, w32};
-ghost use Rattle.framehop_analysis.specs.PrologueInstructionsAarch64.{PrologueInstruction, PrologueFits, prologue_word, lowering_of_all};
 ghost use Rattle.framehop_analysis.specs.Found.{IsFound};
-ghost use Rattle.framehop_analysis.specs.PrologueAarch64.{IsExpectedWord, IsExpected, IsLongestRun, IsPrologueRule};
-ghost use Rattle.framehop_analysis.specs.PrologueViewsAarch64.{IsTypeOf, lowering_of_type};
+ghost use Rattle.framehop_analysis.specs.PrologueAarch64.{IsExpectedWord, IsExpected, IsPrologueRule};
+ghost use Rattle.framehop_analysis.specs.PrologueViewsAarch64.{IsTypeOfWord, SpellsNone, EndsWithType, EndsWithNone, IsLoweredBy, lowering_of_type};
 ghost use Rattle.framehop_rules.specs.declared.aarch64.unwind_rule.UnwindRuleAarch64.{UnwindRuleAarch64};
 
 use crate::aarch64::instruction_analysis::epilogue::{Restored, offset_and_raise, rule_of};
@@ -27,8 +26,8 @@ pub enum PrologueInstructionType {
 
 // What the instruction of a word does, if it can stand in a prologue.
 fn prologue_instruction_type(word: u32) -> Option<PrologueInstructionType>
-    ensures instruction { IfSome result (λ kind. (instruction : PrologueInstruction) × PrologueFits instruction × (word ≡ prologue_word instruction) × IsTypeOf kind instruction) }
-    ensures none { IfNone result ((instruction : PrologueInstruction) → PrologueFits instruction → word ≢ prologue_word instruction) }
+    ensures kind { IfSome result (IsTypeOfWord word) }
+    ensures none { IfNone result (SpellsNone word) }
 {
     if word == SIGN_RETURN_ADDRESS {
         return Some(PrologueInstructionType::SignReturnAddress);
@@ -79,10 +78,8 @@ impl Restored {
 
 // What the last instruction does, if it can stand in a prologue, and the bytes before it.
 fn before_last_instruction(bytes: &[u8]) -> Option<(&[u8], PrologueInstructionType)>
-    ensures instruction { IfSome result (λ found. (instruction : PrologueInstruction) × PrologueFits instruction
-        × (bytes.now ≡ found.0.now ++ to_le_bytes w32 (prologue_word instruction)) × IsTypeOf found.1 instruction) }
-    ensures none { IfNone result ((prefix : List ℕ) (instruction : PrologueInstruction) → PrologueFits instruction
-        → bytes.now ≢ prefix ++ to_le_bytes w32 (prologue_word instruction)) }
+    ensures kind { IfSome result (λ found. EndsWithType bytes.now found.0.now found.1) }
+    ensures none { IfNone result (EndsWithNone bytes.now) }
 {
     let (prefix, word) = last_word(bytes)?;
     let kind = prologue_instruction_type(word)?;
@@ -91,8 +88,7 @@ fn before_last_instruction(bytes: &[u8]) -> Option<(&[u8], PrologueInstructionTy
 
 // What a return restores from before the instructions of a prologue that some bytes end with.
 fn restored_before_prologue(bytes: &[u8]) -> Restored
-    ensures raise { (prefix : List ℕ) × (instructions : List PrologueInstruction) × IsLongestRun bytes.now prefix instructions
-        × (result.raise ≡ lowering_of_all instructions) }
+    ensures raise { IsLoweredBy bytes.now result.raise }
     ensures fp { result.fp ≡ None }
     ensures lr { result.lr ≡ None }
 {

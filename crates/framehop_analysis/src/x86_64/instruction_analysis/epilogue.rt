@@ -1,9 +1,8 @@
 //! Epilogues of x86_64: pops, and then a return or a tail call.
 ghost use Rattle.std.specs.Prelude.{◌≡◌, ◌+◌, ◌≤◌, ◌<◌, ◌^◌, ◌++◌, ◌||◌, nat_lt, if◌then◌else◌, ℕ, List, length, IfSome, IfNone};
-ghost use Rattle.framehop_analysis.specs.Instructions.{RexPrefix, Instruction};
 ghost use Rattle.framehop_analysis.specs.Found.{IsFound};
 ghost use Rattle.framehop_analysis.specs.Epilogue.{IsEpilogueRule, rule_of_pops, ends_like_pop, is_pop_byte};
-ghost use Rattle.framehop_analysis.specs.EpilogueViews.{IsPopThen, BeginsWithNoPop, IsPopRun, leaves_function};
+ghost use Rattle.framehop_analysis.specs.EpilogueViews.{IsPopThen, BeginsWithNoPop, IsWholePopRun, leaves_function};
 
 use framehop_rules::x86_64::UnwindRuleX86_64;
 
@@ -105,7 +104,7 @@ fn bp_offset_after_pop(
 
 // The pops that some bytes begin with.
 fn pops_of(bytes: &[u8]) -> Pops<'_>
-    ensures { (pops : List Instruction) × IsPopRun bytes.now pops result.count result.bp_offset_by_8 result.suffix.now × BeginsWithNoPop result.suffix.now }
+    ensures { IsWholePopRun bytes.now result.count result.bp_offset_by_8 result.suffix.now }
 {
     let mut pops = Pops {
         count: 0,

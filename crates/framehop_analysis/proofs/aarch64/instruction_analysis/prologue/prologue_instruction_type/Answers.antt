@@ -10,14 +10,14 @@ none_of word no_store no_sub no_sign (Store bit_30 pair) fits is = no_store pair
 none_of word no_store no_sub no_sign (Sub shift number) fits is = no_sub shift number fits.0 fits.1 is
 none_of word no_store no_sub no_sign Sign fits is = no_sign is
 
-pub returns-in-Some-clause-instruction : goal.returns-in-Some-clause-instruction
-returns-in-Some-clause-instruction c =
+pub returns-in-Some-clause-kind : goal.returns-in-Some-clause-kind
+returns-in-Some-clause-kind c =
     let spells = c.in-Some.ensures.pair in
     (Store spells.bit_30 c.in-Some.pair, (spells.bit_30_fits, spells.fits), spells.is, (spells.bit_30, refl))
 
-pub returns-in-Some-subtracted_from_sp-clause-instruction : goal.returns-in-Some-subtracted_from_sp-clause-instruction
-returns-in-Some-subtracted_from_sp-clause-instruction c =
-    let (shift, number, shift_fits, number_fits, is, bytes_is) = c.in-Some-subtracted_from_sp.ensures.taken in
+pub returns-in-Some-subtracted_from_sp-clause-kind : goal.returns-in-Some-subtracted_from_sp-clause-kind
+returns-in-Some-subtracted_from_sp-clause-kind c =
+    let (shift, number, shift_fits, number_fits, is, bytes_is) = c.in-Some-subtracted_from_sp.ensures.subtracted in
     (Sub shift number, (shift_fits, number_fits), is, (shift, number, refl, bytes_is))
 
 pub returns-in-None-clause-none : goal.returns-in-None-clause-none

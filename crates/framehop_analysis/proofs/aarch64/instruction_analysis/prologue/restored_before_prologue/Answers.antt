@@ -5,7 +5,7 @@ use Rattle.framehop_analysis.proofs.aarch64.instruction_analysis.prologue.restor
 pub loop-before-preserved : goal.loop-before-preserved
 loop-before-preserved c =
     let (instructions, run) = c.loop-before.invariant in
-    let (instruction, fits, is, seen) = c.in-Some.ensures.instruction in (
+    let (instruction, fits, is, seen) = c.in-Some.ensures.kind in (
       instruction ∷ instructions,
       run_and_one c.args.bytes.now c.loop-before.prefix.now c.in-Some.before.now instructions instruction c.in-Some.kind c.loop-before.restored c.before-restored.result run
           fits is seen c.before-restored.ensures.raise c.before-restored.ensures.fp c.before-restored.ensures.lr c.before-restored.ensures.near.0 c.before-restored.ensures.near.1,
