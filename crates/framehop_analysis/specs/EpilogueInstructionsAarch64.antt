@@ -4,7 +4,7 @@
 use Rattle.std.specs.List.{flat_map}
 use Rattle.std.specs.Int.{to_le_bytes, w32}
 use Rattle.std.specs.Prelude.{List, ℕ, ◌≡◌, ◌+◌, ◌*◌, ◌<◌, ◌^◌}
-use Rattle.framehop_analysis.specs.PairsAarch64.{EpilogueFits as PairFits, pair_word}
+use Rattle.framehop_analysis.specs.PairsAarch64.{PairFits, pair_word}
 use Rattle.framehop_analysis.specs.declared.aarch64.instruction_analysis.pair.Pair.{Pair}
 
 -- `ldp` with its bit 30, and `add` to the stack pointer with its shift, by 12 bits for 1, and its number.

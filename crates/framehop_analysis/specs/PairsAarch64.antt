@@ -12,13 +12,13 @@ mode_bits PostIndex = 1
 mode_bits SignedOffset = 2
 mode_bits PreIndex = 3
 
--- Bits 15 to 21, imm7_of: the offset by 8, from -64 to 63, modulo 128.
+-- Bits 15 to 21, imm7: the offset by 8, from -64 to 63, modulo 128.
 abbrev pub imm7_of : ℤ → ℕ
 imm7_of (pos n) = n
 imm7_of (negsuc n) = 127 - n
 
 -- Each field has a value that its bits can have.
-pub record EpilogueFits (pair : Pair) : Type 0 where
+pub record PairFits (pair : Pair) : Type 0 where
   pub low : negsuc 63 ≤ℤ pair.offset_by_8
   pub high : pair.offset_by_8 ≤ℤ pos 63
   pub first : pair.first < 32
@@ -33,7 +33,7 @@ pair_word load bit_30 pair =
 
 -- The word is one of those of the pair.
 pub record IsPairWord (load : ℕ) (word : ℕ) (pair : Pair) : Type 0 where
-  pub fits : EpilogueFits pair
+  pub fits : PairFits pair
   pub bit_30 : ℕ
   pub bit_30_fits : bit_30 < 2
   pub is : word ≡ pair_word load bit_30 pair

@@ -4,7 +4,7 @@
 use Rattle.std.specs.List.{flat_map}
 use Rattle.std.specs.Int.{to_le_bytes, w32}
 use Rattle.std.specs.Prelude.{ℕ, ◌*◌, ◌<◌, ◌^◌, ◌==◌, if◌then◌else◌, ℤ, pos, ◌+ℤ◌, ◌-ℤ◌, List, [], ◌∷◌}
-use Rattle.framehop_analysis.specs.PairsAarch64.{EpilogueFits as PairFits, pair_word}
+use Rattle.framehop_analysis.specs.PairsAarch64.{PairFits, pair_word}
 use Rattle.framehop_analysis.specs.EpilogueInstructionsAarch64.{immediate_word}
 use Rattle.framehop_analysis.specs.MachineAarch64.{State, moved, access_offset, raise}
 use Rattle.framehop_analysis.specs.declared.aarch64.instruction_analysis.pair.Pair.{Pair}
