@@ -84,7 +84,7 @@ no_far bytes more rest word next count is fits no_branch more_is next_fits no_si
       no_signed (subst IsAuthBranch (sym (four next other rest other_rest next_fits (auth_branch_fits other branch) (sym more_is ∙ other_is)).0) branch)
 ]
 
--- ---- checked tail calls
+-- ---- authenticated tail calls
 
 pub check : List ℕ
 check = bytes_of_words (auth_tail_call [])

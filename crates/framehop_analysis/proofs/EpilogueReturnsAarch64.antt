@@ -6,12 +6,12 @@ use Rattle.std.proofs.lemmas.Bool.Decides.{nat_tests, Decides-eqb}
 use Rattle.framehop_registers.specs.Callback.{Words}
 use Rattle.framehop_registers.specs.RegistersAarch64.{stripped_address, mask_of, lr_of, sp_of, fp_of}
 use Rattle.framehop_registers.specs.declared.aarch64.unwindregs.UnwindRegsAarch64.{UnwindRegsAarch64}
-use Rattle.framehop_registers.specs.declared.error.Error.TheVariants.{CouldNotReadStack, DidNotAdvance}
+use Rattle.framehop_registers.specs.declared.error.Error.TheVariants.{DidNotAdvance}
 use Rattle.framehop_rules.specs.Outcome.{Outcome, Refuses, Answers, Caller, and_then, address, word}
 use Rattle.framehop_rules.specs.RuleMeaningAarch64.{CallerFrame, stored_word, moves, return_address, caller_registers, returned_caller, rule_meaning}
 use Rattle.framehop_rules.specs.declared.aarch64.unwind_rule.UnwindRuleAarch64.{UnwindRuleAarch64}
 use Rattle.framehop_rules.specs.declared.aarch64.unwind_rule.UnwindRuleAarch64.TheVariants.{NoOp, NoOpIfFirstFrameOtherwiseFp, OffsetSp, OffsetSpIfFirstFrameOtherwiseStackEndsHere, OffsetSpAndRestoreLr, OffsetSpAndRestoreFpAndLr, UseFramePointer, UseFramepointerWithOffsets}
-use Rattle.framehop_rules.proofs.Laws.{and_then-answers, past-end}
+use Rattle.framehop_rules.proofs.Laws.{and_then-answers, past-end, word-answers}
 use Rattle.framehop_analysis.specs.EpilogueInstructionsAarch64.{EpilogueInstruction, Load, Add}
 use Rattle.framehop_analysis.specs.FunctionEndsAarch64.{FunctionEnd}
 use Rattle.framehop_analysis.specs.MachineAarch64.{State, moved, put, access_offset, raise, epilogue_effect, state_after_epilogue, leave}
@@ -123,11 +123,7 @@ address_is (pos n) a is = record { is = grind arith; fits = grind arith }
 address_is (negsuc n) a is = cc
 
 read_is : (state : State) (registers : UnwindRegsAarch64) (words : Words) → IsAt state registers words → (at value : ℕ) → word words at ≡ Answers value → state.memory at ≡ value
-read_is state registers words is_at at value is = by (words at) refl is
-  where
-    by : (found : Option ℕ) → words at ≡ found → (elim found as (λ _. Outcome ℕ) [ Some w ↦ Answers w | None ↦ Refuses (CouldNotReadStack at) ]) ≡ Answers value → state.memory at ≡ value
-    by (Some w) there same = is_at.part at value (let e : w ≡ value = cc in there ∙ ap Some e)
-    by None there same = cc
+read_is state registers words is_at at value is = is_at.part at value (word-answers words at value is)
 
 raised_is : (state : State) (registers : UnwindRegsAarch64) (words : Words) → IsAt state registers words → (bytes sp : ℕ) → address (pos (sp_of registers) +ℤ pos bytes) ≡ Answers sp → moved state.sp (pos bytes) ≡ sp
 raised_is state registers words is_at bytes sp is =

@@ -1,4 +1,4 @@
--- Saves at the end of some bytes: the longest run is the one that is read from after.
+-- Instructions of a prologue at the end of some bytes: the longest run is the one that is read backwards.
 use Rattle.std.proofs.Common.{◌≡◌, ◌≢◌, ◌∙◌, ℕ, ◌+◌, ◌*◌, ◌<◌, ◌≤◌, ◌^◌, refl, sym, ap, subst, arith, ◌⊎◌, inl, inr, List, [], ◌∷◌, ◌++◌, length, append_assoc, append-nil, length-append, Option, Some, None}
 use Rattle.std.specs.List.{AllByRecursion}
 use Rattle.std.specs.Int.{to_le_bytes, w32}
@@ -19,7 +19,7 @@ use Rattle.framehop_analysis.proofs.Found.{found}
 use Rattle.framehop_analysis.proofs.OneRuleAarch64.{one_rule}
 use Rattle.framehop_analysis.proofs.Words.{four, last_four, split_same}
 
--- ---- one save
+-- ---- one instruction
 
 pub prologue_fits : (x : PrologueInstruction) → PrologueFits x → prologue_word x < 2 ^ 32
 prologue_fits Sign fits = omega arith

@@ -1,6 +1,6 @@
 -- What rules answer on the state of the machine.
 use Rattle.std.proofs.Common.{◌≡◌, ◌∙◌, ℕ, ◌+◌, ◌-◌, ◌*◌, ◌<◌, ◌≤◌, ◌^◌, refl, sym, ap, arith, true, false, Option, Some, None}
-use Rattle.std.specs.Prelude.{ℤ, pos, negsuc, ◌+ℤ◌, ◌-ℤ◌, ◌*ℤ◌, ◌==◌, ◌&&◌, nat_lt, nat_le, if◌then◌else◌, slice_set}
+use Rattle.std.specs.Prelude.{pos, ◌+ℤ◌, ◌-ℤ◌, ◌*ℤ◌, ◌==◌, ◌&&◌, nat_lt, nat_le, if◌then◌else◌, slice_set}
 use Rattle.std.proofs.lemmas.Bool.Decides.{nat_tests}
 use Rattle.std.proofs.lemmas.Int.{ints}
 use Rattle.std.proofs.lemmas.List.{get_or-set_same, get_or-set_other, length-set}
@@ -10,23 +10,15 @@ use Rattle.framehop_registers.specs.declared.error.Error.TheVariants.{CouldNotRe
 use Rattle.framehop_registers.specs.declared.x86_64.unwindregs.UnwindRegsX86_64.{UnwindRegsX86_64}
 use Rattle.framehop_rules.specs.Outcome.{Outcome, Ends, Refuses, Answers, Caller, and_then, address, word}
 use Rattle.framehop_rules.specs.RuleMeaning.{StackFrame, raised_frame, by_frame_pointer, stored_bp, restored_frame, return_address, caller_registers, returned_caller}
-use Rattle.framehop_rules.proofs.Laws.{and_then-answers, above-answers, above, past-refusal, past-end}
+use Rattle.framehop_rules.proofs.Laws.{address-answers, word-answers, and_then-answers, above-answers, above, past-refusal, past-end}
 use Rattle.framehop_analysis.specs.Machine.{State}
 use Rattle.framehop_analysis.specs.Returns.{IsAt}
 
 -- ---- parts of a rule
 
-address_is : (z : ℤ) (a : ℕ) → address z ≡ Answers a → z ≡ pos a
-address_is (pos n) a is = grind arith
-address_is (negsuc n) a is = cc
-
 -- a word that was read is the memory's
 read_is : (state : State) (registers : UnwindRegsX86_64) (words : Words) → IsAt state registers words → (at value : ℕ) → word words at ≡ Answers value → state.memory at ≡ value
-read_is state registers words is_at at value is = by (words at) refl is
-  where
-    by : (found : Option ℕ) → words at ≡ found → (elim found as (λ _. Outcome ℕ) [ Some w ↦ Answers w | None ↦ Refuses (CouldNotReadStack at) ]) ≡ Answers value → state.memory at ≡ value
-    by (Some w) there same = is_at.part at value (let e : w ≡ value = cc in there ∙ ap Some e)
-    by None there same = cc
+read_is state registers words is_at at value is = is_at.part at value (word-answers words at value is)
 
 -- ---- what a rule ends with
 
@@ -37,7 +29,7 @@ pub record IsCaller (state : State) (sp bp : ℕ) (caller : Caller UnwindRegsX86
   pub fits : 8 ≤ sp
 
 below_is : (sp at : ℕ) → address (pos sp -ℤ pos 8) ≡ Answers at → (8 ≤ sp) × (at ≡ sp - 8)
-below_is sp at is = let e = address_is (pos sp -ℤ pos 8) at is in (omega (arith, ints, e), omega (arith, ints, e))
+below_is sp at is = let e = address-answers (pos sp -ℤ pos 8) at is in (omega (arith, ints, e), omega (arith, ints, e))
 
 pub caller_is : (state : State) (registers : UnwindRegsX86_64) (words : Words) (sp bp : ℕ) (caller : Caller UnwindRegsX86_64)
     → IsAt state registers words → returned_caller registers words (sp, bp) ≡ Answers caller → IsCaller state sp bp caller
@@ -90,7 +82,7 @@ restored_is state registers words is_at bytes bp_offset frame is =
     let (bp, bp_is, there) = and_then-answers (stored_bp true registers words at) (λ bp. Answers (sp, bp)) frame read in
     let same : (sp, bp) ≡ frame = cc in
     let high = above-answers (sp_of registers) bytes sp sp_is in
-    let at_same : at ≡ sp_of registers + 8 * bp_offset = omega (arith, ints, address_is (pos (sp_of registers) +ℤ pos 8 *ℤ pos bp_offset) at at_is) in
+    let at_same : at ≡ sp_of registers + 8 * bp_offset = omega (arith, ints, address-answers (pos (sp_of registers) +ℤ pos 8 *ℤ pos bp_offset) at at_is) in
     let not_below : nat_lt at (sp_of registers) ≡ false = grind (arith, nat_tests) in
     record {
       has_sp = sym (ap (λ (f : StackFrame). f.0) same) ∙ high;
