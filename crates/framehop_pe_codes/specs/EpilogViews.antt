@@ -1,0 +1,17 @@
+-- What contracts see of an epilog in memory.
+use Rattle.std.specs.Prelude.{ℕ, ◌≡◌, List, ◌∷◌, Option, Some}
+use Rattle.framehop_registers.specs.declared.x86_64.unwindregs.Reg.{Reg}
+use Rattle.framehop_pe_codes.specs.Epilogs.{EpilogLeft, epilog_of, pops_of}
+use Rattle.framehop_pe_codes.specs.declared.epilog.Epilog.{Epilog}
+
+-- The epilog in memory is what these bytes are.
+pub record IsEpilog (frame_register : Option Reg) (epilog : Epilog) (bytes : List ℕ) : Type 0 where
+  pub pops : List Reg
+  pub popped : pops_of epilog.rest.now ≡ Some pops
+  pub is : epilog_of frame_register bytes ≡ Some (record { adjustment = epilog.adjustment; pops = pops })
+
+-- The first of the registers that are popped, and the bytes of the others.
+pub record IsPoppedFirst (registers : List Reg) (register : Reg) (rest : List ℕ) : Type 0 where
+  pub more : List Reg
+  pub left : pops_of rest ≡ Some more
+  pub is : registers ≡ register ∷ more

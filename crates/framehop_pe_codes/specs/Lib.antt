@@ -1,0 +1,11 @@
+pub mod Refusals
+pub mod Sections
+pub mod Codes
+pub mod Infos
+pub mod CodesToUndo
+pub mod Machine
+pub mod Epilogs
+pub mod EpilogRuns
+pub mod InfoViews
+pub mod MachineViews
+pub mod EpilogViews

@@ -1,0 +1,264 @@
+//! Reading of epilogs.
+
+ghost use Rattle.std.specs.Prelude.{◌≡◌, ◌≤◌, ◌<◌, ◌↔◌, None, length, IsTrue, IsSome, IfSome};
+ghost use Rattle.framehop_pe_codes.specs.Epilogs.{begins_with, signed_below, short_add, long_add, short_lea, long_lea, lea, lea_spelling, lea_size, adjustment_of, number_of, is_pop, pop_of, is_end, pops_of, epilog_of};
+ghost use Rattle.framehop_pe_codes.specs.EpilogViews.{IsEpilog};
+
+use crate::code::{bytes_after, register_numbered, u32_at};
+use framehop_registers::x86_64::Reg;
+
+/// How an epilog sets the stack pointer before its pops.
+#[derive(Clone, Copy, Debug, PartialEq, Eq)]
+pub enum SpAdjustment {
+    /// It doesn't, or it did already.
+    Stays,
+    /// `add rsp`: it goes up by so many bytes.
+    Add(u32),
+    /// `lea rsp`: it becomes the frame register plus so many bytes.
+    Lea(i64),
+}
+
+/// What is left of an epilog at an address.
+#[derive(Clone, Copy, Debug)]
+pub struct Epilog<'a> {
+    /// How it sets the stack pointer.
+    pub adjustment: SpAdjustment,
+    /// The bytes of its pops and of its end.
+    pub rest: &'a [u8],
+}
+
+#[tactic(auto, unfolding(crate::specs::Epilogs::begins_with))]
+// Whether bytes begin with these.
+fn begins_with(spelling: &[u8], bytes: &[u8]) -> bool
+    ensures value { result ≡ begins_with spelling.now bytes.now }
+    ensures within { IsTrue result → length spelling.now ≤ length bytes.now }
+{
+    bytes.starts_with(spelling)
+}
+
+#[tactic(auto, unfolding(crate::specs::Epilogs::is_end))]
+// Whether bytes begin with a return or a jump out of the function.
+pub(crate) fn is_end(bytes: &[u8]) -> bool
+    ensures { result ≡ is_end bytes.now }
+{
+    begins_with(&[0xc3], bytes)
+        || begins_with(&[0xf3, 0xc3], bytes)
+        || begins_with(&[0xeb], bytes)
+        || begins_with(&[0xe9], bytes)
+        || begins_with(&[0xff, 0x25], bytes)
+        || begins_with(&[0x48, 0xff, 0x25], bytes)
+}
+
+// Whether a byte is a pop of one of the first eight registers.
+fn is_pop(byte: u8) -> bool
+    ensures { result ≡ is_pop byte }
+{
+    0x58 <= byte && byte < 0x60
+}
+
+#[tactic(auto, unfolding(crate::specs::Epilogs::pop_of))]
+// The pop that some bytes begin with, and how many bytes it has.
+pub(crate) fn pop_of(bytes: &[u8]) -> Option<(Reg, usize)>
+    ensures pop { result ≡ pop_of bytes.now }
+    ensures within { IfSome result (λ found. found.1 ≤ length bytes.now) }
+    ensures some { IfSome result (λ found. 0 < found.1) }
+{
+    if bytes.is_empty() {
+        return None;
+    }
+    if is_pop(bytes[0]) {
+        return Some((register_numbered(bytes[0] - 0x58), 1));
+    }
+    if bytes[0] == 0x41 && bytes.len() > 1 && is_pop(bytes[1]) {
+        return Some((register_numbered(bytes[1] - 0x50), 2));
+    }
+    None
+}
+
+// Whether some bytes are pops up to an end.
+fn are_pops(bytes: &[u8]) -> bool
+    ensures { IsTrue result ↔ IsSome (pops_of bytes.now) }
+{
+    let mut rest = bytes;
+    'pops: while !is_end(rest) {
+        let Some((_register, size)) = pop_of(rest) else {
+            return false;
+        };
+        rest = bytes_after(rest, size);
+    }
+    true
+}
+
+// An add of an immediate of one byte that isn't negative.
+fn short_add(bytes: &[u8]) -> Option<(SpAdjustment, usize)>
+    ensures found { result ≡ short_add bytes.now }
+    ensures within { IfSome result (λ found. found.1 ≤ length bytes.now) }
+{
+    if begins_with(&[0x48, 0x83, 0xc4], bytes) && 4 <= bytes.len() && bytes[3] < 128 {
+        Some((SpAdjustment::Add(u32::from(bytes[3])), 4))
+    } else {
+        None
+    }
+}
+
+// An add of an immediate of four bytes that isn't negative.
+fn long_add(bytes: &[u8]) -> Option<(SpAdjustment, usize)>
+    ensures found { result ≡ long_add bytes.now }
+    ensures within { IfSome result (λ found. found.1 ≤ length bytes.now) }
+{
+    if begins_with(&[0x48, 0x81, 0xc4], bytes)
+        && 7 <= bytes.len()
+        && u32_at(bytes, 3) < 2147483648
+    {
+        Some((SpAdjustment::Add(u32_at(bytes, 3)), 7))
+    } else {
+        None
+    }
+}
+
+// A byte as a signed number.
+fn signed_byte(number: u8) -> i64
+    ensures { result ≡ signed_below 256 number }
+{
+    if number < 128 {
+        i64::from(number)
+    } else {
+        i64::from(number) - 256
+    }
+}
+
+// Four bytes as a signed number.
+fn signed_long(number: u32) -> i64
+    ensures { result ≡ signed_below 4294967296 number }
+{
+    if number < 2147483648 {
+        i64::from(number)
+    } else {
+        i64::from(number) - 4294967296
+    }
+}
+
+// How many bytes a lea from a register has before its displacement.
+fn lea_size(register: u8) -> usize
+    ensures { result ≡ lea_size register }
+{
+    if register % 8 == 4 { 4 } else { 3 }
+}
+
+// Whether bytes begin with a lea from a register, with this mode byte.
+fn begins_lea(mode: u8, register: u8, bytes: &[u8]) -> bool
+    requires mode { mode < 248 }
+    requires register { register < 16 }
+    ensures { result ≡ begins_with (lea_spelling mode register) bytes.now }
+{
+    if register % 8 == 4 {
+        begins_with(
+            &[0x48 + register / 8, 0x8d, mode + register % 8, 0x24],
+            bytes,
+        )
+    } else {
+        begins_with(&[0x48 + register / 8, 0x8d, mode + register % 8], bytes)
+    }
+}
+
+// The lea from a register with a displacement of one byte.
+fn short_lea(register: u8, bytes: &[u8]) -> Option<(SpAdjustment, usize)>
+    requires { register < 16 }
+    ensures found { result ≡ short_lea register bytes.now }
+    ensures within { IfSome result (λ found. found.1 ≤ length bytes.now) }
+{
+    let size = lea_size(register);
+    if begins_lea(0x60, register, bytes) && size + 1 <= bytes.len() {
+        Some((SpAdjustment::Lea(signed_byte(bytes[size])), size + 1))
+    } else {
+        None
+    }
+}
+
+// The lea from a register with a displacement of four bytes.
+fn long_lea(register: u8, bytes: &[u8]) -> Option<(SpAdjustment, usize)>
+    requires { register < 16 }
+    ensures found { result ≡ long_lea register bytes.now }
+    ensures within { IfSome result (λ found. found.1 ≤ length bytes.now) }
+{
+    let size = lea_size(register);
+    if begins_lea(0xa0, register, bytes) && size + 4 <= bytes.len() {
+        Some((
+            SpAdjustment::Lea(signed_long(u32_at(bytes, size))),
+            size + 4,
+        ))
+    } else {
+        None
+    }
+}
+
+// The number of a register in instructions.
+fn number_of(register: Reg) -> u8
+    ensures number { result ≡ number_of register }
+    ensures few { result < 16 }
+{
+    match register {
+        Reg::RAX => 0,
+        Reg::RCX => 1,
+        Reg::RDX => 2,
+        Reg::RBX => 3,
+        Reg::RSP => 4,
+        Reg::RBP => 5,
+        Reg::RSI => 6,
+        Reg::RDI => 7,
+        Reg::R8 => 8,
+        Reg::R9 => 9,
+        Reg::R10 => 10,
+        Reg::R11 => 11,
+        Reg::R12 => 12,
+        Reg::R13 => 13,
+        Reg::R14 => 14,
+        Reg::R15 => 15,
+    }
+}
+
+// The lea from the frame register, if there is one.
+fn read_lea(frame_register: Option<Reg>, bytes: &[u8]) -> Option<(SpAdjustment, usize)>
+    ensures found { result ≡ lea frame_register bytes.now }
+    ensures within { IfSome result (λ found. found.1 ≤ length bytes.now) }
+{
+    let register = number_of(frame_register?);
+    if let Some(found) = short_lea(register, bytes) {
+        return Some(found);
+    }
+    long_lea(register, bytes)
+}
+
+#[tactic(auto, unfolding(crate::specs::Epilogs::adjustment_of))]
+// The adjustment that some bytes begin with, and how many bytes it has.
+fn adjustment_of(frame_register: Option<Reg>, bytes: &[u8]) -> (SpAdjustment, usize)
+    ensures found { result ≡ adjustment_of frame_register bytes.now }
+    ensures within { result.1 ≤ length bytes.now }
+{
+    if let Some(found) = short_add(bytes) {
+        return found;
+    }
+    if let Some(found) = long_add(bytes) {
+        return found;
+    }
+    if let Some(found) = read_lea(frame_register, bytes) {
+        return found;
+    }
+    (SpAdjustment::Stays, 0)
+}
+
+/// What some bytes are of an epilog, if they are: the bytes from an address to the end of its function, whose frame
+/// register is this. An epilog that ends otherwise than by `ret`, `rep ret`, `jmp` with a displacement or `jmp` through
+/// memory at RIP plus a displacement isn't recognised.
+pub fn read_epilog(frame_register: Option<Reg>, bytes: &[u8]) -> Option<Epilog<'_>>
+    ensures none { result ≡ None → epilog_of frame_register bytes.now ≡ None }
+    ensures some { IfSome result (λ epilog. IsEpilog frame_register epilog bytes.now) }
+{
+    let (adjustment, size) = adjustment_of(frame_register, bytes);
+    let rest = bytes_after(bytes, size);
+    if are_pops(rest) {
+        Some(Epilog { adjustment, rest })
+    } else {
+        None
+    }
+}

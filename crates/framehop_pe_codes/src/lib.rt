@@ -1,0 +1,26 @@
+//! Unwind infos and epilogs of Windows on x64: reading them from the sections of a PE file, and the machine that undoes
+//! a prolog code by code or runs what is left of an epilog (Microsoft, "x64 exception handling").
+//!
+//! No function allocates.
+#![tactic(auto)]
+
+mod chain;
+mod code;
+mod epilog;
+mod epilog_run;
+mod info;
+mod listing;
+mod machine;
+mod operation;
+mod run;
+mod sections;
+
+pub use chain::CodesLeft;
+pub use code::{read_code, u32_at};
+pub use epilog::{Epilog, SpAdjustment, read_epilog};
+pub use epilog_run::{next_popped, unwind_by_epilog};
+pub use info::{UnwindInfo, read_info};
+pub use listing::{PrologCodes, first_info, read_chain, unwind_by_codes};
+pub use machine::FrameBase;
+pub use operation::{UnwindCode, UnwindOperation};
+pub use sections::{DataAtRvaRange, PeSections};

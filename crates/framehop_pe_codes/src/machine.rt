@@ -1,0 +1,222 @@
+//! One code undone.
+
+ghost use Rattle.std.specs.Prelude.{◌≡◌, ◌+◌, Some, None, ℕ};
+ghost use Rattle.framehop_registers.specs.Callback.{OverWords};
+ghost use Rattle.framehop_pe_codes.specs.Machine.{above, below, word_or, by_frame, save_base, raised, popped, framed, restored, error_code_size, interrupted, undone, returned};
+ghost use Rattle.framehop_pe_codes.specs.MachineViews.{undone_seen, registers_seen, caller_seen};
+
+use crate::operation::UnwindOperation;
+use framehop_errors::PeUnwinderError;
+use framehop_registers::x86_64::{Reg, UnwindRegsX86_64};
+
+/// The base of a frame: what offsets of saved registers are counted from.
+#[derive(Clone, Copy, Debug)]
+pub struct FrameBase {
+    /// The frame register of the first info, if it names one.
+    pub register: Option<Reg>,
+    /// How far the frame register is above the stack pointer that the prolog leaves, in bytes.
+    pub offset: u8,
+    /// Whether the prolog set the frame register. If it didn't, offsets are counted from the stack pointer.
+    pub is_set: bool,
+}
+
+// So many bytes above an address.
+#[inline(always)]
+fn above(base: u64, bytes: u64) -> Result<u64, PeUnwinderError>
+    ensures { result ≡ above base bytes }
+{
+    base.checked_add(bytes)
+        .ok_or(PeUnwinderError::MissingStackData(None))
+}
+
+// So many bytes below an address.
+#[inline(always)]
+fn below(base: u64, bytes: u64) -> Result<u64, PeUnwinderError>
+    ensures { result ≡ below base bytes }
+{
+    base.checked_sub(bytes)
+        .ok_or(PeUnwinderError::MissingStackData(None))
+}
+
+// The word at an address, or else this error.
+#[inline(always)]
+fn read_word<F: FnMut(u64) -> Result<u64, ()>>(
+    read_stack: &mut F,
+    at: u64,
+    refusal: PeUnwinderError,
+) -> Result<u64, PeUnwinderError>
+    requires { F.IsAlwaysCallable read_stack.old }
+    ensures callable { F.IsAlwaysCallable read_stack.new }
+    ensures word { OverWords F.step read_stack.old read_stack.new (λ words.
+        result ≡ word_or refusal words at) }
+{
+    match read_stack(at) {
+        Ok(word) => Ok(word),
+        Err(()) => Err(refusal),
+    }
+}
+
+// The stack pointer that the prolog left, by the frame register.
+fn by_frame(frame: &FrameBase, regs: &UnwindRegsX86_64) -> Result<u64, PeUnwinderError>
+    ensures { result ≡ by_frame frame.now regs.now }
+{
+    match frame.register {
+        Some(register) => below(regs.get(register), u64::from(frame.offset)),
+        None => Err(PeUnwinderError::UnwindInfoParseError),
+    }
+}
+
+// What offsets of saved registers are counted from.
+fn save_base(frame: &FrameBase, regs: &UnwindRegsX86_64) -> Result<u64, PeUnwinderError>
+    ensures { result ≡ save_base frame.now regs.now }
+{
+    if frame.is_set {
+        by_frame(frame, regs)
+    } else {
+        Ok(regs.sp())
+    }
+}
+
+// The stack pointer goes up.
+pub(crate) fn raise(regs: &mut UnwindRegsX86_64, bytes: u64) -> Result<(), PeUnwinderError>
+    ensures { registers_seen result regs.new ≡ raised regs.old bytes }
+{
+    let sp = above(regs.sp(), bytes)?;
+    regs.set_sp(sp);
+    Ok(())
+}
+
+// A register takes the word at the stack pointer, which then goes up by 8.
+pub(crate) fn pop<F: FnMut(u64) -> Result<u64, ()>>(
+    refusal: PeUnwinderError,
+    register: Reg,
+    regs: &mut UnwindRegsX86_64,
+    read_stack: &mut F,
+) -> Result<(), PeUnwinderError>
+    requires { F.IsAlwaysCallable read_stack.old }
+    ensures callable { F.IsAlwaysCallable read_stack.new }
+    ensures popped { OverWords F.step read_stack.old read_stack.new (λ words.
+        registers_seen result regs.new ≡ popped refusal register regs.old words) }
+{
+    let sp = regs.sp();
+    let value = read_word(read_stack, sp, refusal)?;
+    let next = above(sp, 8)?;
+    regs.set(register, value);
+    regs.set_sp(next);
+    Ok(())
+}
+
+// A register takes the word where the prolog saved it.
+fn restore<F: FnMut(u64) -> Result<u64, ()>>(
+    frame: &FrameBase,
+    register: Reg,
+    offset: u32,
+    regs: &mut UnwindRegsX86_64,
+    read_stack: &mut F,
+) -> Result<(), PeUnwinderError>
+    requires { F.IsAlwaysCallable read_stack.old }
+    ensures callable { F.IsAlwaysCallable read_stack.new }
+    ensures restored { OverWords F.step read_stack.old read_stack.new (λ words.
+        registers_seen result regs.new
+        ≡ restored frame.now register offset regs.old words) }
+{
+    let base = save_base(frame, regs)?;
+    let at = above(base, u64::from(offset))?;
+    let value = read_word(read_stack, at, PeUnwinderError::MissingStackData(None))?;
+    regs.set(register, value);
+    Ok(())
+}
+
+// How many bytes an error code has, if there is one.
+fn error_code_size(has_error_code: bool) -> u64
+    ensures { result ≡ error_code_size has_error_code }
+{
+    if has_error_code { 8 } else { 0 }
+}
+
+// Takes the stack pointer of the code that was interrupted, and answers its address.
+fn interrupt<F: FnMut(u64) -> Result<u64, ()>>(
+    has_error_code: bool,
+    regs: &mut UnwindRegsX86_64,
+    read_stack: &mut F,
+) -> Result<u64, PeUnwinderError>
+    requires { F.IsAlwaysCallable read_stack.old }
+    ensures callable { F.IsAlwaysCallable read_stack.new }
+    ensures interrupted { OverWords F.step read_stack.old read_stack.new (λ words.
+        caller_seen result regs.new ≡ interrupted has_error_code regs.old words) }
+{
+    let at = above(regs.sp(), error_code_size(has_error_code))?;
+    let to = read_word(read_stack, at, PeUnwinderError::MissingStackData(None))?;
+    let sp_at = above(at, 24)?;
+    let sp = read_word(read_stack, sp_at, PeUnwinderError::MissingStackData(None))?;
+    regs.set_sp(sp);
+    Ok(to)
+}
+
+// Sets the stack pointer back by the frame register.
+fn set_frame(frame: &FrameBase, regs: &mut UnwindRegsX86_64) -> Result<(), PeUnwinderError>
+    ensures { registers_seen result regs.new ≡ framed frame.now regs.old }
+{
+    let sp = by_frame(frame, regs)?;
+    regs.set_sp(sp);
+    Ok(())
+}
+
+// A return: answers the word at the stack pointer, which then goes up by 8.
+pub(crate) fn return_to_caller<F: FnMut(u64) -> Result<u64, ()>>(
+    regs: &mut UnwindRegsX86_64,
+    read_stack: &mut F,
+) -> Result<u64, PeUnwinderError>
+    requires { F.IsAlwaysCallable read_stack.old }
+    ensures callable { F.IsAlwaysCallable read_stack.new }
+    ensures returned { OverWords F.step read_stack.old read_stack.new (λ words.
+        caller_seen result regs.new ≡ returned regs.old words) }
+{
+    let sp = regs.sp();
+    let to = read_word(read_stack, sp, PeUnwinderError::MissingStackData(Some(sp)))?;
+    let next = above(sp, 8)?;
+    regs.set_sp(next);
+    Ok(to)
+}
+
+// Undoes one code; answers the address of the code that was interrupted, or `None` to go on.
+pub(crate) fn undo<F: FnMut(u64) -> Result<u64, ()>>(
+    frame: &FrameBase,
+    operation: UnwindOperation,
+    regs: &mut UnwindRegsX86_64,
+    read_stack: &mut F,
+) -> Result<Option<u64>, PeUnwinderError>
+    requires { F.IsAlwaysCallable read_stack.old }
+    ensures callable { F.IsAlwaysCallable read_stack.new }
+    ensures undone { OverWords F.step read_stack.old read_stack.new (λ words.
+        undone_seen result regs.new ≡ undone frame.now operation regs.old words) }
+{
+    match operation {
+        UnwindOperation::Push(register) => {
+            pop(
+                PeUnwinderError::MissingStackData(None),
+                register,
+                regs,
+                read_stack,
+            )?;
+            Ok(None)
+        }
+        UnwindOperation::Allocate(bytes) => {
+            raise(regs, u64::from(bytes))?;
+            Ok(None)
+        }
+        UnwindOperation::SetFrame => {
+            set_frame(frame, regs)?;
+            Ok(None)
+        }
+        UnwindOperation::Save(register, offset) => {
+            restore(frame, register, offset, regs, read_stack)?;
+            Ok(None)
+        }
+        UnwindOperation::SaveVector => Ok(None),
+        UnwindOperation::MachineFrame(has_error_code) => {
+            let to = interrupt(has_error_code, regs, read_stack)?;
+            Ok(Some(to))
+        }
+    }
+}

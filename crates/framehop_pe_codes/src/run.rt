@@ -1,0 +1,52 @@
+//! Passes over the codes that are left: one that reads them all, and one that undoes them.
+
+ghost use Rattle.std.specs.Prelude.{◌≡◌, Ok, List};
+ghost use Rattle.framehop_registers.specs.Callback.{OverWords};
+ghost use Rattle.framehop_pe_codes.specs.CodesToUndo.{sets_frame};
+ghost use Rattle.framehop_pe_codes.specs.InfoViews.{operations_left};
+ghost use Rattle.framehop_pe_codes.specs.Machine.{caller_by_codes};
+ghost use Rattle.framehop_pe_codes.specs.MachineViews.{caller_seen};
+ghost use Rattle.framehop_pe_codes.specs.Refusals.{result_and_then};
+ghost use Rattle.framehop_pe_codes.specs.declared.operation.UnwindOperation.{UnwindOperation};
+
+use crate::chain::CodesLeft;
+use crate::machine::{FrameBase, return_to_caller, undo};
+use crate::operation::UnwindOperation;
+use framehop_errors::PeUnwinderError;
+use framehop_registers::x86_64::UnwindRegsX86_64;
+
+// Reads all codes that are left, and answers whether one of them sets a frame.
+pub(crate) fn has_set_frame(left: CodesLeft<'_>) -> Result<bool, PeUnwinderError>
+    ensures { result ≡ result_and_then (operations_left left.entry) (λ operations. Ok (sets_frame operations)) }
+{
+    let mut rest = left;
+    let mut is_set = false;
+    'codes: while let Some(operation) = rest.next()? {
+        if matches!(operation, UnwindOperation::SetFrame) {
+            is_set = true;
+        }
+    }
+    Ok(is_set)
+}
+
+// Undoes all codes that are left, and returns. That they can be read was tested before.
+pub(crate) fn undo_codes<F: FnMut(u64) -> Result<u64, ()>>(
+    left: CodesLeft<'_>,
+    frame: &FrameBase,
+    regs: &mut UnwindRegsX86_64,
+    read_stack: &mut F,
+) -> Result<u64, PeUnwinderError>
+    requires { F.IsAlwaysCallable read_stack.old }
+    ensures callable { F.IsAlwaysCallable read_stack.new }
+    ensures run { OverWords F.step read_stack.old read_stack.new (λ words.
+        (operations : List UnwindOperation) → operations_left left.entry ≡ Ok operations
+        → caller_seen result regs.new ≡ caller_by_codes frame.now operations regs.old words) }
+{
+    let mut rest = left;
+    'codes: while let Some(operation) = rest.next()? {
+        if let Some(to) = undo(frame, operation, regs, read_stack)? {
+            return Ok(to);
+        }
+    }
+    return_to_caller(regs, read_stack)
+}
