@@ -1,0 +1,6 @@
+pub mod Rows
+pub mod RuleParts
+pub mod ToUndo
+pub mod Prologs
+pub mod PeSteps
+pub mod PartViews

@@ -1,0 +1,3 @@
+//! Windows on aarch64, whose unwind data aren't read.
+
+mod pe;

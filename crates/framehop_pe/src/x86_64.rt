@@ -1,0 +1,3 @@
+//! Windows on x64.
+
+mod pe;
