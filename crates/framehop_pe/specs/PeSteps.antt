@@ -1,10 +1,11 @@
 -- The step by the unwind data of a PE file, on x86_64.
-use Rattle.std.specs.Prelude.{ℕ, ◌≡◌, Bool, Result, Ok, Err}
+use Rattle.std.specs.Prelude.{ℕ, ◌≡◌, ◌<◌, ◌^◌, Bool, Result, Ok, Err}
 use Rattle.framehop_registers.specs.Callback.{Words}
-use Rattle.framehop_registers.specs.Registers.{register_of}
+use Rattle.framehop_registers.specs.Registers.{sp_of, register_of}
 use Rattle.framehop_registers.specs.declared.x86_64.unwindregs.Reg.{Reg}
 use Rattle.framehop_registers.specs.declared.x86_64.unwindregs.UnwindRegsX86_64.{UnwindRegsX86_64}
-use Rattle.framehop_rules.specs.Outcome.{Caller}
+use Rattle.framehop_rules.specs.Outcome.{Answers, Caller}
+use Rattle.framehop_rules.specs.RuleMeaning.{rule_meaning}
 use Rattle.framehop_rules.specs.Sequences.{IsRuleOf, HasNoRule}
 use Rattle.framehop_rules.specs.declared.unwind_result.UnwindResult.{UnwindResult}
 use Rattle.framehop_rules.specs.declared.unwind_result.UnwindResult.TheVariants.{ExecRule, Uncacheable}
@@ -39,3 +40,9 @@ pub record LeadsTo (undo : ToUndo) (registers : UnwindRegsX86_64) (words : Words
   pub after : UnwindRegsX86_64
   pub comes : caller_of undo registers words ≡ Ok (caller.return_address, after)
   pub same : SameRegisters after caller.registers
+
+-- Where a rule gives a caller, it is the one to which this leads one by one, in each frame whose stack pointer has 64 bits.
+abbrev pub LeadsAsOneByOne : UnwindRuleX86_64 → ToUndo → Type 0
+LeadsAsOneByOne rule undo =
+    (is_first : Bool) (registers : UnwindRegsX86_64) (words : Words) (caller : Caller UnwindRegsX86_64) → sp_of registers < 2 ^ 64
+    → rule_meaning rule is_first registers words ≡ Answers caller → LeadsTo undo registers words caller

@@ -1,16 +1,11 @@
 //! Laws of the rules for what is undone. The functions do nothing when the program runs.
 
-ghost use Rattle.std.specs.Prelude.{◌≡◌, ◌<◌, ◌^◌, ℕ, Bool, List};
-ghost use Rattle.framehop_registers.specs.Callback.{Words};
-ghost use Rattle.framehop_registers.specs.Registers.{HasAllRegisters, sp_of};
-ghost use Rattle.framehop_registers.specs.declared.x86_64.unwindregs.UnwindRegsX86_64.{UnwindRegsX86_64};
-ghost use Rattle.framehop_rules.specs.Outcome.{Answers, Caller};
-ghost use Rattle.framehop_rules.specs.RuleMeaning.{rule_meaning};
+ghost use Rattle.std.specs.Prelude.{List};
 ghost use Rattle.framehop_rules.specs.Sequences.{IsRuleOf};
 ghost use Rattle.framehop_rules.specs.declared.x86_64.offset_or_pop.OffsetOrPop.{OffsetOrPop};
 ghost use Rattle.framehop_rules.specs.declared.x86_64.unwind_rule.UnwindRuleX86_64.{UnwindRuleX86_64};
-ghost use Rattle.framehop_pe.specs.PeSteps.{LeadsTo};
-ghost use Rattle.framehop_pe.specs.Prologs.{State, AreDone, IsPartOf, IsReturnFrom};
+ghost use Rattle.framehop_pe.specs.PeSteps.{LeadsAsOneByOne};
+ghost use Rattle.framehop_pe.specs.Prologs.{State, IsOfProcessor, AreDone, LeadsBack};
 ghost use Rattle.framehop_pe.specs.ToUndo.{ToUndo, parts_of};
 
 use framehop_rules::x86_64::rules_of_sequences;
@@ -18,11 +13,8 @@ use framehop_rules::x86_64::rules_of_sequences;
 /// Where the rule of what is undone gives a caller, its return address and its sixteen registers are those to which the
 /// machine leads that undoes the codes, or runs the epilog, one by one.
 pub fn rules_undo_one_by_one()
-    ensures { (undo : ToUndo) (rule : UnwindRuleX86_64) (is_first : Bool)
-        (registers : UnwindRegsX86_64) (words : Words) (caller : Caller UnwindRegsX86_64)
-        → sp_of registers < 2 ^ 64 → IsRuleOf (parts_of undo) rule
-        → rule_meaning rule is_first registers words ≡ Answers caller
-        → LeadsTo undo registers words caller }
+    ensures { (undo : ToUndo) (rule : UnwindRuleX86_64)
+        → IsRuleOf (parts_of undo) rule → LeadsAsOneByOne rule undo }
 {
     rules_of_sequences();
 }
@@ -31,13 +23,9 @@ pub fn rules_undo_one_by_one()
 /// words that are part of the present memory, its return address and its sixteen registers are those after a return from
 /// the state before.
 pub fn rules_undo_prologs()
-    ensures { (operations : List OffsetOrPop) (rule : UnwindRuleX86_64) (is_first : Bool)
-        (before after : State) (words : Words) (caller : Caller UnwindRegsX86_64)
-        → HasAllRegisters before.registers → sp_of before.registers < 2 ^ 64
-        → IsRuleOf operations rule → AreDone operations before after
-        → IsPartOf words after.memory
-        → rule_meaning rule is_first after.registers words ≡ Answers caller
-        → IsReturnFrom before caller }
+    ensures { (operations : List OffsetOrPop) (rule : UnwindRuleX86_64) (before after : State)
+        → IsRuleOf operations rule → IsOfProcessor before → AreDone operations before after
+        → LeadsBack rule before after }
 {
     rules_of_sequences();
 }

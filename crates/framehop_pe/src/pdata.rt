@@ -26,8 +26,8 @@ fn pdata_rows(bytes: &[u8]) -> usize
     bytes.len() / 12
 }
 
-#[tactic(auto, unfolding(crate::specs::Rows::begin_at))]
 // Where the function of a row begins.
+#[tactic(auto, unfolding(crate::specs::Rows::begin_at))]
 fn begin_at(bytes: &[u8], row: usize) -> u32
     requires { row < pdata_rows bytes.now }
     ensures { result ≡ begin_at bytes.now row }
@@ -35,8 +35,8 @@ fn begin_at(bytes: &[u8], row: usize) -> u32
     u32_at(bytes, 12 * row)
 }
 
-#[tactic(auto, unfolding(crate::specs::Rows::end_at))]
 // Where it ends.
+#[tactic(auto, unfolding(crate::specs::Rows::end_at))]
 fn end_at(bytes: &[u8], row: usize) -> u32
     requires { row < pdata_rows bytes.now }
     ensures { result ≡ end_at bytes.now row }
@@ -44,8 +44,8 @@ fn end_at(bytes: &[u8], row: usize) -> u32
     u32_at(bytes, 12 * row + 4)
 }
 
-#[tactic(auto, unfolding(crate::specs::Rows::unwind_info_at))]
 // Where its unwind info is.
+#[tactic(auto, unfolding(crate::specs::Rows::unwind_info_at))]
 fn unwind_info_at(bytes: &[u8], row: usize) -> u32
     requires { row < pdata_rows bytes.now }
     ensures { result ≡ unwind_info_at bytes.now row }

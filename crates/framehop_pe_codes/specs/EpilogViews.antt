@@ -10,6 +10,11 @@ pub record IsEpilog (frame_register : Option Reg) (epilog : Epilog) (bytes : Lis
   pub popped : pops_of epilog.rest.now ≡ Some pops
   pub is : epilog_of frame_register bytes ≡ Some (record { adjustment = epilog.adjustment; pops = pops })
 
+-- If the bytes are pops up to an end, this holds of what is left of the epilog.
+abbrev pub OverEpilog : Epilog → (EpilogLeft → Type 0) → Type 0
+OverEpilog epilog says =
+    (pops : List Reg) → pops_of epilog.rest.now ≡ Some pops → says (record { adjustment = epilog.adjustment; pops = pops })
+
 -- The first of the registers that are popped, and the bytes of the others.
 pub record IsPoppedFirst (registers : List Reg) (register : Reg) (rest : List ℕ) : Type 0 where
   pub more : List Reg

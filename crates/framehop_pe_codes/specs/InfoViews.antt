@@ -9,6 +9,7 @@ use Rattle.framehop_pe_codes.specs.Sections.{Memory, unwind_info_memory}
 use Rattle.framehop_pe_codes.specs.declared.sections.PeSections.{PeSections}
 use Rattle.framehop_pe_codes.specs.declared.info.UnwindInfo.{UnwindInfo}
 use Rattle.framehop_pe_codes.specs.declared.chain.CodesLeft.{CodesLeft}
+use Rattle.framehop_pe_codes.specs.declared.listing.PrologCodes.{PrologCodes}
 use Rattle.framehop_pe_codes.specs.declared.operation.UnwindOperation.{UnwindOperation}
 
 -- The header of an info.
@@ -42,6 +43,22 @@ operations_left left =
     result_and_then (or_refusal UnwindInfoParseError (codes_of left.is_framed left.codes.now)) (λ codes.
     result_and_then (chain_from left.infos (unwind_info_memory left.sections) left.is_first_framed left.chained) (λ infos.
     Ok (operations_of codes ++ flat_map (λ info. operations_of info.codes) infos)))
+
+-- If the codes that are left can all be read, this holds of their operations.
+abbrev pub OverOperations : CodesLeft → (List UnwindOperation → Type 0) → Type 0
+OverOperations left says = (operations : List UnwindOperation) → operations_left left ≡ Ok operations → says operations
+
+-- What is undone by codes that can all be read.
+abbrev pub IsChainRead : PrologCodes → PeResult CodesToUndo → Type 0
+IsChainRead codes found =
+    (operations : List UnwindOperation) × (operations_left codes.left ≡ Ok operations)
+    × (found ≡ Ok (record { frame = codes.frame; operations = operations }))
+
+-- If the codes can all be read, this holds of what is undone by them.
+abbrev pub OverCodes : PrologCodes → (CodesToUndo → Type 0) → Type 0
+OverCodes codes says =
+    (operations : List UnwindOperation) → operations_left codes.left ≡ Ok operations
+    → says (record { frame = codes.frame; operations = operations })
 
 -- The same with an operation before them.
 abbrev pub with_operation : UnwindOperation → PeResult (List UnwindOperation) → PeResult (List UnwindOperation)

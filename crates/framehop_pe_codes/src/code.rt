@@ -122,9 +122,9 @@ fn read_operation(
     }
 }
 
-#[tactic(auto, unfolding(crate::specs::Codes::code_of))]
 /// The first code of some bytes, and how many bytes it has. `is_framed` says that its unwind info and the first of the
 /// chain name a frame register; otherwise no code may set a frame.
+#[tactic(auto, unfolding(crate::specs::Codes::code_of))]
 pub fn read_code(is_framed: bool, bytes: &[u8]) -> Option<(UnwindCode, usize)>
     ensures code { result ≡ code_of is_framed bytes.now }
     ensures within { IfSome result (λ found. found.1 ≤ length bytes.now) }

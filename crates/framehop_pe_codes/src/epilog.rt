@@ -27,8 +27,8 @@ pub struct Epilog<'a> {
     pub rest: &'a [u8],
 }
 
-#[tactic(auto, unfolding(crate::specs::Epilogs::begins_with))]
 // Whether bytes begin with these.
+#[tactic(auto, unfolding(crate::specs::Epilogs::begins_with))]
 fn begins_with(spelling: &[u8], bytes: &[u8]) -> bool
     ensures value { result ≡ begins_with spelling.now bytes.now }
     ensures within { IsTrue result → length spelling.now ≤ length bytes.now }
@@ -36,8 +36,8 @@ fn begins_with(spelling: &[u8], bytes: &[u8]) -> bool
     bytes.starts_with(spelling)
 }
 
-#[tactic(auto, unfolding(crate::specs::Epilogs::is_end))]
 // Whether bytes begin with a return or a jump out of the function.
+#[tactic(auto, unfolding(crate::specs::Epilogs::is_end))]
 pub(crate) fn is_end(bytes: &[u8]) -> bool
     ensures { result ≡ is_end bytes.now }
 {
@@ -56,8 +56,8 @@ fn is_pop(byte: u8) -> bool
     0x58 <= byte && byte < 0x60
 }
 
-#[tactic(auto, unfolding(crate::specs::Epilogs::pop_of))]
 // The pop that some bytes begin with, and how many bytes it has.
+#[tactic(auto, unfolding(crate::specs::Epilogs::pop_of))]
 pub(crate) fn pop_of(bytes: &[u8]) -> Option<(Reg, usize)>
     ensures pop { result ≡ pop_of bytes.now }
     ensures within { IfSome result (λ found. found.1 ≤ length bytes.now) }
@@ -229,8 +229,8 @@ fn read_lea(frame_register: Option<Reg>, bytes: &[u8]) -> Option<(SpAdjustment, 
     long_lea(register, bytes)
 }
 
-#[tactic(auto, unfolding(crate::specs::Epilogs::adjustment_of))]
 // The adjustment that some bytes begin with, and how many bytes it has.
+#[tactic(auto, unfolding(crate::specs::Epilogs::adjustment_of))]
 fn adjustment_of(frame_register: Option<Reg>, bytes: &[u8]) -> (SpAdjustment, usize)
     ensures found { result ≡ adjustment_of frame_register bytes.now }
     ensures within { result.1 ≤ length bytes.now }

@@ -5,7 +5,7 @@ ghost use Rattle.framehop_registers.specs.Callback.{OverWords};
 ghost use Rattle.framehop_registers.specs.declared.x86_64.unwindregs.Reg.{Reg};
 ghost use Rattle.framehop_pe_codes.specs.Epilogs.{pops_of, pop_of, is_end};
 ghost use Rattle.framehop_pe_codes.specs.EpilogRuns.{caller_by_pops, moved, adjusted, caller_by_epilog};
-ghost use Rattle.framehop_pe_codes.specs.EpilogViews.{IsPoppedFirst};
+ghost use Rattle.framehop_pe_codes.specs.EpilogViews.{IsPoppedFirst, OverEpilog};
 ghost use Rattle.framehop_pe_codes.specs.MachineViews.{caller_seen, registers_seen, IsStepTo};
 
 use crate::code::bytes_after;
@@ -89,10 +89,9 @@ pub fn unwind_by_epilog<F: FnMut(u64) -> Result<u64, ()>>(
     requires callable { F.IsAlwaysCallable read_stack.old }
     requires pops { IsSome (pops_of epilog.now.rest.now) }
     ensures callable { F.IsAlwaysCallable read_stack.new }
-    ensures step { OverWords F.step read_stack.old read_stack.new (λ words. (pops : List Reg)
-        → pops_of epilog.now.rest.now ≡ Some pops
-        → IsStepTo result regs.old regs.new (caller_by_epilog frame_register
-        (record { adjustment = epilog.now.adjustment; pops = pops }) regs.old words)) }
+    ensures step { OverWords F.step read_stack.old read_stack.new (λ words.
+        OverEpilog epilog.now (λ left. IsStepTo result regs.old regs.new
+        (caller_by_epilog frame_register left regs.old words))) }
     ensures error_keeps { OnErr result (regs.new ≡ regs.old) }
 {
     let mut caller = *regs;

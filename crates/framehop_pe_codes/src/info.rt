@@ -34,8 +34,8 @@ fn frame_register_of(byte: u8) -> Option<Reg>
     }
 }
 
-#[tactic(auto, unfolding(crate::specs::Infos::header_of))]
 // The header that some bytes begin with, and the bytes of the codes, which may be none.
+#[tactic(auto, unfolding(crate::specs::Infos::header_of))]
 fn read_header(bytes: &[u8]) -> Option<UnwindInfo<'_>>
     ensures header { option_map header_seen result ≡ header_of bytes.now }
     ensures few { IfSome result (λ info. length info.codes.now ≤ 510) }

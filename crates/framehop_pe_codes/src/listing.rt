@@ -1,14 +1,13 @@
 //! What is undone of a prolog, and the step by it.
 
-ghost use Rattle.std.specs.Prelude.{◌≡◌, IfOk, IfErr, OnErr, Ok, Err, true, List};
+ghost use Rattle.std.specs.Prelude.{◌≡◌, IfOk, IfErr, OnErr, Err, true};
 ghost use Rattle.framehop_registers.specs.Callback.{OverWords};
 ghost use Rattle.framehop_pe_codes.specs.CodesToUndo.{operations_from, codes_to_undo};
 ghost use Rattle.framehop_pe_codes.specs.Infos.{Info, info_at};
-ghost use Rattle.framehop_pe_codes.specs.InfoViews.{operations_left, IsFirst, IsFirstAt};
+ghost use Rattle.framehop_pe_codes.specs.InfoViews.{operations_left, IsFirst, IsFirstAt, IsChainRead, OverCodes};
 ghost use Rattle.framehop_pe_codes.specs.Machine.{caller_by_codes};
 ghost use Rattle.framehop_pe_codes.specs.MachineViews.{IsStepTo};
 ghost use Rattle.framehop_pe_codes.specs.Sections.{unwind_info_memory};
-ghost use Rattle.framehop_pe_codes.specs.declared.operation.UnwindOperation.{UnwindOperation};
 
 use crate::chain::{CodesLeft, ran_codes};
 use crate::info::{UnwindInfo, read_info};
@@ -66,9 +65,7 @@ pub fn read_chain<'a>(
     offset: u32,
 ) -> Result<PrologCodes<'a>, PeUnwinderError>
     ensures ok { IfOk result (λ codes. (first : Info) → IsFirst info.entry first
-        → (operations : List UnwindOperation) × (operations_left codes.left ≡ Ok operations)
-        × (codes_to_undo (unwind_info_memory sections.entry) first offset
-        ≡ Ok (record { frame = codes.frame; operations = operations }))) }
+        → IsChainRead codes (codes_to_undo (unwind_info_memory sections.entry) first offset)) }
     ensures err { IfErr result (λ e. (first : Info) → IsFirst info.entry first
         → codes_to_undo (unwind_info_memory sections.entry) first offset ≡ Err e) }
 {
@@ -92,9 +89,8 @@ pub fn unwind_by_codes<F: FnMut(u64) -> Result<u64, ()>>(
     requires { F.IsAlwaysCallable read_stack.old }
     ensures callable { F.IsAlwaysCallable read_stack.new }
     ensures step { OverWords F.step read_stack.old read_stack.new (λ words.
-        (operations : List UnwindOperation) → operations_left codes.entry.left ≡ Ok operations
-        → IsStepTo result regs.old regs.new
-        (caller_by_codes codes.entry.frame operations regs.old words)) }
+        OverCodes codes.entry (λ undo. IsStepTo result regs.old regs.new
+        (caller_by_codes undo.frame undo.operations regs.old words))) }
     ensures error_keeps { OnErr result (regs.new ≡ regs.old) }
 {
     let mut caller = *regs;

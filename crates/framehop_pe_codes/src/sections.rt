@@ -8,7 +8,7 @@ use std::ops::Range;
 
 /// The bytes of a section, and the range of addresses that it takes, relative to the file's base (RVA). The range may be
 /// longer than the bytes, or shorter.
-#[derive(Debug)]
+#[derive(Debug, Drop)]
 pub struct DataAtRvaRange<'a> {
     /// The bytes, from the range's start on.
     pub bytes: &'a [u8],

@@ -1,13 +1,12 @@
 //! The step by the unwind data of a PE file, on x86_64.
 
-ghost use Rattle.std.specs.Prelude.{◌≡◌, ◌<◌, ◌≤◌, Ok, Err, Some, IfOk, IfErr, IsTrue, IsSome, List};
+ghost use Rattle.std.specs.Prelude.{◌≡◌, ◌<◌, ◌≤◌, Ok, Err, IfOk, IfErr, IsTrue, IsSome};
 ghost use Rattle.framehop_registers.specs.Callback.{OverWords};
-ghost use Rattle.framehop_registers.specs.declared.x86_64.unwindregs.Reg.{Reg};
 ghost use Rattle.framehop_rules.specs.RuleMeaning.{IsValid};
 ghost use Rattle.framehop_rules.specs.UnwindResults.{HasValidRule, KeepsUnlessDirect};
 ghost use Rattle.framehop_pe_codes.specs.Epilogs.{pops_of};
-ghost use Rattle.framehop_pe_codes.specs.InfoViews.{operations_left};
-ghost use Rattle.framehop_pe_codes.specs.declared.operation.UnwindOperation.{UnwindOperation};
+ghost use Rattle.framehop_pe_codes.specs.EpilogViews.{OverEpilog};
+ghost use Rattle.framehop_pe_codes.specs.InfoViews.{OverCodes};
 ghost use Rattle.framehop_pe.specs.PartViews.{IsRead, IsEpilogRead};
 ghost use Rattle.framehop_pe.specs.PeSteps.{IsUndone};
 ghost use Rattle.framehop_pe.specs.Rows.{IsIncreasing};
@@ -111,10 +110,9 @@ fn undo_epilog<F: FnMut(u64) -> Result<u64, ()>>(
     requires callable { F.IsAlwaysCallable read_stack.old }
     requires pops { IsSome (pops_of epilog.rest.now) }
     ensures callable { F.IsAlwaysCallable read_stack.new }
-    ensures undone { OverWords F.step read_stack.old read_stack.new (λ words. (pops : List Reg)
-        → pops_of epilog.entry.rest.now ≡ Some pops → IsUndone (ByEpilog frame_register
-        (record { adjustment = epilog.entry.adjustment; pops = pops }))
-        words result regs.old regs.new) }
+    ensures undone { OverWords F.step read_stack.old read_stack.new (λ words.
+        OverEpilog epilog.entry (λ left.
+        IsUndone (ByEpilog frame_register left) words result regs.old regs.new)) }
     ensures valid { HasValidRule IsValid result }
     ensures keeps { KeepsUnlessDirect result regs.old regs.new }
 {
@@ -134,9 +132,8 @@ fn undo_codes<F: FnMut(u64) -> Result<u64, ()>>(
     requires { F.IsAlwaysCallable read_stack.old }
     ensures callable { F.IsAlwaysCallable read_stack.new }
     ensures undone { OverWords F.step read_stack.old read_stack.new (λ words.
-        (operations : List UnwindOperation) → operations_left codes.entry.left ≡ Ok operations
-        → IsUndone (ByCodes (record { frame = codes.entry.frame; operations = operations }))
-        words result regs.old regs.new) }
+        OverCodes codes.entry (λ undo.
+        IsUndone (ByCodes undo) words result regs.old regs.new)) }
     ensures valid { HasValidRule IsValid result }
     ensures keeps { KeepsUnlessDirect result regs.old regs.new }
 {

@@ -5,6 +5,6 @@ use Rattle.framehop_pe.proofs.OneByOne.{leads}
 use Rattle.framehop_pe.proofs.laws.rules_undo_one_by_one.Goals as goal
 
 pub returns : goal.returns
-returns c = λ undo rule is_first registers words caller fits of is.
+returns c = λ undo rule of is_first registers words caller fits is.
     leads undo is_first registers words caller (rule-followed (parts_of undo) rule of)
     (sym (c.rules_of_sequences.ensures.meaning (parts_of undo) rule of is_first registers words fits) ∙ is)

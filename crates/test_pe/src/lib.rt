@@ -1,0 +1,17 @@
+//! Tests of the steps by Windows' unwind data, by public calls alone.
+#![tactic(auto)]
+
+#[cfg(test)]
+mod chains;
+#[cfg(test)]
+mod codes;
+#[cfg(test)]
+mod epilogs;
+#[cfg(test)]
+mod refusals;
+#[cfg(test)]
+mod rows;
+#[cfg(test)]
+mod steps;
+#[cfg(test)]
+mod worked;

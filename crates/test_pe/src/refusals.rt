@@ -1,0 +1,65 @@
+//! Unwind info by its sections, and what isn't there.
+
+use crate::worked::{INFO, ROW};
+use framehop_pe::{DataAtRvaRange, PeSections, PeUnwinderError, PeUnwinding};
+use framehop_registers::aarch64::UnwindRegsAarch64;
+use framehop_rules::aarch64::ArchAarch64;
+use std::test::Fail;
+
+/// `.rdata` from 0x2000 with four bytes, and `.xdata` from 0x2000 with the worked info.
+#[test]
+fn unwind_info_is_sought_in_rdata_first(rt: HostRuntime) -> Result<(), Fail> {
+    let first = DataAtRvaRange {
+        bytes: &[0x11, 0x12, 0x13, 0x14],
+        rva_range: 0x2000..0x2010,
+    };
+    let second = DataAtRvaRange {
+        bytes: &INFO,
+        rva_range: 0x2000..0x2008,
+    };
+    let rdata = Some(&first);
+    let xdata = Some(&second);
+    let text = None;
+    let sections = PeSections {
+        pdata: &ROW,
+        increasing: false,
+        rdata,
+        xdata,
+        text,
+    };
+    assert!(rt; matches!(sections.unwind_info_memory_at_rva(0x2002), Ok([0x13, 0x14])));
+    assert!(rt; matches!(sections.unwind_info_memory_at_rva(0x2004), Ok([])));
+    assert!(rt;
+        matches!(
+            sections.unwind_info_memory_at_rva(0x2005),
+            Ok([0x32, 0x01, 0x30])
+        )
+    );
+    let missing = PeUnwinderError::MissingUnwindInfoData(0x2008);
+    assert!(rt; matches!(sections.unwind_info_memory_at_rva(0x2008), Err(e) if e == missing));
+    let missing = PeUnwinderError::MissingUnwindInfoData(0x1fff);
+    assert!(rt; matches!(sections.unwind_info_memory_at_rva(0x1fff), Err(e) if e == missing));
+    let missing = PeUnwinderError::MissingInstructionData(0x1000);
+    assert!(rt; matches!(sections.text_memory_at_rva(0x1000), Err(e) if e == missing));
+    Ok(())
+}
+
+#[test]
+fn aarch64_is_not_supported(rt: HostRuntime) -> Result<(), Fail> {
+    let rdata = None;
+    let xdata = None;
+    let text = None;
+    let sections = PeSections {
+        pdata: &ROW,
+        increasing: false,
+        rdata,
+        xdata,
+        text,
+    };
+    let mut regs = UnwindRegsAarch64::new(1, 2, 3);
+    let mut read = |_address: u64| Err(());
+    let answer = ArchAarch64::unwind_frame(sections, 0x1008, &mut regs, true, &mut read);
+    assert!(rt; matches!(answer, Err(PeUnwinderError::Aarch64Unsupported)));
+    assert!(rt; (regs.lr(), regs.sp(), regs.fp()) == (1, 2, 3));
+    Ok(())
+}
