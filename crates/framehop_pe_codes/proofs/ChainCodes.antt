@@ -1,6 +1,6 @@
 -- The operations that are left, code by code and info by info.
-use Rattle.std.proofs.Common.{◌≡◌, ◌∙◌, ℕ, zero, suc, ◌<◌, ◌≤◌, Bool, true, false, List, [], ◌∷◌, ◌++◌, length, drop, refl, ap, sym, arith, append_assoc}
-use Rattle.std.specs.Prelude.{◌&&◌, flat_map, map, Option, Some, None, Result, Ok, Err, IsSome, is_some, nat_lt, if◌then◌else◌}
+use Rattle.std.proofs.Common.{◌≡◌, ◌∙◌, ℕ, zero, suc, ◌<◌, Bool, true, false, List, [], ◌∷◌, ◌++◌, length, drop, refl, ap, sym}
+use Rattle.std.specs.Prelude.{◌&&◌, flat_map, Option, Some, None, Result, Ok, Err, IsSome, is_some, nat_lt, if◌then◌else◌}
 use Rattle.std.specs.Option.{option_map, option_and_then}
 use Rattle.std.proofs.lemmas.List.Concat.{flat_map-cons}
 use Rattle.framehop_errors.specs.declared.pe.PeUnwinderError.{PeUnwinderError}

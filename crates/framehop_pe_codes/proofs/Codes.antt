@@ -1,8 +1,7 @@
 -- The codes of some bytes, one after the other.
-use Rattle.std.proofs.Common.{◌≡◌, ◌∙◌, ℕ, zero, suc, ◌+◌, ◌<◌, ◌≤◌, Bool, true, false, List, [], ◌∷◌, length, drop, refl, ap, sym, arith, length-drop}
-use Rattle.std.specs.Prelude.{◌*◌, ◌/◌, ◌%◌, nat_lt, if◌then◌else◌, slice_index, Option, Some, None, IsSome, ◌↔◌}
+use Rattle.std.proofs.Common.{◌≡◌, ◌∙◌, ℕ, zero, suc, ◌<◌, ◌≤◌, Bool, true, false, List, [], ◌∷◌, length, drop, refl, ap, arith, length-drop}
+use Rattle.std.specs.Prelude.{◌/◌, ◌%◌, nat_lt, if◌then◌else◌, slice_index, Option, Some, None, IsSome, ◌↔◌}
 use Rattle.std.specs.Option.{option_map, option_and_then}
-use Rattle.std.proofs.lemmas.Bool.Decides.{nat_tests}
 use Rattle.framehop_pe_codes.specs.Codes.{SizedOperation, code_at, code_of, codes_of, codes_within, operation_of}
 use Rattle.framehop_pe_codes.specs.declared.operation.UnwindCode.{UnwindCode}
 

@@ -1,6 +1,6 @@
 -- The first info of a chain, and the codes that are left after it.
 use Rattle.std.proofs.Common.{◌≡◌, ◌∙◌, ℕ, Bool, true, List, ap, sym, refl}
-use Rattle.std.specs.Prelude.{Option, Some, None, Ok, Err, IsSome, is_some}
+use Rattle.std.specs.Prelude.{Option, Some, None, Ok, IsSome, is_some}
 use Rattle.std.specs.Option.{option_map}
 use Rattle.framehop_errors.specs.declared.pe.PeUnwinderError.TheVariants.{UnwindInfoParseError}
 use Rattle.framehop_pe_codes.specs.Codes.{codes_of}

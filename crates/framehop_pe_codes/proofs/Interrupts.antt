@@ -1,11 +1,10 @@
 -- The caller after a machine frame, from the reads one after the other.
-use Rattle.std.proofs.Common.{◌≡◌, ◌∙◌, ℕ, Bool, ap, sym, refl}
-use Rattle.std.specs.Prelude.{Ok, Err, None}
+use Rattle.std.proofs.Common.{◌≡◌, ℕ, Bool, refl}
+use Rattle.std.specs.Prelude.{Ok, None}
 use Rattle.framehop_registers.specs.Callback.{Words}
 use Rattle.framehop_registers.specs.Registers.{sp_of, with_register}
 use Rattle.framehop_registers.specs.declared.x86_64.unwindregs.Reg.TheVariants.{RSP}
 use Rattle.framehop_registers.specs.declared.x86_64.unwindregs.UnwindRegsX86_64.{UnwindRegsX86_64}
-use Rattle.framehop_errors.specs.declared.pe.PeUnwinderError.{PeUnwinderError}
 use Rattle.framehop_errors.specs.declared.pe.PeUnwinderError.TheVariants.{MissingStackData}
 use Rattle.framehop_pe_codes.specs.Machine.{above, error_code_size, interrupted, word_or}
 use Rattle.framehop_pe_codes.specs.Refusals.{PeResult, result_and_then}

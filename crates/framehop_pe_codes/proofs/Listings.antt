@@ -1,11 +1,10 @@
 -- What is undone of a chain, once all of it is read.
 use Rattle.std.proofs.Common.{◌≡◌, ◌∙◌, ℕ, Bool, List, ap, sym, refl}
-use Rattle.std.specs.Prelude.{Result, Ok, Err}
+use Rattle.std.specs.Prelude.{Ok, Err}
 use Rattle.framehop_errors.specs.declared.pe.PeUnwinderError.{PeUnwinderError}
 use Rattle.framehop_pe_codes.specs.CodesToUndo.{CodesToUndo, codes_to_undo, frame_of, operations_from, sets_frame}
 use Rattle.framehop_pe_codes.specs.InfoViews.{IsFirst}
 use Rattle.framehop_pe_codes.specs.Infos.{Info}
-use Rattle.framehop_pe_codes.specs.Machine.{undone}
 use Rattle.framehop_pe_codes.specs.Refusals.{PeResult, result_and_then}
 use Rattle.framehop_pe_codes.specs.Sections.{Memory}
 use Rattle.framehop_pe_codes.specs.declared.info.UnwindInfo.{UnwindInfo}

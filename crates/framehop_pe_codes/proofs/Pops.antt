@@ -1,5 +1,5 @@
 -- Pops up to an end, one after the other.
-use Rattle.std.proofs.Common.{◌≡◌, ◌∙◌, ℕ, zero, suc, ◌+◌, ◌<◌, ◌≤◌, Bool, true, false, List, [], ◌∷◌, length, drop, refl, ap, sym, arith, length-drop}
+use Rattle.std.proofs.Common.{◌≡◌, ◌∙◌, ℕ, zero, suc, ◌<◌, ◌≤◌, Bool, true, false, List, [], ◌∷◌, length, drop, refl, ap, sym, arith, length-drop}
 use Rattle.std.specs.Prelude.{◌-◌, ◌==◌, ◌&&◌, slice_index, if◌then◌else◌, Option, Some, None, IsSome, ◌↔◌}
 use Rattle.std.specs.Option.{option_map, option_and_then}
 use Rattle.framehop_registers.specs.declared.x86_64.unwindregs.Reg.{Reg}

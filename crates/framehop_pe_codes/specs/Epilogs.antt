@@ -1,7 +1,7 @@
 -- What is left of an epilog at an address, as bytes (Microsoft, "x64 exception handling", "Epilog code"): an instruction that sets
 -- the stack pointer, which may be missing; pops; and a return or a jump out of the function, of which this library has a list of its
 -- own.
-use Rattle.std.specs.Prelude.{ℕ, zero, suc, ◌+◌, ◌-◌, ◌*◌, ◌/◌, ◌%◌, ◌==◌, ◌&&◌, ◌||◌, ℤ, pos, ◌-ℤ◌, Bool, nat_lt, nat_le, if◌then◌else◌, List, [], ◌∷◌, length, drop, slice_index, Option, Some, None}
+use Rattle.std.specs.Prelude.{ℕ, zero, suc, ◌+◌, ◌-◌, ◌/◌, ◌%◌, ◌==◌, ◌&&◌, ◌||◌, ℤ, pos, ◌-ℤ◌, Bool, nat_lt, nat_le, if◌then◌else◌, List, [], ◌∷◌, length, drop, slice_index, Option, Some, None}
 use Rattle.std.specs.List.{starts_with}
 use Rattle.std.specs.Option.{option_map, option_and_then, option_or}
 use Rattle.framehop_registers.specs.declared.x86_64.unwindregs.Reg.{Reg}

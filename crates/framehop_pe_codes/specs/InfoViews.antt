@@ -1,12 +1,11 @@
 -- What contracts see of unwind infos and their codes in memory.
-use Rattle.std.specs.Prelude.{ℕ, ◌+◌, ◌*◌, ◌&&◌, true, Bool, List, ◌≡◌, IsSome, is_some, ◌++◌, ◌∷◌, [], length, flat_map, Option, Some, None, Ok, Err}
+use Rattle.std.specs.Prelude.{ℕ, ◌+◌, ◌*◌, ◌&&◌, true, Bool, List, ◌≡◌, IsSome, is_some, ◌++◌, ◌∷◌, [], length, flat_map, Option, Some, None, Ok}
 use Rattle.framehop_errors.specs.declared.pe.PeUnwinderError.TheVariants.{UnwindInfoParseError}
 use Rattle.framehop_pe_codes.specs.Codes.{codes_of}
 use Rattle.framehop_pe_codes.specs.Infos.{InfoHeader, Info, header_of, with_codes, info_at, chain_from, operations_of}
-use Rattle.framehop_pe_codes.specs.CodesToUndo.{CodesToUndo, operations_from, codes_to_undo}
+use Rattle.framehop_pe_codes.specs.CodesToUndo.{CodesToUndo}
 use Rattle.framehop_pe_codes.specs.Refusals.{PeResult, result_and_then, or_refusal}
 use Rattle.framehop_pe_codes.specs.Sections.{Memory, unwind_info_memory}
-use Rattle.framehop_pe_codes.specs.declared.sections.PeSections.{PeSections}
 use Rattle.framehop_pe_codes.specs.declared.info.UnwindInfo.{UnwindInfo}
 use Rattle.framehop_pe_codes.specs.declared.chain.CodesLeft.{CodesLeft}
 use Rattle.framehop_pe_codes.specs.declared.listing.PrologCodes.{PrologCodes}

@@ -1,6 +1,6 @@
 -- Unwind infos, version 1, as bytes, and their chains (Microsoft, "x64 exception handling", struct UNWIND_INFO and "Chained
 -- unwind info structures").
-use Rattle.std.specs.Prelude.{ℕ, zero, suc, ◌+◌, ◌*◌, ◌/◌, ◌%◌, ◌==◌, ◌&&◌, Bool, true, nat_lt, if◌then◌else◌, List, [], ◌∷◌, ◌++◌, map, flat_map, take, drop, length, slice_index, Option, Some, None, Ok, Err, is_some}
+use Rattle.std.specs.Prelude.{ℕ, zero, suc, ◌+◌, ◌*◌, ◌/◌, ◌%◌, ◌==◌, ◌&&◌, Bool, nat_lt, if◌then◌else◌, List, [], ◌∷◌, ◌++◌, map, flat_map, take, drop, length, slice_index, Option, Some, None, Ok, Err, is_some}
 use Rattle.std.specs.Option.{option_map, option_and_then}
 use Rattle.framehop_registers.specs.declared.x86_64.unwindregs.Reg.{Reg}
 use Rattle.framehop_errors.specs.declared.pe.PeUnwinderError.TheVariants.{UnwindInfoParseError}

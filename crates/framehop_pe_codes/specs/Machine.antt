@@ -2,7 +2,7 @@
 -- "Unwind procedure").
 --
 -- Checks and reads go in the written order, and the first one that fails is the refusal.
-use Rattle.std.specs.Prelude.{ℕ, ◌+◌, ◌-◌, ◌^◌, Bool, nat_lt, if◌then◌else◌, List, [], ◌∷◌, Option, Some, None, Ok, Err}
+use Rattle.std.specs.Prelude.{ℕ, ◌+◌, ◌-◌, ◌^◌, Bool, nat_lt, if◌then◌else◌, List, [], ◌∷◌, Some, None, Ok, Err}
 use Rattle.framehop_registers.specs.Callback.{Words}
 use Rattle.framehop_registers.specs.Registers.{sp_of, register_of, with_register}
 use Rattle.framehop_registers.specs.declared.x86_64.unwindregs.Reg.{Reg}

@@ -1,6 +1,6 @@
 -- Bytes of a PE file by their addresses. All addresses of unwind data are relative to the file's base (RVA).
 use Rattle.std.specs.Borrow.{Bor}
-use Rattle.std.specs.Prelude.{ℕ, ◌-◌, ◌&&◌, nat_lt, nat_le, if◌then◌else◌, List, length, take, drop, Option, Some, None, option_and_then}
+use Rattle.std.specs.Prelude.{ℕ, ◌-◌, ◌&&◌, nat_lt, nat_le, if◌then◌else◌, List, length, drop, Option, Some, None, option_and_then}
 use Rattle.std.specs.Option.{option_or}
 use Rattle.framehop_pe_codes.specs.Refusals.{PeResult, or_refusal}
 use Rattle.framehop_errors.specs.declared.pe.PeUnwinderError.TheVariants.{MissingUnwindInfoData, MissingInstructionData}
