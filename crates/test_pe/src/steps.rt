@@ -86,6 +86,16 @@ fn first_frames_want_the_code(rt: HostRuntime) -> Result<(), Fail> {
 }
 
 #[test]
+fn unwind_info_elsewhere_is_missing(rt: HostRuntime) -> Result<(), Fail> {
+    let row = [0, 0x10, 0, 0, 0x10, 0x10, 0, 0, 0, 0x30, 0, 0];
+    let start = (0x101009, 0x20, 0x20);
+    let missing = PeUnwinderError::MissingUnwindInfoData(0x3000);
+    let sections = (&row[..], &INFO[..], None);
+    assert_refused(&rt, sections, (0x1008, false), start, 0x80, missing);
+    Ok(())
+}
+
+#[test]
 fn codes_without_a_rule_are_undone(rt: HostRuntime) -> Result<(), Fail> {
     let sections = (&ROW[..], &PUSH_AFTER_ALLOCATION[..], None);
     let start = (0x101009, 0x38, 0x20);
