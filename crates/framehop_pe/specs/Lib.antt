@@ -4,3 +4,4 @@ pub mod ToUndo
 pub mod Prologs
 pub mod PeSteps
 pub mod PartViews
+pub mod UndoneViews

@@ -28,6 +28,10 @@ IsRead (undoing.Codes codes) undo =
     (operations : List UnwindOperation) × (operations_left codes.left ≡ Ok operations)
     × (undo ≡ ByCodes (record { frame = codes.frame; operations = operations }))
 
+-- The same of what is found to undo, which isn't refused.
+abbrev pub IsFoundRead : PeResult ToUndo → Undoing → Type 0
+IsFoundRead found undoing = (undo : ToUndo) × IsRead undoing undo × (found ≡ Ok undo)
+
 -- The epilog at an address, by what was read of it.
 abbrev pub IsEpilogRead : Option Epilog → PeResult (Option EpilogLeft) → Type 0
 IsEpilogRead None found = found ≡ Ok None

@@ -61,3 +61,7 @@ abbrev pub LeadsBack : UnwindRuleX86_64 → State → State → Type 0
 LeadsBack rule before after =
     (is_first : Bool) (words : Words) (caller : Caller UnwindRegsX86_64) → IsPartOf words after.memory
     → rule_meaning rule is_first after.registers words ≡ Answers caller → IsReturnFrom before caller
+
+-- The same from each state before to which the reverse of the sequence, run forward, leads.
+abbrev pub LeadsBackFrom : List OffsetOrPop → UnwindRuleX86_64 → Type 0
+LeadsBackFrom operations rule = (before after : State) → IsOfProcessor before → AreDone operations before after → LeadsBack rule before after

@@ -5,7 +5,7 @@ ghost use Rattle.framehop_rules.specs.Sequences.{IsRuleOf};
 ghost use Rattle.framehop_rules.specs.declared.x86_64.offset_or_pop.OffsetOrPop.{OffsetOrPop};
 ghost use Rattle.framehop_rules.specs.declared.x86_64.unwind_rule.UnwindRuleX86_64.{UnwindRuleX86_64};
 ghost use Rattle.framehop_pe.specs.PeSteps.{LeadsAsOneByOne};
-ghost use Rattle.framehop_pe.specs.Prologs.{State, IsOfProcessor, AreDone, LeadsBack};
+ghost use Rattle.framehop_pe.specs.Prologs.{LeadsBackFrom};
 ghost use Rattle.framehop_pe.specs.ToUndo.{ToUndo, parts_of};
 
 use framehop_rules::x86_64::rules_of_sequences;
@@ -23,9 +23,8 @@ pub fn rules_undo_one_by_one()
 /// words that are part of the present memory, its return address and its sixteen registers are those after a return from
 /// the state before.
 pub fn rules_undo_prologs()
-    ensures { (operations : List OffsetOrPop) (rule : UnwindRuleX86_64) (before after : State)
-        → IsRuleOf operations rule → IsOfProcessor before → AreDone operations before after
-        → LeadsBack rule before after }
+    ensures { (operations : List OffsetOrPop) (rule : UnwindRuleX86_64)
+        → IsRuleOf operations rule → LeadsBackFrom operations rule }
 {
     rules_of_sequences();
 }

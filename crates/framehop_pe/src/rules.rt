@@ -1,12 +1,10 @@
 //! The rule for what is undone, if it has one.
 
-ghost use Rattle.std.specs.Prelude.{◌≡◌, List, map, Ok, Some, IfSome};
-ghost use Rattle.framehop_registers.specs.declared.x86_64.unwindregs.Reg.{Reg};
+ghost use Rattle.std.specs.Prelude.{◌≡◌, map, IfSome};
 ghost use Rattle.framehop_rules.specs.RuleMeaning.{IsValid};
 ghost use Rattle.framehop_rules.specs.Sequences.{IsRuleFor};
-ghost use Rattle.framehop_pe_codes.specs.Epilogs.{pops_of};
-ghost use Rattle.framehop_pe_codes.specs.InfoViews.{operations_left};
-ghost use Rattle.framehop_pe_codes.specs.declared.operation.UnwindOperation.{UnwindOperation};
+ghost use Rattle.framehop_pe_codes.specs.EpilogViews.{OverEpilog};
+ghost use Rattle.framehop_pe_codes.specs.InfoViews.{OverOperations};
 ghost use Rattle.framehop_pe.specs.RuleParts.{offset_part, operation_part, epilog_parts};
 
 use framehop_pe_codes::{CodesLeft, Epilog, SpAdjustment, UnwindOperation, next_popped};
@@ -65,8 +63,8 @@ impl Iterator for CodeParts<'_> {
 
 // The rule for the codes that are left, if they have one. That they can be read was tested before.
 pub(crate) fn rule_of_codes(left: CodesLeft<'_>) -> Option<UnwindRuleX86_64>
-    ensures rule { (operations : List UnwindOperation) → operations_left left.entry ≡ Ok operations
-        → IsRuleFor (map operation_part operations) result }
+    ensures rule { OverOperations left.entry (λ operations.
+        IsRuleFor (map operation_part operations) result) }
     ensures valid { IfSome result IsValid }
 {
     rules_of_sequences();
@@ -111,8 +109,7 @@ impl Iterator for EpilogParts<'_> {
 
 // The rule for what is left of an epilog, if it has one.
 pub(crate) fn rule_of_epilog(epilog: Epilog<'_>) -> Option<UnwindRuleX86_64>
-    ensures rule { (pops : List Reg) → pops_of epilog.entry.rest.now ≡ Some pops → IsRuleFor
-        (epilog_parts (record { adjustment = epilog.entry.adjustment; pops = pops })) result }
+    ensures rule { OverEpilog epilog.entry (λ left. IsRuleFor (epilog_parts left) result) }
     ensures valid { IfSome result IsValid }
 {
     rules_of_sequences();

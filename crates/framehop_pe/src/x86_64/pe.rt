@@ -5,12 +5,10 @@ ghost use Rattle.framehop_registers.specs.Callback.{OverWords};
 ghost use Rattle.framehop_rules.specs.RuleMeaning.{IsValid};
 ghost use Rattle.framehop_rules.specs.UnwindResults.{HasValidRule, KeepsUnlessDirect};
 ghost use Rattle.framehop_pe_codes.specs.Epilogs.{pops_of};
-ghost use Rattle.framehop_pe_codes.specs.EpilogViews.{OverEpilog};
-ghost use Rattle.framehop_pe_codes.specs.InfoViews.{OverCodes};
-ghost use Rattle.framehop_pe.specs.PartViews.{IsRead, IsEpilogRead};
-ghost use Rattle.framehop_pe.specs.PeSteps.{IsUndone};
+ghost use Rattle.framehop_pe.specs.PartViews.{IsEpilogRead, IsFoundRead, IsRead};
 ghost use Rattle.framehop_pe.specs.Rows.{IsIncreasing};
-ghost use Rattle.framehop_pe.specs.ToUndo.{ToUndo, ByEpilog, ByCodes, code_to_end, epilog_at, to_undo_in, to_undo_at};
+ghost use Rattle.framehop_pe.specs.ToUndo.{ToUndo, code_to_end, epilog_at, to_undo_in, to_undo_at};
+ghost use Rattle.framehop_pe.specs.UndoneViews.{AreCodesUndone, IsEpilogUndone, IsReadUndone};
 
 use crate::pdata::{RuntimeFunction, function_of};
 use crate::pe::PeUnwinding;
@@ -83,8 +81,8 @@ fn to_undo_in<'a>(
 ) -> Result<Undoing<'a>, PeUnwinderError>
     requires begin { function.begin_address ≤ address }
     requires end { address < function.end_address }
-    ensures ok { IfOk result (λ undoing. (undo : ToUndo) × IsRead undoing undo
-        × (to_undo_in sections.entry function address is_first_frame ≡ Ok undo)) }
+    ensures ok { IfOk result (IsFoundRead
+        (to_undo_in sections.entry function address is_first_frame)) }
     ensures err { IfErr result (λ e.
         to_undo_in sections.entry function address is_first_frame ≡ Err e) }
 {
@@ -110,9 +108,8 @@ fn undo_epilog<F: FnMut(u64) -> Result<u64, ()>>(
     requires callable { F.IsAlwaysCallable read_stack.old }
     requires pops { IsSome (pops_of epilog.rest.now) }
     ensures callable { F.IsAlwaysCallable read_stack.new }
-    ensures undone { OverWords F.step read_stack.old read_stack.new (λ words.
-        OverEpilog epilog.entry (λ left.
-        IsUndone (ByEpilog frame_register left) words result regs.old regs.new)) }
+    ensures undone { OverWords F.step read_stack.old read_stack.new
+        (IsEpilogUndone frame_register epilog.entry result regs.old regs.new) }
     ensures valid { HasValidRule IsValid result }
     ensures keeps { KeepsUnlessDirect result regs.old regs.new }
 {
@@ -131,9 +128,8 @@ fn undo_codes<F: FnMut(u64) -> Result<u64, ()>>(
 ) -> Result<UnwindResult<UnwindRuleX86_64>, PeUnwinderError>
     requires { F.IsAlwaysCallable read_stack.old }
     ensures callable { F.IsAlwaysCallable read_stack.new }
-    ensures undone { OverWords F.step read_stack.old read_stack.new (λ words.
-        OverCodes codes.entry (λ undo.
-        IsUndone (ByCodes undo) words result regs.old regs.new)) }
+    ensures undone { OverWords F.step read_stack.old read_stack.new
+        (AreCodesUndone codes.entry result regs.old regs.new) }
     ensures valid { HasValidRule IsValid result }
     ensures keeps { KeepsUnlessDirect result regs.old regs.new }
 {
@@ -153,8 +149,8 @@ fn undo<F: FnMut(u64) -> Result<u64, ()>>(
     requires callable { F.IsAlwaysCallable read_stack.old }
     requires read { (undo : ToUndo) × IsRead undoing undo }
     ensures callable { F.IsAlwaysCallable read_stack.new }
-    ensures undone { OverWords F.step read_stack.old read_stack.new (λ words. (undo : ToUndo)
-        → IsRead undoing.entry undo → IsUndone undo words result regs.old regs.new) }
+    ensures undone { OverWords F.step read_stack.old read_stack.new
+        (IsReadUndone undoing.entry result regs.old regs.new) }
     ensures valid { HasValidRule IsValid result }
     ensures keeps { KeepsUnlessDirect result regs.old regs.new }
 {
@@ -174,8 +170,7 @@ fn to_undo_at<'a>(
     is_first_frame: bool,
 ) -> Result<Undoing<'a>, PeUnwinderError>
     requires { IsTrue sections.increasing → IsIncreasing sections.pdata.now }
-    ensures ok { IfOk result (λ undoing. (undo : ToUndo) × IsRead undoing undo
-        × (to_undo_at sections.entry address is_first_frame ≡ Ok undo)) }
+    ensures ok { IfOk result (IsFoundRead (to_undo_at sections.entry address is_first_frame)) }
     ensures err { IfErr result (λ e. to_undo_at sections.entry address is_first_frame ≡ Err e) }
 {
     match function_of(&sections, address) {
