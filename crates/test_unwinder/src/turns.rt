@@ -2,11 +2,11 @@
 use crate::tables::{Row, Said, Tables};
 use framehop_registers::x86_64::UnwindRegsX86_64;
 use framehop_rules::x86_64::ArchX86_64;
-use framehop_unwinder::{Generations, Module, Session, StackWalk};
+use framehop_unwinder::{Generations, Module, Session};
 use std::alloc::Global;
 use std::test::Fail;
 use unwind_run_session::{
-    Written, add_cache, add_unwinder, clone_unwinder, load, stats, unload, walk,
+    LimitedWalk, Written, add_cache, add_unwinder, clone_unwinder, load, stats, unload, walk,
 };
 
 type Toy = Tables<ArchX86_64>;
@@ -43,9 +43,15 @@ fn walk_text(
     if session.unwinders() == 0 || session.caches() == 0 {
         return Ok(String::new(alloc));
     }
-    let mut frames = StackWalk::new(0x101002, UnwindRegsX86_64::new(0x101002, 0x10, 0x20));
+    let frames = LimitedWalk {
+        unwinder: 0,
+        cache: 0,
+        limit,
+        pc: 0x101002,
+        regs: UnwindRegsX86_64::new(0x101002, 0x10, 0x20),
+    };
     let mut read_stack = |at: u64| word_at(words, at);
-    Ok(walk(session, alloc, 0, 0, limit, &mut frames, &mut read_stack)?.text)
+    Ok(walk(session, alloc, frames, &mut read_stack)?.text)
 }
 
 // What the counts of the first cache are.

@@ -1,6 +1,7 @@
 -- How far a run has come, and what is left to write.
-use Rattle.std.proofs.Common.{◌≡◌, ℕ, zero, suc, ◌+◌, List, [], ◌∷◌, ◌++◌, length, reverse, Bool, true, false, cond, ◌↔◌, IsTrue, Result, Ok, Err, Option, Some, None, refl, sym, ◌∙◌, ap, subst}
-use Rattle.std.specs.Prelude.{nat_lt, ◌-◌, ◌^◌, slice_set}
+use Rattle.std.proofs.Common.{◌≡◌, ℕ, zero, suc, ◌+◌, ◌<◌, arith, get_or, map, List, [], ◌∷◌, ◌++◌, length, reverse, Bool, true, false, cond, ◌↔◌, IsTrue, Result, Ok, Err, Option, Some, None, refl, sym, ◌∙◌, ap, subst}
+use Rattle.std.specs.Prelude.{nat_lt, ◌-◌, ◌^◌}
+use Rattle.std.specs.List.{slice_get}
 use Rattle.std.specs.Io.KnownBytes.{Appends}
 use Rattle.std.proofs.lemmas.List.{reverse-append, length-append, length-set}
 use Rattle.json_program.proofs.Laws.{begun_line, written_more, written_all}
@@ -9,19 +10,19 @@ use Rattle.unwind_run_program.specs.Registers.{RegisterForms}
 use Rattle.framehop_rules.specs.Slots.{Kept}
 use Rattle.framehop_unwinder.specs.Attempt.{Meanings}
 use Rattle.framehop_unwinder.specs.History.{KeyHistory, HaveHistories, no_history}
-use Rattle.framehop_unwinder.specs.Frames.{Frame}
-use Rattle.framehop_unwinder.specs.Modules.{Loaded, Loads, has_start, with_module, without_module}
+use Rattle.framehop_unwinder.specs.Modules.{Loaded, Loads, is_loaded_at, without_loaded}
 use Rattle.framehop_unwinder.specs.State.{SessionState, loads_with, unwinder_at, histories_after_move}
-use Rattle.framehop_unwinder.specs.Judge.{judge}
-use Rattle.framehop_unwinder.specs.Walk.{Walk, WalkPosition, Starts, At, Over, move}
+use Rattle.framehop_unwinder.specs.Walk.{WalkPosition, Starts, At, Over}
 use Rattle.framehop_registers.specs.Callback.{Words}
-use Rattle.framehop_unwinder.specs.WalkViews.{walk_from}
-use Rattle.framehop_registers.specs.declared.error.Error.{Error}
 use Rattle.framehop_unwinder.specs.Progress.{SessionModel, IsAt, modules_in}
-use Rattle.unwind_run_session.specs.Outputs.{CommandOutput, IsOutput, writes, refuses, output_with_number, output_with_modules, walk_histories, if_goes_on}
+use Rattle.framehop_histories.specs.Commands.{Act, NewUnwinder, Load, Unload, Clone, Step, NewWalk, NextFrame, CommandState, Reply, Added, Removed, Unknown, Exhausted, Stepped, Moved, if_known, modules_of, reply_to}
+use Rattle.framehop_histories.specs.Performs.{IsIn, IsObeyed}
+use Rattle.framehop_histories.specs.StateAfter.{state_after, state_done, walk_place, with_modules}
+use Rattle.unwind_run_session.specs.Outputs.{CommandOutput, IsOutput, gives_frame, is_refusal, moves_after, next_state, output_of_act, text_for, without_walks}
+use Rattle.framehop_registers.specs.declared.error.Error.{Error}
 use Rattle.unwind_run_document.specs.declared.command.Command.{Command}
 use Rattle.unwind_run_document.specs.Made.{Made, made_after}
-use Rattle.unwind_run_document.specs.Sound.{AreSound}
+use Rattle.unwind_run_document.specs.Sound.{AreSound, IsSoundTask}
 use Rattle.unwind_run_document.specs.Tasks.{Task, make_unwinder, make_cache, clone_unwinder, load_module, unload_module, take_step, take_walk, show_counts, take_roads}
 use Rattle.unwind_run_document.specs.CommandViews.{tasks_of, task_of}
 use Rattle.unwind_run_program.specs.Sections.{DataForms}
@@ -48,29 +49,32 @@ made_at {Data} p state at =
     ap (λ (us : List (Loads (Loaded Data))). part (length us) (length state.caches)) at.unwinders
     ∙ ap (λ (n : ℕ). part (length p.unwinders) n) (histories_count p.histories state.caches at.histories)
 
--- one of two outputs, of which the second is refused
-unless_refused : {Data : Type 0} (b : Bool) (A B : CommandOutput Data) (made : Made) → made_by A.model ≡ made → B.is_refused ≡ true
-    → (cond b A B).is_refused ≡ false → made_by (cond b A B).model ≡ made
-unless_refused true A B made is refused carried = is
-unless_refused false A B made is refused carried = absurd (let e : true ≡ false = sym refused ∙ carried in cc)
+-- a session at a model is in its state
+pub is_in : {Data Rule Registers : Type 0} (p : SessionModel Data) (state : SessionState Data Rule) → IsAt p state → IsIn {Registers = Registers} (without_walks p) state []
+is_in p state at = record { unwinders = at.unwinders; next = at.next; caches = histories_count p.histories state.caches at.histories; walks = refl }
 
--- one of two outputs
-either_output : {Data : Type 0} (b : Bool) (A B : CommandOutput Data) (made : Made) → (A.is_refused ≡ false → made_by A.model ≡ made) → made_by B.model ≡ made
-    → (cond b A B).is_refused ≡ false → made_by (cond b A B).model ≡ made
-either_output true A B made first second carried = first carried
-either_output false A B made first second carried = second
+-- a command that was answered by a reply, and whose text was written
+pub act_output : {Data Rule Registers : Type 0} (takes : Bool) (asks : Data → ℕ → Bool → Type 0) (m : Meanings Data Rule Registers) (act meant : Act Data Registers) (step_line : Result (Option ℕ) Error → Registers → List ℕ) (p : SessionModel Data) (old new : SessionState Data Rule) (reply : Reply Registers) (text : List ℕ) (refused : Bool)
+    → act ≡ meant → IsAt p old → ((state : CommandState Data Registers) → IsIn state old [] → IsObeyed takes asks m act state old (Some reply) new [])
+    → text ≡ text_for step_line reply → refused ≡ is_refusal reply → IsOutput (output_of_act m step_line meant p) text refused new
+act_output {Data} {Rule} {Registers} takes asks m act meant step_line p old new reply text refused same at obeys written is_refused =
+    let o = obeys (without_walks p) (is_in p old at) in
+    subst (λ (a : Act Data Registers). IsOutput (output_of_act m step_line a p) text refused new) same (record {
+      text = written ∙ ap (text_for step_line) o.reply;
+      is_refused = is_refused ∙ ap is_refusal o.reply;
+      model = subst (λ (r : Reply Registers). IsAt (state_after m act (without_walks p) (Some r)).model new) o.reply
+          (record { unwinders = o.state.unwinders; next = o.state.next; histories = o.histories at.histories });
+    })
 
--- unwinders of which one takes a number
-made_numbered : {Data : Type 0} (us : List (Loads (Loaded Data))) (p : SessionModel Data) (n : ℕ) → length us ≡ n
-    → (output_with_number us p).is_refused ≡ false → made_by (output_with_number us p).model ≡ record { unwinders = n; caches = length p.histories }
-made_numbered us p n len carried =
-    unless_refused (nat_lt p.next (2 ^ 64 - 1)) (writes [] (record { unwinders = us; next = p.next + 1; histories = p.histories })) (refuses p)
-    (record { unwinders = n; caches = length p.histories })
-    (let part : ℕ → Made = λ k. record { unwinders = k; caches = length p.histories } in ap part len) refl carried
+-- what stands at a number of a list
+get_map : {X Y : Type 0} (f : X → Y) (xs : List X) (i : ℕ) (default : X) → i < length xs → slice_get (map f xs) i ≡ Some (f (get_or xs i default))
+get_map f [] i default less = absurd (omega arith)
+get_map f (x ∷ xs) zero default less = refl
+get_map f (x ∷ xs) (suc i) default less = get_map f xs i default (omega arith)
 
--- a step and a walk change no number of caches
-step_count : (histories : List KeyHistory) (cache : ℕ) (history : KeyHistory) → length (slice_set histories cache history) ≡ length histories
-step_count histories cache history = simp length-set
+-- how many unwinders and caches there are by a model
+abbrev part : ℕ → ℕ → Made
+part unwinders caches = record { unwinders = unwinders; caches = caches }
 
 move_count : {Data Rule Registers : Type 0} (m : Meanings Data Rule Registers) (place : WalkPosition) (loads : Loads (Loaded Data)) (cache : ℕ) (histories : List KeyHistory)
     → length (histories_after_move m false place loads cache histories) ≡ length histories
@@ -78,49 +82,79 @@ move_count m (Starts pc) loads cache histories = refl
 move_count m (At frame) loads cache histories = simp length-set
 move_count m Over loads cache histories = refl
 
-answer_count : (answer : Result (Option Frame) Error) (more so_far : List KeyHistory) (n : ℕ) → length more ≡ n → length so_far ≡ n → length (if_goes_on answer more so_far) ≡ n
-answer_count (Ok (Some frame)) more so_far n one other = one
-answer_count (Ok None) more so_far n one other = other
-answer_count (Err error) more so_far n one other = other
+module _ {Data Rule Registers : Type 0} (m : Meanings Data Rule Registers) where
+  -- commands that make nothing
+  same_made : (act : Act Data Registers) (state : CommandState Data Registers) (reply : Reply Registers) → made_by (state_done m act state).model ≡ made_by state.model
+      → made_by (state_after m act state (Some reply)).model ≡ made_by state.model
+  same_made act state Added done = done
+  same_made act state Removed done = done
+  same_made act state Unknown done = refl
+  same_made act state Exhausted done = refl
+  same_made act state (Stepped answer registers) done = done
+  same_made act state (Moved answer registers) done = done
 
-walk_count : {Data Rule Registers : Type 0} (m : Meanings Data Rule Registers) (words : Words) (loads : Loads (Loaded Data)) (cache left : ℕ) (walk : Walk Registers) (histories : List KeyHistory)
-    → length (walk_histories m words loads cache left walk histories) ≡ length histories
-walk_count m words loads cache zero walk histories = refl
-walk_count m words loads cache (suc left) walk histories =
-    let after = histories_after_move m false walk.position loads cache histories in
-    let made = move (judge m loads.modules) words walk in
-    let counted = move_count m walk.position loads cache histories in
-    answer_count made.answer (walk_histories m words loads cache left made.walk after) after (length histories) (walk_count m words loads cache left made.walk after ∙ counted) counted
+  load_made : (unwinder : ℕ) (module_ : Loaded Data) (state : CommandState Data Registers) → made_by (state_done m (Load unwinder module_) state).model ≡ made_by state.model
+  load_made unwinder module_ state = ap (λ n. part n (length state.model.histories)) (length-set state.model.unwinders unwinder _)
+
+  unload_made_by : (has : Bool) (unwinder : ℕ) (modules : List (Loaded Data)) (model : SessionModel Data) → made_by (cond has (with_modules unwinder modules model) model) ≡ made_by model
+  unload_made_by true unwinder modules model = ap (λ n. part n (length model.histories)) (length-set model.unwinders unwinder _)
+  unload_made_by false unwinder modules model = refl
+
+  move_made_count : (unwinder cache walk : ℕ) (words : Words) (state : CommandState Data Registers) → made_by (state_done m (NextFrame unwinder cache walk words) state).model ≡ made_by state.model
+  move_made_count unwinder cache walk words state =
+      ap (λ n. part (length state.model.unwinders) n) (move_count m (walk_place state.walks walk) (unwinder_at state.model.unwinders unwinder) cache state.model.histories)
+
+  moves_by : (given : Bool) (more next : CommandState Data Registers) (made : Made) → made_by more.model ≡ made → made_by next.model ≡ made → made_by (cond given more next).model ≡ made
+  moves_by true more next made one other = one
+  moves_by false more next made one other = other
+
+  walk_made : (unwinder cache walk : ℕ) (words : Words) (left : ℕ) (state : CommandState Data Registers) → made_by (moves_after m (NextFrame unwinder cache walk words) left state).model ≡ made_by state.model
+  walk_made unwinder cache walk words zero state = refl
+  walk_made unwinder cache walk words (suc left) state =
+      let act = NextFrame unwinder cache walk words in
+      let next = next_state m act state in
+      let one : made_by next.model ≡ made_by state.model = same_made act state (reply_to m act state) (move_made_count unwinder cache walk words state) in
+      moves_by (gives_frame (reply_to m act state)) (moves_after m act left next) next (made_by state.model) (walk_made unwinder cache walk words left next ∙ one) one
+
+  unwinder_made : (test : Bool) (p : SessionModel Data) → is_refusal {Registers = Registers} (cond test Added Exhausted) ≡ false
+      → made_by (state_after m NewUnwinder (without_walks p) (Some (cond test Added Exhausted))).model ≡ part (length p.unwinders + 1) (length p.histories)
+  unwinder_made true p carried = ap (λ n. part n (length p.histories)) (length-append p.unwinders (loads_with [] p.next ∷ []))
+  unwinder_made false p carried = absurd (let e : true ≡ false = carried in cc)
+
+  clone_made : (unwinder : ℕ) (p : SessionModel Data) → unwinder < length p.unwinders → made_by (next_state m (Clone unwinder) (without_walks p)).model ≡ part (length p.unwinders + 1) (length p.histories)
+  clone_made unwinder p less =
+      let state : CommandState Data Registers = without_walks p in
+      let known : modules_of state unwinder ≡ Some (unwinder_at p.unwinders unwinder).modules = get_map (λ (loads : Loads (Loaded Data)). loads.modules) p.unwinders unwinder (record { modules = []; generation = 0 }) less in
+      ap (λ (found : Option (List (Loaded Data))). made_by (state_after m (Clone unwinder) state (Some (if_known found (λ modules. Added)))).model) known
+      ∙ ap (λ n. part n (length p.histories)) (length-append p.unwinders (unwinder_at p.unwinders unwinder ∷ []))
 
 -- how many unwinders and caches there are after a command that isn't refused
 output_counts : {Data Rule Registers : Type 0} (m : Meanings Data Rule Registers) (forms : RegisterForms Registers) (data_of : DataForms Data) (p : SessionModel Data) (task : Task)
-    → (output_of m forms data_of p task).is_refused ≡ false → made_by (output_of m forms data_of p task).model ≡ made_after (made_by p) task
-output_counts m forms data_of p make_unwinder carried = made_numbered (p.unwinders ++ loads_with [] p.next ∷ []) p (length p.unwinders + 1) (length-append p.unwinders (loads_with [] p.next ∷ [])) carried
-output_counts m forms data_of p make_cache carried =
-    let part : ℕ → Made = λ k. record { unwinders = length p.unwinders; caches = k } in ap part (length-append p.histories (no_history ∷ []))
-output_counts m forms data_of p (clone_unwinder u) carried =
-    let part : ℕ → Made = λ k. record { unwinders = k; caches = length p.histories } in ap part (length-append p.unwinders (unwinder_at p.unwinders u ∷ []))
-output_counts m forms data_of p (load_module l) carried =
-    made_numbered (slice_set p.unwinders l.unwinder (loads_with (with_module (λ x. x.start) (loaded_by data_of l) (modules_in l.unwinder p)) p.next)) p (length p.unwinders) (simp length-set) carried
-output_counts m forms data_of p (unload_module u) carried =
-    let less = without_module (λ x. x.start) u.start (modules_in u.unwinder p) in
-    either_output (has_start (λ x. x.start) u.start (modules_in u.unwinder p)) (output_with_modules u.unwinder less p) (writes [] p) (made_by p)
-    (made_numbered (slice_set p.unwinders u.unwinder (loads_with less p.next)) p (length p.unwinders) (simp length-set)) refl carried
-output_counts m forms data_of p (take_step s) carried =
-    let part : ℕ → Made = λ k. record { unwinders = length p.unwinders; caches = k } in
-    ap part (move_count m (At (frame_at s.kind s.address)) (unwinder_at p.unwinders s.unwinder) s.cache p.histories)
-output_counts m forms data_of p (take_walk w) carried =
-    let part : ℕ → Made = λ k. record { unwinders = length p.unwinders; caches = k } in
-    ap part (walk_count m (words_of w.stack) (unwinder_at p.unwinders w.unwinder) w.cache w.limit (walk_from w.pc (forms.stated w.registers)) p.histories)
-output_counts m forms data_of p (show_counts cache) carried = refl
-output_counts m forms data_of p (take_roads roads) carried = refl
+    → IsSoundTask (made_by p) task → (output_of m forms data_of p task).is_refused ≡ false → made_by (output_of m forms data_of p task).model ≡ made_after (made_by p) task
+output_counts m forms data_of p make_unwinder sound carried = unwinder_made m (nat_lt p.next (2 ^ 64 - 1)) p carried
+output_counts m forms data_of p make_cache sound carried = ap (λ n. part (length p.unwinders) n) (length-append p.histories (no_history ∷ []))
+output_counts m forms data_of p (clone_unwinder u) sound carried = clone_made m u p sound
+output_counts m forms data_of p (load_module l) sound carried =
+    let act = Load l.unwinder (loaded_by data_of l) in
+    same_made m act (without_walks p) (reply_to m act (without_walks p)) (load_made m l.unwinder (loaded_by data_of l) (without_walks p))
+output_counts {Data} m forms data_of p (unload_module u) sound carried =
+    let act = Unload u.unwinder u.start in
+    same_made m act (without_walks p) (reply_to m act (without_walks p))
+    (unload_made_by m (is_loaded_at u.start (modules_in u.unwinder p)) u.unwinder (without_loaded u.start (modules_in u.unwinder p)) p)
+output_counts m forms data_of p (take_step s) sound carried =
+    let act = Step s.unwinder s.cache (frame_at s.kind s.address) (forms.stated s.registers) (words_of s.stack) in
+    same_made m act (without_walks p) (reply_to m act (without_walks p))
+    (ap (λ n. part (length p.unwinders) n) (move_count m (At (frame_at s.kind s.address)) (unwinder_at p.unwinders s.unwinder) s.cache p.histories))
+output_counts m forms data_of p (take_walk w) sound carried = walk_made m w.unwinder w.cache 0 (words_of w.stack) w.limit (next_state m (NewWalk w.pc (forms.stated w.registers)) (without_walks p))
+output_counts m forms data_of p (show_counts cache) sound carried = refl
+output_counts m forms data_of p (take_roads roads) sound carried = refl
 
 -- so what the next commands name is made
 pub sound_next : {Data Rule Registers : Type 0} (m : Meanings Data Rule Registers) (forms : RegisterForms Registers) (data_of : DataForms Data) (p : SessionModel Data) (old new : SessionState Data Rule) (task : Task) (tasks : List Task) (text : List ℕ) (refused : Bool)
     → IsAt p old → IsOutput (output_of m forms data_of p task) text refused new → refused ≡ false → AreSound (made_in old) (task ∷ tasks) → AreSound (made_in new) tasks
 sound_next m forms data_of p old new task tasks text refused at comes carried sound =
     let t = output_of m forms data_of p task in
-    let made = made_at t.model new comes.model ∙ output_counts m forms data_of p task (sym comes.is_refused ∙ carried) ∙ ap (λ (x : Made). made_after x task) (sym (made_at p old at)) in
+    let made = made_at t.model new comes.model ∙ output_counts m forms data_of p task (subst (λ (x : Made). IsSoundTask x task) (made_at p old at) sound.0) (sym comes.is_refused ∙ carried) ∙ ap (λ (x : Made). made_after x task) (sym (made_at p old at)) in
     subst (λ (x : Made). AreSound x tasks) (sym made) sound.1
 
 -- what is left to write once a command has written

@@ -16,7 +16,7 @@ use Rattle.framehop_unwinder.specs.Frames.{Frame, first_frame, later_frame}
 use Rattle.framehop_unwinder.specs.Judge.{judge}
 use Rattle.framehop_unwinder.specs.Modules.{Loaded}
 use Rattle.framehop_unwinder.specs.State.{SessionState}
-use Rattle.framehop_unwinder.specs.WalkViews.{walk_from}
+use Rattle.framehop_histories.specs.Commands.{NewUnwinder, NewCache, Clone, Load, Unload, Step}
 use Rattle.unwind_run_document.specs.declared.command.FrameKind.{FrameKind}
 use Rattle.unwind_run_document.specs.declared.command.FrameKind.TheVariants.{Ip, Ra}
 use Rattle.unwind_run_document.specs.declared.document.Architecture.{Architecture}
@@ -27,11 +27,11 @@ use Rattle.unwind_run_document.specs.declared.registers.StatedRegisters.{StatedR
 use Rattle.unwind_run_document.specs.Made.{Made}
 use Rattle.unwind_run_document.specs.Tasks.{StackWords, Loading, RoadSteps, Task, make_unwinder, make_cache, clone_unwinder, load_module, unload_module, take_step, take_walk, show_counts, take_roads}
 use Rattle.unwind_run_document.specs.Document.{Content, content_of}
-use Rattle.unwind_run_program.specs.Lines.{outcome_line}
+use Rattle.unwind_run_program.specs.Lines.{outcome_line, step_line}
 use Rattle.unwind_run_program.specs.Registers.{RegisterForms, forms_aarch64, forms_x86_64}
 use Rattle.unwind_run_program.specs.Roads.{stated_section, stated_header, module_at}
-use Rattle.framehop_unwinder.specs.Progress.{SessionModel, modules_in}
-use Rattle.unwind_run_session.specs.Outputs.{CommandOutput, beginning, writes, output_of_unwinder, output_of_cache, output_of_clone, output_of_load, output_of_unload, output_of_step, output_of_walk, output_of_stats}
+use Rattle.framehop_unwinder.specs.Progress.{SessionModel}
+use Rattle.unwind_run_session.specs.Outputs.{CommandOutput, beginning, writes, output_of_act, output_of_stats, output_of_walk}
 
 -- the words of a stack: one at each eighth byte from its start, as far as they go
 abbrev pub words_of : StackWords → Words
@@ -80,19 +80,20 @@ road_lines m forms data_of r =
     ++ codes "index " ++ road_line m forms r (data_of.loaded base (section ∷ []))
     ++ codes "scan " ++ road_line m forms r (data_of.scanned base (section ∷ []))
 
--- the output of a command
+-- the output of a command, whose steps have the lines of an architecture
 abbrev pub output_of : {Data Rule Registers : Type 0} → Meanings Data Rule Registers → RegisterForms Registers → DataForms Data → SessionModel Data → Task
     → CommandOutput Data
-output_of m forms data_of model make_unwinder = output_of_unwinder model
-output_of m forms data_of model make_cache = output_of_cache model
-output_of m forms data_of model (clone_unwinder unwinder) = output_of_clone unwinder model
-output_of m forms data_of model (load_module l) = output_of_load l.unwinder (loaded_by data_of l) model
-output_of m forms data_of model (unload_module u) = output_of_unload u.unwinder u.start model
+output_of m forms data_of model make_unwinder = output_of_act m (step_line forms.text) NewUnwinder model
+output_of m forms data_of model make_cache = output_of_act m (step_line forms.text) NewCache model
+output_of m forms data_of model (clone_unwinder unwinder) = output_of_act m (step_line forms.text) (Clone unwinder) model
+output_of m forms data_of model (load_module l) =
+    output_of_act m (step_line forms.text) (Load l.unwinder (loaded_by data_of l)) model
+output_of m forms data_of model (unload_module u) = output_of_act m (step_line forms.text) (Unload u.unwinder u.start) model
 output_of m forms data_of model (take_step s) =
-    let frame = frame_at s.kind s.address in
-    output_of_step m (line_at m forms (modules_in s.unwinder model) frame s.registers s.stack) frame s.unwinder s.cache model
+    output_of_act m (step_line forms.text)
+    (Step s.unwinder s.cache (frame_at s.kind s.address) (forms.stated s.registers) (words_of s.stack)) model
 output_of m forms data_of model (take_walk w) =
-    output_of_walk m (words_of w.stack) w.limit w.unwinder w.cache (walk_from w.pc (forms.stated w.registers)) model
+    output_of_walk m (words_of w.stack) w.limit w.unwinder w.cache w.pc (forms.stated w.registers) model
 output_of m forms data_of model (show_counts cache) = output_of_stats cache model
 output_of m forms data_of model (take_roads r) = writes (road_lines m forms data_of r) model
 

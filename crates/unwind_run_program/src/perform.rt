@@ -13,15 +13,17 @@ ghost use Rattle.unwind_run_document.specs.declared.command.FrameKind.TheVariant
 
 use crate::lines::step_line;
 use crate::roads::road_lines;
+use framehop_histories as histories;
+use framehop_histories::Answer;
 use framehop_rules::FrameAddress;
-use framehop_unwinder::{Module, ModuleUnwinding, Session, StackWalk};
+use framehop_unwinder::{Module, ModuleUnwinding, Session};
 use std::alloc::{AllocError, Global};
 use unwind_run_document::{
     Command, FrameKind, LoadCommand, RoadsCommand, Stack, StatedRegisters, StatedSection,
     StepCommand, WalkCommand,
 };
 use unwind_run_session as commands;
-use unwind_run_session::Written;
+use unwind_run_session::{LimitedWalk, Written};
 
 /// The unwind data of the modules of documents: what their sections give.
 pub(crate) trait DocumentModules: ModuleUnwinding {
@@ -104,19 +106,17 @@ fn take_step<A: DocumentModules>(
         session.old session.new result }
 {
     let address = frame_address(step.kind, step.address);
-    let mut regs = A::stated_registers(step.registers);
+    let regs = A::stated_registers(step.registers);
     let stack = &step.stack;
     let mut read_stack = |at: u64| -> Result<u64, ()>
         ensures answer { result ≡ read_answer (words_of (words_view stack.entry.now) at) }
         ensures same { stack.exit ≡ stack.entry }
     { word_at(stack, at) };
-    let answer = session.step(
-        step.unwinder,
-        step.cache,
-        address,
-        &mut regs,
-        &mut read_stack,
-    );
+    let (unwinder, cache) = (step.unwinder, step.cache);
+    let answer = histories::step(session, unwinder, cache, address, regs, &mut read_stack);
+    let Answer::Stepped(answer, regs) = answer else {
+        return Err(AllocError);
+    };
     let line = step_line::<A>(alloc, answer, regs)?;
     Ok(Written::lines(line))
 }
@@ -131,23 +131,19 @@ fn take_walk<A: DocumentModules>(
     ensures { Outputs (λ model. output_of A.meanings A.forms A.data_of model (task_of (Command.Walk walk.now)))
         session.old session.new result }
 {
-    let regs = A::stated_registers(walk.registers);
-    let mut frames = StackWalk::new(walk.pc, regs);
     let stack = &walk.stack;
     let mut read_stack = |at: u64| -> Result<u64, ()>
         ensures answer { result ≡ read_answer (words_of (words_view stack.entry.now) at) }
         ensures same { stack.exit ≡ stack.entry }
     { word_at(stack, at) };
-    let (unwinder, cache) = (walk.unwinder, walk.cache);
-    commands::walk(
-        session,
-        alloc,
-        unwinder,
-        cache,
-        walk.limit,
-        &mut frames,
-        &mut read_stack,
-    )
+    let frames = LimitedWalk {
+        unwinder: walk.unwinder,
+        cache: walk.cache,
+        limit: walk.limit,
+        pc: walk.pc,
+        regs: A::stated_registers(walk.registers),
+    };
+    commands::walk(session, alloc, frames, &mut read_stack)
 }
 
 // Makes a step by each lookup, and returns their lines. The session stays as it is.

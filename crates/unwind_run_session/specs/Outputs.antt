@@ -1,23 +1,26 @@
--- What each command of a document writes, and the model of the session after it. A model has no slot and no rule of a cache, only
--- the keys that were kept in it, which decide what is counted.
-use Rattle.std.specs.Prelude.{◌≡◌, ℕ, zero, suc, ◌+◌, ◌-◌, ◌^◌, List, [], ◌∷◌, ◌++◌, Bool, true, false, nat_lt, if◌then◌else◌, codes, slice_set, Option, Some, None, Result, Ok, Err, IfOk, string_bytes}
+-- What each command of a document writes, and the model of the session after it: the text for its reply, and the state after it. A
+-- model has no slot and no rule of a cache, only the keys that were kept in it, which decide what is counted.
+use Rattle.std.specs.Prelude.{◌≡◌, ℕ, zero, suc, List, [], ◌++◌, Bool, true, false, if◌then◌else◌, codes, Option, Some, None, Result, Ok, Err, IfOk, string_bytes}
 use Rattle.json_program.specs.Lines.{line}
 use Rattle.framehop_registers.specs.Callback.{Words}
 use Rattle.framehop_registers.specs.declared.error.Error.{Error}
 use Rattle.framehop_unwinder.specs.Attempt.{Meanings}
 use Rattle.framehop_unwinder.specs.Frames.{Frame}
-use Rattle.framehop_unwinder.specs.History.{KeyHistory, history_at, no_history}
-use Rattle.framehop_unwinder.specs.Judge.{judge}
-use Rattle.framehop_unwinder.specs.Modules.{Loaded, Loads, with_module, without_module, has_start}
-use Rattle.framehop_unwinder.specs.Progress.{IsAt, SessionModel, modules_in}
-use Rattle.framehop_unwinder.specs.State.{SessionState, unwinder_at, loads_with, histories_after_step, histories_after_move}
-use Rattle.framehop_unwinder.specs.Walk.{Walk, Judgment, move}
+use Rattle.framehop_unwinder.specs.History.{history_at}
+use Rattle.framehop_unwinder.specs.Progress.{IsAt, SessionModel}
+use Rattle.framehop_unwinder.specs.State.{SessionState}
+use Rattle.framehop_histories.specs.Commands.{Act, NewWalk, NextFrame, CommandState, Reply, Added, Removed, Unknown, Exhausted, Stepped, Moved, reply_to}
+use Rattle.framehop_histories.specs.StateAfter.{state_after}
 use Rattle.unwind_run_session.specs.declared.commands.Written.{Written}
 use Rattle.unwind_run_session.specs.Lines.{counts_text, error_name, frame_text}
 
 -- the model of a new session, whose counter gives this number first
 abbrev pub beginning : {Data : Type 0} → ℕ → SessionModel Data
 beginning generation = record { unwinders = []; next = generation; histories = [] }
+
+-- the state of commands without a walk
+abbrev pub without_walks : {Data Registers : Type 0} → SessionModel Data → CommandState Data Registers
+without_walks model = record { model = model; walks = [] }
 
 -- The output of a command: its text, whether the command is refused, which ends the run, and the model of the session after it.
 pub record CommandOutput (Data : Type 0) : Type 0 where
@@ -29,109 +32,90 @@ pub record CommandOutput (Data : Type 0) : Type 0 where
 abbrev pub writes : {Data : Type 0} → List ℕ → SessionModel Data → CommandOutput Data
 writes text model = record { text = text; is_refused = false; model = model }
 
--- the output of a command that needs a generation when none is left
-abbrev pub refuses : {Data : Type 0} → SessionModel Data → CommandOutput Data
-refuses model = record { text = line (codes "refused GenerationsExhausted"); is_refused = true; model = model }
-
--- the model with other histories of caches
-abbrev pub with_histories : {Data : Type 0} → List KeyHistory → SessionModel Data → SessionModel Data
-with_histories histories model = record { unwinders = model.unwinders; next = model.next; histories = histories }
-
--- the model with other unwinders
-abbrev pub with_unwinders : {Data : Type 0} → List (Loads (Loaded Data)) → SessionModel Data → SessionModel Data
-with_unwinders unwinders model = record { unwinders = unwinders; next = model.next; histories = model.histories }
-
--- the output of a command that leaves these unwinders, one of which takes the counter's next number: numbers below 2^64 - 1 can be taken
-abbrev pub output_with_number : {Data : Type 0} → List (Loads (Loaded Data)) → SessionModel Data → CommandOutput Data
-output_with_number unwinders model =
-    if nat_lt model.next (2 ^ 64 - 1)
-    then writes [] (record { unwinders = unwinders; next = model.next + 1; histories = model.histories })
-    else refuses model
-
--- the output of a command that leaves these modules in an unwinder, which takes the next number
-abbrev pub output_with_modules : {Data : Type 0} → ℕ → List (Loaded Data) → SessionModel Data → CommandOutput Data
-output_with_modules unwinder modules model =
-    output_with_number (slice_set model.unwinders unwinder (loads_with modules model.next)) model
-
--- a new unwinder, without a module
-abbrev pub output_of_unwinder : {Data : Type 0} → SessionModel Data → CommandOutput Data
-output_of_unwinder model = output_with_number (model.unwinders ++ loads_with [] model.next ∷ []) model
-
--- a new cache, in which no key was kept
-abbrev pub output_of_cache : {Data : Type 0} → SessionModel Data → CommandOutput Data
-output_of_cache model = writes [] (with_histories (model.histories ++ no_history ∷ []) model)
-
--- an unwinder with the modules and the generation of another
-abbrev pub output_of_clone : {Data : Type 0} → ℕ → SessionModel Data → CommandOutput Data
-output_of_clone unwinder model =
-    writes [] (with_unwinders (model.unwinders ++ unwinder_at model.unwinders unwinder ∷ []) model)
-
--- an unwinder with one more module
-abbrev pub output_of_load : {Data : Type 0} → ℕ → Loaded Data → SessionModel Data → CommandOutput Data
-output_of_load unwinder module_ model =
-    output_with_modules unwinder (with_module (λ m. m.start) module_ (modules_in unwinder model)) model
-
--- an unwinder without the last of its modules that start at an address, if one does
-abbrev pub output_of_unload : {Data : Type 0} → ℕ → ℕ → SessionModel Data → CommandOutput Data
-output_of_unload unwinder start model =
-    if has_start (λ m. m.start) start (modules_in unwinder model)
-    then output_with_modules unwinder (without_module (λ m. m.start) start (modules_in unwinder model)) model
-    else writes [] model
-
--- the counts of a cache
-abbrev pub output_of_stats : {Data : Type 0} → ℕ → SessionModel Data → CommandOutput Data
-output_of_stats cache model = writes (line (counts_text (history_at model.histories cache).counts)) model
-
--- a step through a cache, whose line is this text
-abbrev pub output_of_step : {Data Rule Registers : Type 0} → Meanings Data Rule Registers → List ℕ → Frame → ℕ → ℕ → SessionModel Data
-    → CommandOutput Data
-output_of_step m text frame unwinder cache model =
-    let loads = unwinder_at model.unwinders unwinder in
-    writes text (with_histories (histories_after_step m false frame loads cache model.histories) model)
-
--- whether a move of a walk gives a frame
-abbrev pub gives_frame : Result (Option Frame) Error → Bool
-gives_frame (Ok (Some frame)) = true
-gives_frame (Ok None) = false
-gives_frame (Err error) = false
-
 -- the line of a move: its frame, the end of the stack, or why it stops
 abbrev pub move_line : Result (Option Frame) Error → List ℕ
 move_line (Ok (Some frame)) = line (frame_text frame)
 move_line (Ok None) = line (codes "end")
 move_line (Err error) = line (codes "stop " ++ error_name error)
 
--- what a move writes, before the lines after it if it gives a frame
-abbrev pub move_lines : Result (Option Frame) Error → List ℕ → List ℕ
-move_lines answer more = move_line answer ++ (if gives_frame answer then more else [])
+-- the text for a reply, where a step has this line
+abbrev pub text_for : {Registers : Type 0} → (Result (Option ℕ) Error → Registers → List ℕ) → Reply Registers → List ℕ
+text_for step_line Added = []
+text_for step_line Removed = []
+text_for step_line Unknown = []
+text_for step_line Exhausted = line (codes "refused GenerationsExhausted")
+text_for step_line (Stepped answer registers) = step_line answer registers
+text_for step_line (Moved answer registers) = move_line answer
 
--- the lines of the frames of a walk, and how it ends: at the stack's end, with an error, or at the limit
-abbrev pub walk_lines : {Registers : Type 0} → Judgment Registers → Words → ℕ → Walk Registers → List ℕ
-walk_lines judgment words zero walk = line (codes "limit")
-walk_lines judgment words (suc left) walk =
-    move_lines (move judgment words walk).answer (walk_lines judgment words left (move judgment words walk).walk)
+-- a command is refused if it needs a generation when none is left
+abbrev pub is_refusal : {Registers : Type 0} → Reply Registers → Bool
+is_refusal Added = false
+is_refusal Removed = false
+is_refusal Unknown = false
+is_refusal Exhausted = true
+is_refusal (Stepped answer registers) = false
+is_refusal (Moved answer registers) = false
 
--- one value if a move gives a frame, and another if it doesn't
-abbrev pub if_goes_on : {A : Type 0} → Result (Option Frame) Error → A → A → A
-if_goes_on answer more so_far = if gives_frame answer then more else so_far
+-- the state after a command, with memory
+abbrev pub next_state : {Data Rule Registers : Type 0} → Meanings Data Rule Registers → Act Data Registers → CommandState Data Registers
+    → CommandState Data Registers
+next_state m act state = state_after m act state (Some (reply_to m act state))
 
--- the histories of caches after a walk through one of them
-abbrev pub walk_histories : {Data Rule Registers : Type 0} → Meanings Data Rule Registers → Words → Loads (Loaded Data) → ℕ → ℕ
-    → Walk Registers → List KeyHistory → List KeyHistory
-walk_histories m words loads cache zero walk histories = histories
-walk_histories m words loads cache (suc left) walk histories =
-    if_goes_on (move (judge m loads.modules) words walk).answer
-    (walk_histories m words loads cache left (move (judge m loads.modules) words walk).walk
-    (histories_after_move m false walk.position loads cache histories))
-    (histories_after_move m false walk.position loads cache histories)
+-- the output of a command that does this alone
+abbrev pub output_of_act : {Data Rule Registers : Type 0} → Meanings Data Rule Registers → (Result (Option ℕ) Error → Registers → List ℕ)
+    → Act Data Registers → SessionModel Data → CommandOutput Data
+output_of_act m step_line act model = record {
+  text = text_for step_line (reply_to m act (without_walks model));
+  is_refused = is_refusal (reply_to m act (without_walks model));
+  model = (next_state m act (without_walks model)).model;
+}
 
--- a walk over the frames of an unwinder through a cache
-abbrev pub output_of_walk : {Data Rule Registers : Type 0} → Meanings Data Rule Registers → Words → ℕ → ℕ → ℕ → Walk Registers
+-- the counts of a cache
+abbrev pub output_of_stats : {Data : Type 0} → ℕ → SessionModel Data → CommandOutput Data
+output_of_stats cache model = writes (line (counts_text (history_at model.histories cache).counts)) model
+
+-- whether a reply is a frame of a walk
+abbrev pub gives_frame : {Registers : Type 0} → Reply Registers → Bool
+gives_frame Added = false
+gives_frame Removed = false
+gives_frame Unknown = false
+gives_frame Exhausted = false
+gives_frame (Stepped answer registers) = false
+gives_frame (Moved (Ok (Some frame)) registers) = true
+gives_frame (Moved (Ok None) registers) = false
+gives_frame (Moved (Err error) registers) = false
+
+-- the line for a move of a walk
+abbrev pub line_for : {Registers : Type 0} → Reply Registers → List ℕ
+line_for Added = []
+line_for Removed = []
+line_for Unknown = []
+line_for Exhausted = []
+line_for (Stepped answer registers) = []
+line_for (Moved answer registers) = move_line answer
+
+-- the lines of moves of a walk, up to a limit, one after the other while they give frames
+abbrev pub move_lines : {Data Rule Registers : Type 0} → Meanings Data Rule Registers → Act Data Registers → ℕ → CommandState Data Registers → List ℕ
+move_lines m act zero state = line (codes "limit")
+move_lines m act (suc left) state =
+    line_for (reply_to m act state)
+    ++ (if gives_frame (reply_to m act state) then move_lines m act left (next_state m act state) else [])
+
+-- the state after these moves
+abbrev pub moves_after : {Data Rule Registers : Type 0} → Meanings Data Rule Registers → Act Data Registers → ℕ → CommandState Data Registers
+    → CommandState Data Registers
+moves_after m act zero state = state
+moves_after m act (suc left) state =
+    if gives_frame (reply_to m act state) then moves_after m act left (next_state m act state) else next_state m act state
+
+-- the output of a walk over the frames of an unwinder through a cache, from an instruction pointer with registers: a new walk, and up
+-- to so many of its moves
+abbrev pub output_of_walk : {Data Rule Registers : Type 0} → Meanings Data Rule Registers → Words → ℕ → ℕ → ℕ → ℕ → Registers
     → SessionModel Data → CommandOutput Data
-output_of_walk m words limit unwinder cache walk model =
-    writes (walk_lines (judge m (modules_in unwinder model)) words limit walk)
-    (with_histories (walk_histories m words (unwinder_at model.unwinders unwinder) cache limit walk model.histories)
-    model)
+output_of_walk m words limit unwinder cache pc registers model =
+    let begun = next_state m (NewWalk pc registers) (without_walks model) in
+    writes (move_lines m (NextFrame unwinder cache 0 words) limit begun)
+    (moves_after m (NextFrame unwinder cache 0 words) limit begun).model
 
 -- A command wrote the text of this output, was refused if the output is, and left the session at its model.
 pub record IsOutput {Data Rule : Type 0} (output : CommandOutput Data) (written : List ℕ) (refused : Bool) (state : SessionState Data Rule)
@@ -146,3 +130,34 @@ abbrev pub Outputs : {Data Rule E : Type 0} → (SessionModel Data → CommandOu
 Outputs {Data} output before after result =
     (model : SessionModel Data) → IsAt model before
     → IfOk result (λ written. IsOutput (output model) (string_bytes written.text) written.is_refused after)
+
+-- a call that does this alone, whatever the line of a step is
+abbrev pub OutputsAct : {Data Rule Registers E : Type 0} → Meanings Data Rule Registers → Act Data Registers → SessionState Data Rule
+    → SessionState Data Rule → Result Written E → Type 0
+OutputsAct {Registers} m act before after result =
+    (step_line : Result (Option ℕ) Error → Registers → List ℕ) → Outputs (output_of_act m step_line act) before after result
+
+-- the text for a reply to a command that is no step and no move of a walk, and whether it is refused
+abbrev pub IsWrittenFor : {Registers : Type 0} → Option (Reply Registers) → List ℕ → Bool → Type 0
+IsWrittenFor None text refused = ⊥
+IsWrittenFor (Some Added) text refused = (text ≡ []) × (refused ≡ false)
+IsWrittenFor (Some Removed) text refused = (text ≡ []) × (refused ≡ false)
+IsWrittenFor (Some Unknown) text refused = (text ≡ []) × (refused ≡ false)
+IsWrittenFor (Some Exhausted) text refused = (text ≡ line (codes "refused GenerationsExhausted")) × (refused ≡ true)
+IsWrittenFor (Some (Stepped answer registers)) text refused = Unit {0}
+IsWrittenFor (Some (Moved answer registers)) text refused = Unit {0}
+
+-- a reply after which nothing was done
+abbrev pub IsUndone : {Registers : Type 0} → Option (Reply Registers) → Type 0
+IsUndone None = Unit {0}
+IsUndone (Some Added) = ⊥
+IsUndone (Some Removed) = ⊥
+IsUndone (Some Unknown) = Unit {0}
+IsUndone (Some Exhausted) = Unit {0}
+IsUndone (Some (Stepped answer registers)) = ⊥
+IsUndone (Some (Moved answer registers)) = ⊥
+
+-- the line for a move is appended, and whether it gives a frame is returned; there is none for a move that is out of memory
+abbrev pub IsAppendedFor : {Registers : Type 0} → Option (Reply Registers) → Bool → List ℕ → List ℕ → Type 0
+IsAppendedFor None given old new = ⊥
+IsAppendedFor (Some reply) given old new = (given ≡ gives_frame reply) × (new ≡ old ++ line_for reply)

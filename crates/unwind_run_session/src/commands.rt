@@ -1,16 +1,17 @@
 //! The commands that change a session or read it, on any architecture.
 
-ghost use Rattle.std.specs.Prelude.{◌≡◌, ◌<◌, ◌++◌, [], false, true, length, codes, IfOk, OnOk, string_bytes};
+ghost use Rattle.std.specs.Prelude.{◌≡◌, ◌<◌, [], false, true, length, codes, IfOk, OnErr, OnOk, string_bytes};
 ghost use Rattle.json_program.specs.Lines.{line};
 ghost use Rattle.framehop_registers.specs.Callback.{Words, AnswersBy};
-ghost use Rattle.framehop_unwinder.specs.Trials.{wants_memory};
-ghost use Rattle.framehop_unwinder.specs.WalkViews.{frame_answer, walk_of};
-ghost use Rattle.unwind_run_session.specs.Outputs.{Outputs, gives_frame, move_line, output_of_unwinder, output_of_cache, output_of_clone, output_of_load, output_of_unload, output_of_stats, output_of_walk};
+ghost use Rattle.framehop_histories.specs.CommandViews.{reply_of};
+ghost use Rattle.framehop_histories.specs.Commands.{NewUnwinder, NewCache, Clone, Load, Unload};
+ghost use Rattle.framehop_histories.specs.Performs.{LoadsStay};
+ghost use Rattle.unwind_run_session.specs.Outputs.{IsAppendedFor, IsUndone, IsWrittenFor, Outputs, OutputsAct, output_of_stats, output_of_walk};
 
 use crate::lines::{counts_line, frame_line, stop_line};
-use framehop_modules::LoadError;
-use framehop_rules::{Error, FrameAddress};
-use framehop_unwinder::{AddUnwinderError, Module, ModuleUnwinding, Session, StackWalk};
+use framehop_histories as histories;
+use framehop_histories::Answer;
+use framehop_unwinder::{Module, ModuleUnwinding, Session};
 use std::alloc::{AllocError, Global};
 
 /// The text that a command wrote, and whether the command was `refused`, which ends the run.
@@ -51,78 +52,88 @@ impl Written {
             is_refused: true,
         })
     }
+
+    // What is written for the answer to a command that is no step and no move of a walk. An answer that
+    // memory is out has no text: this call fails too.
+    fn of_answer<R: Copy>(alloc: Global, answer: Answer<R>) -> Result<Written, AllocError>
+        ensures written { IfOk result (λ written.
+            IsWrittenFor (reply_of answer) (string_bytes written.text) written.is_refused) }
+        ensures undone { OnErr result (IsUndone (reply_of answer)) }
+    {
+        match answer {
+            Answer::GenerationsExhausted => Written::refused(alloc),
+            Answer::OutOfMemory => Err(AllocError),
+            Answer::Added | Answer::Removed | Answer::Unknown => Ok(Written::nothing(alloc)),
+            Answer::Stepped(..) | Answer::Moved(..) => Ok(Written::nothing(alloc)),
+        }
+    }
 }
 
-/// Makes the next unwinder.
+/// Makes the next unwinder. A call that fails leaves the session.
 pub fn add_unwinder<A: ModuleUnwinding>(
     session: &mut Session<A>,
     alloc: Global,
 ) -> Result<Written, AllocError>
-    ensures { Outputs output_of_unwinder session.old session.new result }
+    ensures output { OutputsAct A.meanings NewUnwinder session.old session.new result }
+    ensures refused { OnErr result (session.new ≡ session.old) }
 {
-    match session.add_unwinder(alloc) {
-        Ok(()) => Ok(Written::nothing(alloc)),
-        Err(AddUnwinderError::GenerationsExhausted) => Written::refused(alloc),
-        Err(AddUnwinderError::OutOfMemory) => Err(AllocError),
-    }
+    let answer = histories::new_unwinder(session, alloc);
+    Written::of_answer(alloc, answer)
 }
 
-/// Makes the next cache, with this context for its attempts.
+/// Makes the next cache, with this context for its attempts. A call that fails leaves the session.
 pub fn add_cache<A: ModuleUnwinding>(
     session: &mut Session<A>,
     alloc: Global,
     unwind_context: A::UnwindContext,
 ) -> Result<Written, AllocError>
-    ensures { Outputs output_of_cache session.old session.new result }
+    ensures output { OutputsAct A.meanings NewCache session.old session.new result }
+    ensures refused { OnErr result (session.new ≡ session.old) }
 {
-    session.add_cache(alloc, unwind_context)?;
-    Ok(Written::nothing(alloc))
+    let answer = histories::new_cache(session, alloc, unwind_context);
+    Written::of_answer(alloc, answer)
 }
 
-/// Makes the next unwinder, with the modules of another.
+/// Makes the next unwinder, with the modules of another. A call that fails leaves the session.
 pub fn clone_unwinder<A: ModuleUnwinding>(
     session: &mut Session<A>,
     alloc: Global,
     unwinder: usize,
 ) -> Result<Written, AllocError>
-    requires { unwinder < length session.old.unwinders }
-    ensures { Outputs (output_of_clone unwinder) session.old session.new result }
+    ensures output { OutputsAct A.meanings (Clone unwinder) session.old session.new result }
+    ensures refused { OnErr result (session.new ≡ session.old) }
 {
-    session.clone_unwinder(alloc, unwinder)?;
-    Ok(Written::nothing(alloc))
+    let answer = histories::clone_unwinder(session, alloc, unwinder);
+    Written::of_answer(alloc, answer)
 }
 
-/// Loads a module in an unwinder.
+/// Loads a module in an unwinder. A call that fails leaves the session.
 pub fn load<A: ModuleUnwinding>(
     session: &mut Session<A>,
     alloc: Global,
     unwinder: usize,
     module: Module<A::UnwindData>,
 ) -> Result<Written, AllocError>
-    requires { unwinder < length session.old.unwinders }
-    ensures { Outputs (output_of_load unwinder «module») session.old session.new result }
+    ensures output { OutputsAct A.meanings (Load unwinder «module») session.old session.new result }
+    ensures refused { OnErr result (session.new ≡ session.old) }
 {
-    match session.load(unwinder, module) {
-        Ok(()) => Ok(Written::nothing(alloc)),
-        Err(LoadError::GenerationsExhausted(_)) => Written::refused(alloc),
-        Err(LoadError::OutOfMemory(_)) => Err(AllocError),
-    }
+    let answer = histories::load(session, unwinder, module);
+    Written::of_answer(alloc, answer)
 }
 
-/// Unloads the last of the modules of an unwinder that start at an address, if one does.
+/// Unloads the last of the modules of an unwinder that start at an address, if one does. A call that
+/// fails leaves the session.
 pub fn unload<A: ModuleUnwinding>(
     session: &mut Session<A>,
     alloc: Global,
     unwinder: usize,
     start: u64,
 ) -> Result<Written, AllocError>
-    requires { unwinder < length session.old.unwinders }
-    ensures { Outputs (output_of_unload unwinder start) session.old session.new result }
+    ensures output { OutputsAct A.meanings (Unload unwinder start) session.old session.new result }
+    ensures refused { OnErr result (session.new ≡ session.old) }
 {
-    match session.unload(unwinder, start) {
-        Ok(()) => Ok(Written::nothing(alloc)),
-        Err(_) => Written::refused(alloc),
-    }
+    let answer = histories::unload(session, unwinder, start);
+    Written::of_answer(alloc, answer)
 }
 
 /// Shows the counts of a cache.
@@ -132,7 +143,8 @@ pub fn stats<A: ModuleUnwinding>(
     cache: usize,
 ) -> Result<Written, AllocError>
     requires { cache < length session.old.caches }
-    ensures { Outputs (output_of_stats cache) session.old session.new result }
+    ensures output { Outputs (output_of_stats cache) session.old session.new result }
+    ensures same { session.new ≡ session.old }
 {
     let line = counts_line(alloc, session.stats(cache))?;
     Ok(Written::lines(line))
@@ -140,53 +152,75 @@ pub fn stats<A: ModuleUnwinding>(
 
 // Appends the line of a move of a walk, and returns whether the move gave a frame. A move that ran out
 // of memory has no line: this call fails too.
-fn push_move(
+fn push_move<R: Copy>(
     alloc: Global,
-    answer: Result<Option<FrameAddress>, Error>,
+    answer: Answer<R>,
     text: &mut String,
 ) -> Result<bool, AllocError>
-    ensures frame { IfOk result (λ given. given ≡ gives_frame (frame_answer answer)) }
-    ensures line { OnOk result (string_bytes text.new
-        ≡ string_bytes text.old ++ move_line (frame_answer answer)) }
-    ensures memory { OnOk result (wants_memory answer ≡ false) }
+    ensures { IfOk result (λ given.
+        IsAppendedFor (reply_of answer) given (string_bytes text.old) (string_bytes text.new)) }
 {
     match answer {
-        Ok(Some(frame)) => {
+        Answer::OutOfMemory => Err(AllocError),
+        Answer::Moved(Ok(Some(frame)), _) => {
             text.push_str(frame_line(alloc, frame)?.as_str())?;
             Ok(true)
         }
-        Ok(None) => {
+        Answer::Moved(Ok(None), _) => {
             text.push_str("end\n")?;
             Ok(false)
         }
-        Err(error) => {
+        Answer::Moved(Err(error), _) => {
             text.push_str(stop_line(alloc, error)?.as_str())?;
             Ok(false)
         }
+        Answer::Added
+        | Answer::Removed
+        | Answer::Unknown
+        | Answer::GenerationsExhausted
+        | Answer::Stepped(..) => Ok(false),
     }
 }
 
-/// Walks over the frames of an unwinder with a cache, up to a limit, and returns a line for each frame
-/// and one for how the walk ends.
+/// A walk over the frames of an unwinder with a cache, from the frame at an instruction pointer with these
+/// registers, up to a limit of frames.
+#[derive(Clone, Copy, Drop)]
+pub struct LimitedWalk<R: Copy> {
+    pub unwinder: usize,
+    pub cache: usize,
+    pub limit: u64,
+    pub pc: u64,
+    pub regs: R,
+}
+
+/// Walks over frames up to a limit, and returns a line for each frame and one for how the walk ends. A call
+/// that fails leaves the unwinders and the counter.
 pub fn walk<A: ModuleUnwinding, F: FnMut(u64) -> Result<u64, ()>>(
     session: &mut Session<A>,
     alloc: Global,
-    unwinder: usize,
-    cache: usize,
-    limit: u64,
-    walk: &mut StackWalk<A::UnwindRegs>,
+    walk: LimitedWalk<A::UnwindRegs>,
     read_stack: &mut F,
 ) -> Result<Written, AllocError>
-    requires callable { F.IsAlwaysCallable read_stack.old }
-    requires unwinder { unwinder < length session.old.unwinders }
-    requires cache { cache < length session.old.caches }
-    ensures { (words : Words) → AnswersBy F.step read_stack.old words
-        → Outputs (output_of_walk A.meanings words limit unwinder cache (walk_of walk.old))
+    requires { F.IsAlwaysCallable read_stack.old }
+    ensures output { (words : Words) → AnswersBy F.step read_stack.old words → Outputs (output_of_walk
+        A.meanings words walk.limit walk.unwinder walk.cache walk.pc walk.regs)
         session.old session.new result }
+    ensures loads { LoadsStay session.old session.new }
 {
+    let mut walks = Vec::new(alloc);
+    let Answer::Added = histories::new_walk::<A>(&mut walks, walk.pc, walk.regs) else {
+        return Err(AllocError);
+    };
     let mut text = String::new(alloc);
-    for _ in 0..limit {
-        let answer = session.next_frame(unwinder, cache, walk, read_stack);
+    for _ in 0..walk.limit {
+        let answer = histories::next_frame(
+            session,
+            &mut walks,
+            walk.unwinder,
+            walk.cache,
+            0,
+            read_stack,
+        );
         if !push_move(alloc, answer, &mut text)? {
             return Ok(Written::lines(text));
         }

@@ -7,5 +7,7 @@ mod commands;
 mod lines;
 
 pub use alone::step_alone;
-pub use commands::{Written, add_cache, add_unwinder, clone_unwinder, load, stats, unload, walk};
+pub use commands::{
+    LimitedWalk, Written, add_cache, add_unwinder, clone_unwinder, load, stats, unload, walk,
+};
 pub use lines::ErrorName;

@@ -1,7 +1,5 @@
-use Rattle.std.proofs.Common.{sym, ap, subst, ◌∙◌}
+use Rattle.std.proofs.Common.{sym, subst}
 use Rattle.std.specs.Prelude.{IfOk, string_bytes}
-use Rattle.framehop_unwinder.specs.Walk.{Walk}
-use Rattle.framehop_unwinder.specs.WalkViews.{walk_from}
 use Rattle.unwind_run_session.specs.Outputs.{IsOutput, output_of_walk}
 use Rattle.unwind_run_document.specs.CommandViews.{words_view}
 use Rattle.unwind_run_program.specs.Text.{words_of}
@@ -13,6 +11,6 @@ returns g c = λ model at.
     let m = g.A.ModuleUnwinding.meanings in
     let walk = c.args.walk.now in
     let words = words_of (words_view walk.stack) in
-    subst (λ (w : Walk g.row.A-UnwindRegs.Denot). IfOk c.walk.result (λ written. IsOutput (output_of_walk m words walk.limit walk.unwinder walk.cache w model) (string_bytes written.text) written.is_refused c.walk.new.session))
-    (c.new-frames.ensures ∙ ap (λ (r : g.row.A-UnwindRegs.Denot). walk_from walk.pc r) c.stated_registers-regs.ensures)
-    (c.walk.ensures words (answers_always _ _ _ (λ at r next fits read. sym read.met.1.1) (λ at r next fits read. read.met.0)) model at)
+    subst (λ (r : g.row.A-UnwindRegs.Denot). IfOk c.walk.result (λ written. IsOutput (output_of_walk m words walk.limit walk.unwinder walk.cache walk.pc r model) (string_bytes written.text) written.is_refused c.walk.new.session))
+    c.stated_registers.ensures
+    (c.walk.ensures.output words (answers_always _ _ _ (λ at r next fits read. sym read.met.1.1) (λ at r next fits read. read.met.0)) model at)
