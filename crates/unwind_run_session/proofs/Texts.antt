@@ -1,5 +1,5 @@
 -- What is written for the answers to commands, and where the session is then.
-use Rattle.std.proofs.Common.{◌≡◌, ℕ, suc, Bool, true, false, cond, List, [], ◌∷◌, length, Option, Some, None, Result, Ok, Err, IfOk, OnErr, refl, sym, ap, subst, ◌∙◌}
+use Rattle.std.proofs.Common.{◌≡◌, ℕ, suc, Bool, true, false, cond, List, [], ◌∷◌, length, Option, Some, None, Result, Ok, Err, IfOk, OnErr, refl, ap, subst, ◌∙◌}
 use Rattle.std.specs.Prelude.{string_bytes, nat_lt, if◌then◌else◌, ◌^◌, ◌-◌}
 use Rattle.framehop_registers.specs.declared.error.Error.{Error}
 use Rattle.framehop_rules.specs.Slots.{Kept}
@@ -8,13 +8,13 @@ use Rattle.framehop_unwinder.specs.History.{KeyHistory, HaveHistories}
 use Rattle.framehop_unwinder.specs.Modules.{Loaded, is_loaded_at}
 use Rattle.framehop_unwinder.specs.Progress.{SessionModel, IsAt}
 use Rattle.framehop_unwinder.specs.State.{SessionState}
-use Rattle.framehop_histories.specs.Commands.{Act, NewUnwinder, NewCache, Load, Unload, Clone, CommandState, Reply, Added, Removed, Unknown, Exhausted, Stepped, Moved, if_known, if_left, modules_of, reply_to}
+use Rattle.framehop_histories.specs.Commands.{Act, NewUnwinder, Load, Unload, Clone, CommandState, Reply, Added, Removed, Unknown, Exhausted, Stepped, Moved, if_known, if_left, modules_of, reply_to}
 use Rattle.framehop_histories.specs.CommandViews.{reply_of}
 use Rattle.framehop_histories.specs.Performs.{IsIn, IsObeyed, StaysUnlessDone}
 use Rattle.framehop_histories.specs.StateAfter.{state_after}
 use Rattle.framehop_histories.specs.declared.commands.Answer.{Answer}
 use Rattle.framehop_histories.specs.declared.commands.Answer.TheVariants as answers
-use Rattle.unwind_run_session.specs.Outputs.{IsOutput, IsUndone, IsWrittenFor, OutputsAct, is_refusal, next_state, output_of_act, text_for, without_walks}
+use Rattle.unwind_run_session.specs.Outputs.{IsUndone, IsWrittenFor, OutputsAct, is_refusal, next_state, text_for, without_walks}
 use Rattle.unwind_run_session.specs.declared.commands.Written.{Written}
 
 -- there are as many histories as caches

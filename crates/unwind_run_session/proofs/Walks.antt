@@ -9,7 +9,7 @@ use Rattle.framehop_unwinder.specs.History.{HaveHistories}
 use Rattle.framehop_unwinder.specs.Progress.{SessionModel, IsAt}
 use Rattle.framehop_unwinder.specs.State.{SessionState}
 use Rattle.framehop_unwinder.specs.Walk.{Walk}
-use Rattle.framehop_histories.specs.Commands.{Act, NewWalk, NextFrame, CommandState, Reply, reply_to}
+use Rattle.framehop_histories.specs.Commands.{Act, NewWalk, NextFrame, CommandState, Reply}
 use Rattle.framehop_histories.specs.Performs.{IsIn, IsObeyed}
 use Rattle.framehop_histories.specs.StateAfter.{state_after}
 use Rattle.unwind_run_session.specs.Outputs.{IsAppendedFor, IsOutput, gives_frame, line_for, move_lines, moves_after, next_state, output_of_walk, without_walks}

@@ -1,4 +1,4 @@
-use Rattle.std.proofs.Common.{◌≡◌, ℕ, zero, suc, ◌+◌, ◌-◌, [], List, ap, subst, ◌∙◌, arith, refl}
+use Rattle.std.proofs.Common.{◌≡◌, ℕ, zero, suc, ◌+◌, ◌-◌, List, ap, subst, ◌∙◌, arith, refl}
 use Rattle.std.specs.Prelude.{string_bytes}
 use Rattle.framehop_registers.specs.Callback.{Words}
 use Rattle.framehop_unwinder.specs.declared.iterator.StackWalk.{StackWalk}

@@ -1,4 +1,4 @@
-use Rattle.std.proofs.Common.{◌≡◌, ◌-◌, length}
+use Rattle.std.proofs.Common.{◌-◌}
 use Rattle.std.specs.Prelude.{string_bytes}
 use Rattle.framehop_registers.specs.Callback.{Words, AnswersBy}
 use Rattle.framehop_histories.specs.Commands.{NewWalk, NextFrame}
