@@ -1,5 +1,5 @@
 -- How far a run has come, and what is left to write.
-use Rattle.std.proofs.Common.{◌≡◌, ℕ, zero, suc, ◌+◌, ◌<◌, arith, get_or, map, List, [], ◌∷◌, ◌++◌, length, reverse, Bool, true, false, cond, ◌↔◌, IsTrue, Result, Ok, Err, Option, Some, None, refl, sym, ◌∙◌, ap, subst}
+use Rattle.std.proofs.Common.{◌≡◌, ℕ, zero, suc, ◌+◌, ◌<◌, arith, get_or, map, List, [], ◌∷◌, ◌++◌, length, reverse, Bool, true, false, cond, Result, Option, Some, refl, sym, ◌∙◌, ap, subst}
 use Rattle.std.specs.Prelude.{nat_lt, ◌-◌, ◌^◌}
 use Rattle.std.specs.List.{slice_get}
 use Rattle.std.specs.Io.KnownBytes.{Appends}

@@ -1,4 +1,4 @@
-use Rattle.std.proofs.Common.{[], sym, ap, ◌∙◌, refl}
+use Rattle.std.proofs.Common.{[], sym, ap, ◌∙◌}
 use Rattle.std.specs.Prelude.{string_bytes}
 use Rattle.framehop_unwinder.specs.Frames.{Frame, frame_of}
 use Rattle.framehop_histories.specs.Commands.{Step, Stepped}
