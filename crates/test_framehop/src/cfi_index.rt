@@ -68,8 +68,8 @@ fn fde_of<R: Reader>(
     })
 }
 
-/// The start and the offset of an FDE.
-fn placed<R: Reader>(
+/// The start of an FDE, and its offset in the section.
+fn place_of<R: Reader>(
     section: &EhFrame<R>,
     partial: &PartialFrameDescriptionEntry<'_, EhFrame<R>, R>,
 ) -> Result<Placed, Error> {
@@ -87,7 +87,7 @@ fn fdes_of<R: Reader>(alloc: Global, section: &EhFrame<R>) -> Result<Vec<Placed>
     let mut entries = section.entries(&bases);
     for _ in 0..u64::MAX {
         match entries.next()? {
-            Some(Entry::Fde(partial)) => fdes.push(placed(section, &partial)?)?,
+            Some(Entry::Fde(partial)) => fdes.push(place_of(section, &partial)?)?,
             Some(Entry::Cie(_)) => {}
             None => break,
         }
