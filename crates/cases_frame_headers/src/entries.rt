@@ -7,7 +7,7 @@ use dwarf_frame_entries::{
     BaseAddresses, EhFrame, UnwindContext, UnwindContextStorage, UnwindSection, UnwindTableRow,
 };
 use dwarf_frame_rows::StoreOnHeap;
-use dwarf_readers::{EndianSlice, LittleEndian, Reader};
+use dwarf_readers::{EndianSlice, LittleEndian};
 use std::alloc::Global;
 use test_frame_rows::answer_line;
 
@@ -23,6 +23,9 @@ pub struct Entries {
 
 type Slice<'a> = EndianSlice<'a, LittleEndian>;
 
+// The rules of a row.
+type Rules = <StoreOnHeap as UnwindContextStorage<usize>>::Rules;
+
 // The offset of the FDE for an address.
 fn offset_for<'a>(
     table: &EhHdrTable<'_, Slice<'a>>,
@@ -35,13 +38,13 @@ fn offset_for<'a>(
 }
 
 // The row for an address.
-fn row_for<'ctx, R: Reader, S: UnwindContextStorage<R::Offset>>(
-    table: &EhHdrTable<'_, R>,
-    frame: &EhFrame<R>,
+fn row_for<'ctx, 'a>(
+    table: &EhHdrTable<'_, Slice<'a>>,
+    frame: &EhFrame<Slice<'a>>,
     bases: &BaseAddresses,
-    context: &'ctx mut UnwindContext<R::Offset, S>,
+    context: &'ctx mut UnwindContext<usize, StoreOnHeap>,
     address: u64,
-) -> Answer<&'ctx UnwindTableRow<R::Offset, S::Rules>> {
+) -> Answer<&'ctx UnwindTableRow<usize, Rules>> {
     let cie = UnwindSection::cie_from_offset;
     table.unwind_info_for_address(frame, bases, context, address, cie)
 }
