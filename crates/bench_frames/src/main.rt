@@ -9,8 +9,7 @@ mod passes;
 
 use anyhow::Result;
 use dwarf_frame_entries::{
-    BaseAddresses, EhFrame, FrameDescriptionEntry, UnwindContext, UnwindContextStorage,
-    UnwindSection,
+    BaseAddresses, EhFrame, UnwindContext, UnwindContextStorage, UnwindSection,
 };
 use dwarf_frame_rows::StoreOnHeap;
 use dwarf_readers::{LittleEndian, Reader};
@@ -34,22 +33,6 @@ fn main(rt: HostRuntime) -> Result<()> {
     print_passes(&rt, &section, &mut context, rounds)
 }
 
-/// The results of the passes.
-#[derive(Clone, Copy)]
-struct Tallies {
-    entries: Tally,
-    fdes: Tally,
-    rows: Tally,
-}
-
-/// The least time of each pass.
-#[derive(Clone, Copy)]
-struct Least {
-    entries: Duration,
-    fdes: Duration,
-    rows: Duration,
-}
-
 /// Makes each pass, again as often as asked for, and prints its result.
 fn print_passes<R: Reader, Section: UnwindSection<R>, S: UnwindContextStorage<R::Offset>>(
     rt: &HostRuntime,
@@ -59,94 +42,24 @@ fn print_passes<R: Reader, Section: UnwindSection<R>, S: UnwindContextStorage<R:
 ) -> Result<()> {
     let bases = BaseAddresses::default().set_eh_frame(START);
     let kept = keep_fdes(rt.alloc(), section, &bases)?;
-    let mut least = Least {
-        entries: Duration::MAX,
-        fdes: Duration::MAX,
-        rows: Duration::MAX,
-    };
-    let mut tallies = make_passes(section, &bases, kept.as_slice(), context)?;
+    let mut entries = list_entries(section, &bases)?;
+    let mut fdes = list_fdes(section, &bases)?;
+    let mut rows = list_rows(section, &bases, kept.as_slice(), context)?;
+    let mut least = [Duration::MAX; 3];
     for _ in 0..rounds {
-        tallies = time_passes(rt, section, &bases, kept.as_slice(), context, &mut least)?;
+        let start = Instant::now(rt)?;
+        entries = list_entries(section, &bases)?;
+        least[0] = least[0].min(start.elapsed(rt)?);
+        let start = Instant::now(rt)?;
+        fdes = list_fdes(section, &bases)?;
+        least[1] = least[1].min(start.elapsed(rt)?);
+        let start = Instant::now(rt)?;
+        rows = list_rows(section, &bases, kept.as_slice(), context)?;
+        least[2] = least[2].min(start.elapsed(rt)?);
     }
-    print_tallies(rt, &tallies, &least, rounds)
-}
-
-/// Makes each pass.
-fn make_passes<R: Reader, Section: UnwindSection<R>, S: UnwindContextStorage<R::Offset>>(
-    section: &Section,
-    bases: &BaseAddresses,
-    kept: &[FrameDescriptionEntry<R>],
-    context: &mut UnwindContext<R::Offset, S>,
-) -> Result<Tallies> {
-    Ok(Tallies {
-        entries: list_entries(section, bases)?,
-        fdes: list_fdes(section, bases)?,
-        rows: list_rows(section, bases, kept, context)?,
-    })
-}
-
-/// Makes each pass, and keeps its time if it is the least.
-fn time_passes<R: Reader, Section: UnwindSection<R>, S: UnwindContextStorage<R::Offset>>(
-    rt: &HostRuntime,
-    section: &Section,
-    bases: &BaseAddresses,
-    kept: &[FrameDescriptionEntry<R>],
-    context: &mut UnwindContext<R::Offset, S>,
-    least: &mut Least,
-) -> Result<Tallies> {
-    Ok(Tallies {
-        entries: time_entries(rt, section, bases, &mut least.entries)?,
-        fdes: time_fdes(rt, section, bases, &mut least.fdes)?,
-        rows: time_rows(rt, section, bases, kept, context, &mut least.rows)?,
-    })
-}
-
-/// Lists the entries, and keeps the time if it is the least.
-fn time_entries<R: Reader, Section: UnwindSection<R>>(
-    rt: &HostRuntime,
-    section: &Section,
-    bases: &BaseAddresses,
-    least: &mut Duration,
-) -> Result<Tally> {
-    let start = Instant::now(rt)?;
-    let tally = list_entries(section, bases)?;
-    *least = (*least).min(start.elapsed(rt)?);
-    Ok(tally)
-}
-
-/// Lists the FDEs, and keeps the time if it is the least.
-fn time_fdes<R: Reader, Section: UnwindSection<R>>(
-    rt: &HostRuntime,
-    section: &Section,
-    bases: &BaseAddresses,
-    least: &mut Duration,
-) -> Result<Tally> {
-    let start = Instant::now(rt)?;
-    let tally = list_fdes(section, bases)?;
-    *least = (*least).min(start.elapsed(rt)?);
-    Ok(tally)
-}
-
-/// Lists the rows, and keeps the time if it is the least.
-fn time_rows<R: Reader, Section: UnwindSection<R>, S: UnwindContextStorage<R::Offset>>(
-    rt: &HostRuntime,
-    section: &Section,
-    bases: &BaseAddresses,
-    kept: &[FrameDescriptionEntry<R>],
-    context: &mut UnwindContext<R::Offset, S>,
-    least: &mut Duration,
-) -> Result<Tally> {
-    let start = Instant::now(rt)?;
-    let tally = list_rows(section, bases, kept, context)?;
-    *least = (*least).min(start.elapsed(rt)?);
-    Ok(tally)
-}
-
-/// Prints the result of each pass, and its time, if it was taken.
-fn print_tallies(rt: &HostRuntime, tallies: &Tallies, least: &Least, rounds: u32) -> Result<()> {
-    print_pass(rt, "entries", tallies.entries, least.entries, rounds)?;
-    print_pass(rt, "FDEs", tallies.fdes, least.fdes, rounds)?;
-    print_pass(rt, "rows", tallies.rows, least.rows, rounds)
+    print_pass(rt, "entries", entries, least[0], rounds)?;
+    print_pass(rt, "FDEs", fdes, least[1], rounds)?;
+    print_pass(rt, "rows", rows, least[2], rounds)
 }
 
 /// Prints the result of a pass, and the time, if it was taken.
