@@ -43,10 +43,11 @@ meanings_x86_64 limits = meanings_by x86_64.rule_meaning x86_64_rule.UseFramePoi
 abbrev pub meanings_aarch64 : StepLimits → Meanings UnwindData UnwindRuleAarch64 UnwindRegsAarch64
 meanings_aarch64 limits = meanings_by aarch64.rule_meaning aarch64_rule.UseFramePointer aarch64_rows.rows limits
 
--- which modules' data asks for memory at a relative address: that by which a row evaluates an expression, on x86_64 and on aarch64
+-- which modules' data asks for memory at a relative address on x86_64: that by which a row evaluates an expression
 abbrev pub asks_x86_64 : StepLimits → UnwindData → ℕ → Bool → Type 0
 asks_x86_64 limits = AsksExpression x86_64_rows.MeetsExpression x86_64_rows.rows limits
 
+-- the same on aarch64
 abbrev pub asks_aarch64 : StepLimits → UnwindData → ℕ → Bool → Type 0
 asks_aarch64 limits = AsksExpression aarch64_rows.MeetsExpression aarch64_rows.rows limits
 
