@@ -1,6 +1,6 @@
 -- The operations of an expression (DWARF 5, 2.5; their bytes 7.7.1, table 7.9): those on values without a type. Any other is
 -- an error.
-use Rattle.std.specs.Prelude.{ℕ, ◌-◌, ◌==◌, ◌&&◌, List, [], ◌∷◌, Bool, Option, Some, None, Result, Ok, Err, nat_le, if◌then◌else◌}
+use Rattle.std.specs.Prelude.{ℕ, ◌-◌, ◌==◌, ◌&&◌, ◌||◌, List, [], ◌∷◌, Bool, Option, Some, None, Result, Ok, Err, nat_le, if◌then◌else◌}
 use Rattle.std.specs.Int.{w16, w32, w64}
 use Rattle.list_laws.specs.Items.{items_of}
 use Rattle.dwarf_constants.specs.declared.constants.DwOp.{DwOp}
@@ -8,7 +8,7 @@ use Rattle.dwarf_constants.specs.declared.constants.TheConstants.{DW_OP_addr, DW
 use Rattle.dwarf_constants.specs.declared.error.Error.{Error}
 use Rattle.dwarf_constants.specs.declared.error.Error.TheVariants.{UnsupportedEvaluation}
 use Rattle.dwarf_readers.specs.InitialLength.{address_at}
-use Rattle.dwarf_readers.specs.Leb128.{signed_at, unsigned_at, unsigned_16_at}
+use Rattle.dwarf_readers.specs.Leb128.{left_by_leb128, signed_at, unsigned_at, unsigned_16_at}
 use Rattle.dwarf_readers.specs.Operands.{Parse, look_up, one}
 use Rattle.dwarf_readers.specs.Stretch.{Stretch, ◌>>=◌, byte_at, number_at, signed_byte_at, signed_number_at}
 use Rattle.dwarf_readers.specs.Remainder.{item_at, size_of}
@@ -109,6 +109,28 @@ abbrev pub operation_at : ℕ → Parse Operation
 operation_at size s = do
   opcode ← byte_at s
   operation_by size opcode.0 opcode.1
+
+-- what is left if the operands of DW_OP_bregx can't be read
+abbrev pub left_by_register : Result (ℕ × Stretch) Error → Stretch → Stretch
+left_by_register (Ok register) s = left_by_leb128 10 register.1
+left_by_register (Err e) s = left_by_leb128 3 s
+
+-- what is left if the operands after an opcode that is in a table can't be read: numbers of variable length are gone, as far as
+-- they were read, and all else is left
+abbrev pub left_by_tabled : ℕ → Stretch → Stretch
+left_by_tabled opcode s =
+    if opcode == DW_OP_constu.0 || opcode == DW_OP_consts.0 || opcode == DW_OP_plus_uconst.0 then left_by_leb128 10 s
+    else if opcode == DW_OP_bregx.0 then left_by_register (unsigned_16_at s) s
+    else s
+
+-- what is left if the operands after an opcode can't be read
+abbrev pub left_by_operands : ℕ → Stretch → Stretch
+left_by_operands opcode s = if is_between DW_OP_breg0 DW_OP_breg31 opcode then left_by_leb128 10 s else left_by_tabled opcode s
+
+-- what is left if an operation can't be read; without a byte there is no opcode
+abbrev pub left_by_operation : Result (ℕ × Stretch) Error → Stretch → Stretch
+left_by_operation (Ok opcode) s = left_by_operands opcode.0 opcode.1
+left_by_operation (Err e) s = s
 
 -- the operations of a stretch, in the order of their bytes; an error is the last
 unfoldable pub operations_of : ℕ → Stretch → List (Result Operation Error)

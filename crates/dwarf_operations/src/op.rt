@@ -1,11 +1,11 @@
 //! Expressions and their operations (DWARF 5, 2.5 and 7.7.1).
 
-ghost use Rattle.std.specs.Prelude.{◌≡◌, List, Result};
+ghost use Rattle.std.specs.Prelude.{◌≡◌, List, OnErr, Result};
 ghost use Rattle.list_laws.specs.Items.{GivesNext};
 ghost use Rattle.dwarf_constants.specs.declared.error.Error.{Error};
 ghost use Rattle.dwarf_readers.specs.Operands.{look_up};
-ghost use Rattle.dwarf_readers.specs.Stretch.{Reads};
-ghost use Rattle.dwarf_operations.specs.Operations.{opcode_number, operation_at, operations_of, operation_by, tabled_operation, without_operands};
+ghost use Rattle.dwarf_readers.specs.Stretch.{Reads, byte_at};
+ghost use Rattle.dwarf_operations.specs.Operations.{left_by_operands, left_by_operation, left_by_tabled, opcode_number, operation_at, operations_of, operation_by, tabled_operation, without_operands};
 ghost use Rattle.dwarf_operations.specs.declared.op.Operation.{Operation};
 
 use dwarf_constants::constants::*;
@@ -71,11 +71,14 @@ pub enum Operation {
 impl Operation {
     /// Reads the operation that the bytes begin with, and leaves what is after it. Fails with
     /// `UnsupportedEvaluation` if the opcode isn't that of an operation on values without a type, and
-    /// if an operand can't be read.
+    /// if an operand can't be read. An error leaves what is after the opcode, and after numbers of
+    /// variable length that come before the error.
     #[inline(always)]
     pub fn parse<R: Reader>(bytes: &mut R, encoding: Encoding) -> Result<Operation>
-        ensures { Reads result (operation_at encoding.address_size (R.stretch bytes.old))
+        ensures read { Reads result (operation_at encoding.address_size (R.stretch bytes.old))
             (R.stretch bytes.new) }
+        ensures refused { OnErr result (R.stretch bytes.new
+            ≡ left_by_operation (byte_at (R.stretch bytes.old)) (R.stretch bytes.old)) }
     {
         let opcode = bytes.read_u8()?;
         Operation::parse_operands(opcode, bytes, encoding)
@@ -84,8 +87,10 @@ impl Operation {
     // Reads the operands after an opcode.
     #[inline(always)]
     fn parse_operands<R: Reader>(opcode: u8, bytes: &mut R, encoding: Encoding) -> Result<Operation>
-        ensures { Reads result (operation_by encoding.address_size opcode (R.stretch bytes.old))
-            (R.stretch bytes.new) }
+        ensures read { Reads result (operation_by encoding.address_size opcode
+            (R.stretch bytes.old)) (R.stretch bytes.new) }
+        ensures refused { OnErr result
+            (R.stretch bytes.new ≡ left_by_operands opcode (R.stretch bytes.old)) }
     {
         if opcode >= DW_OP_lit0.0 && opcode <= DW_OP_lit31.0 {
             let value = u64::from(opcode - DW_OP_lit0.0);
@@ -102,8 +107,10 @@ impl Operation {
     // Reads the operands after an opcode that is in a table of operations.
     #[inline(always)]
     fn parse_listed<R: Reader>(opcode: u8, bytes: &mut R, encoding: Encoding) -> Result<Operation>
-        ensures { Reads result (tabled_operation encoding.address_size opcode (R.stretch bytes.old))
-            (R.stretch bytes.new) }
+        ensures read { Reads result (tabled_operation encoding.address_size opcode
+            (R.stretch bytes.old)) (R.stretch bytes.new) }
+        ensures refused { OnErr result
+            (R.stretch bytes.new ≡ left_by_tabled opcode (R.stretch bytes.old)) }
     {
         let operation = match DwOp(opcode) {
             DW_OP_addr => Operation::Address {

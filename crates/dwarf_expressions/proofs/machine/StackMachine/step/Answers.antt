@@ -8,4 +8,4 @@ invariant_of-self-2 g c =
     let expression = g.R.Reader.stretch inside.expression in
     let rest = g.R.Reader.stretch inside.rest in
     let left = g.R.Reader.stretch c.parse.new.bytes in
-    (operation_stands inside.encoding.address_size expression rest left (rest.offset - expression.offset) c.in_ok-operation.operation c.self.invariant.0 c.in_ok-operation.ensures, c.self.invariant.1)
+    (operation_stands inside.encoding.address_size expression rest left (rest.offset - expression.offset) c.in_ok-operation.operation c.self.invariant.0 c.in_ok-operation.ensures.read, c.self.invariant.1)

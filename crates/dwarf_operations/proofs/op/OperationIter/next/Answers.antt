@@ -17,12 +17,12 @@ returns-in-Ok g c =
     let size = c.self.inside.encoding.address_size in
     let s = g.R.Reader.stretch c.self.inside.input in
     let rest = g.R.Reader.stretch c.parse.new.bytes in
-    sym c.self.view_is ∙ next_taken size (Ok (Some c.in-Ok.operation)) s rest (item_there size s (Ok (c.in-Ok.operation, rest)) (sym c.is_empty.ensures ∙ c.if-is_empty.false) c.in-Ok.ensures) tt
+    sym c.self.view_is ∙ next_taken size (Ok (Some c.in-Ok.operation)) s rest (item_there size s (Ok (c.in-Ok.operation, rest)) (sym c.is_empty.ensures ∙ c.if-is_empty.false) c.in-Ok.ensures.read) tt
 
 pub returns-in-Err : goal.returns-in-Err
 returns-in-Err g c =
     let size = c.self.inside.encoding.address_size in
     let s = g.R.Reader.stretch c.self.inside.input in
     let rest = g.R.Reader.stretch c.empty.new.self in
-    let next = next_taken size (Err c.in-Err.error) s rest (item_there size s (Err c.in-Err.error) (sym c.is_empty.ensures ∙ c.if-is_empty.false) c.in-Err.ensures) (ap (item_at (operation_at size)) c.empty.ensures) in
+    let next = next_taken size (Err c.in-Err.error) s rest (item_there size s (Err c.in-Err.error) (sym c.is_empty.ensures ∙ c.if-is_empty.false) c.in-Err.ensures.read) (ap (item_at (operation_at size)) c.empty.ensures) in
     (sym c.self.view_is ∙ next.0, next.1)
