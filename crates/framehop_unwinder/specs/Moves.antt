@@ -3,11 +3,12 @@
 use Rattle.std.specs.Prelude.{ℕ, ◌≡◌, List, Bool, true, Option, Some, None, Result, Ok, OnErr, IfOk, IfErr}
 use Rattle.framehop_registers.specs.declared.code_address.FrameAddress.{FrameAddress}
 use Rattle.framehop_registers.specs.declared.error.Error.{Error}
-use Rattle.framehop_unwinder.specs.Frames.{Frame, frame_of}
+use Rattle.framehop_unwinder.specs.Frames.{Frame, first_frame, frame_of}
 use Rattle.framehop_unwinder.specs.Memory.{AsksMemory, WantsMemoryOnlyIf}
 use Rattle.framehop_unwinder.specs.Modules.{Loaded}
 use Rattle.framehop_unwinder.specs.Trials.{IsOfStep, wants_memory}
 use Rattle.framehop_unwinder.specs.Walk.{WalkPosition, Starts, At, Over, Walk}
+use Rattle.framehop_unwinder.specs.WalkViews.{frame_answer}
 
 -- the walk is at a frame: only from there a step is made
 abbrev pub IsAtFrame : WalkPosition → Type 0
@@ -37,10 +38,11 @@ abbrev pub position_after : Option FrameAddress → WalkPosition
 position_after (Some address) = At (frame_of address)
 position_after None = Over
 
--- A move, for every callback. Only a walk at a frame fails: it stays there, with the registers that it had unless the return
+-- A move, for every callback. A walk that starts goes to the frame of its instruction pointer. Only a walk at a frame fails: it stays there, with the registers that it had unless the return
 -- address is 0, and as it was if it is out of memory. The walk goes to the frame that is returned, and is over after None; it
 -- stays over.
 pub record MovesOn {Registers : Type 0} (old : Walk Registers) (result : Result (Option FrameAddress) Error) (new : Walk Registers) : Type 0 where
+  pub begins : (pc : ℕ) → old.position ≡ Starts pc → (frame_answer result ≡ Ok (Some (first_frame pc))) × (new.registers ≡ old.registers)
   pub refusals : OnErr result (IsAtFrame old.position)
   pub error_stays : OnErr result (new.position ≡ old.position)
   pub error_keeps : IfErr result (λ error. IsOfStep error → new.registers ≡ old.registers)
