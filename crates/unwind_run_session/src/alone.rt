@@ -1,11 +1,11 @@
 //! A step over one module alone.
 
-ghost use Rattle.std.specs.Prelude.{◌≡◌, ◌∷◌, [], false, OnErr};
+ghost use Rattle.std.specs.Prelude.{◌≡◌, ◌∷◌, [], false};
 ghost use Rattle.framehop_registers.specs.Callback.{OverWords};
 ghost use Rattle.framehop_rules.specs.Outcome.{IsStep};
 ghost use Rattle.framehop_unwinder.specs.Frames.{frame_of};
 ghost use Rattle.framehop_unwinder.specs.Judge.{judge};
-ghost use Rattle.framehop_unwinder.specs.Trials.{wants_memory};
+ghost use Rattle.framehop_unwinder.specs.Trials.{StaysUnlessStepped, wants_memory};
 
 use framehop_modules::Generations;
 use framehop_rules::{Error, FrameAddress};
@@ -24,10 +24,11 @@ pub fn step_alone<A: ModuleUnwinding, F: FnMut(u64) -> Result<u64, ()>>(
     read_stack: &mut F,
 ) -> Result<Option<u64>, Error>
     requires { F.IsAlwaysCallable read_stack.old }
+    ensures callable { F.IsAlwaysCallable read_stack.new }
     ensures step { OverWords F.step read_stack.old read_stack.new (λ words. wants_memory result ≡ false
         → IsStep result regs.old regs.new
         (judge A.meanings («module» ∷ []) (frame_of address) regs.old words)) }
-    ensures error_keeps { OnErr result (regs.new ≡ regs.old) }
+    ensures stays { StaysUnlessStepped result regs.old regs.new }
 {
     let mut generations = Generations::starting_at(0);
     let mut unwinder = UnwinderInternal::<A>::new(alloc, &mut generations).unwrap();

@@ -202,6 +202,7 @@ pub fn walk<A: ModuleUnwinding, F: FnMut(u64) -> Result<u64, ()>>(
     read_stack: &mut F,
 ) -> Result<Written, AllocError>
     requires { F.IsAlwaysCallable read_stack.old }
+    ensures callable { F.IsAlwaysCallable read_stack.new }
     ensures output { (words : Words) → AnswersBy F.step read_stack.old words → Outputs (output_of_walk
         A.meanings words walk.limit walk.unwinder walk.cache walk.pc walk.regs)
         session.old session.new result }

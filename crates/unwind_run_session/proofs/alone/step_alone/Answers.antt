@@ -41,5 +41,5 @@ returns-clause-step g c =
       still = c.unwind_frame.ensures.step.still;
     }
 
-pub returns-clause-error_keeps : goal.returns-clause-error_keeps
-returns-clause-error_keeps g c = c.unwind_frame.ensures.stays.registers.error
+pub returns-clause-stays : goal.returns-clause-stays
+returns-clause-stays g c = c.unwind_frame.ensures.stays
