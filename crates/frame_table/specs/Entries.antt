@@ -99,14 +99,14 @@ abbrev pub cie_register : Cie → List ℕ
 cie_register cie = codes " ra=" ++ decimal cie.return_address_register.0 ++ codes "\n"
 
 -- the line of a CIE, with the text of its augmentation
-abbrev pub cie_line : Cie → EntryPrefix → List ℕ → List ℕ
-cie_line cie prefix augmentation =
+abbrev pub cie_line : Cie → EntryPrefix × List ℕ → List ℕ
+cie_line cie (prefix, augmentation) =
     prefix_text cie.address_size cie.head prefix ++ codes " CIE \"" ++ augmentation ++ cie_factors cie ++ cie_register cie
 
--- the text of a CIE whose prefix is read
-abbrev pub whole_cie_part : Setting → Cie → EntryPrefix → List ℕ → Part
-whole_cie_part s cie prefix augmentation =
-    part_with cie.head.offset prefix.end (cie_line cie prefix augmentation ++ table_text (cie_table s cie) (cie_rows s cie))
+-- the text of a CIE whose prefix is read, with the text of its augmentation
+abbrev pub whole_cie_part : Setting → Cie → EntryPrefix × List ℕ → Part
+whole_cie_part s cie prefix =
+    part_with cie.head.offset prefix.0.end (cie_line cie prefix ++ table_text (cie_table s cie) (cie_rows s cie))
     (cie_rows s cie).refusal
 
 -- the prefix of the CIE at an offset, and the text of its augmentation
@@ -120,7 +120,7 @@ cie_prefix section offset = do
 abbrev pub cie_part : Setting → Cie → Result Part Error
 cie_part s cie = do
   read ← cie_prefix s.section cie.head.offset
-  Ok (whole_cie_part s cie read.0 read.1)
+  Ok (whole_cie_part s cie read)
 
 -- ---- frame description entries
 

@@ -3,14 +3,20 @@ use Rattle.std.specs.Prelude.{◌≡◌, ℕ, Bool, List, ◌++◌, Option, Resu
 use Rattle.json_program.specs.Stream.{WritesText}
 use Rattle.dwarf_constants.specs.declared.common.Vendor.{Vendor}
 use Rattle.dwarf_frame_rows.specs.Effects.{Limits}
+use Rattle.dwarf_frame_rows.specs.declared.base_addresses.BaseAddresses.{BaseAddresses}
 use Rattle.dwarf_frame_rows.specs.FrameSection.{FrameSection}
 use Rattle.frame_table.specs.Entries.{Part, Setting}
 use Rattle.frame_table.specs.Listing.{Listing}
+use Rattle.frame_table.specs.declared.listed.Listed.{Listed}
 use Rattle.frame_table_text.specs.declared.names.Machine.{Machine}
 
 -- a setting of these parts
 abbrev pub setting : Limits → FrameSection → Vendor → Option Machine → Setting
 setting limits section vendor machine = record { section = section; vendor = vendor; machine = machine; limits = limits }
+
+-- how a section of the code is listed, by what its type says of it
+abbrev pub setting_by : {S : Type 0} → (S → BaseAddresses → FrameSection) → (S → Vendor) → Limits → Listed S → Setting
+setting_by frame extensions limits listed = setting limits (frame listed.section.now listed.bases.now) (extensions listed.section.now) listed.machine
 
 -- A call appended a part to a text, and returned the offset after its entry, or None if an error ends the listing there.
 abbrev pub WritesPart : {E : Type 0} → Part → List ℕ → List ℕ → Result (Option ℕ) E → Type 0

@@ -5,10 +5,11 @@ ghost use Rattle.dwarf_endianity.specs.Answers.{Gives};
 ghost use Rattle.dwarf_frame_entries.specs.EntryViews.{cie_view};
 ghost use Rattle.dwarf_frame_instructions.specs.ProgramRows.{program_of};
 ghost use Rattle.frame_table.specs.Entries.{cie_factors, cie_prefix, cie_line, cie_part, cie_program, cie_register, part_or_fault, whole_cie_part};
-ghost use Rattle.frame_table.specs.EntryWrites.{WritesPart, setting};
-ghost use Rattle.frame_table.specs.EntryPrefixViews.{prefix_view};
+ghost use Rattle.frame_table.specs.EntryWrites.{WritesPart, setting_by};
+ghost use Rattle.frame_table.specs.EntryPrefixViews.{cie_prefix_view, prefix_view};
 
-use crate::entry_prefix::{EntryPrefix, augmentation_of, entry_prefix_at};
+use crate::entry_prefix::{CiePrefix, augmentation_of, entry_prefix_at};
+use crate::listed::Listed;
 use crate::parts::{end_part, factors_of, push_fault, push_prefix, table_of};
 use dwarf_frame_entries::{
     BaseAddresses, CallFrameInstructionIter, CommonInformationEntry, UnwindContext,
@@ -17,7 +18,7 @@ use dwarf_frame_entries::{
 use dwarf_frame_instructions::FrameProgram;
 use dwarf_frame_rows::{_UnwindSectionPrivate, PointerEncodingParameters};
 use dwarf_readers::{Reader, ReaderOffset};
-use frame_table_text::{Machine, push_bytes, push_decimal, push_signed};
+use frame_table_text::{push_bytes, push_decimal, push_signed};
 use std::alloc::{AllocError, Global};
 use std::collections::BTreeSet;
 
@@ -95,20 +96,19 @@ fn push_register<R: Reader>(
 fn push_cie_line<R: Reader>(
     alloc: Global,
     cie: &CommonInformationEntry<R>,
-    prefix: &EntryPrefix<R>,
-    augmentation: &R,
+    prefix: &CiePrefix<R>,
     text: &mut Vec<u8>,
 ) -> Result<(), AllocError>
-    ensures { OnOk result (text.new.items ≡ text.old.items
-        ++ cie_line (cie_view R.stretch R.Offset.value cie.now) (prefix_view R.stretch prefix.now)
-        (R.stretch augmentation.now).bytes) }
+    ensures { let view = cie_view R.stretch R.Offset.value cie.now in
+        OnOk result (text.new.items
+        ≡ text.old.items ++ cie_line view (cie_prefix_view R.stretch prefix.now)) }
 {
     let offset = cie.offset().into_u64();
     let length = cie.entry_len().into_u64();
     let size = cie.address_size();
-    push_prefix(alloc, size, offset, length, prefix, text)?;
+    push_prefix(alloc, size, offset, length, &prefix.entry, text)?;
     push_bytes(text, b" CIE \"")?;
-    push_reader(alloc, augmentation, text)?;
+    push_reader(alloc, &prefix.augmentation, text)?;
     push_factors(alloc, cie, text)?;
     push_register(alloc, cie, text)
 }
@@ -128,71 +128,62 @@ fn cie_prefix<R: Reader, Section: UnwindSection<R>>(
     section: &Section,
     bases: &BaseAddresses,
     offset: R::Offset,
-) -> dwarf_constants::Result<(EntryPrefix<R>, R)>
-    ensures { Gives (λ read. (prefix_view R.stretch read.0, (R.stretch read.1).bytes)) result
-        (cie_prefix (Section.frame section.now bases.now)
-        (R.Offset.value offset)) }
+) -> dwarf_constants::Result<CiePrefix<R>>
+    ensures { Gives (cie_prefix_view R.stretch) result
+        (cie_prefix (Section.frame section.now bases.now) (R.Offset.value offset)) }
 {
-    let prefix = entry_prefix_at(section, bases, offset)?;
-    let augmentation = augmentation_of(&prefix)?;
-    Ok((prefix, augmentation))
+    let entry = entry_prefix_at(section, bases, offset)?;
+    let augmentation = augmentation_of(&entry)?;
+    Ok(CiePrefix {
+        entry,
+        augmentation,
+    })
 }
 
 // Appends the text of a CIE whose prefix is read.
 fn push_whole_cie<R: Reader, Section: UnwindSection<R>, S: UnwindContextStorage<R::Offset>>(
     alloc: Global,
-    section: &Section,
-    bases: &BaseAddresses,
-    machine: Option<Machine>,
+    listed: &Listed<'_, Section>,
     context: &mut UnwindContext<R::Offset, S>,
     cie: &CommonInformationEntry<R>,
-    prefix: &EntryPrefix<R>,
-    augmentation: &R,
+    prefix: &CiePrefix<R>,
     text: &mut Vec<u8>,
 ) -> Result<Option<u64>, AllocError>
-    ensures { let s = setting S.limits (Section.frame section.now bases.now)
-        (Section.extensions section.now) machine in
-        WritesPart (whole_cie_part s (cie_view R.stretch R.Offset.value cie.now)
-        (prefix_view R.stretch prefix.now) (R.stretch augmentation.now).bytes)
+    ensures { let s = setting_by Section.frame Section.extensions S.limits listed.now in
+        let view = cie_view R.stretch R.Offset.value cie.now in
+        WritesPart (whole_cie_part s view (cie_prefix_view R.stretch prefix.now))
         text.old.items text.new.items result }
 {
-    push_cie_line(alloc, cie, prefix, augmentation, text)?;
+    let (section, bases) = (listed.section, listed.bases);
+    push_cie_line(alloc, cie, prefix, text)?;
     let none = BTreeSet::new(alloc);
-    let table = table_of(alloc, machine, cie, none, cie.instructions(section, bases))?;
+    let own = cie.instructions(section, bases);
+    let table = table_of(alloc, listed.machine, cie, none, own)?;
     let refusal = table.push(alloc, context, cie_program(section, bases, cie), text)?;
-    end_part(alloc, refusal, cie.offset().into_u64(), prefix.end, text)
+    end_part(
+        alloc,
+        refusal,
+        cie.offset().into_u64(),
+        prefix.entry.end,
+        text,
+    )
 }
 
 /// Appends the text of a CIE.
 pub(crate) fn push_cie<R: Reader, Section: UnwindSection<R>, S: UnwindContextStorage<R::Offset>>(
     alloc: Global,
-    section: &Section,
-    bases: &BaseAddresses,
-    machine: Option<Machine>,
+    listed: &Listed<'_, Section>,
     context: &mut UnwindContext<R::Offset, S>,
     cie: &CommonInformationEntry<R>,
     text: &mut Vec<u8>,
 ) -> Result<Option<u64>, AllocError>
-    ensures { let s = setting S.limits (Section.frame section.now bases.now)
-        (Section.extensions section.now) machine in
+    ensures { let s = setting_by Section.frame Section.extensions S.limits listed.now in
         let view = cie_view R.stretch R.Offset.value cie.now in
         WritesPart (part_or_fault view.head.offset (cie_part s view))
         text.old.items text.new.items result }
 {
-    match cie_prefix(section, bases, cie.offset()) {
-        Ok((prefix, augmentation)) => {
-            push_whole_cie(
-                alloc,
-                section,
-                bases,
-                machine,
-                context,
-                cie,
-                &prefix,
-                &augmentation,
-                text,
-            )
-        }
+    match cie_prefix(listed.section, listed.bases, cie.offset()) {
+        Ok(prefix) => push_whole_cie(alloc, listed, context, cie, &prefix, text),
         Err(error) => push_fault(alloc, error, cie.offset().into_u64(), text),
     }
 }

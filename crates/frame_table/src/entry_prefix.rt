@@ -22,6 +22,13 @@ pub(crate) struct EntryPrefix<R> {
     pub(crate) end: u64,
 }
 
+/// What a CIE begins with, and the text of its augmentation.
+#[derive(Drop)]
+pub(crate) struct CiePrefix<R> {
+    pub(crate) entry: EntryPrefix<R>,
+    pub(crate) augmentation: R,
+}
+
 // Reads an id of this width.
 fn read_id<R: Reader>(width: CieOffsetEncoding, input: &mut R) -> Result<u64>
     ensures { Reads result (id_at width (R.stretch input.old)) (R.stretch input.new) }

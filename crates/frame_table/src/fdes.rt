@@ -6,11 +6,12 @@ ghost use Rattle.dwarf_frame_entries.specs.EntryPrograms.{fde_program};
 ghost use Rattle.dwarf_frame_instructions.specs.ProgramRows.{program_of};
 ghost use Rattle.dwarf_frame_rows.specs.Effects.{Limits};
 ghost use Rattle.frame_table.specs.Entries.{fde_prefix, fde_line, fde_places, fde_part, fde_table, part_or_fault, whole_fde_part};
-ghost use Rattle.frame_table.specs.EntryWrites.{WritesPart, setting};
-ghost use Rattle.frame_table.specs.EntryPrefixViews.{prefix_view};
+ghost use Rattle.frame_table.specs.EntryWrites.{WritesPart, setting_by};
+ghost use Rattle.frame_table.specs.EntryPrefixViews.{fde_and_prefix, prefix_view};
 ghost use Rattle.frame_table_text.specs.TableViews.{table_view};
 
 use crate::entry_prefix::{EntryPrefix, entry_prefix_at};
+use crate::listed::Listed;
 use crate::parts::{end_part, factors_of, push_fault, push_prefix, table_of};
 use dwarf_frame_entries::{
     BaseAddresses, FrameDescriptionEntry, PartialFrameDescriptionEntry, UnwindContext,
@@ -18,7 +19,7 @@ use dwarf_frame_entries::{
 };
 use dwarf_frame_instructions::FrameProgram;
 use dwarf_readers::{Reader, ReaderOffset};
-use frame_table_text::{Machine, Table, add_columns, push_bytes, push_hex};
+use frame_table_text::{Table, add_columns, push_bytes, push_hex};
 use std::alloc::{AllocError, Global};
 use std::collections::BTreeSet;
 
@@ -45,25 +46,19 @@ where
 // The table of an FDE.
 fn fde_table<R: Reader, Section: UnwindSection<R>>(
     alloc: Global,
-    section: &Section,
-    bases: &BaseAddresses,
-    machine: Option<Machine>,
+    listed: &Listed<'_, Section>,
     fde: &FrameDescriptionEntry<R>,
 ) -> Result<Table, AllocError>
-    ensures { (limits : Limits) → let s = setting limits (Section.frame section.now bases.now)
-        (Section.extensions section.now) machine in
+    ensures { (limits : Limits)
+        → let s = setting_by Section.frame Section.extensions limits listed.now in
         IfOk result (λ table. table_view table ≡ fde_table s fde.now) }
 {
     let cie = fde.cie();
+    let (section, bases) = (listed.section, listed.bases);
     let mut columns = BTreeSet::new(alloc);
     add_columns(&mut columns, cie.instructions(section, bases))?;
-    table_of(
-        alloc,
-        machine,
-        cie,
-        columns,
-        fde.instructions(section, bases),
-    )
+    let own = fde.instructions(section, bases);
+    table_of(alloc, listed.machine, cie, columns, own)
 }
 
 // Appends the offset of an FDE's CIE, and the range of its code.
@@ -114,9 +109,8 @@ fn fde_prefix<R: Reader, Section: UnwindSection<R>>(
     bases: &BaseAddresses,
     partial: &PartialFrameDescriptionEntry<'_, Section, R>,
 ) -> dwarf_constants::Result<(FrameDescriptionEntry<R>, EntryPrefix<R>)>
-    ensures { Gives (λ read. (read.0, prefix_view R.stretch read.1)) result
-        (fde_prefix (Section.frame section.now bases.now)
-        partial.now) }
+    ensures { Gives (fde_and_prefix R.stretch) result
+        (fde_prefix (Section.frame section.now bases.now) partial.now) }
 {
     let fde = partial.parse_by_offset()?;
     let prefix = entry_prefix_at(section, bases, partial.offset())?;
@@ -126,24 +120,21 @@ fn fde_prefix<R: Reader, Section: UnwindSection<R>>(
 // Appends the text of an FDE whose prefix is read.
 fn push_whole_fde<R: Reader, Section: UnwindSection<R>, S: UnwindContextStorage<R::Offset>>(
     alloc: Global,
-    section: &Section,
-    bases: &BaseAddresses,
-    machine: Option<Machine>,
+    listed: &Listed<'_, Section>,
     context: &mut UnwindContext<R::Offset, S>,
     cie_offset: u64,
     fde: &FrameDescriptionEntry<R>,
     prefix: &EntryPrefix<R>,
     text: &mut Vec<u8>,
 ) -> Result<Option<u64>, AllocError>
-    ensures { let s = setting S.limits (Section.frame section.now bases.now)
-        (Section.extensions section.now) machine in
-        WritesPart (whole_fde_part s cie_offset fde.now
-        (prefix_view R.stretch prefix.now))
+    ensures { let s = setting_by Section.frame Section.extensions S.limits listed.now in
+        WritesPart (whole_fde_part s cie_offset fde.now (prefix_view R.stretch prefix.now))
         text.old.items text.new.items result }
 {
     push_fde_line(alloc, cie_offset, fde, prefix, text)?;
-    let table = fde_table(alloc, section, bases, machine, fde)?;
-    let refusal = table.push(alloc, context, fde_program(section, bases, fde), text)?;
+    let table = fde_table(alloc, listed, fde)?;
+    let program = fde_program(listed.section, listed.bases, fde);
+    let refusal = table.push(alloc, context, program, text)?;
     end_part(alloc, refusal, fde.offset().into_u64(), prefix.end, text)
 }
 
@@ -159,25 +150,19 @@ fn cie_offset_of<R: Reader, Section: UnwindSection<R>>(
 /// Appends the text of an FDE.
 pub(crate) fn push_fde<R: Reader, Section: UnwindSection<R>, S: UnwindContextStorage<R::Offset>>(
     alloc: Global,
-    section: &Section,
-    bases: &BaseAddresses,
-    machine: Option<Machine>,
+    listed: &Listed<'_, Section>,
     context: &mut UnwindContext<R::Offset, S>,
     partial: &PartialFrameDescriptionEntry<'_, Section, R>,
     text: &mut Vec<u8>,
 ) -> Result<Option<u64>, AllocError>
-    ensures { let s = setting S.limits (Section.frame section.now bases.now)
-        (Section.extensions section.now) machine in
-        WritesPart (part_or_fault partial.now.head.offset
-        (fde_part s partial.now))
+    ensures { let s = setting_by Section.frame Section.extensions S.limits listed.now in
+        WritesPart (part_or_fault partial.now.head.offset (fde_part s partial.now))
         text.old.items text.new.items result }
 {
-    match fde_prefix(section, bases, partial) {
+    match fde_prefix(listed.section, listed.bases, partial) {
         Ok((fde, prefix)) => {
             let cie_offset = cie_offset_of(partial);
-            push_whole_fde(
-                alloc, section, bases, machine, context, cie_offset, &fde, &prefix, text,
-            )
+            push_whole_fde(alloc, listed, context, cie_offset, &fde, &prefix, text)
         }
         Err(error) => push_fault(alloc, error, partial.offset().into_u64(), text),
     }

@@ -5,40 +5,35 @@ ghost use Rattle.json_program.specs.Errors.{ReportsFailures};
 ghost use Rattle.json_program.specs.Stream.{WritesText};
 ghost use Rattle.dwarf_frame_entries.specs.EntryViews.{entry_view};
 ghost use Rattle.frame_table.specs.Entries.{fault_text, listed_part};
-ghost use Rattle.frame_table.specs.EntryWrites.{WritesListing, WritesPart, setting};
+ghost use Rattle.frame_table.specs.EntryWrites.{WritesListing, WritesPart, setting_by};
 ghost use Rattle.frame_table.specs.Listing.{listing_of};
 
 use crate::cies::push_cie;
 use crate::fdes::push_fde;
+use crate::listed::Listed;
 use crate::parts::fault_text;
 use dwarf_constants::Error;
-use dwarf_frame_entries::{
-    BaseAddresses, CieOrFde, Entry, UnwindContext, UnwindContextStorage, UnwindSection,
-};
+use dwarf_frame_entries::{CieOrFde, Entry, UnwindContext, UnwindContextStorage, UnwindSection};
 use dwarf_frame_rows::_UnwindSectionPrivate;
 use dwarf_readers::Reader;
-use frame_table_text::Machine;
 use json_program::{RunError, Sink, write_all};
 use std::alloc::{AllocError, Global};
 
 // Appends the text of an entry, and returns the offset after it, unless an error ends the listing.
 fn push_entry<R: Reader, Section: UnwindSection<R>, S: UnwindContextStorage<R::Offset>>(
     alloc: Global,
-    section: &Section,
-    bases: &BaseAddresses,
-    machine: Option<Machine>,
+    listed: &Listed<'_, Section>,
     context: &mut UnwindContext<R::Offset, S>,
     entry: &CieOrFde<'_, Section, R>,
     text: &mut Vec<u8>,
 ) -> Result<Option<u64>, AllocError>
-    ensures { let s = setting S.limits (Section.frame section.now bases.now)
-        (Section.extensions section.now) machine in
+    ensures { let s = setting_by Section.frame Section.extensions S.limits listed.now in
         WritesPart (listed_part s (entry_view R.stretch R.Offset.value entry.now))
         text.old.items text.new.items result }
 {
     match entry {
-        Entry::Cie(cie) => push_cie(alloc, section, bases, machine, context, cie, text),
-        Entry::Fde(partial) => push_fde(alloc, section, bases, machine, context, partial, text),
+        Entry::Cie(cie) => push_cie(alloc, listed, context, cie, text),
+        Entry::Fde(partial) => push_fde(alloc, listed, context, partial, text),
     }
 }
 
@@ -74,25 +69,22 @@ pub(crate) fn write_listing<
     W: Sink,
 >(
     alloc: Global,
-    section: &Section,
-    bases: &BaseAddresses,
-    machine: Option<Machine>,
+    listed: &Listed<'_, Section>,
     context: &mut UnwindContext<R::Offset, S>,
     writer: &mut W,
 ) -> Result<bool, RunError>
     requires { W.has_failed writer.old ≡ false }
-    ensures listing { let s = setting S.limits (Section.frame section.now bases.now)
-        (Section.extensions section.now) machine in
+    ensures listing { let s = setting_by Section.frame Section.extensions S.limits listed.now in
         WritesListing (listing_of s) (W.contents writer.old) (W.contents writer.new) result }
     ensures errors { ReportsFailures result false (W.has_failed writer.new) }
 {
-    let mut offset = start_of(section);
-    let mut entries = section.entries(bases);
+    let mut offset = start_of(listed.section);
+    let mut entries = listed.section.entries(listed.bases);
     'entries: loop {
         match entries.next() {
             Ok(Some(entry)) => {
                 let mut text = Vec::new(alloc);
-                let end = push_entry(alloc, section, bases, machine, context, &entry, &mut text)?;
+                let end = push_entry(alloc, listed, context, &entry, &mut text)?;
                 write_all(writer, text.as_slice())?;
                 match end {
                     Some(end) => offset = end,

@@ -9,6 +9,7 @@ mod cies;
 mod document;
 mod entry_prefix;
 mod fdes;
+mod listed;
 mod listing;
 mod parts;
 mod program;

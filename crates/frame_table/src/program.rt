@@ -9,6 +9,7 @@ ghost use Rattle.frame_table.specs.Listing.{listing_of};
 ghost use Rattle.frame_table.specs.Text.{bases_from, ending_by, ending_of, setting_of, text_of, vendor_of};
 
 use crate::document::{SectionName, Stated, decode};
+use crate::listed::Listed;
 use crate::listing::write_listing;
 use dwarf_constants::Vendor;
 use dwarf_frame_entries::{BaseAddresses, DebugFrame, EhFrame, UnwindContext};
@@ -121,13 +122,23 @@ fn list<W: Sink>(alloc: Global, stated: &Stated, writer: &mut W) -> Result<bool,
             let mut section = EhFrame::new(bytes, LittleEndian);
             section.set_address_size(stated.address_size);
             section.set_vendor(vendor_of(machine));
-            write_listing(alloc, &section, &bases, machine, &mut context, writer)
+            let listed = Listed {
+                section: &section,
+                bases: &bases,
+                machine,
+            };
+            write_listing(alloc, &listed, &mut context, writer)
         }
         SectionName::DebugFrame => {
             let mut section = DebugFrame::new(bytes, LittleEndian);
             section.set_address_size(stated.address_size);
             section.set_vendor(vendor_of(machine));
-            write_listing(alloc, &section, &bases, machine, &mut context, writer)
+            let listed = Listed {
+                section: &section,
+                bases: &bases,
+                machine,
+            };
+            write_listing(alloc, &listed, &mut context, writer)
         }
     }
 }

@@ -11,10 +11,10 @@ use Rattle.frame_table.proofs.cies.push_cie_line.Goals as goal
 pub returns : goal.returns
 returns g c =
     let cie = cie_view g.R.Reader.stretch g.R.Offset.ReaderOffset.value c.args.cie.now in
-    let prefix = prefix_view g.R.Reader.stretch c.args.prefix.now in
+    let prefix = prefix_view g.R.Reader.stretch c.args.prefix.now.entry in
     let start = prefix_text cie.address_size cie.head prefix in
     let name = codes " CIE \"" in
-    let said = (g.R.Reader.stretch c.args.augmentation.now).bytes in
+    let said = (g.R.Reader.stretch c.args.prefix.now.augmentation).bytes in
     let old = c.args.text.now.items in
     let first = c.push_prefix.new.text.items in
     let second = c.push_bytes.new.text.items in

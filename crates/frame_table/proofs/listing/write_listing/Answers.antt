@@ -6,7 +6,7 @@ use Rattle.dwarf_frame_rows.specs.FrameSection.{FrameSection}
 use Rattle.dwarf_frame_entries.specs.EntryLists.{entries_of}
 use Rattle.dwarf_frame_entries.specs.EntryViews.{entry_view}
 use Rattle.frame_table.specs.Entries.{fault_text, listed_part}
-use Rattle.frame_table.specs.EntryWrites.{setting}
+use Rattle.frame_table.specs.EntryWrites.{setting_by}
 use Rattle.frame_table.specs.Listing.{Listing, listing_from, listing_of}
 use Rattle.frame_table.proofs.Listings.{begins, ends_here, goes_on}
 use Rattle.frame_table.proofs.Writes.{ends_as, stops_after}
@@ -15,12 +15,12 @@ use Rattle.frame_table.proofs.listing.write_listing.Goals as goal
 pub entries-init : goal.entries-init
 entries-init g c =
     let limits = g.S.UnwindContextStorage.limits in
-    let section = g.Section._UnwindSectionPrivate.frame c.args.section.now c.args.bases.now in
-    let s = setting limits section (g.Section._UnwindSectionPrivate.extensions c.args.section.now) c.args.machine in
+    let section = g.Section._UnwindSectionPrivate.frame c.args.listed.now.section.now c.args.listed.now.bases.now in
+    let s = setting_by g.Section._UnwindSectionPrivate.frame g.Section._UnwindSectionPrivate.extensions limits c.args.listed.now in
     let list = c.entries-entries.result.entries in
     let all : list ≡ entries_of section = ap (λ l. l.entries) c.entries-entries.ensures in
-    let starts : section.within.bytes.offset ≡ (g.R.Reader.stretch (g.Section._UnwindSectionPrivate.reader c.args.section.now)).offset =
-    ap (λ (f : FrameSection). f.within.bytes.offset) (g.met.Section._UnwindSectionPrivate.framed c.args.section.now c.args.bases.now) in
+    let starts : section.within.bytes.offset ≡ (g.R.Reader.stretch (g.Section._UnwindSectionPrivate.reader c.args.listed.now.section.now)).offset =
+    ap (λ (f : FrameSection). f.within.bytes.offset) (g.met.Section._UnwindSectionPrivate.framed c.args.listed.now.section.now c.args.listed.now.bases.now) in
     let same : listing_from s c.start_of-offset.result list ≡ listing_of s =
     ap (λ (offset : ℕ). listing_from s offset list) (c.start_of-offset.ensures ∙ sym starts) ∙ ap (listing_from s section.within.bytes.offset) all in
     let w = g.W.Sink.contents c.args.writer.now in
@@ -37,8 +37,7 @@ returns-in_err-end-in-Ok-Some-clause-listing g c =
 pub returns-in_err-write_all-in-Ok-Some-clause-listing : goal.returns-in_err-write_all-in-Ok-Some-clause-listing
 returns-in_err-write_all-in-Ok-Some-clause-listing g c =
     let limits = g.S.UnwindContextStorage.limits in
-    let section = g.Section._UnwindSectionPrivate.frame c.args.section.now c.args.bases.now in
-    let s = setting limits section (g.Section._UnwindSectionPrivate.extensions c.args.section.now) c.args.machine in
+    let s = setting_by g.Section._UnwindSectionPrivate.frame g.Section._UnwindSectionPrivate.extensions limits c.args.listed.now in
     let entry = entry_view g.R.Reader.stretch g.R.Offset.ReaderOffset.value c.in-Ok-Some.entry in
     let list = rw c.in-Ok-Some.field-0-is at c.in-Ok-Some.ensures.list in
     let more = begins s c.entries.offset c.entries.entries.entries c.next.new.self.entries entry list in
@@ -54,8 +53,7 @@ returns-in_err-write_all-in-Ok-Some-clause-listing g c =
 pub returns-in-None-clause-listing : goal.returns-in-None-clause-listing
 returns-in-None-clause-listing g c =
     let limits = g.S.UnwindContextStorage.limits in
-    let section = g.Section._UnwindSectionPrivate.frame c.args.section.now c.args.bases.now in
-    let s = setting limits section (g.Section._UnwindSectionPrivate.extensions c.args.section.now) c.args.machine in
+    let s = setting_by g.Section._UnwindSectionPrivate.frame g.Section._UnwindSectionPrivate.extensions limits c.args.listed.now in
     let entry = entry_view g.R.Reader.stretch g.R.Offset.ReaderOffset.value c.in-Ok-Some.entry in
     let list = rw c.in-Ok-Some.field-0-is at c.in-Ok-Some.ensures.list in
     let last = ends_here s c.entries.offset c.entries.entries.entries c.next.new.self.entries entry list (sym c.in_ok-end-in-Ok-Some.ensures.1 ∙ c.in-None.is) in
@@ -72,8 +70,7 @@ returns-in-None-clause-listing g c =
 pub entries-preserved : goal.entries-preserved
 entries-preserved g c =
     let limits = g.S.UnwindContextStorage.limits in
-    let section = g.Section._UnwindSectionPrivate.frame c.args.section.now c.args.bases.now in
-    let s = setting limits section (g.Section._UnwindSectionPrivate.extensions c.args.section.now) c.args.machine in
+    let s = setting_by g.Section._UnwindSectionPrivate.frame g.Section._UnwindSectionPrivate.extensions limits c.args.listed.now in
     let entry = entry_view g.R.Reader.stretch g.R.Offset.ReaderOffset.value c.in-Ok-Some.entry in
     let list = rw c.in-Ok-Some.field-0-is at c.in-Ok-Some.ensures.list in
     let more = goes_on s c.entries.offset c.in-Some.end c.entries.entries.entries c.next.new.self.entries entry list (sym c.in_ok-end-in-Ok-Some.ensures.1 ∙ c.in-Some.is) in
@@ -94,8 +91,7 @@ entries-preserved g c =
 pub returns-in_err-write_fault-in-Err-clause-listing : goal.returns-in_err-write_fault-in-Err-clause-listing
 returns-in_err-write_fault-in-Err-clause-listing g c =
     let limits = g.S.UnwindContextStorage.limits in
-    let section = g.Section._UnwindSectionPrivate.frame c.args.section.now c.args.bases.now in
-    let s = setting limits section (g.Section._UnwindSectionPrivate.extensions c.args.section.now) c.args.machine in
+    let s = setting_by g.Section._UnwindSectionPrivate.frame g.Section._UnwindSectionPrivate.extensions limits c.args.listed.now in
     let all = (listing_of s).text in
     let line = fault_text c.in-Err.error c.entries.offset in
     let old = g.W.Sink.contents c.args.writer.now in
@@ -107,8 +103,7 @@ returns-in_err-write_fault-in-Err-clause-listing g c =
 pub returns-in-Err-clause-listing : goal.returns-in-Err-clause-listing
 returns-in-Err-clause-listing g c =
     let limits = g.S.UnwindContextStorage.limits in
-    let section = g.Section._UnwindSectionPrivate.frame c.args.section.now c.args.bases.now in
-    let s = setting limits section (g.Section._UnwindSectionPrivate.extensions c.args.section.now) c.args.machine in
+    let s = setting_by g.Section._UnwindSectionPrivate.frame g.Section._UnwindSectionPrivate.extensions limits c.args.listed.now in
     let all = (listing_of s).text in
     let line = fault_text c.in-Err.error c.entries.offset in
     let old = g.W.Sink.contents c.args.writer.now in

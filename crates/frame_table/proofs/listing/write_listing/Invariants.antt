@@ -1,6 +1,6 @@
 use Rattle.std.proofs.Common.{◌≡◌, false, length}
 use Rattle.json_program.specs.Stream.{IsWritten}
-use Rattle.frame_table.specs.EntryWrites.{setting}
+use Rattle.frame_table.specs.EntryWrites.{setting_by}
 use Rattle.frame_table.specs.Listing.{listing_from, listing_of}
 use Rattle.frame_table.proofs.listing.write_listing.Given as goal
 
@@ -8,8 +8,7 @@ use Rattle.frame_table.proofs.listing.write_listing.Given as goal
 abbrev pub invariant-entries : goal.invariant-entries
 invariant-entries g l =
     let limits = g.S.UnwindContextStorage.limits in
-    let section = g.Section._UnwindSectionPrivate.frame l.section l.bases in
-    let s = setting limits section (g.Section._UnwindSectionPrivate.extensions l.section) l.machine in
+    let s = setting_by g.Section._UnwindSectionPrivate.frame g.Section._UnwindSectionPrivate.extensions limits l.fn.listed in
     record {
       failed : g.W.Sink.has_failed l.writer ≡ false;
       stands : IsWritten (g.W.Sink.contents l.fn.writer) (g.W.Sink.contents l.writer) (listing_from s l.offset l.entries.entries).text (listing_of s).text;
