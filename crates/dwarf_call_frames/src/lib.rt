@@ -34,7 +34,8 @@ pub use dwarf_frame_instructions::{
 pub use dwarf_frame_rows::{
     _UnwindSectionPrivate, BaseAddresses, CfaRule, CieOffsetEncoding, Pointer, RegisterRule,
     RegisterRuleIter, RuledRegister, SectionBaseAddresses, StoreOnHeap, UnwindContext,
-    UnwindContextStorage, UnwindExpression, UnwindOffset, UnwindTableRow,
+    UnwindContextStorage, UnwindExpression, UnwindOffset, UnwindTableRow, pointers_go_on,
+    store_on_heap_has_room,
 };
 pub use dwarf_frame_sections::{DebugFrame, EhFrame};
 pub use header::{EhFrameHdr, ParsedEhFrameHdr};

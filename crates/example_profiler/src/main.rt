@@ -1,9 +1,11 @@
 //! A stack walk as a sampling profiler makes it: the modules of a process are loaded once, and each sample's stack is walked
 //! through one cache, with the registers and the stack of a thread that was stopped.
 //!
-//! It prints the code addresses of two samples, a frame a line, and how many look-ups of the cache found a rule.
+//! It prints the code addresses of two samples, a frame a line, and how many look-ups of the cache found a rule; then the
+//! addresses by a session.
 #![tactic(auto)]
 
+mod by_session;
 mod process;
 
 use anyhow::{Result, bail};
@@ -20,7 +22,8 @@ fn main(rt: HostRuntime) -> Result<()> {
     let unwinder = unwinder_of_process(rt.alloc())?;
     let mut cache = CacheX86_64::new(rt.alloc())?;
     print_samples(&rt, &unwinder, &mut cache.0)?;
-    print_hits(&rt, cache.stats())
+    print_hits(&rt, cache.stats())?;
+    by_session::print_samples(&rt, MOST_FRAMES)
 }
 
 /// An unwinder that knows the modules of the process.

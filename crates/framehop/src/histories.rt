@@ -1,4 +1,7 @@
-//! Lists of commands over unwinders that share caches: each answer is that of the command alone, whatever
-//! the commands before it did.
+//! Commands over unwinders that share caches, one by one or as a list ([`perform`]): each answer is that of
+//! the command alone, whatever the commands before it did.
 
-pub use framehop_histories::{Answer, Command, laws, perform};
+pub use framehop_histories::{
+    Answer, Command, clone_unwinder, laws, load, new_cache, new_unwinder, new_walk, next_frame,
+    perform, step, unload,
+};

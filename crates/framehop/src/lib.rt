@@ -17,6 +17,7 @@ pub mod lookup_laws;
 mod lookups;
 mod module;
 pub mod row_laws;
+pub mod rule_laws;
 mod unwind_data;
 pub mod walk_laws;
 pub mod x86_64;

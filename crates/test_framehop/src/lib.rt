@@ -8,6 +8,8 @@ mod cfi_index;
 #[cfg(test)]
 mod expressions;
 #[cfg(test)]
+mod histories;
+#[cfg(test)]
 mod pop_lists;
 #[cfg(test)]
 mod row_edges;

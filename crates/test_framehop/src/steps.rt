@@ -21,7 +21,7 @@ const BY_EXPRESSION: [u8; 32] = [
 pub type Registers = (u64, u64, u64);
 
 /// A module that is loaded at 0x100000, with this section `.eh_frame`.
-fn module_with(alloc: Global, section: &[u8]) -> Result<Module<Vec<u8>>, Fail> {
+pub fn module_with(alloc: Global, section: &[u8]) -> Result<Module<Vec<u8>>, Fail> {
     let mut sections = ExplicitModuleSectionInfo {
         eh_frame: Some(section.to_vec(alloc)?),
         ..Default::default()
