@@ -3,12 +3,12 @@ use Rattle.std.proofs.Common.{◌≡◌, ◌∙◌, ℕ, ◌+◌, ◌*◌, ◌<�
 use Rattle.std.specs.Prelude.{ℤ, pos, negsuc, ◌+ℤ◌, ◌≤ℤ◌, ◌==◌, if◌then◌else◌}
 use Rattle.std.specs.List.{AllByRecursion}
 use Rattle.std.specs.Int.{to_le_bytes, w32}
-use Rattle.std.specs.Option.{option_map, IfNone, IfSome}
+use Rattle.std.specs.Option.{option_map, IfNone}
 use Rattle.framehop_rules.specs.declared.aarch64.unwind_rule.UnwindRuleAarch64.{UnwindRuleAarch64}
 use Rattle.std.proofs.lemmas.Int.{ints}
 use Rattle.framehop_analysis.specs.EpilogueInstructionsAarch64.{EpilogueInstruction, EpilogueFits, epilogue_word, epilogue_spelling}
 use Rattle.framehop_analysis.specs.MachineAarch64.{access_offset}
-use Rattle.framehop_analysis.specs.EpilogueAarch64.{raise_of, raise_of_all, load_offset, later, last_load_offset, IsRuleFor, IsRuleOfEpilogue, FieldsFit, IsEnd}
+use Rattle.framehop_analysis.specs.EpilogueAarch64.{raise_of, raise_of_all, load_offset, later, last_load_offset, IsRuleFor, IsRuleOfEpilogue, IsEnd}
 use Rattle.framehop_analysis.specs.EpilogueViewsAarch64.{IsTypeOf, raise_of_type, load_offset_after, Restores}
 use Rattle.framehop_analysis.specs.FunctionEndsAarch64.{IsLeft}
 use Rattle.framehop_analysis.specs.LookBackAarch64.{IsInEnd, IsEpilogue, Forward, Back}
@@ -200,33 +200,8 @@ restores_rule list restored rule restores is =
     (subst (λ (o : Option ℤ). IsRuleFor restored.raise o (last_load_offset 30 list) rule) restores.fp
     (subst (λ (o : Option ℤ). IsRuleFor restored.raise restored.fp o rule) restores.lr is))
 
-pub ruled : (list : List EpilogueInstruction) (restored : Restored) (bytes : List ℕ) (result : Option UnwindRuleAarch64) → IsEnd bytes list → Restores list restored
-    → IfSome result (λ rule. FieldsFit rule × IsRuleFor restored.raise restored.fp restored.lr rule)
-    → IfSome result (λ rule. (list : List EpilogueInstruction) × IsEnd bytes list × FieldsFit rule × IsRuleOfEpilogue list rule)
-ruled list restored bytes None end restores is = tt
-ruled list restored bytes (Some rule) end restores is = (list, end, is.0, restores_rule list restored rule restores is.1)
-
-pub unruled : (list : List EpilogueInstruction) (restored : Restored) (bytes : List ℕ) (result : Option UnwindRuleAarch64) → IsEnd bytes list → Restores list restored
-    → IfNone result ((rule : UnwindRuleAarch64) → FieldsFit rule → IsRuleFor restored.raise restored.fp restored.lr rule → ⊥)
-    → IfNone result ((other : List EpilogueInstruction) (rule : UnwindRuleAarch64) → IsEnd bytes other → FieldsFit rule → IsRuleOfEpilogue other rule → ⊥)
-unruled list restored bytes None end restores none = λ other rule other_end fits is.
-    none rule fits (rule_restores list restored rule restores (subst (λ (l : List EpilogueInstruction). IsRuleOfEpilogue l rule) (same_end bytes other list other_end end) is))
-unruled list restored bytes (Some rule) end restores none = tt
-
 -- ---- forward, where the offset isn't in an end
 
 pub not_recognised : (text : List ℕ) (offset : ℕ) (list : List EpilogueInstruction) (test : Bool) → (IsInEnd text offset → test ≡ true) → test ≡ false → (IsEnd (drop offset text) list → ⊥) → IsEpilogue text offset list → ⊥
 not_recognised text offset list test tells unset none (Forward end) = none end
 not_recognised text offset list test tells unset none (Back empty there) = let set = tells there in cc
-
-pub unrecognised : (text : List ℕ) (offset : ℕ) (result : Option UnwindRuleAarch64) (test : Bool) → (IsInEnd text offset → test ≡ true) → test ≡ false
-    → IfNone result ((list : List EpilogueInstruction) (rule : UnwindRuleAarch64) → IsEnd (drop offset text) list → FieldsFit rule → IsRuleOfEpilogue list rule → ⊥)
-    → IfNone result ((list : List EpilogueInstruction) (rule : UnwindRuleAarch64) → IsEpilogue text offset list → FieldsFit rule → IsRuleOfEpilogue list rule → ⊥)
-unrecognised text offset None test tells unset none = λ list rule there fits is. not_recognised text offset list test tells unset (λ end. none list rule end fits is) there
-unrecognised text offset (Some rule) test tells unset none = tt
-
-pub recognised : (text : List ℕ) (offset : ℕ) (result : Option UnwindRuleAarch64)
-    → IfSome result (λ rule. (list : List EpilogueInstruction) × IsEnd (drop offset text) list × FieldsFit rule × IsRuleOfEpilogue list rule)
-    → IfSome result (λ rule. (list : List EpilogueInstruction) × IsEpilogue text offset list × FieldsFit rule × IsRuleOfEpilogue list rule)
-recognised text offset None is = tt
-recognised text offset (Some rule) (list, end, fits, is) = (list, Forward end, fits, is)

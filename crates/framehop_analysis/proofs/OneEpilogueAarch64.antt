@@ -5,16 +5,18 @@ use Rattle.std.specs.List.{AllByRecursion}
 use Rattle.std.specs.Option.{IfNone, IfSome}
 use Rattle.framehop_analysis.specs.Found.{IsFound}
 use Rattle.framehop_analysis.specs.EpilogueInstructionsAarch64.{EpilogueInstruction, Load, Add, EpilogueFits, epilogue_word, epilogue_spelling}
-use Rattle.framehop_analysis.specs.FunctionEndsAarch64.{bytes_of_words, IsBranch, IsRegisterBranch, IsMoveToX16, IsAuthBranch, IsTail, auth_tail_call}
-use Rattle.framehop_analysis.specs.EpilogueAarch64.{FieldsFit, IsEnd, IsRuleOfEpilogue, raise_of_all, last_load_offset}
-use Rattle.framehop_analysis.specs.LookBackAarch64.{IsInEnd, IsEpilogue, Forward, Back, IsEpilogueRule}
+use Rattle.framehop_analysis.specs.FunctionEndsAarch64.{bytes_of_words, IsBranch, IsRegisterBranch, IsMoveToX16, IsAuthBranch, IsTail, auth_tail_call, IsWordOfAuthTailCall, BeginsWithWordOfAuthTailCall}
+use Rattle.framehop_analysis.specs.EpilogueAarch64.{FieldsFit, IsEnd, IsRuleFor, IsRuleOfEpilogue, raise_of_all, last_load_offset}
+use Rattle.framehop_analysis.specs.EpilogueViewsAarch64.{Restores}
+use Rattle.framehop_analysis.specs.declared.aarch64.instruction_analysis.epilogue.Restored.{Restored}
+use Rattle.framehop_analysis.specs.LookBackAarch64.{IsInAuthTailCall, IsInEnd, IsEpilogue, Forward, Back, IsEpilogueRule}
 use Rattle.std.specs.Int.{to_le_bytes, w32}
 use Rattle.std.proofs.lemmas.List.{drop-drop}
 use Rattle.framehop_rules.specs.declared.aarch64.unwind_rule.UnwindRuleAarch64.{UnwindRuleAarch64}
 use Rattle.framehop_analysis.proofs.Words.{four}
 use Rattle.framehop_analysis.proofs.DistinctWords.{mode_few, words_few}
 use Rattle.framehop_analysis.proofs.EndWords.{word_fits}
-use Rattle.framehop_analysis.proofs.EpilogueReadingAarch64.{same_end}
+use Rattle.framehop_analysis.proofs.EpilogueReadingAarch64.{same_end, rule_restores, restores_rule}
 use Rattle.framehop_analysis.proofs.Found.{found}
 use Rattle.framehop_analysis.proofs.OneRuleAarch64.{one_rule}
 
@@ -73,18 +75,18 @@ all_other tail is_tail = (
     rest (word ∷ next ∷ []) is = (move_other word is.0, (auth_branch_other next is.1, tt))
     rest (word ∷ next ∷ third ∷ more) is = absurd is
 
--- the word after so many of a list
-record HasWord (bytes : List ℕ) : Type 0 where
+-- the word after so many of a list, of which each is so
+record HasWord (P : ℕ → Type 0) (bytes : List ℕ) : Type 0 where
   pub word : ℕ
   pub more : List ℕ
-  pub other : IsOther word
+  pub other : P word
   pub spelled : bytes ≡ to_le_bytes w32 word ++ more
 
-word_after : (words suffix : List ℕ) (before : ℕ) → before < length words → AllByRecursion IsOther words → HasWord (drop (4 * before) (bytes_of_words words ++ suffix))
-word_after [] suffix before within all = absurd (omega (arith, within))
-word_after (word ∷ words) suffix zero within all = record { word = word; more = bytes_of_words words ++ suffix; other = all.0; spelled = append_assoc (to_le_bytes w32 word) (bytes_of_words words) suffix }
-word_after (word ∷ words) suffix (suc before) within all =
-    let there = word_after words suffix before (omega (arith, within)) all.1 in
+word_after : (P : ℕ → Type 0) (words suffix : List ℕ) (before : ℕ) → before < length words → AllByRecursion P words → HasWord P (drop (4 * before) (bytes_of_words words ++ suffix))
+word_after P [] suffix before within all = absurd (omega (arith, within))
+word_after P (word ∷ words) suffix zero within all = record { word = word; more = bytes_of_words words ++ suffix; other = all.0; spelled = append_assoc (to_le_bytes w32 word) (bytes_of_words words) suffix }
+word_after P (word ∷ words) suffix (suc before) within all =
+    let there = word_after P words suffix before (omega (arith, within)) all.1 in
     let four_more : 4 * suc before ≡ 4 + 4 * before = omega arith in
     record {
       word = there.word;
@@ -93,16 +95,34 @@ word_after (word ∷ words) suffix (suc before) within all =
       spelled = ap (λ n. drop n (bytes_of_words (word ∷ words) ++ suffix)) four_more ∙ sym (drop-drop (4 * before) 4 (bytes_of_words (word ∷ words) ++ suffix)) ∙ there.spelled;
     }
 
--- the word at an offset in an end
-word_in_end : (text : List ℕ) (offset : ℕ) → IsInEnd text offset → HasWord (drop offset text)
-word_in_end text offset (inr (raise, (word, suffix, inl branch, is))) = record { word = word; more = suffix; other = branch_other word branch; spelled = is }
-word_in_end text offset (inr (raise, (word, suffix, inr branch, is))) = record { word = word; more = suffix; other = register_branch_other word branch; spelled = is }
-word_in_end text offset (inl (before, there)) =
+-- the word at an offset in an authenticated tail call
+word_in_call : (P : ℕ → Type 0) (text : List ℕ) (offset : ℕ) → ((tail : List ℕ) → IsTail tail → AllByRecursion P (auth_tail_call tail)) → IsInAuthTailCall text offset → HasWord P (drop offset text)
+word_in_call P text offset all (before, there) =
     let begins = there.begins in
     let from : drop (4 * before) (drop (offset - 4 * before) text) ≡ drop offset text =
     drop-drop (4 * before) (offset - 4 * before) text ∙ ap (λ n. drop n text) (omega (arith, there.enough)) in
-    let word = word_after (auth_tail_call begins.tail) begins.suffix before (omega (arith, there.within, begins.counted)) (all_other begins.tail begins.is) in
+    let word = word_after P (auth_tail_call begins.tail) begins.suffix before (omega (arith, there.within, begins.counted)) (all begins.tail begins.is) in
     record { word = word.word; more = word.more; other = word.other; spelled = sym from ∙ ap (drop (4 * before)) begins.spelled ∙ word.spelled }
+
+all_of_call : (tail : List ℕ) → IsTail tail → AllByRecursion IsWordOfAuthTailCall (auth_tail_call tail)
+all_of_call tail is_tail = (inl refl, (inr (inl refl), (inr (inr (inl refl)), (inr (inr (inr (inl refl))), rest tail is_tail))))
+  where
+    rest : (tail : List ℕ) → IsTail tail → AllByRecursion IsWordOfAuthTailCall tail
+    rest [] is = absurd is
+    rest (word ∷ []) is = (inr (inr (inr (inr (inl is)))), tt)
+    rest (word ∷ next ∷ []) is = (inr (inr (inr (inr (inr (inl is.0))))), (inr (inr (inr (inr (inr (inr is.1))))), tt))
+    rest (word ∷ next ∷ third ∷ more) is = absurd is
+
+pub begins_with_call_word : (text : List ℕ) (offset : ℕ) → IsInAuthTailCall text offset → BeginsWithWordOfAuthTailCall (drop offset text)
+begins_with_call_word text offset there =
+    let word = word_in_call IsWordOfAuthTailCall text offset all_of_call there in
+    (word.word, word.more, word.other, word.spelled)
+
+-- the word at an offset in an end
+word_in_end : (text : List ℕ) (offset : ℕ) → IsInEnd text offset → HasWord IsOther (drop offset text)
+word_in_end text offset (inr (raise, (word, suffix, inl branch, is))) = record { word = word; more = suffix; other = branch_other word branch; spelled = is }
+word_in_end text offset (inr (raise, (word, suffix, inr branch, is))) = record { word = word; more = suffix; other = register_branch_other word branch; spelled = is }
+word_in_end text offset (inl there) = word_in_call IsOther text offset all_other there
 
 alone : (text : List ℕ) (offset : ℕ) (list : List EpilogueInstruction) → IsInEnd text offset → IsEnd (drop offset text) list → list ≡ []
 alone text offset list there end = by list end.fit end.spelled
@@ -133,6 +153,18 @@ pub read_epilogue : (text : List ℕ) (offset : ℕ) (result : Option UnwindRule
 read_epilogue text offset (Some rule) is none = found (IsEpilogueRule text offset) (Some rule) (one_epilogue_rule text offset) is tt
 read_epilogue text offset None is none =
     found (IsEpilogueRule text offset) None (one_epilogue_rule text offset) tt (λ rule there. let (list, stands, fits, rule_is) = there in none list rule stands fits rule_is)
+
+-- the rule of the list that was read
+pub read_forward : (text : List ℕ) (offset : ℕ) (list : List EpilogueInstruction) (restored : Restored) (result : Option UnwindRuleAarch64)
+    → IsEnd (drop offset text) list → Restores list restored
+    → IfSome result (λ rule. FieldsFit rule × IsRuleFor restored.raise restored.fp restored.lr rule)
+    → IfNone result ((rule : UnwindRuleAarch64) → FieldsFit rule → IsRuleFor restored.raise restored.fp restored.lr rule → ⊥)
+    → IsFound (IsEpilogueRule text offset) result
+read_forward text offset list restored (Some rule) end restores is none =
+    read_epilogue text offset (Some rule) (list, Forward end, is.0, restores_rule list restored rule restores is.1) tt
+read_forward text offset list restored None end restores is none =
+    read_epilogue text offset None tt (λ other rule there fits rule_is. none rule fits (rule_restores list restored rule restores
+    (subst (λ (l : List EpilogueInstruction). IsRuleOfEpilogue l rule) (one_epilogue text offset other list there (Forward end)) rule_is)))
 
 -- no rule was read
 pub no_epilogue : (text : List ℕ) (offset : ℕ) (result : Option UnwindRuleAarch64) → result ≡ None → ((list : List EpilogueInstruction) → IsEpilogue text offset list → ⊥) → IsFound (IsEpilogueRule text offset) result

@@ -4,7 +4,7 @@
 -- RETAB, TBZ).
 use Rattle.std.specs.List.{flat_map}
 use Rattle.std.specs.Int.{to_le_bytes, w32}
-use Rattle.std.specs.Prelude.{ℕ, ◌≡◌, ◌≢◌, ◌+◌, ◌*◌, ◌<◌, ◌^◌, ℤ, pos, List, [], ◌∷◌, ◌++◌, length}
+use Rattle.std.specs.Prelude.{ℕ, ◌≡◌, ◌≢◌, ◌+◌, ◌*◌, ◌<◌, ◌^◌, ◌⊎◌, ℤ, pos, List, [], ◌∷◌, ◌++◌, length}
 
 -- The bytes of words, one after the other, each with its lowest byte first.
 abbrev pub bytes_of_words : List ℕ → List ℕ
@@ -48,6 +48,16 @@ IsTail (word ∷ next ∷ third ∷ more) = ⊥
 -- end.
 abbrev pub auth_tail_call : List ℕ → List ℕ
 auth_tail_call tail = 0xd50323ff ∷ 0xca1e07d0 ∷ 0xb6f00050 ∷ 0xd4388e20 ∷ tail
+
+-- A word that one can have.
+abbrev pub IsWordOfAuthTailCall : ℕ → Type 0
+IsWordOfAuthTailCall word =
+    (word ≡ 0xd50323ff) ⊎ ((word ≡ 0xca1e07d0) ⊎ ((word ≡ 0xb6f00050) ⊎ ((word ≡ 0xd4388e20)
+    ⊎ (IsBranch word ⊎ (IsMoveToX16 word ⊎ IsAuthBranch word)))))
+
+-- The bytes begin with such a word.
+abbrev pub BeginsWithWordOfAuthTailCall : List ℕ → Type 0
+BeginsWithWordOfAuthTailCall bytes = (word : ℕ) × (suffix : List ℕ) × IsWordOfAuthTailCall word × (bytes ≡ to_le_bytes w32 word ++ suffix)
 
 -- The ways to leave a function.
 pub data FunctionEnd : Type 0 where

@@ -206,10 +206,13 @@ pub fn unwind_rule_from_detected_epilogue(
     requires { pc_offset ≤ length bytes.now }
     ensures { IsFound (IsEpilogueRule bytes.now pc_offset) result }
 {
-    if is_in_end(bytes, pc_offset) {
-        return Some(UnwindRuleAarch64::NoOp);
-    }
     let (_, from) = bytes.split_at(pc_offset);
-    let restored = restored_by_epilogue(from)?;
-    rule_of(restored)
+    if let Some(restored) = restored_by_epilogue(from) {
+        return rule_of(restored);
+    }
+    if is_in_end(bytes, pc_offset) {
+        Some(UnwindRuleAarch64::NoOp)
+    } else {
+        None
+    }
 }

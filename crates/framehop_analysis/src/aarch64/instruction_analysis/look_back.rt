@@ -3,7 +3,7 @@ ghost use Rattle.std.specs.Prelude.{◌≡◌, ◌*◌, ◌<◌, ◌≤◌, leng
 ghost use Rattle.framehop_analysis.specs.LookBackAarch64.{IsWordOf, IsInAuthTailCall, IsRaise, EndsWithRaise, BeginsWithBranch, IsAfterRaise, IsInEnd};
 
 use crate::aarch64::instruction_analysis::branches::{
-    auth_tail_call_words, is_branch, is_register_branch,
+    auth_tail_call_words, can_be_in_auth_tail_call, is_branch, is_register_branch,
 };
 use crate::aarch64::instruction_analysis::epilogue::{
     EpilogueInstructionType, epilogue_instruction_type,
@@ -32,6 +32,10 @@ fn is_in_auth_tail_call(bytes: &[u8], pc_offset: usize) -> bool
     requires { pc_offset ≤ length bytes.now }
     ensures { IsTrue result ↔ IsInAuthTailCall bytes.now pc_offset }
 {
+    let (_, from) = bytes.split_at(pc_offset);
+    if !can_be_in_auth_tail_call(from) {
+        return false;
+    }
     let mut before = 0;
     while before < 7 {
         if is_word_of_auth_tail_call(bytes, pc_offset, before) {
@@ -79,7 +83,7 @@ fn is_after_raise(bytes: &[u8], pc_offset: usize) -> bool
     ensures { IsTrue result ↔ IsAfterRaise bytes.now pc_offset }
 {
     let (before, from) = bytes.split_at(pc_offset);
-    ends_with_raise(before) && begins_with_branch(from)
+    begins_with_branch(from) && ends_with_raise(before)
 }
 
 /// Whether the instruction at the offset is one of those that leave the function, by those before it.

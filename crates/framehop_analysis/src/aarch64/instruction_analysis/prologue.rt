@@ -121,6 +121,16 @@ fn is_expected_word(word: u32, restored: Restored) -> bool
     }
 }
 
+// Whether an instruction comes next that may be expected in a prologue, whatever a return restores.
+fn may_be_expected(bytes: &[u8]) -> bool
+    ensures { (restored : ℤ) → IsExpected bytes.now restored → IsTrue result }
+{
+    match first_word(bytes) {
+        Some((word, _)) => prologue_instruction_type(word).is_some() || sets_frame_pointer(word),
+        None => false,
+    }
+}
+
 // Whether an instruction comes next that can stand in a prologue, a return restoring so much.
 fn is_expected(bytes: &[u8], restored: Restored) -> bool
     ensures { IsTrue result ↔ IsExpected bytes.now restored.raise }
@@ -140,6 +150,9 @@ pub fn unwind_rule_from_detected_prologue(
 ) -> Option<UnwindRuleAarch64>
     ensures { IsFound (IsPrologueRule slice_from_start.now slice_to_end.now) result }
 {
+    if !may_be_expected(slice_to_end) {
+        return None;
+    }
     let restored = restored_before_prologue(slice_from_start);
     if !is_expected(slice_to_end, restored) {
         return None;

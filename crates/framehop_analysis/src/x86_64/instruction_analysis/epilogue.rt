@@ -51,20 +51,13 @@ fn ends_like_pop(bytes: &[u8]) -> bool
     }
 }
 
-// Whether a pop comes before what follows so many pops.
-fn stands_after_pop(before: &[u8], count: usize) -> bool
-    ensures { result ≡ (nat_lt 0 count || ends_like_pop before.now) }
-{
-    count > 0 || ends_like_pop(before)
-}
-
-// Whether the bytes begin with a return, or with a jump that comes after a pop.
-fn leaves_function(bytes: &[u8], is_after_pop: bool) -> bool
-    ensures { result ≡ leaves_function is_after_pop bytes.now }
+// Whether the bytes begin with a return, or with a jump that comes after a pop: after so many, or one before them all.
+fn leaves_function(bytes: &[u8], before: &[u8], count: usize) -> bool
+    ensures { result ≡ leaves_function (nat_lt 0 count || ends_like_pop before.now) bytes.now }
 {
     match bytes {
         [0xc3, ..] => true,
-        [0xe9 | 0xeb | 0xff, ..] => is_after_pop,
+        [0xe9 | 0xeb | 0xff, ..] => count > 0 || ends_like_pop(before),
         _ => false,
     }
 }
@@ -133,7 +126,7 @@ pub fn unwind_rule_from_detected_epilogue(
 {
     let (before, from) = text_bytes.split_at(pc_offset);
     let pops = pops_of(from);
-    if leaves_function(pops.suffix, stands_after_pop(before, pops.count)) {
+    if leaves_function(pops.suffix, before, pops.count) {
         rule_of_pops(pops.count, pops.bp_offset_by_8)
     } else {
         None

@@ -1,5 +1,5 @@
 //! Prologues of x86_64: pushes up to the address, after the setup of a frame pointer or not.
-ghost use Rattle.std.specs.Prelude.{◌≡◌, ◌+◌, ◌≤◌, ◌<◌, ◌^◌, ℕ, Bool, List, length, IfSome, IfNone, IsTrue, ◌↔◌};
+ghost use Rattle.std.specs.Prelude.{◌≡◌, ◌==◌, ◌&&◌, ◌||◌, ◌+◌, ◌≤◌, ◌<◌, ◌^◌, ℕ, Bool, List, length, IfSome, IfNone, IsTrue, ◌↔◌};
 ghost use Rattle.framehop_analysis.specs.Instructions.{Instruction, spelling};
 ghost use Rattle.framehop_analysis.specs.Found.{IsFound};
 ghost use Rattle.framehop_analysis.specs.Prologue.{IsPrologueRule, IsLongestRun, EndsWith, rule_of_pushes, frame_setup};
@@ -17,6 +17,14 @@ fn is_push_byte(byte: u8) -> bool
     (0x50..=0x57).contains(&byte)
 }
 
+// Whether this is what follows the prefix 48 in `sub` from RSP, or in `mov rbp, rsp`.
+fn is_wide_expected(second: u8, third: u8) -> bool
+    ensures { result ≡ ((((second == 0x83) || (second == 0x81)) && (third == 0xec))
+        || ((second == 0x89) && (third == 0xe5))) }
+{
+    (second == 0x83 || second == 0x81) && third == 0xec || second == 0x89 && third == 0xe5
+}
+
 // Whether an instruction comes next that can stand in a prologue.
 fn is_expected_in_prologue(bytes: &[u8]) -> bool
     ensures { result ≡ is_expected bytes.now }
@@ -25,11 +33,12 @@ fn is_expected_in_prologue(bytes: &[u8]) -> bool
         return false;
     }
     let (first, second, third) = (bytes[0], bytes[1], bytes[2]);
-    is_push_byte(first)
-        || (first == 0x40 || first == 0x41) && is_push_byte(second)
-        || (first == 0x83 || first == 0x81) && second == 0xec
-        || first == 0x48 && (second == 0x83 || second == 0x81) && third == 0xec
-        || first == 0x48 && second == 0x89 && third == 0xe5
+    match first {
+        0x40 | 0x41 => is_push_byte(second),
+        0x81 | 0x83 => second == 0xec,
+        0x48 => is_wide_expected(second, third),
+        _ => is_push_byte(first),
+    }
 }
 
 // The bytes before the push that some bytes end with.
@@ -71,7 +80,10 @@ fn pushes_at_end(bytes: &[u8]) -> (usize, &[u8])
 fn ends_with_setup(bytes: &[u8]) -> bool
     ensures { IsTrue result ↔ EndsWith bytes.now (spelling frame_setup) }
 {
-    bytes.ends_with(&FRAME_SETUP)
+    match bytes.last() {
+        Some(0xe5) => bytes.ends_with(&FRAME_SETUP),
+        _ => false,
+    }
 }
 
 // The rule for so many pushes, after the setup of a frame pointer or not.

@@ -1,6 +1,14 @@
 use Rattle.std.proofs.Common.{None}
+use Rattle.framehop_analysis.specs.PrologueInstructionsAarch64.{lowering_of_all}
 use Rattle.framehop_analysis.proofs.PrologueReadingAarch64.{ruled, unruled, unexpected, read_prologue}
 use Rattle.framehop_analysis.proofs.aarch64.instruction_analysis.prologue.unwind_rule_from_detected_prologue.Goals as goal
+
+pub returns-then-not-may_be_expected : goal.returns-then-not-may_be_expected
+returns-then-not-may_be_expected c =
+    read_prologue c.args.slice_from_start.now c.args.slice_to_end.now None tt (λ instructions rule there fits is.
+    let expected = c.may_be_expected.ensures (lowering_of_all instructions) there.next in
+    let none = c.if-not-may_be_expected.true in
+    cc)
 
 pub returns-then-not-is_expected : goal.returns-then-not-is_expected
 returns-then-not-is_expected c =

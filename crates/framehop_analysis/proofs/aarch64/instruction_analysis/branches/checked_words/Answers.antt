@@ -1,6 +1,6 @@
 use Rattle.framehop_analysis.proofs.EpilogueReadingAarch64.{nothing}
 use Rattle.framehop_analysis.proofs.EndWords.{no_checked, stripped}
-use Rattle.framehop_analysis.proofs.aarch64.instruction_analysis.branches.auth_tail_call_words.Goals as goal
+use Rattle.framehop_analysis.proofs.aarch64.instruction_analysis.branches.checked_words.Goals as goal
 
 pub returns-in_err-words-clause-none : goal.returns-in_err-words-clause-none
 returns-in_err-words-clause-none c =
