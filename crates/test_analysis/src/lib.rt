@@ -4,4 +4,6 @@
 #[cfg(test)]
 mod aarch64;
 #[cfg(test)]
+mod limits;
+#[cfg(test)]
 mod x86_64;
