@@ -10,6 +10,8 @@ import sys
 TOP = pathlib.Path(__file__).resolve().parents[2]
 LIBC = "/lib/x86_64-linux-gnu/libc.so.6"
 LIBSTDCXX = "/usr/lib/x86_64-linux-gnu/libstdc++.so.6"
+ARM_LIBC = "/usr/aarch64-linux-gnu/lib/libc.so.6"
+ARM_LIBSTDCXX = "/usr/aarch64-linux-gnu/lib/libstdc++.so.6"
 
 
 def give_up(reason):
