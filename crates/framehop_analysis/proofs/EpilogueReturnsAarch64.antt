@@ -13,8 +13,7 @@ use Rattle.framehop_rules.specs.declared.aarch64.unwind_rule.UnwindRuleAarch64.{
 use Rattle.framehop_rules.specs.declared.aarch64.unwind_rule.UnwindRuleAarch64.TheVariants.{NoOp, NoOpIfFirstFrameOtherwiseFp, OffsetSp, OffsetSpIfFirstFrameOtherwiseStackEndsHere, OffsetSpAndRestoreLr, OffsetSpAndRestoreFpAndLr, UseFramePointer, UseFramepointerWithOffsets}
 use Rattle.framehop_rules.proofs.Laws.{and_then-answers, past-end, word-answers}
 use Rattle.framehop_analysis.specs.EpilogueInstructionsAarch64.{EpilogueInstruction, Load, Add}
-use Rattle.framehop_analysis.specs.FunctionEndsAarch64.{FunctionEnd}
-use Rattle.framehop_analysis.specs.MachineAarch64.{State, moved, put, access_offset, raise, epilogue_effect, state_after_epilogue, leave}
+use Rattle.framehop_analysis.specs.MachineAarch64.{State, moved, put, access_offset, raise, epilogue_effect, state_after_epilogue, CheckInstruction, Authenticate, ShiftedXor, TestBit, MoveToX16, check_effect, state_after_checks, leave}
 use Rattle.framehop_analysis.specs.EpilogueAarch64.{FieldsFit, raise_of, raise_of_all, load_offset, later, last_load_offset, IsRuleFor, IsRuleOfEpilogue}
 use Rattle.framehop_analysis.specs.LookBackAarch64.{IsEpilogue}
 use Rattle.framehop_analysis.specs.ReturnsAarch64.{IsAt, HasReturned}
@@ -212,14 +211,28 @@ answered state after registers words is_at raised fp_at lr_at rule caller is_rul
           fp = sym (ap (λ (c : Caller UnwindRegsAarch64). fp_of c.registers) kept) ∙ there.has_fp ∙ sym fp_is;
         }
 
-returned : (list : List EpilogueInstruction) (end : FunctionEnd) (rule : UnwindRuleAarch64) (state : State) (registers : UnwindRegsAarch64) (words : Words) (caller : Caller UnwindRegsAarch64)
-    → IsRuleOfEpilogue list rule → IsAt state registers words → rule_meaning rule true registers words ≡ Answers caller → HasReturned (leave end (state_after_epilogue list state)) registers caller
-returned list end rule state registers words caller is_rule is_at is =
+-- checks of an address write x16 alone
+record IsKept (s after : State) : Type 0 where
+  pub sp_is : after.sp ≡ s.sp
+  pub fp_is : after.fp ≡ s.fp
+  pub lr_is : after.lr ≡ s.lr
+
+checked : (checks : List CheckInstruction) (s : State) → IsKept s (state_after_checks checks s)
+checked [] s = record { sp_is = refl; fp_is = refl; lr_is = refl }
+checked (Authenticate ∷ more) s = checked more s
+checked (ShiftedXor ∷ more) s = let next = checked more (check_effect ShiftedXor s) in record { sp_is = next.sp_is; fp_is = next.fp_is; lr_is = next.lr_is }
+checked (TestBit ∷ more) s = checked more s
+checked (MoveToX16 number ∷ more) s = let next = checked more (check_effect (MoveToX16 number) s) in record { sp_is = next.sp_is; fp_is = next.fp_is; lr_is = next.lr_is }
+
+returned : (list : List EpilogueInstruction) (checks : List CheckInstruction) (rule : UnwindRuleAarch64) (state : State) (registers : UnwindRegsAarch64) (words : Words) (caller : Caller UnwindRegsAarch64)
+    → IsRuleOfEpilogue list rule → IsAt state registers words → rule_meaning rule true registers words ≡ Answers caller → HasReturned (leave checks (state_after_epilogue list state)) registers caller
+returned list checks rule state registers words caller is_rule is_at is =
     let ran = has_run list state is_at.fits in
-    answered state (leave end (state_after_epilogue list state)) registers words is_at (raise_of_all list) (last_load_offset 29 list) (last_load_offset 30 list) rule caller is_rule is
-    (ap (strip registers) ran.lr_is) ran.raised ran.fp_is
+    let kept = checked checks (state_after_epilogue list state) in
+    answered state (leave checks (state_after_epilogue list state)) registers words is_at (raise_of_all list) (last_load_offset 29 list) (last_load_offset 30 list) rule caller is_rule is
+    (ap (strip registers) (kept.lr_is ∙ ran.lr_is)) (kept.sp_is ∙ ran.raised) (kept.fp_is ∙ ran.fp_is)
 
 pub recognised_returns : (text : List ℕ) (offset : ℕ) (list : List EpilogueInstruction) (rule : UnwindRuleAarch64) → IsEpilogue text offset list → FieldsFit rule → IsRuleOfEpilogue list rule
-    → (end : FunctionEnd) (state : State) (registers : UnwindRegsAarch64) (words : Words) (caller : Caller UnwindRegsAarch64) → IsAt state registers words
-    → rule_meaning rule true registers words ≡ Answers caller → HasReturned (leave end (state_after_epilogue list state)) registers caller
-recognised_returns text offset list rule stands fits is_rule end state registers words caller is_at is = returned list end rule state registers words caller is_rule is_at is
+    → (checks : List CheckInstruction) (state : State) (registers : UnwindRegsAarch64) (words : Words) (caller : Caller UnwindRegsAarch64) → IsAt state registers words
+    → rule_meaning rule true registers words ≡ Answers caller → HasReturned (leave checks (state_after_epilogue list state)) registers caller
+recognised_returns text offset list rule stands fits is_rule checks state registers words caller is_at is = returned list checks rule state registers words caller is_rule is_at is

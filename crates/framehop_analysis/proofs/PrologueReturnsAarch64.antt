@@ -7,7 +7,6 @@ use Rattle.framehop_registers.specs.declared.aarch64.unwindregs.UnwindRegsAarch6
 use Rattle.framehop_rules.specs.Outcome.{Answers, Caller}
 use Rattle.framehop_rules.specs.RuleMeaningAarch64.{rule_meaning}
 use Rattle.framehop_rules.specs.declared.aarch64.unwind_rule.UnwindRuleAarch64.{UnwindRuleAarch64}
-use Rattle.framehop_analysis.specs.FunctionEndsAarch64.{Return}
 use Rattle.framehop_analysis.specs.MachineAarch64.{State, moved, raise, leave}
 use Rattle.framehop_analysis.specs.PrologueInstructionsAarch64.{PrologueInstruction, Sign, Store, Sub, lowering, lowering_of_all, prologue_effect, state_after_prologue}
 use Rattle.framehop_analysis.specs.PrologueAarch64.{IsPrologue, IsRuleOfPrologue}
@@ -54,13 +53,13 @@ all_saved (instruction ∷ more) s fits =
     swap y z = omega (arith, ints)
 
 prologue_returned : (instructions : List PrologueInstruction) (rule : UnwindRuleAarch64) (before : State) (registers : UnwindRegsAarch64) (words : Words) (caller : Caller UnwindRegsAarch64)
-    → before.sp < 2 ^ 64 → IsRuleOfPrologue instructions rule → IsAt (state_after_prologue instructions before) registers words → rule_meaning rule true registers words ≡ Answers caller → HasReturned (leave Return before) registers caller
+    → before.sp < 2 ^ 64 → IsRuleOfPrologue instructions rule → IsAt (state_after_prologue instructions before) registers words → rule_meaning rule true registers words ≡ Answers caller → HasReturned (leave [] before) registers caller
 prologue_returned instructions rule before registers words caller fits is_rule is_at is =
     let ran = all_saved instructions before fits in
-    answered (state_after_prologue instructions before) (leave Return before) registers words is_at (lowering_of_all instructions) None None rule caller is_rule is
+    answered (state_after_prologue instructions before) (leave [] before) registers words is_at (lowering_of_all instructions) None None rule caller is_rule is
     (ap (strip registers) (sym ran.same_lr)) (sym ran.back) (sym ran.same_fp)
 
 pub recognised_returns : (start from : List ℕ) (instructions : List PrologueInstruction) (rule : UnwindRuleAarch64) → IsPrologue start from instructions → FieldsFit rule → IsRuleOfPrologue instructions rule
     → (before : State) → before.sp < 2 ^ 64 → (registers : UnwindRegsAarch64) (words : Words) (caller : Caller UnwindRegsAarch64) → IsAt (state_after_prologue instructions before) registers words
-    → rule_meaning rule true registers words ≡ Answers caller → HasReturned (leave Return before) registers caller
+    → rule_meaning rule true registers words ≡ Answers caller → HasReturned (leave [] before) registers caller
 recognised_returns start from instructions rule stands fits_fields is_rule before fits registers words caller is_at is = prologue_returned instructions rule before registers words caller fits is_rule is_at is

@@ -1,8 +1,8 @@
--- What the instructions do (Arm's manual, C6.2, 'Operation' of ADD (immediate), LDP, RET), on a memory that has a word at every
--- address. Sums are modulo 2^64.
+-- What the instructions do (Arm's manual, C6.2, 'Operation' of ADD (immediate), AUTIBSP, EOR (shifted register), LDP, MOVZ, RET,
+-- TBZ), on a memory that has a word at every address. Sums are modulo 2^64.
 use Rattle.std.specs.Prelude.{ℕ, ◌-◌, ◌*◌, ◌%◌, ◌^◌, ◌==◌, if◌then◌else◌, ℤ, pos, negsuc, ◌+ℤ◌, ◌*ℤ◌, List, [], ◌∷◌}
+use Rattle.std.specs.Int.Bits.{bit_xor}
 use Rattle.framehop_analysis.specs.EpilogueInstructionsAarch64.{EpilogueInstruction, Load, Add}
-use Rattle.framehop_analysis.specs.FunctionEndsAarch64.{FunctionEnd}
 use Rattle.framehop_analysis.specs.declared.aarch64.instruction_analysis.pair.AddressingMode.TheVariants.{PostIndex, SignedOffset, PreIndex}
 use Rattle.framehop_analysis.specs.declared.aarch64.instruction_analysis.pair.Pair.{Pair}
 
@@ -52,7 +52,27 @@ abbrev pub state_after_epilogue : List EpilogueInstruction → State → State
 state_after_epilogue [] s = s
 state_after_epilogue (instruction ∷ more) s = state_after_epilogue more (epilogue_effect instruction s)
 
--- How a function is left: by a return. The signature of the address is masked, and a tail call leaves for another function, whose
--- return it stands for.
-abbrev pub leave : FunctionEnd → State → State
-leave end s = record s { ip = s.lr }
+-- What stands in an authenticated tail call before its branch: `autibsp`; `eor x16, x30, x30, lsl #1`; `tbz x16, #62`, which passes over
+-- `brk`, since the address is right; `movz x16`, with its number.
+pub data CheckInstruction : Type 0 where
+  Authenticate : CheckInstruction
+  ShiftedXor : CheckInstruction
+  TestBit : CheckInstruction
+  MoveToX16 : ℕ → CheckInstruction
+
+-- What it does. The signature of an address is in bits that are masked, so that here `autibsp` does nothing.
+abbrev pub check_effect : CheckInstruction → State → State
+check_effect Authenticate s = s
+check_effect ShiftedXor s = put 16 (bit_xor s.lr (s.lr * 2 % 2 ^ 64)) s
+check_effect TestBit s = s
+check_effect (MoveToX16 number) s = put 16 number s
+
+-- The state after such instructions, one after the other.
+abbrev pub state_after_checks : List CheckInstruction → State → State
+state_after_checks [] s = s
+state_after_checks (instruction ∷ more) s = state_after_checks more (check_effect instruction s)
+
+-- How a function is left, after such instructions or none: by a return. A tail call leaves for another function, whose return it stands
+-- for.
+abbrev pub leave : List CheckInstruction → State → State
+leave checks s = let checked = state_after_checks checks s in record checked { ip = checked.lr }

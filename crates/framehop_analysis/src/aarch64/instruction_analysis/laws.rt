@@ -1,20 +1,19 @@
 //! Laws of the analysis. The functions do nothing when the program runs.
-ghost use Rattle.std.specs.Prelude.{◌≡◌, ◌<◌, ◌^◌, ℕ, List};
+ghost use Rattle.std.specs.Prelude.{◌≡◌, ◌<◌, ◌^◌, ℕ, List, []};
 ghost use Rattle.framehop_analysis.specs.Found.{AtMostOne};
 ghost use Rattle.framehop_analysis.specs.EpilogueInstructionsAarch64.{EpilogueInstruction, EpilogueFits, epilogue_word};
 ghost use Rattle.framehop_analysis.specs.PrologueInstructionsAarch64.{PrologueInstruction, PrologueFits, prologue_word, state_after_prologue};
-ghost use Rattle.framehop_analysis.specs.FunctionEndsAarch64.{FunctionEnd, Return};
-ghost use Rattle.framehop_analysis.specs.MachineAarch64.{State, state_after_epilogue, leave};
+ghost use Rattle.framehop_analysis.specs.MachineAarch64.{State, state_after_epilogue, CheckInstruction, leave};
 ghost use Rattle.framehop_analysis.specs.PrologueAarch64.{IsPrologue};
 ghost use Rattle.framehop_analysis.specs.LookBackAarch64.{IsEpilogue};
 ghost use Rattle.framehop_analysis.specs.ReturnsAarch64.{OfEachEpilogue, OfEachPrologue, ReturnsTo};
 
 /// If the rule of an epilogue gives a caller in a first frame, the caller's stack pointer, frame pointer and
 /// return address, under the mask, are those that the machine has after it has executed the epilogue from where
-/// the frame is, and left the function.
+/// the frame is, and left the function, after checks of the address or none.
 pub fn epilogue_rules_return()
-    ensures { OfEachEpilogue (λ list rule. (end : FunctionEnd) (state : State)
-        → ReturnsTo rule state (leave end (state_after_epilogue list state))) }
+    ensures { OfEachEpilogue (λ list rule. (checks : List CheckInstruction) (state : State)
+        → ReturnsTo rule state (leave checks (state_after_epilogue list state))) }
 {}
 
 /// If the rule of a prologue gives a caller in a first frame, the caller's stack pointer, frame pointer and
@@ -22,7 +21,7 @@ pub fn epilogue_rules_return()
 /// prologue, whose instructions it executed up to where the frame is.
 pub fn prologue_rules_return()
     ensures { OfEachPrologue (λ list rule. (before : State) → before.sp < 2 ^ 64
-        → ReturnsTo rule (state_after_prologue list before) (leave Return before)) }
+        → ReturnsTo rule (state_after_prologue list before) (leave [] before)) }
 {}
 
 /// A word spells one instruction of epilogues, and one of prologues, with one value of each field.
