@@ -6,6 +6,7 @@ use Rattle.std.specs.List.Sorted.{IsNonDecreasingBy}
 use Rattle.list_laws.specs.Greatest.{is_greatest, first_greatest, last_greatest, greater, greater_of}
 use Rattle.list_laws.specs.Items.{Answer, items_from, items_within, items_of, rest_from, rest_within, rest_of, Shrinks, GivesNext, LeavesNone, step_taken}
 use Rattle.list_laws.specs.Last.{last_of}
+pub use Rattle.list_laws.proofs.Halves.{at-most-none, at-least-none, at-most-half, at-least-half, enough-none-left, enough-one-left}
 
 -- ---- cases
 

@@ -1,4 +1,5 @@
 pub mod First
 pub mod Greatest
+pub mod Halves
 pub mod Items
 pub mod Last

@@ -1,12 +1,14 @@
-//! What std's definitions of lists lack: the last of a list, the elements with the greatest key, and
-//! items that are read one after the other. The definitions are in `specs`, and each function here is
-//! a law of them: it does nothing when the program runs.
+//! What std's definitions of lists lack: the last of a list, the elements with the greatest key, items
+//! that are read one after the other, and how many elements a search by halves compares. The
+//! definitions are in `specs`, and each function here is a law of them: it does nothing when the program
+//! runs.
 #![tactic(auto)]
 
-ghost use Rattle.std.specs.Prelude.{◌≡◌, ◌+◌, ℕ, Bool, true, false, List, [], ◌∷◌, ◌++◌, Option, Some, None, length};
+ghost use Rattle.std.specs.Prelude.{◌≡◌, ◌+◌, ◌^◌, ◌≤◌, ℕ, suc, Bool, true, false, List, [], ◌∷◌, ◌++◌, Option, Some, None, length};
 ghost use Rattle.std.specs.List.{slice_index_or};
 ghost use Rattle.std.specs.List.Sorted.{IsNonDecreasingBy};
 ghost use Rattle.list_laws.specs.Greatest.{first_greatest, last_greatest, greater_of};
+ghost use Rattle.list_laws.specs.Halves.{AtLeastHalved, AtMostHalved, StaysAtLeastHalved, StaysAtMostHalved};
 ghost use Rattle.list_laws.specs.Items.{Answer, CallsGiveItems, ComeByStep, RestComesByStep, Shrinks};
 ghost use Rattle.list_laws.specs.Last.{last_of};
 
@@ -49,4 +51,16 @@ pub fn items_by_steps<S, A, E>()
 pub fn calls_by_steps<S, A, E, X>()
     ensures { (size : S → ℕ) (step : S → Answer S A E) → Shrinks size step
         → CallsGiveItems X size step }
+{}
+
+/// A search by halves: what is known before the first comparison, how the next one changes it, and how
+/// many there were at least once no element is left to compare, or one.
+pub fn halves_are_counted()
+    ensures none { (all : ℕ) → AtMostHalved all 0 all × AtLeastHalved all 0 all }
+    ensures at_most { StaysAtMostHalved }
+    ensures at_least { StaysAtLeastHalved }
+    ensures none_left { (all compared k : ℕ) → AtLeastHalved all compared 0
+        → 2 ^ k ≤ suc all → k ≤ compared }
+    ensures one_left { (all compared k : ℕ) → AtLeastHalved all compared 1
+        → 2 ^ k ≤ suc all → k ≤ compared + 1 }
 {}
