@@ -1,5 +1,7 @@
 pub mod NumberTests
+mod Gaps
 mod RuleMaps
+mod Places
 mod SameMaps
 mod SavedRows
 pub mod Onward

@@ -1,34 +1,36 @@
--- Lists of pairs as maps: what a write, a push, and the removal of a pair make of the map.
-use Rattle.std.proofs.Common.{◌≡◌, ℕ, suc, ◌+◌, ◌-◌, ◌<◌, ◌≤◌, Bool, true, false, not, cond, List, [], ◌∷◌, ◌++◌, length, length-append, take, Option, Some, None, Result, Ok, Err, is_some, position, ◌==◌, ltb, slice_set, slice_index_or, refl, sym, ap, subst, ◌∙◌, arith, one-add, OnOk, OnErr}
+-- Increasing lists of pairs as maps: where a register's pair is, and what a write, an insertion and a removal make of the map.
+use Rattle.std.proofs.Common.{◌≡◌, ℕ, zero, suc, ◌+◌, ◌<◌, Bool, true, false, cond, List, [], ◌∷◌, ◌++◌, length, take, drop, get_or, Option, Some, None, Result, Ok, Err, is_some, ◌==◌, slice_set, refl, sym, ap, subst, ◌∙◌, arith, OnOk, OnErr, IsNone, IsErr}
 use Rattle.std.specs.FinMap.{get, insert, remove, len, get-empty, get-insert, get-remove, len-empty, len-insert, nat_cmp-IsAntisymmetric, same_map}
-use Rattle.std.specs.List.{position_or_len, swap_remove}
+use Rattle.std.specs.List as list
 use Rattle.std.specs.Ordering.{nat_cmp}
-use Rattle.std.proofs.Math.ListN.{length-set}
-use Rattle.std.proofs.lemmas.Bool.{eqb-true, eq-eqb, false≢true, ltb-true, ltb-false}
+use Rattle.std.proofs.lemmas.Bool.{eqb-true, eq-eqb, false≢true}
+use Rattle.std.proofs.lemmas.Bool.Decides.{nat_tests}
 use Rattle.std.proofs.lemmas.Cmp.{nat_cmp_total}
-use Rattle.dwarf_constants.specs.declared.common.Register.{Register}
+use Rattle.std.proofs.lemmas.List.{length-set, set-get_or, set_split, take-append-drop}
+use Rattle.std.proofs.lemmas.List.Edits.{length-insert}
 use Rattle.dwarf_constants.specs.declared.error.Error.{Error}
 use Rattle.dwarf_storage.specs.Capacity.{IsWithin}
 use Rattle.dwarf_frame_rows.specs.declared.rules.RuledRegister.{RuledRegister}
-use Rattle.dwarf_frame_rows.proofs.NumberTests.{eqb_sym, ties}
+use Rattle.dwarf_frame_rows.proofs.NumberTests.{ties}
+use Rattle.dwarf_frame_rows.specs.RuleList.{IsAbove, IsBelow, IsIncreasing, IsPlaceOf, rule_at}
 use Rattle.dwarf_frame_rows.specs.RuleMap.{HasEachOnce, HoldsRules, RuleMap, map_of, rule_in}
 
--- a register with this rule
-abbrev pub ruled_register : {V : Type 0} → Register → V → RuledRegister V
-ruled_register register v = record { register = register; rule = v }
+-- ---- tests
 
--- ---- tests of numbers
+pub less_apart : (a b : ℕ) → a < b → (a == b) ≡ false
+less_apart a b h = grind (arith, nat_tests)
 
--- a test against the first of two numbers that are one
-eqb_along : (a b c : ℕ) → (a == b) ≡ true → (a == c) ≡ (b == c)
-eqb_along a b c h = ap (λ n. n == c) (eqb-true a b h)
+pub more_apart : (a b : ℕ) → b < a → (a == b) ≡ false
+more_apart a b h = grind (arith, nat_tests)
 
-eqb_apart : (a b c : ℕ) → (a == b) ≡ false → (a == c) ≡ true → (b == c) ≡ false
-eqb_apart a b c h g = go (b == c) refl
-  where
-    go : (y : Bool) → (b == c) ≡ y → y ≡ false
-    go false q = refl
-    go true q = absurd (false≢true (sym h ∙ eq-eqb a b (eqb-true a c g ∙ sym (eqb-true b c q))))
+absent_first : {V : Type 0} (b : Bool) (x : V) (o : Option V) → cond b (Some x) o ≡ None → (b ≡ false) × (o ≡ None)
+absent_first true x o h = cc
+absent_first false x o h = (refl, h)
+
+choose : {V : Type 0} (a b : Bool) (x v : V) (o : Option V) → (a ≡ true → b ≡ false) → cond a (Some x) (cond b (Some v) o) ≡ cond b (Some v) (cond a (Some x) o)
+choose true true x v o apart = absurd (false≢true (sym (apart refl)))
+choose true false x v o apart = refl
+choose false b x v o apart = refl
 
 -- ---- the map of a list
 
@@ -68,227 +70,193 @@ length-map_of (pair ∷ pairs) once =
     ∙ ap (λ o. cond (is_some o) (len (map_of pairs)) (len (map_of pairs) + 1)) (get-map_of pairs pair.register.0 ∙ once.0)
     ∙ ap (λ n. n + 1) (length-map_of pairs once.1) ∙ omega arith
 
--- ---- a pair at the end
+-- ---- increasing registers
 
-choose : {V : Type 0} (a b : Bool) (x v : V) (o : Option V) → (a ≡ true → b ≡ false) → cond a (Some x) (cond b (Some v) o) ≡ cond b (Some v) (cond a (Some x) o)
-choose true true x v o apart = absurd (false≢true (sym (apart refl)))
-choose true false x v o apart = refl
-choose false b x v o apart = refl
+-- a register below all pairs has no rule, nor has one above them all
+pub below-none : {V : Type 0} (k : ℕ) (pairs : List (RuledRegister V)) → IsBelow k pairs → rule_in k pairs ≡ None
+below-none k [] below = refl
+below-none k (x ∷ xs) below = ap (λ b. cond b (Some x.rule) (rule_in k xs)) (more_apart x.register.0 k below.0) ∙ below-none k xs below.1
 
-absent_first : {V : Type 0} (b : Bool) (x : V) (o : Option V) → cond b (Some x) o ≡ None → (b ≡ false) × (o ≡ None)
-absent_first true x o h = cc
-absent_first false x o h = (refl, h)
+-- nor has one that is above all of some and below all others
+none-between : {V : Type 0} (k : ℕ) (front back : List (RuledRegister V)) → IsAbove k front → IsBelow k back → rule_in k (front ++ back) ≡ None
+none-between k [] back above below = below-none k back below
+none-between k (x ∷ front) back above below =
+    ap (λ b. cond b (Some x.rule) (rule_in k (front ++ back))) (less_apart x.register.0 k above.0) ∙ none-between k front back above.1 below
 
--- a register that isn't there has its rule after a push, and any other the rule that it had
-rule_in-push : {V : Type 0} (register : Register) (v : V) (pairs : List (RuledRegister V)) → rule_in register.0 pairs ≡ None → (q : ℕ) → rule_in q (pairs ++ ruled_register register v ∷ []) ≡ cond (register.0 == q) (Some v) (rule_in q pairs)
-rule_in-push register v [] none q = refl
-rule_in-push register v (pair ∷ pairs) none q =
-    let there = absent_first (pair.register.0 == register.0) pair.rule (rule_in register.0 pairs) none in
-    ap (λ o. cond (pair.register.0 == q) (Some pair.rule) o) (rule_in-push register v pairs there.1 q)
-    ∙ choose (pair.register.0 == q) (register.0 == q) pair.rule v (rule_in q pairs) (λ is. eqb_apart pair.register.0 register.0 q there.0 is)
+-- registers that increase are in one pair each
+pub each_once : {V : Type 0} (pairs : List (RuledRegister V)) → IsIncreasing pairs → HasEachOnce pairs
+each_once [] up = tt
+each_once (x ∷ xs) up = (below-none x.register.0 xs up.0, each_once xs up.1)
 
-HasEachOnce-push : {V : Type 0} (register : Register) (v : V) (pairs : List (RuledRegister V)) → HasEachOnce pairs → rule_in register.0 pairs ≡ None → HasEachOnce (pairs ++ ruled_register register v ∷ [])
-HasEachOnce-push register v [] once none = (refl, tt)
-HasEachOnce-push register v (pair ∷ pairs) once none =
-    let there = absent_first (pair.register.0 == register.0) pair.rule (rule_in register.0 pairs) none in
-    (rule_in-push register v pairs there.1 pair.register.0 ∙ ap (λ o. cond (register.0 == pair.register.0) (Some v) o) once.0 ∙ ap (λ b. cond b (Some v) None) (eqb_sym register.0 pair.register.0 ∙ there.0), HasEachOnce-push register v pairs once.1 there.1)
+pub below-less : {V : Type 0} (j k : ℕ) (pairs : List (RuledRegister V)) → j < k → IsBelow k pairs → IsBelow j pairs
+below-less j k [] less below = tt
+below-less j k (x ∷ xs) less below = (omega (arith, below.0), below-less j k xs less below.1)
 
--- ---- a pair written over another
+below-at : {V : Type 0} (k i : ℕ) (pairs : List (RuledRegister V)) (d : RuledRegister V) → IsBelow k pairs → i < length pairs → k < (get_or pairs i d).register.0
+below-at k i [] d below within = absurd (omega arith)
+below-at k zero (x ∷ xs) d below within = below.0
+below-at k (suc i) (x ∷ xs) d below within = below-at k i xs d below.1 (omega arith)
 
--- the index of a register's pair
-abbrev pub index_of : {V : Type 0} → ℕ → List (RuledRegister V) → ℕ
-index_of k pairs = position_or_len (λ pair. pair.register.0 == k) pairs
+-- a register is above all pairs up to one whose register is below it
+pub above-up_to : {V : Type 0} (k i : ℕ) (pairs : List (RuledRegister V)) (d : RuledRegister V) → IsIncreasing pairs → i < length pairs → (get_or pairs i d).register.0 < k → IsAbove k (take (suc i) pairs)
+above-up_to k i [] d up within low = absurd (omega arith)
+above-up_to k zero (x ∷ xs) d up within low = (low, tt)
+above-up_to k (suc i) (x ∷ xs) d up within low =
+    let first = below-at x.register.0 i xs d up.0 (omega arith) in
+    (omega arith, above-up_to k i xs d up.1 (omega arith) low)
 
--- the first of a list is the pair, or a later one is
-at_index : {V : Type 0} (b : Bool) (x e : RuledRegister V) (j : ℕ) (xs : List (RuledRegister V)) → slice_set (x ∷ xs) (cond (not b) (1 + j) 0) e ≡ cond b (e ∷ xs) (x ∷ slice_set xs j e)
-at_index true x e j xs = refl
-at_index false x e j xs = rw one-add refl
+-- and below all from one on whose register is above it
+pub below-from : {V : Type 0} (k i : ℕ) (pairs : List (RuledRegister V)) (d : RuledRegister V) → IsIncreasing pairs → i < length pairs → k < (get_or pairs i d).register.0 → IsBelow k (drop i pairs)
+below-from k i [] d up within high = absurd (omega arith)
+below-from k zero (x ∷ xs) d up within high = (high, below-less k x.register.0 xs high up.0)
+below-from k (suc i) (x ∷ xs) d up within high = below-from k i xs d up.1 (omega arith) high
 
-within : (b : Bool) (j n : ℕ) → cond (not b) (1 + j) 0 < suc n → b ≡ false → j < n
-within true j n h e = absurd (false≢true (sym e))
-within false j n h e = omega arith
+-- ---- a register whose place is known
 
-rule_in-cond : {V : Type 0} (q : ℕ) (b : Bool) (xs ys : List (RuledRegister V)) → rule_in q (cond b xs ys) ≡ cond b (rule_in q xs) (rule_in q ys)
-rule_in-cond q true xs ys = refl
-rule_in-cond q false xs ys = refl
+-- its rule
+pub rule_at-place : {V : Type 0} (k : ℕ) (place : Result ℕ ℕ) (pairs : List (RuledRegister V)) → IsIncreasing pairs → IsPlaceOf k pairs place → rule_at pairs place ≡ rule_in k pairs
+rule_at-place k (Err i) pairs up place =
+    sym (none-between k (take i pairs) (drop i pairs) place.1 place.2) ∙ ap (rule_in k) (take-append-drop i pairs)
+rule_at-place k (Ok i) [] up place = absurd (omega (arith, place.0))
+rule_at-place k (Ok zero) (x ∷ xs) up place = sym (ap (λ b. cond b (Some x.rule) (rule_in k xs)) (eq-eqb x.register.0 k (place.1 x)))
+rule_at-place k (Ok (suc i)) (x ∷ xs) up place =
+    let above = below-at x.register.0 i xs x up.0 (omega (arith, place.0)) in
+    rule_at-place k (Ok i) xs up.1 (omega (arith, place.0), place.1)
+    ∙ sym (ap (λ b. cond b (Some x.rule) (rule_in k xs)) (less_apart x.register.0 k (omega (arith, above, place.1 x))))
 
-over : {V : Type 0} (b d f : Bool) (x v : V) (o w : Option V) → (b ≡ true → f ≡ d) → (b ≡ false → f ≡ true → d ≡ false) → (b ≡ false → w ≡ cond d (Some v) o) → cond b (cond d (Some v) o) (cond f (Some x) w) ≡ cond d (Some v) (cond f (Some x) o)
-over true true f x v o w p q h = refl
-over true false true x v o w p q h = absurd (false≢true (sym (p refl)))
-over true false false x v o w p q h = refl
-over false true true x v o w p q h = absurd (false≢true (sym (q refl refl)))
-over false false true x v o w p q h = refl
-over false d false x v o w p q h = h refl
+-- no rule is there only if no pair is
+pub none-at : {V : Type 0} (k : ℕ) (place : Result ℕ ℕ) (pairs : List (RuledRegister V)) → IsPlaceOf k pairs place → IsNone (rule_at pairs place) → IsErr place
+none-at k (Err i) pairs place none = refl
+none-at k (Ok i) [] place none = absurd (omega (arith, place.0))
+none-at k (Ok zero) (x ∷ xs) place none = absurd (false≢true (sym none))
+none-at k (Ok (suc i)) (x ∷ xs) place none = none-at k (Ok i) xs (omega (arith, place.0), place.1) none
 
--- a register whose pair is overwritten has the new rule, and any other the rule that it had
-rule_in-set : {V : Type 0} (register : Register) (v : V) (pairs : List (RuledRegister V)) → index_of register.0 pairs < length pairs → (q : ℕ) → rule_in q (slice_set pairs (index_of register.0 pairs) (ruled_register register v)) ≡ cond (register.0 == q) (Some v) (rule_in q pairs)
-rule_in-set register v [] h q = absurd (omega arith)
-rule_in-set register v (x ∷ xs) h q =
-    ap (rule_in q) (at_index (x.register.0 == register.0) x (ruled_register register v) (index_of register.0 xs) xs)
-    ∙ rule_in-cond q (x.register.0 == register.0) (ruled_register register v ∷ xs) (x ∷ slice_set xs (index_of register.0 xs) (ruled_register register v))
-    ∙ over (x.register.0 == register.0) (register.0 == q) (x.register.0 == q) x.rule v (rule_in q xs) (rule_in q (slice_set xs (index_of register.0 xs) (ruled_register register v)))
-    (λ is. eqb_along x.register.0 register.0 q is) (λ other is. eqb_apart x.register.0 register.0 q other is)
-    (λ other. rule_in-set register v xs (within (x.register.0 == register.0) (index_of register.0 xs) (length xs) h other) q)
+-- ---- a pair among others
 
-HasEachOnce-set : {V : Type 0} (register : Register) (v : V) (pairs : List (RuledRegister V)) → HasEachOnce pairs → index_of register.0 pairs < length pairs → HasEachOnce (slice_set pairs (index_of register.0 pairs) (ruled_register register v))
-HasEachOnce-set register v [] once h = absurd (omega arith)
-HasEachOnce-set {V} register v (x ∷ xs) once h =
-    subst (λ (zs : List (RuledRegister V)). HasEachOnce zs) (sym (at_index (x.register.0 == register.0) x (ruled_register register v) (index_of register.0 xs) xs)) (go (x.register.0 == register.0) refl (HasEachOnce-set register v xs once.1))
-  where
-    go : (b : Bool) → (x.register.0 == register.0) ≡ b → (index_of register.0 xs < length xs → HasEachOnce (slice_set xs (index_of register.0 xs) (ruled_register register v))) → HasEachOnce (cond b (ruled_register register v ∷ xs) (x ∷ slice_set xs (index_of register.0 xs) (ruled_register register v)))
-    go true is rest = (ap (λ k. rule_in k xs) (sym (eqb-true x.register.0 register.0 is)) ∙ once.0, once.1)
-    go false not_it rest =
-        let later = within (x.register.0 == register.0) (index_of register.0 xs) (length xs) h not_it in
-        (rule_in-set register v xs later x.register.0 ∙ ap (λ b. cond b (Some v) (rule_in x.register.0 xs)) (eqb_sym register.0 x.register.0 ∙ not_it) ∙ once.0, rest later)
+-- a register is above those of some pairs and below those of others, and these all increase
+record IsBetween {V : Type 0} (k : ℕ) (front back : List (RuledRegister V)) : Type 0 where
+  above : IsAbove k front
+  below : IsBelow k back
+  others : IsIncreasing (front ++ back)
 
--- ---- a pair taken out, and the last put at its index
+below-middle : {V : Type 0} (k : ℕ) (e : RuledRegister V) (front back : List (RuledRegister V)) → k < e.register.0 → IsBelow k (front ++ back) → IsBelow k (front ++ e ∷ back)
+below-middle k e [] back less below = (less, below)
+below-middle k e (x ∷ front) back less below = (below.0, below-middle k e front back less below.1)
 
--- one list has the rules of another, but none of this register, and each register once
-record IsWithout {V : Type 0} (k : ℕ) (xs ys : List (RuledRegister V)) : Type 0 where
-  rules : (q : ℕ) → rule_in q ys ≡ cond (k == q) None (rule_in q xs)
-  once : HasEachOnce ys
+below-others : {V : Type 0} (k : ℕ) (e : RuledRegister V) (front back : List (RuledRegister V)) → IsBelow k (front ++ e ∷ back) → (k < e.register.0) × IsBelow k (front ++ back)
+below-others k e [] back below = below
+below-others k e (x ∷ front) back below = let (less, others) = below-others k e front back below.1 in (less, (below.0, others))
 
--- one list has the rules of another, and each register once
-record IsSame {V : Type 0} (xs ys : List (RuledRegister V)) : Type 0 where
-  rules : (q : ℕ) → rule_in q ys ≡ rule_in q xs
-  once : HasEachOnce ys
+-- a pair whose register is between goes in
+increasing-with : {V : Type 0} (e : RuledRegister V) (front back : List (RuledRegister V)) → IsBetween e.register.0 front back → IsIncreasing (front ++ e ∷ back)
+increasing-with e [] back between = (between.below, between.others)
+increasing-with e (x ∷ front) back between = (
+  below-middle x.register.0 e front back between.above.0 between.others.0,
+  increasing-with e front back (record { above = between.above.1; below = between.below; others = between.others.1 }),
+)
 
-one_less : (n : ℕ) → suc n - 1 ≡ n
-one_less n = omega arith
+-- and if a pair is there, its register is between
+between-others : {V : Type 0} (e : RuledRegister V) (front back : List (RuledRegister V)) → IsIncreasing (front ++ e ∷ back) → IsBetween e.register.0 front back
+between-others e [] back up = record { above = tt; below = up.0; others = up.1 }
+between-others e (x ∷ front) back up =
+    let (less, others) = below-others x.register.0 e front back up.0 in
+    let between = between-others e front back up.1 in
+    record { above = (less, between.above); below = between.below; others = (others, between.others) }
 
--- the last goes to the start
-rotated : {V : Type 0} (x : RuledRegister V) (xs : List (RuledRegister V)) (d : RuledRegister V) → HasEachOnce (x ∷ xs) → IsSame (x ∷ xs) (slice_index_or (x ∷ xs) (length xs) d ∷ take (length xs) (x ∷ xs))
-rotated x [] d once = record { rules = λ q. refl; once = once }
-rotated x (y ∷ ys) d once =
-    let last = slice_index_or (y ∷ ys) (length ys) d in
-    let front = take (length ys) (y ∷ ys) in
-    let rest = rotated y ys d once.1 in
-    let apart = absent_first (last.register.0 == x.register.0) last.rule (rule_in x.register.0 front) (rest.rules x.register.0 ∙ once.0) in
-    record {
-      rules = λ q.
-          choose (last.register.0 == q) (x.register.0 == q) last.rule x.rule (rule_in q front) (λ is. eqb_apart last.register.0 x.register.0 q apart.0 is)
-          ∙ ap (λ o. cond (x.register.0 == q) (Some x.rule) o) (rest.rules q);
-      once = (ap (λ b. cond b (Some x.rule) (rule_in last.register.0 front)) (eqb_sym x.register.0 last.register.0 ∙ apart.0) ∙ rest.once.0, (apart.1, rest.once.1));
-    }
+-- its register has its rule, and any other the rule that it has by the others
+rule_in-with : {V : Type 0} (e : RuledRegister V) (front back : List (RuledRegister V)) → IsAbove e.register.0 front → (q : ℕ) → rule_in q (front ++ e ∷ back) ≡ cond (e.register.0 == q) (Some e.rule) (rule_in q (front ++ back))
+rule_in-with e [] back above q = refl
+rule_in-with e (x ∷ front) back above q =
+    ap (λ o. cond (x.register.0 == q) (Some x.rule) o) (rule_in-with e front back above.1 q)
+    ∙ choose (x.register.0 == q) (e.register.0 == q) x.rule e.rule (rule_in q (front ++ back)) (λ is. more_apart e.register.0 q (omega (arith, above.0, eqb-true x.register.0 q is)))
 
-removed_here : {V : Type 0} (k : ℕ) (x d : RuledRegister V) (xs : List (RuledRegister V)) → (x.register.0 == k) ≡ true → HasEachOnce (x ∷ xs) → IsWithout k (x ∷ xs) (swap_remove (x ∷ xs) 0 d)
-removed_here k x d [] is once = record { rules = λ q. sym (same (k == q) (x.register.0 == q) (eqb_along x.register.0 k q is)); once = tt }
-  where
-    same : (b f : Bool) → f ≡ b → cond b None (cond f (Some x.rule) None) ≡ None
-    same true f e = refl
-    same false f e = ap (λ (t : Bool). cond t (Some x.rule) None) e
-removed_here {V} k x d (y ∷ ys) is once =
-    let rest = rotated y ys d once.1 in
-    let swapped : ℕ → List (RuledRegister V) = λ n. take n (slice_set (x ∷ y ∷ ys) 0 (slice_index_or (x ∷ y ∷ ys) n d)) in
-    let e : swap_remove (x ∷ y ∷ ys) 0 d ≡ slice_index_or (y ∷ ys) (length ys) d ∷ take (length ys) (y ∷ ys) = ap swapped (one_less (suc (length ys))) in
-    subst (λ zs. IsWithout k (x ∷ y ∷ ys) zs) (sym e) (record {
-      rules = λ q. rest.rules q ∙ sym (same (k == q) (x.register.0 == q) q (λ t. eqb-true k q t) (eqb_along x.register.0 k q is));
-      once = rest.once;
-    })
-  where
-    same : (b f : Bool) (q : ℕ) → (b ≡ true → k ≡ q) → f ≡ b → cond b None (cond f (Some x.rule) (rule_in q (y ∷ ys))) ≡ rule_in q (y ∷ ys)
-    same true f q at e = sym (ap (λ n. rule_in n (y ∷ ys)) (sym (eqb-true x.register.0 k is ∙ at refl)) ∙ once.0)
-    same false f q at e = ap (λ (t : Bool). cond t (Some x.rule) (rule_in q (y ∷ ys))) e
+-- ---- what is left of a list: its map, and that its registers increase
 
-later_without : {V : Type 0} (k : ℕ) (x : RuledRegister V) (xs ys : List (RuledRegister V)) → (x.register.0 == k) ≡ false → HasEachOnce (x ∷ xs) → IsWithout k xs ys → IsWithout k (x ∷ xs) (x ∷ ys)
-later_without k x xs ys other once rest = record {
-  rules = λ q. ap (λ o. cond (x.register.0 == q) (Some x.rule) o) (rest.rules q) ∙ none_first (x.register.0 == q) (k == q) x.rule (rule_in q xs) (λ is. eqb_apart x.register.0 k q other is);
-  once = (rest.rules x.register.0 ∙ none_either (k == x.register.0) (rule_in x.register.0 xs) once.0, rest.once);
-}
-  where
-    none_first : {A : Type 0} (a b : Bool) (v : A) (o : Option A) → (a ≡ true → b ≡ false) → cond a (Some v) (cond b None o) ≡ cond b None (cond a (Some v) o)
-    none_first true true v o apart = absurd (false≢true (sym (apart refl)))
-    none_first true false v o apart = refl
-    none_first false b v o apart = refl
-
-    none_either : {A : Type 0} (b : Bool) (o : Option A) → o ≡ None → cond b None o ≡ None
-    none_either true o h = refl
-    none_either false o h = h
-
-step_over : {V : Type 0} (x d : RuledRegister V) (xs : List (RuledRegister V)) (j : ℕ) → j < length xs → swap_remove (x ∷ xs) (1 + j) d ≡ x ∷ swap_remove xs j d
-step_over x d [] j h = absurd (omega arith)
-step_over {V} x d (y ∷ ys) j h =
-    let swapped : ℕ → List (RuledRegister V) = λ n. take n (slice_set (x ∷ y ∷ ys) (suc j) (slice_index_or (x ∷ y ∷ ys) n d)) in
-    let behind : ℕ → List (RuledRegister V) = λ n. x ∷ take n (slice_set (y ∷ ys) j (slice_index_or (y ∷ ys) n d)) in
-    rw one-add (ap swapped (one_less (suc (length ys))) ∙ ap behind (sym (one_less (length ys))))
-
--- a register whose pair is taken out has no rule, and any other the rule that it had
-removed : {V : Type 0} (k : ℕ) (d : RuledRegister V) (pairs : List (RuledRegister V)) → HasEachOnce pairs → index_of k pairs < length pairs → IsWithout k pairs (swap_remove pairs (index_of k pairs) d)
-removed k d [] once h = absurd (omega arith)
-removed {V} k d (x ∷ xs) once h = go (x.register.0 == k) refl (removed k d xs once.1)
-  where
-    go : (b : Bool) → (x.register.0 == k) ≡ b → (index_of k xs < length xs → IsWithout k xs (swap_remove xs (index_of k xs) d)) → IsWithout k (x ∷ xs) (swap_remove (x ∷ xs) (cond (not b) (1 + index_of k xs) 0) d)
-    go true is rest = removed_here k x d xs is once
-    go false other rest =
-        let later = within (x.register.0 == k) (index_of k xs) (length xs) h other in
-        subst (λ (zs : List (RuledRegister V)). IsWithout k (x ∷ xs) zs) (sym (step_over x d xs (index_of k xs) later)) (later_without k x xs (swap_remove xs (index_of k xs) d) other once (rest later))
-
--- ---- what the code finds
-
--- a register without an index has no rule
-absent : {V : Type 0} (k : ℕ) (pairs : List (RuledRegister V)) → length pairs ≤ index_of k pairs → rule_in k pairs ≡ None
-absent k [] h = refl
-absent k (x ∷ xs) h =
-    let later = beyond (x.register.0 == k) (index_of k xs) (length xs) h in
-    ap (λ t. cond t (Some x.rule) (rule_in k xs)) later.0 ∙ absent k xs later.1
-  where
-    beyond : (b : Bool) (j n : ℕ) → suc n ≤ cond (not b) (1 + j) 0 → (b ≡ false) × (n ≤ j)
-    beyond true j n h = absurd (omega arith)
-    beyond false j n h = (refl, omega arith)
-
-some_is : (b : Bool) (k index : ℕ) → cond b (Some k) None ≡ Some index → (b ≡ true) × (k ≡ index)
-some_is true k index h = (refl, cc)
-some_is false k index h = cc
-
-none_is : (b : Bool) (k : ℕ) → cond b (Some k) None ≡ None → b ≡ false
-none_is true k h = cc
-none_is false k h = refl
-
-found : {V : Type 0} (k index : ℕ) (pairs : List (RuledRegister V)) → position (λ pair. pair.register.0 == k) pairs ≡ Some index → (index_of k pairs < length pairs) × (index_of k pairs ≡ index)
-found k index pairs h =
-    let is = some_is (ltb (index_of k pairs) (length pairs)) (index_of k pairs) index h in
-    (ltb-true (index_of k pairs) (length pairs) is.0, is.1)
-
--- what is left of a list of pairs after a write: its map, and that it has each register once
 pub record IsMapOf {V : Type 0} (rules : RuleMap V) (pairs : List (RuledRegister V)) : Type 0 where
   pub same : map_of pairs ≡ rules
-  pub once : HasEachOnce pairs
+  pub increasing : IsIncreasing pairs
 
--- a rule instead of the one that a register had
-pub set_found : {V : Type 0} (register : Register) (v : V) (index : ℕ) (pairs : List (RuledRegister V)) → HasEachOnce pairs → position (λ pair. pair.register.0 == register.0) pairs ≡ Some index → IsMapOf (insert (map_of pairs) register.0 v) (slice_set pairs index (ruled_register register v))
-set_found register v index pairs once h =
-    let there = found register.0 index pairs h in
-    subst (λ (i : ℕ). IsMapOf (insert (map_of pairs) register.0 v) (slice_set pairs i (ruled_register register v))) there.1 (record {
-      same = map_of-set pairs (slice_set pairs (index_of register.0 pairs) (ruled_register register v)) register.0 v (rule_in-set register v pairs there.0);
-      once = HasEachOnce-set register v pairs once there.0;
-    })
-
--- a rule at the end, if the register had none
-pub set_absent : {V : Type 0} (register : Register) (v : V) (pairs : List (RuledRegister V)) → HasEachOnce pairs → rule_in register.0 pairs ≡ None → IsMapOf (insert (map_of pairs) register.0 v) (pairs ++ ruled_register register v ∷ [])
-set_absent register v pairs once none = record {
-  same = map_of-set pairs (pairs ++ ruled_register register v ∷ []) register.0 v (rule_in-push register v pairs none);
-  once = HasEachOnce-push register v pairs once none;
+pair_with : {V : Type 0} (e : RuledRegister V) (front back : List (RuledRegister V)) → IsBetween e.register.0 front back → IsMapOf (insert (map_of (front ++ back)) e.register.0 e.rule) (front ++ e ∷ back)
+pair_with e front back between = record {
+  same = map_of-set (front ++ back) (front ++ e ∷ back) e.register.0 e.rule (rule_in-with e front back between.above);
+  increasing = increasing-with e front back between;
 }
 
--- no rule, if a register had one
-pub removed_found : {V : Type 0} (k index : ℕ) (d : RuledRegister V) (pairs : List (RuledRegister V)) → HasEachOnce pairs → position (λ pair. pair.register.0 == k) pairs ≡ Some index → IsMapOf (remove (map_of pairs) k) (swap_remove pairs index d)
-removed_found k index d pairs once h =
-    let there = found k index pairs h in
-    let without = removed k d pairs once there.0 in
-    subst (λ (i : ℕ). IsMapOf (remove (map_of pairs) k) (swap_remove pairs i d)) there.1 (record {
-      same = map_of-removed pairs (swap_remove pairs (index_of k pairs) d) k without.rules;
-      once = without.once;
-    })
-
--- a register without an index has no rule, and to take its rule away changes nothing
-pub rule_in-absent : {V : Type 0} (k : ℕ) (pairs : List (RuledRegister V)) → position (λ pair. pair.register.0 == k) pairs ≡ None → rule_in k pairs ≡ None
-rule_in-absent k pairs h = absent k pairs (go (none_is (ltb (index_of k pairs) (length pairs)) (index_of k pairs) h))
+pair_over : {V : Type 0} (e p : RuledRegister V) (front back : List (RuledRegister V)) → p.register.0 ≡ e.register.0 → IsIncreasing (front ++ p ∷ back) → IsMapOf (insert (map_of (front ++ p ∷ back)) e.register.0 e.rule) (front ++ e ∷ back)
+pair_over {V} e p front back same up = record {
+  same = map_of-set (front ++ p ∷ back) (front ++ e ∷ back) e.register.0 e.rule (λ q.
+      rule_in-with e front back between.above q
+      ∙ over (e.register.0 == q) e.rule p.rule (rule_in q (front ++ back))
+      ∙ ap (λ n. cond (e.register.0 == q) (Some e.rule) (cond (n == q) (Some p.rule) (rule_in q (front ++ back)))) (sym same)
+      ∙ ap (λ o. cond (e.register.0 == q) (Some e.rule) o) (sym (rule_in-with p front back was.above q)));
+  increasing = increasing-with e front back between;
+}
   where
-    go : ltb (index_of k pairs) (length pairs) ≡ false → length pairs ≤ index_of k pairs
-    go e = grind (arith, ltb-false)
+    was : IsBetween p.register.0 front back
+    was = between-others p front back up
 
-pub removed_absent : {V : Type 0} (k : ℕ) (pairs : List (RuledRegister V)) → rule_in k pairs ≡ None → map_of pairs ≡ remove (map_of pairs) k
-removed_absent k pairs none = map_of-removed pairs pairs k (λ q. either (k == q) (rule_in q pairs) (λ t. ap (λ n. rule_in n pairs) (sym (eqb-true k q t)) ∙ none))
+    between : IsBetween e.register.0 front back
+    between = subst (λ n. IsBetween n front back) same was
+
+    over : (b : Bool) (v w : V) (o : Option V) → cond b (Some v) o ≡ cond b (Some v) (cond b (Some w) o)
+    over true v w o = refl
+    over false v w o = refl
+
+pair_without : {V : Type 0} (k : ℕ) (p : RuledRegister V) (front back : List (RuledRegister V)) → p.register.0 ≡ k → IsIncreasing (front ++ p ∷ back) → IsMapOf (remove (map_of (front ++ p ∷ back)) k) (front ++ back)
+pair_without {V} k p front back same up = record {
+  same = map_of-removed (front ++ p ∷ back) (front ++ back) k (λ q.
+      gone (k == q) (rule_in q (front ++ back)) p.rule (λ is. ap (λ n. rule_in n (front ++ back)) (sym (eqb-true k q is)) ∙ none-between k front back between.above between.below)
+      ∙ ap (λ n. cond (k == q) None (cond (n == q) (Some p.rule) (rule_in q (front ++ back)))) (sym same)
+      ∙ ap (λ o. cond (k == q) None o) (sym (rule_in-with p front back was.above q)));
+  increasing = between.others;
+}
+  where
+    was : IsBetween p.register.0 front back
+    was = between-others p front back up
+
+    between : IsBetween k front back
+    between = subst (λ n. IsBetween n front back) same was
+
+    gone : (b : Bool) (o : Option V) (w : V) → (b ≡ true → o ≡ None) → o ≡ cond b None (cond b (Some w) o)
+    gone true o w none = none refl
+    gone false o w none = refl
+
+-- a list with its pair at an index apart
+split_at : {X : Type 0} (xs : List X) (i : ℕ) (d : X) → i < length xs → take i xs ++ get_or xs i d ∷ drop (suc i) xs ≡ xs
+split_at xs i d within = sym (set_split xs i (get_or xs i d) within) ∙ set-get_or xs i d
+
+-- a rule instead of the one that the pair's register had
+pub set_found : {V : Type 0} (e : RuledRegister V) (i : ℕ) (pairs : List (RuledRegister V)) → IsIncreasing pairs → IsPlaceOf e.register.0 pairs (Ok i) → IsMapOf (insert (map_of pairs) e.register.0 e.rule) (slice_set pairs i e)
+set_found {V} e i pairs up place =
+    let parts = split_at pairs i e place.0 in
+    subst (λ (xs : List (RuledRegister V)). IsMapOf (insert (map_of xs) e.register.0 e.rule) (slice_set pairs i e)) parts
+    (subst (λ (ys : List (RuledRegister V)). IsMapOf (insert (map_of (take i pairs ++ get_or pairs i e ∷ drop (suc i) pairs)) e.register.0 e.rule) ys) (sym (set_split pairs i e place.0))
+    (pair_over e (get_or pairs i e) (take i pairs) (drop (suc i) pairs) (place.1 e) (subst IsIncreasing (sym parts) up)))
+
+-- a rule of a register that had none
+pub set_absent : {V : Type 0} (e : RuledRegister V) (i : ℕ) (pairs : List (RuledRegister V)) → IsIncreasing pairs → IsPlaceOf e.register.0 pairs (Err i) → IsMapOf (insert (map_of pairs) e.register.0 e.rule) (list.insert pairs i e)
+set_absent {V} e i pairs up place =
+    let parts = take-append-drop i pairs in
+    subst (λ (xs : List (RuledRegister V)). IsMapOf (insert (map_of xs) e.register.0 e.rule) (take i pairs ++ e ∷ drop i pairs)) parts
+    (pair_with e (take i pairs) (drop i pairs) (record { above = place.1; below = place.2; others = subst IsIncreasing (sym parts) up }))
+
+-- no rule of a register that had one
+pub removed_found : {V : Type 0} (k i : ℕ) (pairs : List (RuledRegister V)) → IsIncreasing pairs → IsPlaceOf k pairs (Ok i) → IsMapOf (remove (map_of pairs) k) (list.remove pairs i)
+removed_found {V} k i pairs up place = by pairs refl
+  where
+    without : RuledRegister V → IsMapOf (remove (map_of pairs) k) (list.remove pairs i)
+    without d =
+        let parts = split_at pairs i d place.0 in
+        subst (λ (xs : List (RuledRegister V)). IsMapOf (remove (map_of xs) k) (take i pairs ++ drop (suc i) pairs)) parts
+        (pair_without k (get_or pairs i d) (take i pairs) (drop (suc i) pairs) (place.1 d) (subst IsIncreasing (sym parts) up))
+
+    by : (xs : List (RuledRegister V)) → pairs ≡ xs → IsMapOf (remove (map_of pairs) k) (list.remove pairs i)
+    by [] none = let empty : length pairs ≡ 0 = ap length none in absurd (omega (arith, place.0, empty))
+    by (x ∷ xs) some = without x
+
+-- to take away the rule of a register that has none changes nothing
+pub removed_absent : {V : Type 0} (k i : ℕ) (pairs : List (RuledRegister V)) → IsIncreasing pairs → IsPlaceOf k pairs (Err i) → map_of pairs ≡ remove (map_of pairs) k
+removed_absent k i pairs up place = map_of-removed pairs pairs k (λ q. either (k == q) (rule_in q pairs) (λ is. ap (λ n. rule_in n pairs) (sym (eqb-true k q is)) ∙ sym (rule_at-place k (Err i) pairs up place)))
   where
     either : {A : Type 0} (b : Bool) (o : Option A) → (b ≡ true → o ≡ None) → o ≡ cond b None o
     either true o f = f refl
@@ -303,16 +271,19 @@ holds_within None n m h e = tt
 pub holds_along : (capacity : Option ℕ) (n m : ℕ) (answer : Result (Unit {0}) Error) → HoldsRules capacity n answer → m ≡ n → HoldsRules capacity m answer
 holds_along capacity n m answer h e = subst (λ (k : ℕ). HoldsRules capacity k answer) (sym e) h
 
--- as many rules as a list has pairs, once one is set
-pub len-found : {V : Type 0} (register : Register) (v : V) (index : ℕ) (pairs : List (RuledRegister V)) → HasEachOnce pairs → position (λ pair. pair.register.0 == register.0) pairs ≡ Some index → len (insert (map_of pairs) register.0 v) ≡ length pairs
-len-found register v index pairs once h =
-    let set = set_found register v index pairs once h in
-    ap len (sym set.same) ∙ length-map_of (slice_set pairs index (ruled_register register v)) set.once ∙ length-set pairs index (ruled_register register v)
+-- as many rules as a list has pairs
+pub length-increasing : {V : Type 0} (pairs : List (RuledRegister V)) → IsIncreasing pairs → len (map_of pairs) ≡ length pairs
+length-increasing pairs up = length-map_of pairs (each_once pairs up)
 
-pub len-absent : {V : Type 0} (register : Register) (v : V) (pairs : List (RuledRegister V)) → HasEachOnce pairs → rule_in register.0 pairs ≡ None → len (insert (map_of pairs) register.0 v) ≡ length pairs + 1
-len-absent register v pairs once none =
-    let set = set_absent register v pairs once none in
-    ap len (sym set.same) ∙ length-map_of (pairs ++ ruled_register register v ∷ []) set.once ∙ length-append pairs (ruled_register register v ∷ [])
+pub len-found : {V : Type 0} (e : RuledRegister V) (i : ℕ) (pairs : List (RuledRegister V)) → IsIncreasing pairs → IsPlaceOf e.register.0 pairs (Ok i) → len (insert (map_of pairs) e.register.0 e.rule) ≡ length pairs
+len-found e i pairs up place =
+    let set = set_found e i pairs up place in
+    ap len (sym set.same) ∙ length-increasing (slice_set pairs i e) set.increasing ∙ length-set pairs i e
+
+pub len-absent : {V : Type 0} (e : RuledRegister V) (i : ℕ) (pairs : List (RuledRegister V)) → IsIncreasing pairs → IsPlaceOf e.register.0 pairs (Err i) → len (insert (map_of pairs) e.register.0 e.rule) ≡ length pairs + 1
+len-absent e i pairs up place =
+    let set = set_absent e i pairs up place in
+    ap len (sym set.same) ∙ length-increasing (list.insert pairs i e) set.increasing ∙ length-insert pairs i e place.0
 
 -- ---- either result
 

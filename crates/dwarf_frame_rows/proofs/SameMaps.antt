@@ -1,47 +1,89 @@
--- Two lists of pairs are the same map if each register of either has an equal rule in the other.
-use Rattle.std.proofs.Common.{◌≡◌, ℕ, Bool, true, false, cond, List, [], ◌∷◌, Option, Some, None, ◌==◌, refl, sym, ap, ◌∙◌}
-use Rattle.std.specs.Prelude.{◌&&◌}
+-- Two increasing lists of pairs are the same map exactly if they have the same registers and equal rules, pair by pair.
+use Rattle.std.proofs.Common.{◌≡◌, ℕ, ◌<◌, Bool, true, false, cond, List, [], ◌∷◌, Option, Some, None, ◌==◌, refl, sym, ap, ◌∙◌, arith}
+use Rattle.std.specs.Prelude.{◌&&◌, nat_lt}
 use Rattle.std.specs.Bool.{one_answer}
-use Rattle.std.specs.Cmp.{IsPartialEquivalence}
-use Rattle.std.specs.FinMap.{get}
+use Rattle.std.specs.Cmp.Lexicographic.{pointwise}
 use Rattle.std.proofs.lemmas.Bool.{eq-eqb, eqb-true, false≢true}
+use Rattle.std.proofs.lemmas.Bool.Decides.{nat_tests}
+use Rattle.list_laws.proofs.Laws.{by_case}
 use Rattle.dwarf_frame_rows.specs.declared.rules.RuledRegister.{RuledRegister}
-use Rattle.dwarf_frame_rows.specs.RuleMap.{HasEachOnce, RuleMap, map_of, rule_in}
-use Rattle.dwarf_frame_rows.specs.SameRules.{AreSame, first_of_both, rules_are_in, same_rule, same_rule-symm, same_rules, same_rules-Decides, second_of_both}
-use Rattle.dwarf_frame_rows.proofs.RuleMaps.{get-map_of}
+use Rattle.dwarf_frame_rows.specs.RuleList.{IsIncreasing}
+use Rattle.dwarf_frame_rows.specs.RuleMap.{map_of, rule_in}
+use Rattle.dwarf_frame_rows.specs.SameRules.{first_of_both, same_rule, same_rules, same_rules-Decides, second_of_both}
+use Rattle.dwarf_frame_rows.proofs.RuleMaps.{below-less, below-none, get-map_of}
 
-covered_at : {V : Type 0} (eq : V → V → Bool) (pairs : List (RuledRegister V)) (m : RuleMap V) (q : ℕ) (v : V) → rules_are_in eq pairs m ≡ true → rule_in q pairs ≡ Some v → same_rule eq (Some v) (get m q) ≡ true
-covered_at eq [] m q v all is = cc
-covered_at eq (x ∷ xs) m q v all is = go (x.register.0 == q) refl is (covered_at eq xs m q v (second_of_both (same_rule eq (Some x.rule) (get m x.register.0)) (rules_are_in eq xs m) all))
-  where
-    go : (b : Bool) → (x.register.0 == q) ≡ b → cond b (Some x.rule) (rule_in q xs) ≡ Some v → (rule_in q xs ≡ Some v → same_rule eq (Some v) (get m q) ≡ true) → same_rule eq (Some v) (get m q) ≡ true
-    go true t here later =
-        ap (λ o. same_rule eq o (get m q)) (sym here) ∙ ap (λ n. same_rule eq (Some x.rule) (get m n)) (sym (eqb-true x.register.0 q t))
-        ∙ first_of_both (same_rule eq (Some x.rule) (get m x.register.0)) (rules_are_in eq xs m) all
-    go false t there later = later there
+-- one register, and equal rules
+abbrev pub same_pair : {V : Type 0} → (V → V → Bool) → RuledRegister V → RuledRegister V → Bool
+same_pair eq x y = (x.register.0 == y.register.0) && eq x.rule y.rule
 
-covered_all : {V : Type 0} (eq : V → V → Bool) (pairs : List (RuledRegister V)) (m : RuleMap V) → HasEachOnce pairs → ((q : ℕ) (v : V) → rule_in q pairs ≡ Some v → same_rule eq (Some v) (get m q) ≡ true) → rules_are_in eq pairs m ≡ true
-covered_all eq [] m once h = refl
-covered_all eq (x ∷ xs) m once h =
-    ap (λ b. b && rules_are_in eq xs m) (h x.register.0 x.rule (ap (λ b. cond b (Some x.rule) (rule_in x.register.0 xs)) (eq-eqb x.register.0 x.register.0 refl)))
-    ∙ covered_all eq xs m once.1 (λ q v is. h q v (later q v (x.register.0 == q) refl is))
-  where
-    later : (q : ℕ) (v : _) (b : Bool) → (x.register.0 == q) ≡ b → rule_in q xs ≡ Some v → cond b (Some x.rule) (rule_in q xs) ≡ Some v
-    later q v true t is = let none = ap (λ n. rule_in n xs) (sym (eqb-true x.register.0 q t)) ∙ once.0 in cc
-    later q v false t is = is
+first-rule : {V : Type 0} (z : RuledRegister V) (zs : List (RuledRegister V)) → rule_in z.register.0 (z ∷ zs) ≡ Some z.rule
+first-rule z zs = ap (λ b. cond b (Some z.rule) (rule_in z.register.0 zs)) (eq-eqb z.register.0 z.register.0 refl)
 
-pub both_ways : {V : Type 0} (eq : V → V → Bool) → IsPartialEquivalence eq → (xs ys : List (RuledRegister V)) → HasEachOnce xs → HasEachOnce ys → (rules_are_in eq xs (map_of ys) && rules_are_in eq ys (map_of xs)) ≡ same_rules eq (map_of xs) (map_of ys)
-both_ways {V} eq o xs ys xs_once ys_once = one_answer _ _ (to, from) (same_rules-Decides eq (map_of xs) (map_of ys))
-  where
-    at : (a b : Option V) (q : ℕ) → rule_in q xs ≡ a → rule_in q ys ≡ b → rules_are_in eq xs (map_of ys) ≡ true → rules_are_in eq ys (map_of xs) ≡ true → same_rule eq (get (map_of xs) q) (get (map_of ys) q) ≡ true
-    at None None q is_x is_y there back = ap (λ o. same_rule eq o (get (map_of ys) q)) (get-map_of xs q ∙ is_x) ∙ ap (same_rule eq None) (get-map_of ys q ∙ is_y)
-    at (Some v) b q is_x is_y there back = ap (λ o. same_rule eq o (get (map_of ys) q)) (get-map_of xs q ∙ is_x) ∙ covered_at eq xs (map_of ys) q v there is_x
-    at None (Some w) q is_x is_y there back = absurd (false≢true (sym (ap (same_rule eq (Some w)) (get-map_of xs q ∙ is_x)) ∙ covered_at eq ys (map_of xs) q w back is_y))
+-- pairs that are the same have equal rules in both lists
+module _ {V : Type 0} (eq : V → V → Bool) where
+  forth : (xs ys : List (RuledRegister V)) → pointwise (same_pair eq) xs ys ≡ true → (q : ℕ) → same_rule eq (rule_in q xs) (rule_in q ys) ≡ true
+  forth [] [] all q = refl
+  forth [] (y ∷ ys) all q = absurd (false≢true all)
+  forth (x ∷ xs) [] all q = absurd (false≢true all)
+  forth (x ∷ xs) (y ∷ ys) all q =
+      let here = first_of_both (same_pair eq x y) (pointwise (same_pair eq) xs ys) all in
+      let one = eqb-true x.register.0 y.register.0 (first_of_both (x.register.0 == y.register.0) (eq x.rule y.rule) here) in
+      ap (λ n. same_rule eq (cond (x.register.0 == q) (Some x.rule) (rule_in q xs)) (cond (n == q) (Some y.rule) (rule_in q ys))) (sym one)
+      ∙ by (x.register.0 == q) (rule_in q xs) (rule_in q ys) (second_of_both (x.register.0 == y.register.0) (eq x.rule y.rule) here)
+      (forth xs ys (second_of_both (same_pair eq x y) (pointwise (same_pair eq) xs ys) all) q)
+    where
+      by : (b : Bool) (o p : Option V) → eq x.rule y.rule ≡ true → same_rule eq o p ≡ true → same_rule eq (cond b (Some x.rule) o) (cond b (Some y.rule) p) ≡ true
+      by true o p same others = same
+      by false o p same others = others
 
-    to : (rules_are_in eq xs (map_of ys) && rules_are_in eq ys (map_of xs)) ≡ true → AreSame eq (map_of xs) (map_of ys)
-    to both q = at (rule_in q xs) (rule_in q ys) q refl refl (first_of_both (rules_are_in eq xs (map_of ys)) (rules_are_in eq ys (map_of xs)) both) (second_of_both (rules_are_in eq xs (map_of ys)) (rules_are_in eq ys (map_of xs)) both)
+  -- lists with equal rules have the same pairs
+  back : (xs ys : List (RuledRegister V)) → IsIncreasing xs → IsIncreasing ys → ((q : ℕ) → same_rule eq (rule_in q xs) (rule_in q ys) ≡ true) → pointwise (same_pair eq) xs ys ≡ true
+  back [] [] x_up y_up same = refl
+  back [] (y ∷ ys) x_up y_up same = absurd (false≢true (ap (λ o. same_rule eq None o) (sym (first-rule y ys)) ∙ same y.register.0))
+  back (x ∷ xs) [] x_up y_up same = absurd (false≢true (ap (λ o. same_rule eq o None) (sym (first-rule x xs)) ∙ same x.register.0))
+  back (x ∷ xs) (y ∷ ys) x_up y_up same =
+      by_case (nat_lt x.register.0 y.register.0)
+      (λ is.
+      let less : x.register.0 < y.register.0 = grind (arith, nat_tests) in
+      let none = below-none x.register.0 (y ∷ ys) (less, below-less x.register.0 y.register.0 ys less y_up.0) in
+      absurd (false≢true (ap (λ o. same_rule eq o None) (sym (first-rule x xs)) ∙ ap (λ o. same_rule eq (rule_in x.register.0 (x ∷ xs)) o) (sym none) ∙ same x.register.0)))
+      (λ not_less. by_case (nat_lt y.register.0 x.register.0)
+      (λ is.
+      let less : y.register.0 < x.register.0 = grind (arith, nat_tests) in
+      let none = below-none y.register.0 (x ∷ xs) (less, below-less y.register.0 x.register.0 xs less x_up.0) in
+      absurd (false≢true (ap (λ o. same_rule eq None o) (sym (first-rule y ys)) ∙ ap (λ o. same_rule eq o (rule_in y.register.0 (y ∷ ys))) (sym none) ∙ same y.register.0)))
+      (λ not_more.
+      let one : x.register.0 ≡ y.register.0 = grind (arith, nat_tests) in
+      let rules : eq x.rule y.rule ≡ true =
+      ap (λ o. same_rule eq (Some x.rule) o) (sym (ap (λ n. rule_in n (y ∷ ys)) one ∙ first-rule y ys))
+      ∙ ap (λ o. same_rule eq o (rule_in x.register.0 (y ∷ ys))) (sym (first-rule x xs)) ∙ same x.register.0 in
+      both-true (same_pair eq x y) (pointwise (same_pair eq) xs ys)
+      (both-true (x.register.0 == y.register.0) (eq x.rule y.rule) (eq-eqb x.register.0 y.register.0 one) rules)
+      (back xs ys x_up.1 y_up.1 (λ q. others one q))))
+    where
+      both-true : (a b : Bool) → a ≡ true → b ≡ true → (a && b) ≡ true
+      both-true a b h g = ap (λ c. c && b) h ∙ g
 
-    from : AreSame eq (map_of xs) (map_of ys) → (rules_are_in eq xs (map_of ys) && rules_are_in eq ys (map_of xs)) ≡ true
-    from same =
-        ap (λ b. b && rules_are_in eq ys (map_of xs)) (covered_all eq xs (map_of ys) xs_once (λ q v is. ap (λ o. same_rule eq o (get (map_of ys) q)) (sym (get-map_of xs q ∙ is)) ∙ same q))
-        ∙ covered_all eq ys (map_of xs) ys_once (λ q w is. ap (λ o. same_rule eq o (get (map_of xs) q)) (sym (get-map_of ys q ∙ is)) ∙ same_rule-symm o (get (map_of xs) q) (get (map_of ys) q) (same q))
+      past : (b : Bool) (o p : Option V) → b ≡ false → same_rule eq (cond b (Some x.rule) o) (cond b (Some y.rule) p) ≡ true → same_rule eq o p ≡ true
+      past true o p h same = absurd (false≢true (sym h))
+      past false o p h same = same
+
+      others : x.register.0 ≡ y.register.0 → (q : ℕ) → same_rule eq (rule_in q xs) (rule_in q ys) ≡ true
+      others one q =
+          by_case (x.register.0 == q)
+          (λ is.
+          let at : x.register.0 ≡ q = eqb-true x.register.0 q is in
+          let none-x : rule_in q xs ≡ None = ap (λ n. rule_in n xs) (sym at) ∙ below-none x.register.0 xs x_up.0 in
+          let none-y : rule_in q ys ≡ None = ap (λ n. rule_in n ys) (sym at ∙ one) ∙ below-none y.register.0 ys y_up.0 in
+          ap (λ o. same_rule eq o (rule_in q ys)) none-x ∙ ap (same_rule eq None) none-y)
+          (λ not_it. past (x.register.0 == q) (rule_in q xs) (rule_in q ys) not_it
+          (ap (λ n. same_rule eq (cond (x.register.0 == q) (Some x.rule) (rule_in q xs)) (cond (n == q) (Some y.rule) (rule_in q ys))) one ∙ same q))
+
+-- equality of the lists is that of their maps
+pub pair_by_pair : {V : Type 0} (eq : V → V → Bool) (xs ys : List (RuledRegister V)) → IsIncreasing xs → IsIncreasing ys → pointwise (same_pair eq) xs ys ≡ same_rules eq (map_of xs) (map_of ys)
+pair_by_pair eq xs ys x_up y_up =
+    one_answer _ _ (
+      λ all q. rw (get-map_of xs q, get-map_of ys q) (forth eq xs ys all q),
+      λ same. back eq xs ys x_up y_up (λ q. rw (← get-map_of xs q, ← get-map_of ys q) (same q)),
+    )
+    (same_rules-Decides eq (map_of xs) (map_of ys))

@@ -6,6 +6,7 @@ pub mod EncodedPointer
 pub mod Expressions
 pub mod FrameSection
 pub mod Row
+pub mod RuleList
 pub mod RuleMap
 pub mod SameRules
 pub mod SectionKind

@@ -9,7 +9,6 @@ use Rattle.std.specs.Ordering.{eq_by_cmp, nat_cmp}
 use Rattle.std.proofs.lemmas.Bool.{eqb-true, false≢true}
 use Rattle.std.proofs.lemmas.List.Folds.{list_all-append}
 use Rattle.dwarf_frame_rows.specs.RuleMap.{RuleMap}
-use Rattle.dwarf_frame_rows.specs.declared.rules.RuledRegister.{RuledRegister}
 
 -- two equal rules, or none in either
 abbrev pub same_rule : {V : Type 0} → (V → V → Bool) → Option V → Option V → Bool
@@ -21,11 +20,6 @@ same_rule eq (Some a) None = false
 -- the registers that have a rule in either map have equal rules in both
 unfoldable pub same_rules : {V : Type 0} → (V → V → Bool) → RuleMap V → RuleMap V → Bool
 same_rules eq m n = list_all (λ register. same_rule eq (get m register) (get n register)) (keys m ++ keys n)
-
--- each of some registers has an equal rule in a map
-abbrev pub rules_are_in : {V : Type 0} → (V → V → Bool) → List (RuledRegister V) → RuleMap V → Bool
-rules_are_in eq [] m = true
-rules_are_in eq (pair ∷ pairs) m = same_rule eq (Some pair.rule) (get m pair.register.0) && rules_are_in eq pairs m
 
 -- Each register has equal rules in both maps, or none in either.
 abbrev pub AreSame : {V : Type 0} → (V → V → Bool) → RuleMap V → RuleMap V → Type 0

@@ -1,6 +1,6 @@
 //! A row of the table that call frame instructions describe (DWARF 5, 6.4.1).
 
-ghost use Rattle.std.specs.Prelude.{◌≡◌, IfErr, IfOk, IsOk, IsSome, IsTrue, OnErr, OnOk};
+ghost use Rattle.std.specs.Prelude.{◌≡◌, ◌+◌, ◌<◌, ◌≤◌, ◌^◌, ℕ, IfErr, IfOk, IsNone, IsOk, IsSome, IsTrue, OnErr, OnOk};
 ghost use Rattle.std.specs.Slice.Iter.{iter_rest};
 ghost use Rattle.std.specs.FinMap.{empty, get, insert, len, remove};
 ghost use Rattle.dwarf_frame_rows.specs.RuleMap.{HasEachOnce, HoldsRules, map_of};
@@ -8,10 +8,11 @@ ghost use Rattle.dwarf_frame_rows.specs.RuleMap.{HasEachOnce, HoldsRules, map_of
 use crate::rule_map::RegisterRuleMap;
 use crate::{CfaRule, RegisterRule, RuledRegister};
 use dwarf_constants::{Error, Register, Result};
-use dwarf_readers::ReaderOffset;
+use dwarf_readers::{Counted, ReaderOffset, Steps, count_steps};
 use dwarf_storage::ArrayLike;
 use std::alloc::{AllocError, Global};
 use std::slice::Iter;
+use std::sync::ledger::Ledger;
 
 /// The registers of a row that have a rule, each once, with their rules.
 pub type RegisterRuleIter<'a, T> = Iter<'a, RuledRegister<RegisterRule<T>>>;
@@ -112,7 +113,26 @@ impl<T: ReaderOffset, Rules: ArrayLike<Item = RuledRegister<RegisterRule<T>>>> U
     pub fn register(&self, register: Register) -> Option<RegisterRule<T>>
         ensures { result ≡ get (row_of self.now).rules register.0 }
     {
-        self.registers.get(register)
+        count_steps(RegisterLookup {
+            row: self,
+            register,
+        })
+    }
+
+    /// As `register`; it counts a step for each register that it compares, which are at most
+    /// floor(log2(n)) + 1 of n > 0 that have a rule, and at least floor(log2(n + 1)) if this one has none.
+    pub fn register_counted<L: Ledger>(
+        &self,
+        register: Register,
+        steps: &mut Steps<L>,
+    ) -> Option<RegisterRule<T>>
+        ensures rule { result ≡ get (row_of self.now).rules register.0 }
+        ensures few { (k : ℕ) → len (row_of self.now).rules < 2 ^ k → steps.new ≤ steps.old + k }
+        ensures some { 0 < len (row_of self.now).rules → steps.old < steps.new }
+        ensures enough { IsNone result → (k : ℕ) → 2 ^ k ≤ len (row_of self.now).rules + 1
+            → steps.old + k ≤ steps.new }
+    {
+        self.registers.get_counted(register, steps)
     }
 
     /// The registers that have a rule, each once, with their rules, in any order.
@@ -207,5 +227,31 @@ impl<T: ReaderOffset, Rules: ArrayLike<Item = RuledRegister<RegisterRule<T>>>> U
         ensures { result.now ≡ (row_of self.now).rules }
     {
         &self.registers
+    }
+}
+
+// A lookup of a register whose steps nobody asks for.
+#[derive(Drop)]
+struct RegisterLookup<
+    'r,
+    T: ReaderOffset,
+    Rules: ArrayLike<Item = RuledRegister<RegisterRule<T>>>,
+> {
+    row: &'r UnwindTableRow<T, Rules>,
+    register: Register,
+}
+
+impl<'r, T: ReaderOffset, Rules: ArrayLike<Item = RuledRegister<RegisterRule<T>>>> Counted
+    for RegisterLookup<'r, T, Rules> {
+    ghost use Rattle.std.specs.Prelude.{◌≡◌};
+    ghost use Rattle.std.specs.FinMap.{get};
+    ghost use Rattle.dwarf_frame_rows.specs.Row.{row_of};
+
+    type Answer = Option<RegisterRule<T>>;
+
+    ghost says = { λ lookup rule n. rule ≡ get (row_of lookup.row.now).rules lookup.register.0 };
+
+    fn run<L: Ledger>(self, steps: &mut Steps<L>) -> Option<RegisterRule<T>> {
+        self.row.register_counted(self.register, steps)
     }
 }

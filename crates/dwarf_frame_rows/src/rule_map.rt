@@ -1,18 +1,22 @@
-//! The rules of a row as a map.
+//! The rules of a row as a map, which is a list in the order of the registers.
 
-ghost use Rattle.std.specs.Prelude.{◌≡◌, ◌==◌, ◌+◌, [], ◌∷◌, ◌++◌, length, IfOk, IfErr, IsOk, IsSome, IsTrue, OnErr, OnOk, position, slice_set};
+ghost use Rattle.std.specs.Prelude.{◌≡◌, ◌+◌, ◌<◌, ◌≤◌, ◌^◌, ℕ, [], ◌∷◌, ◌++◌, length, IfOk, IfErr, IsErr, IsNone, IsOk, IsSome, IsTrue, OnErr, OnOk, slice_set};
 ghost use Rattle.std.specs.FinMap as map;
+ghost use Rattle.std.specs.List as list;
 ghost use Rattle.dwarf_storage.specs.Capacity.{IsWithin};
-ghost use Rattle.dwarf_frame_rows.specs.RuleMap.{HasEachOnce, HoldsRules, map_of, rule_in};
-ghost use Rattle.dwarf_frame_rows.specs.SameRules.{rules_are_in};
+ghost use Rattle.dwarf_frame_rows.specs.RuleList.{IsIncreasing, IsPlaceOf, rule_at};
+ghost use Rattle.dwarf_frame_rows.specs.RuleMap.{HasEachOnce, HoldsRules, map_of};
 
 use crate::RuledRegister;
 use dwarf_constants::{Error, Register, Result};
+use dwarf_readers::{Counted, Steps, count_steps};
 use dwarf_storage::{ArrayLike, PushError};
 use std::alloc::{AllocError, Global};
+use std::cmp::Ordering;
 use std::marker::{Model, PhantomData};
+use std::sync::ledger::Ledger;
 
-/// The rules of a row, at most one for each register.
+/// The rules of a row, at most one for each register, in the order of the registers' numbers.
 #[derive(Drop)]
 #[derive_where(Debug; Rules)]
 pub(crate) struct RegisterRuleMap<V, Rules: ArrayLike<Item = RuledRegister<V>>> {
@@ -25,7 +29,8 @@ impl<V, Rules: ArrayLike<Item = RuledRegister<V>>> Model for RegisterRuleMap<V, 
     ghost use Rattle.std.specs.Ordering.{nat_cmp};
     ghost use Rattle.std.specs.FinMap as map;
     ghost use Rattle.std.specs.Coded.{coded_ℕ};
-    ghost use Rattle.dwarf_frame_rows.specs.RuleMap.{HasEachOnce, map_of};
+    ghost use Rattle.dwarf_frame_rows.specs.RuleList.{IsIncreasing};
+    ghost use Rattle.dwarf_frame_rows.specs.RuleMap.{map_of};
 
     ghost Value = { map.FinMap nat_cmp V };
 
@@ -33,7 +38,7 @@ impl<V, Rules: ArrayLike<Item = RuledRegister<V>>> Model for RegisterRuleMap<V, 
 
     ghost view = { λ m. map_of (Rules.items m.rules) };
 
-    ghost invariant = { λ m. HasEachOnce (Rules.items m.rules) };
+    ghost invariant = { λ m. IsIncreasing (Rules.items m.rules) };
 }
 
 /// The rules of no row.
@@ -63,9 +68,7 @@ impl<V: PartialEq + Copy, Rules: ArrayLike<Item = RuledRegister<V>>> PartialEq
     ghost laws = { same_rules-partial V.eq V.laws };
 
     fn eq(&self, other: &Self) -> bool {
-        let forth = are_in(self.pairs(), other);
-        let back = are_in(other.pairs(), self);
-        forth && back
+        self.rules.as_slice() == other.rules.as_slice()
     }
 }
 
@@ -91,7 +94,24 @@ impl<V: Copy, Rules: ArrayLike<Item = RuledRegister<V>>> RegisterRuleMap<V, Rule
     pub(crate) fn get(&self, register: Register) -> Option<V>
         ensures { result ≡ map.get self.now register.0 }
     {
-        rule_of(self.rules.as_slice(), register)
+        let pairs = self.rules.as_slice();
+        rule_at(pairs, place_of(pairs, register))
+    }
+
+    // As `get`; it counts a step for each rule whose register it compares.
+    pub(crate) fn get_counted<L: Ledger>(
+        &self,
+        register: Register,
+        steps: &mut Steps<L>,
+    ) -> Option<V>
+        ensures rule { result ≡ map.get self.now register.0 }
+        ensures few { (k : ℕ) → map.len self.now < 2 ^ k → steps.new ≤ steps.old + k }
+        ensures some { 0 < map.len self.now → steps.old < steps.new }
+        ensures enough { IsNone result → (k : ℕ) → 2 ^ k ≤ map.len self.now + 1
+            → steps.old + k ≤ steps.new }
+    {
+        let pairs = self.rules.as_slice();
+        rule_at(pairs, place_counted(pairs, register, steps))
     }
 
     // How many registers have a rule.
@@ -120,8 +140,8 @@ impl<V: Copy, Rules: ArrayLike<Item = RuledRegister<V>>> RegisterRuleMap<V, Rule
     pub(crate) fn remove(&mut self, register: Register)
         ensures { self.new ≡ map.remove self.old register.0 }
     {
-        if let Some(index) = index_of(self.rules.as_slice(), register) {
-            let _ = self.rules.swap_remove(index);
+        if let Ok(index) = place_of(self.rules.as_slice(), register) {
+            remove(&mut self.rules, index);
         }
     }
 
@@ -133,12 +153,12 @@ impl<V: Copy, Rules: ArrayLike<Item = RuledRegister<V>>> RegisterRuleMap<V, Rule
         ensures err { OnErr result (self.new ≡ self.old) }
     {
         let ruled = RuledRegister { register, rule };
-        match index_of(self.rules.as_slice(), register) {
-            Some(index) => {
+        match place_to_set(self.rules.as_slice(), register) {
+            Ok(index) => {
                 write(&mut self.rules, index, ruled);
                 Ok(())
             }
-            None => push(&mut self.rules, ruled),
+            Err(index) => insert(&mut self.rules, index, ruled),
         }
     }
 
@@ -159,42 +179,87 @@ impl<V: Copy, Rules: ArrayLike<Item = RuledRegister<V>>> RegisterRuleMap<V, Rule
     }
 }
 
-// Whether each of these registers has an equal rule in a map.
-fn are_in<V: PartialEq + Copy, Rules: ArrayLike<Item = RuledRegister<V>>>(
+// The index of a register's pair, or else that at which it would be.
+type Place = std::result::Result<usize, usize>;
+
+// The place of a register, by halves. It counts a step for each pair whose register it compares.
+fn place_counted<V, L: Ledger>(
     pairs: &[RuledRegister<V>],
-    map: &RegisterRuleMap<V, Rules>,
-) -> bool
-    ensures { result ≡ rules_are_in V.eq pairs.now map.now }
+    register: Register,
+    steps: &mut Steps<L>,
+) -> Place
+    ensures place { IsIncreasing pairs.now → IsPlaceOf register.0 pairs.now result }
+    ensures few { (k : ℕ) → length pairs.now < 2 ^ k → steps.new ≤ steps.old + k }
+    ensures some { 0 < length pairs.now → steps.old < steps.new }
+    ensures enough { IsErr result → (k : ℕ) → 2 ^ k ≤ length pairs.now + 1
+        → steps.old + k ≤ steps.new }
 {
-    for pair in pairs {
-        let is_equal = match map.get(pair.register) {
-            Some(rule) => pair.rule == rule,
-            None => false,
-        };
-        if !is_equal {
-            return false;
+    let mut low = 0;
+    let mut len = pairs.len();
+    'halves: while len > 0 {
+        let half = len / 2;
+        let middle = low + half;
+        steps.tick();
+        match pairs[middle].register.0.cmp(&register.0) {
+            Ordering::Equal => return Ok(middle),
+            Ordering::Less => {
+                low = middle + 1;
+                len -= half + 1;
+            }
+            Ordering::Greater => len = half,
         }
     }
-    true
+    Err(low)
 }
 
-// The first rule of a register.
-fn rule_of<V: Copy>(pairs: &[RuledRegister<V>], register: Register) -> Option<V>
-    ensures { result ≡ rule_in register.0 pairs.now }
-{
-    for pair in pairs {
-        if pair.register.0 == register.0 {
-            return Some(pair.rule);
-        }
+// A search for a place whose steps nobody asks for.
+#[derive(Drop)]
+struct PlaceLookup<'p, V> {
+    pairs: &'p [RuledRegister<V>],
+    register: Register,
+}
+
+impl<'p, V> Counted for PlaceLookup<'p, V> {
+    ghost use Rattle.dwarf_frame_rows.specs.RuleList.{IsIncreasing, IsPlaceOf};
+
+    type Answer = Place;
+
+    ghost says = { λ lookup place n.
+        IsIncreasing lookup.pairs.now → IsPlaceOf lookup.register.0 lookup.pairs.now place };
+
+    fn run<L: Ledger>(self, steps: &mut Steps<L>) -> Place {
+        place_counted(self.pairs, self.register, steps)
     }
-    None
 }
 
-// The index of a register's pair.
-fn index_of<V>(pairs: &[RuledRegister<V>], register: Register) -> Option<usize>
-    ensures { result ≡ position (λ pair. pair.register.0 == register.0) pairs.now }
+// The place of a register.
+fn place_of<V>(pairs: &[RuledRegister<V>], register: Register) -> Place
+    ensures { IsIncreasing pairs.now → IsPlaceOf register.0 pairs.now result }
 {
-    pairs.iter().position(|pair| pair.register.0 == register.0)
+    count_steps(PlaceLookup { pairs, register })
+}
+
+// As `place_of`, by one comparison if the register is the last or above it.
+fn place_to_set<V>(pairs: &[RuledRegister<V>], register: Register) -> Place
+    ensures { IsIncreasing pairs.now → IsPlaceOf register.0 pairs.now result }
+{
+    let count = pairs.len();
+    if count == 0 {
+        return Err(0);
+    }
+    match pairs[count - 1].register.0.cmp(&register.0) {
+        Ordering::Equal => Ok(count - 1),
+        Ordering::Less => Err(count),
+        Ordering::Greater => place_of(pairs, register),
+    }
+}
+
+// The rule of the pair at a place, if there is one.
+fn rule_at<V: Copy>(pairs: &[RuledRegister<V>], place: Place) -> Option<V>
+    ensures { result ≡ rule_at pairs.now place }
+{
+    let index = place.ok()?;
+    Some(pairs.get(index)?.rule)
 }
 
 // Writes a pair over another.
@@ -224,6 +289,47 @@ fn push<V: Copy, Rules: ArrayLike<Item = RuledRegister<V>>>(
         Err(PushError::CapacityFull) => Err(Error::TooManyRegisterRules),
         Err(PushError::OutOfMemory) => Err(Error::OutOfMemory),
     }
+}
+
+// Puts a pair at an index, and moves those from it on up by one.
+fn insert<V: Copy, Rules: ArrayLike<Item = RuledRegister<V>>>(
+    rules: &mut Rules,
+    index: usize,
+    ruled: RuledRegister<V>,
+) -> Result<()>
+    requires { index ≤ length (Rules.items rules.old) }
+    ensures room { HoldsRules Rules.capacity (length (Rules.items rules.old) + 1) result }
+    ensures ok { OnOk result
+        (Rules.items rules.new ≡ list.insert (Rules.items rules.old) index ruled) }
+    ensures err { OnErr result (Rules.items rules.new ≡ Rules.items rules.old) }
+{
+    let mut hole = rules.as_slice().len();
+    push(rules, ruled)?;
+    if hole == index {
+        return Ok(());
+    }
+    'moved: while hole > index {
+        let before = rules.as_slice()[hole - 1];
+        write(rules, hole, before);
+        hole -= 1;
+    }
+    write(rules, hole, ruled);
+    Ok(())
+}
+
+// Takes the pair at an index out, and moves those after it down by one.
+fn remove<V: Copy, Rules: ArrayLike<Item = RuledRegister<V>>>(rules: &mut Rules, index: usize)
+    requires { index < length (Rules.items rules.old) }
+    ensures { Rules.items rules.new ≡ list.remove (Rules.items rules.old) index }
+{
+    let last = rules.as_slice().len() - 1;
+    let mut hole = index;
+    'moved: while hole < last {
+        let after = rules.as_slice()[hole + 1];
+        write(rules, hole, after);
+        hole += 1;
+    }
+    let _ = rules.pop();
 }
 
 // Puts pairs at the end of an empty list.
