@@ -3,3 +3,4 @@ mod contexts;
 mod encodings;
 mod places;
 mod pointers;
+mod rules;

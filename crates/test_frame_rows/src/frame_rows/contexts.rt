@@ -37,7 +37,7 @@ impl<T: ReaderOffset> UnwindContextStorage<T> for One {
 }
 
 /// Rules and rows in memory that grows.
-struct Growing;
+pub(super) struct Growing;
 
 impl<T: ReaderOffset> UnwindContextStorage<T> for Growing {
     type Rules = Vec<RuledRegister<RegisterRule<T>>>;
