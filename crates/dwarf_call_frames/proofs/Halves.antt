@@ -1,9 +1,8 @@
 -- Halving, half by half: as many halves as there are rows are enough, and of 2^k rows at most k starts are read.
-use Rattle.std.proofs.Common.{◌≡◌, ℕ, zero, suc, ◌+◌, ◌/◌, ◌^◌, ◌<◌, ◌≤◌, Bool, true, false, cond, List, [], ◌∷◌, length, take, drop, Result, Ok, Err, refl, ap, ◌∙◌, arith, length-take, length-drop}
+use Rattle.std.proofs.Common.{◌≡◌, ℕ, zero, suc, ◌-◌, ◌/◌, ◌^◌, ◌<◌, ◌≤◌, Bool, true, false, cond, List, [], ◌∷◌, length, take, drop, Result, Ok, Err, refl, ap, ◌∙◌, arith, length-take, length-drop}
 use Rattle.std.specs.Prelude.{◌==◌, nat_lt}
-use Rattle.std.proofs.Math.Nat.{two-pow-succ}
 use Rattle.std.proofs.lemmas.Bool.Decides.{nat_tests}
-use Rattle.list_laws.proofs.Laws.{by_case}
+use Rattle.list_laws.proofs.Laws.{at-most-half, at-most-none, by_case}
 use Rattle.dwarf_constants.specs.declared.error.Error.{Error}
 use Rattle.dwarf_call_frames.specs.Halving.{Halving, TableRow, after_start, ended_at, first_start, halving, halving_within}
 
@@ -83,22 +82,22 @@ few-chosen true b k x y z p q r = p
 few-chosen false true k x y z p q r = q
 few-chosen false false k x y z p q r = r
 
-few-behind : (start : Result ℕ Error) (k : ℕ) (f : ℕ → Halving) → ((pivot : ℕ) → (f pivot).reads ≤ k) → (after_start start f).reads ≤ suc k
-few-behind (Ok start) k f few = let less = few start in omega arith
-few-behind (Err e) k f few = omega arith
+few-behind : (start : Result ℕ Error) (k : ℕ) (f : ℕ → Halving) → 1 ≤ k → ((pivot : ℕ) → (f pivot).reads ≤ k - 1) → (after_start start f).reads ≤ k
+few-behind (Ok start) k f some few = let less = few start in omega arith
+few-behind (Err e) k f some few = omega arith
 
 -- one half more reads one start more
 few-onwards : (more : ℕ → List TableRow → Halving) (address k : ℕ) (rows : List TableRow)
     → ((j : ℕ) (part : List TableRow) → length part ≤ 2 ^ j → (more address part).reads ≤ j)
     → length rows ≤ 2 ^ k → (length rows / 2 == 0) ≡ false
     → (Onwards more address (take (length rows / 2) rows) (drop (length rows / 2) rows)).reads ≤ k
-few-onwards more address zero rows few h some = absurd (grind (arith, nat_tests))
-few-onwards more address (suc k) rows few h some =
-    let double : length rows ≤ 2 ^ k + 2 ^ k = rw (← two-pow-succ k) h in
+few-onwards more address k rows few h some =
+    let two : 1 < length rows = grind (arith, nat_tests) in
+    let (one, fits) = at-most-half (length rows) 0 (length rows) (length rows - length rows / 2) two (omega arith) (at-most-none (length rows)) k h in
     let len-front = length-take (length rows / 2) rows in
     let len-back = length-drop (length rows / 2) rows in
-    few-behind (first_start (drop (length rows / 2) rows)) k _ (λ pivot. few-chosen (pivot == address) (nat_lt pivot address) k _ _ _ (omega arith)
-    (few k _ (omega arith)) (few k _ (omega arith)))
+    few-behind (first_start (drop (length rows / 2) rows)) k _ (omega (arith, one)) (λ pivot. few-chosen (pivot == address) (nat_lt pivot address) (k - 1) _ _ _ (omega arith)
+    (few (k - 1) _ (omega (arith, fits, len-front))) (few (k - 1) _ (omega (arith, fits, len-back))))
 
 -- of at most 2^k rows at most k starts are read
 few_within : (n k address : ℕ) (rows : List TableRow) → length rows ≤ 2 ^ k → (halving_within n address rows).reads ≤ k
