@@ -1,0 +1,102 @@
+//! The entries of a page, each a function.
+
+ghost use Rattle.std.specs.Prelude.{◌≡◌, ◌<◌, ◌≤◌, ◌+◌, ◌*◌, ◌^◌, length};
+ghost use Rattle.framehop_compact_tables.specs.Index.{common_offset, common_count};
+ghost use Rattle.framehop_compact_tables.specs.Pages.{entries_offset, entry_count, entry_size, entry_start, encoding_at, indexed_encoding, encoding_of};
+
+use crate::bytes::{is_within, u32_at};
+use crate::page::Page;
+use crate::search::Rows;
+use framehop_errors::CompactFormatError;
+
+/// The entries of a page.
+#[derive(Clone, Copy, Debug)]
+pub(crate) struct PageEntries<'a> {
+    pub(crate) bytes: &'a [u8],
+    pub(crate) page: Page,
+    ghost header: { 28 ≤ length bytes.now },
+    ghost whole: { entries_offset page + entry_size page * entry_count page ≤ length bytes.now },
+}
+
+// The encoding at an offset.
+fn encoding_at(bytes: &[u8], offset: usize) -> Result<u32, CompactFormatError>
+    requires { offset < 2 ^ 60 }
+    ensures { result ≡ encoding_at bytes.now offset }
+{
+    if !is_within(bytes, offset, 4) {
+        return Err(CompactFormatError::Truncated);
+    }
+    Ok(u32_at(bytes, offset))
+}
+
+// The encoding with an index: the common ones first, then the page's.
+fn indexed_encoding(
+    bytes: &[u8],
+    encodings_offset: u32,
+    encoding_count: u16,
+    index: u8,
+) -> Result<u32, CompactFormatError>
+    requires { 28 ≤ length bytes.now }
+    ensures { result ≡ indexed_encoding bytes.now encodings_offset encoding_count index }
+{
+    let common_count = u32_at(bytes, 8);
+    let index = u32::from(index);
+    if index < common_count {
+        return encoding_at(bytes, u32_at(bytes, 4) as usize + 4 * index as usize);
+    }
+    let own = index - common_count;
+    if own < u32::from(encoding_count) {
+        return encoding_at(bytes, encodings_offset as usize + 4 * own as usize);
+    }
+    Err(CompactFormatError::BadEncodingIndex)
+}
+
+impl PageEntries<'_> {
+    // The encoding of an entry.
+    pub(crate) fn encoding(&self, entry: usize) -> Result<u32, CompactFormatError>
+        requires { entry < entry_count self.now.page }
+        ensures { result ≡ encoding_of self.now.bytes.now self.now.page entry }
+    {
+        match self.page {
+            Page::Regular { entries_offset, .. } => {
+                Ok(u32_at(self.bytes, entries_offset as usize + 8 * entry + 4))
+            }
+            Page::Compressed {
+                entries_offset,
+                encodings_offset,
+                encoding_count,
+                ..
+            } => {
+                let word = u32_at(self.bytes, entries_offset as usize + 4 * entry);
+                let index = (word >> 24) as u8;
+                indexed_encoding(self.bytes, encodings_offset, encoding_count, index)
+            }
+        }
+    }
+}
+
+impl Rows for PageEntries<'_> {
+    ghost rows = { λ entries. entry_count entries.page };
+
+    ghost start = { λ entries. entry_start entries.bytes.now entries.page };
+
+    fn row_count(&self) -> usize {
+        self.page.entry_count()
+    }
+
+    fn start(&self, row: usize) -> u32 {
+        match self.page {
+            Page::Regular { entries_offset, .. } => {
+                u32_at(self.bytes, entries_offset as usize + 8 * row)
+            }
+            Page::Compressed {
+                start,
+                entries_offset,
+                ..
+            } => {
+                let word = u32_at(self.bytes, entries_offset as usize + 4 * row);
+                start.saturating_add(word % 0x100_0000)
+            }
+        }
+    }
+}
