@@ -4,3 +4,4 @@ pub mod Index
 pub mod Pages
 pub mod Functions
 pub mod Increasing
+pub mod CountedLookups

@@ -12,9 +12,9 @@ pub(crate) fn u16_at(bytes: &[u8], at: usize) -> u16
     u16::from(bytes[at]) + 256 * u16::from(bytes[at + 1])
 }
 
-// The number of 32 bits in the four bytes at an offset, lowest byte first.
+/// The number of 32 bits in the four bytes at an offset, lowest byte first.
 #[tactic(auto, unfolding(crate::specs::Bytes::u32_at))]
-pub(crate) fn u32_at(bytes: &[u8], at: usize) -> u32
+pub fn u32_at(bytes: &[u8], at: usize) -> u32
     requires { at + 4 ≤ length bytes.now }
     ensures { result ≡ u32_at bytes.now at }
 {

@@ -12,6 +12,7 @@ mod page;
 mod page_entries;
 mod search;
 
+pub use bytes::u32_at;
 pub use framehop_errors::CompactFormatError;
 pub use function::Function;
 pub use increasing::is_increasing;

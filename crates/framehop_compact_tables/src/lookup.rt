@@ -3,7 +3,7 @@
 ghost use Rattle.std.specs.Prelude.{◌≡◌, ◌<◌, ◌+◌, IfOk, IfSome, IsTrue, true, false};
 ghost use Rattle.framehop_compact_tables.specs.Functions.{function_for, function_of, end_of, ContainsAddress};
 ghost use Rattle.framehop_compact_tables.specs.Index.{index_count};
-ghost use Rattle.framehop_compact_tables.specs.Increasing.{IsIncreasing, AreFewForAddress};
+ghost use Rattle.framehop_compact_tables.specs.Increasing.{IsIncreasing};
 ghost use Rattle.framehop_compact_tables.specs.Pages.{entry_count};
 
 use crate::function::Function;
@@ -61,6 +61,8 @@ fn function_of(
 }
 
 impl<'a> UnwindInfo<'a> {
+    ghost use Rattle.framehop_compact_tables.specs.CountedLookups.{AreFewIfIncreasing};
+
     /// The bytes as they are. Lookups pass over the tables.
     pub fn new(bytes: &'a [u8]) -> Self
         ensures same_bytes { result.bytes.now ≡ bytes.now }
@@ -104,7 +106,7 @@ impl<'a> UnwindInfo<'a> {
     ) -> Result<Option<Function>, CompactFormatError>
         ensures function { result ≡ function_for self.now.bytes.now address }
         ensures contains { IfOk result (λ found. IfSome found (λ function. ContainsAddress function address)) }
-        ensures few { IsTrue self.now.increasing → AreFewForAddress self.now.bytes.now address steps.old steps.new }
+        ensures few { AreFewIfIncreasing self.now address steps.old steps.new }
     {
         let index = Index::read(self.bytes)?;
         let Some(row) = find_row(&index, self.increasing, address, steps) else {

@@ -1,0 +1,2 @@
+mod Arrangements
+mod ValidRules

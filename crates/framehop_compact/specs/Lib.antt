@@ -1,0 +1,10 @@
+pub mod SavedRegisters
+pub mod Opcodes
+pub mod OpcodesAarch64
+pub mod CompactResults
+pub mod CompactRules
+pub mod Analysed
+pub mod Unwound
+pub mod UnwoundAarch64
+pub mod Places
+pub mod CompactSteps

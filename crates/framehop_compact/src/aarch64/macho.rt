@@ -1,0 +1,95 @@
+//! The step by the encoding of a function, on aarch64.
+
+ghost use Rattle.std.specs.Prelude.{◌≡◌};
+ghost use Rattle.framehop_compact.specs.UnwoundAarch64.{body_rule, frameless_rule, stub_helper_rule};
+
+use crate::aarch64::opcode::OpcodeArm64;
+use crate::analysis::analysed_rule;
+use crate::cui_unwind_result::CuiUnwindResult;
+use crate::macho::CompactUnwindInfoUnwinding;
+use framehop_compact_tables::Function;
+use framehop_errors::CompactUnwindInfoUnwinderError;
+use framehop_rules::aarch64::{ArchAarch64, UnwindRuleAarch64};
+
+// The rule of a function that calls no other, and so has a first frame alone.
+fn frameless_rule(
+    stack_size_by_16: u16,
+    is_first_frame: bool,
+) -> Result<CuiUnwindResult<UnwindRuleAarch64>, CompactUnwindInfoUnwinderError>
+    ensures { result ≡ frameless_rule stack_size_by_16 is_first_frame }
+{
+    if !is_first_frame {
+        return Err(CompactUnwindInfoUnwinderError::CallerCannotBeFrameless);
+    }
+    if stack_size_by_16 == 0 {
+        return Ok(CuiUnwindResult::ExecRule(UnwindRuleAarch64::NoOp));
+    }
+    Ok(CuiUnwindResult::ExecRule(UnwindRuleAarch64::OffsetSp {
+        sp_offset_by_16: stack_size_by_16,
+    }))
+}
+
+// The rule in the body of a function.
+fn body_rule(
+    opcode: OpcodeArm64,
+    is_first_frame: bool,
+) -> Result<CuiUnwindResult<UnwindRuleAarch64>, CompactUnwindInfoUnwinderError>
+    ensures { result ≡ body_rule opcode is_first_frame }
+{
+    match opcode {
+        OpcodeArm64::Null => Err(CompactUnwindInfoUnwinderError::FunctionHasNoInfo),
+        OpcodeArm64::Frameless { stack_size_by_16 } => {
+            frameless_rule(stack_size_by_16, is_first_frame)
+        }
+        OpcodeArm64::Dwarf { eh_frame_fde } => Ok(CuiUnwindResult::NeedDwarf(eh_frame_fde)),
+        OpcodeArm64::FrameBased => Ok(CuiUnwindResult::ExecRule(
+            UnwindRuleAarch64::UseFramePointer,
+        )),
+        OpcodeArm64::UnrecognizedKind(kind) => {
+            Err(CompactUnwindInfoUnwinderError::BadOpcodeKind(kind))
+        }
+    }
+}
+
+// The rule at an offset in `__stub_helper`: a part of 24 bytes that all stubs share, which pushes a pair of words at 8, and
+// then stubs that push nothing.
+fn stub_helper_rule(offset: u32) -> UnwindRuleAarch64
+    ensures { result ≡ stub_helper_rule offset }
+{
+    if offset < 12 || offset >= 24 {
+        UnwindRuleAarch64::NoOp
+    } else {
+        UnwindRuleAarch64::OffsetSp { sp_offset_by_16: 1 }
+    }
+}
+
+impl CompactUnwindInfoUnwinding for ArchAarch64 {
+    ghost use Rattle.framehop_compact.specs.UnwoundAarch64.{IsUnwound, stub_helper_rule};
+
+    ghost IsUnwound = { IsUnwound };
+
+    ghost stub_helper_rule = { stub_helper_rule };
+
+    fn unwind_frame(
+        function: Function,
+        is_first_frame: bool,
+        address_offset_within_function: usize,
+        function_bytes: Option<&[u8]>,
+    ) -> Result<CuiUnwindResult<UnwindRuleAarch64>, CompactUnwindInfoUnwinderError> {
+        let offset = address_offset_within_function;
+        let opcode = OpcodeArm64::parse(function.opcode);
+        if is_first_frame && opcode == OpcodeArm64::Null {
+            return Ok(CuiUnwindResult::ExecRule(UnwindRuleAarch64::NoOp));
+        }
+        if let Some(rule) = analysed_rule::<ArchAarch64>(is_first_frame, offset, function_bytes) {
+            return Ok(CuiUnwindResult::ExecRule(rule));
+        }
+        body_rule(opcode, is_first_frame)
+    }
+
+    fn rule_for_stub_helper(
+        offset: u32,
+    ) -> Result<CuiUnwindResult<UnwindRuleAarch64>, CompactUnwindInfoUnwinderError> {
+        Ok(CuiUnwindResult::ExecRule(stub_helper_rule(offset)))
+    }
+}
