@@ -126,3 +126,20 @@ fn equal_starts_do_not_increase(rt: HostRuntime) -> Result<(), Fail> {
     assert!(rt; UnwindInfo::new(&page).lookup(0x2010) == Ok(Some(last)));
     Ok(())
 }
+
+#[test]
+fn an_index_out_of_order_is_passed_over(rt: HostRuntime) -> Result<(), Fail> {
+    let mut index = PAGES;
+    index[33] = 0x80;
+    assert!(rt; !is_increasing(&index));
+    let unsorted = UnwindInfo::new(&index);
+    let sorted = UnwindInfo::new(&PAGES);
+    assert!(rt; unsorted.lookup(0x1000) == Ok(None));
+    for address in [0x2010, 0x2fff, 0x3000, 0x4000] {
+        assert!(rt;
+            unsorted.lookup(address) == sorted.lookup(address),
+            "{address:x}"
+        );
+    }
+    Ok(())
+}
