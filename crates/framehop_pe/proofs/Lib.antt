@@ -5,3 +5,6 @@ pub mod OneByOne
 pub mod UndonePrologs
 pub mod Choices
 pub mod ToUndoReads
+pub mod PartRules
+pub mod AttemptAnswers
+pub mod FileRefusals

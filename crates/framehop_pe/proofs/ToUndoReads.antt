@@ -8,50 +8,49 @@ use Rattle.framehop_pe_codes.specs.Epilogs.{EpilogLeft}
 use Rattle.framehop_pe_codes.specs.Infos.{Info}
 use Rattle.framehop_pe_codes.specs.InfoViews.{IsFirst, IsFirstAt, operations_left}
 use Rattle.framehop_pe_codes.specs.Refusals.{PeResult, result_and_then}
-use Rattle.framehop_pe_codes.specs.Sections.{unwind_info_memory}
+use Rattle.framehop_pe_codes.specs.Sections.{PeFile, unwind_info_memory}
 use Rattle.framehop_pe_codes.specs.declared.epilog.Epilog.{Epilog}
 use Rattle.framehop_pe_codes.specs.declared.info.UnwindInfo.{UnwindInfo}
 use Rattle.framehop_pe_codes.specs.declared.listing.PrologCodes.{PrologCodes}
 use Rattle.framehop_pe_codes.specs.declared.operation.UnwindOperation.{UnwindOperation}
-use Rattle.framehop_pe_codes.specs.declared.sections.PeSections.{PeSections}
 use Rattle.framehop_pe.specs.PartViews.{IsRead, IsEpilogRead}
 use Rattle.framehop_pe.specs.ToUndo.{ToUndo, ByEpilog, ByCodes, epilog_at, epilog_or_codes, to_undo_in}
 use Rattle.framehop_pe.specs.declared.pdata.RuntimeFunction.{RuntimeFunction}
 use Rattle.framehop_pe.specs.declared.x86_64.pe.Undoing.TheVariants as undoing
 
-module _ (sections : PeSections) (function : RuntimeFunction) (address : ℕ) (is_first : Bool) (info : UnwindInfo)
-    (at : IsFirstAt (unwind_info_memory sections) info function.unwind_info_address) where
+module _ (file : PeFile) (function : RuntimeFunction) (address : ℕ) (is_first : Bool) (info : UnwindInfo)
+    (at : IsFirstAt (unwind_info_memory file) info function.unwind_info_address) where
   same_register : at.first.frame_register ≡ info.frame_register
   same_register = ap (λ (i : Info). i.frame_register) at.is_first.is
 
-  from-epilog : (found : PeResult (Option EpilogLeft)) → epilog_at sections info.frame_register address function.end_address is_first ≡ found
-      → to_undo_in sections function address is_first ≡ result_and_then found (epilog_or_codes (unwind_info_memory sections) at.first (address - function.begin_address))
+  from-epilog : (found : PeResult (Option EpilogLeft)) → epilog_at file info.frame_register address function.end_address is_first ≡ found
+      → to_undo_in file function address is_first ≡ result_and_then found (epilog_or_codes (unwind_info_memory file) at.first (address - function.begin_address))
   from-epilog found is =
-      let next : Info → Option EpilogLeft → PeResult ToUndo = λ first. epilog_or_codes (unwind_info_memory sections) first (address - function.begin_address) in
-      ap (λ (o : PeResult Info). result_and_then o (λ first. result_and_then (epilog_at sections first.frame_register address function.end_address is_first) (next first))) at.read
-      ∙ ap (λ (r : Option Reg). result_and_then (epilog_at sections r address function.end_address is_first) (next at.first)) same_register
+      let next : Info → Option EpilogLeft → PeResult ToUndo = λ first. epilog_or_codes (unwind_info_memory file) first (address - function.begin_address) in
+      ap (λ (o : PeResult Info). result_and_then o (λ first. result_and_then (epilog_at file first.frame_register address function.end_address is_first) (next first))) at.read
+      ∙ ap (λ (r : Option Reg). result_and_then (epilog_at file r address function.end_address is_first) (next at.first)) same_register
       ∙ ap (λ (o : PeResult (Option EpilogLeft)). result_and_then o (next at.first)) is
 
-  pub read-epilog : (found : Option Epilog) (epilog : Epilog) → IsEpilogRead found (epilog_at sections info.frame_register address function.end_address is_first) → found ≡ Some epilog
-      → (undo : ToUndo) × IsRead (undoing.Epilog info.frame_register epilog) undo × (to_undo_in sections function address is_first ≡ Ok undo)
+  pub read-epilog : (found : Option Epilog) (epilog : Epilog) → IsEpilogRead found (epilog_at file info.frame_register address function.end_address is_first) → found ≡ Some epilog
+      → (undo : ToUndo) × IsRead (undoing.Epilog info.frame_register epilog) undo × (to_undo_in file function address is_first ≡ Ok undo)
   read-epilog found epilog read is =
-      let (pops, popped, left) = subst (λ (o : Option Epilog). IsEpilogRead o (epilog_at sections info.frame_register address function.end_address is_first)) is read in
+      let (pops, popped, left) = subst (λ (o : Option Epilog). IsEpilogRead o (epilog_at file info.frame_register address function.end_address is_first)) is read in
       let value : EpilogLeft = record { adjustment = epilog.adjustment; pops = pops } in (
         ByEpilog info.frame_register value,
         (pops, popped, refl),
         from-epilog (Ok (Some value)) left ∙ ap (λ (r : Option Reg). let o : PeResult ToUndo = Ok (ByEpilog r value) in o) same_register,
       )
 
-  module _ (found : Option Epilog) (read : IsEpilogRead found (epilog_at sections info.frame_register address function.end_address is_first)) (is : found ≡ None) where
-    from-codes : (codes : PeResult CodesToUndo) → codes_to_undo (unwind_info_memory sections) at.first (address - function.begin_address) ≡ codes
-        → to_undo_in sections function address is_first ≡ result_and_then codes (λ c. Ok (ByCodes c))
+  module _ (found : Option Epilog) (read : IsEpilogRead found (epilog_at file info.frame_register address function.end_address is_first)) (is : found ≡ None) where
+    from-codes : (codes : PeResult CodesToUndo) → codes_to_undo (unwind_info_memory file) at.first (address - function.begin_address) ≡ codes
+        → to_undo_in file function address is_first ≡ result_and_then codes (λ c. Ok (ByCodes c))
     from-codes codes came =
-        from-epilog (Ok None) (subst (λ (o : Option Epilog). IsEpilogRead o (epilog_at sections info.frame_register address function.end_address is_first)) is read)
+        from-epilog (Ok None) (subst (λ (o : Option Epilog). IsEpilogRead o (epilog_at file info.frame_register address function.end_address is_first)) is read)
         ∙ ap (λ (o : PeResult CodesToUndo). result_and_then o (λ c. Ok (ByCodes c))) came
 
     pub read-codes : (codes : PrologCodes) → ((first : Info) → IsFirst info first → (operations : List UnwindOperation) × (operations_left codes.left ≡ Ok operations)
-        × (codes_to_undo (unwind_info_memory sections) first (address - function.begin_address) ≡ Ok (record { frame = codes.frame; operations = operations })))
-        → (undo : ToUndo) × IsRead (undoing.Codes codes) undo × (to_undo_in sections function address is_first ≡ Ok undo)
+        × (codes_to_undo (unwind_info_memory file) first (address - function.begin_address) ≡ Ok (record { frame = codes.frame; operations = operations })))
+        → (undo : ToUndo) × IsRead (undoing.Codes codes) undo × (to_undo_in file function address is_first ≡ Ok undo)
     read-codes codes listed =
         let (operations, left, came) = listed at.first at.is_first in
         let value : CodesToUndo = record { frame = codes.frame; operations = operations } in (
@@ -60,6 +59,6 @@ module _ (sections : PeSections) (function : RuntimeFunction) (address : ℕ) (i
           from-codes (Ok value) came,
         )
 
-    pub refused-codes : (e : PeUnwinderError) → ((first : Info) → IsFirst info first → codes_to_undo (unwind_info_memory sections) first (address - function.begin_address) ≡ Err e)
-        → to_undo_in sections function address is_first ≡ Err e
+    pub refused-codes : (e : PeUnwinderError) → ((first : Info) → IsFirst info first → codes_to_undo (unwind_info_memory file) first (address - function.begin_address) ≡ Err e)
+        → to_undo_in file function address is_first ≡ Err e
     refused-codes e refused = from-codes (Err e) (refused at.first at.is_first)

@@ -1,6 +1,8 @@
 pub mod Rows
 pub mod RuleParts
 pub mod ToUndo
+pub mod PartRules
+pub mod PeAttempts
 pub mod Prologs
 pub mod PeSteps
 pub mod PartViews

@@ -1,35 +1,34 @@
 -- The step by the unwind data of a PE file, on x86_64.
-use Rattle.std.specs.Prelude.{ℕ, ◌≡◌, ◌<◌, ◌^◌, Bool, Result, Ok, Err}
+use Rattle.std.specs.Prelude.{ℕ, ◌≡◌, ◌<◌, ◌^◌, Bool, Option, Some, None, Ok, Err}
 use Rattle.framehop_registers.specs.Callback.{Words}
 use Rattle.framehop_registers.specs.Registers.{sp_of, register_of}
 use Rattle.framehop_registers.specs.declared.x86_64.unwindregs.Reg.{Reg}
 use Rattle.framehop_registers.specs.declared.x86_64.unwindregs.UnwindRegsX86_64.{UnwindRegsX86_64}
 use Rattle.framehop_rules.specs.Outcome.{Answers, Caller}
 use Rattle.framehop_rules.specs.RuleMeaning.{rule_meaning}
-use Rattle.framehop_rules.specs.Sequences.{IsRuleOf, HasNoRule}
-use Rattle.framehop_rules.specs.declared.unwind_result.UnwindResult.{UnwindResult}
-use Rattle.framehop_rules.specs.declared.unwind_result.UnwindResult.TheVariants.{ExecRule, Uncacheable}
 use Rattle.framehop_rules.specs.declared.x86_64.unwind_rule.UnwindRuleX86_64.{UnwindRuleX86_64}
-use Rattle.framehop_errors.specs.declared.pe.PeUnwinderError.{PeUnwinderError}
 use Rattle.framehop_pe_codes.specs.Refusals.{PeResult}
-use Rattle.framehop_pe_codes.specs.declared.sections.PeSections.{PeSections}
+use Rattle.framehop_pe_codes.specs.Sections.{PeFile}
+use Rattle.framehop_pe.specs.PartRules.{rule_of_parts}
+use Rattle.framehop_pe.specs.PeAttempts.{PeAttempt, Refuses, SaysCodes, SaysRule}
 use Rattle.framehop_pe.specs.ToUndo.{ToUndo, caller_of, parts_of, to_undo_at}
 
--- What a step answers that undoes this, and the registers before and after it: a rule exactly if the sequence has one; or else the
--- caller, or its refusal. Only the answer of a caller changes the registers.
-abbrev pub IsUndone : ToUndo → Words → Result (UnwindResult UnwindRuleX86_64) PeUnwinderError → UnwindRegsX86_64 → UnwindRegsX86_64 → Type 0
-IsUndone undo words (Ok (ExecRule rule)) old new = IsRuleOf (parts_of undo) rule × (new ≡ old)
-IsUndone undo words (Ok (Uncacheable to)) old new = HasNoRule (parts_of undo) × (caller_of undo old words ≡ Ok (to, new))
-IsUndone undo words (Err refusal) old new = HasNoRule (parts_of undo) × (caller_of undo old words ≡ Err refusal) × (new ≡ old)
+-- The attempt by what is undone: the rule of its sequence, if it has one, or else the caller that it gives.
+abbrev pub attempt_by : ToUndo → Option UnwindRuleX86_64 → PeAttempt UnwindRuleX86_64 UnwindRegsX86_64
+attempt_by undo (Some rule) = SaysRule rule
+attempt_by undo None = SaysCodes (caller_of undo)
+
+abbrev pub attempt_to_undo : ToUndo → PeAttempt UnwindRuleX86_64 UnwindRegsX86_64
+attempt_to_undo undo = attempt_by undo (rule_of_parts (parts_of undo))
 
 -- The same where the unwind data may be refused.
-abbrev pub IsStepBy : PeResult ToUndo → Words → Result (UnwindResult UnwindRuleX86_64) PeUnwinderError → UnwindRegsX86_64 → UnwindRegsX86_64 → Type 0
-IsStepBy (Ok undo) words result old new = IsUndone undo words result old new
-IsStepBy (Err refusal) words result old new = (result ≡ Err refusal) × (new ≡ old)
+abbrev pub attempt_if_read : PeResult ToUndo → PeAttempt UnwindRuleX86_64 UnwindRegsX86_64
+attempt_if_read (Ok undo) = attempt_to_undo undo
+attempt_if_read (Err refusal) = Refuses refusal
 
--- The step at an address.
-abbrev pub IsPeStep : PeSections → ℕ → Bool → Words → Result (UnwindResult UnwindRuleX86_64) PeUnwinderError → UnwindRegsX86_64 → UnwindRegsX86_64 → Type 0
-IsPeStep sections address is_first words result old new = IsStepBy (to_undo_at sections address is_first) words result old new
+-- The attempt at an address, in a first or a later frame.
+abbrev pub attempt_x86_64 : PeFile → ℕ → Bool → PeAttempt UnwindRuleX86_64 UnwindRegsX86_64
+attempt_x86_64 file address is_first = attempt_if_read (to_undo_at file address is_first)
 
 -- All sixteen registers are the same.
 abbrev pub SameRegisters : UnwindRegsX86_64 → UnwindRegsX86_64 → Type 0

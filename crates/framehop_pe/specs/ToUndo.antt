@@ -12,8 +12,7 @@ use Rattle.framehop_pe_codes.specs.Epilogs.{EpilogLeft, epilog_of}
 use Rattle.framehop_pe_codes.specs.Infos.{Info, info_at}
 use Rattle.framehop_pe_codes.specs.Machine.{PeCaller, returned, caller_by_codes}
 use Rattle.framehop_pe_codes.specs.Refusals.{PeResult, result_and_then}
-use Rattle.framehop_pe_codes.specs.Sections.{Memory, unwind_info_memory, text_memory}
-use Rattle.framehop_pe_codes.specs.declared.sections.PeSections.{PeSections}
+use Rattle.framehop_pe_codes.specs.Sections.{Memory, PeFile, text_memory, unwind_info_memory}
 use Rattle.framehop_pe.specs.RuleParts.{operation_part, epilog_parts}
 use Rattle.framehop_pe.specs.Rows.{function_of}
 use Rattle.framehop_pe.specs.declared.pdata.RuntimeFunction.{RuntimeFunction}
@@ -25,15 +24,15 @@ pub data ToUndo : Type 0 where
   ByCodes : CodesToUndo → ToUndo
 
 -- The code of a function from an address to its end, if the text has it whole.
-abbrev pub code_to_end : PeSections → ℕ → ℕ → PeResult (List ℕ)
-code_to_end sections address end =
-    result_and_then (text_memory sections address) (λ bytes.
+abbrev pub code_to_end : PeFile → ℕ → ℕ → PeResult (List ℕ)
+code_to_end file address end =
+    result_and_then (text_memory file address) (λ bytes.
     if nat_lt (length bytes) (end - address) then Err (MissingInstructionData address) else Ok (take (end - address) bytes))
 
 -- The epilog that is left at an address, which only a first frame can be in.
-abbrev pub epilog_at : PeSections → Option Reg → ℕ → ℕ → Bool → PeResult (Option EpilogLeft)
-epilog_at sections frame_register address end is_first =
-    if is_first then result_and_then (code_to_end sections address end) (λ bytes. Ok (epilog_of frame_register bytes)) else Ok None
+abbrev pub epilog_at : PeFile → Option Reg → ℕ → ℕ → Bool → PeResult (Option EpilogLeft)
+epilog_at file frame_register address end is_first =
+    if is_first then result_and_then (code_to_end file address end) (λ bytes. Ok (epilog_of frame_register bytes)) else Ok None
 
 -- What is left of the epilog, or else the codes of the chain, which is only then read.
 abbrev pub epilog_or_codes : Memory → Info → ℕ → Option EpilogLeft → PeResult ToUndo
@@ -41,20 +40,20 @@ epilog_or_codes memory first offset (Some epilog) = Ok (ByEpilog first.frame_reg
 epilog_or_codes memory first offset None = result_and_then (codes_to_undo memory first offset) (λ codes. Ok (ByCodes codes))
 
 -- What is undone at an address in a function. Its first unwind info is read before all else.
-abbrev pub to_undo_in : PeSections → RuntimeFunction → ℕ → Bool → PeResult ToUndo
-to_undo_in sections function address is_first =
-    result_and_then (info_at (unwind_info_memory sections) true function.unwind_info_address) (λ first.
-    result_and_then (epilog_at sections first.frame_register address function.end_address is_first) (λ epilog.
-    epilog_or_codes (unwind_info_memory sections) first (address - function.begin_address) epilog))
+abbrev pub to_undo_in : PeFile → RuntimeFunction → ℕ → Bool → PeResult ToUndo
+to_undo_in file function address is_first =
+    result_and_then (info_at (unwind_info_memory file) true function.unwind_info_address) (λ first.
+    result_and_then (epilog_at file first.frame_register address function.end_address is_first) (λ epilog.
+    epilog_or_codes (unwind_info_memory file) first (address - function.begin_address) epilog))
 
 -- A function without a row is a leaf function.
-abbrev pub to_undo_by : PeSections → Option RuntimeFunction → ℕ → Bool → PeResult ToUndo
-to_undo_by sections None address is_first = Ok Leaf
-to_undo_by sections (Some function) address is_first = to_undo_in sections function address is_first
+abbrev pub to_undo_by : PeFile → Option RuntimeFunction → ℕ → Bool → PeResult ToUndo
+to_undo_by file None address is_first = Ok Leaf
+to_undo_by file (Some function) address is_first = to_undo_in file function address is_first
 
 -- What is undone at an address.
-abbrev pub to_undo_at : PeSections → ℕ → Bool → PeResult ToUndo
-to_undo_at sections address is_first = to_undo_by sections (function_of sections.pdata.now address) address is_first
+abbrev pub to_undo_at : PeFile → ℕ → Bool → PeResult ToUndo
+to_undo_at file address is_first = to_undo_by file (function_of file.pdata address) address is_first
 
 -- The caller, once it is undone one by one.
 abbrev pub caller_of : ToUndo → UnwindRegsX86_64 → Words → PeResult PeCaller

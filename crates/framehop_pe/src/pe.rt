@@ -1,11 +1,9 @@
 //! The step by the unwind data of a PE file, on any architecture.
 
-ghost use Rattle.std.specs.Prelude.{ℕ, Bool, Result, IsTrue};
-ghost use Rattle.framehop_registers.specs.Callback.{Words, OverWords};
+ghost use Rattle.std.specs.Prelude.{ℕ, Bool, IsTrue};
 ghost use Rattle.framehop_rules.specs.UnwindResults.{HasValidRule, KeepsUnlessDirect};
-ghost use Rattle.framehop_rules.specs.declared.unwind_result.UnwindResult.{UnwindResult};
-ghost use Rattle.framehop_errors.specs.declared.pe.PeUnwinderError.{PeUnwinderError};
-ghost use Rattle.framehop_pe_codes.specs.declared.sections.PeSections.{PeSections};
+ghost use Rattle.framehop_pe_codes.specs.Sections.{PeFile, file_of};
+ghost use Rattle.framehop_pe.specs.PeAttempts.{AnswersPe, PeAttempt};
 ghost use Rattle.framehop_pe.specs.Rows.{IsIncreasing};
 
 use framehop_errors::PeUnwinderError;
@@ -14,11 +12,8 @@ use framehop_rules::{Arch, UnwindResult};
 
 /// An architecture whose unwind data of PE files are read.
 pub trait PeUnwinding: Arch {
-    /// What a step answers by the sections of a file, an address, whether the frame is the first, and the words of the
-    /// stack; and the registers before and after it.
-    ghost step: { PeSections → ℕ → Bool → Words
-        → Result (UnwindResult Self.UnwindRule) PeUnwinderError
-        → Self.UnwindRegs → Self.UnwindRegs → Type 0 };
+    /// What the unwind data of a file say of a frame at an address, a first or a later one.
+    ghost pe_attempt: { PeFile → ℕ → Bool → PeAttempt Self.UnwindRule Self.UnwindRegs };
 
     /// The step at an address relative to the file's base (RVA): the unwind rule for what has to be undone, if it has
     /// one, or else the return address, and then the registers are the caller's. An `Err` leaves the registers as they
@@ -33,8 +28,8 @@ pub trait PeUnwinding: Arch {
         requires callable { F.IsAlwaysCallable read_stack.old }
         requires increasing { IsTrue sections.increasing → IsIncreasing sections.pdata.now }
         ensures callable { F.IsAlwaysCallable read_stack.new }
-        ensures step { OverWords F.step read_stack.old read_stack.new (λ words.
-            step sections.entry address is_first_frame words result regs.old regs.new) }
+        ensures answers { AnswersPe F.step read_stack.old read_stack.new regs.old regs.new result
+            (pe_attempt (file_of sections.entry) address is_first_frame) }
         ensures valid { HasValidRule Self.UnwindRule.is_valid result }
         ensures keeps { KeepsUnlessDirect result regs.old regs.new };
 }

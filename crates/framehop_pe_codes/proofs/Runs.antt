@@ -1,6 +1,6 @@
 -- A run, one code after the other.
-use Rattle.std.proofs.Common.{◌≡◌, ◌∙◌, ℕ, List, [], ◌∷◌, refl, ap, sym}
-use Rattle.std.specs.Prelude.{Option, Some, None, Result, Ok, Err}
+use Rattle.std.proofs.Common.{◌≡◌, ◌∙◌, ℕ, List, [], ◌∷◌, refl, ap, subst, sym}
+use Rattle.std.specs.Prelude.{IsOk, Option, Some, None, Result, Ok, Err}
 use Rattle.framehop_registers.specs.Callback.{Words}
 use Rattle.framehop_registers.specs.declared.x86_64.unwindregs.UnwindRegsX86_64.{UnwindRegsX86_64}
 use Rattle.framehop_errors.specs.declared.pe.PeUnwinderError.{PeUnwinderError}
@@ -35,6 +35,20 @@ pub next-end : (next : Option UnwindOperation) (before left : Operations) (all :
 next-end next before left all is none whole =
     let e : Ok [] ≡ Ok all = sym (ap (λ (o : Option UnwindOperation). next_and_left o left) none) ∙ sym is ∙ whole in
     cc
+
+-- codes that can be read aren't refused
+pub refused-no : (left : Operations) (e : PeUnwinderError) → IsOk left → left ≡ Err e → ⊥
+refused-no left e ok is = cc
+
+reads-more : (operation : UnwindOperation) (left : Operations) → IsOk (with_operation operation left) → IsOk left
+reads-more operation (Ok more) ok = refl
+reads-more operation (Err e) ok = ok
+
+-- where all can be read, what comes after one can
+pub reads-on : (next : Option UnwindOperation) (operation : UnwindOperation) (before left : Operations)
+    → before ≡ next_and_left next left → next ≡ Some operation → IsOk before → IsOk left
+reads-on next operation before left is one ok =
+    reads-more operation left (subst (λ (o : Operations). IsOk o) (is ∙ ap (λ (o : Option UnwindOperation). next_and_left o left) one) ok)
 
 module _ (frame : FrameBase) (operation : UnwindOperation) (more all : List UnwindOperation) (registers : UnwindRegsX86_64) (words : Words)
     (is : all ≡ operation ∷ more) where

@@ -5,7 +5,7 @@ use Rattle.framehop_registers.specs.Registers.{sp_of, register_of, with_register
 use Rattle.framehop_registers.specs.declared.x86_64.unwindregs.Reg.{Reg}
 use Rattle.framehop_registers.specs.declared.x86_64.unwindregs.Reg.TheVariants.{RSP}
 use Rattle.framehop_registers.specs.declared.x86_64.unwindregs.UnwindRegsX86_64.{UnwindRegsX86_64}
-use Rattle.framehop_errors.specs.declared.pe.PeUnwinderError.TheVariants.{MissingStackData, UnwindInfoParseError}
+use Rattle.framehop_errors.specs.declared.pe.PeUnwinderError.TheVariants.{MissingStackData}
 use Rattle.framehop_pe_codes.specs.Epilogs.{EpilogLeft}
 use Rattle.framehop_pe_codes.specs.Machine.{PeCaller, raised, popped, returned}
 use Rattle.framehop_pe_codes.specs.Refusals.{PeResult, result_and_then, or_refusal}
@@ -29,7 +29,7 @@ abbrev pub adjusted : Option Reg → SpAdjustment → UnwindRegsX86_64 → PeRes
 adjusted frame_register Stays registers = Ok registers
 adjusted frame_register (Add bytes) registers = raised registers bytes
 adjusted frame_register (Lea displacement) registers =
-    result_and_then (or_refusal UnwindInfoParseError frame_register) (λ register.
+    result_and_then (or_refusal (MissingStackData None) frame_register) (λ register.
     result_and_then (moved (pos (register_of registers register) +ℤ displacement)) (λ sp.
     Ok (with_register registers RSP sp)))
 

@@ -5,7 +5,7 @@ use Rattle.framehop_pe_codes.specs.Codes.{codes_of}
 use Rattle.framehop_pe_codes.specs.Infos.{InfoHeader, Info, header_of, with_codes, info_at, chain_from, operations_of}
 use Rattle.framehop_pe_codes.specs.CodesToUndo.{CodesToUndo}
 use Rattle.framehop_pe_codes.specs.Refusals.{PeResult, result_and_then, or_refusal}
-use Rattle.framehop_pe_codes.specs.Sections.{Memory, unwind_info_memory}
+use Rattle.framehop_pe_codes.specs.Sections.{Memory, file_of, unwind_info_memory}
 use Rattle.framehop_pe_codes.specs.declared.info.UnwindInfo.{UnwindInfo}
 use Rattle.framehop_pe_codes.specs.declared.chain.CodesLeft.{CodesLeft}
 use Rattle.framehop_pe_codes.specs.declared.listing.PrologCodes.{PrologCodes}
@@ -40,7 +40,7 @@ pub record IsFirstAt (memory : Memory) (info : UnwindInfo) (address : ℕ) : Typ
 abbrev pub operations_left : CodesLeft → PeResult (List UnwindOperation)
 operations_left left =
     result_and_then (or_refusal UnwindInfoParseError (codes_of left.is_framed left.codes.now)) (λ codes.
-    result_and_then (chain_from left.infos (unwind_info_memory left.sections) left.is_first_framed left.chained) (λ infos.
+    result_and_then (chain_from left.infos (unwind_info_memory (file_of left.sections)) left.is_first_framed left.chained) (λ infos.
     Ok (operations_of codes ++ flat_map (λ info. operations_of info.codes) infos)))
 
 -- If the codes that are left can all be read, this holds of their operations.

@@ -9,7 +9,7 @@ use Rattle.framehop_registers.specs.declared.x86_64.unwindregs.Reg.{Reg}
 use Rattle.framehop_registers.specs.declared.x86_64.unwindregs.Reg.TheVariants.{RSP}
 use Rattle.framehop_registers.specs.declared.x86_64.unwindregs.UnwindRegsX86_64.{UnwindRegsX86_64}
 use Rattle.framehop_errors.specs.declared.pe.PeUnwinderError.{PeUnwinderError}
-use Rattle.framehop_errors.specs.declared.pe.PeUnwinderError.TheVariants.{MissingStackData, UnwindInfoParseError}
+use Rattle.framehop_errors.specs.declared.pe.PeUnwinderError.TheVariants.{MissingStackData}
 use Rattle.framehop_pe_codes.specs.Refusals.{PeResult, result_and_then, or_refusal}
 use Rattle.framehop_pe_codes.specs.declared.machine.FrameBase.{FrameBase}
 use Rattle.framehop_pe_codes.specs.declared.operation.UnwindOperation.{UnwindOperation}
@@ -30,7 +30,7 @@ word_or refusal words at = or_refusal refusal (words at)
 -- The stack pointer that the prolog left, by the frame register. A frame that is set has one.
 abbrev pub by_frame : FrameBase → UnwindRegsX86_64 → PeResult ℕ
 by_frame frame registers =
-    result_and_then (or_refusal UnwindInfoParseError frame.register) (λ register. below (register_of registers register) frame.offset)
+    result_and_then (or_refusal (MissingStackData None) frame.register) (λ register. below (register_of registers register) frame.offset)
 
 -- What offsets of saved registers are counted from.
 abbrev pub save_base : FrameBase → UnwindRegsX86_64 → PeResult ℕ

@@ -1,12 +1,13 @@
 //! Runs of epilogs.
 
-ghost use Rattle.std.specs.Prelude.{◌≡◌, ◌≤◌, ◌<◌, pos, ◌+ℤ◌, true, false, [], length, List, Some, None, IfSome, IsSome, OnErr};
+ghost use Rattle.std.specs.Prelude.{◌≡◌, ◌≤◌, ◌<◌, pos, ◌+ℤ◌, true, false, [], length, List, Some, None, IfSome, IsSome, IfErr, OnErr};
 ghost use Rattle.framehop_registers.specs.Callback.{OverWords};
 ghost use Rattle.framehop_registers.specs.declared.x86_64.unwindregs.Reg.{Reg};
 ghost use Rattle.framehop_pe_codes.specs.Epilogs.{pops_of, pop_of, is_end};
 ghost use Rattle.framehop_pe_codes.specs.EpilogRuns.{caller_by_pops, moved, adjusted, caller_by_epilog};
 ghost use Rattle.framehop_pe_codes.specs.EpilogViews.{IsPoppedFirst, OverEpilog};
 ghost use Rattle.framehop_pe_codes.specs.MachineViews.{caller_seen, registers_seen, IsStepTo};
+ghost use Rattle.framehop_pe_codes.specs.Refusals.{IsOfStack};
 
 use crate::code::bytes_after;
 use crate::epilog::{Epilog, SpAdjustment, is_end, pop_of};
@@ -38,11 +39,12 @@ fn run_pops<F: FnMut(u64) -> Result<u64, ()>>(
     ensures run { OverWords F.step read_stack.old read_stack.new (λ words. (registers : List Reg)
         → pops_of bytes.now ≡ Some registers
         → caller_seen result regs.new ≡ caller_by_pops registers regs.old words) }
+    ensures refusal { IfErr result IsOfStack }
 {
     let mut rest = bytes;
     'pops: while let Some((register, size)) = next_pop(rest) {
-        let refusal = PeUnwinderError::MissingStackData(Some(regs.sp()));
-        pop(refusal, register, regs, read_stack)?;
+        let sp = regs.sp();
+        pop(Some(sp), register, regs, read_stack)?;
         rest = bytes_after(rest, size);
     }
     return_to_caller(regs, read_stack)
@@ -50,7 +52,8 @@ fn run_pops<F: FnMut(u64) -> Result<u64, ()>>(
 
 // An address plus a displacement.
 fn moved(base: u64, displacement: i64) -> Result<u64, PeUnwinderError>
-    ensures { result ≡ moved (pos base +ℤ displacement) }
+    ensures sum { result ≡ moved (pos base +ℤ displacement) }
+    ensures refusal { IfErr result IsOfStack }
 {
     base.checked_add_signed(displacement)
         .ok_or(PeUnwinderError::MissingStackData(None))
@@ -62,14 +65,15 @@ fn adjust(
     adjustment: SpAdjustment,
     regs: &mut UnwindRegsX86_64,
 ) -> Result<(), PeUnwinderError>
-    ensures { registers_seen result regs.new ≡ adjusted frame_register adjustment regs.old }
+    ensures adjusted { registers_seen result regs.new ≡ adjusted frame_register adjustment regs.old }
+    ensures refusal { IfErr result IsOfStack }
 {
     match adjustment {
         SpAdjustment::Stays => Ok(()),
         SpAdjustment::Add(bytes) => raise(regs, u64::from(bytes)),
         SpAdjustment::Lea(displacement) => {
             let Some(register) = frame_register else {
-                return Err(PeUnwinderError::UnwindInfoParseError);
+                return Err(PeUnwinderError::MissingStackData(None));
             };
             let sp = moved(regs.get(register), displacement)?;
             regs.set_sp(sp);
@@ -93,6 +97,7 @@ pub fn unwind_by_epilog<F: FnMut(u64) -> Result<u64, ()>>(
         OverEpilog epilog.now (λ left. IsStepTo result regs.old regs.new
         (caller_by_epilog frame_register left regs.old words))) }
     ensures error_keeps { OnErr result (regs.new ≡ regs.old) }
+    ensures refusal { IfErr result IsOfStack }
 {
     let mut caller = *regs;
     adjust(frame_register, epilog.adjustment, &mut caller)?;

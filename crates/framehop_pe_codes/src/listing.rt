@@ -7,7 +7,8 @@ ghost use Rattle.framehop_pe_codes.specs.Infos.{Info, info_at};
 ghost use Rattle.framehop_pe_codes.specs.InfoViews.{operations_left, IsFirst, IsFirstAt, IsChainRead, OverCodes};
 ghost use Rattle.framehop_pe_codes.specs.Machine.{caller_by_codes};
 ghost use Rattle.framehop_pe_codes.specs.MachineViews.{IsStepTo};
-ghost use Rattle.framehop_pe_codes.specs.Sections.{unwind_info_memory};
+ghost use Rattle.framehop_pe_codes.specs.Refusals.{IsOfStack};
+ghost use Rattle.framehop_pe_codes.specs.Sections.{file_of, unwind_info_memory};
 
 use crate::chain::{CodesLeft, ran_codes};
 use crate::info::{UnwindInfo, read_info};
@@ -32,8 +33,8 @@ pub fn first_info<'a>(
     sections: PeSections<'a>,
     address: u32,
 ) -> Result<UnwindInfo<'a>, PeUnwinderError>
-    ensures ok { IfOk result (λ info. IsFirstAt (unwind_info_memory sections.entry) info address) }
-    ensures err { IfErr result (λ e. info_at (unwind_info_memory sections.entry) true address ≡ Err e) }
+    ensures ok { IfOk result (λ info. IsFirstAt (unwind_info_memory (file_of sections.entry)) info address) }
+    ensures err { IfErr result (λ e. info_at (unwind_info_memory (file_of sections.entry)) true address ≡ Err e) }
 {
     let bytes = sections.unwind_info_memory_at_rva(address)?;
     match read_info(true, bytes) {
@@ -45,7 +46,7 @@ pub fn first_info<'a>(
 // The codes to undo of a chain by its first info, at an offset in the function.
 fn codes_from<'a>(sections: PeSections<'a>, info: UnwindInfo<'a>, offset: u32) -> CodesLeft<'a>
     ensures { (first : Info) → IsFirst info.entry first
-        → operations_left result ≡ operations_from (unwind_info_memory sections.entry) first offset }
+        → operations_left result ≡ operations_from (unwind_info_memory (file_of sections.entry)) first offset }
 {
     let is_framed = info.frame_register.is_some();
     CodesLeft {
@@ -65,9 +66,9 @@ pub fn read_chain<'a>(
     offset: u32,
 ) -> Result<PrologCodes<'a>, PeUnwinderError>
     ensures ok { IfOk result (λ codes. (first : Info) → IsFirst info.entry first
-        → IsChainRead codes (codes_to_undo (unwind_info_memory sections.entry) first offset)) }
+        → IsChainRead codes (codes_to_undo (unwind_info_memory (file_of sections.entry)) first offset)) }
     ensures err { IfErr result (λ e. (first : Info) → IsFirst info.entry first
-        → codes_to_undo (unwind_info_memory sections.entry) first offset ≡ Err e) }
+        → codes_to_undo (unwind_info_memory (file_of sections.entry)) first offset ≡ Err e) }
 {
     let left = codes_from(sections, info, offset);
     let is_set = has_set_frame(left)?;
@@ -92,6 +93,7 @@ pub fn unwind_by_codes<F: FnMut(u64) -> Result<u64, ()>>(
         OverCodes codes.entry (λ undo. IsStepTo result regs.old regs.new
         (caller_by_codes undo.frame undo.operations regs.old words))) }
     ensures error_keeps { OnErr result (regs.new ≡ regs.old) }
+    ensures refusal { OverCodes codes.entry (λ undo. IfErr result IsOfStack) }
 {
     let mut caller = *regs;
     let to = undo_codes(codes.left, &codes.frame, &mut caller, read_stack)?;

@@ -1,9 +1,11 @@
 //! One code undone.
 
-ghost use Rattle.std.specs.Prelude.{◌≡◌, ◌+◌, Some, None, ℕ};
+ghost use Rattle.std.specs.Prelude.{◌≡◌, ◌+◌, Some, None, IfErr, ℕ};
+ghost use Rattle.framehop_errors.specs.declared.pe.PeUnwinderError.TheVariants.{MissingStackData};
 ghost use Rattle.framehop_registers.specs.Callback.{OverWords};
 ghost use Rattle.framehop_pe_codes.specs.Machine.{above, below, word_or, by_frame, save_base, raised, popped, framed, restored, error_code_size, interrupted, undone, returned};
 ghost use Rattle.framehop_pe_codes.specs.MachineViews.{undone_seen, registers_seen, caller_seen};
+ghost use Rattle.framehop_pe_codes.specs.Refusals.{IsOfStack};
 
 use crate::operation::UnwindOperation;
 use framehop_errors::PeUnwinderError;
@@ -23,7 +25,8 @@ pub struct FrameBase {
 // So many bytes above an address.
 #[inline(always)]
 fn above(base: u64, bytes: u64) -> Result<u64, PeUnwinderError>
-    ensures { result ≡ above base bytes }
+    ensures sum { result ≡ above base bytes }
+    ensures refusal { IfErr result IsOfStack }
 {
     base.checked_add(bytes)
         .ok_or(PeUnwinderError::MissingStackData(None))
@@ -32,43 +35,47 @@ fn above(base: u64, bytes: u64) -> Result<u64, PeUnwinderError>
 // So many bytes below an address.
 #[inline(always)]
 fn below(base: u64, bytes: u64) -> Result<u64, PeUnwinderError>
-    ensures { result ≡ below base bytes }
+    ensures difference { result ≡ below base bytes }
+    ensures refusal { IfErr result IsOfStack }
 {
     base.checked_sub(bytes)
         .ok_or(PeUnwinderError::MissingStackData(None))
 }
 
-// The word at an address, or else this error.
+// The word at an address, or else an error that tells this address of the word, or none.
 #[inline(always)]
 fn read_word<F: FnMut(u64) -> Result<u64, ()>>(
     read_stack: &mut F,
     at: u64,
-    refusal: PeUnwinderError,
+    told: Option<u64>,
 ) -> Result<u64, PeUnwinderError>
     requires { F.IsAlwaysCallable read_stack.old }
     ensures callable { F.IsAlwaysCallable read_stack.new }
     ensures word { OverWords F.step read_stack.old read_stack.new (λ words.
-        result ≡ word_or refusal words at) }
+        result ≡ word_or (MissingStackData told) words at) }
+    ensures refusal { IfErr result IsOfStack }
 {
     match read_stack(at) {
         Ok(word) => Ok(word),
-        Err(()) => Err(refusal),
+        Err(()) => Err(PeUnwinderError::MissingStackData(told)),
     }
 }
 
 // The stack pointer that the prolog left, by the frame register.
 fn by_frame(frame: &FrameBase, regs: &UnwindRegsX86_64) -> Result<u64, PeUnwinderError>
-    ensures { result ≡ by_frame frame.now regs.now }
+    ensures pointer { result ≡ by_frame frame.now regs.now }
+    ensures refusal { IfErr result IsOfStack }
 {
     match frame.register {
         Some(register) => below(regs.get(register), u64::from(frame.offset)),
-        None => Err(PeUnwinderError::UnwindInfoParseError),
+        None => Err(PeUnwinderError::MissingStackData(None)),
     }
 }
 
 // What offsets of saved registers are counted from.
 fn save_base(frame: &FrameBase, regs: &UnwindRegsX86_64) -> Result<u64, PeUnwinderError>
-    ensures { result ≡ save_base frame.now regs.now }
+    ensures base { result ≡ save_base frame.now regs.now }
+    ensures refusal { IfErr result IsOfStack }
 {
     if frame.is_set {
         by_frame(frame, regs)
@@ -79,7 +86,8 @@ fn save_base(frame: &FrameBase, regs: &UnwindRegsX86_64) -> Result<u64, PeUnwind
 
 // The stack pointer goes up.
 pub(crate) fn raise(regs: &mut UnwindRegsX86_64, bytes: u64) -> Result<(), PeUnwinderError>
-    ensures { registers_seen result regs.new ≡ raised regs.old bytes }
+    ensures raised { registers_seen result regs.new ≡ raised regs.old bytes }
+    ensures refusal { IfErr result IsOfStack }
 {
     let sp = above(regs.sp(), bytes)?;
     regs.set_sp(sp);
@@ -88,7 +96,7 @@ pub(crate) fn raise(regs: &mut UnwindRegsX86_64, bytes: u64) -> Result<(), PeUnw
 
 // A register takes the word at the stack pointer, which then goes up by 8.
 pub(crate) fn pop<F: FnMut(u64) -> Result<u64, ()>>(
-    refusal: PeUnwinderError,
+    told: Option<u64>,
     register: Reg,
     regs: &mut UnwindRegsX86_64,
     read_stack: &mut F,
@@ -96,10 +104,12 @@ pub(crate) fn pop<F: FnMut(u64) -> Result<u64, ()>>(
     requires { F.IsAlwaysCallable read_stack.old }
     ensures callable { F.IsAlwaysCallable read_stack.new }
     ensures popped { OverWords F.step read_stack.old read_stack.new (λ words.
-        registers_seen result regs.new ≡ popped refusal register regs.old words) }
+        registers_seen result regs.new
+        ≡ popped (MissingStackData told) register regs.old words) }
+    ensures refusal { IfErr result IsOfStack }
 {
     let sp = regs.sp();
-    let value = read_word(read_stack, sp, refusal)?;
+    let value = read_word(read_stack, sp, told)?;
     let next = above(sp, 8)?;
     regs.set(register, value);
     regs.set_sp(next);
@@ -119,10 +129,11 @@ fn restore<F: FnMut(u64) -> Result<u64, ()>>(
     ensures restored { OverWords F.step read_stack.old read_stack.new (λ words.
         registers_seen result regs.new
         ≡ restored frame.now register offset regs.old words) }
+    ensures refusal { IfErr result IsOfStack }
 {
     let base = save_base(frame, regs)?;
     let at = above(base, u64::from(offset))?;
-    let value = read_word(read_stack, at, PeUnwinderError::MissingStackData(None))?;
+    let value = read_word(read_stack, at, None)?;
     regs.set(register, value);
     Ok(())
 }
@@ -144,18 +155,20 @@ fn interrupt<F: FnMut(u64) -> Result<u64, ()>>(
     ensures callable { F.IsAlwaysCallable read_stack.new }
     ensures interrupted { OverWords F.step read_stack.old read_stack.new (λ words.
         caller_seen result regs.new ≡ interrupted has_error_code regs.old words) }
+    ensures refusal { IfErr result IsOfStack }
 {
     let at = above(regs.sp(), error_code_size(has_error_code))?;
-    let to = read_word(read_stack, at, PeUnwinderError::MissingStackData(None))?;
+    let to = read_word(read_stack, at, None)?;
     let sp_at = above(at, 24)?;
-    let sp = read_word(read_stack, sp_at, PeUnwinderError::MissingStackData(None))?;
+    let sp = read_word(read_stack, sp_at, None)?;
     regs.set_sp(sp);
     Ok(to)
 }
 
 // Sets the stack pointer back by the frame register.
 fn set_frame(frame: &FrameBase, regs: &mut UnwindRegsX86_64) -> Result<(), PeUnwinderError>
-    ensures { registers_seen result regs.new ≡ framed frame.now regs.old }
+    ensures framed { registers_seen result regs.new ≡ framed frame.now regs.old }
+    ensures refusal { IfErr result IsOfStack }
 {
     let sp = by_frame(frame, regs)?;
     regs.set_sp(sp);
@@ -171,9 +184,10 @@ pub(crate) fn return_to_caller<F: FnMut(u64) -> Result<u64, ()>>(
     ensures callable { F.IsAlwaysCallable read_stack.new }
     ensures returned { OverWords F.step read_stack.old read_stack.new (λ words.
         caller_seen result regs.new ≡ returned regs.old words) }
+    ensures refusal { IfErr result IsOfStack }
 {
     let sp = regs.sp();
-    let to = read_word(read_stack, sp, PeUnwinderError::MissingStackData(Some(sp)))?;
+    let to = read_word(read_stack, sp, Some(sp))?;
     let next = above(sp, 8)?;
     regs.set_sp(next);
     Ok(to)
@@ -190,15 +204,11 @@ pub(crate) fn undo<F: FnMut(u64) -> Result<u64, ()>>(
     ensures callable { F.IsAlwaysCallable read_stack.new }
     ensures undone { OverWords F.step read_stack.old read_stack.new (λ words.
         undone_seen result regs.new ≡ undone frame.now operation regs.old words) }
+    ensures refusal { IfErr result IsOfStack }
 {
     match operation {
         UnwindOperation::Push(register) => {
-            pop(
-                PeUnwinderError::MissingStackData(None),
-                register,
-                regs,
-                read_stack,
-            )?;
+            pop(None, register, regs, read_stack)?;
             Ok(None)
         }
         UnwindOperation::Allocate(bytes) => {

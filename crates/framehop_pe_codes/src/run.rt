@@ -1,12 +1,12 @@
 //! Passes over the codes that are left: one that reads them all, and one that undoes them.
 
-ghost use Rattle.std.specs.Prelude.{◌≡◌, Ok};
+ghost use Rattle.std.specs.Prelude.{◌≡◌, IfErr, Ok};
 ghost use Rattle.framehop_registers.specs.Callback.{OverWords};
 ghost use Rattle.framehop_pe_codes.specs.CodesToUndo.{sets_frame};
 ghost use Rattle.framehop_pe_codes.specs.InfoViews.{operations_left, OverOperations};
 ghost use Rattle.framehop_pe_codes.specs.Machine.{caller_by_codes};
 ghost use Rattle.framehop_pe_codes.specs.MachineViews.{caller_seen};
-ghost use Rattle.framehop_pe_codes.specs.Refusals.{result_and_then};
+ghost use Rattle.framehop_pe_codes.specs.Refusals.{IsOfStack, result_and_then};
 
 use crate::chain::CodesLeft;
 use crate::machine::{FrameBase, return_to_caller, undo};
@@ -40,6 +40,7 @@ pub(crate) fn undo_codes<F: FnMut(u64) -> Result<u64, ()>>(
     ensures run { OverWords F.step read_stack.old read_stack.new (λ words.
         OverOperations left.entry (λ operations.
         caller_seen result regs.new ≡ caller_by_codes frame.now operations regs.old words)) }
+    ensures refusal { OverOperations left.entry (λ operations. IfErr result IsOfStack) }
 {
     let mut rest = left;
     'codes: while let Some(operation) = rest.next()? {

@@ -1,7 +1,7 @@
 //! The sections of a PE file that unwinding reads.
 
 ghost use Rattle.std.specs.Prelude.{◌≡◌, Ok, Err, IfOk, IfErr, IfSome, None};
-ghost use Rattle.framehop_pe_codes.specs.Sections.{bytes_from, section_bytes, unwind_info_memory, text_memory};
+ghost use Rattle.framehop_pe_codes.specs.Sections.{bytes_from, file_of, section_bytes, section_lent, section_of, text_memory, unwind_info_memory};
 
 use framehop_errors::PeUnwinderError;
 use std::ops::Range;
@@ -34,8 +34,8 @@ pub struct PeSections<'a> {
 impl<'a> DataAtRvaRange<'a> {
     // The bytes from an address on.
     fn bytes_from(&self, address: u32) -> Option<&'a [u8]>
-        ensures some { IfSome result (λ bytes. bytes_from self.now address ≡ Some bytes.now) }
-        ensures none { result ≡ None → bytes_from self.now address ≡ None }
+        ensures some { IfSome result (λ bytes. bytes_from (section_of self.now) address ≡ Some bytes.now) }
+        ensures none { result ≡ None → bytes_from (section_of self.now) address ≡ None }
     {
         if address < self.rva_range.start || self.rva_range.end <= address {
             return None;
@@ -50,8 +50,8 @@ impl<'a> DataAtRvaRange<'a> {
 
 // The bytes of a section from an address on, if there is a section.
 fn bytes_of<'a>(section: Option<&'a DataAtRvaRange<'a>>, address: u32) -> Option<&'a [u8]>
-    ensures some { IfSome result (λ bytes. section_bytes section.entry address ≡ Some bytes.now) }
-    ensures none { result ≡ None → section_bytes section.entry address ≡ None }
+    ensures some { IfSome result (λ bytes. section_bytes (section_lent section.entry) address ≡ Some bytes.now) }
+    ensures none { result ≡ None → section_bytes (section_lent section.entry) address ≡ None }
 {
     match section {
         Some(section) => section.bytes_from(address),
@@ -62,9 +62,10 @@ fn bytes_of<'a>(section: Option<&'a DataAtRvaRange<'a>>, address: u32) -> Option
 impl<'a> PeSections<'a> {
     /// The bytes of unwind info from an address on: those of `.rdata` if the address is in its range and not past its
     /// data, or else those of `.xdata`. Fails with `MissingUnwindInfoData`.
+    #[tactic(auto, unfolding(crate::specs::Sections::file_of))]
     pub fn unwind_info_memory_at_rva(&self, rva: u32) -> Result<&'a [u8], PeUnwinderError>
-        ensures ok { IfOk result (λ bytes. unwind_info_memory self.now rva ≡ Ok bytes.now) }
-        ensures err { IfErr result (λ e. unwind_info_memory self.now rva ≡ Err e) }
+        ensures ok { IfOk result (λ bytes. unwind_info_memory (file_of self.now) rva ≡ Ok bytes.now) }
+        ensures err { IfErr result (λ e. unwind_info_memory (file_of self.now) rva ≡ Err e) }
     {
         if let Some(bytes) = bytes_of(self.rdata, rva) {
             return Ok(bytes);
@@ -77,9 +78,10 @@ impl<'a> PeSections<'a> {
 
     /// The code from an address on. Fails with `MissingInstructionData` if the address is outside of the range of `.text`
     /// or past its data.
+    #[tactic(auto, unfolding(crate::specs::Sections::file_of))]
     pub fn text_memory_at_rva(&self, rva: u32) -> Result<&'a [u8], PeUnwinderError>
-        ensures ok { IfOk result (λ bytes. text_memory self.now rva ≡ Ok bytes.now) }
-        ensures err { IfErr result (λ e. text_memory self.now rva ≡ Err e) }
+        ensures ok { IfOk result (λ bytes. text_memory (file_of self.now) rva ≡ Ok bytes.now) }
+        ensures err { IfErr result (λ e. text_memory (file_of self.now) rva ≡ Err e) }
     {
         match bytes_of(self.text, rva) {
             Some(bytes) => Ok(bytes),

@@ -8,11 +8,10 @@ use framehop_rules::aarch64::{ArchAarch64, UnwindRegsAarch64, UnwindRuleAarch64}
 
 /// Every step fails with `Aarch64Unsupported`.
 impl PeUnwinding for ArchAarch64 {
-    ghost use Rattle.std.specs.Prelude.{◌≡◌, Err};
     ghost use Rattle.framehop_errors.specs.declared.pe.PeUnwinderError.TheVariants.{Aarch64Unsupported};
+    ghost use Rattle.framehop_pe.specs.PeAttempts.{Refuses};
 
-    ghost step = { λ sections address is_first words result old new.
-        (result ≡ Err Aarch64Unsupported) × (new ≡ old) };
+    ghost pe_attempt = { λ file address is_first. Refuses Aarch64Unsupported };
 
     fn unwind_frame<F: FnMut(u64) -> Result<u64, ()>>(
         _sections: PeSections<'_>,

@@ -1,14 +1,15 @@
 //! The step by the unwind data of a PE file, on x86_64.
 
 ghost use Rattle.std.specs.Prelude.{◌≡◌, ◌<◌, ◌≤◌, Ok, Err, IfOk, IfErr, IsTrue, IsSome};
-ghost use Rattle.framehop_registers.specs.Callback.{OverWords};
 ghost use Rattle.framehop_rules.specs.RuleMeaning.{IsValid};
 ghost use Rattle.framehop_rules.specs.UnwindResults.{HasValidRule, KeepsUnlessDirect};
 ghost use Rattle.framehop_pe_codes.specs.Epilogs.{pops_of};
+ghost use Rattle.framehop_pe_codes.specs.Sections.{file_of};
 ghost use Rattle.framehop_pe.specs.PartViews.{IsEpilogRead, IsFoundRead, IsRead};
 ghost use Rattle.framehop_pe.specs.Rows.{IsIncreasing};
 ghost use Rattle.framehop_pe.specs.ToUndo.{ToUndo, code_to_end, epilog_at, to_undo_in, to_undo_at};
-ghost use Rattle.framehop_pe.specs.UndoneViews.{AreCodesUndone, IsEpilogUndone, IsReadUndone};
+ghost use Rattle.framehop_pe.specs.UndoneViews.{Undoes};
+ghost use Rattle.framehop_pe.specs.declared.x86_64.pe.Undoing.TheVariants as undoing;
 
 use crate::pdata::{RuntimeFunction, function_of};
 use crate::pe::PeUnwinding;
@@ -40,8 +41,8 @@ fn code_to_end<'a>(
     end: u32,
 ) -> Result<&'a [u8], PeUnwinderError>
     requires { address ≤ end }
-    ensures ok { IfOk result (λ bytes. code_to_end sections.entry address end ≡ Ok bytes.now) }
-    ensures err { IfErr result (λ e. code_to_end sections.entry address end ≡ Err e) }
+    ensures ok { IfOk result (λ bytes. code_to_end (file_of sections.entry) address end ≡ Ok bytes.now) }
+    ensures err { IfErr result (λ e. code_to_end (file_of sections.entry) address end ≡ Err e) }
 {
     let bytes = sections.text_memory_at_rva(address)?;
     let size = (end - address) as usize;
@@ -61,9 +62,9 @@ fn epilog_at<'a>(
 ) -> Result<Option<Epilog<'a>>, PeUnwinderError>
     requires { address ≤ end }
     ensures ok { IfOk result (λ epilog.
-        IsEpilogRead epilog (epilog_at sections.entry frame_register address end is_first_frame)) }
+        IsEpilogRead epilog (epilog_at (file_of sections.entry) frame_register address end is_first_frame)) }
     ensures err { IfErr result (λ e.
-        epilog_at sections.entry frame_register address end is_first_frame ≡ Err e) }
+        epilog_at (file_of sections.entry) frame_register address end is_first_frame ≡ Err e) }
 {
     if !is_first_frame {
         return Ok(None);
@@ -82,9 +83,9 @@ fn to_undo_in<'a>(
     requires begin { function.begin_address ≤ address }
     requires end { address < function.end_address }
     ensures ok { IfOk result (IsFoundRead
-        (to_undo_in sections.entry function address is_first_frame)) }
+        (to_undo_in (file_of sections.entry) function address is_first_frame)) }
     ensures err { IfErr result (λ e.
-        to_undo_in sections.entry function address is_first_frame ≡ Err e) }
+        to_undo_in (file_of sections.entry) function address is_first_frame ≡ Err e) }
 {
     let info = first_info(sections, function.unwind_info_address)?;
     let end = function.end_address;
@@ -108,8 +109,8 @@ fn undo_epilog<F: FnMut(u64) -> Result<u64, ()>>(
     requires callable { F.IsAlwaysCallable read_stack.old }
     requires pops { IsSome (pops_of epilog.rest.now) }
     ensures callable { F.IsAlwaysCallable read_stack.new }
-    ensures undone { OverWords F.step read_stack.old read_stack.new
-        (IsEpilogUndone frame_register epilog.entry result regs.old regs.new) }
+    ensures undone { Undoes F.step read_stack.old read_stack.new regs.old regs.new result
+        (undoing.Epilog frame_register epilog.entry) }
     ensures valid { HasValidRule IsValid result }
     ensures keeps { KeepsUnlessDirect result regs.old regs.new }
 {
@@ -128,8 +129,8 @@ fn undo_codes<F: FnMut(u64) -> Result<u64, ()>>(
 ) -> Result<UnwindResult<UnwindRuleX86_64>, PeUnwinderError>
     requires { F.IsAlwaysCallable read_stack.old }
     ensures callable { F.IsAlwaysCallable read_stack.new }
-    ensures undone { OverWords F.step read_stack.old read_stack.new
-        (AreCodesUndone codes.entry result regs.old regs.new) }
+    ensures undone { Undoes F.step read_stack.old read_stack.new regs.old regs.new result
+        (undoing.Codes codes.entry) }
     ensures valid { HasValidRule IsValid result }
     ensures keeps { KeepsUnlessDirect result regs.old regs.new }
 {
@@ -149,8 +150,8 @@ fn undo<F: FnMut(u64) -> Result<u64, ()>>(
     requires callable { F.IsAlwaysCallable read_stack.old }
     requires read { (undo : ToUndo) × IsRead undoing undo }
     ensures callable { F.IsAlwaysCallable read_stack.new }
-    ensures undone { OverWords F.step read_stack.old read_stack.new
-        (IsReadUndone undoing.entry result regs.old regs.new) }
+    ensures undone { Undoes F.step read_stack.old read_stack.new regs.old regs.new result
+        undoing.entry }
     ensures valid { HasValidRule IsValid result }
     ensures keeps { KeepsUnlessDirect result regs.old regs.new }
 {
@@ -164,14 +165,17 @@ fn undo<F: FnMut(u64) -> Result<u64, ()>>(
 }
 
 // What is undone at an address.
+#[tactic(auto, unfolding(framehop_pe_codes::specs::Sections::file_of))]
 fn to_undo_at<'a>(
     sections: PeSections<'a>,
     address: u32,
     is_first_frame: bool,
 ) -> Result<Undoing<'a>, PeUnwinderError>
     requires { IsTrue sections.increasing → IsIncreasing sections.pdata.now }
-    ensures ok { IfOk result (IsFoundRead (to_undo_at sections.entry address is_first_frame)) }
-    ensures err { IfErr result (λ e. to_undo_at sections.entry address is_first_frame ≡ Err e) }
+    ensures ok { IfOk result (IsFoundRead
+        (to_undo_at (file_of sections.entry) address is_first_frame)) }
+    ensures err { IfErr result (λ e.
+        to_undo_at (file_of sections.entry) address is_first_frame ≡ Err e) }
 {
     match function_of(&sections, address) {
         Some(function) => to_undo_in(sections, function, address, is_first_frame),
@@ -180,9 +184,9 @@ fn to_undo_at<'a>(
 }
 
 impl PeUnwinding for ArchX86_64 {
-    ghost use Rattle.framehop_pe.specs.PeSteps.{IsPeStep};
+    ghost use Rattle.framehop_pe.specs.PeSteps.{attempt_x86_64};
 
-    ghost step = { IsPeStep };
+    ghost pe_attempt = { attempt_x86_64 };
 
     fn unwind_frame<F: FnMut(u64) -> Result<u64, ()>>(
         sections: PeSections<'_>,

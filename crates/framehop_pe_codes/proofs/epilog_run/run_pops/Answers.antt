@@ -39,7 +39,7 @@ returns-in_err-pop-clause-run g c =
     let cons = pops-cons c.pops.rest.now c.in-Some.register c.in-Some.size c.in-Some.ensures.more c.in-Some.ensures.next in
     let split = splits c.in-Some.register (pops_of (drop c.in-Some.size c.pops.rest.now)) all (sym cons ∙ left) in
     let from = err_from_is_err_and c.from_residual.result c.from_residual.ensures.1 in
-    rw (from.1, from.2) (pop-run c.in-Some.register split.more all c.pops.regs words c.sp.result (Err c.in_err-pop.field-0.0) c.pop.new.regs split.all_is c.sp.ensures came ∙ same))
+    rw (from.1, from.2) (pop-run c.in-Some.register split.more all c.pops.regs words c.sp-sp.result (Err c.in_err-pop.field-0.0) c.pop.new.regs split.all_is c.sp-sp.ensures came ∙ same))
 
 pub pops-preserved : goal.pops-preserved
 pops-preserved g c =
@@ -50,7 +50,7 @@ pops-preserved g c =
       run = over_both c.pops.invariant.run c.in_ok-pop.ensures.popped (λ words so_far came registers is.
           let (all, left, same) = so_far registers is in
           let split = splits c.in-Some.register (pops_of (drop c.in-Some.size c.pops.rest.now)) all (sym cons ∙ left) in
-          (split.more, split.left_is, pop-run c.in-Some.register split.more all c.pops.regs words c.sp.result (Ok tt) c.pop.new.regs split.all_is c.sp.ensures came ∙ same));
+          (split.more, split.left_is, pop-run c.in-Some.register split.more all c.pops.regs words c.sp-sp.result (Ok tt) c.pop.new.regs split.all_is c.sp-sp.ensures came ∙ same));
     })
 
 end-run : (bytes : List ℕ) (all : List Reg) (registers : UnwindRegsX86_64) (words : Words) → pops_of bytes ≡ Some [] → pops_of bytes ≡ Some all → returned registers words ≡ caller_by_pops all registers words

@@ -3,6 +3,7 @@ use Rattle.std.specs.Prelude.{Option, Some, None, Ok, Err}
 use Rattle.framehop_registers.specs.Callback.{read_answer}
 use Rattle.framehop_registers.proofs.Laws.{over_read}
 use Rattle.framehop_errors.specs.declared.pe.PeUnwinderError.{PeUnwinderError}
+use Rattle.framehop_errors.specs.declared.pe.PeUnwinderError.TheVariants.{MissingStackData}
 use Rattle.framehop_pe_codes.specs.Refusals.{PeResult, or_refusal}
 use Rattle.framehop_pe_codes.proofs.machine.read_word.Goals as goal
 
@@ -19,9 +20,9 @@ refused refusal None is = grind arith
 pub returns-in-Ok-clause-word : goal.returns-in-Ok-clause-word
 returns-in-Ok-clause-word g c =
     over_read c.args.at (Ok c.in-Ok.word) c.ranges.at.fits (search of_calls)
-    (λ words is. given c.args.refusal (words c.args.at) c.in-Ok.word is)
+    (λ words is. given (MissingStackData c.args.told) (words c.args.at) c.in-Ok.word is)
 
 pub returns-in-Err-clause-word : goal.returns-in-Err-clause-word
 returns-in-Err-clause-word g c =
     over_read c.args.at (Err tt) c.ranges.at.fits (search of_calls)
-    (λ words is. refused c.args.refusal (words c.args.at) is)
+    (λ words is. refused (MissingStackData c.args.told) (words c.args.at) is)

@@ -4,7 +4,7 @@ use Rattle.std.proofs.lemmas.Result.{err_from_is_err_and}
 use Rattle.framehop_registers.proofs.Laws.{over_weaker, over_both}
 use Rattle.framehop_pe_codes.specs.InfoViews.{operations_left}
 use Rattle.framehop_pe_codes.specs.MachineViews.{undone_seen}
-use Rattle.framehop_pe_codes.proofs.Runs.{next-splits, next-end, run-from, run-empty}
+use Rattle.framehop_pe_codes.proofs.Runs.{next-splits, next-end, reads-on, refused-no, run-from, run-empty}
 use Rattle.framehop_pe_codes.proofs.run.undo_codes.Goals as goal
 
 pub returns-in_err-operation-clause-run : goal.returns-in_err-operation-clause-run
@@ -13,6 +13,11 @@ returns-in_err-operation-clause-run g c =
     let (more, left, same) = so_far operations is in
     let refused = c.in_err-operation.ensures.err in
     absurd (cc (left, refused)))
+
+-- all codes can be read, as was tested before
+pub returns-in_err-operation-clause-refusal : goal.returns-in_err-operation-clause-refusal
+returns-in_err-operation-clause-refusal g c = λ operations is.
+    absurd (refused-no (operations_left c.codes.rest) _ (c.codes.invariant.read operations is) c.in_err-operation.ensures.err)
 
 pub returns-in_err-to-clause-run : goal.returns-in_err-to-clause-run
 returns-in_err-to-clause-run g c =
@@ -33,6 +38,7 @@ returns-in-Some-2-clause-run g c =
 pub codes-preserved : goal.codes-preserved
 codes-preserved g c = record {
   callable = c.in_ok-to.ensures.callable;
+  read = λ operations is. reads-on c.in_ok-operation.field-0 c.in-Some.operation (operations_left c.codes.rest) (operations_left c.next.new.self) c.in_ok-operation.ensures.ok c.in-Some.is (c.codes.invariant.read operations is);
   run = over_both c.codes.invariant.run c.in_ok-to.ensures.undone (λ words so_far came operations is.
       let (all, left, same) = so_far operations is in
       let split = next-splits c.in_ok-operation.field-0 c.in-Some.operation (operations_left c.codes.rest) (operations_left c.next.new.self) all c.in_ok-operation.ensures.ok c.in-Some.is left in

@@ -1,7 +1,7 @@
 use Rattle.std.proofs.Common.{◌≡◌}
-use Rattle.std.specs.Prelude.{Ok, List}
+use Rattle.std.specs.Prelude.{IsOk, Ok, List}
 use Rattle.framehop_registers.specs.Callback.{OverWords}
-use Rattle.framehop_pe_codes.specs.InfoViews.{bytes_left, operations_left}
+use Rattle.framehop_pe_codes.specs.InfoViews.{OverOperations, bytes_left, operations_left}
 use Rattle.framehop_pe_codes.specs.Machine.{caller_by_codes}
 use Rattle.framehop_pe_codes.specs.declared.operation.UnwindOperation.{UnwindOperation}
 use Rattle.framehop_pe_codes.proofs.run.undo_codes.Given as goal
@@ -10,6 +10,7 @@ use Rattle.framehop_pe_codes.proofs.run.undo_codes.Given as goal
 abbrev pub invariant-codes : goal.invariant-codes
 invariant-codes g l = record {
   callable : goal.F-IsAlwaysCallable g l.read_stack;
+  read : OverOperations l.fn.left (λ operations. IsOk (operations_left l.rest));
   run : OverWords (goal.F-step g) l.fn.read_stack l.read_stack (λ words.
       (operations : List UnwindOperation) → operations_left l.fn.left ≡ Ok operations
       → (more : List UnwindOperation) × (operations_left l.rest ≡ Ok more)
