@@ -1,5 +1,5 @@
 -- How an address is covered, by what an index and an entry gave.
-use Rattle.std.proofs.Common.{◌≡◌, ℕ, false, Option, None, Ok, refl, sym, ap, ◌∙◌}
+use Rattle.std.proofs.Common.{◌≡◌, ℕ, Bool, false, Option, None, Ok, refl, sym, ap, ◌∙◌}
 use Rattle.std.specs.Prelude.{option_map}
 use Rattle.dwarf_constants.specs.declared.common.Vendor.{Vendor}
 use Rattle.dwarf_frame_rows.specs.Effects.{Limits}
@@ -13,8 +13,8 @@ use Rattle.framehop.specs.EntryFor.{has_index, indexed_entry}
 use Rattle.framehop.specs.FrameSections.{section_of_type}
 use Rattle.framehop.specs.Lookups.{Lookup, method_by}
 use Rattle.framehop.specs.Methods.{UsesNothing, method_at}
-use Rattle.framehop.specs.UnwindData.{ModuleFormat, CallFrames, NoFormat, method_by_format}
-use Rattle.framehop.specs.UnwindDataViews.{IsUnused}
+use Rattle.framehop.specs.UnwindData.{ModuleFormat, CallFrames, NoFormat, Pe, PeMethods, method_by_format}
+use Rattle.framehop.specs.UnwindDataViews.{IsNotPe, IsUnused}
 
 module _ (limits : Limits) (section : FrameSection) (vendor : Vendor) (address : ℕ) (fde : Fde) where
   -- the entry has a row
@@ -26,11 +26,12 @@ none-indexed : (base relative : ℕ) (section : FrameSection) → has_index base
 unfolding indexed_entry
 none-indexed base relative section none = rw none refl
 
--- a module whose sections aren't used says nothing
-pub unused-says_nothing : {Rule Registers : Type 0} (bases : BaseAddresses) (base relative : ℕ) (format : ModuleFormat) → IsUnused bases base format
-    → method_by_format {Rule = Rule} {Registers = Registers} bases base relative format ≡ UsesNothing
-unused-says_nothing bases base relative NoFormat is = refl
-unused-says_nothing bases base relative (CallFrames type lookup) is =
+-- a module that is unwound neither by call frames nor as a PE file says nothing
+pub unused-says_nothing : {Rule Registers : Type 0} (pe : PeMethods Rule Registers) (bases : BaseAddresses) (base relative : ℕ) (first : Bool) (format : ModuleFormat) → IsNotPe format
+    → IsUnused bases base format → method_by_format pe bases base relative first format ≡ UsesNothing
+unused-says_nothing pe bases base relative first NoFormat other is = refl
+unused-says_nothing pe bases base relative first (Pe file) other is = absurd other
+unused-says_nothing pe bases base relative first (CallFrames type lookup) other is =
     let section : FrameSection = section_of_type bases type in
     ap (λ (l : Lookup). method_by l bases section base relative) is.by_index
     ∙ ap (λ (o : Option Fde). method_at section (option_map (λ (f : Fde). f.head.offset) o)) (none-indexed base relative section is.none)

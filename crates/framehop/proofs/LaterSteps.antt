@@ -15,7 +15,7 @@ use Rattle.framehop.specs.Coverage.{Coverage, Covered, Uncovered, NoFde, NoAddre
 use Rattle.framehop.specs.Lookups.{Lookup, ByIndex, ByHeader, ByScan, method_by, offset_by_header, offset_by_index, parsed_header}
 use Rattle.framehop.specs.FrameSections.{section_of_type}
 use Rattle.framehop.specs.Methods.{method_at}
-use Rattle.framehop.specs.UnwindData.{UnwindData, ModuleFormat, CallFrames, NoFormat, method_by_format}
+use Rattle.framehop.specs.UnwindData.{UnwindData, ModuleFormat, CallFrames, NoFormat, Pe, method_by_format}
 use Rattle.framehop_registers.specs.Callback.{Words}
 use Rattle.framehop_registers.specs.RegistersAarch64.{lr_of, sp_of, fp_of}
 use Rattle.framehop_registers.specs.declared.aarch64.unwindregs.UnwindRegsAarch64.{UnwindRegsAarch64}
@@ -39,7 +39,7 @@ use Rattle.framehop_unwinder.specs.Frames.{later_frame}
 use Rattle.framehop_unwinder.specs.Judge.{by_attempt, or_else, judge}
 use Rattle.framehop_unwinder.specs.Modules.{Loaded, module_found}
 use Rattle.framehop.specs.WalkLengths.{IsRaised}
-use Rattle.framehop.specs.StepMeanings.{meanings_aarch64}
+use Rattle.framehop.specs.StepMeanings.{formats_aarch64, meanings_aarch64}
 use Rattle.framehop.proofs.WalkValues.{expression-fits}
 
 -- ---- direct rows
@@ -135,8 +135,9 @@ module _ (rules : RulesRaise) (limits : StepLimits) (registers : UnwindRegsAarch
 
   -- by a format
   format-raised : (bases : BaseAddresses) (base relative : ℕ) (format : ModuleFormat)
-      → by_attempt (meanings_aarch64 limits) false registers words (attempt_by_method rows limits base relative false (method_by_format bases base relative format)) ≡ Answers caller → IsRaised (sp_of registers) (sp_of caller.registers)
+      → by_attempt (meanings_aarch64 limits) false registers words (attempt_by_method rows limits base relative false (method_by_format formats_aarch64.pe bases base relative false format)) ≡ Answers caller → IsRaised (sp_of registers) (sp_of caller.registers)
   format-raised bases base relative (CallFrames section lookup) is = lookup-raised bases base relative (section_of_type bases section) lookup is
+  format-raised bases base relative (Pe file) is = rules UseFramePointer registers words caller is
   format-raised bases base relative NoFormat is = rules UseFramePointer registers words caller is
 
   -- by the module that was found

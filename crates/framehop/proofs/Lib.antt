@@ -7,6 +7,7 @@ pub mod EntryPlaces
 pub mod Halves
 pub mod LaterSteps
 pub mod MethodAnswers
+pub mod PeTrials
 pub mod RowCfas
 pub mod RowStarts
 pub mod RowTrials

@@ -7,7 +7,7 @@ use Rattle.framehop_unwinder.specs.Attempt.{Attempt, Says, Evaluates, SaysNothin
 use Rattle.framehop_rows.specs.RowMeanings.{RowMeanings}
 use Rattle.framehop.specs.Coverage.{attempt_by, covered_by_fde, covered_by_scan, EvaluatesExpression}
 use Rattle.framehop.specs.Methods.{Method, UsesRule, UsesFde, UsesScan, UsesCodes, UsesNothing}
-use Rattle.framehop.specs.UnwindData.{UnwindData, method_of}
+use Rattle.framehop.specs.UnwindData.{PeMethods, UnwindData, method_of}
 
 -- The limits that a policy sets: of rows and their rules, and of the values of an expression, if these have one.
 pub record StepLimits : Type 0 where
@@ -29,10 +29,25 @@ attempt_by_method m limits base relative first (UsesScan section) =
 attempt_by_method m limits base relative first (UsesCodes caller) = Evaluates caller
 attempt_by_method m limits base relative first UsesNothing = SaysNothing
 
+-- What each format of unwind data means on an architecture: call frames, and the unwind data of PE files.
+pub record FormatMeanings (Rule Registers : Type 0) : Type 0 where
+  pub rows : RowMeanings Rule Registers
+  pub pe : PeMethods Rule Registers
+
+-- an architecture by these two
+abbrev pub format_meanings : {Rule Registers : Type 0} → RowMeanings Rule Registers → PeMethods Rule Registers → FormatMeanings Rule Registers
+format_meanings rows pe = record { rows = rows; pe = pe }
+
 -- the attempt at a relative address by a module's data, in a first or a later frame
+abbrev pub attempt_by_format : {Rule Registers : Type 0} → FormatMeanings Rule Registers → StepLimits → UnwindData → ℕ → Bool
+    → Attempt Rule Registers
+attempt_by_format m limits given relative first =
+    attempt_by_method m.rows limits given.base_svma relative first (method_of m.pe given relative first)
+
+-- the same by call frames alone: by any other format nothing is said
 abbrev pub attempt : {Rule Registers : Type 0} → RowMeanings Rule Registers → StepLimits → UnwindData → ℕ → Bool → Attempt Rule Registers
 attempt m limits given relative first =
-    attempt_by_method m limits given.base_svma relative first (method_of given relative first)
+    attempt_by_format (format_meanings m (λ file relative first. UsesNothing)) limits given relative first
 
 -- the method takes a row that evaluates an expression; `meets` says which rows do
 abbrev pub EvaluatesByMethod : {Rule Registers : Type 0} → (Row ℕ → Type 0) → Limits → Vendor → (base relative : ℕ) → Method Rule Registers
@@ -46,7 +61,7 @@ EvaluatesByMethod meets limits vendor base relative (UsesCodes caller) = ⊥
 EvaluatesByMethod meets limits vendor base relative UsesNothing = ⊥
 
 -- the attempt by a module's data takes such a row
-abbrev pub AsksExpression : {Rule Registers : Type 0} → (Row ℕ → Type 0) → RowMeanings Rule Registers → StepLimits → UnwindData → ℕ → Bool
+abbrev pub AsksExpression : {Rule Registers : Type 0} → (Row ℕ → Type 0) → FormatMeanings Rule Registers → StepLimits → UnwindData → ℕ → Bool
     → Type 0
-AsksExpression {Rule} {Registers} meets m limits given relative first =
-    EvaluatesByMethod {Rule = Rule} {Registers = Registers} meets limits.rows m.vendor given.base_svma relative (method_of given relative first)
+AsksExpression meets m limits given relative first =
+    EvaluatesByMethod meets limits.rows m.rows.vendor given.base_svma relative (method_of m.pe given relative first)

@@ -10,6 +10,7 @@ pub mod Lookups
 pub mod LookupsAlike
 pub mod MethodViews
 pub mod Methods
+pub mod PeMethods
 pub mod RowAttempts
 pub mod RowCfas
 pub mod SameSteps

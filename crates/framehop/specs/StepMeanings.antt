@@ -17,8 +17,11 @@ use Rattle.framehop_unwinder.specs.Modules.{Loaded}
 use Rattle.framehop_unwinder.specs.Walk.{Judgment}
 use Rattle.framehop_rows.specs.RowAttemptAarch64 as aarch64_rows
 use Rattle.framehop_rows.specs.RowAttemptX86_64 as x86_64_rows
-use Rattle.framehop_rows.specs.RowMeanings.{RowMeanings}
-use Rattle.framehop.specs.Attempts.{AsksExpression, StepLimits, attempt, step_limits}
+use Rattle.framehop_errors.specs.declared.pe.PeUnwinderError.TheVariants.{Aarch64Unsupported}
+use Rattle.framehop_pe.specs.PeAttempts.{Refuses}
+use Rattle.framehop_pe.specs.PeSteps.{attempt_x86_64}
+use Rattle.framehop.specs.Attempts.{AsksExpression, FormatMeanings, StepLimits, attempt_by_format, format_meanings, step_limits}
+use Rattle.framehop.specs.PeMethods.{pe_methods}
 use Rattle.framehop.specs.UnwindData.{UnwindData}
 
 -- the limits if steps may allocate: rows have room for the rules of 192 registers, there is room for 4 rows, and for any number of values
@@ -30,26 +33,34 @@ limits_may_allocate = step_limits (limits_of (Some 192) (Some 4)) None
 abbrev pub limits_must_not_allocate : StepLimits
 limits_must_not_allocate = step_limits (limits_of (Some 192) (Some 4)) (Some 64)
 
--- what steps go by: the meanings of rules, the rule that is executed if no module says anything, and what call frames mean
+-- what steps go by: the meanings of rules, the rule that is executed if no module says anything, and what formats mean
 abbrev pub meanings_by : {Rule Registers : Type 0} → (Rule → Bool → Registers → Words → Outcome (Caller Registers)) → Rule
-    → RowMeanings Rule Registers → StepLimits → Meanings UnwindData Rule Registers
-meanings_by meaning fallback rows limits = meanings_of meaning fallback (attempt rows limits)
+    → FormatMeanings Rule Registers → StepLimits → Meanings UnwindData Rule Registers
+meanings_by meaning fallback formats limits = meanings_of meaning fallback (attempt_by_format formats limits)
+
+-- what formats mean on x86_64
+abbrev pub formats_x86_64 : FormatMeanings UnwindRuleX86_64 UnwindRegsX86_64
+formats_x86_64 = format_meanings x86_64_rows.rows (pe_methods attempt_x86_64)
+
+-- what they mean on aarch64, where those of PE files aren't read
+abbrev pub formats_aarch64 : FormatMeanings UnwindRuleAarch64 UnwindRegsAarch64
+formats_aarch64 = format_meanings aarch64_rows.rows (pe_methods (λ file relative first. Refuses Aarch64Unsupported))
 
 -- what steps on x86_64 go by
 abbrev pub meanings_x86_64 : StepLimits → Meanings UnwindData UnwindRuleX86_64 UnwindRegsX86_64
-meanings_x86_64 limits = meanings_by x86_64.rule_meaning x86_64_rule.UseFramePointer x86_64_rows.rows limits
+meanings_x86_64 limits = meanings_by x86_64.rule_meaning x86_64_rule.UseFramePointer formats_x86_64 limits
 
 -- what steps on aarch64 go by
 abbrev pub meanings_aarch64 : StepLimits → Meanings UnwindData UnwindRuleAarch64 UnwindRegsAarch64
-meanings_aarch64 limits = meanings_by aarch64.rule_meaning aarch64_rule.UseFramePointer aarch64_rows.rows limits
+meanings_aarch64 limits = meanings_by aarch64.rule_meaning aarch64_rule.UseFramePointer formats_aarch64 limits
 
 -- which modules' data asks for memory at a relative address on x86_64: that by which a row evaluates an expression
 abbrev pub asks_x86_64 : StepLimits → UnwindData → ℕ → Bool → Type 0
-asks_x86_64 limits = AsksExpression x86_64_rows.MeetsExpression x86_64_rows.rows limits
+asks_x86_64 limits = AsksExpression x86_64_rows.MeetsExpression formats_x86_64 limits
 
 -- the same on aarch64
 abbrev pub asks_aarch64 : StepLimits → UnwindData → ℕ → Bool → Type 0
-asks_aarch64 limits = AsksExpression aarch64_rows.MeetsExpression aarch64_rows.rows limits
+asks_aarch64 limits = AsksExpression aarch64_rows.MeetsExpression formats_aarch64 limits
 
 -- the steps on aarch64, over modules that are unwound by their sections
 abbrev pub steps_aarch64 : StepLimits → List (Loaded UnwindData) → Judgment UnwindRegsAarch64

@@ -1,5 +1,6 @@
 -- The unwind data of a module: its format, and the addresses that its numbers are relative to.
-use Rattle.std.specs.Prelude.{ℕ, List, Bool, Option, Some, None}
+use Rattle.std.specs.Prelude.{ℕ, ◌-◌, ◌^◌, ◌&&◌, nat_le, nat_lt, if◌then◌else◌, List, Bool, Option, Some, None, option_and_then, option_map}
+use Rattle.std.specs.declared.ops.Range.{Range}
 use Rattle.dwarf_frame_rows.specs.declared.base_addresses.BaseAddresses.{BaseAddresses}
 use Rattle.dwarf_frame_rows.specs.FrameSection.{FrameSection}
 use Rattle.framehop_modules.specs.Sections.{Sections}
@@ -7,15 +8,18 @@ use Rattle.framehop_modules.specs.Chosen.{chosen_sections, base_svmas}
 use Rattle.framehop_modules.specs.declared.module_sections.BaseSvmas.{BaseSvmas}
 use Rattle.framehop_modules.specs.declared.module_sections.ModuleSections.{ModuleSections}
 use Rattle.framehop_modules.specs.declared.module_sections.ModuleSections.TheVariants.{CompactUnwindInfoAndEhFrame, PeUnwindInfo, EhFrame, DebugFrame, NoSections}
+use Rattle.framehop_modules.specs.declared.module_sections.SectionData.{SectionData}
+use Rattle.framehop_pe_codes.specs.Sections.{PeFile, PeSection}
 use Rattle.framehop.specs.FrameSections.{section_of_type}
 use Rattle.framehop.specs.Lookups.{Lookup, ByIndex, ByHeader, ByScan, method_by}
 use Rattle.framehop.specs.Methods.{Method, UsesNothing}
 use Rattle.framehop.specs.declared.dwarf.UnwindSectionType.{UnwindSectionType}
 use Rattle.framehop.specs.declared.dwarf.UnwindSectionType.TheVariants as section
 
--- What a module is unwound by: a section of call frames with the lookup of its FDEs, or nothing.
+-- What a module is unwound by: a section of call frames with the lookup of its FDEs, the unwind data of a PE file, or nothing.
 pub data ModuleFormat : Type 0 where
   CallFrames : UnwindSectionType (List ℕ) → Lookup → ModuleFormat
+  Pe : PeFile → ModuleFormat
   NoFormat : ModuleFormat
 
 -- The unwind data of a module: its format, the addresses that pointers in its sections are relative to, and the module's base as the
@@ -38,32 +42,61 @@ abbrev pub lookup_with : Option (List ℕ) → Lookup
 lookup_with (Some header) = ByHeader header
 lookup_with None = ByIndex
 
--- the format of a module with these sections; other kinds aren't read yet
-abbrev pub format_of : ModuleSections (List ℕ) → ModuleFormat
-format_of (CompactUnwindInfoAndEhFrame unwind_info eh_frame stubs stub_helper text) = NoFormat
-format_of (PeUnwindInfo pdata rdata xdata text) = NoFormat
-format_of (EhFrame bytes header) = CallFrames (section.EhFrame bytes) (lookup_with header)
-format_of (DebugFrame bytes) = CallFrames (section.DebugFrame bytes) ByIndex
-format_of NoSections = NoFormat
+-- an address relative to a base, if it isn't below the base and fits 32 bits from there
+abbrev pub relative_address : (base svma : ℕ) → Option ℕ
+relative_address base svma = if nat_le base svma && nat_lt (svma - base) (2 ^ 32) then Some (svma - base) else None
+
+-- a range of such addresses
+abbrev pub relative_range : (base : ℕ) → Range ℕ → Option (Range ℕ)
+relative_range base range =
+    option_and_then (λ start. option_map (λ end. record { start = start; end = end }) (relative_address base range.end)) (relative_address base range.start)
+
+-- a section of a PE file, if it has such a range
+abbrev pub pe_section : (base : ℕ) → SectionData (List ℕ) → Option PeSection
+pe_section base section = option_map (λ range. record { bytes = section.bytes; rva_range = range }) (relative_range base section.svma_range)
+
+-- a PE file, by its sections
+abbrev pub pe_file : (base : ℕ) → List ℕ → (rdata xdata text : Option (SectionData (List ℕ))) → PeFile
+pe_file base pdata rdata xdata text = record {
+  pdata = pdata;
+  rdata = option_and_then (pe_section base) rdata;
+  xdata = option_and_then (pe_section base) xdata;
+  text = option_and_then (pe_section base) text;
+}
+
+-- the format of a module with these sections, by the module's base as the file states it; compact unwind info isn't read yet
+abbrev pub format_of : (base : ℕ) → ModuleSections (List ℕ) → ModuleFormat
+format_of base (CompactUnwindInfoAndEhFrame unwind_info eh_frame stubs stub_helper text) = NoFormat
+format_of base (PeUnwindInfo pdata rdata xdata text) = Pe (pe_file base pdata rdata xdata text)
+format_of base (EhFrame bytes header) = CallFrames (section.EhFrame bytes) (lookup_with header)
+format_of base (DebugFrame bytes) = CallFrames (section.DebugFrame bytes) ByIndex
+format_of base NoSections = NoFormat
 
 -- the format if FDEs are found by reading the section at each step
 abbrev pub scanned : ModuleFormat → ModuleFormat
 scanned (CallFrames section lookup) = CallFrames section ByScan
+scanned (Pe file) = Pe file
 scanned NoFormat = NoFormat
 
 -- the unwind data of a module with these sections
 abbrev pub unwind_data_of : Sections → UnwindData
-unwind_data_of s = record { format = format_of (chosen_sections s); bases = bases_of (base_svmas s); base_svma = s.base_svma }
+unwind_data_of s = record { format = format_of s.base_svma (chosen_sections s); bases = bases_of (base_svmas s); base_svma = s.base_svma }
 
 -- the unwind data of a module whose section of call frames is read at each step
 abbrev pub scanned_data_of : Sections → UnwindData
-scanned_data_of s = record { format = scanned (format_of (chosen_sections s)); bases = bases_of (base_svmas s); base_svma = s.base_svma }
+scanned_data_of s = record { format = scanned (format_of s.base_svma (chosen_sections s)); bases = bases_of (base_svmas s); base_svma = s.base_svma }
+
+-- How the unwind data of a PE file say to unwind a frame at a relative address, a first or a later one.
+abbrev pub PeMethods : Type 0 → Type 0 → Type 0
+PeMethods Rule Registers = PeFile → (relative : ℕ) → Bool → Method Rule Registers
 
 -- how a format says to unwind a frame at a relative address
-abbrev pub method_by_format : {Rule Registers : Type 0} → BaseAddresses → (base relative : ℕ) → ModuleFormat → Method Rule Registers
-method_by_format bases base relative (CallFrames section lookup) = method_by lookup bases (section_of_type bases section) base relative
-method_by_format bases base relative NoFormat = UsesNothing
+abbrev pub method_by_format : {Rule Registers : Type 0} → PeMethods Rule Registers → BaseAddresses → (base relative : ℕ) → Bool → ModuleFormat
+    → Method Rule Registers
+method_by_format pe bases base relative first (CallFrames section lookup) = method_by lookup bases (section_of_type bases section) base relative
+method_by_format pe bases base relative first (Pe file) = pe file relative first
+method_by_format pe bases base relative first NoFormat = UsesNothing
 
 -- how a module's data says to unwind a frame, a first or a later one, at a relative address
-abbrev pub method_of : {Rule Registers : Type 0} → UnwindData → (relative : ℕ) → Bool → Method Rule Registers
-method_of given relative first = method_by_format given.bases given.base_svma relative given.format
+abbrev pub method_of : {Rule Registers : Type 0} → PeMethods Rule Registers → UnwindData → (relative : ℕ) → Bool → Method Rule Registers
+method_of pe given relative first = method_by_format pe given.bases given.base_svma relative first given.format

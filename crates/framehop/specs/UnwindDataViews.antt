@@ -1,8 +1,10 @@
 -- The unwind data of a module as contracts see it.
-use Rattle.std.specs.Prelude.{◌≡◌, ℕ, List, Option, Some, None, Result, IfOk, false}
+use Rattle.std.specs.Prelude.{◌≡◌, ℕ, List, Option, Some, None, option_map, Result, IfOk, IsTrue, false}
 use Rattle.std.specs.Borrow.{Bor}
 use Rattle.dwarf_frame_rows.specs.declared.base_addresses.BaseAddresses.{BaseAddresses}
 use Rattle.dwarf_frame_rows.specs.FrameSection.{FrameSection}
+use Rattle.framehop_pe_codes.specs.Sections.{PeFile, PeSection}
+use Rattle.framehop_pe.specs.Rows.{IsIncreasing}
 use Rattle.framehop.specs.CfiIndex.{IsMadeOf}
 use Rattle.framehop.specs.CfiIndexView.{IsIndexOf}
 use Rattle.framehop.specs.DwarfViews.{frame_section_bytes}
@@ -18,6 +20,8 @@ use Rattle.framehop.specs.declared.unwind_data.Lookup.{Lookup}
 use Rattle.framehop.specs.declared.unwind_data.Lookup.TheVariants as which
 use Rattle.framehop.specs.declared.unwind_data.ModuleFormat.{ModuleFormat}
 use Rattle.framehop.specs.declared.unwind_data.ModuleFormat.TheVariants as format
+use Rattle.framehop.specs.declared.pe.PeModule.{PeModule}
+use Rattle.framehop.specs.declared.pe.SectionAtRva.{SectionAtRva}
 use Rattle.framehop_errors.specs.declared.cfi_index.DwarfCfiIndexError.{DwarfCfiIndexError}
 
 -- the lookup that a module has, by the bytes of its header
@@ -27,10 +31,28 @@ entries_view content (by.Index index) = said.ByIndex
 entries_view content by.Unindexed = said.ByIndex
 entries_view content by.Scan = said.ByScan
 
+-- a section of a PE file, by its bytes
+abbrev pub section_view : {D : Type 0} → (D → List ℕ) → SectionAtRva D → PeSection
+section_view content section = record { bytes = content section.bytes; rva_range = section.rva_range }
+
+-- a PE file, by the bytes of its sections
+abbrev pub file_view : {D : Type 0} → (D → List ℕ) → PeModule D → PeFile
+file_view content file = record {
+  pdata = content file.pdata;
+  rdata = option_map (section_view content) file.rdata;
+  xdata = option_map (section_view content) file.xdata;
+  text = option_map (section_view content) file.text;
+}
+
+-- the rows of a PE file increase, if the module says that they do
+abbrev pub IncreasesAsSaid : {D : Type 0} → (D → List ℕ) → PeModule D → Type 0
+IncreasesAsSaid content file = IsTrue file.increasing → IsIncreasing (content file.pdata)
+
 -- the format of a module, by the bytes of its sections
 abbrev pub format_view : {D : Type 0} → (D → List ℕ) → ModuleFormat D → data_.ModuleFormat
 format_view content (format.CallFrames section entries) =
     data_.CallFrames (frame_section_bytes content section) (entries_view content entries)
+format_view content (format.Pe file) = data_.Pe (file_view content file)
 format_view content format.NoFormat = data_.NoFormat
 
 -- an index is that of the section, with starts relative to this base; and a section that has one doesn't lack it
@@ -40,10 +62,11 @@ AreFoundBy base section (by.Index index) = IsIndexOf index base section
 AreFoundBy base section by.Unindexed = has_index base section ≡ false
 AreFoundBy base section by.Scan = Unit {0}
 
--- and so it is in a module's format
+-- and so it is in a module's format; and rows of a PE file that are said to increase do
 abbrev pub IsIndexedBy : {D : Type 0} → (D → List ℕ) → BaseAddresses → (base : ℕ) → ModuleFormat D → Type 0
 IsIndexedBy content bases base (format.CallFrames section entries) =
     AreFoundBy base (section_of_type bases (frame_section_bytes content section)) entries
+IsIndexedBy content bases base (format.Pe file) = IncreasesAsSaid content file
 IsIndexedBy content bases base format.NoFormat = Unit {0}
 
 -- the lookup that is lent
@@ -83,9 +106,16 @@ MakesEntries index result =
 abbrev pub IsLentBy : data_.UnwindData → UnwindSectionType (Bor (List ℕ)) → Lookup → Type 0
 IsLentBy given section lookup = LeadsInto given.base_svma (section_of_type given.bases (frame_section_bytes (λ b. b.now) section)) lookup
 
--- the module isn't unwound by its sections
+-- the format isn't that of a PE file
+abbrev pub IsNotPe : data_.ModuleFormat → Type 0
+IsNotPe (data_.CallFrames section lookup) = Unit {0}
+IsNotPe (data_.Pe file) = ⊥
+IsNotPe data_.NoFormat = Unit {0}
+
+-- the module isn't unwound by call frames
 abbrev pub IsUnused : BaseAddresses → (base : ℕ) → data_.ModuleFormat → Type 0
 IsUnused bases base (data_.CallFrames section lookup) = IsUnindexed base (section_of_type bases section) lookup
+IsUnused bases base (data_.Pe file) = Unit {0}
 IsUnused bases base data_.NoFormat = Unit {0}
 
 -- the bytes of the header that FDEs are found by

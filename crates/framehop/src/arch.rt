@@ -1,15 +1,18 @@
 //! Architectures, if modules are unwound by their sections.
 
 ghost use Rattle.std.specs.Prelude.{refl};
-ghost use Rattle.framehop.specs.Attempts.{AsksExpression};
+ghost use Rattle.framehop.specs.Attempts.{AsksExpression, format_meanings};
+ghost use Rattle.framehop.specs.PeMethods.{pe_methods};
 ghost use Rattle.framehop.specs.StepMeanings.{meanings_by};
 
 use crate::cache::AllocationPolicy;
 use crate::call_frames::{failure_of, unwind_frame_by_call_frames};
 use crate::context::DwarfUnwindContext;
+use crate::pe::unwind_frame_by_pe;
 use crate::unwind_data::ModuleUnwindData;
 use framehop_errors::UnwinderError;
 use framehop_modules::SectionBytes;
+use framehop_pe::PeUnwinding;
 use framehop_rows::DwarfUnwinding;
 use framehop_rules::aarch64::ArchAarch64;
 use framehop_rules::x86_64::ArchX86_64;
@@ -18,7 +21,7 @@ use framehop_unwinder::{ModuleUnwinding, UnwindFailure};
 use std::marker::PhantomData;
 
 /// An architecture whose modules are unwound by their sections, in each format that is read.
-pub trait Unwinding: DwarfUnwinding {}
+pub trait Unwinding: DwarfUnwinding + PeUnwinding {}
 
 impl Unwinding for ArchX86_64 {}
 
@@ -44,8 +47,8 @@ impl<A: Unwinding, D: SectionBytes + Drop, P: AllocationPolicy> ModuleUnwinding
 
     type UnwindContext = DwarfUnwindContext<P>;
 
-    ghost meanings = { meanings_by A.UnwindRule.meaning A.UnwindRule.fallback A.rows
-        P.limits };
+    ghost meanings = { meanings_by A.UnwindRule.meaning A.UnwindRule.fallback
+        (format_meanings A.rows (pe_methods A.pe_attempt)) P.limits };
 
     ghost meaning_is = { refl };
 
@@ -53,7 +56,8 @@ impl<A: Unwinding, D: SectionBytes + Drop, P: AllocationPolicy> ModuleUnwinding
 
     ghost takes_memory = { P.may_allocate };
 
-    ghost asks_memory = { AsksExpression A.MeetsExpression A.rows P.limits };
+    ghost asks_memory = { AsksExpression A.MeetsExpression
+        (format_meanings A.rows (pe_methods A.pe_attempt)) P.limits };
 
     fn unwind_frame<F: FnMut(u64) -> Result<u64, ()>>(
         unwind_data: &ModuleUnwindData<D>,
@@ -63,6 +67,15 @@ impl<A: Unwinding, D: SectionBytes + Drop, P: AllocationPolicy> ModuleUnwinding
         unwind_context: &mut DwarfUnwindContext<P>,
         read_stack: &mut F,
     ) -> Result<UnwindResult<A::UnwindRule>, UnwindFailure> {
+        if let Some(file) = unwind_data.pe() {
+            return unwind_frame_by_pe::<A, P, D, F>(
+                file,
+                regs,
+                is_first_frame,
+                relative_address,
+                read_stack,
+            );
+        }
         let Some((section, lookup)) = unwind_data.call_frames() else {
             return Err(failure_of(UnwinderError::NoModuleUnwindData));
         };

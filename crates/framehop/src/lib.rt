@@ -16,6 +16,7 @@ mod last_cie;
 pub mod lookup_laws;
 mod lookups;
 mod module;
+mod pe;
 pub mod row_laws;
 pub mod rule_laws;
 mod unwind_data;
@@ -38,6 +39,10 @@ pub use framehop_errors::{
 pub use framehop_modules::{
     ExplicitModuleSectionInfo, Generations, GenerationsExhausted, LoadError, ModuleSectionInfo,
     SectionBytes,
+};
+pub use framehop_pe::{
+    DataAtRvaRange, PeSections, PeUnwinding, RuntimeFunction, pdata_is_increasing, pdata_lookup,
+    pdata_lookup_increasing,
 };
 pub use framehop_rows::{DwarfUnwindRegs, DwarfUnwinding, eval_cfa_rule, eval_register_rule};
 pub use framehop_rules::{

@@ -5,11 +5,12 @@ ghost use Rattle.framehop_modules.specs.ChosenViews.{sections_bytes};
 ghost use Rattle.framehop.specs.DwarfViews.{frame_section_bytes};
 ghost use Rattle.dwarf_frame_rows.specs.declared.base_addresses.BaseAddresses.{BaseAddresses};
 ghost use Rattle.framehop.specs.Lookups.{ByIndex};
-ghost use Rattle.framehop.specs.UnwindData.{CallFrames, bases_of, format_of, scanned, scanned_data_of, unwind_data_of};
-ghost use Rattle.framehop.specs.UnwindDataViews.{IsIndexedBy, IsLentBy, IsUnused, LendsLookup, MakesEntries, entries_view, format_view, lookup_view};
+ghost use Rattle.framehop.specs.UnwindData.{CallFrames, Pe, bases_of, format_of, scanned, scanned_data_of, unwind_data_of};
+ghost use Rattle.framehop.specs.UnwindDataViews.{IncreasesAsSaid, IsIndexedBy, IsLentBy, IsNotPe, IsUnused, LendsLookup, MakesEntries, entries_view, file_view, format_view, lookup_view};
 
 use crate::cfi_index::DwarfCfiIndex;
 use crate::dwarf::UnwindSectionType;
+use crate::pe::PeModule;
 use dwarf_frame_entries::BaseAddresses;
 use framehop_errors::DwarfCfiIndexError;
 use framehop_modules::{BaseSvmas, ModuleSectionInfo, ModuleSections, SectionBytes};
@@ -34,6 +35,8 @@ enum Entries<D> {
 enum ModuleFormat<D> {
     // A section of call frames.
     CallFrames(UnwindSectionType<D>, Entries<D>),
+    // The unwind data of a PE file.
+    Pe(PeModule<D>),
     // Nothing that is read.
     NoFormat,
 }
@@ -70,7 +73,8 @@ impl<D: SectionBytes> Model for ModuleUnwindData<D> {
       base_svma = given.base_svma;
     } };
 
-    // an index is that of the section, and only a section that has none lacks one
+    // an index is that of the section, and only a section that has none lacks one; and rows that are said to
+    // increase do
     ghost invariant = { λ given. IsIndexedBy D.content given.bases given.base_svma given.format };
 }
 
@@ -109,7 +113,7 @@ fn format_with<D: SectionBytes + Drop>(
     base_svma: u64,
 ) -> Result<ModuleFormat<D>, AllocError>
     ensures view { IfOk result (λ format.
-        format_view D.content format ≡ format_of (sections_bytes D.content sections)) }
+        format_view D.content format ≡ format_of base_svma (sections_bytes D.content sections)) }
     ensures indexed { IfOk result (IsIndexedBy D.content bases.now base_svma) }
 {
     match sections {
@@ -133,17 +137,26 @@ fn format_with<D: SectionBytes + Drop>(
             let entries = index_made(index)?;
             Ok(ModuleFormat::CallFrames(UnwindSectionType::DebugFrame(debug_frame), entries))
         }
-        ModuleSections::CompactUnwindInfoAndEhFrame { .. }
-        | ModuleSections::PeUnwindInfo { .. }
-        | ModuleSections::NoSections => Ok(ModuleFormat::NoFormat),
+        ModuleSections::PeUnwindInfo {
+            pdata,
+            rdata,
+            xdata,
+            text,
+        } => Ok(ModuleFormat::Pe(PeModule::new(base_svma, pdata, rdata, xdata, text))),
+        ModuleSections::CompactUnwindInfoAndEhFrame { .. } | ModuleSections::NoSections => {
+            Ok(ModuleFormat::NoFormat)
+        }
     }
 }
 
 // The format of a module with these sections, if its section of call frames is read at each step.
-fn scanned_format<D: SectionBytes + Drop>(sections: ModuleSections<D>) -> ModuleFormat<D>
-    ensures view { format_view D.content result ≡ scanned (format_of (sections_bytes D.content sections)) }
-    ensures indexed { (bases : BaseAddresses) (base_svma : ℕ)
-        → IsIndexedBy D.content bases base_svma result }
+fn scanned_format<D: SectionBytes + Drop>(
+    sections: ModuleSections<D>,
+    base_svma: u64,
+) -> ModuleFormat<D>
+    ensures view { format_view D.content result
+        ≡ scanned (format_of base_svma (sections_bytes D.content sections)) }
+    ensures indexed { (bases : BaseAddresses) (base : ℕ) → IsIndexedBy D.content bases base result }
 {
     match sections {
         ModuleSections::EhFrame { eh_frame, .. } => {
@@ -152,9 +165,15 @@ fn scanned_format<D: SectionBytes + Drop>(sections: ModuleSections<D>) -> Module
         ModuleSections::DebugFrame { debug_frame } => {
             ModuleFormat::CallFrames(UnwindSectionType::DebugFrame(debug_frame), Entries::Scan)
         }
-        ModuleSections::CompactUnwindInfoAndEhFrame { .. }
-        | ModuleSections::PeUnwindInfo { .. }
-        | ModuleSections::NoSections => ModuleFormat::NoFormat,
+        ModuleSections::PeUnwindInfo {
+            pdata,
+            rdata,
+            xdata,
+            text,
+        } => ModuleFormat::Pe(PeModule::new(base_svma, pdata, rdata, xdata, text)),
+        ModuleSections::CompactUnwindInfoAndEhFrame { .. } | ModuleSections::NoSections => {
+            ModuleFormat::NoFormat
+        }
     }
 }
 
@@ -184,7 +203,7 @@ impl<D: SectionBytes + Drop> ModuleUnwindData<D> {
     {
         let bases = base_addresses(&BaseSvmas::of(info));
         let base_svma = info.base_svma();
-        let format = scanned_format(ModuleSections::choose(info));
+        let format = scanned_format(ModuleSections::choose(info), base_svma);
         ModuleUnwindData {
             format,
             bases,
@@ -232,6 +251,18 @@ impl<D: SectionBytes> ModuleUnwindData<D> {
         self.base_svma
     }
 
+    // The PE file that the module is unwound by.
+    pub(crate) fn pe(&self) -> Option<&PeModule<D>>
+        ensures format { IfSome result (λ file. self.now.format ≡ Pe (file_view D.content file.now)) }
+        ensures increasing { IfSome result (λ file. IncreasesAsSaid D.content file.now) }
+        ensures none { IfNone result (IsNotPe self.now.format) }
+    {
+        match &self.format {
+            ModuleFormat::Pe(file) => Some(file),
+            ModuleFormat::CallFrames(..) | ModuleFormat::NoFormat => None,
+        }
+    }
+
     // The section of call frames that the module is unwound by, and how its FDEs are found.
     pub(crate) fn call_frames(&self) -> Option<(UnwindSectionType<&[u8]>, Lookup<'_>)>
         ensures format { IfSome result (λ found. self.now.format
@@ -244,7 +275,7 @@ impl<D: SectionBytes> ModuleUnwindData<D> {
                 let lookup = lookup_by(entries)?;
                 Some((bytes_of(section), lookup))
             }
-            ModuleFormat::NoFormat => None,
+            ModuleFormat::Pe(_) | ModuleFormat::NoFormat => None,
         }
     }
 }

@@ -12,8 +12,7 @@ use Rattle.unwind_run_document.specs.Tasks.{StatedSection}
 
 -- the names of sections that can't be loaded yet
 abbrev pub refused_names : List (List ℕ)
-refused_names =
-    codes "__unwind_info" ∷ codes "__stubs" ∷ codes "__stub_helper" ∷ codes ".pdata" ∷ codes ".rdata" ∷ codes ".xdata" ∷ []
+refused_names = codes "__unwind_info" ∷ codes "__stubs" ∷ codes "__stub_helper" ∷ []
 
 -- a section of this name can't be loaded
 unfoldable pub is_refused : List ℕ → Bool

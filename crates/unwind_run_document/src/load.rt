@@ -24,15 +24,7 @@ use std::collections::BTreeSet;
 fn is_refused(name: &str) -> bool
     ensures { result ≡ is_refused name.now }
 {
-    [
-        "__unwind_info",
-        "__stubs",
-        "__stub_helper",
-        ".pdata",
-        ".rdata",
-        ".xdata",
-    ]
-    .contains(&name)
+    ["__unwind_info", "__stubs", "__stub_helper"].contains(&name)
 }
 
 // The name of a section.

@@ -2,16 +2,19 @@
 
 ghost use Rattle.unwind_run_document.specs.Tasks.{RoadSteps};
 ghost use Rattle.unwind_run_program.specs.RoadsAlike.{CoversStep, WriteAlike};
+ghost use Rattle.framehop.specs.Attempts.{format_meanings};
+ghost use Rattle.framehop.specs.PeMethods.{pe_methods};
 ghost use Rattle.framehop.specs.StepMeanings.{meanings_by};
 
-use framehop::DwarfUnwinding;
+use framehop::Unwinding;
 use framehop::lookup_laws::truthful_lookups_attempt_alike;
 
 /// Under a truthful header, and at an address that an FDE of the section contains, the lines of `roads`
 /// are one line: that of the step by reading the section.
-pub fn truthful_lookups_write_alike<A: DwarfUnwinding>()
+pub fn truthful_lookups_write_alike<A: Unwinding>()
     ensures { (s : RoadSteps) → CoversStep s
-        → WriteAlike (meanings_by A.UnwindRule.meaning A.UnwindRule.fallback A.rows) s }
+        → WriteAlike (meanings_by A.UnwindRule.meaning A.UnwindRule.fallback
+        (format_meanings A.rows (pe_methods A.pe_attempt))) s }
 {
     truthful_lookups_attempt_alike::<A>();
 }

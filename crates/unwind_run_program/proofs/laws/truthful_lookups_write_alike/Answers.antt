@@ -1,7 +1,8 @@
 use Rattle.std.proofs.Common.{◌≡◌, ℕ, ◌+◌, List, [], ◌∷◌, ◌++◌, true, refl, sym, ap, subst, ◌∙◌}
 use Rattle.std.specs.Prelude.{codes}
 use Rattle.dwarf_frame_entries.specs.Entries.{contains}
-use Rattle.framehop.specs.Attempts.{attempt}
+use Rattle.framehop.specs.Attempts.{attempt_by_format, format_meanings}
+use Rattle.framehop.specs.PeMethods.{pe_methods}
 use Rattle.framehop.specs.StepMeanings.{meanings_by}
 use Rattle.framehop.specs.UnwindData.{UnwindData, bases_of}
 use Rattle.framehop_modules.specs.Chosen.{base_svmas}
@@ -19,7 +20,8 @@ use Rattle.unwind_run_program.proofs.laws.truthful_lookups_write_alike.Goals as 
 pub returns : goal.returns
 returns g c r covers limits forms =
     let rows = g.A.DwarfUnwinding.rows in
-    let m = meanings_by g.A.UnwindRule.UnwindRule.meaning g.A.UnwindRule.UnwindRule.fallback rows limits in
+    let formats = format_meanings rows (pe_methods g.A.PeUnwinding.pe_attempt) in
+    let m = meanings_by g.A.UnwindRule.UnwindRule.meaning g.A.UnwindRule.UnwindRule.fallback formats limits in
     let t = r.tables in
     let base = t.base_svma in
     let frame = frame_at r.kind r.address in
@@ -32,11 +34,11 @@ returns g c r covers limits forms =
     let contained : (relative : ℕ) → base + relative ≡ lookup_address frame → contains (base + relative) covers.fde ≡ true =
     λ relative is. subst (λ (x : ℕ). contains x covers.fde ≡ true) (sym is) covers.contained in
     let law = c.truthful_lookups_attempt_alike.ensures in
-    let as_scanned : (relative : ℕ) → base + relative ≡ lookup_address frame → attempt rows limits headed relative frame.is_first ≡ attempt rows limits scanned relative frame.is_first =
+    let as_scanned : (relative : ℕ) → base + relative ≡ lookup_address frame → attempt_by_format formats limits headed relative frame.is_first ≡ attempt_by_format formats limits scanned relative frame.is_first =
     λ relative is. sym ((law limits (headed_in t) other relative covers.fde (record { truthful = covers.truthful; same = refl }) (record { listed = covers.listed; contained = contained relative is })).by_scan frame.is_first) in
-    let as_headed : (relative : ℕ) → base + relative ≡ lookup_address frame → attempt rows limits indexed relative frame.is_first ≡ attempt rows limits headed relative frame.is_first =
+    let as_headed : (relative : ℕ) → base + relative ≡ lookup_address frame → attempt_by_format formats limits indexed relative frame.is_first ≡ attempt_by_format formats limits headed relative frame.is_first =
     λ relative is. (law limits (headed_in t) other relative covers.fde (record { truthful = covers.truthful; same = refl }) (record { listed = covers.listed; contained = contained relative is })).by_index frame.is_first in
-    let same : (one : UnwindData) → ((relative : ℕ) → base + relative ≡ lookup_address frame → attempt rows limits one relative frame.is_first ≡ attempt rows limits scanned relative frame.is_first)
+    let same : (one : UnwindData) → ((relative : ℕ) → base + relative ≡ lookup_address frame → attempt_by_format formats limits one relative frame.is_first ≡ attempt_by_format formats limits scanned relative frame.is_first)
     → road_line m forms r one ≡ road_line m forms r scanned =
     λ one alike. ap (λ (a : Attempt g.row.A-UnwindRule.Denot g.row.A-UnwindRegs.Denot). outcome_line forms.text registers (by_attempt m frame.is_first registers (words_of r.stack) a))
     (alone_alike m base one scanned frame.is_first (lookup_address frame) alike) in
