@@ -1,6 +1,6 @@
 -- The attempt at a step by a row of call frames, on aarch64.
 use Rattle.std.specs.Prelude.{ℕ, Bool, Option}
-use Rattle.dwarf_constants.specs.declared.common.Vendor.TheVariants.{Default}
+use Rattle.dwarf_constants.specs.declared.common.Vendor.TheVariants.{AArch64}
 use Rattle.dwarf_readers.specs.Stretch.{Stretch}
 use Rattle.dwarf_frame_rows.specs.Row.{Row}
 use Rattle.framehop_registers.specs.declared.aarch64.unwindregs.UnwindRegsAarch64.{UnwindRegsAarch64}
@@ -21,7 +21,7 @@ row_attempt first values address_size section row =
 abbrev pub MeetsExpression : Row ℕ → Type 0
 MeetsExpression row = MeetsExpressionPart scaled_rule (parts_of X29 X30 row)
 
--- what call frames mean: code that no row covers has the rule of a first frame without a frame of its own, or of the frame pointer; no
--- vendor's extensions are read
+-- what call frames mean: code that no row covers has the rule of a first frame without a frame of its own, or of the frame pointer; and
+-- instructions of aarch64's own are read (DWARF for the Arm 64-bit Architecture, "Call frame instructions"): code that signs return addresses has them
 abbrev pub rows : RowMeanings UnwindRuleAarch64 UnwindRegsAarch64
-rows = row_meanings row_attempt NoOpIfFirstFrameOtherwiseFp Default
+rows = row_meanings row_attempt NoOpIfFirstFrameOtherwiseFp AArch64

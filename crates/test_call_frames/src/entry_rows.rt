@@ -1,6 +1,7 @@
 //! The rows of the entry of a function that pushes and sets a frame pointer.
 
 use super::listed::fde_at;
+use dwarf_constants::Vendor;
 use dwarf_frame_entries::{BaseAddresses, EhFrame, UnwindContext, UnwindContextStorage};
 use dwarf_frame_rows::StoreOnHeap;
 use dwarf_offsets::EhFrameOffset;
@@ -69,5 +70,44 @@ fn a_context_after_a_refusal(rt: HostRuntime) -> Result<(), Fail> {
     assert!(rt; refused.as_str() == "CfiInstructionInInvalidContext");
     let line = line_at(rt.alloc(), &WORKED, &mut context, 0x1000)?;
     assert!(rt; line.as_str() == "1000..1001 r7,8 16=c-8");
+    Ok(())
+}
+
+// A section for aarch64 whose FDE, for 0x1000 to 0x1010, begins with DW_CFA_AARCH64_negate_ra_state and lowers
+// the stack after its first instruction.
+const SIGNED: [u8; 56] = [
+    0x10, 0, 0, 0, 0, 0, 0, 0, 1, 0, 4, 0x78, 0x1e, 0x0c, 0x1f, 0, 0, 0, 0, 0, 0x1c, 0, 0, 0, 0x18,
+    0, 0, 0, 0, 0x10, 0, 0, 0, 0, 0, 0, 0x10, 0, 0, 0, 0, 0, 0, 0, 0x2d, 0x41, 0x0e, 0x10, 0x9d, 2,
+    0x9e, 1, 0, 0, 0, 0,
+];
+
+// The same, whose FDE negates the sign state twice and does no more.
+const SIGNED_TWICE: [u8; 52] = [
+    0x10, 0, 0, 0, 0, 0, 0, 0, 1, 0, 4, 0x78, 0x1e, 0x0c, 0x1f, 0, 0, 0, 0, 0, 0x18, 0, 0, 0, 0x18,
+    0, 0, 0, 0, 0x10, 0, 0, 0, 0, 0, 0, 0x10, 0, 0, 0, 0, 0, 0, 0, 0x2d, 0x2d, 0, 0, 0, 0, 0, 0,
+];
+
+// A section's row for 0x1004, with the instructions of a vendor. Register 34 is the sign state (DWARF for the
+// Arm 64-bit Architecture, 4.1).
+fn line_of_vendor(
+    alloc: Global,
+    bytes: &[u8],
+    context: &mut UnwindContext<usize, StoreOnHeap>,
+    vendor: Vendor,
+) -> Result<String, Fail> {
+    let mut section = EhFrame::new(bytes, LittleEndian);
+    section.set_vendor(vendor);
+    line_in(alloc, &section, context, 0x1004)
+}
+
+#[test]
+fn sign_states_by_their_parity(rt: HostRuntime) -> Result<(), Fail> {
+    let mut context: UnwindContext<usize, StoreOnHeap> = UnwindContext::new(rt.alloc())?;
+    let once = line_of_vendor(rt.alloc(), &SIGNED, &mut context, Vendor::AArch64)?;
+    assert!(rt; once.as_str() == "1004..1010 r31,16 29=c-16 30=c-8 34=k1");
+    let twice = line_of_vendor(rt.alloc(), &SIGNED_TWICE, &mut context, Vendor::AArch64)?;
+    assert!(rt; twice.as_str() == "1000..1010 r31,0 34=k0");
+    let other = line_of_vendor(rt.alloc(), &SIGNED, &mut context, Vendor::Default)?;
+    assert!(rt; other.as_str() == "UnknownCallFrameInstruction(DwCfa(45))");
     Ok(())
 }

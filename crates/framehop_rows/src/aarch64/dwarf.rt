@@ -341,7 +341,7 @@ impl DwarfUnwinding for ArchAarch64 {
     }
 
     fn vendor() -> Vendor {
-        Vendor::Default
+        Vendor::AArch64
     }
 }
 
