@@ -27,7 +27,7 @@ ended_takes true s (None, rest) le = leaves_ok tt
 ended_takes true s (Some entry, rest) le = leaves_ok le
 ended_takes false s (read, rest) le = leaves_ok le
 
-entries_shrink : (section : FrameSection) → Shrinks size_of (next_length section)
+pub entries_shrink : (section : FrameSection) → Shrinks size_of (next_length section)
 entries_shrink section =
     items_shrink (next_length section) (λ s. leaves_if (length s.bytes == 0) (leaves_ok tt)
     (leaves_then (entry_takes section s) (λ read le. leaves_from {m = 1} (ended_takes section.kind.ends_at_zero s read le) (omega arith))))

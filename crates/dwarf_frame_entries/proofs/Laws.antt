@@ -1,8 +1,9 @@
 -- Laws of the entries of a section. Each is the contract of a function of the crate.
 use Rattle.std.specs.List.{All}
 use Rattle.dwarf_frame_rows.specs.FrameSection.{FrameSection}
-use Rattle.dwarf_frame_entries.specs.EntryLists.{entries_of}
+use Rattle.dwarf_frame_entries.specs.EntryLists.{HasNoMoreThanBytes, entries_of}
 use Rattle.dwarf_frame_entries.specs.SectionFdes.{IsOfSection, StandsAtItsOffset, StandsThere, whole_fdes}
+use Rattle.dwarf_frame_entries.proofs.EntryCounts as counts
 use Rattle.dwarf_frame_entries.proofs.EntryOffsets as offsets
 
 -- each entry of a section is what stands at its offset
@@ -16,3 +17,7 @@ fdes_of_section = offsets.fdes_of_section
 -- each FDE of a section is what stands at its offset
 pub fdes_there : (section : FrameSection) → All (StandsAtItsOffset section) (whole_fdes section)
 fdes_there = offsets.fdes_there
+
+-- a section has no more entries than bytes
+pub entries_within_bytes : (section : FrameSection) → HasNoMoreThanBytes section
+entries_within_bytes = counts.within_bytes

@@ -2,9 +2,12 @@ pub mod AddressLookups
 pub mod Behind
 pub mod CieReaders
 pub mod Each
+pub mod EntryCounts
 pub mod EntryLists
 pub mod EntryOffsets
 pub mod Laws
+pub mod LookupMemory
 pub mod Onward
 pub mod RowLookups
+pub mod SkippingLookups
 pub mod UnwindTables

@@ -11,7 +11,7 @@ use Rattle.dwarf_frame_rows.specs.declared.row.UnwindTableRow.{UnwindTableRow}
 use Rattle.dwarf_frame_rows.specs.FrameSection.{FrameSection}
 use Rattle.dwarf_frame_instructions.specs.ProgramRows.{IsRowFor}
 use Rattle.dwarf_frame_entries.specs.declared.cie.CommonInformationEntry.{CommonInformationEntry}
-use Rattle.dwarf_frame_entries.specs.AddressLookups.{fde_for_address, section_row}
+use Rattle.dwarf_frame_entries.specs.AddressLookups.{fde_for_address, fde_for_address_skipping, section_row}
 use Rattle.dwarf_frame_entries.specs.Entries.{Fde, PartialFde, cie_from_offset, cie_of, fde_from_offset}
 use Rattle.dwarf_frame_entries.specs.EntryViews.{cie_view}
 use Rattle.dwarf_frame_entries.specs.Memory.{MayGive}
@@ -83,6 +83,11 @@ module _ {F S N R E O : Type 0} (step : F → Bor S → Bor BaseAddresses → N 
   -- .. the FDE for this address
   abbrev pub FindsFdeFor : S → BaseAddresses → (address : ℕ) → F → Result Fde Error → Type 0
   FindsFdeFor given bases address get_cie result = FindsFde given bases get_cie result (λ section. fde_for_address section address)
+
+  -- .. the FDE for this address, if FDEs that can't be read are passed over
+  abbrev pub FindsFdeSkipping : S → BaseAddresses → (address : ℕ) → F → Result Fde Error → Type 0
+  FindsFdeSkipping given bases address get_cie result =
+      FindsFde given bases get_cie result (λ section. fde_for_address_skipping section address)
 
   module _ {L : Type 0} (Fixed : Type 0) where
     -- If the function reads a CIE of the section, as it is called once, a lookup returned this row, or this error; or OutOfMemory,

@@ -1,5 +1,5 @@
 -- The list of a section's entries, and how it ends.
-use Rattle.std.specs.Prelude.{◌≡◌, ◌⊎◌, ◌==◌, Bool, true, List, [], ◌∷◌, length, Option, Some, None, Result, Ok, Err, if◌then◌else◌}
+use Rattle.std.specs.Prelude.{◌≡◌, ◌⊎◌, ◌==◌, ◌≤◌, Bool, true, List, [], ◌∷◌, length, Option, Some, None, Result, Ok, Err, if◌then◌else◌}
 use Rattle.std.specs.List.{filter_map}
 use Rattle.list_laws.specs.Items.{Answer, items_of, rest_of}
 use Rattle.dwarf_constants.specs.declared.error.Error.{Error}
@@ -51,6 +51,16 @@ list_end_from section s = let rest = rest_of size_of (next_length section) s in 
 abbrev pub list_end : FrameSection → ListEnd
 list_end section = list_end_from section section.within.bytes
 
+-- the error that ended a list, if one did
+abbrev pub end_error : ListEnd → Option Error
+end_error SectionEnd = None
+end_error Terminator = None
+end_error (Failed e) = Some e
+
+-- the error that ends the list of a section, if one does
+abbrev pub list_error : FrameSection → Option Error
+list_error section = end_error (list_end section)
+
 -- the entries that an iterator has left, and how they end
 pub record EntryList : Type 0 where
   pub entries : List (Result AnyEntry Error)
@@ -70,6 +80,10 @@ abbrev pub TellsEnd : {X : Type 0} → Result (Option X) Error → ListEnd → L
 TellsEnd (Ok (Some entry)) before after = before ≡ after
 TellsEnd (Ok None) before after = (before ≡ SectionEnd) ⊎ (before ≡ Terminator)
 TellsEnd (Err e) before after = before ≡ Failed e
+
+-- A section has no more entries than bytes; an error that ends its list is counted.
+abbrev pub HasNoMoreThanBytes : FrameSection → Type 0
+HasNoMoreThanBytes section = length (entries_of section) ≤ length section.within.bytes.bytes
 
 -- A read gives the first entry of a stretch and leaves the others, or it gives the end of the list or its error.
 abbrev pub GivesEntry : {X : Type 0} → (X → AnyEntry) → FrameSection → Result (Option X) Error → Stretch → Stretch → Type 0

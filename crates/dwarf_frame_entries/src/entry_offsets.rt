@@ -1,8 +1,8 @@
-//! Laws of the offsets of entries.
+//! Laws of the entries of a section.
 
 ghost use Rattle.std.specs.List.{All};
 ghost use Rattle.dwarf_frame_rows.specs.FrameSection.{FrameSection};
-ghost use Rattle.dwarf_frame_entries.specs.EntryLists.{entries_of};
+ghost use Rattle.dwarf_frame_entries.specs.EntryLists.{HasNoMoreThanBytes, entries_of};
 ghost use Rattle.dwarf_frame_entries.specs.SectionFdes.{IsOfSection, StandsAtItsOffset, StandsThere, whole_fdes};
 
 /// Each entry in the list of a section is what [`UnwindSection::cie_from_offset`] or
@@ -30,4 +30,11 @@ pub fn listed_fdes_are_of_their_section()
 #[tactic(auto, using(crate::proofs::Laws::fdes_there))]
 pub fn listed_fdes_stand_at_their_offsets()
     ensures { (section : FrameSection) → All (StandsAtItsOffset section) (whole_fdes section) }
+{}
+
+/// A section has no more entries than bytes, so that a count of them fits where its size does. It does
+/// nothing when the program runs.
+#[tactic(auto, using(crate::proofs::Laws::entries_within_bytes))]
+pub fn sections_have_no_more_entries_than_bytes()
+    ensures { (section : FrameSection) → HasNoMoreThanBytes section }
 {}

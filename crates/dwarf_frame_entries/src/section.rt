@@ -2,7 +2,7 @@
 
 ghost use Rattle.std.specs.Prelude.{◌≡◌};
 ghost use Rattle.dwarf_endianity.specs.Answers.{Gives};
-ghost use Rattle.dwarf_frame_entries.specs.CieReaders.{FindsFdeFor, FindsRowFor, ReadsFdeAt};
+ghost use Rattle.dwarf_frame_entries.specs.CieReaders.{FindsFdeFor, FindsFdeSkipping, FindsRowFor, ReadsFdeAt};
 ghost use Rattle.dwarf_frame_entries.specs.Entries.{cie_from_offset, partial_fde_from_offset};
 ghost use Rattle.dwarf_frame_entries.specs.EntryLists.{entry_list_of};
 ghost use Rattle.dwarf_frame_entries.specs.EntryViews.{GivesCie};
@@ -132,6 +132,46 @@ pub trait UnwindSection<R: Reader>: Copy + Debug + _UnwindSectionPrivate<R> {
                 if fde.contains(address) {
                     return Ok(fde);
                 }
+            }
+        }
+        Err(Error::NoUnwindInfoForAddress)
+    }
+
+    /// The FDE for an address: the first in the section that can be read and contains it. FDEs that
+    /// can't be read, by themselves or by their CIEs, are passed over. If no other contains the
+    /// address, it fails with the error that ends the section's list, if one does, and else with
+    /// `NoUnwindInfoForAddress`. `OutOfMemory` of `get_cie` is returned at once.
+    final fn fde_for_address_skipping<
+        F: FnMut(&Self, &BaseAddresses, Self::Offset) -> Result<CommonInformationEntry<R>>,
+    >(
+        &self,
+        bases: &BaseAddresses,
+        address: u64,
+        mut get_cie: F,
+    ) -> Result<FrameDescriptionEntry<R>>
+    where
+        Self: Sized,
+        requires { F.IsAlwaysCallable get_cie }
+        ensures { FindsFdeSkipping F.step R.stretch R.Offset.value Self.frame Self.Offset.number
+            self.now bases.now address get_cie result }
+    {
+        let mut entries = self.entries(bases);
+        while let Some(entry) = entries.next()? {
+            let CieOrFde::Fde(partial) = entry else {
+                continue;
+            };
+            let cie = match get_cie(&partial.section, partial.bases, partial.cie_offset) {
+                Ok(cie) => cie,
+                Err(error) => match error {
+                    Error::OutOfMemory => return Err(error),
+                    _ => continue,
+                },
+            };
+            let Ok(fde) = partial.with_cie(cie) else {
+                continue;
+            };
+            if fde.contains(address) {
+                return Ok(fde);
             }
         }
         Err(Error::NoUnwindInfoForAddress)

@@ -17,3 +17,5 @@ mod listed;
 mod opcodes;
 #[cfg(test)]
 mod real_sections;
+#[cfg(test)]
+mod skipping;

@@ -1,0 +1,82 @@
+//! The FDE for an address, in a section with an FDE that can't be read.
+
+use dwarf_constants::{Error, ReaderOffsetId};
+use dwarf_frame_entries::{BaseAddresses, EhFrame, UnwindSection};
+use dwarf_readers::{LittleEndian, ReaderOffset};
+use std::test::Fail;
+use test_readers::WORKED;
+
+// The worked section, and before its FDE one that ends after the start of its code.
+const DAMAGED: [u8; 72] = [
+    0x10, 0, 0, 0, 0, 0, 0, 0, 1, 0, 1, 0x78, 0x10, 0x0c, 7, 8, 0x90, 1, 0, 0, 0x0c, 0, 0, 0, 0x18,
+    0, 0, 0, 0, 0x10, 0, 0, 0, 0, 0, 0, 0x1c, 0, 0, 0, 0x28, 0, 0, 0, 0, 0x10, 0, 0, 0, 0, 0, 0,
+    0x10, 0, 0, 0, 0, 0, 0, 0, 0x41, 0x0e, 0x10, 0x86, 2, 0x43, 0x0d, 6, 0, 0, 0, 0,
+];
+
+const NONE: Error = Error::NoUnwindInfoForAddress;
+
+// The range of the damaged FDE isn't there.
+const NO_RANGE: Error = Error::UnexpectedEof(ReaderOffsetId(36));
+
+// The FDE after it is cut off behind its length.
+const CUT_OFF: Error = Error::UnexpectedEof(ReaderOffsetId(40));
+
+// A section: how many bytes of the damaged one, or the worked one.
+#[derive(Clone, Copy)]
+enum Which {
+    Worked,
+    Damaged(usize),
+}
+
+// A section, an address, and the offset of the FDE for it, or the error: of the first FDE or error, and if FDEs
+// that can't be read are passed over.
+static LOOKUPS: [(Which, u64, Result<u64, Error>, Result<u64, Error>); 7] = [
+    (Which::Worked, 0x1000, Ok(20), Ok(20)),
+    (Which::Worked, 0x1010, Err(NONE), Err(NONE)),
+    (Which::Damaged(72), 0x0fff, Err(NO_RANGE), Err(NONE)),
+    (Which::Damaged(72), 0x1000, Err(NO_RANGE), Ok(36)),
+    (Which::Damaged(72), 0x100f, Err(NO_RANGE), Ok(36)),
+    (Which::Damaged(72), 0x1010, Err(NO_RANGE), Err(NONE)),
+    (Which::Damaged(60), 0x1000, Err(NO_RANGE), Err(CUT_OFF)),
+];
+
+// The offset of the FDE for an address in a section, or the error, as `LOOKUPS` has them.
+fn looked_up(bytes: &[u8], address: u64) -> (Result<u64, Error>, Result<u64, Error>) {
+    let section = EhFrame::new(bytes, LittleEndian);
+    let bases = BaseAddresses::default();
+    let first = section.fde_for_address(&bases, address, UnwindSection::cie_from_offset);
+    let skipping = section.fde_for_address_skipping(
+        &bases,
+        address,
+        UnwindSection::cie_from_offset,
+    );
+    (
+        first.map(|fde| fde.offset().into_u64()),
+        skipping.map(|fde| fde.offset().into_u64()),
+    )
+}
+
+#[test]
+fn fdes_that_cannot_be_read_are_passed_over(rt: HostRuntime) -> Result<(), Fail> {
+    for &(which, address, first, skipping) in &LOOKUPS {
+        let found = match which {
+            Which::Worked => looked_up(&WORKED, address),
+            Which::Damaged(count) => looked_up(DAMAGED.get(..count).unwrap_or(&DAMAGED), address),
+        };
+        assert!(rt; found == (first, skipping), "at {address:x}");
+    }
+    Ok(())
+}
+
+#[test]
+fn want_of_memory_is_passed_on(rt: HostRuntime) -> Result<(), Fail> {
+    let section = EhFrame::new(&DAMAGED, LittleEndian);
+    let bases = BaseAddresses::default();
+    let found = section.fde_for_address_skipping(
+        &bases,
+        0x1000,
+        |_s, _b, _o| Err(Error::OutOfMemory),
+    );
+    assert!(rt; matches!(found, Err(Error::OutOfMemory)));
+    Ok(())
+}
