@@ -2,8 +2,8 @@
 
 ghost use Rattle.std.specs.Prelude.{◌≡◌, ◌≤◌, ◌^◌, ℕ, suc, length};
 ghost use Rattle.dwarf_frame_rows.specs.FrameSection.{FrameSection};
-ghost use Rattle.dwarf_frame_entries.specs.SectionFdes.{whole_fdes};
 ghost use Rattle.framehop.specs.CfiIndexView.{IsIndexOf};
+ghost use Rattle.framehop.specs.EntryFor.{indexed_fdes};
 ghost use Rattle.bench_index.specs.LookUps.{found_among};
 
 use framehop::DwarfCfiIndex;
@@ -22,10 +22,10 @@ pub fn look_up_each(index: &DwarfCfiIndex, count: u32, apart: u32) -> Tally
     ensures found { (base_svma : ℕ) (section : FrameSection) → IsIndexOf index.now base_svma section
         → result.found ≡ found_among count apart base_svma section }
     ensures few { (base_svma : ℕ) (section : FrameSection) → IsIndexOf index.now base_svma section
-        → (k : ℕ) → length (whole_fdes section) ≤ 2 ^ k → result.most_starts_read ≤ suc k }
+        → (k : ℕ) → length (indexed_fdes base_svma section) ≤ 2 ^ k → result.most_starts_read ≤ suc k }
     ensures counted { (base_svma : ℕ) (section : FrameSection)
         → IsIndexOf index.now base_svma section
-        → 1 ≤ count → (k : ℕ) → 2 ^ k ≤ suc (length (whole_fdes section))
+        → 1 ≤ count → (k : ℕ) → 2 ^ k ≤ suc (length (indexed_fdes base_svma section))
         → k ≤ result.most_starts_read }
 {
     let mut tally = Tally {

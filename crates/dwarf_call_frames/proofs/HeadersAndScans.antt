@@ -10,7 +10,7 @@ use Rattle.dwarf_readers.specs.Stretch.{◌>>=◌}
 use Rattle.dwarf_frame_rows.specs.declared.base_addresses.BaseAddresses.{BaseAddresses}
 use Rattle.dwarf_frame_rows.specs.declared.pointer.Pointer.{Pointer}
 use Rattle.dwarf_frame_rows.specs.FrameSection.{FrameSection}
-use Rattle.dwarf_frame_entries.specs.AddressLookups.{fde_for_address}
+use Rattle.dwarf_frame_entries.specs.AddressLookups.{fde_for_address_skipping}
 use Rattle.dwarf_frame_entries.specs.Entries.{Fde, contains, end_address, fde_from_offset}
 use Rattle.dwarf_frame_entries.specs.SectionFdes.{StandsAtItsOffset, nearest_fde, whole_fdes}
 use Rattle.dwarf_frame_entries.proofs.Laws.{fdes_there}
@@ -54,7 +54,7 @@ module _ (section : FrameSection) (bases : BaseAddresses) (header : Header) (t :
           let out : contains address fde ≡ false = rw high refl in
           outside address fde found.0 found.1.1 out
 
-  pub header_as_scan : (address : ℕ) → fde_by_header section bases header address ≡ fde_for_address section address
+  pub header_as_scan : (address : ℕ) → fde_by_header section bases header address ≡ fde_for_address_skipping section address
   header_as_scan address =
       by_option (nearest_fde address (whole_fdes section))
       (λ fde near.

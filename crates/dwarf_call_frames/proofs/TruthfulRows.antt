@@ -1,9 +1,9 @@
 -- What truthful headers name: an FDE that contains the address, the nearest, or the one that starts first.
 use Rattle.std.proofs.Common.{◌≡◌, ℕ, zero, suc, ◌+◌, ◌-◌, ◌<◌, ◌≤◌, Bool, true, false, List, [], ◌∷◌, length, get_or, map, Option, Some, None, Result, Ok, Err, refl, sym, ap, subst, ◌∙◌, arith, inl, inr}
-use Rattle.std.specs.Prelude.{◌⊎◌, ◌&&◌, nat_lt, nat_le, is_ok, option_map}
-use Rattle.std.specs.List.{All, Contains, filter, filter_map, find, list_all}
+use Rattle.std.specs.Prelude.{◌⊎◌, ◌&&◌, nat_lt, nat_le, option_map, unwrap_or}
+use Rattle.std.specs.List.{All, Contains, filter, find, list_all}
 use Rattle.std.specs.List.Sorted.{IsStrictlyIncreasing}
-use Rattle.std.specs.Result.{result_ok}
+use Rattle.std.specs.Option.{ok_or}
 use Rattle.std.proofs.lemmas.Bool.Decides.{nat_tests}
 use Rattle.std.proofs.lemmas.List.Elements.{All-nil, All-cons, All-head, All-tail, All-contains, All-contains_itself}
 use Rattle.std.proofs.lemmas.List.Sorted.{All-permutation, Contains-permutation, IsPermutation-sym}
@@ -16,11 +16,10 @@ use Rattle.dwarf_frame_rows.specs.declared.base_addresses.BaseAddresses.{BaseAdd
 use Rattle.dwarf_frame_rows.specs.declared.pointer.Pointer.{Pointer}
 use Rattle.dwarf_frame_rows.specs.declared.pointer.Pointer.TheVariants.{Direct}
 use Rattle.dwarf_frame_rows.specs.FrameSection.{FrameSection}
-use Rattle.dwarf_frame_entries.specs.AddressLookups.{fde_for_address, fde_or_error, first_deciding}
-use Rattle.dwarf_frame_entries.specs.Entries.{AnyEntry, Fde, contains, end_address, fde_of}
-use Rattle.dwarf_frame_entries.specs.EntryLists.{entries_of}
-use Rattle.dwarf_frame_entries.specs.SectionFdes.{fde_in, whole_fdes, nearest_fde}
-use Rattle.dwarf_frame_entries.specs.declared.entries.Entry.TheVariants as which
+use Rattle.dwarf_frame_entries.specs.AddressLookups.{fde_for_address_skipping}
+use Rattle.dwarf_frame_entries.specs.Entries.{Fde, contains, end_address}
+use Rattle.dwarf_frame_entries.specs.EntryLists.{list_error}
+use Rattle.dwarf_frame_entries.specs.SectionFdes.{whole_fdes, nearest_fde}
 use Rattle.list_laws.specs.Greatest.{first_greatest, greater_of, is_greatest}
 use Rattle.list_laws.specs.Last.{last_of}
 use Rattle.list_laws.proofs.Laws.{by_case, by_option, first_greatest-cons, last_of-cons}
@@ -189,38 +188,24 @@ none-nearest address fdes none = none-passes (starts_by address) fdes (empty (fi
     empty [] is = refl
     empty (fde ∷ others) is = absurd (some-greatest fde others is)
 
--- ---- the section's FDEs and faults
+-- ---- what a scan finds
 
--- the FDEs that aren't refused, with or without faults
-whole-alike : (section : FrameSection) (entries : List (Result AnyEntry Error)) → filter_map result_ok (filter_map (fde_or_error section) entries) ≡ filter_map result_ok (filter_map (fde_in section) entries)
-whole-alike section [] = refl
-whole-alike section (Ok (which.Cie cie) ∷ entries) = whole-alike section entries
-whole-alike section (Ok (which.Fde partial) ∷ entries) = one (fde_of section.limit section.kind partial) (whole-alike section entries)
+-- none of the FDEs contains the address
+scanned-none : (section : FrameSection) (address : ℕ) → list_error section ≡ None → All (λ fde. contains address fde ≡ false) (whole_fdes section) → fde_for_address_skipping section address ≡ Err NoUnwindInfoForAddress
+scanned-none section address ends none = found-by None (find-fails (whole_fdes section) none)
   where
-    one : (fde : Result Fde Error) → filter_map result_ok (filter_map (fde_or_error section) entries) ≡ filter_map result_ok (filter_map (fde_in section) entries)
-        → filter_map result_ok (fde ∷ filter_map (fde_or_error section) entries) ≡ filter_map result_ok (fde ∷ filter_map (fde_in section) entries)
-    one (Ok fde) others = ap (λ fdes. fde ∷ fdes) others
-    one (Err e) others = others
-whole-alike section (Err e ∷ entries) = whole-alike section entries
+    find-fails : (fdes : List Fde) → All (λ fde. contains address fde ≡ false) fdes → find (contains address) fdes ≡ None
+    find-fails [] fails = refl
+    find-fails (fde ∷ fdes) fails =
+        let here = All-head (λ fde. contains address fde ≡ false) fde fdes fails in
+        rw here (find-fails fdes (All-tail (λ fde. contains address fde ≡ false) fde fdes fails))
 
--- where none is refused, they are all
-none-refused : (fdes : List (Result Fde Error)) → list_all is_ok fdes ≡ true → fdes ≡ map (λ fde. Ok fde) (filter_map result_ok fdes)
-none-refused [] all = refl
-none-refused (Ok fde ∷ fdes) all = ap (λ others. Ok fde ∷ others) (none-refused fdes all)
-none-refused (Err e ∷ fdes) all = cc
+    found-by : (o : Option Fde) → find (contains address) (whole_fdes section) ≡ o → fde_for_address_skipping section address ≡ ok_or o NoUnwindInfoForAddress
+    found-by o is = ap (λ found. ok_or found (unwrap_or (list_error section) NoUnwindInfoForAddress)) is ∙ ap (λ e. ok_or o (unwrap_or e NoUnwindInfoForAddress)) ends
 
-scanned-none : (address : ℕ) (fdes : List Fde) → All (λ fde. contains address fde ≡ false) fdes → first_deciding address (map (λ f. Ok f) fdes) ≡ Err NoUnwindInfoForAddress
-scanned-none address [] none = refl
-scanned-none address (fde ∷ fdes) none =
-    let here = All-head (λ fde. contains address fde ≡ false) fde fdes none in
-    rw here (scanned-none address fdes (All-tail (λ fde. contains address fde ≡ false) fde fdes none))
-
-scanned : (address : ℕ) (fdes : List Fde) (fde : Fde) → find (contains address) fdes ≡ Some fde → first_deciding address (map (λ f. Ok f) fdes) ≡ Ok fde
-scanned address [] fde h = cc
-scanned address (first ∷ fdes) fde h =
-    by_case (contains address first)
-    (λ is. let found : Some first ≡ Some fde = rw is at h in let same : first ≡ fde = cc in rw is (ap (λ f. Ok f) same))
-    (λ is. rw is (scanned address fdes fde (rw is at h)))
+-- this one is the first that does
+scanned : (section : FrameSection) (address : ℕ) (fde : Fde) → find (contains address) (whole_fdes section) ≡ Some fde → fde_for_address_skipping section address ≡ Ok fde
+scanned section address fde is = ap (λ found. ok_or found (unwrap_or (list_error section) NoUnwindInfoForAddress)) is
 
 -- ---- what a truthful header names
 
@@ -309,29 +294,22 @@ module _ (section : FrameSection) (bases : BaseAddresses) (header : Header) (t :
       (λ found is. is ∙ ap (λ f. Some f) (one-nearest address found fde (nearest-is address all found is) near))
       (λ none. let fails : starts_by address fde ≡ false = All-contains (λ f. starts_by address f ≡ false) all fde (none-nearest address all none) there in let low = near.low in cc)
 
-  -- the FDEs that are read are all of the section
-  read-whole : filter_map (fde_or_error section) (entries_of section) ≡ map (λ f. Ok f) all
-  unfolding whole_fdes
-  read-whole = none-refused (filter_map (fde_or_error section) (entries_of section)) t.sound.parses ∙ ap (map (λ f. Ok f)) (whole-alike section (entries_of section))
-
   -- none contains an address that a nearest one doesn't contain, or at or below which none starts
-  pub scanned_outside : (address : ℕ) (fde : Fde) → nearest_fde address all ≡ Some fde → contains address fde ≡ false → fde_for_address section address ≡ Err NoUnwindInfoForAddress
+  pub scanned_outside : (address : ℕ) (fde : Fde) → nearest_fde address all ≡ Some fde → contains address fde ≡ false → fde_for_address_skipping section address ≡ Err NoUnwindInfoForAddress
   scanned_outside address fde near outside =
-      ap (first_deciding address) read-whole
-      ∙ scanned-none address all (λ k d h. by_case (contains address (get_or all k d))
+      scanned-none section address t.sound.ends (λ k d h. by_case (contains address (get_or all k d))
       (λ inside.
       let other = get_or all k d in
       let same : other ≡ fde = one-nearest address other fde (contained-nearest address other (All-contains_itself all k d h) inside) (nearest-is address all fde near) in
       let inside-too : contains address fde ≡ true = subst (λ (f : Fde). contains address f ≡ true) same inside in cc)
       (λ fails. fails))
 
-  pub scanned_below : (address : ℕ) → nearest_fde address all ≡ None → fde_for_address section address ≡ Err NoUnwindInfoForAddress
+  pub scanned_below : (address : ℕ) → nearest_fde address all ≡ None → fde_for_address_skipping section address ≡ Err NoUnwindInfoForAddress
   scanned_below address none =
-      ap (first_deciding address) read-whole
-      ∙ scanned-none address all (λ k d h. let fails : starts_by address (get_or all k d) ≡ false = none-nearest address all none k d h in rw fails refl)
+      scanned-none section address t.sound.ends (λ k d h. let fails : starts_by address (get_or all k d) ≡ false = none-nearest address all none k d h in rw fails refl)
 
-  pub scanned_contained : (address : ℕ) (fde : Fde) → Contains all fde → contains address fde ≡ true → fde_for_address section address ≡ Ok fde
-  scanned_contained address fde there inside = ap (first_deciding address) read-whole ∙ scanned address all fde found
+  pub scanned_contained : (address : ℕ) (fde : Fde) → Contains all fde → contains address fde ≡ true → fde_for_address_skipping section address ≡ Ok fde
+  scanned_contained address fde there inside = scanned section address fde found
     where
       found : find (contains address) all ≡ Some fde
       found =

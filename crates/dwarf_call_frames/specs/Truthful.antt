@@ -1,7 +1,7 @@
--- Truthful headers: the table has a row for each FDE of the section, in the order of their starts (LSB 5.0, 10.6.2), and what
--- such a header finds.
-use Rattle.std.specs.Prelude.{◌≡◌, ◌<◌, ℕ, ◌+◌, Bool, true, false, List, map, Option, Some, Result, Ok, Err, is_ok, nat_lt}
-use Rattle.std.specs.List.{All, AllPass, Contains, filter_map, list_all}
+-- Truthful headers: the table has a row for each FDE of the section that can be read, in the order of their starts (LSB 5.0, 10.6.2),
+-- and what such a header finds.
+use Rattle.std.specs.Prelude.{◌≡◌, ◌<◌, ℕ, ◌+◌, true, false, List, map, Option, Some, None, Result, Ok, Err, nat_lt}
+use Rattle.std.specs.List.{All, AllPass, Contains}
 use Rattle.std.specs.List.Sorted.{IsPermutation, IsStrictlyIncreasing}
 use Rattle.dwarf_constants.specs.declared.error.Error.{Error}
 use Rattle.dwarf_constants.specs.declared.error.Error.TheVariants.{NoUnwindInfoForAddress}
@@ -9,9 +9,9 @@ use Rattle.dwarf_frame_rows.specs.declared.base_addresses.BaseAddresses.{BaseAdd
 use Rattle.dwarf_frame_rows.specs.declared.pointer.Pointer.{Pointer}
 use Rattle.dwarf_frame_rows.specs.declared.pointer.Pointer.TheVariants.{Direct}
 use Rattle.dwarf_frame_rows.specs.FrameSection.{FrameSection}
-use Rattle.dwarf_frame_entries.specs.AddressLookups.{fde_for_address, fde_or_error}
+use Rattle.dwarf_frame_entries.specs.AddressLookups.{fde_for_address_skipping}
 use Rattle.dwarf_frame_entries.specs.Entries.{Fde, contains}
-use Rattle.dwarf_frame_entries.specs.EntryLists.{entries_of}
+use Rattle.dwarf_frame_entries.specs.EntryLists.{list_error}
 use Rattle.dwarf_frame_entries.specs.SectionFdes.{nearest_fde, whole_fdes}
 use Rattle.dwarf_call_frames.specs.Halving.{row_with_start}
 use Rattle.dwarf_call_frames.specs.Header.{Header}
@@ -20,17 +20,14 @@ use Rattle.dwarf_call_frames.specs.HeaderTable.{pointer_size, rows_by_index, hea
 
 -- ---- sound sections
 
--- all entries of the section parse
-abbrev pub all_parse : FrameSection → Bool
-all_parse section = list_all is_ok (filter_map (fde_or_error section) (entries_of section))
-
 -- No FDE starts in another's code.
 abbrev pub AreApart : List Fde → Type 0
 AreApart fdes = All (λ fde. All (λ other. contains other.initial_address fde ≡ true → other ≡ fde) fdes) fdes
 
--- The entries parse, no FDE starts in another's code, and the offset of each FDE is one of the section's.
+-- No error ends the list of entries. Of the FDEs that can be read none starts in another's code, and the offset of each is one of the
+-- section's. Others may be there.
 pub record IsSound (section : FrameSection) : Type 0 where
-  pub parses : all_parse section ≡ true
+  pub ends : list_error section ≡ None
   pub apart : AreApart (whole_fdes section)
   pub have_offsets : AllPass (λ fde. nat_lt fde.head.offset section.limit) (whole_fdes section)
 
@@ -40,7 +37,7 @@ pub record IsSound (section : FrameSection) : Type 0 where
 abbrev pub row_of_fde : (section_start : ℕ) → Fde → ℕ × Result Pointer Error
 row_of_fde section_start fde = (fde.initial_address, Ok (Direct (section_start + fde.head.offset)))
 
--- The header describes the section.
+-- The header describes the section, as far as its FDEs can be read.
 pub record IsTruthful (section : FrameSection) (bases : BaseAddresses) (header : Header) : Type 0 where
   pub sound : IsSound section
   -- the header points at the start of the section
@@ -49,7 +46,7 @@ pub record IsTruthful (section : FrameSection) (bases : BaseAddresses) (header :
   -- the pointers of the table have one size
   pub size : ℕ
   pub has_size : pointer_size header.table_encoding ≡ Ok size
-  -- the table is the FDEs of the section, each start below the next
+  -- the table is the FDEs of the section that can be read, each start below the next
   pub fdes : List Fde
   pub are_all : IsPermutation (whole_fdes section) fdes
   pub increase : IsStrictlyIncreasing (map (λ fde. fde.initial_address) fdes)
@@ -82,20 +79,20 @@ pub record HasFdeFor (section : FrameSection) (address : ℕ) (fde : Fde) : Type
   pub there : Contains (whole_fdes section) fde
   pub inside : contains address fde ≡ true
 
--- The header, the nearest start and a scan of the section give this FDE alike.
+-- The header, the nearest start and a scan of the section, which passes over FDEs that can't be read, give this FDE alike.
 pub record AllFind (t : TruthfulHeader) (address : ℕ) (fde : Fde) : Type 0 where
   pub by_header : offset_by_header t address ≡ Ok fde.head.offset
   pub by_start : nearest_in t.section address ≡ Some fde
-  pub by_scan : fde_for_address t.section address ≡ Ok fde
+  pub by_scan : fde_for_address_skipping t.section address ≡ Ok fde
 
 -- The header gives this FDE; if that doesn't contain the address, a scan finds none.
 pub record HeaderFinds (t : TruthfulHeader) (address : ℕ) (fde : Fde) : Type 0 where
   pub by_header : offset_by_header t address ≡ Ok fde.head.offset
-  pub by_scan : contains address fde ≡ false → fde_for_address t.section address ≡ Err NoUnwindInfoForAddress
+  pub by_scan : contains address fde ≡ false → fde_for_address_skipping t.section address ≡ Err NoUnwindInfoForAddress
 
 -- The header, if its table has rows, gives an FDE that starts above the address; a scan finds none.
 pub record HeaderFindsAbove (t : TruthfulHeader) (address : ℕ) : Type 0 where
   pub by_header : 0 < t.header.count
       → (fde : Fde) × (Contains (whole_fdes t.section) fde × ((address < fde.initial_address)
       × (offset_by_header t address ≡ Ok fde.head.offset)))
-  pub by_scan : fde_for_address t.section address ≡ Err NoUnwindInfoForAddress
+  pub by_scan : fde_for_address_skipping t.section address ≡ Err NoUnwindInfoForAddress

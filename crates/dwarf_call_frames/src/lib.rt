@@ -25,7 +25,7 @@ pub use dwarf_frame_entries::{
     Augmentation, CfiEntriesIter, CieOrFde, CommonInformationEntry, Entry, FrameDescriptionEntry,
     PartialFrameDescriptionEntry, UnwindSection, UnwindTable, each_address_of_an_fde_has_one_row,
     listed_entries_stand_at_their_offsets, listed_fdes_are_of_their_section,
-    listed_fdes_stand_at_their_offsets,
+    listed_fdes_stand_at_their_offsets, sections_have_no_more_entries_than_bytes,
 };
 pub use dwarf_frame_instructions::{
     CallFrameInstruction, CallFrameInstructionIter, each_address_has_one_row,

@@ -1,8 +1,9 @@
-//! Laws of truthful headers. They do nothing when the program runs.
+//! Laws of truthful headers. They do nothing when the program runs. A scan of a section passes over FDEs that can't be
+//! read, and a truthful header has no row for one.
 
 ghost use Rattle.std.specs.Prelude.{◌≡◌, ◌<◌, ℕ, Some, None};
 ghost use Rattle.std.specs.List.{Contains};
-ghost use Rattle.dwarf_frame_entries.specs.AddressLookups.{fde_for_address};
+ghost use Rattle.dwarf_frame_entries.specs.AddressLookups.{fde_for_address_skipping};
 ghost use Rattle.dwarf_frame_entries.specs.Entries.{Fde};
 ghost use Rattle.dwarf_frame_entries.specs.SectionFdes.{whole_fdes};
 ghost use Rattle.dwarf_call_frames.specs.Truthful.{AllFind, HasFdeFor, HeaderFinds, HeaderFindsAbove, TruthfulHeader, fde_found_by_header, nearest_in};
@@ -34,11 +35,11 @@ pub fn truthful_headers_name_an_fde_below_all()
 /// For any address, a lookup by a truthful header finds the FDE that a scan of the section does, or
 /// none as that does. So both find the same row, or fail alike.
 ///
-/// The lookups are [`EhHdrTable::fde_for_address`] and [`UnwindSection::fde_for_address`].
+/// The lookups are [`EhHdrTable::fde_for_address`] and [`UnwindSection::fde_for_address_skipping`].
 ///
 /// [`EhHdrTable::fde_for_address`]: crate::EhHdrTable::fde_for_address
-/// [`UnwindSection::fde_for_address`]: crate::UnwindSection::fde_for_address
+/// [`UnwindSection::fde_for_address_skipping`]: crate::UnwindSection::fde_for_address_skipping
 pub fn truthful_headers_find_as_scans_do()
     ensures { (t : TruthfulHeader) (address : ℕ)
-        → fde_found_by_header t address ≡ fde_for_address t.section address }
+        → fde_found_by_header t address ≡ fde_for_address_skipping t.section address }
 {}

@@ -5,7 +5,7 @@ use Rattle.std.proofs.lemmas.Bool.Decides.{nat_tests}
 use Rattle.dwarf_constants.specs.declared.common.Vendor.{Vendor}
 use Rattle.dwarf_constants.specs.declared.error.Error.{Error}
 use Rattle.dwarf_constants.specs.declared.error.Error.TheVariants.{NoUnwindInfoForAddress}
-use Rattle.dwarf_frame_entries.specs.AddressLookups.{fde_for_address}
+use Rattle.dwarf_frame_entries.specs.AddressLookups.{fde_for_address_skipping}
 use Rattle.dwarf_frame_entries.specs.Entries.{fde_from_offset}
 use Rattle.dwarf_frame_rows.specs.Effects.{Limits}
 use Rattle.dwarf_frame_rows.specs.FrameSection.{FrameSection}
@@ -96,7 +96,7 @@ module _ (limits : Limits) (vendor own : Vendor) (section here : FrameSection) (
   in-range : nat_lt (base + relative) (2 ^ 64) ≡ true
   in-range = fits-64 (subst (λ (n : ℕ). n < 2 ^ 64) is fits)
 
-  pub scan-there : by_scanned limits own here address (fde_for_address here address) ≡ covered_by_scan limits vendor section base relative
+  pub scan-there : by_scanned limits own here address (fde_for_address_skipping here address) ≡ covered_by_scan limits vendor section base relative
   scan-there = rw (in-range, is, same, read) refl
 
   pub entry-there : (offset : ℕ) → by_entry limits own here address (fde_from_offset here offset) ≡ covered_by_fde limits vendor section base relative offset

@@ -22,7 +22,7 @@ module _ (limits : Limits) (section : FrameSection) (vendor : Vendor) (address :
   covered-by size row sized is = ap (by_row fde.cie.address_size section.within.bytes) is ∙ ap (λ n. Covered n section.within.bytes row) (sym sized)
 
 -- without an index there is no entry
-none-indexed : (base relative : ℕ) (section : FrameSection) → has_index base section ≡ false → indexed_entry base relative section ≡ None
+none-indexed : (base relative : ℕ) (section : FrameSection) → has_index section ≡ false → indexed_entry base relative section ≡ None
 unfolding indexed_entry
 none-indexed base relative section none = rw none refl
 

@@ -12,18 +12,19 @@ use Rattle.dwarf_frame_entries.specs.SectionFdes.{StandsAtItsOffset, whole_fdes,
 use Rattle.dwarf_frame_entries.proofs.Laws.{fdes_there}
 use Rattle.list_laws.specs.Greatest.{is_greatest}
 use Rattle.list_laws.proofs.Laws.{by_case}
-use Rattle.framehop.specs.EntryFor.{has_index, indexed_entry}
+use Rattle.framehop.specs.EntryFor.{fits_index, has_index, indexed_entry, indexed_fdes}
 use Rattle.framehop.proofs.EntryIndex.{find-has}
 
 -- the indexed entry is what stands at its offset
 pub indexed-there : (section : FrameSection) (base relative : ℕ) (g : Fde) → indexed_entry base relative section ≡ Some g → fde_from_offset section g.head.offset ≡ Ok g
 unfolding indexed_entry
 indexed-there section base relative g h =
-    by_case (has_index base section)
-    (λ is. let found : nearest_fde (base + relative) (whole_fdes section) ≡ Some g = rw is at h in
-    let within : List Fde = filter (λ fde. nat_le fde.initial_address (base + relative)) (whole_fdes section) in
+    by_case (has_index section)
+    (λ is. let found : nearest_fde (base + relative) (indexed_fdes base section) ≡ Some g = rw is at h in
+    let within : List Fde = filter (λ fde. nat_le fde.initial_address (base + relative)) (indexed_fdes base section) in
     find-has (StandsAtItsOffset section) (is_greatest (λ fde. fde.initial_address) within) within g
-    (All-filter (λ fde. nat_le fde.initial_address (base + relative)) (StandsAtItsOffset section) (whole_fdes section) (fdes_there section)) found)
+    (All-filter (λ fde. nat_le fde.initial_address (base + relative)) (StandsAtItsOffset section) (indexed_fdes base section)
+    (All-filter (fits_index base) (StandsAtItsOffset section) (whole_fdes section) (fdes_there section))) found)
     (λ is. let none : ◌≡◌ {A = Option Fde} None (Some g) = rw is at h in cc)
 
 -- what is read at the offset that was found is that entry

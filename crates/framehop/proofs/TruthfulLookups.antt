@@ -1,10 +1,9 @@
 -- If a header is truthful, all lookups lead to the same FDEs.
-use Rattle.std.proofs.Common.{◌≡◌, ◌<◌, ◌^◌, ℕ, ◌+◌, Bool, true, false, cond, List, Option, Some, None, Result, Ok, Err, refl, sym, ap, ◌∙◌, arith}
+use Rattle.std.proofs.Common.{◌≡◌, ◌<◌, ◌^◌, ℕ, ◌+◌, Bool, true, false, cond, List, [], ◌∷◌, Option, Some, None, Result, Ok, Err, refl, sym, ap, ◌∙◌, arith}
 use Rattle.std.specs.Prelude.{is_none, nat_le, nat_lt, option_map, ◌==◌}
-use Rattle.std.specs.List.{All, Contains, filter}
+use Rattle.std.specs.List.{All, AllPass, Contains, filter}
 use Rattle.std.proofs.lemmas.Bool.Decides.{nat_tests}
-use Rattle.std.proofs.lemmas.List.Elements.{All-contains, All-contains_itself, All-filter}
-use Rattle.std.proofs.lemmas.List.Sums.{AllPass-from_list_all}
+use Rattle.std.proofs.lemmas.List.Elements.{All-head, All-tail, All-contains, All-contains_itself, All-filter}
 use Rattle.dwarf_constants.specs.declared.error.Error.{Error}
 use Rattle.dwarf_constants.specs.declared.error.Error.TheVariants.{NoUnwindInfoForAddress}
 use Rattle.dwarf_frame_rows.specs.declared.base_addresses.BaseAddresses.{BaseAddresses}
@@ -14,25 +13,24 @@ use Rattle.dwarf_frame_rows.specs.Row.{Row}
 use Rattle.dwarf_frame_sections.specs.Sections.{eh_frame}
 use Rattle.dwarf_readers.specs.Stretch.{whole}
 use Rattle.dwarf_frame_entries.specs.Entries.{Fde, contains}
-use Rattle.dwarf_frame_entries.specs.EntryLists.{entries_of}
 use Rattle.dwarf_frame_entries.specs.EntryPrograms.{fde_row}
 use Rattle.dwarf_frame_entries.specs.SectionFdes.{StandsAtItsOffset, whole_fdes, nearest_fde}
 use Rattle.dwarf_frame_entries.proofs.Laws.{fdes_there}
 use Rattle.dwarf_call_frames.specs.HeaderEntries.{named_offset}
 use Rattle.dwarf_call_frames.proofs.Laws as header_laws
-use Rattle.dwarf_frame_entries.specs.AddressLookups.{fde_for_address}
+use Rattle.dwarf_frame_entries.specs.AddressLookups.{fde_for_address_skipping}
 use Rattle.dwarf_frame_entries.specs.Entries.{fde_from_offset}
 use Rattle.framehop_rows.specs.RowMeanings.{RowMeanings}
 use Rattle.framehop_unwinder.specs.Attempt.{Attempt, Says, SaysNothing}
 use Rattle.framehop.specs.Attempts.{StepLimits, attempt, attempt_by_method}
 use Rattle.framehop.specs.Coverage.{Coverage, NoAddress, Uncovered, attempt_by, by_entry, by_fde, by_row, by_scanned, covered_by_fde}
-use Rattle.framehop.specs.EntryFor.{index_error, indexed_entry}
+use Rattle.framehop.specs.EntryFor.{fits_index, has_index, indexed_entry, indexed_fdes}
 use Rattle.framehop.specs.FrameSections.{eh_frame_of}
 use Rattle.framehop.specs.Lookups.{offset_by_index}
 use Rattle.framehop.specs.Methods.{Method, UsesFde, UsesScan, method_at}
 use Rattle.framehop.specs.LookupsAlike.{AllLeadTo, LeadsAbove}
 use Rattle.framehop.specs.TruthfulLookups.{AreTruthful, HeadedSection, eh_frame_in, headed_data, indexed_data, offset_headed, scanned_data}
-use Rattle.framehop.proofs.CfiIndexBuild.{fits_index, offset-fits, whole-fit}
+use Rattle.framehop.proofs.CfiIndexBuild.{offset-fits}
 use Rattle.framehop.proofs.EntryIndex.{find-has}
 use Rattle.framehop.proofs.RowStarts.{no-row-below}
 use Rattle.list_laws.specs.Greatest.{is_greatest}
@@ -46,10 +44,12 @@ not-zero n above = grind (arith, nat_tests)
 pub fits-64 : {n : ℕ} → n < 2 ^ 64 → nat_lt n (2 ^ 64) ≡ true
 fits-64 {n} below = grind (arith, nat_tests)
 
--- an option that is none
-without : {A : Type 0} (o : Option A) → is_none o ≡ true → o ≡ None
-without None h = refl
-without (Some x) h = cc
+-- what passes whole is left by a filter as it is
+filter-all : {X : Type 0} (p : X → Bool) (xs : List X) → AllPass p xs → filter p xs ≡ xs
+filter-all p [] all = refl
+filter-all p (x ∷ xs) all =
+    let here : p x ≡ true = All-head (λ x. p x ≡ true) x xs all in
+    rw here (ap (λ others. x ∷ others) (filter-all p xs (All-tail (λ x. p x ≡ true) x xs all)))
 
 -- what all FDEs have, the nearest has
 nearest-has : (P : Fde → Type 0) (address : ℕ) (fdes : List Fde) (g : Fde) → All P fdes → nearest_fde address fdes ≡ Some g → P g
@@ -75,17 +75,19 @@ module _ (h : HeadedSection) (t : AreTruthful h) where
   abbrev s : FrameSection
   s = eh_frame_in h
 
-  -- each FDE is one that the index has
-  all-fit : All (λ f. fits_index base f ≡ true) (whole_fdes s)
-  unfolding index_error whole_fdes
-  all-fit = AllPass-from_list_all (fits_index base) (whole_fdes s) (whole-fit base s (entries_of s) (without (index_error base s) t.indexed))
+  -- the section has an index, which has each FDE
+  has : has_index s ≡ true
+  has = ap is_none t.is_truthful.sound.ends
+
+  all-held : indexed_fdes base s ≡ whole_fdes s
+  all-held = filter-all (fits_index base) (whole_fdes s) t.indexed
 
   -- an FDE of the section is at its offset, which has 32 bits
   there : (fde : Fde) → Contains (whole_fdes s) fde → fde_from_offset s fde.head.offset ≡ Ok fde
   there fde inside = All-contains (StandsAtItsOffset s) (whole_fdes s) fde (fdes_there s) inside
 
   small : (fde : Fde) → Contains (whole_fdes s) fde → nat_lt fde.head.offset (2 ^ 32) ≡ true
-  small fde inside = offset-fits base fde (All-contains (λ f. fits_index base f ≡ true) (whole_fdes s) fde all-fit inside)
+  small fde inside = offset-fits base fde (All-contains (λ f. fits_index base f ≡ true) (whole_fdes s) fde t.indexed inside)
 
   module _ (relative : ℕ) where
     -- the offset that the header names is what it leads to
@@ -101,7 +103,7 @@ module _ (h : HeadedSection) (t : AreTruthful h) where
       nearest-contained : nearest_fde (base + relative) (whole_fdes s) ≡ Some fde
       nearest-contained = header_laws.nearest_contained s bases t.says t.is_truthful (base + relative) fde inside holds
 
-      pub scan-contained : fde_for_address s (base + relative) ≡ Ok fde
+      pub scan-contained : fde_for_address_skipping s (base + relative) ≡ Ok fde
       scan-contained = header_laws.scanned_contained s bases t.says t.is_truthful (base + relative) fde inside holds
 
     -- from the lowest start on
@@ -115,7 +117,7 @@ module _ (h : HeadedSection) (t : AreTruthful h) where
 
       pub index-nearest : offset_by_index s base relative ≡ Some fde.head.offset
       unfolding indexed_entry
-      index-nearest = rw t.indexed (ap (option_map (λ (f : Fde). f.head.offset)) nearest)
+      index-nearest = rw (has, all-held) (ap (option_map (λ (f : Fde). f.head.offset)) nearest)
 
     -- each lookup leads to the FDE that contains the address
     pub lead-to-one : (fde : Fde) → nat_lt (base + relative) (2 ^ 64) ≡ true → Contains (whole_fdes s) fde → contains (base + relative) fde ≡ true → AllLeadTo h relative fde
@@ -139,9 +141,9 @@ module _ (h : HeadedSection) (t : AreTruthful h) where
 
       pub index-none : offset_by_index s base relative ≡ None
       unfolding indexed_entry
-      index-none = rw t.indexed (ap (option_map (λ (f : Fde). f.head.offset)) none)
+      index-none = rw (has, all-held) (ap (option_map (λ (f : Fde). f.head.offset)) none)
 
-      pub scan-none : fde_for_address s (base + relative) ≡ Err NoUnwindInfoForAddress
+      pub scan-none : fde_for_address_skipping s (base + relative) ≡ Err NoUnwindInfoForAddress
       scan-none = header_laws.scanned_below s bases t.says t.is_truthful (base + relative) none
 
     -- the attempts
@@ -174,7 +176,7 @@ module _ (h : HeadedSection) (t : AreTruthful h) where
       scanned fde inside holds =
           let at : by_entry limits.rows m.vendor s (base + relative) (fde_from_offset s fde.head.offset) ≡ by_fde limits.rows m.vendor s (base + relative) fde
           = ap (by_entry limits.rows m.vendor s (base + relative)) (there fde inside) in
-          let found : by_scanned limits.rows m.vendor s (base + relative) (fde_for_address s (base + relative)) ≡ by_fde limits.rows m.vendor s (base + relative) fde
+          let found : by_scanned limits.rows m.vendor s (base + relative) (fde_for_address_skipping s (base + relative)) ≡ by_fde limits.rows m.vendor s (base + relative) fde
           = ap (by_scanned limits.rows m.vendor s (base + relative)) (scan-contained fde inside holds) ∙ (rw (small fde inside) refl) in
           ap (λ (sec : FrameSection). by_method (UsesScan sec)) (same-section bases other h.section same)
           ∙ ap (λ (c : Coverage). attempt_by m first limits.values (cond (nat_lt (base + relative) (2 ^ 64)) c NoAddress)) (found ∙ sym at)
@@ -189,7 +191,7 @@ module _ (h : HeadedSection) (t : AreTruthful h) where
       scan-alike fde inside holds = scanned fde inside holds ∙ sym (headed fde (nearest-contained fde inside holds))
 
       -- the scan, if this is found
-      scanned-as : (coverage : Coverage) → by_scanned limits.rows m.vendor s (base + relative) (fde_for_address s (base + relative)) ≡ coverage
+      scanned-as : (coverage : Coverage) → by_scanned limits.rows m.vendor s (base + relative) (fde_for_address_skipping s (base + relative)) ≡ coverage
           → attempt m limits (scanned_data other h) relative first ≡ attempt_by m first limits.values (cond (nat_lt (base + relative) (2 ^ 64)) coverage NoAddress)
       scanned-as coverage found =
           ap (λ (sec : FrameSection). by_method (UsesScan sec)) (same-section bases other h.section same)
@@ -216,7 +218,7 @@ module _ (h : HeadedSection) (t : AreTruthful h) where
           by_case (contains (base + relative) fde)
           (scan-alike fde (listed fde nearest))
           (λ out.
-          let found : by_scanned limits.rows m.vendor s (base + relative) (fde_for_address s (base + relative)) ≡ Uncovered
+          let found : by_scanned limits.rows m.vendor s (base + relative) (fde_for_address_skipping s (base + relative)) ≡ Uncovered
           = ap (by_scanned limits.rows m.vendor s (base + relative)) (header_laws.scanned_outside s bases t.says t.is_truthful (base + relative) fde nearest out) in
           let left : by_entry limits.rows m.vendor s (base + relative) (fde_from_offset s fde.head.offset) ≡ Uncovered
           = read-there fde (there fde (listed fde nearest)) ∙ no-row fde (λ row is. let yes = within row is in cc) in

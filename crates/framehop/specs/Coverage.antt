@@ -7,7 +7,7 @@ use Rattle.dwarf_readers.specs.Stretch.{Stretch}
 use Rattle.dwarf_frame_rows.specs.Effects.{Limits}
 use Rattle.dwarf_frame_rows.specs.Row.{Row}
 use Rattle.dwarf_frame_rows.specs.FrameSection.{FrameSection}
-use Rattle.dwarf_frame_entries.specs.AddressLookups.{fde_for_address}
+use Rattle.dwarf_frame_entries.specs.AddressLookups.{fde_for_address_skipping}
 use Rattle.dwarf_frame_entries.specs.Entries.{Fde, fde_from_offset}
 use Rattle.dwarf_frame_entries.specs.EntryPrograms.{fde_row}
 use Rattle.framehop_unwinder.specs.Attempt.{Attempt, Says, SaysNothing}
@@ -46,7 +46,7 @@ abbrev pub by_near : Limits → Vendor → FrameSection → (address : ℕ) → 
 by_near limits vendor section address fde =
     if nat_lt fde.head.offset (2 ^ 32) then by_fde limits vendor section address fde else NoFde UnsupportedOffset
 
--- by what a scan finds: after the whole section it is known that no FDE contains the address
+-- by what a scan finds: after the whole list it is known that no FDE that can be read contains the address
 abbrev pub by_scanned : Limits → Vendor → FrameSection → (address : ℕ) → Result Fde Error → Coverage
 by_scanned limits vendor section address (Ok fde) = by_near limits vendor section address fde
 by_scanned limits vendor section address (Err NoUnwindInfoForAddress) = Uncovered
@@ -61,10 +61,10 @@ abbrev pub covered_by_fde : Limits → Vendor → FrameSection → (base relativ
 covered_by_fde limits vendor section base relative offset =
     at_address base relative (λ address. by_entry limits vendor section address (fde_from_offset section offset))
 
--- by the first FDE that contains the address
+-- by the first FDE that can be read and contains the address
 abbrev pub covered_by_scan : Limits → Vendor → FrameSection → (base relative : ℕ) → Coverage
 covered_by_scan limits vendor section base relative =
-    at_address base relative (λ address. by_scanned limits vendor section address (fde_for_address section address))
+    at_address base relative (λ address. by_scanned limits vendor section address (fde_for_address_skipping section address))
 
 -- the attempt by call frames at an address that is covered so
 abbrev pub row_attempt_by : {Rule Registers : Type 0} → RowMeanings Rule Registers → Bool → (values : Option ℕ) → Coverage

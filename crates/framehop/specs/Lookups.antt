@@ -1,5 +1,5 @@
 -- The FDE for an address by each lookup.
-use Rattle.std.specs.Prelude.{ℕ, ◌+◌, ◌^◌, List, Option, Some, None, option_map, Result, Ok, Err, false, nat_lt, if◌then◌else◌}
+use Rattle.std.specs.Prelude.{ℕ, ◌+◌, ◌^◌, List, Option, Some, None, option_map, Result, false, nat_lt, if◌then◌else◌}
 use Rattle.std.specs.Option.{ok_or}
 use Rattle.std.specs.Result.{result_ok}
 use Rattle.dwarf_constants.specs.declared.error.Error.{Error}

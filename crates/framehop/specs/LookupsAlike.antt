@@ -5,7 +5,7 @@ use Rattle.dwarf_constants.specs.declared.error.Error.TheVariants.{NoUnwindInfoF
 use Rattle.dwarf_frame_rows.specs.Effects.{Limits}
 use Rattle.dwarf_frame_rows.specs.Row.{Row}
 use Rattle.dwarf_frame_rows.specs.declared.base_addresses.BaseAddresses.{BaseAddresses}
-use Rattle.dwarf_frame_entries.specs.AddressLookups.{fde_for_address}
+use Rattle.dwarf_frame_entries.specs.AddressLookups.{fde_for_address_skipping}
 use Rattle.dwarf_frame_entries.specs.Entries.{Fde, contains, fde_from_offset}
 use Rattle.dwarf_frame_entries.specs.EntryPrograms.{fde_row}
 use Rattle.framehop_rows.specs.RowMeanings.{RowMeanings}
@@ -53,7 +53,7 @@ pub record AllLeadTo (h : HeadedSection) (relative : ℕ) (fde : Fde) : Type 0 w
   pub by_header : offset_headed h relative ≡ Some fde.head.offset
   pub by_index : offset_by_index (eh_frame_in h) h.base relative ≡ Some fde.head.offset
   pub at_offset : fde_from_offset (eh_frame_in h) fde.head.offset ≡ Ok fde
-  pub by_scan : fde_for_address (eh_frame_in h) (h.base + relative) ≡ Ok fde
+  pub by_scan : fde_for_address_skipping (eh_frame_in h) (h.base + relative) ≡ Ok fde
 
 -- The header leads to an FDE that starts above the address.
 pub record LeadsAbove (h : HeadedSection) (relative : ℕ) : Type 0 where
@@ -63,11 +63,11 @@ pub record LeadsAbove (h : HeadedSection) (relative : ℕ) : Type 0 where
   pub at_offset : fde_from_offset (eh_frame_in h) fde.head.offset ≡ Ok fde
 
 -- The lookups of an address below all FDEs: a header with rows leads to an FDE above the address, an index to none, and after reading
--- the section it is known that no FDE contains the address.
+-- the section it is known that no FDE that can be read contains the address.
 pub record LookupsBelowAll (a : AddressBelow) : Type 0 where
   pub by_header : 0 < a.truthful.truthful.says.count → LeadsAbove a.h a.relative
   pub by_index : offset_by_index (eh_frame_in a.h) a.h.base a.relative ≡ None
-  pub by_scan : fde_for_address (eh_frame_in a.h) (a.h.base + a.relative) ≡ Err NoUnwindInfoForAddress
+  pub by_scan : fde_for_address_skipping (eh_frame_in a.h) (a.h.base + a.relative) ≡ Err NoUnwindInfoForAddress
 
 -- ---- attempts
 

@@ -1,6 +1,6 @@
 -- Modules with one section `.eh_frame`, each unwound by another lookup, and when the header of the section is truthful.
 use Rattle.std.specs.Prelude.{◌≡◌, ℕ, ◌+◌, Bool, List, true, Option, Some, Ok}
-use Rattle.std.specs.List.{Contains}
+use Rattle.std.specs.List.{AllPass, Contains}
 use Rattle.dwarf_frame_rows.specs.declared.base_addresses.BaseAddresses.{BaseAddresses}
 use Rattle.dwarf_frame_rows.specs.FrameSection.{FrameSection}
 use Rattle.dwarf_frame_entries.specs.Entries.{Fde, contains}
@@ -9,7 +9,7 @@ use Rattle.dwarf_call_frames.specs.Header.{Header}
 use Rattle.dwarf_call_frames.specs.Truthful.{IsTruthful}
 use Rattle.framehop_rows.specs.RowMeanings.{RowMeanings}
 use Rattle.framehop.specs.Attempts.{StepLimits, attempt}
-use Rattle.framehop.specs.EntryFor.{has_index}
+use Rattle.framehop.specs.EntryFor.{fits_index}
 use Rattle.framehop.specs.FrameSections.{eh_frame_of}
 use Rattle.framehop.specs.Lookups.{Lookup, ByHeader, ByIndex, ByScan, header_of, offset_by_header, parsed_header}
 use Rattle.framehop.specs.UnwindData.{UnwindData, CallFrames}
@@ -43,12 +43,12 @@ indexed_data bases h = data_with h bases ByIndex
 abbrev pub scanned_data : BaseAddresses → HeadedSection → UnwindData
 scanned_data bases h = data_with h bases ByScan
 
--- The header is truthful, and the section has an index from this base.
+-- The header is truthful, and an index from this base can hold each FDE of the section that can be read.
 pub record AreTruthful (h : HeadedSection) : Type 0 where
   pub says : Header
   pub parses : header_of h.bases h.header ≡ Ok says
   pub is_truthful : IsTruthful (eh_frame_in h) h.bases says
-  pub indexed : has_index h.base (eh_frame_in h) ≡ true
+  pub indexed : AllPass (fits_index h.base) (whole_fdes (eh_frame_in h))
 
 -- The header is truthful, and these bases are the header's for the section.
 pub record AreTruthfulFor (h : HeadedSection) (bases : BaseAddresses) : Type 0 where

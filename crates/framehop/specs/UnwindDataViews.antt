@@ -59,7 +59,7 @@ format_view content format.NoFormat = data_.NoFormat
 abbrev pub AreFoundBy : {D : Type 0} → (base : ℕ) → FrameSection → Entries D → Type 0
 AreFoundBy base section (by.Header header) = Unit {0}
 AreFoundBy base section (by.Index index) = IsIndexOf index base section
-AreFoundBy base section by.Unindexed = has_index base section ≡ false
+AreFoundBy base section by.Unindexed = has_index section ≡ false
 AreFoundBy base section by.Scan = Unit {0}
 
 -- and so it is in a module's format; and rows of a PE file that are said to increase do
@@ -84,7 +84,7 @@ LeadsInto base section which.Scan = Unit {0}
 -- FDEs of the section would be found by an index that it doesn't have
 pub record IsUnindexed (base : ℕ) (section : FrameSection) (lookup : said.Lookup) : Type 0 where
   pub by_index : lookup ≡ said.ByIndex
-  pub none : has_index base section ≡ false
+  pub none : has_index section ≡ false
 
 -- What is lent for finding FDEs of a section, with starts relative to this base, is for that section; if nothing is lent, they would be
 -- found by an index that the section doesn't have.

@@ -1,13 +1,11 @@
 //! The index of a section of call frames, by which the FDE for an address is found.
 
-ghost use Rattle.std.specs.Prelude.{◌≡◌, ◌<◌, ◌≤◌, ◌^◌, ◌+◌, ◌*◌, ℕ, suc, None, Some, length, nat_le, if◌then◌else◌, Result, Ok, Err, IfOk, IfErr};
+ghost use Rattle.std.specs.Prelude.{◌≡◌, ◌<◌, ◌≤◌, ◌^◌, ◌+◌, ◌*◌, ℕ, suc, length, nat_le, if◌then◌else◌};
 ghost use Rattle.std.specs.List.Sorted.{IsNonDecreasingBy, IsPartitionPoint};
 ghost use Rattle.dwarf_frame_entries.specs.Entries.{fde_of};
 ghost use Rattle.framehop.specs.LastCie.{IsLastCie};
-ghost use Rattle.framehop.specs.EntryFor.{index_refusal};
 ghost use Rattle.framehop.specs.FrameSections.{eh_frame_of, debug_frame_of};
-ghost use Rattle.framehop.specs.CfiIndex.{index_entry, IsKept, IsMadeOf, KeepsAll};
-ghost use Rattle.framehop_errors.specs.declared.cfi_index.DwarfCfiIndexError.TheVariants.{OutOfMemory};
+ghost use Rattle.framehop.specs.CfiIndex.{IsMadeOf, KeepsAll, entry_held, entry_kept};
 
 use crate::last_cie::{LastCie, fde_by_last};
 use dwarf_frame_entries::{
@@ -27,73 +25,81 @@ struct IndexedFde {
     offset: u32,
 }
 
-// What the index keeps of an FDE. Fails if the index can't hold it.
-fn index_entry<R: Reader>(
-    fde: &FrameDescriptionEntry<R>,
-    base_svma: u64,
-) -> Result<IndexedFde, DwarfCfiIndexError>
-    ensures kept { IfOk result (λ kept. kept ≡ index_entry base_svma fde.now) }
-    ensures fits { IfOk result (λ kept. index_refusal base_svma fde.now ≡ None) }
-    ensures unfit { IfErr result (λ error. index_refusal base_svma fde.now ≡ Some error) }
+// What the index keeps of an FDE, if it can hold it.
+#[inline(always)]
+fn entry_held<R: Reader>(fde: &FrameDescriptionEntry<R>, base_svma: u64) -> Option<IndexedFde>
+    ensures { result ≡ entry_held base_svma fde.now }
 {
-    let start = fde
-        .initial_address()
-        .checked_sub(base_svma)
-        .ok_or(DwarfCfiIndexError::CouldNotSubtractBaseAddress)?;
-    let Ok(start) = u32::try_from(start) else {
-        return Err(DwarfCfiIndexError::RelativeAddressTooBig);
-    };
-    let Ok(offset) = u32::try_from(fde.offset().into_u64()) else {
-        return Err(DwarfCfiIndexError::FdeOffsetTooBig);
-    };
-    Ok(IndexedFde { start, offset })
+    let start = fde.initial_address().checked_sub(base_svma)?;
+    let start = u32::try_from(start).ok()?;
+    let offset = u32::try_from(fde.offset().into_u64()).ok()?;
+    Some(IndexedFde { start, offset })
 }
 
-// Adds what the index keeps of an FDE of a section to what it keeps of those before it. Fails if the FDE
-// doesn't parse or the index can't hold it. The FDE's CIE is read only if it isn't the one that was read last.
+// What the index keeps of an FDE of a section, if the FDE can be read and the index can hold it. Its CIE is
+// read only if it isn't the one that was read last.
 #[inline(always)]
-fn keep_fde<R: Reader, Section: UnwindSection<R>>(
+fn entry_kept<R: Reader, Section: UnwindSection<R>>(
     section: &Section,
     bases: &BaseAddresses,
     base_svma: u64,
     partial: &PartialFrameDescriptionEntry<'_, Section, R>,
     last: &mut Option<LastCie<R>>,
-    fdes: &mut Vec<IndexedFde>,
-) -> Result<(), DwarfCfiIndexError>
+) -> Option<IndexedFde>
     requires within { partial.now.within ≡ (Section.frame section.now bases.now).within }
     requires last { IsLastCie R.stretch R.Offset.value (Section.frame section.now bases.now) last.old }
-    ensures kept { IsKept result base_svma (fde_of R.Offset.limit Section.kind partial.now)
-        fdes.old.items fdes.new.items }
+    ensures kept { result ≡ entry_kept base_svma (fde_of R.Offset.limit Section.kind partial.now) }
     ensures last { IsLastCie R.stretch R.Offset.value (Section.frame section.now bases.now) last.new }
 {
-    let fde = fde_by_last(section, bases, partial, last)?;
-    let kept = index_entry(&fde, base_svma)?;
-    if fdes.push(kept).is_err() {
-        return Err(DwarfCfiIndexError::OutOfMemory);
-    }
-    Ok(())
+    let fde = fde_by_last(section, bases, partial, last).ok()?;
+    entry_held(&fde, base_svma)
 }
 
-// What the index keeps of a section's FDEs, in their order.
-fn indexed_fdes<R: Reader, Section: UnwindSection<R>>(
+// How many bytes a section has.
+fn size_of_section<R: Reader, Section: UnwindSection<R>>(section: &Section) -> u64
+    ensures { (bases : BaseAddresses) → result ≡ length (Section.frame section.now bases).within.bytes.bytes }
+{
+    section.section().len().into_u64()
+}
+
+// What an index keeps of a section's FDEs, in their order, and how many it leaves out.
+#[derive(Drop)]
+struct KeptFdes {
+    fdes: Vec<IndexedFde>,
+    left_out: usize,
+}
+
+// What an index keeps of a section's FDEs.
+fn kept_fdes<R: Reader, Section: UnwindSection<R>>(
     alloc: Global,
     section: &Section,
     bases: &BaseAddresses,
     base_svma: u64,
-) -> Result<Vec<IndexedFde>, DwarfCfiIndexError>
-    ensures { IsMadeOf result (λ kept. KeepsAll kept.items) base_svma (Section.frame section.now bases.now) }
+) -> Result<KeptFdes, DwarfCfiIndexError>
+    ensures { IsMadeOf result (λ kept. KeepsAll kept.fdes.items kept.left_out) base_svma
+        (Section.frame section.now bases.now) }
 {
     let mut fdes = Vec::new(alloc);
+    // No more are left out than there are bytes.
+    let _bytes = size_of_section(section);
+    let mut left_out: usize = 0;
     let mut last = None;
     let mut entries = section.entries(bases);
     'entries: loop {
         let Some(entry) = entries.next()? else {
-            return Ok(fdes);
+            return Ok(KeptFdes { fdes, left_out });
         };
         let Entry::Fde(partial) = entry else {
             continue;
         };
-        keep_fde(section, bases, base_svma, &partial, &mut last, &mut fdes)?;
+        match entry_kept(section, bases, base_svma, &partial, &mut last) {
+            Some(kept) => {
+                if fdes.push(kept).is_err() {
+                    return Err(DwarfCfiIndexError::OutOfMemory);
+                }
+            }
+            None => left_out += 1,
+        }
     }
 }
 
@@ -173,15 +179,18 @@ pub struct IndexLookup {
 #[derive(Drop)]
 pub struct DwarfCfiIndex {
     fdes: Vec<IndexedFde>,
+    left_out: usize,
     ghost ordered: { IsNonDecreasingBy (λ fde. fde.start) fdes.items },
 }
 
 impl DwarfCfiIndex {
-    ghost use Rattle.framehop.specs.CfiIndexView.{IsIndexOf, IsOffsetByIndex, ReadsEnough, ReadsFew};
+    ghost use Rattle.framehop.specs.CfiIndexView.{IsIndexOf, IsOffsetByIndex, LeavesOut, ReadsEnough, ReadsFew};
 
     /// The index of a section. Its starts are relative to `base_svma`; the section's pointers are relative
-    /// to `bases`. Fails at the first entry that doesn't parse or that an index can't hold, and if it
-    /// fails to allocate.
+    /// to `bases`. An FDE that can't be read, by itself or by its CIE, is left out, and so is one whose start
+    /// is below the base or 2^32 bytes or more above it, or whose offset in the section is 2^32 or more.
+    /// Fails with `Gimli` if an error ends the list of the section's entries, and with `OutOfMemory`; no other
+    /// error is returned.
     pub fn try_new<R: Reader, Section: UnwindSection<R>>(
         alloc: Global,
         section: &Section,
@@ -191,10 +200,10 @@ impl DwarfCfiIndex {
         ensures { IsMadeOf result IsIndexOf base_svma
             (Section.frame section.now bases.now) }
     {
-        let mut fdes = indexed_fdes(alloc, section, bases, base_svma)?;
+        let KeptFdes { mut fdes, left_out } = kept_fdes(alloc, section, bases, base_svma)?;
         fdes.reverse();
         fdes.sort_by_key(|fde| fde.start)?;
-        Ok(DwarfCfiIndex { fdes })
+        Ok(DwarfCfiIndex { fdes, left_out })
     }
 
     /// The index of a section `.eh_frame` of these bytes, as `try_new` makes it. Numbers are
@@ -225,6 +234,13 @@ impl DwarfCfiIndex {
     {
         let section = DebugFrame::new(debug_frame_data, LittleEndian);
         DwarfCfiIndex::try_new(alloc, &section, bases, base_svma)
+    }
+
+    /// How many FDEs of the section are left out, since they can't be read or the index can't hold them.
+    pub fn left_out(&self) -> usize
+        ensures { LeavesOut self.now result }
+    {
+        self.left_out
     }
 
     /// The offset in the section, in bytes, of the FDE for an address relative to the base: of those with

@@ -1,7 +1,7 @@
 //! Unwinding by call frames.
 
 ghost use Rattle.std.specs.Prelude.{◌≡◌, ◌+◌, ◌^◌, ◌<◌, ◌≤◌, IfOk, IfErr, Err, option_map};
-ghost use Rattle.dwarf_frame_entries.specs.AddressLookups.{fde_for_address};
+ghost use Rattle.dwarf_frame_entries.specs.AddressLookups.{fde_for_address_skipping};
 ghost use Rattle.dwarf_frame_entries.specs.Entries.{fde_from_offset};
 ghost use Rattle.framehop_rules.specs.UnwindResults.{HasValidRule};
 ghost use Rattle.framehop_rows.specs.Memory.{TakesMemory};
@@ -185,8 +185,8 @@ fn unwind_frame_by_near_fde<
     )
 }
 
-// What a scan that found no FDE for an address gives: the rule for code that no row covers if the whole
-// section was read, and else the error.
+// What a scan that found no FDE for an address gives: the rule for code that no row covers if the section's
+// list of entries was read to its end, and else the error.
 fn uncovered_after<A: DwarfUnwinding>(
     error: Error,
 ) -> Result<UnwindResult<A::UnwindRule>, DwarfUnwinderError>
@@ -199,7 +199,7 @@ fn uncovered_after<A: DwarfUnwinding>(
     }
 }
 
-// The step by the first FDE of a section that contains an address, from a frame there.
+// The step by the first FDE of a section that can be read and contains an address, from a frame there.
 fn unwind_frame_by_search<
     A: DwarfUnwinding,
     ES: EvaluationStorage,
@@ -223,7 +223,7 @@ fn unwind_frame_by_search<
     ensures answers { let frame = Section.frame section.now bases.now in
         AnswersCoverage F.step read_stack.old read_stack.new regs.old regs.new result
         A.rows A.MeetsExpression is_first_frame ES.Stack.capacity (by_scanned UCS.limits
-        (Section.extensions section.now) frame address (fde_for_address frame address)) }
+        (Section.extensions section.now) frame address (fde_for_address_skipping frame address)) }
     ensures valid { HasValidRule A.UnwindRule.is_valid result }
     ensures memory { result ≡ Err OutOfMemory
         → TakesMemory ES.Stack.is_made_in_place ES.Stack.capacity }
@@ -359,10 +359,10 @@ impl<'a, A: DwarfUnwinding, UCS: UnwindContextStorage<usize>> DwarfUnwinder<'a, 
         }
     }
 
-    /// The step from a frame at a relative address by the first FDE of the section that contains it: as
-    /// `unwind_frame_with_fde` with that FDE's offset; or the rule for code that no row covers, if no FDE
-    /// contains the address. Fails with `FdeFromOffsetFailed` at the first entry before that FDE that can't
-    /// be read, or if its offset doesn't fit 32 bits.
+    /// The step from a frame at a relative address by the first FDE of the section that can be read and
+    /// contains it: as `unwind_frame_with_fde` with that FDE's offset; or the rule for code that no row
+    /// covers, if there is none. Fails with `FdeFromOffsetFailed` if there is none and an error ends the
+    /// section's list of entries, or if the FDE's offset doesn't fit 32 bits.
     pub fn unwind_frame_by_scan<ES: EvaluationStorage, F: FnMut(u64) -> Result<u64, ()>>(
         &mut self,
         alloc: Global,

@@ -2,7 +2,7 @@
 
 ghost use Rattle.std.specs.Prelude.{◌≡◌};
 ghost use Rattle.dwarf_endianity.specs.Answers.{Gives};
-ghost use Rattle.dwarf_frame_entries.specs.AddressLookups.{fde_for_address};
+ghost use Rattle.dwarf_frame_entries.specs.AddressLookups.{fde_for_address_skipping};
 ghost use Rattle.dwarf_frame_entries.specs.Entries.{fde_from_offset};
 ghost use Rattle.framehop.specs.Lookups.{headed_offset, offset_in_table};
 
@@ -61,14 +61,15 @@ pub(crate) fn headed_offset(
     offset_in_table(&table, bases, address)
 }
 
-// The first FDE of a section that contains an address. Fails if none does, and at the first entry before
-// it that doesn't parse. A CIE is read only if it isn't the one that was read last.
+// The first FDE of a section that can be read and contains an address. If none does, it fails with the error
+// that ends the list of entries, or with `NoUnwindInfoForAddress`. A CIE is read only if it isn't the one
+// that was read last.
 pub(crate) fn containing_fde<R: Reader, Section: UnwindSection<R>>(
     section: &Section,
     bases: &BaseAddresses,
     address: u64,
 ) -> dwarf_read_core::Result<FrameDescriptionEntry<R>>
-    ensures { Gives (λ fde. fde) result (fde_for_address (Section.frame section.now bases.now) address) }
+    ensures { Gives (λ fde. fde) result (fde_for_address_skipping (Section.frame section.now bases.now) address) }
 {
     let mut last = None;
     let mut entries = section.entries(bases);
@@ -79,7 +80,9 @@ pub(crate) fn containing_fde<R: Reader, Section: UnwindSection<R>>(
         let Entry::Fde(partial) = entry else {
             continue;
         };
-        let fde = fde_by_last(section, bases, &partial, &mut last)?;
+        let Ok(fde) = fde_by_last(section, bases, &partial, &mut last) else {
+            continue;
+        };
         if fde.contains(address) {
             return Ok(fde);
         }

@@ -202,3 +202,75 @@ fn an_error_is_printed_by_its_name(rt: HostRuntime) -> Result<(), Fail> {
     }
     Ok(())
 }
+
+/// FDEs whose code starts below the base, or 2^32 bytes or more above it, are left out, and the others are found.
+#[test]
+fn fdes_out_of_range_are_left_out(rt: HostRuntime) -> Result<(), Fail> {
+    let starts = [0, 1, BASE - 1, BASE, BASE + (1 << 32), BASE + (1 << 32) - 1];
+    let bytes = section_of(rt.alloc(), &starts)?;
+    let index = index_of(rt.alloc(), &bytes, BASE)?;
+    assert!(rt; index.left_out() == 4);
+    assert!(rt; index.fde_offset_for_relative_address(0) == Some(20 + 3 * 24));
+    assert!(rt; index.fde_offset_for_relative_address(u32::MAX - 1) == Some(20 + 3 * 24));
+    assert!(rt; index.fde_offset_for_relative_address(u32::MAX) == Some(20 + 5 * 24));
+    Ok(())
+}
+
+/// A section of two FDEs, of which these bytes are the first, after its length.
+fn section_after(alloc: Global, first: &[u8]) -> Result<Vec<u8>, Fail> {
+    let mut bytes = CIE.to_vec(alloc)?;
+    bytes.extend_from_slice(&u32::try_from(first.len()).unwrap_or(0).to_le_bytes())?;
+    bytes.extend_from_slice(first)?;
+    let id = u32::try_from(bytes.len()).unwrap_or(0).wrapping_add(4);
+    bytes.extend_from_slice(&20u32.to_le_bytes())?;
+    bytes.extend_from_slice(&id.to_le_bytes())?;
+    bytes.extend_from_slice(&BASE.to_le_bytes())?;
+    bytes.extend_from_slice(&16u64.to_le_bytes())?;
+    Ok(bytes)
+}
+
+/// First FDEs that can't be read: one without its range, one whose CIE is itself, and one whose CIE is at an
+/// offset that has no entry.
+static UNREAD: [&[u8]; 3] = [
+    &[0x18, 0, 0, 0, 0, 0, 0x40, 0, 0, 0, 0, 0],
+    &[
+        4, 0, 0, 0, 0, 0, 0x40, 0, 0, 0, 0, 0, 16, 0, 0, 0, 0, 0, 0, 0,
+    ],
+    &[
+        0x14, 0, 0, 0, 0, 0, 0x40, 0, 0, 0, 0, 0, 16, 0, 0, 0, 0, 0, 0, 0,
+    ],
+];
+
+#[test]
+fn fdes_that_cannot_be_read_are_left_out(rt: HostRuntime) -> Result<(), Fail> {
+    for &first in &UNREAD {
+        let bytes = section_after(rt.alloc(), first)?;
+        let index = index_of(rt.alloc(), &bytes, BASE)?;
+        let offset = u32::try_from(first.len()).unwrap_or(0).wrapping_add(24);
+        assert!(rt; index.left_out() == 1);
+        assert!(rt; index.fde_offset_for_relative_address(0) == Some(offset));
+    }
+    Ok(())
+}
+
+/// First entries that end the list: a CIE of a version that isn't known, one of an augmentation that isn't, and
+/// an FDE whose CIE would be before the section.
+static FAULTS: [(&[u8], Error); 3] = [
+    (&[0, 0, 0, 0, 2, 0, 1, 0x78, 0x10], Error::UnknownVersion(2)),
+    (
+        &[0, 0, 0, 0, 1, 0x7a, 0x58, 0, 1, 0x78, 0x10, 1, 0],
+        Error::UnknownAugmentation,
+    ),
+    (&[0x19, 0, 0, 0], Error::OffsetOutOfBounds),
+];
+
+#[test]
+fn a_fault_of_the_list_is_returned(rt: HostRuntime) -> Result<(), Fail> {
+    for &(first, error) in &FAULTS {
+        let bytes = section_after(rt.alloc(), first)?;
+        let bases = BaseAddresses::default();
+        let index = DwarfCfiIndex::try_new_eh_frame(rt.alloc(), &bytes, &bases, BASE);
+        assert!(rt; index.err() == Some(DwarfCfiIndexError::Gimli(error)));
+    }
+    Ok(())
+}

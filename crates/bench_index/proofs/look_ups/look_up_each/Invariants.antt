@@ -1,7 +1,7 @@
 use Rattle.std.proofs.Common.{◌≡◌, ◌≤◌, ◌^◌, ℕ, suc, length}
 use Rattle.dwarf_frame_rows.specs.FrameSection.{FrameSection}
-use Rattle.dwarf_frame_entries.specs.SectionFdes.{whole_fdes}
 use Rattle.framehop.specs.CfiIndexView.{IsIndexOf}
+use Rattle.framehop.specs.EntryFor.{indexed_fdes}
 use Rattle.bench_index.specs.LookUps.{found_among}
 use Rattle.bench_index.proofs.look_ups.look_up_each.Given as goal
 
@@ -9,6 +9,6 @@ abbrev pub invariant-loop-i : goal.invariant-loop-i
 invariant-loop-i l = record {
   fits : l.tally.found ≤ l.i;
   found : (base : ℕ) (section : FrameSection) → IsIndexOf l.index base section → l.tally.found ≡ found_among l.i l.fn.apart base section;
-  few : (base : ℕ) (section : FrameSection) → IsIndexOf l.index base section → (k : ℕ) → length (whole_fdes section) ≤ 2 ^ k → l.tally.most_starts_read ≤ suc k;
-  counted : (base : ℕ) (section : FrameSection) → IsIndexOf l.index base section → 1 ≤ l.i → (k : ℕ) → 2 ^ k ≤ suc (length (whole_fdes section)) → k ≤ l.tally.most_starts_read;
+  few : (base : ℕ) (section : FrameSection) → IsIndexOf l.index base section → (k : ℕ) → length (indexed_fdes base section) ≤ 2 ^ k → l.tally.most_starts_read ≤ suc k;
+  counted : (base : ℕ) (section : FrameSection) → IsIndexOf l.index base section → 1 ≤ l.i → (k : ℕ) → 2 ^ k ≤ suc (length (indexed_fdes base section)) → k ≤ l.tally.most_starts_read;
 }

@@ -1,5 +1,5 @@
 use Rattle.std.proofs.Common.{◌≡◌, Err, ap, sym}
-use Rattle.dwarf_frame_entries.specs.AddressLookups.{fde_for_address}
+use Rattle.dwarf_frame_entries.specs.AddressLookups.{fde_for_address_skipping}
 use Rattle.framehop.specs.Coverage.{by_scanned}
 use Rattle.framehop.proofs.CoverageAnswers.{by-scan_failure, covered-as, result-as}
 use Rattle.framehop.proofs.dwarf.unwind_frame_by_search.Goals as goal
@@ -17,7 +17,7 @@ returns-in-Err-clause-answers g c =
     let address = c.args.address in
     let stack = c.args.read_stack.now in
     let registers = c.args.regs.now in
-    let said : Err c.in-Err.error ≡ fde_for_address section address = sym c.in-Err.ensures in
+    let said : Err c.in-Err.error ≡ fde_for_address_skipping section address = sym c.in-Err.ensures in
     result-as m meets first values stack stack registers registers _ _ _ (sym c.uncovered_after.ensures.answer)
     (covered-as m meets first values stack stack registers registers _ _ _ (ap (by_scanned limits vendor section address) said)
     (by-scan_failure m meets first values stack registers limits vendor section address c.in-Err.error))

@@ -1,19 +1,18 @@
-use Rattle.std.proofs.Common.{Ok, Err, ap, sym, ◌∙◌}
+use Rattle.std.proofs.Common.{Ok, ap, sym, ◌∙◌}
 use Rattle.std.proofs.lemmas.Result.{err_from_is_err_and}
-use Rattle.dwarf_frame_entries.specs.AddressLookups.{fde_for}
-use Rattle.dwarf_frame_entries.specs.EntryLists.{entries_of}
+use Rattle.dwarf_frame_entries.specs.EntryLists.{EntryList}
 use Rattle.dwarf_frame_entries.specs.declared.entries.Entry.TheVariants as which
 use Rattle.dwarf_frame_entries.proofs.Laws.{fdes_of_section}
 use Rattle.framehop.proofs.CfiIndexBuild.{first-of, others-of}
-use Rattle.framehop.proofs.Scans.{cie-first, error-first, fde-elsewhere, fde-fails, fde-found, none-left}
+use Rattle.framehop.proofs.Scans.{cie-passed, fde-elsewhere, fde-found, fde-passed, list-fails, none-left, scan-all, scan_among}
 use Rattle.framehop.proofs.lookups.containing_fde.Goals as goal
 
 pub entries-init : goal.entries-init
 entries-init g c =
     let section = g.Section._UnwindSectionPrivate.frame c.args.section.now c.args.bases.now in
-    let all = ap (λ l. l.entries) c.entries-entries.ensures in
+    let all = c.entries-entries.ensures in
     record {
-      left = ap (fde_for section c.args.address) all;
+      left = ap (λ (l : EntryList). scan_among section c.args.address l.entries l.end) all ∙ scan-all section c.args.address;
       within = rw all (fdes_of_section section);
       last = tt;
     }
@@ -22,20 +21,22 @@ pub returns-in_err-entry : goal.returns-in_err-entry
 returns-in_err-entry g c =
     let section = g.Section._UnwindSectionPrivate.frame c.args.section.now c.args.bases.now in
     let p = err_from_is_err_and c.from_residual.result c.from_residual.ensures.1 in
-    rw (p.1, p.2) (error-first section c.args.address c.entries.entries.entries _ c.entries.invariant.left _ c.in_err-entry.ensures.list.0)
+    rw (p.1, p.2) (list-fails section c.args.address c.entries.entries.entries c.entries.entries.end _ c.entries.invariant.left _ c.in_err-entry.ensures.list.0 c.in_err-entry.ensures.end)
 
 pub returns-in_default : goal.returns-in_default
 returns-in_default g c =
     let section = g.Section._UnwindSectionPrivate.frame c.args.section.now c.args.bases.now in
     let list = rw c.in_default.is at c.in_ok-entry.ensures.list in
-    none-left section c.args.address c.entries.entries.entries _ c.entries.invariant.left list.0
+    let end = rw c.in_default.is at c.in_ok-entry.ensures.end in
+    none-left section c.args.address c.entries.entries.entries c.entries.entries.end _ c.entries.invariant.left list.0 end
 
 pub entries-preserved-in_default-entry : goal.entries-preserved-in_default-entry
 entries-preserved-in_default-entry g c =
     let section = g.Section._UnwindSectionPrivate.frame c.args.section.now c.args.bases.now in
     let list = rw (c.in-Some.is, c.in_default-entry.is) at c.in_ok-entry.ensures.list in
+    let on = rw c.in-Some.is at c.in_ok-entry.ensures.end in
     record {
-      left = cie-first section c.args.address c.entries.entries.entries _ c.entries.invariant.left _ c.next.new.self.entries list;
+      left = cie-passed section c.args.address c.entries.entries.entries c.entries.entries.end _ c.entries.invariant.left _ on _ c.next.new.self.entries list;
       within = others-of section c.entries.entries.entries c.next.new.self.entries _ list c.entries.invariant.within;
       last = c.entries.invariant.last;
     }
@@ -46,30 +47,36 @@ fde_by_last-requires-clause-within g c =
     let list = rw (c.in-Some.is, c.in-Fde.is) at c.in_ok-entry.ensures.list in
     first-of section c.entries.entries.entries c.next.new.self.entries (Ok (which.Fde c.in-Fde.partial)) list c.entries.invariant.within
 
-pub returns-in_err-fde : goal.returns-in_err-fde
-returns-in_err-fde g c =
-    let section = g.Section._UnwindSectionPrivate.frame c.args.section.now c.args.bases.now in
-    let list = rw (c.in-Some.is, c.in-Fde.is) at c.in_ok-entry.ensures.list in
-    let p = err_from_is_err_and c.from_residual-in_err-fde.result c.from_residual-in_err-fde.ensures.1 in
-    rw (p.1, p.2) (fde-fails section c.args.address c.entries.entries.entries _ c.entries.invariant.left c.in-Fde.partial c.next.new.self.entries list _
-    (rw (g.met.Section._UnwindSectionPrivate.framed c.args.section.now c.args.bases.now) c.in_err-fde.ensures.fde))
-
 pub returns-then-contains : goal.returns-then-contains
 returns-then-contains g c =
     let section = g.Section._UnwindSectionPrivate.frame c.args.section.now c.args.bases.now in
     let list = rw (c.in-Some.is, c.in-Fde.is) at c.in_ok-entry.ensures.list in
-    fde-found section c.args.address c.entries.entries.entries _ c.entries.invariant.left c.in-Fde.partial c.next.new.self.entries list c.in_ok-fde.fde
-    (rw (g.met.Section._UnwindSectionPrivate.framed c.args.section.now c.args.bases.now) c.in_ok-fde.ensures.fde)
+    let on = rw c.in-Some.is at c.in_ok-entry.ensures.end in
+    fde-found section c.args.address c.entries.entries.entries c.entries.entries.end _ c.entries.invariant.left _ on c.in-Fde.partial c.next.new.self.entries list c.in-Ok.fde
+    (rw (g.met.Section._UnwindSectionPrivate.framed c.args.section.now c.args.bases.now) c.in-Ok.ensures.fde)
     (sym c.contains.ensures ∙ c.if-contains.true)
+
+pub entries-preserved-in_default-fde_by_last : goal.entries-preserved-in_default-fde_by_last
+entries-preserved-in_default-fde_by_last g c =
+    let section = g.Section._UnwindSectionPrivate.frame c.args.section.now c.args.bases.now in
+    let list = rw (c.in-Some.is, c.in-Fde.is) at c.in_ok-entry.ensures.list in
+    let on = rw c.in-Some.is at c.in_ok-entry.ensures.end in
+    record {
+      left = fde-passed section c.args.address c.entries.entries.entries c.entries.entries.end _ c.entries.invariant.left _ on c.in-Fde.partial c.next.new.self.entries list c.in_default-fde_by_last.field-0
+          (rw (g.met.Section._UnwindSectionPrivate.framed c.args.section.now c.args.bases.now) c.in_default-fde_by_last.ensures.fde);
+      within = others-of section c.entries.entries.entries c.next.new.self.entries _ list c.entries.invariant.within;
+      last = c.fde_by_last.ensures.last;
+    }
 
 pub entries-preserved : goal.entries-preserved
 entries-preserved g c =
     let section = g.Section._UnwindSectionPrivate.frame c.args.section.now c.args.bases.now in
     let list = rw (c.in-Some.is, c.in-Fde.is) at c.in_ok-entry.ensures.list in
+    let on = rw c.in-Some.is at c.in_ok-entry.ensures.end in
     record {
-      left = fde-elsewhere section c.args.address c.entries.entries.entries _ c.entries.invariant.left c.in-Fde.partial c.next.new.self.entries list c.in_ok-fde.fde
-          (rw (g.met.Section._UnwindSectionPrivate.framed c.args.section.now c.args.bases.now) c.in_ok-fde.ensures.fde)
+      left = fde-elsewhere section c.args.address c.entries.entries.entries c.entries.entries.end _ c.entries.invariant.left _ on c.in-Fde.partial c.next.new.self.entries list c.in-Ok.fde
+          (rw (g.met.Section._UnwindSectionPrivate.framed c.args.section.now c.args.bases.now) c.in-Ok.ensures.fde)
           (sym c.contains.ensures ∙ c.if-contains.false);
       within = others-of section c.entries.entries.entries c.next.new.self.entries _ list c.entries.invariant.within;
-      last = c.in_ok-fde.ensures.last;
+      last = c.fde_by_last.ensures.last;
     }

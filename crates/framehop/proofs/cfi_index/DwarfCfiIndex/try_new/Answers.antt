@@ -5,8 +5,8 @@ use Rattle.std.proofs.lemmas.List.Sorted.{IsNonDecreasingBy-from_sort_by_key, an
 use Rattle.framehop.specs.declared.cfi_index.IndexedFde.{IndexedFde}
 use Rattle.dwarf_frame_rows.specs.FrameSection.{FrameSection}
 use Rattle.dwarf_frame_entries.specs.Entries.{Fde}
-use Rattle.dwarf_frame_entries.specs.SectionFdes.{whole_fdes}
 use Rattle.framehop.specs.CfiIndex.{index_entry}
+use Rattle.framehop.specs.EntryFor.{indexed_fdes}
 use Rattle.framehop.proofs.CfiIndexBuild.{indexes-sorted}
 use Rattle.framehop.proofs.cfi_index.DwarfCfiIndex.try_new.Goals as goal
 
@@ -19,10 +19,11 @@ pub returns : goal.returns
 returns g c =
     let base : ℕ = c.args.base_svma in
     let section : FrameSection = g.Section._UnwindSectionPrivate.frame c.args.section.now c.args.bases.now in
-    let fdes : List Fde = whole_fdes section in
+    let fdes : List Fde = indexed_fdes base section in
     let ys : List IndexedFde = c.sort_by_key.new.self.items in
-    let same : c.reverse.new.self.items ≡ reverse (map (index_entry base) fdes) = c.reverse.ensures.items ∙ ap reverse c.in_ok-fdes.ensures.0 in
+    let made = c.in_ok-fdes.ensures in
+    let same : c.reverse.new.self.items ≡ reverse (map (index_entry base) fdes) = c.reverse.ensures.items ∙ ap reverse made.0.0 in
     let up : IsNonDecreasingBy (λ y. y.start) ys = IsNonDecreasingBy-from_sort_by_key (λ y. y.start) _ c.in_ok-sort_by_key.ensures.sorted (λ a r q k. search rules) in
     let moved : IsPermutation (reverse (map (index_entry base) fdes)) ys = rw (← same) c.sort_by_key.ensures.permutation in
     let stable : IsStableByKey (λ y. y.start) nat_cmp (reverse (map (index_entry base) fdes)) ys = rw (← same) (c.sort_by_key.ensures.stable (λ y. y.start) (answers_always _ _ _ (λ f a r g h. search rules))) in
-    (indexes-sorted base section ys c.in_ok-fdes.ensures.1 up moved stable, c.in_ok-fdes.ensures.1)
+    (indexes-sorted base section ys _ made.1 made.0.1 up moved stable, made.1)
