@@ -1,5 +1,5 @@
 -- The last row that starts at or below an address, by a pass from the end and by halving.
-use Rattle.std.proofs.Common.{◌≡◌, ℕ, zero, suc, ◌+◌, ◌-◌, ◌/◌, ◌^◌, ◌<◌, ◌≤◌, Bool, true, false, if◌then◌else◌, refl, sym, ◌∙◌, arith}
+use Rattle.std.proofs.Common.{◌≡◌, ℕ, zero, suc, ◌+◌, ◌-◌, ◌*◌, ◌/◌, ◌^◌, ◌<◌, ◌≤◌, Bool, true, false, if◌then◌else◌, refl, sym, ◌∙◌, arith}
 use Rattle.std.specs.Prelude.{nat_le, nat_lt, Option, Some, None, IfSome}
 use Rattle.std.proofs.lemmas.Bool.Decides.{nat_tests}
 use Rattle.std.proofs.Math.Nat.{two-pow-succ, sub-zero}
@@ -116,17 +116,17 @@ all-left rows start address count all some = record {
 }
 
 pub half-left : (rows : ℕ) (start : ℕ → ℕ) (address low len next : ℕ) → Increases rows start → 1 < len → IsLeft rows start address low len
-    → next ≡ (if nat_le (start (low + len / 2)) address then low + len / 2 else low) → IsLeft rows start address next (len - len / 2)
+    → next ≡ low + len / 2 * (if nat_le (start (low + len / 2)) address then 1 else 0) → IsLeft rows start address next (len - len / 2)
 half-left rows start address low len next up more left is = by (nat_le (start (low + len / 2)) address) refl is
   where
-    by : (b : Bool) → nat_le (start (low + len / 2)) address ≡ b → next ≡ (if b then low + len / 2 else low) → IsLeft rows start address next (len - len / 2)
-    by true reached at = rw at (record {
+    by : (b : Bool) → nat_le (start (low + len / 2)) address ≡ b → next ≡ low + len / 2 * (if b then 1 else 0) → IsLeft rows start address next (len - len / 2)
+    by true reached at = let there : next ≡ low + len / 2 = omega arith in rw there (record {
       some = omega arith;
       within = omega (arith, left.within);
       reached = λ above. grind (arith, nat_tests);
       after = λ row past inside. left.after row (omega arith) inside;
     })
-    by false missed at = rw at (record {
+    by false missed at = let there : next ≡ low = omega arith in rw there (record {
       some = omega arith;
       within = omega (arith, left.within);
       reached = left.reached;

@@ -1,6 +1,6 @@
 //! Searches in rows by their starts.
 
-ghost use Rattle.std.specs.Prelude.{◌≡◌, ◌↔◌, ◌<◌, ◌≤◌, ◌+◌, ◌^◌, ℕ, IsTrue, IfSome, nat_le, if◌then◌else◌};
+ghost use Rattle.std.specs.Prelude.{◌≡◌, ◌↔◌, ◌<◌, ◌≤◌, ◌+◌, ◌*◌, ◌^◌, ℕ, IsTrue, IfSome, nat_le, if◌then◌else◌};
 ghost use Rattle.framehop_compact_tables.specs.Rows.{last_row, IsLastRow, Increases, AreFewMore};
 
 use dwarf_readers::Steps;
@@ -58,12 +58,21 @@ fn last_row<T: Rows, L: Ledger>(table: &T, address: u32, steps: &mut Steps<L>) -
     None
 }
 
-// The first of the rows that are left: the one in the middle if it starts at or below the address.
+// 1 if a start is at or below an address, else 0: without a branch, which no processor could foresee.
+#[inline(always)]
+fn count_at_or_below(start: u32, address: u32) -> usize
+    ensures { result ≡ (if nat_le start address then 1 else 0) }
+{
+    ((u64::from(address) + (1 << 32) - u64::from(start)) >> 32) as usize
+}
+
+// The first of the rows that are left: after a half of them, if the one there starts at or below the address.
+#[inline(always)]
 fn half_left(low: usize, half: usize, start: u32, address: u32) -> usize
     requires { low + half < 2 ^ 64 }
-    ensures { result ≡ (if nat_le start address then low + half else low) }
+    ensures { result ≡ low + half * (if nat_le start address then 1 else 0) }
 {
-    if start <= address { low + half } else { low }
+    low + half * count_at_or_below(start, address)
 }
 
 // The same by halving, if the starts increase.
