@@ -8,16 +8,17 @@ use dwarf_constants::Error;
 use std::alloc::AllocError;
 use std::{error, fmt};
 
-/// Why a section of call frames has no index.
+/// Why a section of call frames has no index. The three variants of a single FDE are the original's: an
+/// index leaves such an FDE out, and isn't refused for it.
 #[derive(Debug, Clone, Copy, PartialEq, Eq)]
 pub enum DwarfCfiIndexError {
-    /// An entry of the section doesn't parse.
+    /// An error ends the list of the section's entries.
     Gimli(Error),
-    /// An FDE's code starts below the base.
+    /// An FDE's code starts below the base. Not returned.
     CouldNotSubtractBaseAddress,
-    /// An FDE's code starts 2^32 bytes or more above the base.
+    /// An FDE's code starts 2^32 bytes or more above the base. Not returned.
     RelativeAddressTooBig,
-    /// An FDE is 2^32 bytes or more from the section's start.
+    /// An FDE is 2^32 bytes or more from the section's start. Not returned.
     FdeOffsetTooBig,
     /// Out of memory for the index.
     OutOfMemory,
