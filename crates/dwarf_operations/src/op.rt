@@ -71,8 +71,8 @@ pub enum Operation {
 impl Operation {
     /// Reads the operation that the bytes begin with, and leaves what is after it. Fails with
     /// `UnsupportedEvaluation` if the opcode isn't that of an operation on values without a type, and
-    /// if an operand can't be read. An error leaves what is after the opcode, and after numbers of
-    /// variable length that come before the error.
+    /// if an operand can't be read. After an error the opcode is gone, and of its operands the numbers
+    /// of variable length, as far as they were read.
     #[inline(always)]
     pub fn parse<R: Reader>(bytes: &mut R, encoding: Encoding) -> Result<Operation>
         ensures read { Reads result (operation_at encoding.address_size (R.stretch bytes.old))

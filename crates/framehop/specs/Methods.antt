@@ -4,8 +4,8 @@ use Rattle.dwarf_frame_rows.specs.FrameSection.{FrameSection}
 use Rattle.framehop_registers.specs.Callback.{Words}
 use Rattle.framehop_rules.specs.Outcome.{Caller}
 
--- By a rule; by the FDE at an offset of a section of call frames; by the first FDE of one that can be read and contains the address; by codes that are
--- run on the registers and the words of the stack; or by nothing, whatever the registers and words.
+-- By a rule; by the FDE at an offset of a section of call frames; by the first FDE of one that can be read and contains the address; by
+-- codes that are run on the registers and the words of the stack; or by nothing, whatever the registers and words.
 pub data Method (Rule Registers : Type 0) : Type 0 where
   UsesRule : Rule → Method Rule Registers
   UsesFde : FrameSection → (offset : ℕ) → Method Rule Registers

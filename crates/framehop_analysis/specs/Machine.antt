@@ -26,10 +26,11 @@ with_register s number value =
     if number == 5 then record s { bp = value } else
     record s { others = updated s.others number value }
 
--- A stack pointer 8 higher, and 8 lower.
+-- A stack pointer 8 higher.
 abbrev pub higher : ℕ → ℕ
 higher sp = (sp + 8) % 2 ^ 64
 
+-- A stack pointer 8 lower.
 abbrev pub lower : ℕ → ℕ
 lower sp = (sp + (2 ^ 64 - 8)) % 2 ^ 64
 

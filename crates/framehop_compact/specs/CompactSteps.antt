@@ -37,6 +37,7 @@ abbrev pub IsStepFrom : {Rule : Type 0} → Bool → Rule → Type 0 → CuiResu
 IsStepFrom true start_rule IsInside result = result ≡ Ok (ExecRule start_rule)
 IsStepFrom false start_rule IsInside result = IsInside
 
+-- The step in a function: at its start a first frame has the rule of a function's start.
 abbrev pub IsStepIn : {Rule : Type 0} → Rule → StepsInFunction Rule → CompactSections → ℕ → Bool → Function → CuiResult Rule → Type 0
 IsStepIn start_rule IsUnwound sections address is_first function result =
     IsStepFrom (is_first && (address == function.start_address)) start_rule
@@ -51,6 +52,7 @@ IsStepByPlace stub_rule helper_rule address is_first (Ok place.NoFunction) resul
 IsStepByPlace stub_rule helper_rule address is_first (Ok (place.Function function)) result = Unit {0}
 IsStepByPlace stub_rule helper_rule address is_first (Err refusal) result = result ≡ Err refusal
 
+-- The step at an address that is in no function.
 abbrev pub IsStepOutside : {Rule : Type 0} → Rule → (ℕ → Rule) → CompactSections → ℕ → Bool → CuiResult Rule → Type 0
 IsStepOutside stub_rule helper_rule sections address is_first result =
     IsStepByPlace stub_rule helper_rule address is_first (place_of sections address) result

@@ -31,6 +31,7 @@ with_saved encoding is_indirect None = InvalidFrameless
 with_saved encoding true (Some registers) = indirect encoding (saved_after_bp registers)
 with_saved encoding false (Some registers) = immediate encoding (saved_after_bp registers)
 
+-- What an encoding of a function without a frame says.
 abbrev pub frameless : ℕ → Bool → OpcodeX86_64
 frameless encoding is_indirect = with_saved encoding is_indirect (saved_registers encoding)
 

@@ -41,6 +41,7 @@ abbrev pub IsUnwoundAs : OpcodeArm64 → Bool → ℕ → Option (List ℕ) → 
 IsUnwoundAs Null true offset text result = result ≡ Ok (ExecRule NoOp)
 IsUnwoundAs opcode is_first offset text result = IsUnwoundBy opcode is_first offset text result
 
+-- The same, by the function's encoding.
 abbrev pub IsUnwound : Function → Bool → ℕ → Option (List ℕ) → CuiResult UnwindRuleAarch64 → Type 0
 IsUnwound function is_first offset text result = IsUnwoundAs (opcode_of function.opcode) is_first offset text result
 

@@ -10,10 +10,12 @@ use Rattle.framehop_compact_tables.specs.declared.lookup.UnwindInfo.{UnwindInfo}
 abbrev pub rows_of_page : List ℕ → ℕ → ℕ
 rows_of_page bytes row = elim (page_of bytes row) [ Ok page ↦ entry_count page | Err refusal ↦ 0 ]
 
+-- How many rows the page of the entry that was found in the index has; its last entry has no page.
 abbrev pub rows_by_index : List ℕ → Option ℕ → ℕ
 rows_by_index bytes None = 0
 rows_by_index bytes (Some row) = if row + 1 == index_count bytes then 0 else rows_of_page bytes row
 
+-- How many rows the page has that is searched for an address.
 abbrev pub page_rows : List ℕ → ℕ → ℕ
 page_rows bytes address = rows_by_index bytes (last_row (index_count bytes) (index_start bytes) address)
 

@@ -3,17 +3,19 @@
 use Rattle.std.specs.Prelude.{ℕ, ◌+◌, ◌*◌, Bool, ◌&&◌, List}
 use Rattle.framehop_compact_tables.specs.Bytes.{u32_at, is_within}
 
--- Where the common encodings are, and how many.
+-- Where the common encodings are.
 abbrev pub common_offset : List ℕ → ℕ
 common_offset bytes = u32_at bytes 4
 
+-- How many common encodings there are.
 abbrev pub common_count : List ℕ → ℕ
 common_count bytes = u32_at bytes 8
 
--- Where the index is, and how many entries it has.
+-- Where the index is.
 abbrev pub index_offset : List ℕ → ℕ
 index_offset bytes = u32_at bytes 20
 
+-- How many entries the index has.
 abbrev pub index_count : List ℕ → ℕ
 index_count bytes = u32_at bytes 24
 

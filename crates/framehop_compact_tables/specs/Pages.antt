@@ -7,10 +7,11 @@ use Rattle.framehop_compact_tables.specs.Index.{common_offset, common_count}
 use Rattle.framehop_compact_tables.specs.declared.page.Page.{Page}
 use Rattle.framehop_compact_tables.specs.declared.page.Page.TheVariants.{Regular, Compressed}
 
--- A page by its header: the offset and the number of its entries, and of its own encodings. Offsets in a page are from its start.
+-- A regular page by its header: the offset and the number of its entries. Offsets in a page are from its start.
 abbrev pub regular_page : List ℕ → ℕ → Page
 regular_page bytes offset = Regular (capped_sum offset (u16_at bytes (offset + 4))) (u16_at bytes (offset + 6))
 
+-- A compressed page by its header: the same, and the offset and the number of its own encodings.
 abbrev pub compressed_page : List ℕ → ℕ → ℕ → Page
 compressed_page bytes offset start =
     Compressed start
@@ -25,15 +26,17 @@ page_header_at bytes offset start =
     if u32_at bytes offset == 3 then if_within bytes offset 12 (Ok (compressed_page bytes offset start)) else
     Err (BadPageKind (u32_at bytes offset)))
 
--- Where its entries are, how many, and how many bytes each has.
+-- Where the entries of a page are.
 abbrev pub entries_offset : Page → ℕ
 entries_offset (Regular entries count) = entries
 entries_offset (Compressed start entries count encodings encoding_count) = entries
 
+-- How many entries a page has.
 abbrev pub entry_count : Page → ℕ
 entry_count (Regular entries count) = count
 entry_count (Compressed start entries count encodings encoding_count) = count
 
+-- How many bytes an entry has.
 abbrev pub entry_size : Page → ℕ
 entry_size (Regular entries count) = 8
 entry_size (Compressed start entries count encodings encoding_count) = 4

@@ -22,6 +22,7 @@ abbrev pub MeetsExpression : Row ℕ → Type 0
 MeetsExpression row = MeetsExpressionPart scaled_rule (parts_of X29 X30 row)
 
 -- what call frames mean: code that no row covers has the rule of a first frame without a frame of its own, or of the frame pointer; and
--- instructions of aarch64's own are read (DWARF for the Arm 64-bit Architecture, "Call frame instructions"): code that signs return addresses has them
+-- instructions of aarch64's own are read (DWARF for the Arm 64-bit Architecture, "Call frame instructions"): code that signs return
+-- addresses has them
 abbrev pub rows : RowMeanings UnwindRuleAarch64 UnwindRegsAarch64
 rows = row_meanings row_attempt NoOpIfFirstFrameOtherwiseFp AArch64

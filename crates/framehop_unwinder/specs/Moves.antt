@@ -38,9 +38,9 @@ abbrev pub position_after : Option FrameAddress → WalkPosition
 position_after (Some address) = At (frame_of address)
 position_after None = Over
 
--- A move, for every callback. A walk that starts goes to the frame of its instruction pointer. Only a walk at a frame fails: it stays there, with the registers that it had unless the return
--- address is 0, and as it was if it is out of memory. The walk goes to the frame that is returned, and is over after None; it
--- stays over.
+-- A move, for every callback. A walk that starts goes to the frame of its instruction pointer. Only a walk at a frame fails: it stays
+-- there, with the registers that it had unless the return address is 0, and as it was if it is out of memory. The walk goes to the
+-- frame that is returned, and is over after None; it stays over.
 pub record MovesOn {Registers : Type 0} (old : Walk Registers) (result : Result (Option FrameAddress) Error) (new : Walk Registers) : Type 0 where
   pub begins : (pc : ℕ) → old.position ≡ Starts pc → (frame_answer result ≡ Ok (Some (first_frame pc))) × (new.registers ≡ old.registers)
   pub refusals : OnErr result (IsAtFrame old.position)
