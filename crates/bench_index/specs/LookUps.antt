@@ -1,7 +1,7 @@
 -- Look-ups of addresses in steps of one size.
 use Rattle.std.specs.Prelude.{ℕ, zero, suc, ◌+◌, ◌*◌, ◌%◌, ◌^◌, is_some, if◌then◌else◌}
 use Rattle.dwarf_frame_rows.specs.FrameSection.{FrameSection}
-use Rattle.framehop.specs.EntryFor.{indexed_entry}
+use Rattle.framehop_index.specs.EntryFor.{indexed_entry}
 
 -- how many of so many addresses have an entry: they count from 0 on, modulo 2^32
 abbrev pub found_among : ℕ → ℕ → ℕ → FrameSection → ℕ

@@ -2,8 +2,8 @@
 
 ghost use Rattle.std.specs.Prelude.{◌≡◌, ◌≤◌, ◌^◌, ℕ, suc, length};
 ghost use Rattle.dwarf_frame_rows.specs.FrameSection.{FrameSection};
-ghost use Rattle.framehop.specs.CfiIndexView.{IsIndexOf};
-ghost use Rattle.framehop.specs.EntryFor.{indexed_fdes};
+ghost use Rattle.framehop_index.specs.CfiIndexView.{IsIndexOf};
+ghost use Rattle.framehop_index.specs.EntryFor.{indexed_fdes};
 ghost use Rattle.bench_index.specs.LookUps.{found_among};
 
 use framehop::DwarfCfiIndex;

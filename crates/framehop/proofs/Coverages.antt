@@ -9,9 +9,9 @@ use Rattle.dwarf_frame_rows.specs.FrameSection.{FrameSection}
 use Rattle.dwarf_frame_entries.specs.Entries.{Fde}
 use Rattle.dwarf_frame_entries.specs.EntryPrograms.{fde_row}
 use Rattle.framehop.specs.Coverage.{Covered, by_row, by_fde}
-use Rattle.framehop.specs.EntryFor.{has_index, indexed_entry}
-use Rattle.framehop.specs.FrameSections.{section_of_type}
-use Rattle.framehop.specs.Lookups.{Lookup, method_by}
+use Rattle.framehop_index.specs.EntryFor.{has_index, indexed_entry}
+use Rattle.framehop.specs.SectionTypes.{section_of_type}
+use Rattle.framehop.specs.LookupMethods.{Lookup, method_by}
 use Rattle.framehop.specs.Methods.{UsesNothing, method_at}
 use Rattle.framehop.specs.UnwindData.{ModuleFormat, CallFrames, NoFormat, Pe, PeMethods, method_by_format}
 use Rattle.framehop.specs.UnwindDataViews.{IsNotPe, IsUnused}

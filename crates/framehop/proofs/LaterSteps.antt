@@ -12,8 +12,9 @@ use Rattle.dwarf_frame_rows.specs.declared.rules.CfaRule.{CfaRule}
 use Rattle.dwarf_frame_rows.specs.declared.rules.CfaRule.TheVariants.{RegisterAndOffset, Expression}
 use Rattle.framehop.specs.Attempts.{StepLimits, attempt_by_method}
 use Rattle.framehop.specs.Coverage.{Coverage, Covered, Uncovered, NoFde, NoAddress, attempt_by, covered_by_fde, covered_by_scan}
-use Rattle.framehop.specs.Lookups.{Lookup, ByIndex, ByHeader, ByScan, method_by, offset_by_header, offset_by_index, parsed_header}
-use Rattle.framehop.specs.FrameSections.{section_of_type}
+use Rattle.framehop_index.specs.Lookups.{offset_by_header, offset_by_index, parsed_header}
+use Rattle.framehop.specs.LookupMethods.{Lookup, ByIndex, ByHeader, ByScan, method_by}
+use Rattle.framehop.specs.SectionTypes.{section_of_type}
 use Rattle.framehop.specs.Methods.{method_at}
 use Rattle.framehop.specs.UnwindData.{UnwindData, ModuleFormat, CallFrames, NoFormat, Pe, method_by_format}
 use Rattle.framehop_registers.specs.Callback.{Words}

@@ -1,10 +1,5 @@
-pub mod CfiIndexBuild
-pub mod CfiIndexOrder
 pub mod CoverageAnswers
 pub mod Coverages
-pub mod EntryIndex
-pub mod EntryPlaces
-pub mod Halves
 pub mod LaterSteps
 pub mod MethodAnswers
 pub mod PeTrials
@@ -12,9 +7,7 @@ pub mod RowCfas
 pub mod RowStarts
 pub mod RowTrials
 pub mod SameSteps
-pub mod Scans
 pub mod SectionsMade
 pub mod TruthfulLookups
 pub mod WalkEnds
 pub mod WalkValues
-pub mod WholeFdes

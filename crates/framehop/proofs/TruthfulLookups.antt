@@ -1,7 +1,7 @@
 -- If a header is truthful, all lookups lead to the same FDEs.
-use Rattle.std.proofs.Common.{◌≡◌, ◌<◌, ◌^◌, ℕ, ◌+◌, Bool, true, false, cond, List, [], ◌∷◌, Option, Some, None, Result, Ok, Err, refl, sym, ap, ◌∙◌, arith}
+use Rattle.std.proofs.Common.{◌≡◌, ◌<◌, ◌^◌, ℕ, ◌+◌, Bool, true, false, cond, List, [], ◌∷◌, Option, Some, None, Result, Ok, Err, refl, sym, ap, ◌∙◌, arith, subst}
 use Rattle.std.specs.Prelude.{is_none, nat_le, nat_lt, option_map, ◌==◌}
-use Rattle.std.specs.List.{All, AllPass, Contains, filter}
+use Rattle.std.specs.List.{All, AllPass, Contains, filter, find}
 use Rattle.std.proofs.lemmas.Bool.Decides.{nat_tests}
 use Rattle.std.proofs.lemmas.List.Elements.{All-head, All-tail, All-contains, All-contains_itself, All-filter}
 use Rattle.dwarf_constants.specs.declared.error.Error.{Error}
@@ -24,14 +24,12 @@ use Rattle.framehop_rows.specs.RowMeanings.{RowMeanings}
 use Rattle.framehop_unwinder.specs.Attempt.{Attempt, Says, SaysNothing}
 use Rattle.framehop.specs.Attempts.{StepLimits, attempt, attempt_by_method}
 use Rattle.framehop.specs.Coverage.{Coverage, NoAddress, Uncovered, attempt_by, by_entry, by_fde, by_row, by_scanned, covered_by_fde}
-use Rattle.framehop.specs.EntryFor.{fits_index, has_index, indexed_entry, indexed_fdes}
-use Rattle.framehop.specs.FrameSections.{eh_frame_of}
-use Rattle.framehop.specs.Lookups.{offset_by_index}
+use Rattle.framehop_index.specs.EntryFor.{fits_index, has_index, indexed_entry, indexed_fdes}
+use Rattle.framehop_index.specs.FrameSections.{eh_frame_of}
+use Rattle.framehop_index.specs.Lookups.{offset_by_index}
 use Rattle.framehop.specs.Methods.{Method, UsesFde, UsesScan, method_at}
 use Rattle.framehop.specs.LookupsAlike.{AllLeadTo, LeadsAbove}
 use Rattle.framehop.specs.TruthfulLookups.{AreTruthful, HeadedSection, eh_frame_in, headed_data, indexed_data, offset_headed, scanned_data}
-use Rattle.framehop.proofs.CfiIndexBuild.{offset-fits}
-use Rattle.framehop.proofs.EntryIndex.{find-has}
 use Rattle.framehop.proofs.RowStarts.{no-row-below}
 use Rattle.list_laws.specs.Greatest.{is_greatest}
 use Rattle.list_laws.proofs.Laws.{by_case}
@@ -44,12 +42,24 @@ not-zero n above = grind (arith, nat_tests)
 pub fits-64 : {n : ℕ} → n < 2 ^ 64 → nat_lt n (2 ^ 64) ≡ true
 fits-64 {n} below = grind (arith, nat_tests)
 
+-- the offset of what an index can hold has 32 bits
+offset-fits : (base : ℕ) (f : Fde) → fits_index base f ≡ true → nat_lt f.head.offset (2 ^ 32) ≡ true
+offset-fits base f h = grind (arith, nat_tests)
+
 -- what passes whole is left by a filter as it is
 filter-all : {X : Type 0} (p : X → Bool) (xs : List X) → AllPass p xs → filter p xs ≡ xs
 filter-all p [] all = refl
 filter-all p (x ∷ xs) all =
     let here : p x ≡ true = All-head (λ x. p x ≡ true) x xs all in
     rw here (ap (λ others. x ∷ others) (filter-all p xs (All-tail (λ x. p x ≡ true) x xs all)))
+
+-- what is found has what all have
+find-has : {X : Type 0} (P : X → Type 0) (p : X → Bool) (xs : List X) (x : X) → All P xs → find p xs ≡ Some x → P x
+find-has P p [] x all h = cc
+find-has P p (y ∷ ys) x all h =
+    by_case (p y)
+    (λ is. let same : Some y ≡ Some x = rw is at h in let it : y ≡ x = cc in subst P it (All-head P y ys all))
+    (λ is. find-has P p ys x (All-tail P y ys all) (rw is at h))
 
 -- what all FDEs have, the nearest has
 nearest-has : (P : Fde → Type 0) (address : ℕ) (fdes : List Fde) (g : Fde) → All P fdes → nearest_fde address fdes ≡ Some g → P g

@@ -14,7 +14,7 @@ use Rattle.framehop_rows.specs.RowMeanings.{RowMeanings}
 use Rattle.framehop_errors.specs.declared.dwarf.DwarfUnwinderError.{DwarfUnwinderError}
 use Rattle.framehop_errors.specs.declared.dwarf.DwarfUnwinderError.TheVariants.{FdeFromOffsetFailed, OutOfMemory}
 use Rattle.framehop.specs.Coverage.{Coverage, EvaluatesExpression, IsErrorOf, IsKnown, covered_by_fde, covered_by_scan, row_attempt_by}
-use Rattle.framehop.specs.FrameSections.{section_of_type}
+use Rattle.framehop.specs.SectionTypes.{section_of_type}
 use Rattle.framehop.specs.declared.dwarf.DwarfUnwinder.{DwarfUnwinder}
 use Rattle.framehop.specs.declared.dwarf.UnwindSectionType.{UnwindSectionType}
 use Rattle.framehop.specs.declared.dwarf.UnwindSectionType.TheVariants.{EhFrame, DebugFrame}

@@ -1,12 +1,7 @@
 pub mod Attempts
-pub mod CfiIndex
-pub mod CfiIndexView
 pub mod Coverage
 pub mod DwarfViews
-pub mod EntryFor
-pub mod FrameSections
-pub mod LastCie
-pub mod Lookups
+pub mod LookupMethods
 pub mod LookupsAlike
 pub mod MethodViews
 pub mod Methods
@@ -14,6 +9,7 @@ pub mod PeMethods
 pub mod RowAttempts
 pub mod RowCfas
 pub mod SameSteps
+pub mod SectionTypes
 pub mod StepMeanings
 pub mod TruthfulLookups
 pub mod UnwindData

@@ -12,7 +12,7 @@ use Rattle.framehop_rows.specs.RowMeanings.{RowMeanings}
 use Rattle.framehop_unwinder.specs.Attempt.{Attempt, Meanings, Says, SaysNothing}
 use Rattle.framehop.specs.Attempts.{StepLimits, attempt}
 use Rattle.framehop.specs.Coverage.{Uncovered, covered_by_fde}
-use Rattle.framehop.specs.Lookups.{offset_by_index}
+use Rattle.framehop_index.specs.Lookups.{offset_by_index}
 use Rattle.framehop.specs.SameSteps.{StepsAlike}
 use Rattle.framehop.specs.TruthfulLookups.{AreTruthfulFor, AttemptsAlike, HeadedSection, IsFdeFor, eh_frame_in, headed_data, indexed_data, nearest_in, offset_headed, scanned_data}
 use Rattle.framehop.specs.UnwindData.{UnwindData}

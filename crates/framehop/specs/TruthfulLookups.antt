@@ -9,9 +9,10 @@ use Rattle.dwarf_call_frames.specs.Header.{Header}
 use Rattle.dwarf_call_frames.specs.Truthful.{IsTruthful}
 use Rattle.framehop_rows.specs.RowMeanings.{RowMeanings}
 use Rattle.framehop.specs.Attempts.{StepLimits, attempt}
-use Rattle.framehop.specs.EntryFor.{fits_index}
-use Rattle.framehop.specs.FrameSections.{eh_frame_of}
-use Rattle.framehop.specs.Lookups.{Lookup, ByHeader, ByIndex, ByScan, header_of, offset_by_header, parsed_header}
+use Rattle.framehop_index.specs.EntryFor.{fits_index}
+use Rattle.framehop_index.specs.FrameSections.{eh_frame_of}
+use Rattle.framehop_index.specs.Lookups.{header_of, offset_by_header, parsed_header}
+use Rattle.framehop.specs.LookupMethods.{Lookup, ByHeader, ByIndex, ByScan}
 use Rattle.framehop.specs.UnwindData.{UnwindData, CallFrames}
 use Rattle.framehop.specs.declared.dwarf.UnwindSectionType.TheVariants.{EhFrame}
 

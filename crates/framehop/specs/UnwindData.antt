@@ -10,8 +10,8 @@ use Rattle.framehop_modules.specs.declared.module_sections.ModuleSections.{Modul
 use Rattle.framehop_modules.specs.declared.module_sections.ModuleSections.TheVariants.{CompactUnwindInfoAndEhFrame, PeUnwindInfo, EhFrame, DebugFrame, NoSections}
 use Rattle.framehop_modules.specs.declared.module_sections.SectionData.{SectionData}
 use Rattle.framehop_pe_codes.specs.Sections.{PeFile, PeSection}
-use Rattle.framehop.specs.FrameSections.{section_of_type}
-use Rattle.framehop.specs.Lookups.{Lookup, ByIndex, ByHeader, ByScan, method_by}
+use Rattle.framehop.specs.SectionTypes.{section_of_type}
+use Rattle.framehop.specs.LookupMethods.{Lookup, ByIndex, ByHeader, ByScan, method_by}
 use Rattle.framehop.specs.Methods.{Method, UsesNothing}
 use Rattle.framehop.specs.declared.dwarf.UnwindSectionType.{UnwindSectionType}
 use Rattle.framehop.specs.declared.dwarf.UnwindSectionType.TheVariants as section

@@ -5,14 +5,14 @@ use Rattle.dwarf_frame_rows.specs.declared.base_addresses.BaseAddresses.{BaseAdd
 use Rattle.dwarf_frame_rows.specs.FrameSection.{FrameSection}
 use Rattle.framehop_pe_codes.specs.Sections.{PeFile, PeSection}
 use Rattle.framehop_pe.specs.Rows.{IsIncreasing}
-use Rattle.framehop.specs.CfiIndex.{IsMadeOf}
-use Rattle.framehop.specs.CfiIndexView.{IsIndexOf}
+use Rattle.framehop_index.specs.CfiIndex.{IsMadeOf}
+use Rattle.framehop_index.specs.CfiIndexView.{IsIndexOf}
 use Rattle.framehop.specs.DwarfViews.{frame_section_bytes}
-use Rattle.framehop.specs.EntryFor.{has_index}
-use Rattle.framehop.specs.FrameSections.{section_of_type}
-use Rattle.framehop.specs.Lookups as said
+use Rattle.framehop_index.specs.EntryFor.{has_index}
+use Rattle.framehop.specs.SectionTypes.{section_of_type}
+use Rattle.framehop.specs.LookupMethods as said
 use Rattle.framehop.specs.UnwindData as data_
-use Rattle.framehop.specs.declared.cfi_index.DwarfCfiIndex.{DwarfCfiIndex}
+use Rattle.framehop_index.specs.declared.cfi_index.DwarfCfiIndex.{DwarfCfiIndex}
 use Rattle.framehop.specs.declared.dwarf.UnwindSectionType.{UnwindSectionType}
 use Rattle.framehop.specs.declared.unwind_data.Entries.{Entries}
 use Rattle.framehop.specs.declared.unwind_data.Entries.TheVariants as by

@@ -3,7 +3,7 @@
 ghost use Rattle.std.specs.Prelude.{◌≡◌, option_map};
 ghost use Rattle.framehop_rules.specs.UnwindResults.{HasValidRule};
 ghost use Rattle.framehop.specs.DwarfViews.{section_lent};
-ghost use Rattle.framehop.specs.Lookups.{method_by};
+ghost use Rattle.framehop.specs.LookupMethods.{method_by};
 ghost use Rattle.framehop.specs.MethodViews.{AnswersMethod};
 ghost use Rattle.framehop.specs.Methods.{method_at};
 ghost use Rattle.framehop.specs.RowAttempts.{dwarf_failure, failure_of};

@@ -7,10 +7,9 @@ ghost use Rattle.framehop_rules.specs.UnwindResults.{HasValidRule};
 ghost use Rattle.framehop_rows.specs.Memory.{TakesMemory};
 ghost use Rattle.framehop.specs.Coverage.{by_entry, by_fde, by_near, by_scanned};
 ghost use Rattle.framehop.specs.DwarfViews.{AnswersCoverage, AnswersFde, AnswersScan, scan_failure};
-ghost use Rattle.framehop.specs.Lookups.{offset_by_header, parsed_header};
+ghost use Rattle.framehop_index.specs.Lookups.{offset_by_header, parsed_header};
 ghost use Rattle.framehop_errors.specs.declared.dwarf.DwarfUnwinderError.TheVariants.{OutOfMemory};
 
-use crate::lookups::{containing_fde, fde_at, headed_offset};
 use dwarf_call_frames::{EhFrameHdr, ParsedEhFrameHdr};
 use dwarf_expressions::EvaluationStorage;
 use dwarf_frame_entries::{
@@ -19,6 +18,7 @@ use dwarf_frame_entries::{
 use dwarf_frame_rows::UnwindContextStorage;
 use dwarf_read_core::{EndianSlice, Error, LittleEndian, Reader, ReaderOffset};
 use framehop_errors::DwarfUnwinderError;
+use framehop_index::{containing_fde, fde_at, headed_offset};
 use framehop_rows::DwarfUnwinding;
 use framehop_rules::UnwindResult;
 use std::alloc::Global;

@@ -8,13 +8,10 @@ pub mod aarch64;
 mod arch;
 mod cache;
 mod call_frames;
-mod cfi_index;
 mod context;
 mod dwarf;
 pub mod histories;
-mod last_cie;
 pub mod lookup_laws;
-mod lookups;
 mod module;
 mod pe;
 pub mod row_laws;
@@ -28,7 +25,6 @@ pub use cache::{
     AllocationPolicy, MayAllocateDuringUnwind, MustNotAllocateDuringUnwind, StoreOnStack,
     policies_set_limits,
 };
-pub use cfi_index::{DwarfCfiIndex, IndexLookup};
 pub use context::DwarfUnwindContext;
 pub use dwarf::{DwarfUnwinder, UnwindSectionType};
 pub use dwarf_frame_entries::BaseAddresses;
@@ -36,6 +32,7 @@ pub use framehop_errors::{
     CompactFormatError, CompactUnwindInfoUnwinderError, DwarfCfiIndexError, DwarfUnwinderError,
     PeUnwinderError, UnwinderError,
 };
+pub use framehop_index::{DwarfCfiIndex, IndexLookup};
 pub use framehop_modules::{
     ExplicitModuleSectionInfo, Generations, GenerationsExhausted, LoadError, ModuleSectionInfo,
     SectionBytes,

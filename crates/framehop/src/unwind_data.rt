@@ -4,15 +4,15 @@ ghost use Rattle.std.specs.Prelude.{◌≡◌, ℕ, List, IfOk, IfSome, IfNone};
 ghost use Rattle.framehop_modules.specs.ChosenViews.{sections_bytes};
 ghost use Rattle.framehop.specs.DwarfViews.{frame_section_bytes};
 ghost use Rattle.dwarf_frame_rows.specs.declared.base_addresses.BaseAddresses.{BaseAddresses};
-ghost use Rattle.framehop.specs.Lookups.{ByIndex};
+ghost use Rattle.framehop.specs.LookupMethods.{ByIndex};
 ghost use Rattle.framehop.specs.UnwindData.{CallFrames, Pe, bases_of, format_of, scanned, scanned_data_of, unwind_data_of};
 ghost use Rattle.framehop.specs.UnwindDataViews.{IncreasesAsSaid, IsIndexedBy, IsLentBy, IsNotPe, IsUnused, LendsLookup, MakesEntries, entries_view, file_view, format_view, lookup_view};
 
-use crate::cfi_index::DwarfCfiIndex;
 use crate::dwarf::UnwindSectionType;
 use crate::pe::PeModule;
 use dwarf_frame_entries::BaseAddresses;
 use framehop_errors::DwarfCfiIndexError;
+use framehop_index::DwarfCfiIndex;
 use framehop_modules::{BaseSvmas, ModuleSectionInfo, ModuleSections, SectionBytes};
 use std::alloc::{AllocError, Global};
 use std::marker::Model;

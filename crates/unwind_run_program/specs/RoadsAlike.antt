@@ -5,7 +5,7 @@ use Rattle.dwarf_frame_entries.specs.Entries.{Fde, contains}
 use Rattle.dwarf_frame_entries.specs.SectionFdes.{whole_fdes}
 use Rattle.dwarf_frame_rows.specs.declared.base_addresses.BaseAddresses.{BaseAddresses}
 use Rattle.framehop.specs.Attempts.{StepLimits}
-use Rattle.framehop.specs.FrameSections.{eh_frame_of}
+use Rattle.framehop_index.specs.FrameSections.{eh_frame_of}
 use Rattle.framehop.specs.TruthfulLookups.{AreTruthful, HeadedSection}
 use Rattle.framehop.specs.UnwindData.{UnwindData, bases_of}
 use Rattle.framehop_modules.specs.Chosen.{base_svmas}

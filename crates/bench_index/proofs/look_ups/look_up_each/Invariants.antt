@@ -1,7 +1,7 @@
 use Rattle.std.proofs.Common.{◌≡◌, ◌≤◌, ◌^◌, ℕ, suc, length}
 use Rattle.dwarf_frame_rows.specs.FrameSection.{FrameSection}
-use Rattle.framehop.specs.CfiIndexView.{IsIndexOf}
-use Rattle.framehop.specs.EntryFor.{indexed_fdes}
+use Rattle.framehop_index.specs.CfiIndexView.{IsIndexOf}
+use Rattle.framehop_index.specs.EntryFor.{indexed_fdes}
 use Rattle.bench_index.specs.LookUps.{found_among}
 use Rattle.bench_index.proofs.look_ups.look_up_each.Given as goal
 

@@ -5,7 +5,7 @@ use Rattle.dwarf_frame_rows.specs.declared.base_addresses.BaseAddresses.{BaseAdd
 use Rattle.framehop.specs.Attempts.{step_limits}
 use Rattle.framehop.specs.Coverage.{covered_by_scan}
 use Rattle.framehop.specs.DwarfViews.{section_lent}
-use Rattle.framehop.specs.Lookups.{method_by}
+use Rattle.framehop.specs.LookupMethods.{method_by}
 use Rattle.framehop.specs.UnwindDataViews.{lookup_view}
 use Rattle.framehop.specs.declared.unwind_data.Lookup.{Lookup}
 use Rattle.framehop.proofs.CoverageAnswers.{covered-as}

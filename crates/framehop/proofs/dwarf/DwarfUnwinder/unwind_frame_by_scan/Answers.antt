@@ -3,7 +3,7 @@ use Rattle.dwarf_readers.specs.EndianSlice.{stretch_of}
 use Rattle.dwarf_frame_rows.specs.FrameSection.{FrameSection, frame_section}
 use Rattle.dwarf_frame_sections.specs.Sections.{FrameData, eh_frame, debug_frame}
 use Rattle.framehop.specs.DwarfViews.{frame_section_bytes}
-use Rattle.framehop.specs.FrameSections.{section_of_type}
+use Rattle.framehop.specs.SectionTypes.{section_of_type}
 use Rattle.framehop.proofs.CoverageAnswers.{covered-as, scan-there}
 use Rattle.framehop.proofs.SectionsMade.{section-made}
 use Rattle.framehop.proofs.dwarf.DwarfUnwinder.unwind_frame_by_scan.Goals as goal

@@ -1,7 +1,7 @@
 use Rattle.std.proofs.Common.{Option, Some, None, sym, subst}
 use Rattle.std.specs.Prelude.{IfNone}
 use Rattle.framehop.specs.DwarfViews.{frame_section_bytes}
-use Rattle.framehop.specs.FrameSections.{section_of_type}
+use Rattle.framehop.specs.SectionTypes.{section_of_type}
 use Rattle.framehop.specs.UnwindData.{UnwindData}
 use Rattle.framehop.specs.UnwindDataViews.{IsIndexedBy, IsUnused, LeadsInto, format_view}
 use Rattle.framehop.proofs.unwind_data.ModuleUnwindData.call_frames.Goals as goal

@@ -1,0 +1,7 @@
+pub mod CfiIndexBuild
+pub mod CfiIndexOrder
+pub mod EntryIndex
+pub mod EntryPlaces
+pub mod Halves
+pub mod Scans
+pub mod WholeFdes

@@ -1,0 +1,272 @@
+//! The index of a section of call frames, by which the FDE for an address is found.
+
+ghost use Rattle.std.specs.Prelude.{◌≡◌, ◌<◌, ◌≤◌, ◌^◌, ◌+◌, ◌*◌, ℕ, suc, length, nat_le, if◌then◌else◌};
+ghost use Rattle.std.specs.List.Sorted.{IsNonDecreasingBy, IsPartitionPoint};
+ghost use Rattle.dwarf_frame_entries.specs.Entries.{fde_of};
+ghost use Rattle.framehop_index.specs.LastCie.{IsLastCie};
+ghost use Rattle.framehop_index.specs.FrameSections.{eh_frame_of, debug_frame_of};
+ghost use Rattle.framehop_index.specs.CfiIndex.{IsMadeOf, KeepsAll, entry_held, entry_kept};
+
+use crate::last_cie::{LastCie, fde_by_last};
+use dwarf_frame_entries::{
+    BaseAddresses, DebugFrame, EhFrame, Entry, FrameDescriptionEntry, PartialFrameDescriptionEntry,
+    UnwindSection,
+};
+use dwarf_read_core::{LittleEndian, Reader, ReaderOffset};
+use framehop_errors::DwarfCfiIndexError;
+use std::alloc::{AllocError, Global};
+
+// What the index keeps of an FDE.
+#[derive(Debug, Clone, Copy, PartialEq, Eq)]
+struct IndexedFde {
+    // The first address of the code, relative to the base.
+    start: u32,
+    // The FDE's offset in the section, in bytes.
+    offset: u32,
+}
+
+// What the index keeps of an FDE, if it can hold it.
+#[inline(always)]
+fn entry_held<R: Reader>(fde: &FrameDescriptionEntry<R>, base_svma: u64) -> Option<IndexedFde>
+    ensures { result ≡ entry_held base_svma fde.now }
+{
+    let start = fde.initial_address().checked_sub(base_svma)?;
+    let start = u32::try_from(start).ok()?;
+    let offset = u32::try_from(fde.offset().into_u64()).ok()?;
+    Some(IndexedFde { start, offset })
+}
+
+// What the index keeps of an FDE of a section, if the FDE can be read and the index can hold it. Its CIE is
+// read only if it isn't the one that was read last.
+#[inline(always)]
+fn entry_kept<R: Reader, Section: UnwindSection<R>>(
+    section: &Section,
+    bases: &BaseAddresses,
+    base_svma: u64,
+    partial: &PartialFrameDescriptionEntry<'_, Section, R>,
+    last: &mut Option<LastCie<R>>,
+) -> Option<IndexedFde>
+    requires within { partial.now.within ≡ (Section.frame section.now bases.now).within }
+    requires last { IsLastCie R.stretch R.Offset.value (Section.frame section.now bases.now) last.old }
+    ensures kept { result ≡ entry_kept base_svma (fde_of R.Offset.limit Section.kind partial.now) }
+    ensures last { IsLastCie R.stretch R.Offset.value (Section.frame section.now bases.now) last.new }
+{
+    let fde = fde_by_last(section, bases, partial, last).ok()?;
+    entry_held(&fde, base_svma)
+}
+
+// How many bytes a section has.
+fn size_of_section<R: Reader, Section: UnwindSection<R>>(section: &Section) -> u64
+    ensures { (bases : BaseAddresses) → result ≡ length (Section.frame section.now bases).within.bytes.bytes }
+{
+    section.section().len().into_u64()
+}
+
+// What an index keeps of a section's FDEs, in their order, and how many it leaves out.
+#[derive(Drop)]
+struct KeptFdes {
+    fdes: Vec<IndexedFde>,
+    left_out: usize,
+}
+
+// What an index keeps of a section's FDEs.
+fn kept_fdes<R: Reader, Section: UnwindSection<R>>(
+    alloc: Global,
+    section: &Section,
+    bases: &BaseAddresses,
+    base_svma: u64,
+) -> Result<KeptFdes, DwarfCfiIndexError>
+    ensures { IsMadeOf result (λ kept. KeepsAll kept.fdes.items kept.left_out) base_svma
+        (Section.frame section.now bases.now) }
+{
+    let mut fdes = Vec::new(alloc);
+    // No more are left out than there are bytes.
+    let _bytes = size_of_section(section);
+    let mut left_out: usize = 0;
+    let mut last = None;
+    let mut entries = section.entries(bases);
+    'entries: loop {
+        let Some(entry) = entries.next()? else {
+            return Ok(KeptFdes { fdes, left_out });
+        };
+        let Entry::Fde(partial) = entry else {
+            continue;
+        };
+        match entry_kept(section, bases, base_svma, &partial, &mut last) {
+            Some(kept) => {
+                if fdes.push(kept).is_err() {
+                    return Err(DwarfCfiIndexError::OutOfMemory);
+                }
+            }
+            None => left_out += 1,
+        }
+    }
+}
+
+// How many FDEs of an index start at or below an address, and how many starts were read to find out.
+#[derive(Clone, Copy)]
+struct Halved {
+    at_or_below: usize,
+    reads: u32,
+}
+
+// Half of the most FDEs among which no branch is taken: 4,096 of them are soon in the processor's cache.
+// Among more, a branch lets the processor guess, and fetch ahead.
+const NEAR: usize = 2048;
+
+// 1 if a start is at or below an address, else 0, without a branch, which no processor could foresee.
+#[inline(always)]
+fn count_at_or_below(start: u32, address: u32) -> usize
+    ensures { result ≡ (if nat_le start address then 1 else 0) }
+{
+    ((u64::from(address) + (1 << 32) - u64::from(start)) >> 32) as usize
+}
+
+// The first of the FDEs that are left: after a half of them, if the one there starts at or below the
+// address.
+#[inline(always)]
+fn first_left(low: usize, half: usize, start: u32, address: u32) -> usize
+    requires { low + half < 2 ^ 64 }
+    ensures { result ≡ low + half * (if nat_le start address then 1 else 0) }
+{
+    if half <= NEAR {
+        return low + half * count_at_or_below(start, address);
+    }
+    if start <= address { low + half } else { low }
+}
+
+// Halves an index's FDEs until it is known how many start at or below an address.
+fn halve(fdes: &[IndexedFde], address: u32) -> Halved
+    requires ordered { IsNonDecreasingBy (λ fde. fde.start) fdes.now }
+    ensures bound { result.at_or_below ≤ length fdes.now }
+    ensures partition { IsPartitionPoint (λ fde. fde.start ≤ address)
+        (λ fde. address < fde.start) fdes.now result.at_or_below }
+    ensures few { (k : ℕ) → length fdes.now ≤ 2 ^ k → result.reads ≤ suc k }
+    ensures enough { (k : ℕ) → 2 ^ k ≤ suc (length fdes.now) → k ≤ result.reads }
+{
+    if fdes.is_empty() {
+        return Halved {
+            at_or_below: 0,
+            reads: 0,
+        };
+    }
+    let mut low = 0;
+    let mut len = fdes.len();
+    let mut reads: u32 = 0;
+    'halves: while len > 1 {
+        let half = len / 2;
+        low = first_left(low, half, fdes[low + half].start, address);
+        reads += 1;
+        len -= half;
+    }
+    Halved {
+        at_or_below: low + count_at_or_below(fdes[low].start, address),
+        reads: reads + 1,
+    }
+}
+
+/// What a look-up in an index found.
+#[derive(Debug, Clone, Copy, PartialEq, Eq)]
+pub struct IndexLookup {
+    /// The FDE's offset in the section, in bytes.
+    pub fde_offset: Option<u32>,
+    /// How many of the index's starts were read.
+    pub starts_read: u32,
+}
+
+/// An index of a section's FDEs, sorted by the starts of their code. Of equal starts the first in
+/// the section is the last here, so that the last that starts at or below an address is the one to find.
+#[derive(Drop)]
+pub struct DwarfCfiIndex {
+    fdes: Vec<IndexedFde>,
+    left_out: usize,
+    ghost ordered: { IsNonDecreasingBy (λ fde. fde.start) fdes.items },
+}
+
+impl DwarfCfiIndex {
+    ghost use Rattle.framehop_index.specs.CfiIndexView.{IsIndexOf, IsOffsetByIndex, LeavesOut, ReadsEnough, ReadsFew};
+
+    /// The index of a section. Its starts are relative to `base_svma`; the section's pointers are relative
+    /// to `bases`. An FDE that can't be read, by itself or by its CIE, is left out, and so is one whose start
+    /// is below the base or 2^32 bytes or more above it, or whose offset in the section is 2^32 or more.
+    /// Fails with `Gimli` if an error ends the list of the section's entries, and with `OutOfMemory`; no other
+    /// error is returned.
+    pub fn try_new<R: Reader, Section: UnwindSection<R>>(
+        alloc: Global,
+        section: &Section,
+        bases: &BaseAddresses,
+        base_svma: u64,
+    ) -> Result<Self, DwarfCfiIndexError>
+        ensures { IsMadeOf result IsIndexOf base_svma
+            (Section.frame section.now bases.now) }
+    {
+        let KeptFdes { mut fdes, left_out } = kept_fdes(alloc, section, bases, base_svma)?;
+        fdes.reverse();
+        fdes.sort_by_key(|fde| fde.start)?;
+        Ok(DwarfCfiIndex { fdes, left_out })
+    }
+
+    /// The index of a section `.eh_frame` of these bytes, as `try_new` makes it. Numbers are
+    /// little-endian, and addresses have 8 bytes.
+    pub fn try_new_eh_frame(
+        alloc: Global,
+        eh_frame_data: &[u8],
+        bases: &BaseAddresses,
+        base_svma: u64,
+    ) -> Result<Self, DwarfCfiIndexError>
+        ensures { IsMadeOf result IsIndexOf base_svma
+            (eh_frame_of bases.now eh_frame_data.now) }
+    {
+        let section = EhFrame::new(eh_frame_data, LittleEndian);
+        DwarfCfiIndex::try_new(alloc, &section, bases, base_svma)
+    }
+
+    /// The index of a section `.debug_frame` of these bytes, as `try_new` makes it. Numbers are
+    /// little-endian, and addresses have 8 bytes unless a CIE says another size.
+    pub fn try_new_debug_frame(
+        alloc: Global,
+        debug_frame_data: &[u8],
+        bases: &BaseAddresses,
+        base_svma: u64,
+    ) -> Result<Self, DwarfCfiIndexError>
+        ensures { IsMadeOf result IsIndexOf base_svma
+            (debug_frame_of bases.now debug_frame_data.now) }
+    {
+        let section = DebugFrame::new(debug_frame_data, LittleEndian);
+        DwarfCfiIndex::try_new(alloc, &section, bases, base_svma)
+    }
+
+    /// How many FDEs of the section are left out, since they can't be read or the index can't hold them.
+    pub fn left_out(&self) -> usize
+        ensures { LeavesOut self.now result }
+    {
+        self.left_out
+    }
+
+    /// The offset in the section, in bytes, of the FDE for an address relative to the base: of those with
+    /// the greatest start at or below it, the first in the section. `None` if each starts above. Reads at
+    /// most ceil(log2(n)) + 1 of the n starts.
+    pub fn fde_offset_for_relative_address(&self, rel_lookup_address: u32) -> Option<u32>
+        ensures { IsOffsetByIndex self.now rel_lookup_address result }
+    {
+        self.look_up(rel_lookup_address).fde_offset
+    }
+
+    /// As `fde_offset_for_relative_address`, with the number of starts that were read: of n at most
+    /// ceil(log2(n)) + 1, and at least floor(log2(n + 1)).
+    pub fn look_up(&self, rel_lookup_address: u32) -> IndexLookup
+        ensures found { IsOffsetByIndex self.now rel_lookup_address result.fde_offset }
+        ensures few { ReadsFew self.now result.starts_read }
+        ensures counted { ReadsEnough self.now result.starts_read }
+    {
+        let halved = halve(&self.fdes, rel_lookup_address);
+        let fde_offset = match halved.at_or_below {
+            0 => None,
+            count => Some(self.fdes[count - 1].offset),
+        };
+        IndexLookup {
+            fde_offset,
+            starts_read: halved.reads,
+        }
+    }
+}

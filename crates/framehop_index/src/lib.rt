@@ -1,0 +1,14 @@
+//! The FDE of a section of call frames for an address: by an index that is made of the section, by the table of an
+//! `.eh_frame_hdr`, or by a scan of the section.
+//!
+//! Making an index allocates; no look-up does.
+#![tactic(auto)]
+
+mod cfi_index;
+mod last_cie;
+mod lookups;
+
+pub use cfi_index::{DwarfCfiIndex, IndexLookup};
+pub use dwarf_frame_entries::BaseAddresses;
+pub use framehop_errors::DwarfCfiIndexError;
+pub use lookups::{containing_fde, fde_at, headed_offset};
