@@ -1,5 +1,5 @@
 -- The one value that is as wanted.
-use Rattle.std.proofs.Common.{◌≡◌, ◌∙◌, sym, ap, subst, inl, inr, Option, Some, None}
+use Rattle.std.proofs.Common.{◌≡◌, ◌∙◌, refl, sym, ap, subst, inl, inr, Option, Some, None}
 use Rattle.std.specs.Option.{IfSome, IfNone}
 use Rattle.framehop_analysis.specs.Found.{IsFound, IsOfFirst}
 
@@ -33,3 +33,9 @@ second_found {A} IsFirst IsSecond first second is is_found is_second = λ other.
     by : (other : A) → IsOfFirst IsFirst IsSecond other → second ≡ Some other
     by other (inl wanted) = absurd (no other ((is_found other).1 wanted))
     by other (inr (none, wanted)) = (is_second other).1 wanted
+
+-- what the first of two searches found, or else the second
+pub either_found : {A : Type 0} (IsFirst IsSecond : A → Type 0) → ((found : Option A) × IsFound IsFirst found) → ((found : Option A) × IsFound IsSecond found)
+    → (found : Option A) × IsFound (IsOfFirst IsFirst IsSecond) found
+either_found IsFirst IsSecond (Some value, is) second = (Some value, first_found IsFirst IsSecond (Some value) value refl is)
+either_found IsFirst IsSecond (None, is) (second, is_second) = (second, second_found IsFirst IsSecond None second refl is is_second)

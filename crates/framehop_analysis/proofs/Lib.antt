@@ -1,3 +1,6 @@
+pub mod DecidedAarch64
+pub mod DecidedX86_64
+mod Decisions
 mod DistinctWords
 mod EndWords
 mod EpilogueReading

@@ -1,2 +1,3 @@
+mod AnalysedRules
 mod Arrangements
 mod ValidRules

@@ -14,7 +14,18 @@ lent_bytes = option_map (λ bytes. bytes.now)
 abbrev pub RulesAt : Type 0 → Type 1
 RulesAt Rule = List ℕ → ℕ → Rule → Type 0
 
--- The rule of a prologue, or else of an epilogue. None is found in a later frame, or if the function's bytes aren't there.
+-- The rule of the prologue at each offset of each function, or else of the epilogue there, or that there is none.
+abbrev pub IsKnownAt : {Rule : Type 0} → RulesAt Rule → RulesAt Rule → Type 0
+IsKnownAt {Rule} IsPrologueRule IsEpilogueRule =
+    (text : List ℕ) (offset : ℕ) → (found : Option Rule) × IsFound (IsOfFirst (IsPrologueRule text offset) (IsEpilogueRule text offset)) found
+
+-- The rule of the machine code. A later frame has none, nor has a function whose bytes aren't there.
+abbrev pub analysed : {Rule : Type 0} → (List ℕ → ℕ → Option Rule) → Bool → ℕ → Option (List ℕ) → Option Rule
+analysed rule_at true offset (Some text) = rule_at text offset
+analysed rule_at true offset None = None
+analysed rule_at false offset text = None
+
+-- This is that rule.
 abbrev pub IsAnalysed : {Rule : Type 0} → RulesAt Rule → RulesAt Rule → Bool → ℕ → Option (List ℕ) → Option Rule → Type 0
 IsAnalysed IsPrologueRule IsEpilogueRule true offset (Some text) found = IsFound (IsOfFirst (IsPrologueRule text offset) (IsEpilogueRule text offset)) found
 IsAnalysed IsPrologueRule IsEpilogueRule true offset None found = found ≡ None

@@ -3,8 +3,10 @@ pub mod Opcodes
 pub mod OpcodesAarch64
 pub mod CompactResults
 pub mod CompactRules
+pub mod CompactMeanings
 pub mod Analysed
 pub mod Unwound
 pub mod UnwoundAarch64
+pub mod CompactFiles
 pub mod Places
 pub mod CompactSteps

@@ -7,8 +7,10 @@ use Rattle.framehop_rules.specs.declared.x86_64.unwind_rule.UnwindRuleX86_64.{Un
 use Rattle.framehop_rules.specs.declared.x86_64.unwind_rule.UnwindRuleX86_64.TheVariants.{JustReturn, OffsetSp, UseFramePointer}
 use Rattle.framehop_analysis.specs.Epilogue.{IsEpilogueRule}
 use Rattle.framehop_analysis.specs.Prologue.{IsPrologueRule}
+use Rattle.framehop_analysis.proofs.DecidedX86_64.{rule_at}
 use Rattle.framehop_compact_tables.specs.declared.function.Function.{Function}
-use Rattle.framehop_compact.specs.Analysed.{IsAnalysed, found_or}
+use Rattle.framehop_compact.specs.Analysed.{IsKnownAt, analysed, found_or}
+use Rattle.framehop_compact.specs.CompactMeanings.{CompactMeanings}
 use Rattle.framehop_compact.specs.CompactResults.{CuiResult}
 use Rattle.framehop_compact.specs.CompactRules.{immediate_rule, indirect_rule}
 use Rattle.framehop_compact.specs.Opcodes.{opcode_of}
@@ -40,11 +42,14 @@ abbrev pub function_rule : OpcodeX86_64 → Bool → Option (List ℕ) → CuiRe
 function_rule Null true text = Ok (ExecRule (uninformed_rule text))
 function_rule opcode is_first text = body_rule opcode text
 
+-- The rule of the machine code at each offset of each function.
+pub rule_found : IsKnownAt IsPrologueRule IsEpilogueRule
+rule_found = rule_at
+
 -- The step: by the machine code, or else by the function's encoding.
-abbrev pub IsUnwound : Function → Bool → ℕ → Option (List ℕ) → CuiResult UnwindRuleX86_64 → Type 0
-IsUnwound function is_first offset text result =
-    (found : Option UnwindRuleX86_64) × IsAnalysed IsPrologueRule IsEpilogueRule is_first offset text found
-    × (result ≡ found_or found (function_rule (opcode_of function.opcode) is_first text))
+abbrev pub unwound : Function → Bool → ℕ → Option (List ℕ) → CuiResult UnwindRuleX86_64
+unwound function is_first offset text =
+    found_or (analysed (λ text offset. (rule_found text offset).0) is_first offset text) (function_rule (opcode_of function.opcode) is_first text)
 
 -- The rule in `__stub_helper`. Linkers begin it with code that all stubs share: `lea r11`, `push r11`, a jump and a `nop`, of 7, 2, 6
 -- and 1 bytes. Then come stubs of `push` and `jmp`, of 5 bytes each.
@@ -54,3 +59,7 @@ stub_helper_rule offset =
     if nat_lt offset 16 then OffsetSp 3 else
     if nat_lt ((offset - 16) % 10) 5 then JustReturn else
     OffsetSp 2
+
+-- What compact unwind info means.
+abbrev pub compact_x86_64 : CompactMeanings UnwindRuleX86_64
+compact_x86_64 = record { start_rule = JustReturn; stub_rule = JustReturn; helper_rule = stub_helper_rule; unwound = unwound }

@@ -5,8 +5,10 @@ use Rattle.framehop_rules.specs.declared.aarch64.unwind_rule.UnwindRuleAarch64.{
 use Rattle.framehop_rules.specs.declared.aarch64.unwind_rule.UnwindRuleAarch64.TheVariants.{NoOp, OffsetSp, UseFramePointer}
 use Rattle.framehop_analysis.specs.LookBackAarch64.{IsEpilogueRule}
 use Rattle.framehop_analysis.specs.PrologueAarch64.{IsPrologueRule}
+use Rattle.framehop_analysis.proofs.DecidedAarch64.{rule_at}
 use Rattle.framehop_compact_tables.specs.declared.function.Function.{Function}
-use Rattle.framehop_compact.specs.Analysed.{IsAnalysed, found_or}
+use Rattle.framehop_compact.specs.Analysed.{IsKnownAt, analysed, found_or}
+use Rattle.framehop_compact.specs.CompactMeanings.{CompactMeanings}
 use Rattle.framehop_compact.specs.CompactResults.{CuiResult}
 use Rattle.framehop_compact.specs.OpcodesAarch64.{opcode_of}
 use Rattle.framehop_compact.specs.declared.cui_unwind_result.CuiUnwindResult.TheVariants.{ExecRule, NeedDwarf}
@@ -30,22 +32,25 @@ body_rule (UnrecognizedKind kind) is_first = Err (BadOpcodeKind kind)
 abbrev pub IsPrologueRuleAt : List ℕ → ℕ → UnwindRuleAarch64 → Type 0
 IsPrologueRuleAt text offset = IsPrologueRule (take offset text) (drop offset text)
 
--- The step by the machine code, or else by what the encoding says.
-abbrev pub IsUnwoundBy : OpcodeArm64 → Bool → ℕ → Option (List ℕ) → CuiResult UnwindRuleAarch64 → Type 0
-IsUnwoundBy opcode is_first offset text result =
-    (found : Option UnwindRuleAarch64) × IsAnalysed IsPrologueRuleAt IsEpilogueRule is_first offset text found
-    × (result ≡ found_or found (body_rule opcode is_first))
+-- The rule of the machine code at each offset of each function.
+pub rule_found : IsKnownAt IsPrologueRuleAt IsEpilogueRule
+rule_found = rule_at
 
--- The same. A function without info is a leaf in a first frame, whatever its code.
-abbrev pub IsUnwoundAs : OpcodeArm64 → Bool → ℕ → Option (List ℕ) → CuiResult UnwindRuleAarch64 → Type 0
-IsUnwoundAs Null true offset text result = result ≡ Ok (ExecRule NoOp)
-IsUnwoundAs opcode is_first offset text result = IsUnwoundBy opcode is_first offset text result
+-- The step by the machine code, or else by what the encoding says. A function without info is a leaf in a first frame, whatever its
+-- code.
+abbrev pub unwound_as : OpcodeArm64 → Bool → ℕ → Option (List ℕ) → CuiResult UnwindRuleAarch64
+unwound_as Null true offset text = Ok (ExecRule NoOp)
+unwound_as opcode is_first offset text = found_or (analysed (λ text offset. (rule_found text offset).0) is_first offset text) (body_rule opcode is_first)
 
 -- The same, by the function's encoding.
-abbrev pub IsUnwound : Function → Bool → ℕ → Option (List ℕ) → CuiResult UnwindRuleAarch64 → Type 0
-IsUnwound function is_first offset text result = IsUnwoundAs (opcode_of function.opcode) is_first offset text result
+abbrev pub unwound : Function → Bool → ℕ → Option (List ℕ) → CuiResult UnwindRuleAarch64
+unwound function is_first offset text = unwound_as (opcode_of function.opcode) is_first offset text
 
 -- The rule in `__stub_helper`. Linkers begin it with 24 bytes of code that all stubs share, which pushes x16 and x17 with its third
 -- instruction. Then come stubs, which push nothing.
 abbrev pub stub_helper_rule : ℕ → UnwindRuleAarch64
 stub_helper_rule offset = if nat_lt offset 12 then NoOp else if nat_lt offset 24 then OffsetSp 1 else NoOp
+
+-- What compact unwind info means.
+abbrev pub compact_aarch64 : CompactMeanings UnwindRuleAarch64
+compact_aarch64 = record { start_rule = NoOp; stub_rule = NoOp; helper_rule = stub_helper_rule; unwound = unwound }

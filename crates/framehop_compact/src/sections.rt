@@ -3,6 +3,7 @@
 ghost use Rattle.std.specs.Prelude.{◌≡◌, ◌≤◌, ◌-◌, length, IfOk, IfSome};
 ghost use Rattle.std.specs.Option.{option_map};
 ghost use Rattle.framehop_compact_tables.specs.Functions.{ContainsAddress};
+ghost use Rattle.framehop_compact.specs.CompactFiles.{code_of, file_of};
 ghost use Rattle.framehop_compact.specs.Places.{in_range, place_of, function_text, IfInFunction};
 
 use framehop_compact_tables::{Function, UnwindInfo};
@@ -67,7 +68,7 @@ fn in_range(range: (u32, u32), address: u32) -> bool
 impl<'a> CompactSections<'a> {
     // Where an address is. `__unwind_info` doesn't describe the stubs.
     pub(crate) fn place_of(&self, address: u32) -> Result<Place, CompactUnwindInfoUnwinderError>
-        ensures place { result ≡ place_of self.now address }
+        ensures place { result ≡ place_of (file_of self.now) address }
         ensures contains { IfOk result (λ place. IfInFunction place (λ function. ContainsAddress function address)) }
     {
         if in_range(self.stubs, address) {
@@ -86,7 +87,7 @@ impl<'a> CompactSections<'a> {
     pub(crate) fn function_bytes(&self, function: Function) -> Option<&'a [u8]>
         requires { function.start_address ≤ function.end_address }
         ensures some { IfSome result (λ bytes. length bytes.now ≡ function.end_address - function.start_address) }
-        ensures text { option_map (λ bytes. bytes.now) result ≡ function_text self.now.text function }
+        ensures text { option_map (λ bytes. bytes.now) result ≡ function_text (option_map code_of self.now.text) function }
     {
         let text = self.text?;
         let first = text.offset_from_base_address;

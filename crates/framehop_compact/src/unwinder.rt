@@ -5,7 +5,8 @@ ghost use Rattle.framehop_compact_tables.specs.Functions.{ContainsAddress};
 ghost use Rattle.framehop_compact_tables.specs.CountedLookups.{AreFewIfIncreasing};
 ghost use Rattle.framehop_compact_tables.specs.Increasing.{IsIncreasing};
 ghost use Rattle.framehop_compact.specs.CompactResults.{HasValidCuiRule};
-ghost use Rattle.framehop_compact.specs.CompactSteps.{first_or, found_function, IsStepIn, IsStepOutside, IsStepInside};
+ghost use Rattle.framehop_compact.specs.CompactFiles.{file_of};
+ghost use Rattle.framehop_compact.specs.CompactSteps.{compact_step, first_or, found_function, step_in};
 
 use crate::cui_unwind_result::CuiUnwindResult;
 use crate::macho::CompactUnwindInfoUnwinding;
@@ -104,7 +105,7 @@ impl<'a, A: CompactUnwindInfoUnwinding> CompactUnwindInfoUnwinder<'a, A> {
         &self,
         address: u32,
     ) -> Result<Function, CompactUnwindInfoUnwinderError>
-        ensures function { result ≡ found_function self.now.sections address }
+        ensures function { result ≡ found_function self.now.sections.unwind_info.bytes.now address }
         ensures contains { IfOk result (λ function. ContainsAddress function address) }
     {
         self.sections.unwind_info.lookup(address)?.ok_or(
@@ -119,7 +120,7 @@ impl<'a, A: CompactUnwindInfoUnwinding> CompactUnwindInfoUnwinder<'a, A> {
         address: u32,
         steps: &mut Steps<L>,
     ) -> Result<Function, CompactUnwindInfoUnwinderError>
-        ensures function { result ≡ found_function self.now.sections address }
+        ensures function { result ≡ found_function self.now.sections.unwind_info.bytes.now address }
         ensures contains { IfOk result (λ function. ContainsAddress function address) }
         ensures few { AreFewIfIncreasing self.now.sections.unwind_info address steps.old steps.new }
     {
@@ -137,8 +138,7 @@ impl<'a, A: CompactUnwindInfoUnwinding> CompactUnwindInfoUnwinder<'a, A> {
         is_first_frame: bool,
     ) -> Result<CuiUnwindResult<A::UnwindRule>, CompactUnwindInfoUnwinderError>
         requires { ContainsAddress function address }
-        ensures step { IsStepIn A.UnwindRule.start_rule A.IsUnwound self.now.sections
-            address is_first_frame function result }
+        ensures step { result ≡ step_in A.compact (file_of self.now.sections) address is_first_frame function }
         ensures valid { HasValidCuiRule A.UnwindRule.is_valid result }
     {
         if is_first_frame && address == function.start_address {
@@ -156,10 +156,7 @@ impl<'a, A: CompactUnwindInfoUnwinding> CompactUnwindInfoUnwinder<'a, A> {
         address: u32,
         is_first_frame: bool,
     ) -> Result<CuiUnwindResult<A::UnwindRule>, CompactUnwindInfoUnwinderError>
-        ensures outside { IsStepOutside A.UnwindRule.stub_rule A.stub_helper_rule self.now.sections
-            address is_first_frame result }
-        ensures inside { IsStepInside A.UnwindRule.start_rule A.IsUnwound self.now.sections
-            address is_first_frame result }
+        ensures step { result ≡ compact_step A.compact (file_of self.now.sections) address is_first_frame }
         ensures valid { HasValidCuiRule A.UnwindRule.is_valid result }
     {
         let not_a_caller = CompactUnwindInfoUnwinderError::StubFunctionCannotBeCaller;

@@ -17,7 +17,7 @@ use crate::instruction_analysis::InstructionAnalysis;
 pub use epilogue::unwind_rule_from_detected_epilogue;
 use framehop_rules::aarch64::{ArchAarch64, UnwindRuleAarch64};
 pub use laws::{
-    epilogue_rules_return, offsets_have_one_list, prologue_rules_return,
+    epilogue_rules_return, offsets_have_one_answer, offsets_have_one_list, prologue_rules_return,
     words_spell_one_instruction,
 };
 pub use pair::{AddressingMode, Pair};

@@ -10,7 +10,7 @@ ghost use Rattle.framehop_analysis.specs.Prologue.{IsPrologueRule};
 use crate::instruction_analysis::InstructionAnalysis;
 pub use epilogue::unwind_rule_from_detected_epilogue;
 use framehop_rules::x86_64::{ArchX86_64, UnwindRuleX86_64};
-pub use laws::{epilogue_rules_return, prologue_rules_return};
+pub use laws::{epilogue_rules_return, offsets_have_one_answer, prologue_rules_return};
 pub use prologue::unwind_rule_from_detected_prologue;
 
 impl InstructionAnalysis for ArchX86_64 {

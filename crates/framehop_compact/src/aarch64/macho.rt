@@ -64,11 +64,14 @@ fn stub_helper_rule(offset: u32) -> UnwindRuleAarch64
 }
 
 impl CompactUnwindInfoUnwinding for ArchAarch64 {
-    ghost use Rattle.framehop_compact.specs.UnwoundAarch64.{IsUnwound, stub_helper_rule};
+    ghost use Rattle.std.proofs.Common.{refl};
+    ghost use Rattle.framehop_compact.specs.UnwoundAarch64.{compact_aarch64};
 
-    ghost IsUnwound = { IsUnwound };
+    ghost compact = { compact_aarch64 };
 
-    ghost stub_helper_rule = { stub_helper_rule };
+    ghost start_is = { refl };
+
+    ghost stub_is = { refl };
 
     fn unwind_frame(
         function: Function,

@@ -93,11 +93,14 @@ fn stub_helper_rule(offset: u32) -> UnwindRuleX86_64
 }
 
 impl CompactUnwindInfoUnwinding for ArchX86_64 {
-    ghost use Rattle.framehop_compact.specs.Unwound.{IsUnwound, stub_helper_rule};
+    ghost use Rattle.std.proofs.Common.{refl};
+    ghost use Rattle.framehop_compact.specs.Unwound.{compact_x86_64};
 
-    ghost IsUnwound = { IsUnwound };
+    ghost compact = { compact_x86_64 };
 
-    ghost stub_helper_rule = { stub_helper_rule };
+    ghost start_is = { refl };
+
+    ghost stub_is = { refl };
 
     fn unwind_frame(
         function: Function,

@@ -1,12 +1,13 @@
 //! Laws of the analysis. The functions do nothing when the program runs.
-ghost use Rattle.std.specs.Prelude.{◌≡◌, ◌<◌, ◌^◌, ℕ, List, []};
-ghost use Rattle.framehop_analysis.specs.Found.{AtMostOne};
+ghost use Rattle.std.specs.Prelude.{◌≡◌, ◌<◌, ◌^◌, ℕ, List, [], Option, take, drop};
+ghost use Rattle.framehop_analysis.specs.Found.{AtMostOne, IsFound, IsOfFirst};
 ghost use Rattle.framehop_analysis.specs.EpilogueInstructionsAarch64.{EpilogueInstruction, EpilogueFits, epilogue_word};
 ghost use Rattle.framehop_analysis.specs.PrologueInstructionsAarch64.{PrologueInstruction, PrologueFits, prologue_word, state_after_prologue};
 ghost use Rattle.framehop_analysis.specs.MachineAarch64.{State, state_after_epilogue, CheckInstruction, leave};
-ghost use Rattle.framehop_analysis.specs.PrologueAarch64.{IsPrologue};
-ghost use Rattle.framehop_analysis.specs.LookBackAarch64.{IsEpilogue};
+ghost use Rattle.framehop_analysis.specs.PrologueAarch64.{IsPrologue, IsPrologueRule};
+ghost use Rattle.framehop_analysis.specs.LookBackAarch64.{IsEpilogue, IsEpilogueRule};
 ghost use Rattle.framehop_analysis.specs.ReturnsAarch64.{OfEachEpilogue, OfEachPrologue, ReturnsTo};
+ghost use Rattle.framehop_rules.specs.declared.aarch64.unwind_rule.UnwindRuleAarch64.{UnwindRuleAarch64};
 
 /// If the rule of an epilogue gives a caller in a first frame, the caller's stack pointer, frame pointer and
 /// return address, under the mask, are those that the machine has after it has executed the epilogue from where
@@ -36,4 +37,12 @@ pub fn words_spell_one_instruction()
 pub fn offsets_have_one_list()
     ensures epilogue { (text : List ℕ) (offset : ℕ) → AtMostOne (IsEpilogue text offset) }
     ensures prologue { (before from : List ℕ) → AtMostOne (IsPrologue before from) }
+{}
+
+/// Each offset of some bytes has one answer: the rule of the prologue there, or else of the epilogue, or that
+/// there is none.
+pub fn offsets_have_one_answer()
+    ensures { (text : List ℕ) (offset : ℕ) → (found : Option UnwindRuleAarch64)
+        × IsFound (IsOfFirst (IsPrologueRule (take offset text) (drop offset text))
+        (IsEpilogueRule text offset)) found }
 {}

@@ -1,7 +1,12 @@
 //! Laws of the analysis. The functions do nothing when the program runs.
 ghost use Rattle.std.specs.List.{AllByRecursion};
+ghost use Rattle.std.specs.Prelude.{ℕ, List, Option};
+ghost use Rattle.framehop_analysis.specs.Epilogue.{IsEpilogueRule};
+ghost use Rattle.framehop_analysis.specs.Found.{IsFound, IsOfFirst};
 ghost use Rattle.framehop_analysis.specs.Machine.{State, state_after, returned};
+ghost use Rattle.framehop_analysis.specs.Prologue.{IsPrologueRule};
 ghost use Rattle.framehop_analysis.specs.Returns.{HasRoom, IsReadAsExecuted, OfEachEpilogue, OfEachPrologue, ReturnsTo};
+ghost use Rattle.framehop_rules.specs.declared.x86_64.unwind_rule.UnwindRuleX86_64.{UnwindRuleX86_64};
 
 /// If the rule of an epilogue gives a caller in a first frame, the caller's stack pointer, frame pointer and
 /// return address are those that the machine has after it has executed the epilogue from where the frame is.
@@ -17,4 +22,11 @@ pub fn epilogue_rules_return()
 pub fn prologue_rules_return()
     ensures { OfEachPrologue (λ list rule. (before : State) → HasRoom before list
         → ReturnsTo rule (state_after list before) (returned before)) }
+{}
+
+/// Each offset of some bytes has one answer: the rule of the prologue there, or else of the epilogue, or that
+/// there is none.
+pub fn offsets_have_one_answer()
+    ensures { (text : List ℕ) (offset : ℕ) → (found : Option UnwindRuleX86_64)
+        × IsFound (IsOfFirst (IsPrologueRule text offset) (IsEpilogueRule text offset)) found }
 {}

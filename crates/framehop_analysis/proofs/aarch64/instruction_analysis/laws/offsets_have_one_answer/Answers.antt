@@ -1,0 +1,5 @@
+use Rattle.framehop_analysis.proofs.DecidedAarch64.{rule_at}
+use Rattle.framehop_analysis.proofs.aarch64.instruction_analysis.laws.offsets_have_one_answer.Goals as goal
+
+pub returns : goal.returns
+returns c = rule_at
