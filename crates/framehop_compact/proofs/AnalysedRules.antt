@@ -14,3 +14,8 @@ pub analysed-is : {Rule : Type 0} (P E : RulesAt Rule) (known : IsKnownAt P E) (
 analysed-is P E known true offset (Some text) found is = one-found _ found (known text offset).0 is (known text offset).1
 analysed-is P E known true offset None found is = is
 analysed-is P E known false offset text found is = is
+
+-- what isn't some is none
+pub none-left : {A : Type 0} (o : Option A) → ((x : A) → o ≡ Some x → ⊥) → o ≡ None
+none-left None none = refl
+none-left (Some x) none = absurd (none x refl)

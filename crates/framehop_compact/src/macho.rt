@@ -16,10 +16,6 @@ pub trait CompactUnwindInfoUnwinding: Arch {
     /// What steps go by: the rules outside of functions and at their starts, and what a step answers in a function.
     ghost compact: { CompactMeanings Self.UnwindRule };
 
-    ghost start_is: { compact.start_rule ≡ Self.UnwindRule.start_rule };
-
-    ghost stub_is: { compact.stub_rule ≡ Self.UnwindRule.stub_rule };
-
     /// The step at an offset in a function. `function_bytes` are all of its bytes.
     fn unwind_frame(
         function: Function,
@@ -38,4 +34,8 @@ pub trait CompactUnwindInfoUnwinding: Arch {
     ) -> Result<CuiUnwindResult<Self::UnwindRule>, CompactUnwindInfoUnwinderError>
         ensures rule { result ≡ Ok (ExecRule (compact.helper_rule offset)) }
         ensures valid { HasValidCuiRule Self.UnwindRule.is_valid result };
+
+    ghost start_is: { compact.start_rule ≡ Self.UnwindRule.start_rule };
+
+    ghost stub_is: { compact.stub_rule ≡ Self.UnwindRule.stub_rule };
 }

@@ -1,6 +1,7 @@
 //! The step by the encoding of a function, on aarch64.
 
-ghost use Rattle.std.specs.Prelude.{◌≡◌};
+ghost use Rattle.std.specs.Prelude.{◌≡◌, ◌↔◌, IsTrue};
+ghost use Rattle.framehop_compact.specs.declared.aarch64.opcode.OpcodeArm64.TheVariants.{Null};
 ghost use Rattle.framehop_compact.specs.UnwoundAarch64.{body_rule, frameless_rule, stub_helper_rule};
 
 use crate::aarch64::opcode::OpcodeArm64;
@@ -27,6 +28,16 @@ fn frameless_rule(
     Ok(CuiUnwindResult::ExecRule(UnwindRuleAarch64::OffsetSp {
         sp_offset_by_16: stack_size_by_16,
     }))
+}
+
+// Whether a function has no info.
+fn is_null(opcode: OpcodeArm64) -> bool
+    ensures { IsTrue result ↔ (opcode ≡ Null) }
+{
+    match opcode {
+        OpcodeArm64::Null => true,
+        _ => false,
+    }
 }
 
 // The rule in the body of a function.
@@ -81,7 +92,7 @@ impl CompactUnwindInfoUnwinding for ArchAarch64 {
     ) -> Result<CuiUnwindResult<UnwindRuleAarch64>, CompactUnwindInfoUnwinderError> {
         let offset = address_offset_within_function;
         let opcode = OpcodeArm64::parse(function.opcode);
-        if is_first_frame && opcode == OpcodeArm64::Null {
+        if is_first_frame && is_null(opcode) {
             return Ok(CuiUnwindResult::ExecRule(UnwindRuleAarch64::NoOp));
         }
         if let Some(rule) = analysed_rule::<ArchAarch64>(is_first_frame, offset, function_bytes) {
