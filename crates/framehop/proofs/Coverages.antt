@@ -13,8 +13,8 @@ use Rattle.framehop_index.specs.EntryFor.{has_index, indexed_entry}
 use Rattle.framehop.specs.SectionTypes.{section_of_type}
 use Rattle.framehop.specs.LookupMethods.{Lookup, method_by}
 use Rattle.framehop.specs.Methods.{UsesNothing, method_at}
-use Rattle.framehop.specs.UnwindData.{ModuleFormat, CallFrames, NoFormat, Pe, PeMethods, method_by_format}
-use Rattle.framehop.specs.UnwindDataViews.{IsNotPe, IsUnused}
+use Rattle.framehop.specs.UnwindData.{ModuleFormat, CallFrames, Compact, NoFormat, Pe, TableMethods, method_by_format}
+use Rattle.framehop.specs.UnwindDataViews.{IsNotCompact, IsNotPe, IsUnused}
 
 module _ (limits : Limits) (section : FrameSection) (vendor : Vendor) (address : ℕ) (fde : Fde) where
   -- the entry has a row
@@ -26,12 +26,13 @@ none-indexed : (base relative : ℕ) (section : FrameSection) → has_index sect
 unfolding indexed_entry
 none-indexed base relative section none = rw none refl
 
--- a module that is unwound neither by call frames nor as a PE file says nothing
-pub unused-says_nothing : {Rule Registers : Type 0} (pe : PeMethods Rule Registers) (bases : BaseAddresses) (base relative : ℕ) (first : Bool) (format : ModuleFormat) → IsNotPe format
-    → IsUnused bases base format → method_by_format pe bases base relative first format ≡ UsesNothing
-unused-says_nothing pe bases base relative first NoFormat other is = refl
-unused-says_nothing pe bases base relative first (Pe file) other is = absurd other
-unused-says_nothing pe bases base relative first (CallFrames type lookup) other is =
+-- a module that is unwound neither by call frames nor by other tables says nothing
+pub unused-says_nothing : {Rule Registers : Type 0} (tables : TableMethods Rule Registers) (bases : BaseAddresses) (base relative : ℕ) (first : Bool) (format : ModuleFormat) → IsNotPe format
+    → IsNotCompact format → IsUnused bases base format → method_by_format tables bases base relative first format ≡ UsesNothing
+unused-says_nothing tables bases base relative first NoFormat other another is = refl
+unused-says_nothing tables bases base relative first (Pe file) other another is = absurd other
+unused-says_nothing tables bases base relative first (Compact file eh_frame) other another is = absurd another
+unused-says_nothing tables bases base relative first (CallFrames type lookup) other another is =
     let section : FrameSection = section_of_type bases type in
     ap (λ (l : Lookup). method_by l bases section base relative) is.by_index
     ∙ ap (λ (o : Option Fde). method_at section (option_map (λ (f : Fde). f.head.offset) o)) (none-indexed base relative section is.none)

@@ -16,7 +16,10 @@ use Rattle.framehop_index.specs.Lookups.{offset_by_header, offset_by_index, pars
 use Rattle.framehop.specs.LookupMethods.{Lookup, ByIndex, ByHeader, ByScan, method_by}
 use Rattle.framehop.specs.SectionTypes.{section_of_type}
 use Rattle.framehop.specs.Methods.{method_at}
-use Rattle.framehop.specs.UnwindData.{UnwindData, ModuleFormat, CallFrames, NoFormat, Pe, method_by_format}
+use Rattle.framehop.specs.declared.dwarf.UnwindSectionType.TheVariants as kinds
+use Rattle.framehop_compact.specs.CompactResults.{CuiResult}
+use Rattle.framehop_compact.specs.declared.cui_unwind_result.CuiUnwindResult.TheVariants.{ExecRule, NeedDwarf}
+use Rattle.framehop.specs.UnwindData.{UnwindData, ModuleFormat, CallFrames, Compact, NoFormat, Pe, method_by_compact, method_by_format}
 use Rattle.framehop_registers.specs.Callback.{Words}
 use Rattle.framehop_registers.specs.RegistersAarch64.{lr_of, sp_of, fp_of}
 use Rattle.framehop_registers.specs.declared.aarch64.unwindregs.UnwindRegsAarch64.{UnwindRegsAarch64}
@@ -134,11 +137,21 @@ module _ (rules : RulesRaise) (limits : StepLimits) (registers : UnwindRegsAarch
   lookup-raised bases base relative section (ByHeader bytes) is = offset-raised base relative section (offset_by_header bases (parsed_header bases (Some bytes)) base relative) is
   lookup-raised bases base relative section ByScan is = coverage-raised limits.values (covered_by_scan limits.rows rows.vendor section base relative) is
 
+  -- by compact unwind info
+  compact-raised : (bases : BaseAddresses) (base relative : ℕ) (eh_frame : Option (List ℕ)) (said : CuiResult UnwindRuleAarch64)
+      → by_attempt (meanings_aarch64 limits) false registers words (attempt_by_method rows limits base relative false (method_by_compact bases eh_frame said)) ≡ Answers caller → IsRaised (sp_of registers) (sp_of caller.registers)
+  compact-raised bases base relative eh_frame (Ok (ExecRule rule)) is = rules rule registers words caller is
+  compact-raised bases base relative None (Ok (NeedDwarf offset)) is = rules UseFramePointer registers words caller is
+  compact-raised bases base relative (Some bytes) (Ok (NeedDwarf offset)) is =
+      coverage-raised limits.values (covered_by_fde limits.rows rows.vendor (section_of_type bases (kinds.EhFrame bytes)) base relative offset) is
+  compact-raised bases base relative eh_frame (Err refusal) is = rules UseFramePointer registers words caller is
+
   -- by a format
   format-raised : (bases : BaseAddresses) (base relative : ℕ) (format : ModuleFormat)
-      → by_attempt (meanings_aarch64 limits) false registers words (attempt_by_method rows limits base relative false (method_by_format formats_aarch64.pe bases base relative false format)) ≡ Answers caller → IsRaised (sp_of registers) (sp_of caller.registers)
+      → by_attempt (meanings_aarch64 limits) false registers words (attempt_by_method rows limits base relative false (method_by_format formats_aarch64.tables bases base relative false format)) ≡ Answers caller → IsRaised (sp_of registers) (sp_of caller.registers)
   format-raised bases base relative (CallFrames section lookup) is = lookup-raised bases base relative (section_of_type bases section) lookup is
   format-raised bases base relative (Pe file) is = rules UseFramePointer registers words caller is
+  format-raised bases base relative (Compact file eh_frame) is = compact-raised bases base relative eh_frame (formats_aarch64.tables.compact file relative false) is
   format-raised bases base relative NoFormat is = rules UseFramePointer registers words caller is
 
   -- by the module that was found

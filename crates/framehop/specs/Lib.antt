@@ -11,6 +11,7 @@ pub mod RowCfas
 pub mod SameSteps
 pub mod SectionTypes
 pub mod StepMeanings
+pub mod TableMethods
 pub mod TruthfulLookups
 pub mod UnwindData
 pub mod UnwindDataViews

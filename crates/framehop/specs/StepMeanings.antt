@@ -18,10 +18,12 @@ use Rattle.framehop_unwinder.specs.Walk.{Judgment}
 use Rattle.framehop_rows.specs.RowAttemptAarch64 as aarch64_rows
 use Rattle.framehop_rows.specs.RowAttemptX86_64 as x86_64_rows
 use Rattle.framehop_errors.specs.declared.pe.PeUnwinderError.TheVariants.{Aarch64Unsupported}
+use Rattle.framehop_compact.specs.Unwound.{compact_x86_64}
+use Rattle.framehop_compact.specs.UnwoundAarch64.{compact_aarch64}
 use Rattle.framehop_pe.specs.PeAttempts.{Refuses}
 use Rattle.framehop_pe.specs.PeSteps.{attempt_x86_64}
 use Rattle.framehop.specs.Attempts.{AsksExpression, FormatMeanings, StepLimits, attempt_by_format, format_meanings, step_limits}
-use Rattle.framehop.specs.PeMethods.{pe_methods}
+use Rattle.framehop.specs.TableMethods.{table_methods}
 use Rattle.framehop.specs.UnwindData.{UnwindData}
 
 -- the limits if steps may allocate: rows have room for the rules of 192 registers, there is room for 4 rows, and for any number of values
@@ -40,11 +42,11 @@ meanings_by meaning fallback formats limits = meanings_of meaning fallback (atte
 
 -- what formats mean on x86_64
 abbrev pub formats_x86_64 : FormatMeanings UnwindRuleX86_64 UnwindRegsX86_64
-formats_x86_64 = format_meanings x86_64_rows.rows (pe_methods attempt_x86_64)
+formats_x86_64 = format_meanings x86_64_rows.rows (table_methods attempt_x86_64 compact_x86_64)
 
 -- what they mean on aarch64, where those of PE files aren't read
 abbrev pub formats_aarch64 : FormatMeanings UnwindRuleAarch64 UnwindRegsAarch64
-formats_aarch64 = format_meanings aarch64_rows.rows (pe_methods (λ file relative first. Refuses Aarch64Unsupported))
+formats_aarch64 = format_meanings aarch64_rows.rows (table_methods (λ file relative first. Refuses Aarch64Unsupported) compact_aarch64)
 
 -- what steps on x86_64 go by
 abbrev pub meanings_x86_64 : StepLimits → Meanings UnwindData UnwindRuleX86_64 UnwindRegsX86_64

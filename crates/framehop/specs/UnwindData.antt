@@ -1,5 +1,5 @@
 -- The unwind data of a module: its format, and the addresses that its numbers are relative to.
-use Rattle.std.specs.Prelude.{ℕ, ◌-◌, ◌^◌, ◌&&◌, nat_le, nat_lt, if◌then◌else◌, List, Bool, Option, Some, None, option_and_then, option_map}
+use Rattle.std.specs.Prelude.{ℕ, ◌-◌, ◌^◌, ◌&&◌, nat_le, nat_lt, if◌then◌else◌, List, Bool, Option, Some, None, option_and_then, option_map, Ok, Err}
 use Rattle.std.specs.declared.ops.Range.{Range}
 use Rattle.dwarf_frame_rows.specs.declared.base_addresses.BaseAddresses.{BaseAddresses}
 use Rattle.dwarf_frame_rows.specs.FrameSection.{FrameSection}
@@ -9,17 +9,22 @@ use Rattle.framehop_modules.specs.declared.module_sections.BaseSvmas.{BaseSvmas}
 use Rattle.framehop_modules.specs.declared.module_sections.ModuleSections.{ModuleSections}
 use Rattle.framehop_modules.specs.declared.module_sections.ModuleSections.TheVariants.{CompactUnwindInfoAndEhFrame, PeUnwindInfo, EhFrame, DebugFrame, NoSections}
 use Rattle.framehop_modules.specs.declared.module_sections.SectionData.{SectionData}
+use Rattle.framehop_compact.specs.CompactFiles.{Code, CompactFile}
+use Rattle.framehop_compact.specs.CompactResults.{CuiResult}
+use Rattle.framehop_compact.specs.declared.cui_unwind_result.CuiUnwindResult.TheVariants.{ExecRule, NeedDwarf}
 use Rattle.framehop_pe_codes.specs.Sections.{PeFile, PeSection}
 use Rattle.framehop.specs.SectionTypes.{section_of_type}
 use Rattle.framehop.specs.LookupMethods.{Lookup, ByIndex, ByHeader, ByScan, method_by}
-use Rattle.framehop.specs.Methods.{Method, UsesNothing}
+use Rattle.framehop.specs.Methods.{Method, UsesFde, UsesNothing, UsesRule}
 use Rattle.framehop.specs.declared.dwarf.UnwindSectionType.{UnwindSectionType}
 use Rattle.framehop.specs.declared.dwarf.UnwindSectionType.TheVariants as section
 
--- What a module is unwound by: a section of call frames with the lookup of its FDEs, the unwind data of a PE file, or nothing.
+-- What a module is unwound by: a section of call frames with the lookup of its FDEs; the unwind data of a PE file; the compact unwind
+-- info of a Mach-O file, with the bytes of `__eh_frame` if there are some; or nothing.
 pub data ModuleFormat : Type 0 where
   CallFrames : UnwindSectionType (List ℕ) → Lookup → ModuleFormat
   Pe : PeFile → ModuleFormat
+  Compact : CompactFile → (eh_frame : Option (List ℕ)) → ModuleFormat
   NoFormat : ModuleFormat
 
 -- The unwind data of a module: its format, the addresses that pointers in its sections are relative to, and the module's base as the
@@ -64,9 +69,32 @@ pe_file base pdata rdata xdata text = record {
   text = option_and_then (pe_section base) text;
 }
 
--- the format of a module with these sections, by the module's base as the file states it; compact unwind info isn't read yet
+-- the addresses of stubs as a pair, which is empty if there are none
+abbrev pub pair_of : Option (Range ℕ) → ℕ × ℕ
+pair_of (Some range) = (range.start, range.end)
+pair_of None = (0, 0)
+
+-- the range of a section of stubs, if it has such a range
+abbrev pub stub_range : (base : ℕ) → Option (Range ℕ) → ℕ × ℕ
+stub_range base range = pair_of (option_and_then (relative_range base) range)
+
+-- the code of a section, if it starts at such an address
+abbrev pub code_in : (base : ℕ) → SectionData (List ℕ) → Option Code
+code_in base section = option_map (λ start. record { start = start; bytes = section.bytes }) (relative_address base section.svma_range.start)
+
+-- a Mach-O file with compact unwind info, by its sections
+abbrev pub compact_file : (base : ℕ) → List ℕ → (stubs stub_helper : Option (Range ℕ)) → (text : Option (SectionData (List ℕ))) → CompactFile
+compact_file base unwind_info stubs stub_helper text = record {
+  unwind_info = unwind_info;
+  text = option_and_then (code_in base) text;
+  stubs = stub_range base stubs;
+  stub_helper = stub_range base stub_helper;
+}
+
+-- the format of a module with these sections, by the module's base as the file states it
 abbrev pub format_of : (base : ℕ) → ModuleSections (List ℕ) → ModuleFormat
-format_of base (CompactUnwindInfoAndEhFrame unwind_info eh_frame stubs stub_helper text) = NoFormat
+format_of base (CompactUnwindInfoAndEhFrame unwind_info eh_frame stubs stub_helper text) =
+    Compact (compact_file base unwind_info stubs stub_helper text) eh_frame
 format_of base (PeUnwindInfo pdata rdata xdata text) = Pe (pe_file base pdata rdata xdata text)
 format_of base (EhFrame bytes header) = CallFrames (section.EhFrame bytes) (lookup_with header)
 format_of base (DebugFrame bytes) = CallFrames (section.DebugFrame bytes) ByIndex
@@ -76,6 +104,7 @@ format_of base NoSections = NoFormat
 abbrev pub scanned : ModuleFormat → ModuleFormat
 scanned (CallFrames section lookup) = CallFrames section ByScan
 scanned (Pe file) = Pe file
+scanned (Compact file eh_frame) = Compact file eh_frame
 scanned NoFormat = NoFormat
 
 -- the unwind data of a module with these sections
@@ -90,13 +119,30 @@ scanned_data_of s = record { format = scanned (format_of s.base_svma (chosen_sec
 abbrev pub PeMethods : Type 0 → Type 0 → Type 0
 PeMethods Rule Registers = PeFile → (relative : ℕ) → Bool → Method Rule Registers
 
+-- How tables other than those of call frames say so: the unwind data of PE files, and compact unwind info.
+pub record TableMethods (Rule Registers : Type 0) : Type 0 where
+  pub pe : PeMethods Rule Registers
+  pub compact : CompactFile → (relative : ℕ) → Bool → CuiResult Rule
+
+-- by the FDE at an offset of `__eh_frame`, if there is that section
+abbrev pub method_in : {Rule Registers : Type 0} → BaseAddresses → Option (List ℕ) → (offset : ℕ) → Method Rule Registers
+method_in bases (Some bytes) offset = UsesFde (section_of_type bases (section.EhFrame bytes)) offset
+method_in bases None offset = UsesNothing
+
+-- by what compact unwind info says, or by nothing if it is refused
+abbrev pub method_by_compact : {Rule Registers : Type 0} → BaseAddresses → (eh_frame : Option (List ℕ)) → CuiResult Rule → Method Rule Registers
+method_by_compact bases eh_frame (Ok (ExecRule rule)) = UsesRule rule
+method_by_compact bases eh_frame (Ok (NeedDwarf offset)) = method_in bases eh_frame offset
+method_by_compact bases eh_frame (Err refusal) = UsesNothing
+
 -- how a format says to unwind a frame at a relative address
-abbrev pub method_by_format : {Rule Registers : Type 0} → PeMethods Rule Registers → BaseAddresses → (base relative : ℕ) → Bool → ModuleFormat
+abbrev pub method_by_format : {Rule Registers : Type 0} → TableMethods Rule Registers → BaseAddresses → (base relative : ℕ) → Bool → ModuleFormat
     → Method Rule Registers
-method_by_format pe bases base relative first (CallFrames section lookup) = method_by lookup bases (section_of_type bases section) base relative
-method_by_format pe bases base relative first (Pe file) = pe file relative first
-method_by_format pe bases base relative first NoFormat = UsesNothing
+method_by_format tables bases base relative first (CallFrames section lookup) = method_by lookup bases (section_of_type bases section) base relative
+method_by_format tables bases base relative first (Pe file) = tables.pe file relative first
+method_by_format tables bases base relative first (Compact file eh_frame) = method_by_compact bases eh_frame (tables.compact file relative first)
+method_by_format tables bases base relative first NoFormat = UsesNothing
 
 -- how a module's data says to unwind a frame, a first or a later one, at a relative address
-abbrev pub method_of : {Rule Registers : Type 0} → PeMethods Rule Registers → UnwindData → (relative : ℕ) → Bool → Method Rule Registers
-method_of pe given relative first = method_by_format pe given.bases given.base_svma relative first given.format
+abbrev pub method_of : {Rule Registers : Type 0} → TableMethods Rule Registers → UnwindData → (relative : ℕ) → Bool → Method Rule Registers
+method_of tables given relative first = method_by_format tables given.bases given.base_svma relative first given.format

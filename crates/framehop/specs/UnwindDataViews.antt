@@ -3,6 +3,8 @@ use Rattle.std.specs.Prelude.{◌≡◌, ℕ, List, Option, Some, None, option_m
 use Rattle.std.specs.Borrow.{Bor}
 use Rattle.dwarf_frame_rows.specs.declared.base_addresses.BaseAddresses.{BaseAddresses}
 use Rattle.dwarf_frame_rows.specs.FrameSection.{FrameSection}
+use Rattle.framehop_compact.specs.CompactFiles.{Code, CompactFile}
+use Rattle.framehop_compact_tables.specs.Increasing as compact
 use Rattle.framehop_pe_codes.specs.Sections.{PeFile, PeSection}
 use Rattle.framehop_pe.specs.Rows.{IsIncreasing}
 use Rattle.framehop_index.specs.CfiIndex.{IsMadeOf}
@@ -20,6 +22,8 @@ use Rattle.framehop.specs.declared.unwind_data.Lookup.{Lookup}
 use Rattle.framehop.specs.declared.unwind_data.Lookup.TheVariants as which
 use Rattle.framehop.specs.declared.unwind_data.ModuleFormat.{ModuleFormat}
 use Rattle.framehop.specs.declared.unwind_data.ModuleFormat.TheVariants as format
+use Rattle.framehop.specs.declared.compact.CodeAt.{CodeAt}
+use Rattle.framehop.specs.declared.compact.CompactModule.{CompactModule}
 use Rattle.framehop.specs.declared.pe.PeModule.{PeModule}
 use Rattle.framehop.specs.declared.pe.SectionAtRva.{SectionAtRva}
 use Rattle.framehop_errors.specs.declared.cfi_index.DwarfCfiIndexError.{DwarfCfiIndexError}
@@ -48,11 +52,29 @@ file_view content file = record {
 abbrev pub IncreasesAsSaid : {D : Type 0} → (D → List ℕ) → PeModule D → Type 0
 IncreasesAsSaid content file = IsTrue file.increasing → IsIncreasing (content file.pdata)
 
+-- code, by its bytes
+abbrev pub code_view : {D : Type 0} → (D → List ℕ) → CodeAt D → Code
+code_view content code = record { start = code.start; bytes = content code.bytes }
+
+-- a Mach-O file with compact unwind info, by the bytes of its sections
+abbrev pub compact_view : {D : Type 0} → (D → List ℕ) → CompactModule D → CompactFile
+compact_view content file = record {
+  unwind_info = content file.unwind_info;
+  text = option_map (code_view content) file.text;
+  stubs = file.stubs;
+  stub_helper = file.stub_helper;
+}
+
+-- the tables of a Mach-O file increase, if the module says that they do
+abbrev pub TablesIncrease : {D : Type 0} → (D → List ℕ) → CompactModule D → Type 0
+TablesIncrease content file = IsTrue file.increasing → compact.IsIncreasing (content file.unwind_info)
+
 -- the format of a module, by the bytes of its sections
 abbrev pub format_view : {D : Type 0} → (D → List ℕ) → ModuleFormat D → data_.ModuleFormat
 format_view content (format.CallFrames section entries) =
     data_.CallFrames (frame_section_bytes content section) (entries_view content entries)
 format_view content (format.Pe file) = data_.Pe (file_view content file)
+format_view content (format.Compact file) = data_.Compact (compact_view content file) (option_map content file.eh_frame)
 format_view content format.NoFormat = data_.NoFormat
 
 -- an index is that of the section, with starts relative to this base; and a section that has one doesn't lack it
@@ -62,11 +84,12 @@ AreFoundBy base section (by.Index index) = IsIndexOf index base section
 AreFoundBy base section by.Unindexed = has_index section ≡ false
 AreFoundBy base section by.Scan = Unit {0}
 
--- and so it is in a module's format; and rows of a PE file that are said to increase do
+-- and so it is in a module's format; and rows of a PE file, and tables of a Mach-O file, that are said to increase do
 abbrev pub IsIndexedBy : {D : Type 0} → (D → List ℕ) → BaseAddresses → (base : ℕ) → ModuleFormat D → Type 0
 IsIndexedBy content bases base (format.CallFrames section entries) =
     AreFoundBy base (section_of_type bases (frame_section_bytes content section)) entries
 IsIndexedBy content bases base (format.Pe file) = IncreasesAsSaid content file
+IsIndexedBy content bases base (format.Compact file) = TablesIncrease content file
 IsIndexedBy content bases base format.NoFormat = Unit {0}
 
 -- the lookup that is lent
@@ -110,12 +133,21 @@ IsLentBy given section lookup = LeadsInto given.base_svma (section_of_type given
 abbrev pub IsNotPe : data_.ModuleFormat → Type 0
 IsNotPe (data_.CallFrames section lookup) = Unit {0}
 IsNotPe (data_.Pe file) = ⊥
+IsNotPe (data_.Compact file eh_frame) = Unit {0}
 IsNotPe data_.NoFormat = Unit {0}
+
+-- the format isn't that of a Mach-O file with compact unwind info
+abbrev pub IsNotCompact : data_.ModuleFormat → Type 0
+IsNotCompact (data_.CallFrames section lookup) = Unit {0}
+IsNotCompact (data_.Pe file) = Unit {0}
+IsNotCompact (data_.Compact file eh_frame) = ⊥
+IsNotCompact data_.NoFormat = Unit {0}
 
 -- the module isn't unwound by call frames
 abbrev pub IsUnused : BaseAddresses → (base : ℕ) → data_.ModuleFormat → Type 0
 IsUnused bases base (data_.CallFrames section lookup) = IsUnindexed base (section_of_type bases section) lookup
 IsUnused bases base (data_.Pe file) = Unit {0}
+IsUnused bases base (data_.Compact file eh_frame) = Unit {0}
 IsUnused bases base data_.NoFormat = Unit {0}
 
 -- the bytes of the header that FDEs are found by

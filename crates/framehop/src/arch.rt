@@ -2,14 +2,17 @@
 
 ghost use Rattle.std.specs.Prelude.{refl};
 ghost use Rattle.framehop.specs.Attempts.{AsksExpression, format_meanings};
-ghost use Rattle.framehop.specs.PeMethods.{pe_methods};
 ghost use Rattle.framehop.specs.StepMeanings.{meanings_by};
+ghost use Rattle.framehop.specs.TableMethods.{table_methods};
 
 use crate::cache::AllocationPolicy;
 use crate::call_frames::{failure_of, unwind_frame_by_call_frames};
+use crate::compact::unwind_frame_by_compact;
 use crate::context::DwarfUnwindContext;
 use crate::pe::unwind_frame_by_pe;
 use crate::unwind_data::ModuleUnwindData;
+use framehop_analysis::InstructionAnalysis;
+use framehop_compact::CompactUnwindInfoUnwinding;
 use framehop_errors::UnwinderError;
 use framehop_modules::SectionBytes;
 use framehop_pe::PeUnwinding;
@@ -21,7 +24,10 @@ use framehop_unwinder::{ModuleUnwinding, UnwindFailure};
 use std::marker::PhantomData;
 
 /// An architecture whose modules are unwound by their sections, in each format that is read.
-pub trait Unwinding: DwarfUnwinding + PeUnwinding {}
+pub trait Unwinding: DwarfUnwinding
+    + InstructionAnalysis
+    + CompactUnwindInfoUnwinding
+    + PeUnwinding {}
 
 impl Unwinding for ArchX86_64 {}
 
@@ -48,7 +54,7 @@ impl<A: Unwinding, D: SectionBytes + Drop, P: AllocationPolicy> ModuleUnwinding
     type UnwindContext = DwarfUnwindContext<P>;
 
     ghost meanings = { meanings_by A.UnwindRule.meaning A.UnwindRule.fallback
-        (format_meanings A.rows (pe_methods A.pe_attempt)) P.limits };
+        (format_meanings A.rows (table_methods A.pe_attempt A.compact)) P.limits };
 
     ghost meaning_is = { refl };
 
@@ -57,7 +63,7 @@ impl<A: Unwinding, D: SectionBytes + Drop, P: AllocationPolicy> ModuleUnwinding
     ghost takes_memory = { P.may_allocate };
 
     ghost asks_memory = { AsksExpression A.MeetsExpression
-        (format_meanings A.rows (pe_methods A.pe_attempt)) P.limits };
+        (format_meanings A.rows (table_methods A.pe_attempt A.compact)) P.limits };
 
     fn unwind_frame<F: FnMut(u64) -> Result<u64, ()>>(
         unwind_data: &ModuleUnwindData<D>,
@@ -73,6 +79,18 @@ impl<A: Unwinding, D: SectionBytes + Drop, P: AllocationPolicy> ModuleUnwinding
                 regs,
                 is_first_frame,
                 relative_address,
+                read_stack,
+            );
+        }
+        if let Some(file) = unwind_data.compact() {
+            return unwind_frame_by_compact::<A, P, D, F>(
+                file,
+                unwind_data.bases(),
+                unwind_data.base_svma(),
+                regs,
+                is_first_frame,
+                relative_address,
+                unwind_context,
                 read_stack,
             );
         }

@@ -6,6 +6,7 @@ ghost use Rattle.framehop.specs.DwarfViews.{section_lent};
 ghost use Rattle.framehop.specs.LookupMethods.{method_by};
 ghost use Rattle.framehop.specs.MethodViews.{AnswersMethod};
 ghost use Rattle.framehop.specs.Methods.{method_at};
+ghost use Rattle.framehop.specs.UnwindData.{method_in};
 ghost use Rattle.framehop.specs.RowAttempts.{dwarf_failure, failure_of};
 ghost use Rattle.framehop.specs.UnwindDataViews.{LeadsInto, header_bytes, lookup_view};
 ghost use Rattle.framehop_unwinder.specs.declared.unwinding.UnwindFailure.TheVariants.{OfModule};
@@ -173,4 +174,50 @@ pub(crate) fn unwind_frame_by_call_frames<
             Err(error) => Err(failure_of(UnwinderError::Dwarf(error))),
         },
     }
+}
+
+// The step by the FDE at an offset of `__eh_frame`, which isn't in every module, from a frame at a relative address.
+pub(crate) fn unwind_frame_by_eh_frame<
+    A: DwarfUnwinding,
+    P: AllocationPolicy,
+    F: FnMut(u64) -> Result<u64, ()>,
+>(
+    eh_frame: Option<&[u8]>,
+    bases: &BaseAddresses,
+    base_svma: u64,
+    regs: &mut A::UnwindRegs,
+    is_first_frame: bool,
+    relative_address: u32,
+    fde_offset: u32,
+    unwind_context: &mut DwarfUnwindContext<P>,
+    read_stack: &mut F,
+) -> Result<UnwindResult<A::UnwindRule>, UnwindFailure>
+    requires callable { F.IsAlwaysCallable read_stack.old }
+    ensures callable { F.IsAlwaysCallable read_stack.new }
+    ensures answers { AnswersMethod F.step read_stack.old read_stack.new regs.old regs.new result
+        A.rows A.MeetsExpression P.limits P.may_allocate base_svma relative_address is_first_frame
+        (method_in bases.now (option_map (λ bytes. bytes.now) eh_frame.entry) fde_offset) }
+    ensures valid { HasValidRule A.UnwindRule.is_valid result }
+{
+    let Some(bytes) = eh_frame else {
+        return Err(failure_of(UnwinderError::NoDwarfData));
+    };
+    let alloc = unwind_context.alloc;
+    let mut unwinder = DwarfUnwinder::<A, P::GimliUnwindContextStorage>::new(
+        UnwindSectionType::EhFrame(bytes),
+        None,
+        &mut *unwind_context.rows,
+        bases,
+        base_svma,
+    );
+    unwind_frame_if_found::<A, P, F>(
+        &mut unwinder,
+        alloc,
+        regs,
+        is_first_frame,
+        relative_address,
+        Some(fde_offset),
+        UnwinderError::NoDwarfData,
+        read_stack,
+    )
 }

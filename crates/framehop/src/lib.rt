@@ -8,12 +8,14 @@ pub mod aarch64;
 mod arch;
 mod cache;
 mod call_frames;
+mod compact;
 mod context;
 mod dwarf;
 pub mod histories;
 pub mod lookup_laws;
 mod module;
 mod pe;
+mod relative;
 pub mod row_laws;
 pub mod rule_laws;
 mod unwind_data;
@@ -28,6 +30,10 @@ pub use cache::{
 pub use context::DwarfUnwindContext;
 pub use dwarf::{DwarfUnwinder, UnwindSectionType};
 pub use dwarf_frame_entries::BaseAddresses;
+pub use framehop_analysis::InstructionAnalysis;
+pub use framehop_compact::{
+    CompactUnwindInfoUnwinder, CompactUnwindInfoUnwinding, CuiUnwindResult, Function, TextBytes,
+};
 pub use framehop_errors::{
     CompactFormatError, CompactUnwindInfoUnwinderError, DwarfCfiIndexError, DwarfUnwinderError,
     PeUnwinderError, UnwinderError,

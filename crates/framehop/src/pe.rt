@@ -8,11 +8,12 @@ ghost use Rattle.framehop_pe.specs.PeAttempts.{AnswersPe};
 ghost use Rattle.framehop_pe.specs.Rows.{IsIncreasing};
 ghost use Rattle.framehop.specs.MethodViews.{AnswersMethod};
 ghost use Rattle.framehop.specs.PeMethods.{method_by_pe};
-ghost use Rattle.framehop.specs.UnwindData.{pe_file, pe_section, relative_address};
+ghost use Rattle.framehop.specs.UnwindData.{pe_file, pe_section};
 ghost use Rattle.framehop.specs.UnwindDataViews.{IncreasesAsSaid, file_view, section_view};
 
 use crate::cache::AllocationPolicy;
 use crate::call_frames::failure_of;
+use crate::relative::relative_range;
 use framehop_errors::{PeUnwinderError, UnwinderError};
 use framehop_modules::{SectionBytes, SectionData};
 use framehop_pe::{DataAtRvaRange, PeSections, PeUnwinding, pdata_is_increasing};
@@ -39,13 +40,6 @@ pub(crate) struct PeModule<D> {
     text: Option<SectionAtRva<D>>,
 }
 
-// An address relative to a base, if it isn't below the base and fits 32 bits.
-fn relative_to(base_svma: u64, svma: u64) -> Option<u32>
-    ensures { result ≡ relative_address base_svma svma }
-{
-    u32::try_from(svma.checked_sub(base_svma)?).ok()
-}
-
 // A section with its addresses relative to a base, if they fit.
 fn section_at<D: SectionBytes + Drop>(
     base_svma: u64,
@@ -55,11 +49,10 @@ fn section_at<D: SectionBytes + Drop>(
         ≡ option_and_then (pe_section base_svma) (option_map (section_bytes D.content) section) }
 {
     let section = section?;
-    let start = relative_to(base_svma, section.svma_range.start)?;
-    let end = relative_to(base_svma, section.svma_range.end)?;
+    let rva_range = relative_range(base_svma, &section.svma_range)?;
     Some(SectionAtRva {
         bytes: section.bytes,
-        rva_range: start..end,
+        rva_range,
     })
 }
 

@@ -1,13 +1,14 @@
 //! The unwind data of a module.
 
-ghost use Rattle.std.specs.Prelude.{◌≡◌, ℕ, List, IfOk, IfSome, IfNone};
+ghost use Rattle.std.specs.Prelude.{◌≡◌, ℕ, List, IfOk, IfSome, IfNone, option_map};
 ghost use Rattle.framehop_modules.specs.ChosenViews.{sections_bytes};
 ghost use Rattle.framehop.specs.DwarfViews.{frame_section_bytes};
 ghost use Rattle.dwarf_frame_rows.specs.declared.base_addresses.BaseAddresses.{BaseAddresses};
 ghost use Rattle.framehop.specs.LookupMethods.{ByIndex};
-ghost use Rattle.framehop.specs.UnwindData.{CallFrames, Pe, bases_of, format_of, scanned, scanned_data_of, unwind_data_of};
-ghost use Rattle.framehop.specs.UnwindDataViews.{IncreasesAsSaid, IsIndexedBy, IsLentBy, IsNotPe, IsUnused, LendsLookup, MakesEntries, entries_view, file_view, format_view, lookup_view};
+ghost use Rattle.framehop.specs.UnwindData.{CallFrames, Compact, Pe, bases_of, format_of, scanned, scanned_data_of, unwind_data_of};
+ghost use Rattle.framehop.specs.UnwindDataViews.{IncreasesAsSaid, IsIndexedBy, IsLentBy, IsNotCompact, IsNotPe, IsUnused, LendsLookup, MakesEntries, TablesIncrease, compact_view, entries_view, file_view, format_view, lookup_view};
 
+use crate::compact::CompactModule;
 use crate::dwarf::UnwindSectionType;
 use crate::pe::PeModule;
 use dwarf_frame_entries::BaseAddresses;
@@ -37,6 +38,8 @@ enum ModuleFormat<D> {
     CallFrames(UnwindSectionType<D>, Entries<D>),
     // The unwind data of a PE file.
     Pe(PeModule<D>),
+    // The compact unwind info of a Mach-O file.
+    Compact(CompactModule<D>),
     // Nothing that is read.
     NoFormat,
 }
@@ -73,8 +76,8 @@ impl<D: SectionBytes> Model for ModuleUnwindData<D> {
       base_svma = given.base_svma;
     } };
 
-    // an index is that of the section, and only a section that has none lacks one; and rows that are said to
-    // increase do
+    // an index is that of the section, and only a section that has none lacks one; and rows and tables that are
+    // said to increase do
     ghost invariant = { λ given. IsIndexedBy D.content given.bases given.base_svma given.format };
 }
 
@@ -143,9 +146,21 @@ fn format_with<D: SectionBytes + Drop>(
             xdata,
             text,
         } => Ok(ModuleFormat::Pe(PeModule::new(base_svma, pdata, rdata, xdata, text))),
-        ModuleSections::CompactUnwindInfoAndEhFrame { .. } | ModuleSections::NoSections => {
-            Ok(ModuleFormat::NoFormat)
-        }
+        ModuleSections::CompactUnwindInfoAndEhFrame {
+            unwind_info,
+            eh_frame,
+            stubs_svma,
+            stub_helper_svma,
+            text,
+        } => Ok(ModuleFormat::Compact(CompactModule::new(
+            base_svma,
+            unwind_info,
+            eh_frame,
+            stubs_svma,
+            stub_helper_svma,
+            text,
+        ))),
+        ModuleSections::NoSections => Ok(ModuleFormat::NoFormat),
     }
 }
 
@@ -171,9 +186,21 @@ fn scanned_format<D: SectionBytes + Drop>(
             xdata,
             text,
         } => ModuleFormat::Pe(PeModule::new(base_svma, pdata, rdata, xdata, text)),
-        ModuleSections::CompactUnwindInfoAndEhFrame { .. } | ModuleSections::NoSections => {
-            ModuleFormat::NoFormat
-        }
+        ModuleSections::CompactUnwindInfoAndEhFrame {
+            unwind_info,
+            eh_frame,
+            stubs_svma,
+            stub_helper_svma,
+            text,
+        } => ModuleFormat::Compact(CompactModule::new(
+            base_svma,
+            unwind_info,
+            eh_frame,
+            stubs_svma,
+            stub_helper_svma,
+            text,
+        )),
+        ModuleSections::NoSections => ModuleFormat::NoFormat,
     }
 }
 
@@ -259,7 +286,21 @@ impl<D: SectionBytes> ModuleUnwindData<D> {
     {
         match &self.format {
             ModuleFormat::Pe(file) => Some(file),
-            ModuleFormat::CallFrames(..) | ModuleFormat::NoFormat => None,
+            ModuleFormat::CallFrames(..) | ModuleFormat::Compact(_) | ModuleFormat::NoFormat =>
+                None,
+        }
+    }
+
+    // The Mach-O file by whose compact unwind info the module is unwound.
+    pub(crate) fn compact(&self) -> Option<&CompactModule<D>>
+        ensures format { IfSome result (λ file. self.now.format
+            ≡ Compact (compact_view D.content file.now) (option_map D.content file.now.eh_frame)) }
+        ensures increasing { IfSome result (λ file. TablesIncrease D.content file.now) }
+        ensures none { IfNone result (IsNotCompact self.now.format) }
+    {
+        match &self.format {
+            ModuleFormat::Compact(file) => Some(file),
+            ModuleFormat::CallFrames(..) | ModuleFormat::Pe(_) | ModuleFormat::NoFormat => None,
         }
     }
 
@@ -275,7 +316,7 @@ impl<D: SectionBytes> ModuleUnwindData<D> {
                 let lookup = lookup_by(entries)?;
                 Some((bytes_of(section), lookup))
             }
-            ModuleFormat::Pe(_) | ModuleFormat::NoFormat => None,
+            ModuleFormat::Pe(_) | ModuleFormat::Compact(_) | ModuleFormat::NoFormat => None,
         }
     }
 }

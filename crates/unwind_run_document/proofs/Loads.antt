@@ -49,19 +49,23 @@ Five = Four × ℕ
 abbrev pub Six : Type 0
 Six = Five × Vec Section Global
 
--- the load that the seven fields make
-abbrev pub loaded : Six → Loading
-loaded p =
-    loading_of p.0.0.0.0.0.0 (string_bytes p.0.0.0.0.0.1) p.0.0.0.0.1 p.0.0.0.1 p.0.0.1 p.0.1 (sections_view p.1.items)
+abbrev pub Seven : Type 0
+Seven = Six × Vec Section Global
 
-pub seven_fields : (u : Checked ℕ) (n : Checked Text) (s e b v : Checked ℕ) (ss : Checked (Vec Section Global))
-    (one : Checked One) (two : Checked Two) (three : Checked Three) (four : Checked Four) (five : Checked Five) (six : Checked Six)
-    (U : Checked ℕ) (N : Checked (List ℕ)) (S E B V : Checked ℕ) (SS : Checked (List StatedSection))
-    → u ≡ U → result_map string_bytes n ≡ N → s ≡ S → e ≡ E → b ≡ B → v ≡ V → result_map (λ x. sections_view x.items) ss ≡ SS
-    → one ≡ both u n → two ≡ both one s → three ≡ both two e → four ≡ both three b → five ≡ both four v → six ≡ both five ss
-    → result_map loaded six ≡ Ok loading_of ⊛ U ⊛ N ⊛ S ⊛ E ⊛ B ⊛ V ⊛ SS
-seven_fields u n s e b v ss one two three four five six U N S E B V SS u_is n_is s_is e_is b_is v_is ss_is one_is two_is three_is four_is five_is six_is =
-    and-field (λ p. loading_of p.0.0.0.0.0 (string_bytes p.0.0.0.0.1) p.0.0.0.1 p.0.0.1 p.0.1 p.1) (λ x. sections_view x.items) five ss six _ SS
+-- the load that the eight fields make
+abbrev pub loaded : Seven → Loading
+loaded p =
+    loading_of p.0.0.0.0.0.0.0 (string_bytes p.0.0.0.0.0.0.1) p.0.0.0.0.0.1 p.0.0.0.0.1 p.0.0.0.1 p.0.0.1 (sections_view p.0.1.items) (sections_view p.1.items)
+
+pub eight_fields : (u : Checked ℕ) (n : Checked Text) (s e b v : Checked ℕ) (ss gs : Checked (Vec Section Global))
+    (one : Checked One) (two : Checked Two) (three : Checked Three) (four : Checked Four) (five : Checked Five) (six : Checked Six) (seven : Checked Seven)
+    (U : Checked ℕ) (N : Checked (List ℕ)) (S E B V : Checked ℕ) (SS GS : Checked (List StatedSection))
+    → u ≡ U → result_map string_bytes n ≡ N → s ≡ S → e ≡ E → b ≡ B → v ≡ V → result_map (λ x. sections_view x.items) ss ≡ SS → result_map (λ x. sections_view x.items) gs ≡ GS
+    → one ≡ both u n → two ≡ both one s → three ≡ both two e → four ≡ both three b → five ≡ both four v → six ≡ both five ss → seven ≡ both six gs
+    → result_map loaded seven ≡ Ok loading_of ⊛ U ⊛ N ⊛ S ⊛ E ⊛ B ⊛ V ⊛ SS ⊛ GS
+eight_fields u n s e b v ss gs one two three four five six seven U N S E B V SS GS u_is n_is s_is e_is b_is v_is ss_is gs_is one_is two_is three_is four_is five_is six_is seven_is =
+    and-field (λ p. loading_of p.0.0.0.0.0.0 (string_bytes p.0.0.0.0.0.1) p.0.0.0.0.1 p.0.0.0.1 p.0.0.1 p.0.1 (sections_view p.1.items)) (λ x. sections_view x.items) six gs seven _ GS
+    (and-field (λ p. loading_of p.0.0.0.0.0 (string_bytes p.0.0.0.0.1) p.0.0.0.1 p.0.0.1 p.0.1 p.1) (λ x. sections_view x.items) five ss six _ SS
     (and-field (λ p. loading_of p.0.0.0.0 (string_bytes p.0.0.0.1) p.0.0.1 p.0.1 p.1) (λ x. x) four v five _ V
     (and-field (λ p. loading_of p.0.0.0 (string_bytes p.0.0.1) p.0.1 p.1) (λ x. x) three b four _ B
     (and-field (λ p. loading_of p.0.0 (string_bytes p.0.1) p.1) (λ x. x) two e three _ E
@@ -71,7 +75,8 @@ seven_fields u n s e b v ss one two three four five six U N S E B V SS u_is n_is
     (as_it_is e E e_is) three_is)
     (as_it_is b B b_is) four_is)
     (as_it_is v V v_is) five_is)
-    ss_is six_is
+    ss_is six_is)
+    gs_is seven_is
 
 pub unload_fields : (u s : Checked ℕ) (one : Checked (ℕ × ℕ)) (U S : Checked ℕ) → u ≡ U → s ≡ S → one ≡ both u s
     → result_map (λ p. unloading_of p.0 p.1) one ≡ Ok unloading_of ⊛ U ⊛ S

@@ -34,6 +34,7 @@ load_view l = record {
   base = l.base;
   base_svma = l.base_svma;
   sections = sections_view l.sections.items;
+  segments = sections_view l.segments.items;
 }
 
 -- a stack

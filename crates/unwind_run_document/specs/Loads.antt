@@ -1,22 +1,23 @@
 -- Loads and unloads of modules, decoded from their JSON values.
 use Rattle.std.specs.Prelude.{ℕ, if◌then◌else◌, List, [], ◌∷◌, codes, Ok, Err}
 use Rattle.serde_json.specs.Data.{Data}
+use Rattle.serde_json.specs.Find.{get}
 use Rattle.json_program.specs.declared.fault.FaultName.TheVariants.{BadCommand}
 use Rattle.json_program.specs.Faults.{Checked, ◌⊛◌}
 use Rattle.json_program.specs.Json.{text_value, address_value, field, has_only}
 use Rattle.unwind_run_document.specs.Tasks.{StatedSection, Loading, Unloading}
 use Rattle.unwind_run_document.specs.Made.{Made, made_number}
-use Rattle.unwind_run_document.specs.Sections.{sections_in}
+use Rattle.unwind_run_document.specs.Sections.{sections_in, segments_in}
 
 -- the fields of a load
 abbrev pub load_names : List (List ℕ)
 load_names =
     codes "do" ∷ codes "unwinder" ∷ codes "name" ∷ codes "start" ∷ codes "end" ∷ codes "base" ∷ codes "base_svma"
-    ∷ codes "sections" ∷ []
+    ∷ codes "sections" ∷ codes "segments" ∷ []
 
 -- the load of these parts
-abbrev pub loading_of : ℕ → List ℕ → ℕ → ℕ → ℕ → ℕ → List StatedSection → Loading
-loading_of unwinder name start end base base_svma sections = record {
+abbrev pub loading_of : ℕ → List ℕ → ℕ → ℕ → ℕ → ℕ → (sections segments : List StatedSection) → Loading
+loading_of unwinder name start end base base_svma sections segments = record {
   unwinder = unwinder;
   name = name;
   start = start;
@@ -24,6 +25,7 @@ loading_of unwinder name start end base base_svma sections = record {
   base = base;
   base_svma = base_svma;
   sections = sections;
+  segments = segments;
 }
 
 -- a value that has to be a load
@@ -33,7 +35,7 @@ load_in made d =
     then Ok loading_of ⊛ made_number made.unwinders (codes "unwinder") d ⊛ field text_value (codes "name") d
     ⊛ field address_value (codes "start") d ⊛ field address_value (codes "end") d
     ⊛ field address_value (codes "base") d ⊛ field address_value (codes "base_svma") d
-    ⊛ field sections_in (codes "sections") d
+    ⊛ field sections_in (codes "sections") d ⊛ segments_in (get (codes "segments") d)
     else Err BadCommand
 
 -- the fields of an unload

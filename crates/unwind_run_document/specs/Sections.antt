@@ -10,20 +10,6 @@ use Rattle.json_program.specs.Faults.{Checked, ◌⊛◌, ◌>>=◌}
 use Rattle.json_program.specs.Json.{text_value, address_value, bytes_value, field, optional_value, list_of, has_only}
 use Rattle.unwind_run_document.specs.Tasks.{StatedSection}
 
--- the names of sections that can't be loaded yet
-abbrev pub refused_names : List (List ℕ)
-refused_names = codes "__unwind_info" ∷ codes "__stubs" ∷ codes "__stub_helper" ∷ []
-
--- a section of this name can't be loaded
-unfoldable pub is_refused : List ℕ → Bool
-is_refused text = list_any (λ name. bytes_eq name text) refused_names
-
--- a value that has to be the name of a section
-abbrev pub section_name_in : Data → Checked (List ℕ)
-section_name_in d = do
-  text ← text_value d
-  if is_refused text then Err BadCommand else Ok text
-
 -- the range of a section: a start with its end, or neither
 abbrev pub range_between : Option Data → Option Data → Checked (Option AddressRange)
 range_between None None = Ok None
@@ -41,7 +27,7 @@ abbrev pub section_in : Data → Checked StatedSection
 section_in d =
     if has_only section_names d
     then Ok (λ name range bytes. record { name = name; range = range; bytes = bytes })
-    ⊛ field section_name_in (codes "name") d ⊛ range_between (get (codes "start") d) (get (codes "end") d)
+    ⊛ field text_value (codes "name") d ⊛ range_between (get (codes "start") d) (get (codes "end") d)
     ⊛ optional_value bytes_value (get (codes "data") d)
     else Err BadCommand
 
@@ -68,3 +54,8 @@ abbrev pub sections_in : Data → Checked (List StatedSection)
 sections_in d = do
   items ← ok_or (as_array d) BadCommand
   sections_at items
+
+-- the segments, which are such a list too, or none if they aren't stated
+abbrev pub segments_in : Option Data → Checked (List StatedSection)
+segments_in None = Ok []
+segments_in (Some d) = sections_in d

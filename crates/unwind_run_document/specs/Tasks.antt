@@ -4,13 +4,13 @@ use Rattle.unwind_run_document.specs.declared.command.FrameKind.{FrameKind}
 use Rattle.unwind_run_document.specs.declared.command.AddressRange.{AddressRange}
 use Rattle.unwind_run_document.specs.declared.registers.StatedRegisters.{StatedRegisters}
 
--- a section of a module: its name, its range as the file states it, and its bytes
+-- a section or a segment of a module: its name, its range as the file states it, and its bytes
 pub record StatedSection : Type 0 where
   pub name : List ℕ
   pub range : Option AddressRange
   pub bytes : Option (List ℕ)
 
--- a module for an unwinder: its range in memory, its base there and in the file, and its sections
+-- a module for an unwinder: its range in memory, its base there and in the file, its sections and its segments
 pub record Loading : Type 0 where
   pub unwinder : ℕ
   pub name : List ℕ
@@ -19,6 +19,7 @@ pub record Loading : Type 0 where
   pub base : ℕ
   pub base_svma : ℕ
   pub sections : List StatedSection
+  pub segments : List StatedSection
 
 -- the words of a stack, eight bytes each, from an address on
 pub record StackWords : Type 0 where

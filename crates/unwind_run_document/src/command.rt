@@ -61,6 +61,8 @@ pub struct LoadCommand {
     pub base_svma: u64,
     /// The sections, of which no two have one name.
     pub sections: Vec<StatedSection>,
+    /// The segments, of which no two have one name.
+    pub segments: Vec<StatedSection>,
 }
 
 /// A module of an unwinder, by its start.
@@ -72,7 +74,7 @@ pub struct UnloadCommand {
     pub start: u64,
 }
 
-/// A section of a module.
+/// A section or a segment of a module.
 #[derive(Debug, Drop)]
 pub struct StatedSection {
     pub name: String,

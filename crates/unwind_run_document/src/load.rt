@@ -5,7 +5,7 @@ ghost use Rattle.serde_json.specs.Find.{as_str, get};
 ghost use Rattle.serde_json.specs.View.{view, items_view};
 ghost use Rattle.json_program.specs.Json.{bytes_value, list_of, field, optional_value, text_value};
 ghost use Rattle.unwind_run_document.specs.Loads.{load_in, unload_in};
-ghost use Rattle.unwind_run_document.specs.Sections.{are_distinct, is_refused, names_of, range_between, section_in, section_name_in, sections_in};
+ghost use Rattle.unwind_run_document.specs.Sections.{are_distinct, names_of, range_between, section_in, sections_in, segments_in};
 ghost use Rattle.json_program.specs.Decoded.{Decodes, result_map};
 ghost use Rattle.unwind_run_document.specs.CommandViews.{load_view, made_view, section_view, sections_view, unload_view};
 
@@ -19,24 +19,11 @@ use serde_json::Value;
 use std::alloc::{AllocError, Global};
 use std::collections::BTreeSet;
 
-// Whether a section of this name can't be loaded.
-#[tactic(auto, unfolding(crate::specs::Sections::is_refused))]
-fn is_refused(name: &str) -> bool
-    ensures { result ≡ is_refused name.now }
+// The name of a module, a section or a segment.
+fn name_in(alloc: Global, object: &Value) -> Result<String, DecodeError<FaultName>>
+    ensures { Decodes string_bytes result (field text_value (codes "name") (view object.now)) }
 {
-    ["__unwind_info", "__stubs", "__stub_helper"].contains(&name)
-}
-
-// The name of a section.
-fn section_name(alloc: Global, object: &Value) -> Result<String, DecodeError<FaultName>>
-    ensures { Decodes string_bytes result
-        (field section_name_in (codes "name") (view object.now)) }
-{
-    let text = text_field(object, "name")?;
-    if is_refused(text) {
-        return Err(DecodeError::Fault(FaultName::BadCommand));
-    }
-    Ok(String::from_str(alloc, text)?)
+    Ok(String::from_str(alloc, text_field(object, "name")?)?)
 }
 
 // The addresses of a start with its end, or neither.
@@ -72,7 +59,7 @@ fn section_in(alloc: Global, value: &Value) -> Result<StatedSection, DecodeError
     if !has_only(value, &["name", "start", "end", "data"]) {
         return Err(DecodeError::Fault(FaultName::BadCommand));
     }
-    let name = keep_fault(section_name(alloc, value))?;
+    let name = keep_fault(name_in(alloc, value))?;
     let range = range_in(value);
     let bytes = keep_fault(bytes_field(alloc, value))?;
     let ((name, range), bytes) = both(both(name, range), bytes)?;
@@ -147,11 +134,18 @@ fn sections_field(
     sections_in(alloc, find_field(object, "sections")?)
 }
 
-// The name of a module.
-fn module_name(alloc: Global, object: &Value) -> Result<String, DecodeError<FaultName>>
-    ensures { Decodes string_bytes result (field text_value (codes "name") (view object.now)) }
+// The segments of a module, none if they aren't stated.
+fn segments_field(
+    alloc: Global,
+    object: &Value,
+) -> Result<Vec<StatedSection>, DecodeError<FaultName>>
+    ensures { Decodes (λ segments. sections_view segments.items) result
+        (segments_in (get (codes "segments") (view object.now))) }
 {
-    Ok(String::from_str(alloc, text_field(object, "name")?)?)
+    match object.get("segments") {
+        Some(value) => sections_in(alloc, value),
+        None => Ok(Vec::new(alloc)),
+    }
 }
 
 /// A module for an unwinder that an earlier command made.
@@ -171,21 +165,23 @@ pub(crate) fn load_in(
         "base",
         "base_svma",
         "sections",
+        "segments",
     ];
     if !has_only(object, &names) {
         return Err(DecodeError::Fault(FaultName::BadCommand));
     }
     let unwinder = made_number(object, "unwinder", made.unwinders);
-    let name = keep_fault(module_name(alloc, object))?;
+    let name = keep_fault(name_in(alloc, object))?;
     let start = address_field(object, "start");
     let end = address_field(object, "end");
     let base = address_field(object, "base");
     let base_svma = address_field(object, "base_svma");
     let sections = keep_fault(sections_field(alloc, object))?;
+    let segments = keep_fault(segments_field(alloc, object))?;
     let front = both(both(both(unwinder, name), start), end);
-    let ((((((unwinder, name), start), end), base), base_svma), sections) = both(
-        both(both(front, base), base_svma),
-        sections,
+    let front = both(both(both(front, base), base_svma), sections);
+    let (((((((unwinder, name), start), end), base), base_svma), sections), segments) = both(
+        front, segments,
     )?;
     Ok(LoadCommand {
         unwinder,
@@ -195,6 +191,7 @@ pub(crate) fn load_in(
         base,
         base_svma,
         sections,
+        segments,
     })
 }
 

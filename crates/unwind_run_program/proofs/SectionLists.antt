@@ -4,7 +4,7 @@ use Rattle.std.specs.Prelude.{IfSome, bytes_eq, slice_set, string_bytes}
 use Rattle.std.specs.List.{slice_index_or}
 use Rattle.std.specs.Option.{option_or}
 use Rattle.std.proofs.lemmas.Slice.Eq.{bytes_eq-Decides}
-use Rattle.framehop_modules.specs.Sections.{bare_name, may_be_one, SectionLeft}
+use Rattle.framehop_modules.specs.Sections.{bare_name, may_be_one, SectionLeft, SegmentLeft}
 use Rattle.unwind_run_document.specs.CommandViews.{section_view, sections_view}
 use Rattle.unwind_run_program.specs.Sections.{first_data_named, stated_range_named, range_of, sections_stated}
 use Rattle.unwind_run_document.specs.declared.command.StatedSection.{StatedSection as Section}
@@ -42,16 +42,28 @@ data_kept name (x ∷ ss) (suc i) s d named other =
     (data_kept name ss i s d named other)
 
 -- so its data alone were handed out
-pub one_given : (base_svma : ℕ) (name : List ℕ) (ss : List Section) (i : ℕ) (s d : Section)
+pub one_given : (base_svma : ℕ) (name : List ℕ) (ss gs : List Section) (i : ℕ) (s d : Section)
     → s.name ≡ (slice_index_or ss i d).name → s.range ≡ (slice_index_or ss i d).range → string_bytes s.name ≡ name
-    → SectionLeft name (sections_stated base_svma (sections_view ss)) (sections_stated base_svma (sections_view (slice_set ss i s)))
-one_given base_svma name ss i s d named ranged is = record {
+    → SectionLeft name (sections_stated base_svma (sections_view ss) (sections_view gs)) (sections_stated base_svma (sections_view (slice_set ss i s)) (sections_view gs))
+one_given base_svma name ss gs i s d named ranged is = record {
   base_svma = refl;
   section_range = λ j other. ranges_kept other ss i s d named ranged j;
   section_data = λ other apart. data_kept other ss i s d named
       (ap (λ n. bytes_eq n other) is ∙ names_differ name other (bytes_eq name other) refl apart);
   segment_range = refl;
   segment_data = refl;
+}
+
+-- and so of a segment
+pub one_segment_given : (base_svma : ℕ) (name : List ℕ) (ss gs : List Section) (i : ℕ) (s d : Section)
+    → s.name ≡ (slice_index_or gs i d).name → s.range ≡ (slice_index_or gs i d).range → string_bytes s.name ≡ name
+    → SegmentLeft name (sections_stated base_svma (sections_view ss) (sections_view gs)) (sections_stated base_svma (sections_view ss) (sections_view (slice_set gs i s)))
+one_segment_given base_svma name ss gs i s d named ranged is = record {
+  base_svma = refl;
+  section_range = refl;
+  section_data = refl;
+  segment_range = λ j other. ranges_kept other gs i s d named ranged j;
+  segment_data = λ other apart. data_kept other gs i s d named (ap (λ n. bytes_eq n other) is ∙ apart);
 }
 
 -- what holds anyway holds of what is there

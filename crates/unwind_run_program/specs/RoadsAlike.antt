@@ -19,7 +19,7 @@ use Rattle.unwind_run_program.specs.Text.{frame_at, road_line, road_lines}
 
 -- the addresses that pointers are relative to in a module with both tables
 abbrev pub bases_in : TableData → BaseAddresses
-bases_in t = bases_of (base_svmas (sections_stated t.base_svma (headed_section t)))
+bases_in t = bases_of (base_svmas (sections_stated t.base_svma (headed_section t) []))
 
 -- the section and its header, as both tables state them
 abbrev pub headed_in : TableData → HeadedSection

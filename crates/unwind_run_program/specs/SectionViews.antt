@@ -7,9 +7,9 @@ use Rattle.unwind_run_document.specs.declared.command.StatedSection.{StatedSecti
 use Rattle.unwind_run_program.specs.Sections.{first_data_named, sections_stated}
 use Rattle.unwind_run_program.specs.declared.sections.StatedSections.{StatedSections}
 
--- sections that are stated, by their names
+-- sections and segments that are stated, by their names
 abbrev pub stated : StatedSections → Sections
-stated info = sections_stated info.base_svma (sections_view info.sections.items)
+stated info = sections_stated info.base_svma (sections_view info.sections.items) (sections_view info.segments.items)
 
 -- the first data of this name is that of the section at an index
 abbrev pub HasFirstData : List ℕ → List StatedSection → ℕ → Type 0

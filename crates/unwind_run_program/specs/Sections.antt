@@ -23,25 +23,25 @@ first_data_named name [] = None
 first_data_named name (section ∷ sections) =
     option_or (if bytes_eq section.name name then section.bytes else None) (first_data_named name sections)
 
--- sections by their names, whose stated addresses are relative to an address; there are no segments
-abbrev pub sections_stated : ℕ → List StatedSection → Sections
-sections_stated base_svma sections = record {
+-- sections and segments by their names, whose stated addresses are relative to an address
+abbrev pub sections_stated : ℕ → (sections segments : List StatedSection) → Sections
+sections_stated base_svma sections segments = record {
   base_svma = base_svma;
   section_range = λ name. stated_range_named name sections;
   section_data = λ name. first_data_named name sections;
-  segment_range = λ name. None;
-  segment_data = λ name. None;
+  segment_range = λ name. stated_range_named name segments;
+  segment_data = λ name. first_data_named name segments;
 }
 
--- The unwind data of sections whose stated addresses are relative to an address: of a module that is loaded, and of one whose call
--- frame information is read by each step.
+-- The unwind data of sections whose stated addresses are relative to an address: of a module that is loaded, with segments too, and of
+-- one whose call frame information is read by each step.
 pub record DataForms (Data : Type 0) : Type 0 where
-  pub loaded : ℕ → List StatedSection → Data
+  pub loaded : ℕ → (sections segments : List StatedSection) → Data
   pub scanned : ℕ → List StatedSection → Data
 
 -- the unwind data of sections by their names
 abbrev pub data_stated : DataForms UnwindData
 data_stated = record {
-  loaded = λ base_svma sections. unwind_data_of (sections_stated base_svma sections);
-  scanned = λ base_svma sections. scanned_data_of (sections_stated base_svma sections);
+  loaded = λ base_svma sections segments. unwind_data_of (sections_stated base_svma sections segments);
+  scanned = λ base_svma sections. scanned_data_of (sections_stated base_svma sections []);
 }

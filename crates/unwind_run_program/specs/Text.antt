@@ -49,14 +49,14 @@ abbrev pub limits_of_policy : Policy → StepLimits
 limits_of_policy May = limits_may_allocate
 limits_of_policy Must = limits_must_not_allocate
 
--- the module that a command loads, with the unwind data of its sections
+-- the module that a command loads, with the unwind data of its sections and segments
 abbrev pub loaded_by : {Data : Type 0} → DataForms Data → Loading → Loaded Data
 loaded_by data_of l = record {
   name = l.name;
   start = l.start;
   end = l.end;
   base = l.base;
-  unwind_data = data_of.loaded l.base_svma l.sections;
+  unwind_data = data_of.loaded l.base_svma l.sections l.segments;
 }
 
 -- the line of a step over modules, from a frame with stated registers and a stated stack
@@ -76,8 +76,8 @@ abbrev pub road_lines : {Data Rule Registers : Type 0} → Meanings Data Rule Re
 road_lines m forms data_of r =
     let base = r.tables.base_svma in
     let section = stated_section r.tables in
-    codes "header " ++ road_line m forms r (data_of.loaded base (section ∷ stated_header r.tables ∷ []))
-    ++ codes "index " ++ road_line m forms r (data_of.loaded base (section ∷ []))
+    codes "header " ++ road_line m forms r (data_of.loaded base (section ∷ stated_header r.tables ∷ []) [])
+    ++ codes "index " ++ road_line m forms r (data_of.loaded base (section ∷ []) [])
     ++ codes "scan " ++ road_line m forms r (data_of.scanned base (section ∷ []))
 
 -- the output of a command, whose steps have the lines of an architecture

@@ -3,8 +3,8 @@
 ghost use Rattle.unwind_run_document.specs.Tasks.{RoadSteps};
 ghost use Rattle.unwind_run_program.specs.RoadsAlike.{CoversStep, WriteAlike};
 ghost use Rattle.framehop.specs.Attempts.{format_meanings};
-ghost use Rattle.framehop.specs.PeMethods.{pe_methods};
 ghost use Rattle.framehop.specs.StepMeanings.{meanings_by};
+ghost use Rattle.framehop.specs.TableMethods.{table_methods};
 
 use framehop::Unwinding;
 use framehop::lookup_laws::truthful_lookups_attempt_alike;
@@ -14,7 +14,7 @@ use framehop::lookup_laws::truthful_lookups_attempt_alike;
 pub fn truthful_lookups_write_alike<A: Unwinding>()
     ensures { (s : RoadSteps) → CoversStep s
         → WriteAlike (meanings_by A.UnwindRule.meaning A.UnwindRule.fallback
-        (format_meanings A.rows (pe_methods A.pe_attempt))) s }
+        (format_meanings A.rows (table_methods A.pe_attempt A.compact))) s }
 {
     truthful_lookups_attempt_alike::<A>();
 }

@@ -31,17 +31,18 @@ pub(crate) trait DocumentModules: ModuleUnwinding {
 
     ghost data_of: { DataForms Self.UnwindData };
 
-    /// The unwind data of sections, whose stated addresses are relative to an address.
+    /// The unwind data of sections and segments, whose stated addresses are relative to an address.
     fn unwind_data(
         alloc: Global,
         base_svma: u64,
         sections: Vec<StatedSection>,
+        segments: Vec<StatedSection>,
     ) -> Result<Self::UnwindData, AllocError>
-        ensures { IfOk result (λ unwind_data.
-            unwind_data ≡ data_of.loaded base_svma (sections_view sections.items)) };
+        ensures { IfOk result (λ unwind_data. unwind_data
+            ≡ data_of.loaded base_svma (sections_view sections.items) (sections_view segments.items)) };
 
-    /// The same, if each step scans the section of call frames.
-    fn scanned_data(base_svma: u64, sections: Vec<StatedSection>) -> Self::UnwindData
+    /// The same of sections alone, if each step scans the section of call frames.
+    fn scanned_data(alloc: Global, base_svma: u64, sections: Vec<StatedSection>) -> Self::UnwindData
         ensures { result ≡ data_of.scanned base_svma (sections_view sections.items) };
 
     /// The registers that are stated.
@@ -89,7 +90,7 @@ fn load_module<A: DocumentModules>(
     ensures { Outputs (λ model. output_of A.meanings A.forms A.data_of model (task_of (Command.Load load)))
         session.old session.new result }
 {
-    let unwind_data = A::unwind_data(alloc, load.base_svma, load.sections)?;
+    let unwind_data = A::unwind_data(alloc, load.base_svma, load.sections, load.segments)?;
     let range = load.start..load.end;
     let module = Module::new(alloc, load.name, range, load.base, unwind_data)?;
     commands::load(session, alloc, load.unwinder, module)

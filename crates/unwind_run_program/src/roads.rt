@@ -124,11 +124,13 @@ pub(crate) fn road_lines<A: DocumentModules>(
 {
     let tables = &roads.tables;
     let base_svma = tables.base_svma;
-    let headed = A::unwind_data(alloc, base_svma, section_with_header(alloc, tables)?)?;
+    let with_header = section_with_header(alloc, tables)?;
+    let headed = A::unwind_data(alloc, base_svma, with_header, Vec::new(alloc))?;
     let header = road_line::<A>(alloc, roads, headed)?;
-    let indexed = A::unwind_data(alloc, base_svma, section_alone(alloc, tables)?)?;
+    let alone = section_alone(alloc, tables)?;
+    let indexed = A::unwind_data(alloc, base_svma, alone, Vec::new(alloc))?;
     let index = road_line::<A>(alloc, roads, indexed)?;
-    let scanned = A::scanned_data(base_svma, section_alone(alloc, tables)?);
+    let scanned = A::scanned_data(alloc, base_svma, section_alone(alloc, tables)?);
     let scan = road_line::<A>(alloc, roads, scanned)?;
     let lines = NamedLines {
         header: header.as_str(),

@@ -15,24 +15,31 @@ use std::alloc::{AllocError, Global};
 use std::ops::Range;
 use unwind_run_document::{StatedRegisters, StatedSection};
 
-/// The sections of a load, whose stated addresses are relative to an address.
+/// The sections and segments of a load, whose stated addresses are relative to an address.
 #[derive(Debug, Drop)]
 pub(crate) struct StatedSections {
     base_svma: u64,
     sections: Vec<StatedSection>,
+    segments: Vec<StatedSection>,
 }
 
 impl StatedSections {
     ghost use Rattle.unwind_run_program.specs.SectionViews.{stated};
     ghost use Rattle.unwind_run_program.specs.Sections.{sections_stated};
 
-    /// Sections whose stated addresses are relative to `base_svma`.
-    pub(crate) fn new(base_svma: u64, sections: Vec<StatedSection>) -> Self
-        ensures { stated result ≡ sections_stated base_svma (sections_view sections.items) }
+    /// Sections and segments whose stated addresses are relative to `base_svma`.
+    pub(crate) fn new(
+        base_svma: u64,
+        sections: Vec<StatedSection>,
+        segments: Vec<StatedSection>,
+    ) -> Self
+        ensures { stated result
+            ≡ sections_stated base_svma (sections_view sections.items) (sections_view segments.items) }
     {
         StatedSections {
             base_svma,
             sections,
+            segments,
         }
     }
 }
@@ -87,12 +94,13 @@ impl ModuleSectionInfo<Vec<u8>> for StatedSections {
         self.sections[place].bytes.take()
     }
 
-    fn segment_svma_range(&mut self, _name: &[u8]) -> Option<Range<u64>> {
-        None
+    fn segment_svma_range(&mut self, name: &[u8]) -> Option<Range<u64>> {
+        range_of(&self.segments, name)
     }
 
-    fn segment_data(&mut self, _name: &[u8]) -> Option<Vec<u8>> {
-        None
+    fn segment_data(&mut self, name: &[u8]) -> Option<Vec<u8>> {
+        let place = place_of(&self.segments, name)?;
+        self.segments[place].bytes.take()
     }
 }
 
@@ -105,13 +113,19 @@ impl<A: DocumentArch, P: AllocationPolicy> DocumentModules for BySections<A, Vec
         alloc: Global,
         base_svma: u64,
         sections: Vec<StatedSection>,
+        segments: Vec<StatedSection>,
     ) -> Result<ModuleUnwindData<Vec<u8>>, AllocError> {
-        let mut info = StatedSections::new(base_svma, sections);
+        let mut info = StatedSections::new(base_svma, sections, segments);
         ModuleUnwindData::new(alloc, &mut info)
     }
 
-    fn scanned_data(base_svma: u64, sections: Vec<StatedSection>) -> ModuleUnwindData<Vec<u8>> {
-        let mut info = StatedSections::new(base_svma, sections);
+    fn scanned_data(
+        alloc: Global,
+        base_svma: u64,
+        sections: Vec<StatedSection>,
+    ) -> ModuleUnwindData<Vec<u8>> {
+        let segments = Vec::new(alloc);
+        let mut info = StatedSections::new(base_svma, sections, segments);
         ModuleUnwindData::scanning(&mut info)
     }
 

@@ -2,8 +2,8 @@ use Rattle.std.proofs.Common.{◌≡◌, ℕ, ◌+◌, List, [], ◌∷◌, ◌+
 use Rattle.std.specs.Prelude.{codes}
 use Rattle.dwarf_frame_entries.specs.Entries.{contains}
 use Rattle.framehop.specs.Attempts.{attempt_by_format, format_meanings}
-use Rattle.framehop.specs.PeMethods.{pe_methods}
 use Rattle.framehop.specs.StepMeanings.{meanings_by}
+use Rattle.framehop.specs.TableMethods.{table_methods}
 use Rattle.framehop.specs.UnwindData.{UnwindData, bases_of}
 use Rattle.framehop_modules.specs.Chosen.{base_svmas}
 use Rattle.framehop_unwinder.specs.Attempt.{Attempt}
@@ -20,16 +20,16 @@ use Rattle.unwind_run_program.proofs.laws.truthful_lookups_write_alike.Goals as 
 pub returns : goal.returns
 returns g c r covers limits forms =
     let rows = g.A.DwarfUnwinding.rows in
-    let formats = format_meanings rows (pe_methods g.A.PeUnwinding.pe_attempt) in
+    let formats = format_meanings rows (table_methods g.A.PeUnwinding.pe_attempt g.A.CompactUnwindInfoUnwinding.compact) in
     let m = meanings_by g.A.UnwindRule.UnwindRule.meaning g.A.UnwindRule.UnwindRule.fallback formats limits in
     let t = r.tables in
     let base = t.base_svma in
     let frame = frame_at r.kind r.address in
     let registers = forms.stated r.registers in
     let alone = stated_section t ∷ [] in
-    let other = bases_of (base_svmas (sections_stated base alone)) in
-    let headed = data_stated.loaded base (stated_section t ∷ stated_header t ∷ []) in
-    let indexed = data_stated.loaded base alone in
+    let other = bases_of (base_svmas (sections_stated base alone [])) in
+    let headed = data_stated.loaded base (stated_section t ∷ stated_header t ∷ []) [] in
+    let indexed = data_stated.loaded base alone [] in
     let scanned = data_stated.scanned base alone in
     let contained : (relative : ℕ) → base + relative ≡ lookup_address frame → contains (base + relative) covers.fde ≡ true =
     λ relative is. subst (λ (x : ℕ). contains x covers.fde ≡ true) (sym is) covers.contained in

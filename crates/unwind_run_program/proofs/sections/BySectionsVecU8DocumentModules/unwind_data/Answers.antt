@@ -10,5 +10,5 @@ pub returns : goal.returns
 returns g c =
     IfOk-weaker c.new.result
     (λ (unwind_data : UnwindData). unwind_data ≡ unwind_data_of (stated c.new-info.result))
-    (λ (unwind_data : UnwindData). unwind_data ≡ data_stated.loaded c.args.base_svma (sections_view c.args.sections.items))
+    (λ (unwind_data : UnwindData). unwind_data ≡ data_stated.loaded c.args.base_svma (sections_view c.args.sections.items) (sections_view c.args.segments.items))
     (λ unwind_data is. is ∙ ap unwind_data_of c.new-info.ensures) c.new.ensures

@@ -10,7 +10,7 @@ returns-clause-given c =
     let lent = c.index_mut.result.now in
     let left : Section = record { name = lent.name; range = lent.range; bytes = c.take.new.self } in
     if_some_holds c.take.result _
-    (one_given c.args.self.now.base_svma c.args.name.now c.args.self.now.sections.items c.in_ok-place.place left lent
+    (one_given c.args.self.now.base_svma c.args.name.now c.args.self.now.sections.items c.args.self.now.segments.items c.in_ok-place.place left lent
     (ap (λ (s : Section). s.name) c.index_mut.ensures.value) (ap (λ (s : Section). s.range) c.index_mut.ensures.value)
     (ap (λ (s : Section). string_bytes s.name) c.index_mut.ensures.value
     ∙ subst (λ (ss : List Section). string_bytes (slice_index_or ss c.in_ok-place.place lent).name ≡ c.args.name.now) c.deref.ensures.value
