@@ -1,28 +1,8 @@
 -- Halving of increasing rows.
-use Rattle.std.proofs.Common.{◌≡◌, ℕ, zero, suc, ◌+◌, ◌-◌, ◌/◌, ◌^◌, ◌<◌, ◌≤◌, Bool, true, false, if◌then◌else◌, List, refl, ap, sym, ◌∙◌, arith}
+use Rattle.std.proofs.Common.{◌≡◌, ℕ, zero, suc, ◌+◌, ◌-◌, ◌/◌, ◌<◌, ◌≤◌, Bool, true, false, if◌then◌else◌, List, refl, ap, sym, ◌∙◌, arith}
 use Rattle.std.specs.Prelude.{nat_le, nat_lt, ◌&&◌, Option, Some, None}
 use Rattle.std.proofs.lemmas.Bool.Decides.{nat_tests}
-use Rattle.std.proofs.Math.Nat.{two-pow-succ, sub-zero}
 use Rattle.framehop_pe.specs.Rows.{IsIncreasing, begin_at, end_at, first_number, first_row, pdata_rows, row_contains}
-
--- of a list of at most 2^k elements, where so many are left, at most k were read, and each read halved what was left
-abbrev pub AtMostHalved : ℕ → ℕ → ℕ → Type 0
-AtMostHalved all reads left = (k : ℕ) → all ≤ 2 ^ k → (reads ≤ k) × (left ≤ 2 ^ (k - reads))
-
-pub none-read : (all reads : ℕ) → reads ≡ 0 → AtMostHalved all reads all
-none-read all reads none k h = rw none (omega arith, rw (sub-zero k) h)
-
--- one read more leaves half at most
-pub at-most-half : (all reads next left : ℕ) → 1 < left → next ≡ reads + 1 → AtMostHalved all reads left → AtMostHalved all next (left - left / 2)
-at-most-half all reads next left some one before k h = let (few, below) = before k h in by (k - reads) refl few below
-  where
-    by : (j : ℕ) → k - reads ≡ j → reads ≤ k → left ≤ 2 ^ j → (next ≤ k) × (left - left / 2 ≤ 2 ^ (k - next))
-    by zero e few below = absurd (omega arith)
-    by (suc j) e few below =
-        let after : k - next ≡ j = omega arith in
-        let double : left ≤ 2 ^ j + 2 ^ j = rw (← two-pow-succ j) below in
-        let within : left - left / 2 ≤ 2 ^ j = omega arith in
-        (omega arith, rw after within)
 
 -- ---- the first number with a test
 

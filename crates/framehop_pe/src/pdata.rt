@@ -5,6 +5,7 @@ ghost use Rattle.framehop_pe.specs.Rows.{pdata_rows, begin_at, end_at, unwind_in
 
 use dwarf_readers::{Counted, Steps, count_steps};
 use framehop_pe_codes::{PeSections, u32_at};
+use list_laws::halves_are_counted;
 use std::sync::ledger::Ledger;
 
 /// The row of a function (Microsoft, "x64 exception handling", struct RUNTIME_FUNCTION). Addresses are relative to the
@@ -129,6 +130,7 @@ pub fn pdata_lookup_increasing<L: Ledger>(
     ensures found { result ≡ first_row bytes.now address }
     ensures few { (k : ℕ) → pdata_rows bytes.now ≤ 2 ^ k → steps.new ≤ steps.old + (k + 1) }
 {
+    halves_are_counted();
     let count = pdata_rows(bytes);
     if count == 0 {
         return None;

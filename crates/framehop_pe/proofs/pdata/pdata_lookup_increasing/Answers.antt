@@ -1,6 +1,6 @@
-use Rattle.std.proofs.Common.{◌∙◌, ◌-◌, arith, sym}
+use Rattle.std.proofs.Common.{◌≡◌, ◌∙◌, ◌-◌, ◌+◌, arith, sym}
 use Rattle.framehop_pe.specs.Rows.{pdata_rows, row_contains}
-use Rattle.framehop_pe.proofs.Halves.{none-read, at-most-half, first-none, found-at, all-left, half-left}
+use Rattle.framehop_pe.proofs.Halves.{first-none, found-at, all-left, half-left}
 use Rattle.framehop_pe.proofs.pdata.pdata_lookup_increasing.Goals as goal
 
 pub returns-then-count-eq0-clause-found : goal.returns-then-count-eq0-clause-found
@@ -11,7 +11,7 @@ pub halves-init : goal.halves-init
 halves-init g c = record {
   left = all-left c.args.bytes.now c.args.address c.pdata_rows-count.result c.pdata_rows-count.ensures (omega arith);
   counted = omega arith;
-  few = rw c.pdata_rows-count.ensures (none-read (pdata_rows c.args.bytes.now) _ (omega arith));
+  few = let none : c.args.steps.now - c.args.steps.now ≡ 0 = omega arith in rw none (rw c.pdata_rows-count.ensures (c.halves_are_counted.ensures.none (pdata_rows c.args.bytes.now)).0);
 }
 
 pub halves-preserved : goal.halves-preserved
@@ -21,7 +21,9 @@ halves-preserved g c =
       left = half-left c.args.bytes.now c.args.address c.halves.low c.halves.len c.passed-low.result c.requires c.halves-test.true known.left
           (rw (← c.counted_begin-begin.ensures.begin) c.passed-low.ensures);
       counted = omega (arith, known.counted, c.counted_begin-begin.ensures.counted);
-      few = at-most-half _ (c.halves.steps - c.args.steps.now) _ c.halves.len c.halves-test.true (omega (arith, known.counted, c.counted_begin-begin.ensures.counted)) known.few;
+      few =
+          let one : c.counted_begin-begin.new.steps - c.args.steps.now ≡ c.halves.steps - c.args.steps.now + 1 = omega (arith, known.counted, c.counted_begin-begin.ensures.counted) in
+          rw one (c.halves_are_counted.ensures.at_most _ _ c.halves.len _ c.halves-test.true (omega arith) known.few);
     }
 
 pub returns-clause-found : goal.returns-clause-found

@@ -1,6 +1,7 @@
 use Rattle.std.proofs.Common.{◌-◌, ◌≤◌}
 use Rattle.framehop_pe.specs.Rows.{pdata_rows}
-use Rattle.framehop_pe.proofs.Halves.{AtMostHalved, IsLeft}
+use Rattle.list_laws.specs.Halves.{AtMostHalved}
+use Rattle.framehop_pe.proofs.Halves.{IsLeft}
 use Rattle.framehop_pe.proofs.pdata.pdata_lookup_increasing.Given as goal
 
 abbrev pub invariant-halves : goal.invariant-halves
