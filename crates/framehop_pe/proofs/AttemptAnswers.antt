@@ -1,5 +1,5 @@
 -- What a step that undoes codes answers.
-use Rattle.std.proofs.Common.{◌≡◌, ◌∙◌, ℕ, Bool, List, refl, sym, ap, subst}
+use Rattle.std.proofs.Common.{◌≡◌, ◌∙◌, ℕ, refl, sym, subst}
 use Rattle.std.specs.Prelude.{Option, Some, None, Result, Ok, Err}
 use Rattle.framehop_registers.specs.Callback.{OverWords, Words}
 use Rattle.framehop_registers.proofs.Laws.{over_none, over_weaker}
@@ -11,14 +11,14 @@ use Rattle.framehop_rules.specs.declared.x86_64.unwind_rule.UnwindRuleX86_64.{Un
 use Rattle.framehop_rules.specs.declared.x86_64.unwind_rule.UnwindRuleX86_64.TheVariants.{JustReturn}
 use Rattle.framehop_errors.specs.declared.pe.PeUnwinderError.{PeUnwinderError}
 use Rattle.framehop_pe_codes.specs.Machine.{PeCaller}
-use Rattle.framehop_pe_codes.specs.MachineViews.{IsStepTo, registers_after, return_address_of}
+use Rattle.framehop_pe_codes.specs.MachineViews.{IsStepTo}
 use Rattle.framehop_pe_codes.specs.Refusals.{IsOfFile, IsOfStack, PeResult}
 use Rattle.framehop_pe.specs.PartRules.{rule_of_parts}
 use Rattle.framehop_pe.specs.PartViews.{IsFoundRead, IsRead}
 use Rattle.framehop_pe.specs.UndoneViews.{Undoes}
 use Rattle.framehop_pe.specs.declared.x86_64.pe.Undoing.{Undoing}
 use Rattle.framehop_pe.specs.declared.x86_64.pe.Undoing.TheVariants as undoing_
-use Rattle.framehop_pe.specs.PeAttempts.{AnswersPe, PeAttempt, PeTrial, Refuses, SaysCodes, SaysRule, trial_of_caller}
+use Rattle.framehop_pe.specs.PeAttempts.{AnswersPe, PeTrial, trial_of_caller}
 use Rattle.framehop_pe.specs.PeSteps.{attempt_by, attempt_if_read, attempt_to_undo}
 use Rattle.framehop_pe.specs.ToUndo.{Leaf, ToUndo, caller_of, parts_of}
 use Rattle.framehop_pe.proofs.PartRules.{one-rule}

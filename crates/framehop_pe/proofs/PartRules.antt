@@ -8,7 +8,7 @@ use Rattle.framehop_registers.specs.PopLists.{IsPopList, callee_saved}
 use Rattle.framehop_registers.specs.Registers.{dwarf_number}
 use Rattle.framehop_registers.specs.declared.x86_64.unwindregs.Reg.{Reg}
 use Rattle.framehop_registers.specs.declared.x86_64.unwindregs.Reg.TheVariants.{RAX, RDX, RCX, RBX, RSI, RDI, RBP, RSP, R8, R9, R10, R11, R12, R13, R14, R15}
-use Rattle.framehop_rules.specs.Sequences.{HasNoRule, IsRuleFor, IsRuleOf, offset_then_pops, pop_rule}
+use Rattle.framehop_rules.specs.Sequences.{IsRuleFor, IsRuleOf, offset_then_pops, pop_rule}
 use Rattle.framehop_rules.specs.declared.x86_64.offset_or_pop.OffsetOrPop.{OffsetOrPop}
 use Rattle.framehop_rules.specs.declared.x86_64.offset_or_pop.OffsetOrPop.TheVariants as part
 use Rattle.framehop_rules.specs.declared.x86_64.unwind_rule.UnwindRuleX86_64.{UnwindRuleX86_64}

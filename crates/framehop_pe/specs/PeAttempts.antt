@@ -1,5 +1,5 @@
 -- What the unwind data of a PE file say of a frame, on any architecture, and what a call that steps by them answers.
-use Rattle.std.specs.Prelude.{ℕ, ◌≡◌, Bool, Result, Ok, Err}
+use Rattle.std.specs.Prelude.{ℕ, ◌≡◌, Result, Ok, Err}
 use Rattle.framehop_registers.specs.Callback.{OverWords, Words}
 use Rattle.framehop_rules.specs.declared.unwind_result.UnwindResult.{UnwindResult}
 use Rattle.framehop_rules.specs.declared.unwind_result.UnwindResult.TheVariants.{ExecRule, Uncacheable}
