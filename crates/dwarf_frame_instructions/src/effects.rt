@@ -1,10 +1,12 @@
 //! What each instruction does (DWARF 5, 6.4.2).
 
 ghost use Rattle.std.specs.Prelude.{◌≡◌, ◌+◌, ◌*◌, ◌%◌, ◌^◌, nat_lt};
+ghost use Rattle.dwarf_frame_rows.specs.declared.effect.Effect.TheVariants.{Rule};
+ghost use Rattle.dwarf_frame_rows.specs.declared.rules.RegisterRule.TheVariants.{Offset};
 ghost use Rattle.dwarf_frame_instructions.specs.Effects.{address_limit, advanced_to, effect_of, factored_offset, set_to};
 
 use crate::CallFrameInstruction;
-use dwarf_constants::{Error, Result};
+use dwarf_constants::{Error, Register, Result};
 use dwarf_frame_rows::{CfaRule, Effect, RegisterRule};
 
 /// What the operands of a program's instructions are multiplied by, and how large an address is.
@@ -67,14 +69,11 @@ impl Factors {
             CallFrameInstruction::Offset {
                 register,
                 factored_offset,
-            } => Effect::Rule(register, RegisterRule::Offset(self.offset(factored_offset))),
+            } => self.stored_at(register, factored_offset),
             CallFrameInstruction::OffsetExtendedSf {
                 register,
                 factored_offset,
-            } => Effect::Rule(
-                register,
-                RegisterRule::Offset(self.offset(factored_offset.cast_unsigned())),
-            ),
+            } => self.stored_at(register, factored_offset.cast_unsigned()),
             CallFrameInstruction::ValOffset {
                 register,
                 factored_offset,
@@ -118,6 +117,14 @@ impl Factors {
         number
             .wrapping_mul(self.data_alignment_factor.cast_unsigned())
             .cast_signed()
+    }
+
+    // The register is stored at a factored offset from the CFA.
+    #[inline(always)]
+    pub(crate) fn stored_at<T: Copy>(&self, register: Register, number: u64) -> Effect<T>
+        ensures { result ≡ Rule register (Offset (factored_offset self.now number)) }
+    {
+        Effect::Rule(register, RegisterRule::Offset(self.offset(number)))
     }
 
     // Moves a location forward by a delta.

@@ -127,11 +127,11 @@ pub enum CallFrameInstruction<T> {
 // reference to it beside a context couldn't be asked for in a loop.
 #[derive(Debug, Clone, Copy)]
 pub(crate) struct Coding<'a, R> {
-    address_encoding: Option<DwEhPe>,
     bases: &'a SectionBaseAddresses,
     func_base: Option<u64>,
-    address_size: u8,
     section: R,
+    address_encoding: Option<DwEhPe>,
+    address_size: u8,
     vendor: Vendor,
 }
 

@@ -37,6 +37,35 @@ fn execute<T: ReaderOffset, S: UnwindContextStorage<T>>(
     }
 }
 
+// The same, with code of its own for the instructions that most programs have most of.
+#[inline(always)]
+fn execute_frequent<T: ReaderOffset, S: UnwindContextStorage<T>>(
+    context: &mut UnwindContext<T, S>,
+    factors: &Factors,
+    location: u64,
+    instruction: CallFrameInstruction<T>,
+) -> Result<Option<u64>>
+    ensures executed { StepsIn T.value S.Stack.items S.limits S.never_allocates
+        factors.now location instruction context.old context.new result }
+    ensures memory { S.never_allocates → IfErr result (λ e. e ≢ OutOfMemory) }
+{
+    match instruction {
+        CallFrameInstruction::Nop => Ok(None),
+        CallFrameInstruction::DefCfaOffset { offset } => {
+            context.apply(Effect::CfaOffset(offset.cast_signed()))?;
+            Ok(None)
+        }
+        CallFrameInstruction::Offset {
+            register,
+            factored_offset,
+        } => {
+            context.apply(factors.stored_at(register, factored_offset))?;
+            Ok(None)
+        }
+        _ => execute(context, factors, location, instruction),
+    }
+}
+
 // The location that an effect moves to, if it does.
 fn destination<T: Copy>(effect: Effect<T>) -> Option<u64>
     ensures { result ≡ destination_of effect }
@@ -64,7 +93,7 @@ fn run<R: Reader, S: UnwindContextStorage<R::Offset>>(
     ensures memory { S.never_allocates → IfErr result (λ e. e ≢ OutOfMemory) }
 {
     while let Some(instruction) = coding.next(input)? {
-        if let Some(next) = execute(context, factors, location, instruction)? {
+        if let Some(next) = execute_frequent(context, factors, location, instruction)? {
             return Ok(Some(next));
         }
     }

@@ -172,6 +172,7 @@ impl<T: ReaderOffset, S: UnwindContextStorage<T>> UnwindContext<T, S> {
     /// row, with `PopWithEmptyStack` if no row is remembered, with `CfiInstructionInInvalidContext` if
     /// the effect needs a CFA rule or initial rules that there are not, or a sign state that is no
     /// constant, and with `OutOfMemory` only in a storage that allocates.
+    #[inline(always)]
     pub fn apply(&mut self, effect: Effect<T>) -> Result<()>
         ensures acts { Acts (state_after S.limits effect)
             (state_of S.Stack.items self.old) (state_of S.Stack.items self.new) result }
@@ -378,6 +379,7 @@ fn save<
 
 // Gives a row the parts of the one at this index. If there is no memory to copy them, that row itself
 // is taken out, and the last is put at its index.
+#[inline(never)]
 fn take_back<
     T: ReaderOffset,
     Rules: ArrayLike<Item = RuledRegister<RegisterRule<T>>>,

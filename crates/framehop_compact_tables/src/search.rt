@@ -63,7 +63,7 @@ fn last_row<T: Rows, L: Ledger>(table: &T, address: u32, steps: &mut Steps<L>) -
 fn count_at_or_below(start: u32, address: u32) -> usize
     ensures { result ≡ (if nat_le start address then 1 else 0) }
 {
-    ((u64::from(address) + (1 << 32) - u64::from(start)) >> 32) as usize
+    (((1 << 63) + u64::from(address) - u64::from(start)) >> 63) as usize
 }
 
 // The first of the rows that are left: after a half of them, if the one there starts at or below the address.
