@@ -69,11 +69,14 @@ impl Factors {
             CallFrameInstruction::Offset {
                 register,
                 factored_offset,
-            } => self.stored_at(register, factored_offset),
+            } => Effect::Rule(register, RegisterRule::Offset(self.offset(factored_offset))),
             CallFrameInstruction::OffsetExtendedSf {
                 register,
                 factored_offset,
-            } => self.stored_at(register, factored_offset.cast_unsigned()),
+            } => Effect::Rule(
+                register,
+                RegisterRule::Offset(self.offset(factored_offset.cast_unsigned())),
+            ),
             CallFrameInstruction::ValOffset {
                 register,
                 factored_offset,

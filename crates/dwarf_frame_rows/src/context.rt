@@ -207,6 +207,7 @@ impl<T: ReaderOffset, S: UnwindContextStorage<T>> UnwindContext<T, S> {
     }
 
     // Gives the register this rule.
+    #[inline(always)]
     fn set_rule(&mut self, register: Register, rule: RegisterRule<T>) -> Result<()>
         ensures acts { Acts
             (ruled_state S.limits register.0 rule)
@@ -217,6 +218,7 @@ impl<T: ReaderOffset, S: UnwindContextStorage<T>> UnwindContext<T, S> {
     }
 
     // Gives the register the rule that the CIE's own instructions left, or none.
+    #[inline(never)]
     fn restore_rule(&mut self, register: Register) -> Result<()>
         ensures acts { Acts (state_by_initial_rules S.limits register.0)
             (state_of S.Stack.items self.old) (state_of S.Stack.items self.new) result }
@@ -235,6 +237,7 @@ impl<T: ReaderOffset, S: UnwindContextStorage<T>> UnwindContext<T, S> {
     }
 
     // Changes the return address between signed and not signed.
+    #[inline(never)]
     fn negate_ra_state(&mut self) -> Result<()>
         ensures acts { Acts (negated_state S.limits)
             (state_of S.Stack.items self.old) (state_of S.Stack.items self.new) result }

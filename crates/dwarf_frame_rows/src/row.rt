@@ -202,6 +202,7 @@ impl<T: ReaderOffset, Rules: ArrayLike<Item = RuledRegister<RegisterRule<T>>>> U
     }
 
     // Gives the register this rule. An `Err` changes nothing.
+    #[inline(always)]
     pub(crate) fn set_rule(&mut self, register: Register, rule: RegisterRule<T>) -> Result<()>
         ensures room { HoldsRules Rules.capacity
             (len (insert (row_of self.old).rules register.0 rule)) result }

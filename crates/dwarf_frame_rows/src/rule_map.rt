@@ -1,6 +1,6 @@
 //! The rules of a row as a map, which is a list in the order of the registers.
 
-ghost use Rattle.std.specs.Prelude.{◌≡◌, ◌+◌, ◌<◌, ◌≤◌, ◌^◌, ℕ, [], ◌∷◌, ◌++◌, length, IfOk, IfErr, IsErr, IsNone, IsOk, IsSome, IsTrue, OnErr, OnOk, slice_set};
+ghost use Rattle.std.specs.Prelude.{◌≡◌, ◌+◌, ◌<◌, ◌≤◌, ◌^◌, ℕ, [], ◌∷◌, ◌++◌, length, take, IfOk, IfErr, IsErr, IsNone, IsOk, IsSome, IsTrue, OnErr, OnOk, slice_set};
 ghost use Rattle.std.specs.FinMap as map;
 ghost use Rattle.std.specs.List as list;
 ghost use Rattle.dwarf_storage.specs.Capacity.{IsWithin};
@@ -146,6 +146,7 @@ impl<V: Copy, Rules: ArrayLike<Item = RuledRegister<V>>> RegisterRuleMap<V, Rule
     }
 
     // Gives the register this rule, in place of any that it has. An `Err` changes nothing.
+    #[inline(always)]
     pub(crate) fn set(&mut self, register: Register, rule: V) -> Result<()>
         ensures room { HoldsRules Rules.capacity
             (map.len (map.insert self.old register.0 rule)) result }
@@ -168,7 +169,6 @@ impl<V: Copy, Rules: ArrayLike<Item = RuledRegister<V>>> RegisterRuleMap<V, Rule
         ensures memory { IsSome Rules.capacity → IsOk result }
         ensures error { IfErr result (λ e. e ≡ Error.OutOfMemory) }
     {
-        self.rules.clear();
         match copy(&mut self.rules, source.rules.as_slice()) {
             Ok(()) => Ok(()),
             Err(error) => {
@@ -317,6 +317,7 @@ fn push<V: Copy, Rules: ArrayLike<Item = RuledRegister<V>>>(
 }
 
 // Puts a pair at an index, and moves those from it on up by one.
+#[inline(always)]
 fn insert<V: Copy, Rules: ArrayLike<Item = RuledRegister<V>>>(
     rules: &mut Rules,
     index: usize,
@@ -357,19 +358,35 @@ fn remove<V: Copy, Rules: ArrayLike<Item = RuledRegister<V>>>(rules: &mut Rules,
     let _ = rules.pop();
 }
 
-// Puts pairs at the end of an empty list.
+// Writes the first of some pairs over those that are there.
+fn overwrite<V: Copy, Rules: ArrayLike<Item = RuledRegister<V>>>(
+    rules: &mut Rules,
+    pairs: &[RuledRegister<V>],
+)
+    requires { length (Rules.items rules.old) ≤ length pairs.now }
+    ensures { Rules.items rules.new ≡ take (length (Rules.items rules.old)) pairs.now }
+{
+    for index in 0..rules.as_slice().len() {
+        write(rules, index, pairs[index]);
+    }
+}
+
+// Puts some pairs in place of those that are there.
 fn copy<V: Copy, Rules: ArrayLike<Item = RuledRegister<V>>>(
     rules: &mut Rules,
     pairs: &[RuledRegister<V>],
 ) -> Result<()>
-    requires empty { Rules.items rules.old ≡ [] }
-    requires within { IsWithin Rules.capacity (length pairs.now) }
+    requires { IsWithin Rules.capacity (length pairs.now) }
     ensures ok { OnOk result (Rules.items rules.new ≡ pairs.now) }
     ensures memory { IsSome Rules.capacity → IsOk result }
     ensures error { IfErr result (λ e. e ≡ Error.OutOfMemory) }
 {
-    for pair in pairs {
-        push(rules, *pair)?;
+    if rules.as_slice().len() > pairs.len() {
+        rules.clear();
+    }
+    overwrite(rules, pairs);
+    for index in rules.as_slice().len()..pairs.len() {
+        push(rules, pairs[index])?;
     }
     Ok(())
 }
