@@ -79,7 +79,7 @@ no_choice_at [] i past = refl
 no_choice_at (x ∷ xs) zero past = absurd (omega arith)
 no_choice_at (x ∷ xs) (suc i) past = get_mapped (λ choice. (choice.0, x ∷ choice.1)) (choices xs) i ∙ ap (option_map (λ choice. (choice.0, x ∷ choice.1))) (no_choice_at xs i (omega arith))
 
-all_mapped : {A B : Type 0} (P : B → Type 0) (f : A → B) (xs : List A) → AllByRecursion (λ x. P (f x)) xs → AllByRecursion P (map f xs)
+pub all_mapped : {A B : Type 0} (P : B → Type 0) (f : A → B) (xs : List A) → AllByRecursion (λ x. P (f x)) xs → AllByRecursion P (map f xs)
 all_mapped P f [] all = tt
 all_mapped P f (x ∷ xs) all = (all.0, all_mapped P f xs all.1)
 
@@ -87,7 +87,7 @@ length_mapped : {A B : Type 0} (f : A → B) (xs : List A) → length (map f xs)
 length_mapped f [] = refl
 length_mapped f (x ∷ xs) = ap suc (length_mapped f xs)
 
-all_weaker : {A : Type 0} (P Q : A → Type 0) (xs : List A) → ((x : A) → P x → Q x) → AllByRecursion P xs → AllByRecursion Q xs
+pub all_weaker : {A : Type 0} (P Q : A → Type 0) (xs : List A) → ((x : A) → P x → Q x) → AllByRecursion P xs → AllByRecursion Q xs
 all_weaker P Q [] weaker all = tt
 all_weaker P Q (x ∷ xs) weaker all = (weaker x all.0, all_weaker P Q xs weaker all.1)
 

@@ -1,3 +1,4 @@
 mod AnalysedRules
 mod Arrangements
 mod ValidRules
+mod PlaceOfBp

@@ -1,13 +1,9 @@
 //! What an encoding of x86_64 says.
 
 ghost use Rattle.std.specs.Prelude.{◌≡◌};
-ghost use Rattle.std.specs.Option.{option_map};
-ghost use Rattle.framehop_compact.specs.Opcodes.{opcode_of, frameless, saved_registers, immediate, indirect};
+ghost use Rattle.framehop_compact.specs.Opcodes.{opcode_of, frameless, immediate, indirect};
 
-use crate::x86_64::saved_registers::{
-    RegisterNameX86_64, registers_of_permutation, saved_after_bp,
-};
-use arrayvec::ArrayVec;
+use crate::x86_64::saved_registers::saved_after_bp;
 
 /// What the encoding of a function of x86_64 says of its body, by its kind (`UNWIND_X86_64_MODE_MASK`).
 #[derive(Clone, Copy, Debug, PartialEq, Eq)]
@@ -43,14 +39,6 @@ pub enum OpcodeX86_64 {
     UnrecognizedKind(u8),
 }
 
-// The registers that are saved, if their permutation has a list.
-fn saved_registers(opcode: u32) -> Option<ArrayVec<RegisterNameX86_64, 6>>
-    ensures { option_map (λ list. list.items) result ≡ saved_registers opcode }
-{
-    let count = (opcode >> 10) % 8;
-    registers_of_permutation(count as u8, (opcode % 1024) as u16)
-}
-
 // A function that moves the stack pointer by a size in the encoding.
 fn immediate(opcode: u32, saved_after_bp: Option<u8>) -> OpcodeX86_64
     ensures { result ≡ immediate opcode saved_after_bp }
@@ -76,10 +64,10 @@ fn indirect(opcode: u32, saved_after_bp: Option<u8>) -> OpcodeX86_64
 fn frameless(opcode: u32, is_indirect: bool) -> OpcodeX86_64
     ensures { result ≡ frameless opcode is_indirect }
 {
-    let Some(registers) = saved_registers(opcode) else {
+    let count = (opcode >> 10) % 8;
+    let Some(saved) = saved_after_bp(count as u8, (opcode % 1024) as u16) else {
         return OpcodeX86_64::InvalidFrameless;
     };
-    let saved = saved_after_bp(registers.as_slice());
     if is_indirect {
         indirect(opcode, saved)
     } else {

@@ -1,10 +1,8 @@
 //! The registers that a function without a frame pointer saves, by their permutation.
 
-ghost use Rattle.std.specs.Prelude.{◌≡◌, ◌≤◌, Option, List, length, IfSome};
+ghost use Rattle.std.specs.Prelude.{◌≡◌, ◌≤◌};
 ghost use Rattle.std.specs.Option.{option_map};
 ghost use Rattle.framehop_compact.specs.SavedRegisters.{registers_of, arrangement_count, saved_after_bp};
-
-use arrayvec::ArrayVec;
 
 /// A register that a function can save, in the order of the encoding's numbers from 1 (`UNWIND_X86_64_REG_RBX` to
 /// `UNWIND_X86_64_REG_RBP`).
@@ -39,49 +37,27 @@ fn arrangement_count(count: usize, left: usize) -> usize
     }
 }
 
-// The registers with this count and number. Each is chosen by the next digit of the number: its place among those that
-// are left, whose weight is the number of lists of the others.
-pub(crate) fn registers_of_permutation(
-    count: u8,
-    number: u16,
-) -> Option<ArrayVec<RegisterNameX86_64, 6>>
-    ensures { option_map (λ list. list.items) result ≡ registers_of count number }
+// How many registers come after RBP in the list with this count and number, if there is one and it has RBP. Each register is
+// chosen by the next digit of the number: its place among those that are left, whose weight is the number of lists of the
+// others. RBP is the last of those that are left.
+pub(crate) fn saved_after_bp(count: u8, number: u16) -> Option<Option<u8>>
+    ensures { result ≡ option_map saved_after_bp (registers_of count number) }
 {
-    let mut left = ArrayVec::<RegisterNameX86_64, 6>::from([
-        RegisterNameX86_64::RBX,
-        RegisterNameX86_64::R12,
-        RegisterNameX86_64::R13,
-        RegisterNameX86_64::R14,
-        RegisterNameX86_64::R15,
-        RegisterNameX86_64::RBP,
-    ]);
-    let mut registers = ArrayVec::new();
     if count > 6 {
         return None;
     }
     let count = usize::from(count);
     let mut number = usize::from(number);
     for taken in 0..count {
-        let weight = arrangement_count(count - 1 - taken, left.len() - 1);
+        let weight = arrangement_count(count - 1 - taken, 5 - taken);
         let place = number / weight;
-        if place >= left.len() {
+        if place > 5 - taken {
             return None;
         }
-        registers.push(left.remove(place));
+        if place == 5 - taken {
+            return Some(Some((count - 1 - taken) as u8));
+        }
         number %= weight;
     }
-    Some(registers)
-}
-
-// How many registers come after RBP in a list, if it has RBP.
-pub(crate) fn saved_after_bp(registers: &[RegisterNameX86_64]) -> Option<u8>
-    requires { length registers.now ≤ 6 }
-    ensures count { result ≡ saved_after_bp registers.now }
-    ensures few { IfSome result (λ after. after ≤ 5) }
-{
-    match registers {
-        [] => None,
-        [RegisterNameX86_64::RBP, more @ ..] => Some(more.len() as u8),
-        [_, more @ ..] => saved_after_bp(more),
-    }
+    Some(None)
 }
