@@ -124,7 +124,8 @@ pub enum CallFrameInstruction<T> {
 }
 
 // How the bytes of instructions are read. The section is a reader of its own: rows that hold a
-// reference to it beside a context couldn't be asked for in a loop.
+// reference to it beside a context couldn't be asked for in a loop. Fields of a byte are the last, so
+// that no copy of the section is one with a byte that was just written, which processors wait for.
 #[derive(Debug, Clone, Copy)]
 pub(crate) struct Coding<'a, R> {
     bases: &'a SectionBaseAddresses,
