@@ -95,7 +95,7 @@ impl<V: Copy, Rules: ArrayLike<Item = RuledRegister<V>>> RegisterRuleMap<V, Rule
         ensures { result ≡ map.get self.now register.0 }
     {
         let pairs = self.rules.as_slice();
-        rule_at(pairs, place_of(pairs, register))
+        rule_at(pairs, place_by_halves(pairs, register))
     }
 
     // As `get`; it counts a step for each rule whose register it compares.
@@ -232,14 +232,21 @@ impl<'p, V> Counted for PlaceLookup<'p, V> {
     }
 }
 
-// The place of a register.
+// The place of a register, as `place_counted` finds it.
+fn place_by_halves<V>(pairs: &[RuledRegister<V>], register: Register) -> Place
+    ensures { IsIncreasing pairs.now → IsPlaceOf register.0 pairs.now result }
+{
+    count_steps(PlaceLookup { pairs, register })
+}
+
+// The place of a register, for a change there.
 fn place_of<V>(pairs: &[RuledRegister<V>], register: Register) -> Place
     ensures { IsIncreasing pairs.now → IsPlaceOf register.0 pairs.now result }
 {
     if pairs.len() <= FEW_RULES {
         place_from_end(pairs, register)
     } else {
-        count_steps(PlaceLookup { pairs, register })
+        place_by_halves(pairs, register)
     }
 }
 
