@@ -5,4 +5,5 @@ mod Places
 mod SameMaps
 mod SavedRows
 pub mod Onward
+pub mod PointerMemory
 pub mod Laws

@@ -20,7 +20,7 @@ pub use effect::Effect;
 pub use expression::UnwindExpression;
 pub use pointer::{
     Pointer, PointerEncodingParameters, parse_encoded_pointer, parse_encoded_value,
-    parse_pointer_encoding, pointers_go_on,
+    parse_pointer_encoding, pointers_go_on, pointers_never_want_memory, sum_in_address_size,
 };
 pub use row::{RegisterRuleIter, UnwindTableRow};
 pub use rules::{CfaRule, RegisterRule, RuledRegister};

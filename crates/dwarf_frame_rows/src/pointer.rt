@@ -2,9 +2,11 @@
 
 ghost use Rattle.std.specs.Prelude.{◌≡◌, ◌≤◌, ◌+◌, ℕ, IsTrue, OnErr};
 ghost use Rattle.dwarf_readers.specs.InitialLength.{is_size, left_by};
+ghost use Rattle.dwarf_readers.specs.Memory.{NeverWantsMemory};
 ghost use Rattle.dwarf_readers.specs.Onward.{ReadsOn};
 ghost use Rattle.dwarf_readers.specs.Stretch.{Reads, ReadsAs, Stretch, byte_at};
 ghost use Rattle.dwarf_frame_rows.specs.EncodedPointer.{Origins, pointer_address, direct_address, encoding_at, in_address_size, is_encoding, left_by_plain_value, left_by_pointer, left_by_value, origin_of, origins_of, plain_value_at, pointer_at, pointer_of, taken_encoding, value_at};
+ghost use Rattle.dwarf_frame_rows.specs.declared.pointer.Pointer.{Pointer as ReadPointer};
 
 use crate::SectionBaseAddresses;
 use dwarf_constants::constants::{
@@ -219,8 +221,8 @@ fn parse_value<R: Reader>(format: DwEhPe, address_size: u8, input: &mut R) -> Re
     }
 }
 
-// The sum in as many bits as an address has.
-fn sum_in_address_size(base: u64, value: u64, address_size: u8) -> u64
+/// A sum in as many bits as an address has, by the size of addresses in bytes.
+pub fn sum_in_address_size(base: u64, value: u64, address_size: u8) -> u64
     requires { IsTrue (is_size address_size) }
     ensures { result ≡ in_address_size address_size (base + value) }
 {
@@ -242,4 +244,16 @@ pub fn pointers_go_on()
         → ReadsOn s (pointer_at origins encoding s) }
     ensures plain_value { (size encoding : ℕ) (s : Stretch)
         → ReadsOn s (plain_value_at size encoding s) }
+{}
+
+/// A law of encoded pointers: no read of one, or of its encoding, fails because memory ran out. The function
+/// does nothing when the program runs.
+pub fn pointers_never_want_memory()
+    ensures encoding { (s : Stretch) → NeverWantsMemory (encoding_at s) }
+    ensures value { (size format : ℕ) (s : Stretch) → NeverWantsMemory (value_at size format s) }
+    ensures pointer { (origins : Origins) (encoding : ℕ) (s : Stretch)
+        → NeverWantsMemory (pointer_at origins encoding s) }
+    ensures plain_value { (size encoding : ℕ) (s : Stretch)
+        → NeverWantsMemory (plain_value_at size encoding s) }
+    ensures direct { (pointer : ReadPointer) → NeverWantsMemory (direct_address pointer) }
 {}

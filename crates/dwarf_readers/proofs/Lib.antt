@@ -7,6 +7,7 @@ pub mod Spellings
 pub mod SignedSpellings
 pub mod Following
 pub mod Lengths
+pub mod ReadMemory
 pub mod Onward
 pub mod Rests
 pub mod Laws

@@ -2,6 +2,7 @@ pub mod EndianSlice
 pub mod Groups
 pub mod InitialLength
 pub mod Leb128
+pub mod Memory
 pub mod More
 pub mod Onward
 pub mod Operands

@@ -5,6 +5,7 @@
 mod endian_slice;
 pub mod equality;
 pub mod leb128;
+pub mod memory;
 pub mod more;
 mod reader;
 pub mod remainders;
