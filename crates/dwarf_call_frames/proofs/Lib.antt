@@ -1,4 +1,5 @@
 pub mod Halves
+pub mod HeaderMemory
 pub mod HeaderRows
 pub mod HeadersAndScans
 pub mod Increasing

@@ -25,7 +25,8 @@ pub use dwarf_frame_entries::{
     Augmentation, CfiEntriesIter, CieOrFde, CommonInformationEntry, Entry, FrameDescriptionEntry,
     PartialFrameDescriptionEntry, UnwindSection, UnwindTable, each_address_of_an_fde_has_one_row,
     listed_entries_stand_at_their_offsets, listed_fdes_are_of_their_section,
-    listed_fdes_stand_at_their_offsets, sections_have_no_more_entries_than_bytes,
+    listed_fdes_stand_at_their_offsets, lookups_never_want_memory,
+    sections_have_no_more_entries_than_bytes,
 };
 pub use dwarf_frame_instructions::{
     CallFrameInstruction, CallFrameInstructionIter, each_address_has_one_row,
@@ -35,7 +36,7 @@ pub use dwarf_frame_rows::{
     _UnwindSectionPrivate, BaseAddresses, CfaRule, CieOffsetEncoding, Pointer, RegisterRule,
     RegisterRuleIter, RuledRegister, SectionBaseAddresses, StoreOnHeap, UnwindContext,
     UnwindContextStorage, UnwindExpression, UnwindOffset, UnwindTableRow, pointers_go_on,
-    store_on_heap_has_room,
+    pointers_never_want_memory, store_on_heap_has_room,
 };
 pub use dwarf_frame_sections::{DebugFrame, EhFrame};
 pub use header::{EhFrameHdr, ParsedEhFrameHdr};

@@ -1,237 +1,214 @@
--- CIEs are never refused for want of memory.
-use Rattle.std.proofs.Common.{◌≡◌, ℕ, Bool, true, false, cond, List, [], ◌∷◌, length, take, Option, Some, None, Result, Ok, Err, ap}
-use Rattle.std.specs.Prelude.{◌==◌, ◌+◌, ◌^◌, nat_lt, not}
-use Rattle.std.specs.Int.{byte_len, w16, w32, w64}
-use Rattle.std.specs.Option.{ok_or}
-use Rattle.dwarf_constants.specs.Pointer.{application_of, format_of}
+-- No lookup of an entry says that memory ran out.
+use Rattle.std.proofs.Common.{◌≡◌, ℕ, zero, suc, Bool, true, false, cond, List, [], ◌∷◌, length, Option, Some, None, Result, Ok, Err, ap}
+use Rattle.std.specs.Prelude.{◌==◌, unwrap_or}
+use Rattle.std.specs.List.{filter_map, find}
+use Rattle.list_laws.specs.Items.{Answer, items_from, items_within, rest_of}
 use Rattle.dwarf_constants.specs.declared.common.Format.{Format}
-use Rattle.dwarf_constants.specs.declared.common.Format.TheVariants.{Dwarf64}
+use Rattle.dwarf_constants.specs.declared.constants.DwEhPe.{DwEhPe}
 use Rattle.dwarf_constants.specs.declared.error.Error.{Error}
-use Rattle.dwarf_constants.specs.declared.error.Error.TheVariants.{BadSignedLeb128, BadUnsignedLeb128, CannotParseOmitPointerEncoding, DataRelativePointerButDataBaseIsUndefined, FuncRelativePointerInBadContext, NoEntryAtGivenOffset, NotCieId, OffsetOutOfBounds, OutOfMemory, PcRelativePointerButSectionBaseIsUndefined, TextRelativePointerButTextBaseIsUndefined, UnknownAugmentation, UnknownPointerEncoding, UnknownReservedLength, UnknownVersion, UnsupportedAddressSize, UnsupportedOffset, UnsupportedPointerEncoding, UnsupportedSegmentSize}
-use Rattle.dwarf_endianity.specs.Offset.{offset_below}
-use Rattle.dwarf_readers.specs.InitialLength.{address_at, address_size_at, as_offset, initial_length_at, is_size, length_behind, word_at}
-use Rattle.dwarf_readers.specs.Leb128.{leb128_within, signed_at, signed_in_range, string_of, unsigned_16_at, unsigned_at, unsigned_below, value_behind}
-use Rattle.dwarf_readers.specs.Stretch.{Stretch, ◌>>=◌, behind, behind_at, byte_at, count_before, ends_at, found_at, number_at, prefix, requirement, split_at, string_at}
-use Rattle.dwarf_frame_rows.specs.EncodedPointer.{Origins, as_unsigned, base_of, encoding_at, is_encoding, known_encoding, origin_of, pointer_at, taken_encoding, value_at}
-use Rattle.dwarf_frame_rows.specs.FrameSection.{FrameSection, origins_in}
+use Rattle.dwarf_constants.specs.declared.error.Error.TheVariants.{NoUnwindInfoForAddress, OutOfMemory}
+use Rattle.dwarf_readers.specs.Memory.{NeverWantsMemory}
+use Rattle.dwarf_readers.specs.Remainder.{size_of}
+use Rattle.dwarf_readers.specs.Stretch.{Stretch, ◌>>=◌}
+use Rattle.dwarf_readers.proofs.Laws.{address_memory, address_size_memory, behind_memory, byte_memory, initial_length_memory, memory_err, memory_if, memory_ok, memory_test, memory_then, memory_there, number_memory, offset_memory, signed_memory, split_memory, string_memory, unsigned_16_memory, unsigned_memory}
+use Rattle.dwarf_frame_rows.specs.EncodedPointer.{Origins}
+use Rattle.dwarf_frame_rows.specs.FrameSection.{FrameSection, SectionContents, origins_in}
 use Rattle.dwarf_frame_rows.specs.SectionKind.{FrameSectionKind}
 use Rattle.dwarf_frame_rows.specs.declared.section.CieOffsetEncoding.{CieOffsetEncoding}
 use Rattle.dwarf_frame_rows.specs.declared.section.CieOffsetEncoding.TheVariants.{U32, U64}
+use Rattle.dwarf_frame_rows.proofs.Laws.{encoding_memory, plain_value_memory, pointer_memory}
+use Rattle.dwarf_frame_entries.specs.AddressLookups.{decides, fde_for, fde_for_address, fde_for_address_skipping, fde_or_error, first_deciding}
 use Rattle.dwarf_frame_entries.specs.Augmentations.{Letters, augmentation_at, augmentation_by_letters, data_at, letter_B, letter_L, letter_P, letter_R, letter_S, letter_with_data, letter_z, no_letters, pointer_unless_omitted, with_letter, with_letters}
-use Rattle.dwarf_frame_entries.specs.Entries.{AnyEntry, Head, cie_among, cie_at, cie_from_offset, entry_at, entry_within, id_at, is_version, offset_in, partial_at, return_register_at, sizes_at}
+use Rattle.dwarf_frame_entries.specs.Entries.{AnyEntry, Cie, Fde, Head, PartialFde, address_encoding, cie_among, cie_at, cie_from_offset, code_range_at, entry_at, entry_within, fde_from_offset, fde_of, fde_with, id_at, lsda_at, lsda_within, offset_in, partial_among, partial_at, partial_fde_from_offset, return_register_at, sizes_at}
+use Rattle.dwarf_frame_entries.specs.EntryLists.{ListEnd, SectionEnd, Terminator, end_by, end_error, entries_from, entry_there, list_end_from, next_length, unless_ended}
+use Rattle.dwarf_frame_entries.specs.declared.augmentation.Augmentation.{Augmentation}
 use Rattle.dwarf_frame_entries.specs.declared.entries.Entry.TheVariants as which
-
--- it isn't refused for want of memory
-pub record HasMemory {A : Type 0} (answer : Result A Error) : Type 0 where
-  pub never : answer ≡ Err OutOfMemory → ⊥
-
-given : {A : Type 0} (x : A) → HasMemory {A = A} (Ok x)
-given x = record { never = λ h. cc }
-
-refused : {A : Type 0} (e : Error) → (e ≡ OutOfMemory → ⊥) → HasMemory {A = A} (Err e)
-refused e other = record { never = λ h. other (cc) }
-
-either : {A : Type 0} (b : Bool) (x y : Result A Error) → HasMemory x → HasMemory y → HasMemory (cond b x y)
-either true x y h k = h
-either false x y h k = k
-
-behind_both : {A B : Type 0} (first : Result A Error) (next : A → Result B Error) → HasMemory first → ((x : A) → HasMemory (next x)) → HasMemory (first >>= next)
-behind_both (Ok x) next h k = k x
-behind_both (Err e) next h k = refused e (λ is. h.never (ap (λ (x : Error). Err x) is))
-
-required : (b : Bool) (e : Error) → (e ≡ OutOfMemory → ⊥) → HasMemory (requirement b e)
-required true e other = given tt
-required false e other = refused e other
-
-there : {A : Type 0} (o : Option A) (e : Error) → (e ≡ OutOfMemory → ⊥) → HasMemory (ok_or o e)
-there (Some x) e other = given x
-there None e other = refused e other
-
--- ---- numbers
-
-fixed : {A : Type 0} (n : ℕ) (s : Stretch) (x : A) → HasMemory (cond (nat_lt (length s.bytes) n) (Err (ends_at s.offset)) (Ok x))
-fixed n s x = either (nat_lt (length s.bytes) n) (Err (ends_at s.offset)) (Ok x) (refused (ends_at s.offset) (λ h. cc)) (given x)
-
-value : {A : Type 0} (bad : Error) (string : List ℕ) (s : Stretch) (o : Option A) → (bad ≡ OutOfMemory → ⊥) → HasMemory (value_behind bad string s o)
-value bad string s (Some x) other = given (x, behind (length string) s)
-value bad string s None other = refused bad other
-
-leb128 : {A : Type 0} (n : ℕ) (bad : Error) (fitting : List ℕ → Option A) (s : Stretch) (o : Option (List ℕ)) → (bad ≡ OutOfMemory → ⊥) → HasMemory (leb128_within n bad fitting s o)
-leb128 n bad fitting s (Some string) other = value bad string s (fitting string) other
-leb128 n bad fitting s None other =
-    let end : ℕ = s.offset + length s.bytes in
-    either (nat_lt (length s.bytes) n) (Err (ends_at end)) (Err bad) (refused (ends_at end) (λ h. cc)) (refused bad other)
-
-unsigned : (s : Stretch) → HasMemory (unsigned_at s)
-unsigned s = leb128 10 BadUnsignedLeb128 (unsigned_below 64) s (string_of (take 10 s.bytes)) (λ h. cc)
-
-signed : (s : Stretch) → HasMemory (signed_at s)
-signed s = leb128 10 BadSignedLeb128 signed_in_range s (string_of (take 10 s.bytes)) (λ h. cc)
-
-unsigned_16 : (s : Stretch) → HasMemory (unsigned_16_at s)
-unsigned_16 s = leb128 3 BadUnsignedLeb128 (unsigned_below 16) s (string_of (take 3 s.bytes)) (λ h. cc)
-
-offset : (limit n : ℕ) → HasMemory (offset_below limit n)
-offset limit n = either (nat_lt n limit) (Ok n) (Err UnsupportedOffset) (given n) (refused UnsupportedOffset (λ h. cc))
-
-offset-read : (limit : ℕ) (n : ℕ × Stretch) → HasMemory (as_offset limit n)
-offset-read limit n = behind_both (offset_below limit n.0) (λ o. Ok (o, n.1)) (offset limit n.0) (λ o. given (o, n.1))
-
-string : (s : Stretch) → HasMemory (string_at s)
-string s = behind_both (found_at s (count_before 0 s.bytes)) (λ n. Ok (prefix n s, behind (n + 1) s)) (found (count_before 0 s.bytes)) (λ n. given (prefix n s, behind (n + 1) s))
-  where
-    found : (o : Option ℕ) → HasMemory (found_at s o)
-    found (Some n) = given n
-    found None = refused (ends_at s.offset) (λ h. cc)
-
-address : (size : ℕ) (s : Stretch) → HasMemory (address_at size s)
-address size s = behind_both (requirement (is_size size) (UnsupportedAddressSize size)) (λ _. number_at size s) (required (is_size size) (UnsupportedAddressSize size) (λ h. cc)) (λ _. fixed size s _)
-
-address_size : (s : Stretch) → HasMemory (address_size_at s)
-address_size s =
-    behind_both (byte_at s) _ (fixed 1 s _)
-    (λ size. behind_both (requirement (is_size size.0) (UnsupportedAddressSize size.0)) (λ _. Ok size) (required (is_size size.0) (UnsupportedAddressSize size.0) (λ h. cc)) (λ _. given size))
-
-initial_length : (limit : ℕ) (s : Stretch) → HasMemory (initial_length_at limit s)
-initial_length limit s = behind_both (number_at 4 s) (length_behind limit) (fixed 4 s _) by
-  where
-    by : (n : ℕ × Stretch) → HasMemory (length_behind limit n)
-    by n =
-        either (nat_lt n.0 0xfffffff0) _ _ (behind_both (as_offset limit n) _ (offset-read limit n) (λ x. given _))
-        (either (n.0 == 0xffffffff) _ _
-        (behind_both (word_at limit Dwarf64 n.1) _ (behind_both (number_at 8 n.1) (as_offset limit) (fixed 8 n.1 _) (offset-read limit)) (λ x. given _))
-        (refused UnknownReservedLength (λ h. cc)))
-
--- ---- pointers
-
-known : (encoding : ℕ) → HasMemory (known_encoding encoding)
-known encoding = required (is_encoding encoding) (UnknownPointerEncoding (record { 0 = encoding })) (λ h. cc)
-
-encoding-read : (s : Stretch) → HasMemory (encoding_at s)
-encoding-read s = behind_both (byte_at s) _ (fixed 1 s _) (λ encoding. behind_both (known_encoding encoding.0) (λ _. Ok encoding) (known encoding.0) (λ _. given encoding))
-
-in_format : (address_size format : ℕ) (s : Stretch) → HasMemory (value_at address_size format s)
-in_format address_size format s =
-    either _ _ _ (address address_size s)
-    (either _ _ _ (unsigned s)
-    (either _ _ _ (fixed 2 s _)
-    (either _ _ _ (fixed 4 s _)
-    (either _ _ _ (fixed 8 s _)
-    (either _ _ _ (behind_both (signed_at s) as_unsigned (signed s) (λ x. given _))
-    (either _ _ _ (behind_both _ as_unsigned (fixed (byte_len w16) s _) (λ x. given _))
-    (either _ _ _ (behind_both _ as_unsigned (fixed (byte_len w32) s _) (λ x. given _))
-    (either _ _ _ (behind_both _ as_unsigned (fixed (byte_len w64) s _) (λ x. given _))
-    (refused (UnknownPointerEncoding (record { 0 = format })) (λ h. cc))))))))))
-
-base : (origins : Origins) (application place : ℕ) → HasMemory (base_of origins application place)
-base origins application place =
-    either _ _ _ (given 0)
-    (either _ _ _ (behind_both (ok_or origins.bases.section PcRelativePointerButSectionBaseIsUndefined) _ (there origins.bases.section PcRelativePointerButSectionBaseIsUndefined (λ h. cc)) (λ start. given _))
-    (either _ _ _ (there origins.bases.text TextRelativePointerButTextBaseIsUndefined (λ h. cc))
-    (either _ _ _ (there origins.bases.data_base DataRelativePointerButDataBaseIsUndefined (λ h. cc))
-    (either _ _ _ (there origins.function FuncRelativePointerInBadContext (λ h. cc))
-    (refused UnsupportedPointerEncoding (λ h. cc))))))
-
-origin : (origins : Origins) (encoding place : ℕ) → HasMemory (origin_of origins encoding place)
-origin origins encoding place =
-    behind_both (taken_encoding encoding) _
-    (behind_both (known_encoding encoding) _ (known encoding) (λ _. required _ CannotParseOmitPointerEncoding (λ h. cc)))
-    (λ _. behind_both (base_of origins (application_of encoding) place) _ (base origins (application_of encoding) place)
-    (λ start. behind_both (requirement (is_size origins.address_size) (UnsupportedAddressSize origins.address_size)) (λ _. Ok start)
-    (required (is_size origins.address_size) (UnsupportedAddressSize origins.address_size) (λ h. cc)) (λ _. given start)))
-
-pointer : (origins : Origins) (encoding : ℕ) (s : Stretch) → HasMemory (pointer_at origins encoding s)
-pointer origins encoding s =
-    behind_both (origin_of origins encoding s.offset) _ (origin origins encoding s.offset)
-    (λ start. behind_both (value_at origins.address_size (format_of encoding) s) _ (in_format origins.address_size (format_of encoding) s) (λ x. given _))
 
 -- ---- augmentations
 
-data-read : (limit : ℕ) (s : Stretch) → HasMemory (data_at limit s)
-data-read limit s = behind_both (unsigned_at s) _ (unsigned s) (λ n. behind_both (offset_below limit n.0) _ (offset limit n.0) (λ count. fixed count n.1 _))
+data-read : (limit : ℕ) (s : Stretch) → NeverWantsMemory (data_at limit s)
+data-read limit s = memory_then (unsigned_memory s) (λ n. memory_then (offset_memory limit n.0) (λ count. split_memory count n.1))
 
-personality : (origins : Origins) (byte : ℕ) (s : Stretch) → HasMemory (pointer_unless_omitted origins byte s)
-personality origins byte s = either _ _ _ (given _) (behind_both (pointer_at origins byte s) _ (pointer origins byte s) (λ p. given _))
+personality : (origins : Origins) (byte : ℕ) (s : Stretch) → NeverWantsMemory (pointer_unless_omitted origins byte s)
+personality origins byte s = memory_if _ memory_ok (memory_then (pointer_memory origins byte s) (λ p. memory_ok))
 
-letter-read : (origins : Origins) (letter : ℕ) (before : Letters) → HasMemory (with_letter origins letter before)
+data-of-letter : (origins : Origins) (letter : ℕ) (augmentation : Augmentation) (left : Stretch) → NeverWantsMemory (letter_with_data origins letter augmentation left)
+data-of-letter origins letter augmentation left =
+    memory_if (letter == letter_L) (memory_then (encoding_memory left) (λ x. memory_ok))
+    (memory_if (letter == letter_P) (memory_then (encoding_memory left) (λ x. memory_then (personality origins x.0 x.1) (λ p. memory_ok)))
+    (memory_if (letter == letter_R) (memory_then (encoding_memory left) (λ x. memory_ok))
+    (memory_err (λ h. cc))))
+
+letter-read : (origins : Origins) (letter : ℕ) (before : Letters) → NeverWantsMemory (with_letter origins letter before)
 letter-read origins letter before =
-    either (letter == letter_S) _ _ (given _)
-    (either (letter == letter_B) _ _ (given before)
-    (behind_both (ok_or before.left UnknownAugmentation) _ (there before.left UnknownAugmentation (λ h. cc)) of))
-  where
-    of : (left : Stretch) → HasMemory (letter_with_data origins letter before.augmentation left)
-    of left =
-        either (letter == letter_L) _ _ (behind_both (encoding_at left) _ (encoding-read left) (λ x. given _))
-        (either (letter == letter_P) _ _ (behind_both (encoding_at left) _ (encoding-read left) (λ x. behind_both (pointer_unless_omitted origins x.0 x.1) _ (personality origins x.0 x.1) (λ p. given _)))
-        (either (letter == letter_R) _ _ (behind_both (encoding_at left) _ (encoding-read left) (λ x. given _))
-        (refused UnknownAugmentation (λ h. cc))))
+    memory_if (letter == letter_S) memory_ok
+    (memory_if (letter == letter_B) memory_ok
+    (memory_then (memory_there before.left _ (λ h. cc)) (data-of-letter origins letter before.augmentation)))
 
-letters-read : (origins : Origins) (letters : List ℕ) (before : Letters) → HasMemory (with_letters origins letters before)
-letters-read origins [] before = given before
-letters-read origins (letter ∷ letters) before = behind_both (with_letter origins letter before) (with_letters origins letters) (letter-read origins letter before) (letters-read origins letters)
+letters-read : (origins : Origins) (letters : List ℕ) (before : Letters) → NeverWantsMemory (with_letters origins letters before)
+letters-read origins [] before = memory_ok
+letters-read origins (letter ∷ letters) before = memory_then (letter-read origins letter before) (letters-read origins letters)
 
-by-letters : (origins : Origins) (letters : List ℕ) (left : Option Stretch) → HasMemory (augmentation_by_letters origins letters left)
-by-letters origins letters left = behind_both (with_letters origins letters (no_letters left)) _ (letters-read origins letters (no_letters left)) (λ read. given _)
+by-letters : (origins : Origins) (letters : List ℕ) (left : Option Stretch) → NeverWantsMemory (augmentation_by_letters origins letters left)
+by-letters origins letters left = memory_then (letters-read origins letters (no_letters left)) (λ read. memory_ok)
 
-augmentation : (limit : ℕ) (origins : Origins) (text : List ℕ) (s : Stretch) → HasMemory (augmentation_at limit origins text s)
-augmentation limit origins [] s = given _
+augmentation : (limit : ℕ) (origins : Origins) (text : List ℕ) (s : Stretch) → NeverWantsMemory (augmentation_at limit origins text s)
+augmentation limit origins [] s = memory_ok
 augmentation limit origins (letter ∷ letters) s =
-    either (letter == letter_z) _ _
-    (behind_both (data_at limit s) _ (data-read limit s) (λ extra. behind_both (augmentation_by_letters origins letters (Some extra.0)) _ (by-letters origins letters (Some extra.0)) (λ a. given _)))
-    (behind_both (augmentation_by_letters origins (letter ∷ letters) None) _ (by-letters origins (letter ∷ letters) None) (λ a. given _))
+    memory_if (letter == letter_z)
+    (memory_then (data-read limit s) (λ extra. memory_then (by-letters origins letters (Some extra.0)) (λ a. memory_ok)))
+    (memory_then (by-letters origins (letter ∷ letters) None) (λ a. memory_ok))
 
 -- ---- entries
 
-sizes : (kind : FrameSectionKind) (size version : ℕ) (s : Stretch) → HasMemory (sizes_at kind size version s)
+sizes : (kind : FrameSectionKind) (size version : ℕ) (s : Stretch) → NeverWantsMemory (sizes_at kind size version s)
 sizes kind size version s =
-    either (kind.has_sizes version) _ _
-    (behind_both (address_size_at s) _ (address_size s) (λ n. behind_both (byte_at n.1) _ (fixed 1 n.1 _)
-    (λ segment. behind_both (requirement (segment.0 == 0) UnsupportedSegmentSize) _ (required (segment.0 == 0) UnsupportedSegmentSize (λ h. cc)) (λ _. given _))))
-    (given _)
+    memory_if (kind.has_sizes version)
+    (memory_then (address_size_memory s) (λ n. memory_then (byte_memory n.1) (λ segment. memory_then (memory_test _ _ (λ h. cc)) (λ _. memory_ok))))
+    memory_ok
 
-cie-read : (section : FrameSection) (head : Head) (format : Format) (s : Stretch) → HasMemory (cie_at section head format s)
+register : (version : ℕ) (s : Stretch) → NeverWantsMemory (return_register_at version s)
+register version s = memory_if (version == 1) (byte_memory s) (unsigned_16_memory s)
+
+cie-read : (section : FrameSection) (head : Head) (format : Format) (s : Stretch) → NeverWantsMemory (cie_at section head format s)
 cie-read section head format s =
-    behind_both (byte_at s) _ (fixed 1 s _)
-    (λ version. behind_both (requirement (is_version version.0) (UnknownVersion version.0)) _ (required (is_version version.0) (UnknownVersion version.0) (λ h. cc))
-    (λ _. behind_both (string_at version.1) _ (string version.1)
-    (λ text. behind_both (sizes_at section.kind section.within.address_size version.0 text.1) _ (sizes section.kind section.within.address_size version.0 text.1)
-    (λ size. behind_both (unsigned_at size.1) _ (unsigned size.1)
-    (λ code. behind_both (signed_at code.1) _ (signed code.1)
-    (λ factor. behind_both (return_register_at version.0 factor.1) _ (either (version.0 == 1) (byte_at factor.1) (unsigned_16_at factor.1) (fixed 1 factor.1 _) (unsigned_16 factor.1))
-    (λ register. behind_both (augmentation_at section.limit (origins_in section.within size.0 None) text.0.bytes register.1) _
-    (augmentation section.limit (origins_in section.within size.0 None) text.0.bytes register.1) (λ a. given _))))))))
+    memory_then (byte_memory s) (λ version.
+    memory_then (memory_test _ _ (λ h. cc)) (λ _.
+    memory_then (string_memory version.1) (λ text.
+    memory_then (sizes section.kind section.within.address_size version.0 text.1) (λ size.
+    memory_then (unsigned_memory size.1) (λ code.
+    memory_then (signed_memory code.1) (λ factor.
+    memory_then (register version.0 factor.1) (λ register.
+    memory_then (augmentation section.limit (origins_in section.within size.0 None) text.0.bytes register.1) (λ a. memory_ok))))))))
 
-id-read : (width : CieOffsetEncoding) (s : Stretch) → HasMemory (id_at width s)
-id-read U32 s = fixed 4 s _
-id-read U64 s = fixed 8 s _
+id-read : (width : CieOffsetEncoding) (s : Stretch) → NeverWantsMemory (id_at width s)
+id-read U32 s = number_memory 4 s
+id-read U64 s = number_memory 8 s
 
-partial-read : (section : FrameSection) (head : Head) (place : ℕ) (id : ℕ × Stretch) → HasMemory (partial_at section head place id)
+partial-read : (section : FrameSection) (head : Head) (place : ℕ) (id : ℕ × Stretch) → NeverWantsMemory (partial_at section head place id)
 partial-read section head place id =
-    behind_both (offset_below section.limit id.0) _ (offset section.limit id.0)
-    (λ to. behind_both (ok_or (section.kind.cie_place place to) OffsetOutOfBounds) _ (there (section.kind.cie_place place to) OffsetOutOfBounds (λ h. cc)) (λ x. given _))
+    memory_then (offset_memory section.limit id.0) (λ to. memory_then (memory_there (section.kind.cie_place place to) _ (λ h. cc)) (λ x. memory_ok))
 
-within : (section : FrameSection) (head : Head) (format : Format) (s : Stretch) → HasMemory (entry_within section head format s)
+within : (section : FrameSection) (head : Head) (format : Format) (s : Stretch) → NeverWantsMemory (entry_within section head format s)
 within section head format s =
-    behind_both (id_at (section.kind.id_width format) s) _ (id-read (section.kind.id_width format) s)
-    (λ id. either (section.kind.is_cie format id.0) _ _
-    (behind_both (cie_at section head format id.1) _ (cie-read section head format id.1) (λ x. given _))
-    (behind_both (partial_at section head (offset_in section s) id) _ (partial-read section head (offset_in section s) id) (λ x. given _)))
+    memory_then (id-read (section.kind.id_width format) s) (λ id.
+    memory_if (section.kind.is_cie format id.0)
+    (memory_then (cie-read section head format id.1) (λ cie. memory_ok))
+    (memory_then (partial-read section head (offset_in section s) id) (λ partial. memory_ok)))
 
-entry-read : (section : FrameSection) (s : Stretch) → HasMemory (entry_at section s)
+entry-read : (section : FrameSection) (s : Stretch) → NeverWantsMemory (entry_at section s)
 entry-read section s =
-    behind_both (initial_length_at section.limit s) _ (initial_length section.limit s)
-    (λ n. either (n.0.0 == 0) _ _ (given _)
-    (behind_both (split_at n.0.0 n.1) _ (fixed n.0.0 n.1 _)
-    (λ parts. let head : Head = record { offset = offset_in section s; length = n.0.0 } in
-    behind_both (entry_within section head n.0.1 parts.0) _ (within section head n.0.1 parts.0) (λ x. given _))))
+    memory_then (initial_length_memory section.limit s) (λ n.
+    memory_if (n.0.0 == 0) memory_ok
+    (memory_then (split_memory n.0.0 n.1) (λ parts.
+    memory_then (within section (record { offset = offset_in section s; length = n.0.0 }) n.0.1 parts.0) (λ entry. memory_ok))))
 
-among : (place : ℕ) (entry : Option AnyEntry) → HasMemory (cie_among place entry)
-among place None = refused NoEntryAtGivenOffset (λ h. cc)
-among place (Some (which.Cie cie)) = given cie
-among place (Some (which.Fde partial)) = refused (NotCieId place) (λ h. cc)
+-- ---- entries at an offset
 
--- the CIE at an offset
-pub cie-has-memory : (section : FrameSection) (place : ℕ) → cie_from_offset section place ≡ Err OutOfMemory → ⊥
-cie-has-memory section place =
-    (behind_both (behind_at place section.within.bytes) _ (fixed place section.within.bytes _)
-    (λ rest. behind_both (entry_at section rest) _ (entry-read section rest) (λ entry. among place entry.0))).never
+cie-among : (place : ℕ) (entry : Option AnyEntry) → NeverWantsMemory (cie_among place entry)
+cie-among place None = memory_err (λ h. cc)
+cie-among place (Some (which.Cie cie)) = memory_ok
+cie-among place (Some (which.Fde partial)) = memory_err (λ h. cc)
+
+pub cie_memory : (section : FrameSection) (offset : ℕ) → NeverWantsMemory (cie_from_offset section offset)
+cie_memory section offset =
+    memory_then (behind_memory offset section.within.bytes) (λ rest.
+    memory_then (entry-read section rest) (λ entry. cie-among offset entry.0))
+
+partial-among : (place : ℕ) (entry : Option AnyEntry) → NeverWantsMemory (partial_among place entry)
+partial-among place None = memory_err (λ h. cc)
+partial-among place (Some (which.Cie cie)) = memory_err (λ h. cc)
+partial-among place (Some (which.Fde partial)) = memory_ok
+
+partial-memory : (section : FrameSection) (offset : ℕ) → NeverWantsMemory (partial_fde_from_offset section offset)
+partial-memory section offset =
+    memory_then (behind_memory offset section.within.bytes) (λ rest.
+    memory_then (entry-read section rest) (λ entry. partial-among offset entry.0))
+
+-- ---- FDEs with their CIEs
+
+code-range : (origins : Origins) (encoding : Option DwEhPe) (s : Stretch) → NeverWantsMemory (code_range_at origins encoding s)
+code-range origins None s =
+    memory_then (address_memory origins.address_size s) (λ initial. memory_then (address_memory origins.address_size initial.1) (λ range. memory_ok))
+code-range origins (Some encoding) s =
+    memory_then (pointer_memory origins encoding.0 s) (λ initial. memory_then (plain_value_memory origins.address_size encoding.0 initial.1) (λ range. memory_ok))
+
+lsda-within : (origins : Origins) (encoding : Option DwEhPe) (s : Stretch) → NeverWantsMemory (lsda_within origins encoding s)
+lsda-within origins None s = memory_ok
+lsda-within origins (Some encoding) s = memory_then (pointer_memory origins encoding.0 s) (λ pointer. memory_ok)
+
+lsda : (limit : ℕ) (origins : Origins) (augmentation : Option Augmentation) (s : Stretch) → NeverWantsMemory (lsda_at limit origins augmentation s)
+lsda limit origins None s = memory_ok
+lsda limit origins (Some augmentation) s =
+    memory_if augmentation.has_data
+    (memory_then (data-read limit s) (λ extra. memory_then (lsda-within origins augmentation.lsda extra.0) (λ pointer. memory_ok)))
+    memory_ok
+
+fde-with : (limit : ℕ) (partial : PartialFde) (cie : Cie) → NeverWantsMemory (fde_with limit partial cie)
+fde-with limit partial cie =
+    memory_then (code-range (origins_in partial.within cie.address_size None) (address_encoding cie) partial.rest) (λ addresses.
+    memory_then (lsda limit (origins_in partial.within cie.address_size (Some addresses.0.0)) cie.augmentation addresses.1) (λ pointer. memory_ok))
+
+fde-of : (limit : ℕ) (kind : FrameSectionKind) (partial : PartialFde) → NeverWantsMemory (fde_of limit kind partial)
+fde-of limit kind partial =
+    memory_then (cie_memory (record { limit = limit; kind = kind; within = partial.within }) partial.cie_offset) (fde-with limit partial)
+
+pub fde_memory : (section : FrameSection) (offset : ℕ) → NeverWantsMemory (fde_from_offset section offset)
+fde_memory section offset = memory_then (partial-memory section offset) (fde-of section.limit section.kind)
+
+-- ---- the list of a section
+
+unless-ended : (ends : Bool) (read : Option AnyEntry × Stretch) → NeverWantsMemory (unless_ended ends read)
+unless-ended true (None, rest) = memory_ok
+unless-ended true (Some entry, rest) = memory_ok
+unless-ended false read = memory_ok
+
+next-memory : (section : FrameSection) (s : Stretch) → NeverWantsMemory (next_length section s)
+next-memory section s = memory_if _ memory_ok (memory_then (entry-read section s) (unless-ended section.kind.ends_at_zero))
+
+-- the first of some FDEs, by whether it decides
+deciding : (address : ℕ) (read : Result Fde Error) (others : List (Result Fde Error)) (decided : Bool) → NeverWantsMemory read → NeverWantsMemory (first_deciding address others)
+    → NeverWantsMemory (unwrap_or (cond decided (Some read) (find (decides address) others)) (Err NoUnwindInfoForAddress))
+deciding address read others true h k = h
+deciding address read others false h k = k
+
+module _ (section : FrameSection) (address : ℕ) where
+  first-of : (entry : AnyEntry) (others : List (Result AnyEntry Error)) → NeverWantsMemory (fde_for section address others) → NeverWantsMemory (fde_for section address (Ok entry ∷ others))
+  first-of (which.Cie cie) others h = h
+  first-of (which.Fde partial) others h =
+      let read = fde_of section.limit section.kind partial in
+      deciding address read (filter_map (fde_or_error section) others) (decides address read) (fde-of section.limit section.kind partial) h
+
+  -- the entries of at most n steps
+  abbrev lookup_within : ℕ → Stretch → Result Fde Error
+  lookup_within n s = fde_for section address (filter_map entry_there (items_within n (next_length section) s))
+
+  by-item : (n : ℕ) (answer : Answer Stretch (Option AnyEntry) Error) → NeverWantsMemory answer → ((s : Stretch) → NeverWantsMemory (lookup_within n s))
+      → NeverWantsMemory (fde_for section address (filter_map entry_there (items_from (items_within n (next_length section)) answer)))
+  by-item n (Ok None) h others = memory_err (λ h. cc)
+  by-item n (Ok (Some (Some entry, rest))) h others = first-of entry (filter_map entry_there (items_within n (next_length section) rest)) (others rest)
+  by-item n (Ok (Some (None, rest))) h others = others rest
+  by-item n (Err e) h others = memory_err (λ is. h.never (ap (λ (x : Error). Err x) is))
+
+  within-memory : (n : ℕ) (s : Stretch) → NeverWantsMemory (lookup_within n s)
+  within-memory zero s = memory_err (λ h. cc)
+  within-memory (suc n) s = by-item n (next_length section s) (next-memory section s) (within-memory n)
+
+pub address_lookup_memory : (section : FrameSection) (address : ℕ) → NeverWantsMemory (fde_for_address section address)
+unfolding entries_from
+address_lookup_memory section address = within-memory section address (suc (size_of section.within.bytes)) section.within.bytes
+
+-- the end of a list is for another reason
+ended-otherwise : (empty : Bool) → unwrap_or (end_error (cond empty SectionEnd Terminator)) NoUnwindInfoForAddress ≡ OutOfMemory → ⊥
+ended-otherwise true is = cc
+ended-otherwise false is = cc
+
+end-otherwise : (rest : Stretch) (next : Answer Stretch (Option AnyEntry) Error) → NeverWantsMemory next → unwrap_or (end_error (end_by rest next)) NoUnwindInfoForAddress ≡ OutOfMemory → ⊥
+end-otherwise rest (Ok next) h is = ended-otherwise (length rest.bytes == 0) is
+end-otherwise rest (Err e) h is = h.never (ap (λ (x : Error). Err x) is)
+
+pub skipping_lookup_memory : (section : FrameSection) (address : ℕ) → NeverWantsMemory (fde_for_address_skipping section address)
+unfolding list_end_from
+skipping_lookup_memory section address =
+    let rest = rest_of size_of (next_length section) section.within.bytes in
+    memory_there _ _ (end-otherwise rest (next_length section rest) (next-memory section rest))

@@ -4,6 +4,7 @@ use Rattle.std.specs.Borrow.{Bor}
 use Rattle.std.specs.Prelude.{IsTrue}
 use Rattle.dwarf_constants.specs.declared.error.Error.{Error}
 use Rattle.dwarf_constants.specs.declared.error.Error.TheVariants.{OutOfMemory}
+use Rattle.dwarf_readers.specs.Memory.{NeverWantsMemory}
 use Rattle.dwarf_readers.specs.Stretch.{◌>>=◌}
 use Rattle.dwarf_frame_rows.specs.declared.row.UnwindTableRow.{UnwindTableRow}
 use Rattle.dwarf_frame_rows.specs.Row.{Row}
@@ -29,3 +30,8 @@ pub fde-row : {O L : Type 0} (number : O → ℕ) (Fixed Never : Type 0) (whole 
     → IsRowFor number Fixed answer result → IsRowFor number (Fixed × Never) whole result
 fde-row number Fixed Never whole answer (Ok shown) is h = is ∙ h
 fde-row number Fixed Never whole answer (Err e) is h = λ told. is ∙ h (fixed-refuses Fixed Never e told)
+
+-- by a function that doesn't allocate, a lookup that never says that memory ran out fails for another reason
+pub found-with-memory : {A : Type 0} {answer : Result A Error} → NeverWantsMemory answer → (e : Error) → (answer ≡ Err e) ⊎ (IsTrue false × (e ≡ OutOfMemory)) → e ≡ OutOfMemory → ⊥
+found-with-memory memory e (inl is) same = memory.never (is ∙ ap (λ (x : Error). Err x) same)
+found-with-memory memory e (inr wanted) same = let never = wanted.0 in cc

@@ -13,7 +13,7 @@ use Rattle.dwarf_frame_entries.specs.AddressLookups.{fde_for_address_skipping}
 use Rattle.dwarf_frame_entries.specs.Entries.{AnyEntry, Cie, Fde, PartialFde, cie_from_offset, cie_of, contains, fde_of, fde_with}
 use Rattle.dwarf_frame_entries.specs.EntryLists.{ListEnd, SectionEnd, Terminator, Failed, end_error, entries_of, list_end}
 use Rattle.dwarf_frame_entries.specs.SectionFdes.{fde_in, whole_fdes}
-use Rattle.dwarf_frame_entries.proofs.LookupMemory.{cie-has-memory}
+use Rattle.dwarf_frame_entries.proofs.LookupMemory.{cie_memory}
 
 -- the FDEs among items of a section's list that can be read
 abbrev pub whole_among : FrameSection → List (Result AnyEntry Error) → List Fde
@@ -92,5 +92,5 @@ cie-failed may_allocate e read same at other (inr wanted) = absurd (other wanted
 -- want of memory isn't
 pub memory-wanted : (section : FrameSection) (place : ℕ) (may_allocate : Bool) {answer : Result Fde Error} → (cie_from_offset section place ≡ Err OutOfMemory) ⊎ (IsTrue may_allocate × (OutOfMemory ≡ OutOfMemory))
     → (answer ≡ Err OutOfMemory) ⊎ (IsTrue may_allocate × (OutOfMemory ≡ OutOfMemory))
-memory-wanted section place may_allocate (inl is) = absurd (cie-has-memory section place is)
+memory-wanted section place may_allocate (inl is) = absurd ((cie_memory section place).never is)
 memory-wanted section place may_allocate (inr wanted) = inr wanted

@@ -1,8 +1,9 @@
 -- Functions that read CIEs for lookups of FDEs, and what such a lookup gives by them.
-use Rattle.std.specs.Prelude.{◌≡◌, ℕ, Bool, false, List, [], ◌∷◌, Result}
+use Rattle.std.specs.Prelude.{◌≡◌, ◌≢◌, ℕ, Bool, false, List, [], ◌∷◌, Result, IfErr}
 use Rattle.std.specs.Borrow.{Bor}
 use Rattle.dwarf_constants.specs.declared.common.Vendor.{Vendor}
 use Rattle.dwarf_constants.specs.declared.error.Error.{Error}
+use Rattle.dwarf_constants.specs.declared.error.Error.TheVariants.{OutOfMemory}
 use Rattle.dwarf_readers.specs.Stretch.{Stretch}
 use Rattle.dwarf_frame_rows.specs.Effects.{Limits}
 use Rattle.dwarf_frame_rows.specs.Row.{Row}
@@ -25,11 +26,11 @@ abbrev pub GivesByCies : ((may_allocate : Bool) → Type 0) → Result Fde Error
 GivesByCies reads result answer = (may_allocate : Bool) → reads may_allocate → MayGive may_allocate (λ fde. fde) result answer
 
 -- If a function reads CIEs so, a lookup returned this row, or this error; or OutOfMemory, if the storage or the function may
--- allocate. `Fixed` says that the storage doesn't.
-abbrev pub IsRowByCies : {O L : Type 0} → (O → ℕ) → (Fixed : Type 0) → ((may_allocate : Bool) → Type 0)
-    → Result (Row ℕ) Error → Result (Bor (UnwindTableRow O L)) Error → Type 0
-IsRowByCies number Fixed reads answer result =
-    (may_allocate : Bool) → reads may_allocate → IsRowFor number (Fixed × (may_allocate ≡ false)) answer result
+-- allocate, and never if neither does. `Fixed` says that the storage doesn't.
+pub record IsRowByCies {O L : Type 0} (number : O → ℕ) (Fixed : Type 0) (reads : (may_allocate : Bool) → Type 0)
+    (answer : Result (Row ℕ) Error) (result : Result (Bor (UnwindTableRow O L)) Error) : Type 0 where
+  pub row : (may_allocate : Bool) → reads may_allocate → IsRowFor number (Fixed × (may_allocate ≡ false)) answer result
+  pub memory : Fixed → reads false → IfErr result (λ e. e ≢ OutOfMemory)
 
 module _ {F S N R E O : Type 0} (step : F → Bor S → Bor BaseAddresses → N → CieResult R E O → F → Type 0)
     (stretch : R → Stretch) (value : O → ℕ) (frame : S → BaseAddresses → FrameSection) (number : N → ℕ) where

@@ -10,7 +10,7 @@ use Rattle.dwarf_frame_rows.specs.declared.row.UnwindTableRow.{UnwindTableRow}
 use Rattle.dwarf_frame_rows.specs.declared.rules.RegisterRule.{RegisterRule}
 use Rattle.dwarf_frame_rows.specs.declared.rules.RuledRegister.{RuledRegister}
 use Rattle.dwarf_frame_rows.specs.Effects.{Limits}
-use Rattle.dwarf_frame_instructions.specs.ProgramRows.{NextLeaves}
+use Rattle.dwarf_frame_entries.specs.UnwindTables.{NextLeaves}
 use Rattle.dwarf_frame_entries.specs.declared.table.UnwindTable.{UnwindTable}
 use Rattle.dwarf_frame_entries.specs.contracts.table.UnwindTable.{the_row}
 
@@ -23,4 +23,4 @@ module _ (R S E O L K : RattleType) (rules : Ghosts L.Denot (RuledRegister (Regi
   LeavesTable table result =
       let row = the_row (record { mir = named 0; lft = [] }) (record { mir = named 1; lft = [] }) R S E O L K rules in
       follows_so row row table.ghost_name none (λ _ _. ⊤)
-      (λ last. NextLeaves stretch limit number items limits table.now.rows result last.rows)
+      (NextLeaves stretch limit number items limits table.now result)

@@ -15,7 +15,7 @@ use crate::section::UnwindSection;
 use dwarf_constants::{DwEhPe, Result};
 use dwarf_frame_rows::{
     _UnwindSectionPrivate, BaseAddresses, Pointer, PointerEncodingParameters,
-    parse_encoded_pointer, parse_encoded_value,
+    parse_encoded_pointer, parse_encoded_value, sum_in_address_size,
 };
 use dwarf_readers::{Reader, ReaderOffset};
 use std::marker::Model;
@@ -269,13 +269,11 @@ impl<R: Reader> FrameDescriptionEntry<R> {
     pub fn end_address(&self) -> u64
         ensures { result ≡ end_address self.now }
     {
-        let end = self.initial_address.wrapping_add(self.address_range);
-        match self.cie.address_size {
-            1 => end % (1 << 8),
-            2 => end % (1 << 16),
-            4 => end % (1 << 32),
-            _ => end,
-        }
+        sum_in_address_size(
+            self.initial_address,
+            self.address_range,
+            self.cie.address_size,
+        )
     }
 
     /// The size of the code in bytes.

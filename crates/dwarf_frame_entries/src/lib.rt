@@ -9,6 +9,7 @@ mod cie;
 mod entries;
 mod entry_offsets;
 mod fde;
+mod memory_laws;
 mod parse;
 mod programs;
 mod row_laws;
@@ -29,6 +30,7 @@ pub use entry_offsets::{
     listed_fdes_stand_at_their_offsets, sections_have_no_more_entries_than_bytes,
 };
 pub use fde::{FrameDescriptionEntry, PartialFrameDescriptionEntry};
+pub use memory_laws::lookups_never_want_memory;
 pub use row_laws::each_address_of_an_fde_has_one_row;
 pub use section::UnwindSection;
 pub use table::UnwindTable;

@@ -6,7 +6,6 @@ pub mod Instructions
 pub mod OpcodeTables
 pub mod Parts
 pub mod ProgramRows
-pub mod ProgramRowsLend
 pub mod Programs
 pub mod Refusals
 pub mod Standing

@@ -1,5 +1,5 @@
 -- The rows that a program of the code has left, and the one that it gave last.
-use Rattle.std.specs.Prelude.{◌≡◌, ◌<◌, ℕ, suc, zero, List, [], ◌∷◌, length, Bool, true, false, Option, Some, None, OnSome, option_map, Result, Ok, Err, IfErr, IfOk, if◌then◌else◌}
+use Rattle.std.specs.Prelude.{◌≡◌, ℕ, suc, zero, List, [], ◌∷◌, length, Bool, true, false, Option, Some, None, option_map, Result, Ok, Err, IfErr, IfOk, if◌then◌else◌}
 use Rattle.std.specs.Borrow.{Bor}
 use Rattle.dwarf_constants.specs.declared.error.Error.{Error}
 use Rattle.dwarf_readers.specs.Stretch.{Stretch}
@@ -57,11 +57,6 @@ is_given (Ok given) = given
 is_given (Err e) = false
 
 module _ {O L : Type 0} (number : O → ℕ) where
-  -- the row that a call gave, if it gave one
-  abbrev pub row_given : Result (Option (Bor (UnwindTableRow O L))) Error → Option (Row ℕ)
-  row_given (Ok given) = option_map (λ row. row_in number row.now) given
-  row_given (Err _) = None
-
   module _ (Fixed : Type 0) where
     -- A call gave the first of the rows that are left, or said that none is, or failed as they do.
     abbrev pub GivesFirst : RowList ℕ → Result (Option (Bor (UnwindTableRow O L))) Error → Type 0
@@ -122,20 +117,9 @@ module _ {R S E O L K : Type 0} (stretch : R → Stretch) (limit : ℕ) (number 
   abbrev pub HasAllRows : EntryProgram ℕ → ProgramRows R S E O L K → Type 0
   HasAllRows program rows = rows_left rows ≡ rows_of_program limits program
 
-  -- A call gave the first of the rows that are left, or said that none is, or failed as they do.
-  abbrev pub GivesFirstRow : (Fixed : Type 0) → ProgramRows R S E O L K → Result (Option (Bor (UnwindTableRow O L))) Error → Type 0
-  GivesFirstRow Fixed old result = GivesFirst number Fixed (rows_left old) result
-
   -- A call went on to the first of the rows, or said that none is left, or failed as they do; the others are left.
   pub record Advances (Fixed : Type 0) (old : ProgramRows R S E O L K) (result : Result Bool Error) (new : ProgramRows R S E O L K) : Type 0 where
     pub first : IfOk result (λ more. first_of (rows_left old) ≡ Ok (current_row number items new))
     pub refused : IfErr result (λ e. IsRefusal Fixed e → first_of (rows_left old) ≡ Err e)
     pub left : rows_left new ≡ rows_left_by (rows_left old) result
     pub given : new.has_row ≡ is_given result
-
-  -- After a call of `next_row` and once its row is given back: the other rows are left, the row that it gave is the current one, and
-  -- where it gave one fewer steps are left.
-  pub record NextLeaves (old : ProgramRows R S E O L K) (result : Result (Option (Bor (UnwindTableRow O L))) Error) (last : ProgramRows R S E O L K) : Type 0 where
-    pub left : rows_left last ≡ rows_left_by (rows_left old) result
-    pub current : current_row number items last ≡ row_given number result
-    pub falls : IfOk result (λ given. OnSome given (steps_left stretch limit last < steps_left stretch limit old))

@@ -153,13 +153,11 @@ pub struct ProgramRows<'a, 'ctx, R: Reader, S: UnwindContextStorage<R::Offset>> 
 }
 
 impl<'a, 'ctx, R: Reader, S: UnwindContextStorage<R::Offset>> ProgramRows<'a, 'ctx, R, S> {
-    ghost use Rattle.std.specs.Borrow.{sem};
     ghost use Rattle.std.specs.Bool.{OnTrue};
     ghost use Rattle.dwarf_frame_rows.specs.Row.{holds_at};
     ghost use Rattle.dwarf_frame_instructions.specs.Execution.{IsRefusal, row_in};
     ghost use Rattle.dwarf_frame_instructions.specs.Programs.{effects_of_cie};
-    ghost use Rattle.dwarf_frame_instructions.specs.ProgramRows.{Advances, EndsRow, GivesFirstRow, HasAllRows, current_row, rows_state, steps_left};
-    ghost use Rattle.dwarf_frame_instructions.specs.ProgramRowsLend.{LeavesRows};
+    ghost use Rattle.dwarf_frame_instructions.specs.ProgramRows.{Advances, EndsRow, HasAllRows, current_row, rows_state, steps_left};
 
     /// Executes the CIE's own instructions, after which the rows are made. The context is cleared first.
     /// Fails if one of these instructions does, with `StackFull` if there is no room for the rules that
@@ -244,22 +242,6 @@ impl<'a, 'ctx, R: Reader, S: UnwindContextStorage<R::Offset>> ProgramRows<'a, 'c
         self.context.set_bounds(self.next_start_address, end);
         self.next_start_address = end;
         self.has_row = true;
-    }
-
-    /// The next row, or `None` after the last. Fails as [`ProgramRows::advance`] does. After an error no
-    /// row is left.
-    pub fn next_row(&mut self) -> Result<Option<&UnwindTableRow<R::Offset, S::Rules>>>
-        ensures* leaves { sem 𝓛 (LeavesRows R.row S.row R.Endian.row R.Offset.row S.Rules.row
-            S.Stack.row S.Rules.ArrayLike R.stretch R.Offset.limit R.Offset.value S.Stack.items
-            S.limits self.entry result) }
-        ensures row { GivesFirstRow R.stretch R.Offset.limit R.Offset.value S.Stack.items S.limits
-            S.never_allocates self.old result }
-        ensures memory { S.never_allocates → IfErr result (λ e. e ≢ OutOfMemory) }
-    {
-        if self.advance()? {
-            return Ok(Some(self.context.row()));
-        }
-        Ok(None)
     }
 
     /// The current row: the one that the last call gave, if it gave one.
