@@ -2,14 +2,14 @@
 use Rattle.std.proofs.Common.{◌≡◌, ℕ, List, ◌++◌, Option, Result, Ok, sym, ap, subst, ◌∙◌}
 use Rattle.std.specs.declared.alloc.AllocError.{AllocError}
 use Rattle.dwarf_constants.specs.declared.error.Error.{Error}
-use Rattle.dwarf_readers.specs.Stretch.{◌>>=◌}
 use Rattle.dwarf_frame_instructions.specs.Programs.{EntryProgram, rows_of_program}
 use Rattle.dwarf_frame_rows.specs.Effects.{Limits}
 use Rattle.dwarf_frame_entries.specs.Entries.{Fde, PartialFde}
 use Rattle.frame_table.proofs.Appends.{then}
-use Rattle.frame_table.specs.Entries.{Part, Setting, fde_prefix, fde_part, prefix_text, part_or_fault, part_with, whole_fde_part}
+use Rattle.frame_table.specs.Entries.{Part, Setting, fde_or_fault, prefix_text, part_with, whole_fde_part}
 use Rattle.frame_table.specs.EntryWrites.{WritesPart}
 use Rattle.frame_table.specs.EntryPrefix.{EntryPrefix}
+use Rattle.frame_table.specs.declared.parts.PartEnd.{PartEnd}
 use Rattle.frame_table_text.specs.Tables.{Table, table_text}
 
 -- the prefix of a line, by equal numbers
@@ -21,7 +21,7 @@ same_prefix size size' offset offset' length length' prefix s o l =
     ∙ ap (λ (n : ℕ). prefix_text size' (record { offset = offset'; length = n }) prefix) l
 
 -- a line and a table, ended as an entry ends
-pub whole_part : (limits : Limits) (result : Result (Option ℕ) AllocError) (before line t u new : List ℕ) (table shown : Table) (program meant : EntryProgram ℕ)
+pub whole_part : (limits : Limits) (result : Result PartEnd AllocError) (before line t u new : List ℕ) (table shown : Table) (program meant : EntryProgram ℕ)
     (place offset end : ℕ) (refusal : Option Error)
     → t ≡ before ++ line
     → u ≡ t ++ table_text table (rows_of_program limits program)
@@ -39,12 +39,11 @@ whole_part limits result before line t u new table shown program meant place off
     (ends before body (then before t u line (table_text table (rows_of_program limits program)) line_is lines_are)))))
 
 -- an FDE that is read is listed so
-pub listed_fde : (s : Setting) (partial : PartialFde) (fde : Fde) (prefix : EntryPrefix) (cie_offset : ℕ) (result : Result (Option ℕ) AllocError) (old new : List ℕ)
-    → fde_prefix s.section partial ≡ Ok (fde, prefix) → cie_offset ≡ partial.cie_offset
+pub listed_fde : (s : Setting) (partial : PartialFde) (fde : Fde) (read : Result Fde Error) (prefix : EntryPrefix) (cie_offset : ℕ) (result : Result PartEnd AllocError) (old new : List ℕ)
+    → read ≡ Ok fde → cie_offset ≡ partial.cie_offset
     → WritesPart (whole_fde_part s cie_offset fde prefix) old new result
-    → WritesPart (part_or_fault partial.head.offset (fde_part s partial)) old new result
-listed_fde s partial fde prefix cie_offset result old new read offset_is writes =
-    let is : whole_fde_part s cie_offset fde prefix ≡ part_or_fault partial.head.offset (fde_part s partial) =
-    ap (λ (n : ℕ). whole_fde_part s n fde prefix) offset_is
-    ∙ sym (ap (λ (r : Result (Fde × EntryPrefix) Error). part_or_fault partial.head.offset (r >>= (λ read. Ok (whole_fde_part s partial.cie_offset read.0 read.1)))) read) in
+    → WritesPart (fde_or_fault s partial prefix read) old new result
+listed_fde s partial fde read prefix cie_offset result old new read_is offset_is writes =
+    let is : whole_fde_part s cie_offset fde prefix ≡ fde_or_fault s partial prefix read =
+    ap (λ (n : ℕ). whole_fde_part s n fde prefix) offset_is ∙ sym (ap (fde_or_fault s partial prefix) read_is) in
     subst (λ (part : Part). WritesPart part old new result) is writes

@@ -1,5 +1,5 @@
 -- What a listing has of each entry: its line, and its table.
-use Rattle.std.specs.Prelude.{ℕ, ◌*◌, not, List, [], ◌++◌, codes, decimal, Option, Some, None, Result, Ok, Err}
+use Rattle.std.specs.Prelude.{ℕ, ◌*◌, not, Bool, true, false, List, [], ◌++◌, codes, decimal, Option, Some, None, Result, Ok, Err}
 use Rattle.std.specs.Fmt.{signed_decimal}
 use Rattle.json_program.specs.Lines.{hexadecimal, line}
 use Rattle.dwarf_constants.specs.Error.{variant_name}
@@ -31,20 +31,25 @@ pub record Setting : Type 0 where
 abbrev pub fault_text : Error → ℕ → List ℕ
 fault_text e offset = line (codes "fault " ++ variant_name e ++ codes " at " ++ hexadecimal offset)
 
--- the text of an entry, and the offset after it, or none if an error ends the listing
+-- the text of an entry, the offset after it, and whether it has no fault
 pub record Part : Type 0 where
   pub text : List ℕ
-  pub end : Option ℕ
+  pub end : ℕ
+  pub is_whole : Bool
 
 -- a text, and the line of the error, if there is one, of the entry at an offset, which ends at another
 abbrev pub part_with : ℕ → ℕ → List ℕ → Option Error → Part
-part_with offset end text None = record { text = text; end = Some end }
-part_with offset end text (Some e) = record { text = text ++ fault_text e offset; end = None }
+part_with offset end text None = record { text = text; end = end; is_whole = true }
+part_with offset end text (Some e) = record { text = text ++ fault_text e offset; end = end; is_whole = false }
 
--- a part, or else the line of a fault alone
+-- the line of a fault alone
+abbrev pub fault_part : ℕ → ℕ → Error → Part
+fault_part offset end e = part_with offset end [] (Some e)
+
+-- a part, or else the line of the error of an entry's beginning, with no byte of the entry read
 abbrev pub part_or_fault : ℕ → Result Part Error → Part
 part_or_fault offset (Ok part) = part
-part_or_fault offset (Err e) = record { text = fault_text e offset; end = None }
+part_or_fault offset (Err e) = fault_part offset offset e
 
 -- ---- what both kinds of entry have
 
@@ -151,18 +156,16 @@ whole_fde_part s cie_offset fde prefix =
     part_with fde.head.offset prefix.end (fde_line cie_offset fde prefix ++ table_text (fde_table s fde) (rows_of_fde s fde))
     (rows_of_fde s fde).refusal
 
--- an FDE with its CIE, and its prefix
-abbrev pub fde_prefix : FrameSection → PartialFde → Result (Fde × EntryPrefix) Error
-fde_prefix section partial = do
-  fde ← fde_of section.limit section.kind partial
-  prefix ← entry_prefix_at section partial.head.offset
-  Ok (fde, prefix)
+-- the text of an FDE, or the line of the error if it can't be read
+abbrev pub fde_or_fault : Setting → PartialFde → EntryPrefix → Result Fde Error → Part
+fde_or_fault s partial prefix (Ok fde) = whole_fde_part s partial.cie_offset fde prefix
+fde_or_fault s partial prefix (Err e) = fault_part partial.head.offset prefix.end e
 
--- the text of an FDE, or the error of its parts
+-- the text of an FDE, or the error of its prefix
 abbrev pub fde_part : Setting → PartialFde → Result Part Error
 fde_part s partial = do
-  read ← fde_prefix s.section partial
-  Ok (whole_fde_part s partial.cie_offset read.0 read.1)
+  prefix ← entry_prefix_at s.section partial.head.offset
+  Ok (fde_or_fault s partial prefix (fde_of s.section.limit s.section.kind partial))
 
 -- ---- either
 

@@ -9,10 +9,6 @@ use Rattle.frame_table.specs.declared.entry_prefix.EntryPrefix.{EntryPrefix as R
 abbrev pub prefix_view : {R : Type 0} → (R → Stretch) → Read R → EntryPrefix
 prefix_view stretch prefix = record { width = prefix.width; id = prefix.id; parts = stretch prefix.parts; end = prefix.end }
 
--- an FDE with a prefix of the code
-abbrev pub fde_and_prefix : {R Entry : Type 0} → (R → Stretch) → Entry × Read R → Entry × EntryPrefix
-fde_and_prefix stretch read = (read.0, prefix_view stretch read.1)
-
 -- a prefix of a CIE with the text of its augmentation
 abbrev pub cie_prefix_view : {R : Type 0} → (R → Stretch) → CiePrefix R → EntryPrefix × List ℕ
 cie_prefix_view stretch prefix = (prefix_view stretch prefix.entry, (stretch prefix.augmentation).bytes)

@@ -8,6 +8,7 @@ use Rattle.dwarf_frame_rows.specs.FrameSection.{FrameSection}
 use Rattle.frame_table.specs.Entries.{Part, Setting}
 use Rattle.frame_table.specs.Listing.{Listing}
 use Rattle.frame_table.specs.declared.listed.Listed.{Listed}
+use Rattle.frame_table.specs.declared.parts.PartEnd.{PartEnd}
 use Rattle.frame_table_text.specs.declared.names.Machine.{Machine}
 
 -- a setting of these parts
@@ -18,9 +19,13 @@ setting limits section vendor machine = record { section = section; vendor = ven
 abbrev pub setting_by : {S : Type 0} → (S → BaseAddresses → FrameSection) → (S → Vendor) → Limits → Listed S → Setting
 setting_by frame extensions limits listed = setting limits (frame listed.section.now listed.bases.now) (extensions listed.section.now) listed.machine
 
--- A call appended a part to a text, and returned the offset after its entry, or None if an error ends the listing there.
-abbrev pub WritesPart : {E : Type 0} → Part → List ℕ → List ℕ → Result (Option ℕ) E → Type 0
-WritesPart part old new result = IfOk result (λ end. (new ≡ old ++ part.text) × (end ≡ part.end))
+-- how a part ends, as the code has it
+abbrev pub end_of_part : Part → PartEnd
+end_of_part part = record { offset = part.end; is_whole = part.is_whole }
+
+-- A call appended a part to a text, and returned how it ends.
+abbrev pub WritesPart : {E : Type 0} → Part → List ℕ → List ℕ → Result PartEnd E → Type 0
+WritesPart part old new result = IfOk result (λ end. (new ≡ old ++ part.text) × (end ≡ end_of_part part))
 
 -- A call wrote a listing to a sink, and returned whether it has the whole section. After an error a prefix of the text is written.
 pub record WritesListing {E : Type 0} (listing : Listing) (old new : Option (List ℕ)) (result : Result Bool E) : Type 0 where

@@ -1,28 +1,24 @@
 -- The listing of a section.
-use Rattle.std.specs.Prelude.{ℕ, Bool, true, false, List, [], ◌∷◌, ◌++◌, Some, None, Result, Ok, Err}
+use Rattle.std.specs.Prelude.{ℕ, ◌&&◌, Bool, true, false, List, [], ◌∷◌, ◌++◌, Result, Ok, Err}
 use Rattle.dwarf_constants.specs.declared.error.Error.{Error}
 use Rattle.dwarf_frame_entries.specs.Entries.{AnyEntry}
 use Rattle.dwarf_frame_entries.specs.EntryLists.{entries_of}
 use Rattle.frame_table.specs.Entries.{Part, Setting, fault_text, listed_part}
 
--- a text, and whether it has all of a section, or ends at a fault
+-- a text, and whether it has all of a section, without a fault
 pub record Listing : Type 0 where
   pub text : List ℕ
   pub is_whole : Bool
 
--- the text of an entry, and after it, unless an error ends the listing, the listing from the offset after the entry
-abbrev pub behind_part : Part → (ℕ → Listing) → Listing
-behind_part part others =
-    elim part.end [
-      | None ↦ record { text = part.text; is_whole = false }
-      | Some end ↦ record { text = part.text ++ (others end).text; is_whole = (others end).is_whole }
-    ]
+-- the text of an entry, and after it the listing of the others
+abbrev pub after_part : Part → Listing → Listing
+after_part part others = record { text = part.text ++ others.text; is_whole = part.is_whole && others.is_whole }
 
--- the listing of entries, of which the first is at an offset
+-- the listing of entries, of which the first is at an offset; only an error in place of an entry, which is the last, ends it
 abbrev pub listing_from : Setting → ℕ → List (Result AnyEntry Error) → Listing
 listing_from s offset [] = record { text = []; is_whole = true }
 listing_from s offset (Err e ∷ rest) = record { text = fault_text e offset; is_whole = false }
-listing_from s offset (Ok entry ∷ rest) = behind_part (listed_part s entry) (λ end. listing_from s end rest)
+listing_from s offset (Ok entry ∷ rest) = after_part (listed_part s entry) (listing_from s (listed_part s entry).end rest)
 
 -- the listing of a section
 abbrev pub listing_of : Setting → Listing

@@ -10,7 +10,7 @@ ghost use Rattle.frame_table.specs.EntryPrefixViews.{cie_prefix_view, prefix_vie
 
 use crate::entry_prefix::{CiePrefix, augmentation_of, entry_prefix_at};
 use crate::listed::Listed;
-use crate::parts::{end_part, factors_of, push_fault, push_prefix, table_of};
+use crate::parts::{PartEnd, end_part, factors_of, push_fault, push_prefix, table_of};
 use dwarf_frame_entries::{
     BaseAddresses, CallFrameInstructionIter, CommonInformationEntry, UnwindContext,
     UnwindContextStorage, UnwindSection,
@@ -148,7 +148,7 @@ fn push_whole_cie<R: Reader, Section: UnwindSection<R>, S: UnwindContextStorage<
     cie: &CommonInformationEntry<R>,
     prefix: &CiePrefix<R>,
     text: &mut Vec<u8>,
-) -> Result<Option<u64>, AllocError>
+) -> Result<PartEnd, AllocError>
     ensures { let s = setting_by Section.frame Section.extensions S.limits listed.now in
         let view = cie_view R.stretch R.Offset.value cie.now in
         WritesPart (whole_cie_part s view (cie_prefix_view R.stretch prefix.now))
@@ -176,7 +176,7 @@ pub(crate) fn push_cie<R: Reader, Section: UnwindSection<R>, S: UnwindContextSto
     context: &mut UnwindContext<R::Offset, S>,
     cie: &CommonInformationEntry<R>,
     text: &mut Vec<u8>,
-) -> Result<Option<u64>, AllocError>
+) -> Result<PartEnd, AllocError>
     ensures { let s = setting_by Section.frame Section.extensions S.limits listed.now in
         let view = cie_view R.stretch R.Offset.value cie.now in
         WritesPart (part_or_fault view.head.offset (cie_part s view))
@@ -184,6 +184,9 @@ pub(crate) fn push_cie<R: Reader, Section: UnwindSection<R>, S: UnwindContextSto
 {
     match cie_prefix(listed.section, listed.bases, cie.offset()) {
         Ok(prefix) => push_whole_cie(alloc, listed, context, cie, &prefix, text),
-        Err(error) => push_fault(alloc, error, cie.offset().into_u64(), text),
+        Err(error) => {
+            let offset = cie.offset().into_u64();
+            push_fault(alloc, error, offset, offset, text)
+        }
     }
 }

@@ -1,18 +1,18 @@
 //! What a listing has of frame description entries.
 
 ghost use Rattle.std.specs.Prelude.{◌≡◌, ◌++◌, IfOk, OnOk};
-ghost use Rattle.dwarf_endianity.specs.Answers.{Gives};
+ghost use Rattle.dwarf_frame_entries.specs.Entries.{fde_of};
 ghost use Rattle.dwarf_frame_entries.specs.EntryPrograms.{fde_program};
 ghost use Rattle.dwarf_frame_instructions.specs.ProgramRows.{program_of};
 ghost use Rattle.dwarf_frame_rows.specs.Effects.{Limits};
-ghost use Rattle.frame_table.specs.Entries.{fde_prefix, fde_line, fde_places, fde_part, fde_table, part_or_fault, whole_fde_part};
+ghost use Rattle.frame_table.specs.Entries.{fde_line, fde_or_fault, fde_part, fde_places, fde_table, part_or_fault, whole_fde_part};
 ghost use Rattle.frame_table.specs.EntryWrites.{WritesPart, setting_by};
-ghost use Rattle.frame_table.specs.EntryPrefixViews.{fde_and_prefix, prefix_view};
+ghost use Rattle.frame_table.specs.EntryPrefixViews.{prefix_view};
 ghost use Rattle.frame_table_text.specs.TableViews.{table_view};
 
 use crate::entry_prefix::{EntryPrefix, entry_prefix_at};
 use crate::listed::Listed;
-use crate::parts::{end_part, factors_of, push_fault, push_prefix, table_of};
+use crate::parts::{PartEnd, end_part, factors_of, push_fault, push_prefix, table_of};
 use dwarf_frame_entries::{
     BaseAddresses, FrameDescriptionEntry, PartialFrameDescriptionEntry, UnwindContext,
     UnwindContextStorage, UnwindOffset, UnwindSection,
@@ -103,20 +103,6 @@ fn push_fde_line<R: Reader>(
     push_places(alloc, size, cie_offset, start, end, text)
 }
 
-// An FDE with its CIE, and its prefix.
-fn fde_prefix<R: Reader, Section: UnwindSection<R>>(
-    section: &Section,
-    bases: &BaseAddresses,
-    partial: &PartialFrameDescriptionEntry<'_, Section, R>,
-) -> dwarf_constants::Result<(FrameDescriptionEntry<R>, EntryPrefix<R>)>
-    ensures { Gives (fde_and_prefix R.stretch) result
-        (fde_prefix (Section.frame section.now bases.now) partial.now) }
-{
-    let fde = partial.parse_by_offset()?;
-    let prefix = entry_prefix_at(section, bases, partial.offset())?;
-    Ok((fde, prefix))
-}
-
 // Appends the text of an FDE whose prefix is read.
 fn push_whole_fde<R: Reader, Section: UnwindSection<R>, S: UnwindContextStorage<R::Offset>>(
     alloc: Global,
@@ -126,7 +112,7 @@ fn push_whole_fde<R: Reader, Section: UnwindSection<R>, S: UnwindContextStorage<
     fde: &FrameDescriptionEntry<R>,
     prefix: &EntryPrefix<R>,
     text: &mut Vec<u8>,
-) -> Result<Option<u64>, AllocError>
+) -> Result<PartEnd, AllocError>
     ensures { let s = setting_by Section.frame Section.extensions S.limits listed.now in
         WritesPart (whole_fde_part s cie_offset fde.now (prefix_view R.stretch prefix.now))
         text.old.items text.new.items result }
@@ -147,6 +133,32 @@ fn cie_offset_of<R: Reader, Section: UnwindSection<R>>(
     UnwindOffset::into(partial.cie_offset()).into_u64()
 }
 
+// Appends the text of an FDE whose prefix is read, or the line of the error if the FDE can't be read.
+fn push_fde_or_fault<R: Reader, Section: UnwindSection<R>, S: UnwindContextStorage<R::Offset>>(
+    alloc: Global,
+    listed: &Listed<'_, Section>,
+    context: &mut UnwindContext<R::Offset, S>,
+    partial: &PartialFrameDescriptionEntry<'_, Section, R>,
+    prefix: &EntryPrefix<R>,
+    text: &mut Vec<u8>,
+) -> Result<PartEnd, AllocError>
+    ensures { let s = setting_by Section.frame Section.extensions S.limits listed.now in
+        WritesPart (fde_or_fault s partial.now (prefix_view R.stretch prefix.now)
+        (fde_of R.Offset.limit Section.kind partial.now))
+        text.old.items text.new.items result }
+{
+    match partial.parse_by_offset() {
+        Ok(fde) => {
+            let cie_offset = cie_offset_of(partial);
+            push_whole_fde(alloc, listed, context, cie_offset, &fde, prefix, text)
+        }
+        Err(error) => {
+            let offset = partial.offset().into_u64();
+            push_fault(alloc, error, offset, prefix.end, text)
+        }
+    }
+}
+
 /// Appends the text of an FDE.
 pub(crate) fn push_fde<R: Reader, Section: UnwindSection<R>, S: UnwindContextStorage<R::Offset>>(
     alloc: Global,
@@ -154,16 +166,16 @@ pub(crate) fn push_fde<R: Reader, Section: UnwindSection<R>, S: UnwindContextSto
     context: &mut UnwindContext<R::Offset, S>,
     partial: &PartialFrameDescriptionEntry<'_, Section, R>,
     text: &mut Vec<u8>,
-) -> Result<Option<u64>, AllocError>
+) -> Result<PartEnd, AllocError>
     ensures { let s = setting_by Section.frame Section.extensions S.limits listed.now in
         WritesPart (part_or_fault partial.now.head.offset (fde_part s partial.now))
         text.old.items text.new.items result }
 {
-    match fde_prefix(listed.section, listed.bases, partial) {
-        Ok((fde, prefix)) => {
-            let cie_offset = cie_offset_of(partial);
-            push_whole_fde(alloc, listed, context, cie_offset, &fde, &prefix, text)
+    match entry_prefix_at(listed.section, listed.bases, partial.offset()) {
+        Ok(prefix) => push_fde_or_fault(alloc, listed, context, partial, &prefix, text),
+        Err(error) => {
+            let offset = partial.offset().into_u64();
+            push_fault(alloc, error, offset, offset, text)
         }
-        Err(error) => push_fault(alloc, error, partial.offset().into_u64(), text),
     }
 }

@@ -11,7 +11,7 @@ ghost use Rattle.frame_table.specs.Listing.{listing_of};
 use crate::cies::push_cie;
 use crate::fdes::push_fde;
 use crate::listed::Listed;
-use crate::parts::fault_text;
+use crate::parts::{PartEnd, fault_text};
 use dwarf_constants::Error;
 use dwarf_frame_entries::{CieOrFde, Entry, UnwindContext, UnwindContextStorage, UnwindSection};
 use dwarf_frame_rows::_UnwindSectionPrivate;
@@ -19,14 +19,14 @@ use dwarf_readers::Reader;
 use json_program::{RunError, Sink, write_all};
 use std::alloc::{AllocError, Global};
 
-// Appends the text of an entry, and returns the offset after it, unless an error ends the listing.
+// Appends the text of an entry.
 fn push_entry<R: Reader, Section: UnwindSection<R>, S: UnwindContextStorage<R::Offset>>(
     alloc: Global,
     listed: &Listed<'_, Section>,
     context: &mut UnwindContext<R::Offset, S>,
     entry: &CieOrFde<'_, Section, R>,
     text: &mut Vec<u8>,
-) -> Result<Option<u64>, AllocError>
+) -> Result<PartEnd, AllocError>
     ensures { let s = setting_by Section.frame Section.extensions S.limits listed.now in
         WritesPart (listed_part s (entry_view R.stretch R.Offset.value entry.now))
         text.old.items text.new.items result }
@@ -60,8 +60,8 @@ fn write_fault<W: Sink>(
     write_all(writer, line.as_bytes())
 }
 
-/// Writes the entries of a section with their rows, up to the first error, and returns whether these
-/// are all. What the context held before has no effect.
+/// Writes the entries of a section with their rows, and a line for each fault, and returns whether there is
+/// no fault. What the context held before has no effect.
 pub(crate) fn write_listing<
     R: Reader,
     Section: UnwindSection<R>,
@@ -79,6 +79,7 @@ pub(crate) fn write_listing<
     ensures errors { ReportsFailures result false (W.has_failed writer.new) }
 {
     let mut offset = start_of(listed.section);
+    let mut is_whole = true;
     let mut entries = listed.section.entries(listed.bases);
     'entries: loop {
         match entries.next() {
@@ -86,12 +87,10 @@ pub(crate) fn write_listing<
                 let mut text = Vec::new(alloc);
                 let end = push_entry(alloc, listed, context, &entry, &mut text)?;
                 write_all(writer, text.as_slice())?;
-                match end {
-                    Some(end) => offset = end,
-                    None => return Ok(false),
-                }
+                offset = end.offset;
+                is_whole &= end.is_whole;
             }
-            Ok(None) => return Ok(true),
+            Ok(None) => return Ok(is_whole),
             Err(error) => {
                 write_fault(alloc, error, offset, writer)?;
                 return Ok(false);

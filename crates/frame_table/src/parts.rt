@@ -1,10 +1,10 @@
 //! What both kinds of entry have in a listing.
 
-ghost use Rattle.std.specs.Prelude.{◌≡◌, ◌*◌, ◌++◌, IfOk, OnOk, List, ℕ, Err, string_bytes};
+ghost use Rattle.std.specs.Prelude.{◌≡◌, ◌*◌, ◌++◌, IfOk, OnOk, List, ℕ, string_bytes};
 ghost use Rattle.dwarf_readers.specs.Stretch.{Stretch};
 ghost use Rattle.dwarf_frame_entries.specs.EntryViews.{cie_view};
 ghost use Rattle.dwarf_frame_entries.specs.EntryPrograms.{factors_of};
-ghost use Rattle.frame_table.specs.Entries.{fault_text, prefix_text, id_digits, part_or_fault, part_with, entry_table};
+ghost use Rattle.frame_table.specs.Entries.{fault_part, fault_text, prefix_text, id_digits, part_with, entry_table};
 ghost use Rattle.frame_table.specs.EntryWrites.{WritesPart};
 ghost use Rattle.frame_table.specs.EntryPrefixViews.{prefix_view};
 ghost use Rattle.frame_table_text.specs.TableViews.{table_view};
@@ -18,6 +18,15 @@ use frame_table_text::{Machine, Table, add_columns, push_bytes, push_hex};
 use std::alloc::{AllocError, Global};
 use std::collections::BTreeSet;
 
+/// How the text of an entry ends.
+#[derive(Clone, Copy)]
+pub(crate) struct PartEnd {
+    /// The offset after the entry.
+    pub(crate) offset: u64,
+    /// Whether the entry has no fault.
+    pub(crate) is_whole: bool,
+}
+
 /// The line of a fault: the error's name, and the offset of the entry that has it.
 pub(crate) fn fault_text(alloc: Global, error: Error, offset: u64) -> Result<String, AllocError>
     ensures { IfOk result (λ text. string_bytes text ≡ fault_text error offset) }
@@ -25,18 +34,21 @@ pub(crate) fn fault_text(alloc: Global, error: Error, offset: u64) -> Result<Str
     format!(in alloc; "fault {error} at 0x{offset:x}\n")
 }
 
-/// Appends the line of a fault, which ends a listing.
+/// Appends the line of a fault.
 pub(crate) fn push_fault(
     alloc: Global,
     error: Error,
     offset: u64,
+    end: u64,
     text: &mut Vec<u8>,
-) -> Result<Option<u64>, AllocError>
-    ensures { WritesPart (part_or_fault offset (Err error))
-        text.old.items text.new.items result }
+) -> Result<PartEnd, AllocError>
+    ensures { WritesPart (fault_part offset end error) text.old.items text.new.items result }
 {
     push_bytes(text, fault_text(alloc, error, offset)?.as_bytes())?;
-    Ok(None)
+    Ok(PartEnd {
+        offset: end,
+        is_whole: false,
+    })
 }
 
 /// Ends the text of an entry: with the line of the error that ends its rows, if there is one.
@@ -46,14 +58,17 @@ pub(crate) fn end_part(
     offset: u64,
     end: u64,
     text: &mut Vec<u8>,
-) -> Result<Option<u64>, AllocError>
+) -> Result<PartEnd, AllocError>
     ensures { (before body : List ℕ) → text.old.items ≡ before ++ body
         → WritesPart (part_with offset end body refusal)
         before text.new.items result }
 {
     match refusal {
-        None => Ok(Some(end)),
-        Some(error) => push_fault(alloc, error, offset, text),
+        None => Ok(PartEnd {
+            offset: end,
+            is_whole: true,
+        }),
+        Some(error) => push_fault(alloc, error, offset, end, text),
     }
 }
 

@@ -24,7 +24,7 @@ use std::alloc::Global;
 pub enum Ending {
     /// All entries of the section are listed.
     Listed,
-    /// The document has a fault, or the section has, and then the entries before it are listed.
+    /// The document has a fault, or the section has, and then what can be read of it is listed.
     Faulty,
 }
 
@@ -41,7 +41,7 @@ impl Ending {
     }
 }
 
-// How a run ends that wrote a whole listing, or one that ends at a fault.
+// How a run ends that wrote a whole listing, or one with a fault.
 fn ending_by(is_whole: bool) -> Ending
     ensures { result ≡ ending_by is_whole }
 {
@@ -105,7 +105,7 @@ fn bases_from(start: u64) -> BaseAddresses
     .set_eh_frame(start)
 }
 
-// Writes the listing of a section, and returns whether it has the whole section.
+// Writes the listing of a section, and returns whether it has no fault.
 fn list<W: Sink>(alloc: Global, stated: &Stated, writer: &mut W) -> Result<bool, RunError>
     requires writer { W.has_failed writer.old ≡ false }
     requires size { IsTrue (is_size stated.now.address_size) }

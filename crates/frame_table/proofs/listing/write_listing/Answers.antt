@@ -1,4 +1,6 @@
 use Rattle.std.proofs.Common.{rules, ◌≡◌, ℕ, List, [], ◌++◌, false, sym, ap, subst, ◌∙◌}
+use Rattle.std.specs.Prelude.{◌&&◌}
+use Rattle.std.proofs.Math.Bool.{and-false, and_assoc}
 use Rattle.std.proofs.lemmas.List.{append-nil}
 use Rattle.json_program.proofs.Laws.{begun_line, not_failed, written_all, written_prefix, written_more, written_none}
 use Rattle.json_program.specs.Stream.{IsWritten}
@@ -8,7 +10,7 @@ use Rattle.dwarf_frame_entries.specs.EntryViews.{entry_view}
 use Rattle.frame_table.specs.Entries.{fault_text, listed_part}
 use Rattle.frame_table.specs.EntryWrites.{setting_by}
 use Rattle.frame_table.specs.Listing.{Listing, listing_from, listing_of}
-use Rattle.frame_table.proofs.Listings.{begins, ends_here, goes_on}
+use Rattle.frame_table.proofs.Listings.{goes_on}
 use Rattle.frame_table.proofs.Writes.{ends_as, stops_after}
 use Rattle.frame_table.proofs.listing.write_listing.Goals as goal
 
@@ -39,54 +41,41 @@ returns-in_err-write_all-in-Ok-Some-clause-listing g c =
     let limits = g.S.UnwindContextStorage.limits in
     let s = setting_by g.Section._UnwindSectionPrivate.frame g.Section._UnwindSectionPrivate.extensions limits c.args.listed.now in
     let entry = entry_view g.R.Reader.stretch g.R.Offset.ReaderOffset.value c.in-Ok-Some.entry in
+    let part = listed_part s entry in
     let list = rw c.in-Ok-Some.field-0-is at c.in-Ok-Some.ensures.list in
-    let more = begins s c.entries.offset c.entries.entries.entries c.next.new.self.entries entry list in
+    let more = goes_on s c.entries.offset c.entries.entries.entries c.next.new.self.entries entry list in
     let none : c.new-text.result.items ≡ [] = search rules in
-    let line : c.as_slice.result.now ≡ (listed_part s entry).text = c.as_slice.ensures.value ∙ c.in_ok-end-in-Ok-Some.ensures.0 ∙ ap (λ (xs : List ℕ). xs ++ (listed_part s entry).text) none in
+    let line : c.as_slice.result.now ≡ part.text = c.as_slice.ensures.value ∙ c.in_ok-end-in-Ok-Some.ensures.0 ∙ ap (λ (xs : List ℕ). xs ++ part.text) none in
+    let later = (listing_from s part.end c.next.new.self.entries).text in
     let all = (listing_of s).text in
     let old = g.W.Sink.contents c.args.writer.now in
     let mid = g.W.Sink.contents c.entries.writer in
-    let stands = subst (λ (t : List ℕ). IsWritten old mid t all) (more.1 ∙ ap (λ (xs : List ℕ). xs ++ more.0) (sym line)) c.entries.invariant.stands in
+    let stands = subst (λ (t : List ℕ). IsWritten old mid t all) (ap (λ (l : Listing). l.text) more ∙ ap (λ (xs : List ℕ). xs ++ later) (sym line)) c.entries.invariant.stands in
     stops_after c.from_residual-in_err-write_all-in-Ok-Some.result old (g.W.Sink.contents c.write_all.new.sink) (listing_of s) c.from_residual-in_err-write_all-in-Ok-Some.ensures.0
-    (begun_line old mid (g.W.Sink.contents c.write_all.new.sink) c.as_slice.result.now more.0 all stands c.in_err-write_all-in-Ok-Some.ensures.text.prefix)
-
-pub returns-in-None-clause-listing : goal.returns-in-None-clause-listing
-returns-in-None-clause-listing g c =
-    let limits = g.S.UnwindContextStorage.limits in
-    let s = setting_by g.Section._UnwindSectionPrivate.frame g.Section._UnwindSectionPrivate.extensions limits c.args.listed.now in
-    let entry = entry_view g.R.Reader.stretch g.R.Offset.ReaderOffset.value c.in-Ok-Some.entry in
-    let list = rw c.in-Ok-Some.field-0-is at c.in-Ok-Some.ensures.list in
-    let last = ends_here s c.entries.offset c.entries.entries.entries c.next.new.self.entries entry list (sym c.in_ok-end-in-Ok-Some.ensures.1 ∙ c.in-None.is) in
-    let none : c.new-text.result.items ≡ [] = search rules in
-    let line : c.as_slice.result.now ≡ (listed_part s entry).text = c.as_slice.ensures.value ∙ c.in_ok-end-in-Ok-Some.ensures.0 ∙ ap (λ (xs : List ℕ). xs ++ (listed_part s entry).text) none in
-    let all = (listing_of s).text in
-    let old = g.W.Sink.contents c.args.writer.now in
-    let mid = g.W.Sink.contents c.entries.writer in
-    let new = g.W.Sink.contents c.write_all.new.sink in
-    let stands = subst (λ (t : List ℕ). IsWritten old mid t all) (ap (λ (l : Listing). l.text) last ∙ sym line ∙ sym (append-nil c.as_slice.result.now)) c.entries.invariant.stands in
-    ends_as false old new (listing_of s) (written_all old new all (written_more old mid new c.as_slice.result.now [] all stands c.in_ok-write_all-in-Ok-Some.ensures.text.whole))
-    (sym (ap (λ (l : Listing). l.is_whole) last) ∙ c.entries.invariant.whole)
+    (begun_line old mid (g.W.Sink.contents c.write_all.new.sink) c.as_slice.result.now later all stands c.in_err-write_all-in-Ok-Some.ensures.text.prefix)
 
 pub entries-preserved : goal.entries-preserved
 entries-preserved g c =
     let limits = g.S.UnwindContextStorage.limits in
     let s = setting_by g.Section._UnwindSectionPrivate.frame g.Section._UnwindSectionPrivate.extensions limits c.args.listed.now in
     let entry = entry_view g.R.Reader.stretch g.R.Offset.ReaderOffset.value c.in-Ok-Some.entry in
+    let part = listed_part s entry in
     let list = rw c.in-Ok-Some.field-0-is at c.in-Ok-Some.ensures.list in
-    let more = goes_on s c.entries.offset c.in-Some.end c.entries.entries.entries c.next.new.self.entries entry list (sym c.in_ok-end-in-Ok-Some.ensures.1 ∙ c.in-Some.is) in
+    let others : Listing = listing_from s part.end c.next.new.self.entries in
+    let more = goes_on s c.entries.offset c.entries.entries.entries c.next.new.self.entries entry list in
     let none : c.new-text.result.items ≡ [] = search rules in
-    let line : c.as_slice.result.now ≡ (listed_part s entry).text = c.as_slice.ensures.value ∙ c.in_ok-end-in-Ok-Some.ensures.0 ∙ ap (λ (xs : List ℕ). xs ++ (listed_part s entry).text) none in
-    let later = (listing_from s c.in-Some.end c.next.new.self.entries).text in
+    let line : c.as_slice.result.now ≡ part.text = c.as_slice.ensures.value ∙ c.in_ok-end-in-Ok-Some.ensures.0 ∙ ap (λ (xs : List ℕ). xs ++ part.text) none in
     let all = (listing_of s).text in
     let old = g.W.Sink.contents c.args.writer.now in
     let mid = g.W.Sink.contents c.entries.writer in
     let new = g.W.Sink.contents c.write_all.new.sink in
-    let stands = subst (λ (t : List ℕ). IsWritten old mid t all) (ap (λ (l : Listing). l.text) more ∙ ap (λ (xs : List ℕ). xs ++ later) (sym line)) c.entries.invariant.stands in
-    record {
+    let stands = subst (λ (t : List ℕ). IsWritten old mid t all) (ap (λ (l : Listing). l.text) more ∙ ap (λ (xs : List ℕ). xs ++ others.text) (sym line)) c.entries.invariant.stands in
+    rw c.in_ok-end-in-Ok-Some.ensures.1
+    (record {
       failed = not_failed (g.W.Sink.has_failed c.write_all.new.sink) c.in_ok-write_all-in-Ok-Some.ensures.write;
-      stands = written_more old mid new c.as_slice.result.now later all stands c.in_ok-write_all-in-Ok-Some.ensures.text.whole;
-      whole = sym (ap (λ (l : Listing). l.is_whole) more) ∙ c.entries.invariant.whole;
-    }
+      stands = written_more old mid new c.as_slice.result.now others.text all stands c.in_ok-write_all-in-Ok-Some.ensures.text.whole;
+      whole = and_assoc c.entries.is_whole part.is_whole others.is_whole ∙ sym (ap (λ (l : Listing). c.entries.is_whole && l.is_whole) more) ∙ c.entries.invariant.whole;
+    })
 
 pub returns-in_err-write_fault-in-Err-clause-listing : goal.returns-in_err-write_fault-in-Err-clause-listing
 returns-in_err-write_fault-in-Err-clause-listing g c =
@@ -111,4 +100,4 @@ returns-in-Err-clause-listing g c =
     let new = g.W.Sink.contents c.write_fault.new.writer in
     let stands = subst (λ (t : List ℕ). IsWritten old mid t all) (ap (λ es. (listing_from s c.entries.offset es).text) c.in-Err.ensures.list.0 ∙ sym (append-nil line)) c.entries.invariant.stands in
     ends_as false old new (listing_of s) (written_all old new all (written_more old mid new line [] all stands c.in_ok-write_fault-in-Err.ensures.text.whole))
-    (sym (ap (λ es. (listing_from s c.entries.offset es).is_whole) c.in-Err.ensures.list.0) ∙ c.entries.invariant.whole)
+    (sym (and-false c.entries.is_whole) ∙ sym (ap (λ es. c.entries.is_whole && (listing_from s c.entries.offset es).is_whole) c.in-Err.ensures.list.0) ∙ c.entries.invariant.whole)

@@ -1,10 +1,11 @@
 use Rattle.std.proofs.Common.{◌≡◌, false, length}
+use Rattle.std.specs.Prelude.{◌&&◌}
 use Rattle.json_program.specs.Stream.{IsWritten}
 use Rattle.frame_table.specs.EntryWrites.{setting_by}
 use Rattle.frame_table.specs.Listing.{listing_from, listing_of}
 use Rattle.frame_table.proofs.listing.write_listing.Given as goal
 
--- what is written and the listing of the entries that are left make the whole listing
+-- what is written and the listing of the entries that are left make the whole listing, which has no fault if neither has
 abbrev pub invariant-entries : goal.invariant-entries
 invariant-entries g l =
     let limits = g.S.UnwindContextStorage.limits in
@@ -12,7 +13,7 @@ invariant-entries g l =
     record {
       failed : g.W.Sink.has_failed l.writer ≡ false;
       stands : IsWritten (g.W.Sink.contents l.fn.writer) (g.W.Sink.contents l.writer) (listing_from s l.offset l.entries.entries).text (listing_of s).text;
-      whole : (listing_from s l.offset l.entries.entries).is_whole ≡ (listing_of s).is_whole;
+      whole : (l.is_whole && (listing_from s l.offset l.entries.entries).is_whole) ≡ (listing_of s).is_whole;
     }
 
 abbrev pub decreases-entries : goal.decreases-entries

@@ -1,9 +1,11 @@
+use Rattle.frame_table.specs.EntryPrefixViews.{prefix_view}
 use Rattle.frame_table.specs.EntryWrites.{setting_by}
 use Rattle.frame_table.proofs.Entries.{listed_fde}
-use Rattle.frame_table.proofs.fdes.push_fde.Goals as goal
+use Rattle.frame_table.proofs.fdes.push_fde_or_fault.Goals as goal
 
 pub returns-in-Ok : goal.returns-in-Ok
 returns-in-Ok g c =
     let limits = g.S.UnwindContextStorage.limits in
     let s = setting_by g.Section._UnwindSectionPrivate.frame g.Section._UnwindSectionPrivate.extensions limits c.args.listed.now in
-    listed_fde s _ _ _ _ c.push_whole_fde.result _ _ c.in-Ok.ensures c.cie_offset_of-cie_offset.ensures c.push_whole_fde.ensures
+    let prefix = prefix_view g.R.Reader.stretch c.args.prefix.now in
+    listed_fde s c.args.partial.now _ _ prefix _ c.push_whole_fde.result _ _ c.in-Ok.ensures c.cie_offset_of-cie_offset.ensures c.push_whole_fde.ensures
