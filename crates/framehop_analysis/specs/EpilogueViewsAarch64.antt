@@ -2,7 +2,7 @@
 use Rattle.std.specs.Prelude.{ℕ, ◌≡◌, ◌≢◌, ◌<◌, ◌*◌, ◌^◌, ◌==◌, if◌then◌else◌, ℤ, pos, ◌+ℤ◌, List, Option, Some}
 use Rattle.framehop_analysis.specs.EpilogueInstructionsAarch64.{EpilogueInstruction, Load, Add, EpilogueFits, epilogue_word, immediate_word}
 use Rattle.framehop_analysis.specs.MachineAarch64.{access_offset, raise}
-use Rattle.framehop_analysis.specs.EpilogueAarch64.{raise_of_all, last_load_offset}
+use Rattle.framehop_analysis.specs.EpilogueAarch64.{IsEnd, raise_of_all, last_load_offset}
 use Rattle.framehop_analysis.specs.declared.aarch64.instruction_analysis.epilogue.Restored.{Restored}
 use Rattle.framehop_analysis.specs.declared.aarch64.instruction_analysis.epilogue.EpilogueInstructionType.{EpilogueInstructionType}
 use Rattle.framehop_analysis.specs.declared.aarch64.instruction_analysis.epilogue.EpilogueInstructionType.TheVariants.{LoadPair, AddToSp}
@@ -46,3 +46,7 @@ pub record Restores (instructions : List EpilogueInstruction) (restored : Restor
   pub raise : restored.raise ≡ raise_of_all instructions
   pub fp : restored.fp ≡ last_load_offset 29 instructions
   pub lr : restored.lr ≡ last_load_offset 30 instructions
+
+-- It is kept of the instructions that some bytes begin with, up to where the function is left.
+abbrev pub IsRestoredBy : List ℕ → Restored → Type 0
+IsRestoredBy bytes restored = (instructions : List EpilogueInstruction) × IsEnd bytes instructions × Restores instructions restored

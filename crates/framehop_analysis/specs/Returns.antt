@@ -9,7 +9,7 @@ use Rattle.framehop_rules.specs.declared.x86_64.unwind_rule.UnwindRuleX86_64.{Un
 use Rattle.framehop_analysis.specs.Instructions.{NoRex, Rex, Instruction, Push, Pop}
 use Rattle.framehop_analysis.specs.Epilogue.{IsEpilogue, epilogue_rule}
 use Rattle.framehop_analysis.specs.Prologue.{IsPrologue, prologue, prologue_rule}
-use Rattle.framehop_analysis.specs.Machine.{State}
+use Rattle.framehop_analysis.specs.Machine.{State, state_after, returned}
 
 -- The frame is where the machine is: its stack pointer and frame pointer are the machine's, and the words that can be read are
 -- those of the memory.
@@ -59,3 +59,11 @@ abbrev pub ReturnsTo : UnwindRuleX86_64 → State → State → Type 0
 ReturnsTo rule state after =
     (registers : UnwindRegsX86_64) (words : Words) (caller : Caller UnwindRegsX86_64)
     → IsAt state registers words → rule_meaning rule true registers words ≡ Answers caller → HasReturned after caller
+
+-- By the rule of an epilogue a frame at any state returns to where the machine is once it has executed the epilogue.
+abbrev pub EpilogueReturns : List Instruction → UnwindRuleX86_64 → Type 0
+EpilogueReturns list rule = (state : State) → ReturnsTo rule state (state_after list state)
+
+-- By the rule of a prologue a frame returns to where the machine is after a return from the state before the prologue.
+abbrev pub PrologueReturns : List Instruction → UnwindRuleX86_64 → Type 0
+PrologueReturns list rule = (before : State) → HasRoom before list → ReturnsTo rule (state_after list before) (returned before)

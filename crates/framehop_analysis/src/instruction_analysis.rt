@@ -8,10 +8,10 @@ use framehop_rules::Arch;
 /// Tells from machine code what to do in a first frame, whose address may be anywhere in its function.
 /// `text_bytes` are bytes of code, and `pc_offset` is where among them the next instruction begins.
 pub trait InstructionAnalysis: Arch {
-    /// The rules of prologues that stand at an offset of some bytes.
+    /// The rules of prologues that are at an offset of some bytes.
     ghost IsPrologueRule: { List ℕ → ℕ → Self.UnwindRule → Type 0 };
 
-    /// The rules of epilogues that stand at an offset of some bytes.
+    /// The rules of epilogues that are at an offset of some bytes.
     ghost IsEpilogueRule: { List ℕ → ℕ → Self.UnwindRule → Type 0 };
 
     /// The rule of the prologue at the offset, if there is one.

@@ -16,7 +16,7 @@ pub fn rules_of_parts()
     ensures { (operations : List OffsetOrPop) → IsRuleFor operations (rule_of_parts operations) }
 {}
 
-/// Where the rule of what is undone gives a caller, its return address and its sixteen registers are those to which the
+/// If the rule of what is undone gives a caller, its return address and its sixteen registers are those to which the
 /// machine leads that undoes the codes, or runs the epilog, one by one.
 pub fn rules_undo_one_by_one()
     ensures { (undo : ToUndo) (rule : UnwindRuleX86_64)
@@ -25,7 +25,7 @@ pub fn rules_undo_one_by_one()
     rules_of_sequences();
 }
 
-/// Where the reverse of a rule's sequence led from a state before to the present one, and the rule gives a caller by
+/// If the reverse of a rule's sequence led from a state before to the present one, and the rule gives a caller by
 /// words that are part of the present memory, its return address and its sixteen registers are those after a return from
 /// the state before.
 pub fn rules_undo_prologs()

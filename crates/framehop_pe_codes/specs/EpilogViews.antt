@@ -10,10 +10,13 @@ pub record IsEpilog (frame_register : Option Reg) (epilog : Epilog) (bytes : Lis
   pub popped : pops_of epilog.rest.now ≡ Some pops
   pub is : epilog_of frame_register bytes ≡ Some (record { adjustment = epilog.adjustment; pops = pops })
 
--- If the bytes are pops up to an end, this holds of what is left of the epilog.
+-- If the bytes are pops up to an end, this holds of their registers.
+abbrev pub OverPops : List ℕ → (List Reg → Type 0) → Type 0
+OverPops bytes says = (registers : List Reg) → pops_of bytes ≡ Some registers → says registers
+
+-- .. and this of what is left of the epilog.
 abbrev pub OverEpilog : Epilog → (EpilogLeft → Type 0) → Type 0
-OverEpilog epilog says =
-    (pops : List Reg) → pops_of epilog.rest.now ≡ Some pops → says (record { adjustment = epilog.adjustment; pops = pops })
+OverEpilog epilog says = OverPops epilog.rest.now (λ pops. says (record { adjustment = epilog.adjustment; pops = pops }))
 
 -- The first of the registers that are popped, and the bytes of the others.
 pub record IsPoppedFirst (registers : List Reg) (register : Reg) (rest : List ℕ) : Type 0 where

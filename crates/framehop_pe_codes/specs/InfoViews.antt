@@ -5,7 +5,7 @@ use Rattle.framehop_pe_codes.specs.Codes.{codes_of}
 use Rattle.framehop_pe_codes.specs.Infos.{InfoHeader, Info, header_of, with_codes, info_at, chain_from, operations_of}
 use Rattle.framehop_pe_codes.specs.CodesToUndo.{CodesToUndo}
 use Rattle.framehop_pe_codes.specs.Refusals.{PeResult, result_and_then, or_refusal}
-use Rattle.framehop_pe_codes.specs.Sections.{Memory, file_of, unwind_info_memory}
+use Rattle.framehop_pe_codes.specs.Sections.{Memory, info_memory}
 use Rattle.framehop_pe_codes.specs.declared.info.UnwindInfo.{UnwindInfo}
 use Rattle.framehop_pe_codes.specs.declared.chain.CodesLeft.{CodesLeft}
 use Rattle.framehop_pe_codes.specs.declared.listing.PrologCodes.{PrologCodes}
@@ -30,6 +30,10 @@ pub record IsFirst (info : UnwindInfo) (first : Info) : Type 0 where
   pub codes : codes_of (is_some info.frame_register) info.codes.now ≡ Some first.codes
   pub is : first ≡ with_codes (header_seen info) first.codes
 
+-- If the info in memory is the first of a chain, this holds of its value.
+abbrev pub OverFirst : UnwindInfo → (Info → Type 0) → Type 0
+OverFirst info says = (first : Info) → IsFirst info first → says first
+
 -- The info in memory is the first of a chain, at an address.
 pub record IsFirstAt (memory : Memory) (info : UnwindInfo) (address : ℕ) : Type 0 where
   pub first : Info
@@ -40,7 +44,7 @@ pub record IsFirstAt (memory : Memory) (info : UnwindInfo) (address : ℕ) : Typ
 abbrev pub operations_left : CodesLeft → PeResult (List UnwindOperation)
 operations_left left =
     result_and_then (or_refusal UnwindInfoParseError (codes_of left.is_framed left.codes.now)) (λ codes.
-    result_and_then (chain_from left.infos (unwind_info_memory (file_of left.sections)) left.is_first_framed left.chained) (λ infos.
+    result_and_then (chain_from left.infos (info_memory left.sections) left.is_first_framed left.chained) (λ infos.
     Ok (operations_of codes ++ flat_map (λ info. operations_of info.codes) infos)))
 
 -- If the codes that are left can all be read, this holds of their operations.

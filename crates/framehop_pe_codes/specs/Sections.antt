@@ -57,6 +57,10 @@ abbrev pub unwind_info_memory : PeFile → Memory
 unwind_info_memory file address =
     or_refusal (MissingUnwindInfoData address) (option_or (section_bytes file.rdata address) (section_bytes file.xdata address))
 
+-- Those of sections that are lent.
+abbrev pub info_memory : PeSections → Memory
+info_memory sections = unwind_info_memory (file_of sections)
+
 -- The code from an address on.
 abbrev pub text_memory : PeFile → ℕ → PeResult (List ℕ)
 text_memory file address =

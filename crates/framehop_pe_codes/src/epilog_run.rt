@@ -1,11 +1,10 @@
 //! Runs of epilogs.
 
-ghost use Rattle.std.specs.Prelude.{◌≡◌, ◌≤◌, ◌<◌, pos, ◌+ℤ◌, true, false, [], length, List, Some, None, IfSome, IsSome, IfErr, OnErr};
+ghost use Rattle.std.specs.Prelude.{◌≡◌, ◌≤◌, ◌<◌, pos, ◌+ℤ◌, true, false, [], length, Some, None, IfSome, IsSome, IfErr, OnErr};
 ghost use Rattle.framehop_registers.specs.Callback.{OverWords};
-ghost use Rattle.framehop_registers.specs.declared.x86_64.unwindregs.Reg.{Reg};
 ghost use Rattle.framehop_pe_codes.specs.Epilogs.{pops_of, pop_of, is_end};
 ghost use Rattle.framehop_pe_codes.specs.EpilogRuns.{caller_by_pops, moved, adjusted, caller_by_epilog};
-ghost use Rattle.framehop_pe_codes.specs.EpilogViews.{IsPoppedFirst, OverEpilog};
+ghost use Rattle.framehop_pe_codes.specs.EpilogViews.{IsPoppedFirst, OverEpilog, OverPops};
 ghost use Rattle.framehop_pe_codes.specs.MachineViews.{caller_seen, registers_seen, IsStepTo};
 ghost use Rattle.framehop_pe_codes.specs.Refusals.{IsOfStack};
 
@@ -36,9 +35,9 @@ fn run_pops<F: FnMut(u64) -> Result<u64, ()>>(
     requires callable { F.IsAlwaysCallable read_stack.old }
     requires pops { IsSome (pops_of bytes.now) }
     ensures callable { F.IsAlwaysCallable read_stack.new }
-    ensures run { OverWords F.step read_stack.old read_stack.new (λ words. (registers : List Reg)
-        → pops_of bytes.now ≡ Some registers
-        → caller_seen result regs.new ≡ caller_by_pops registers regs.old words) }
+    ensures run { OverWords F.step read_stack.old read_stack.new (λ words.
+        OverPops bytes.now (λ registers.
+        caller_seen result regs.new ≡ caller_by_pops registers regs.old words)) }
     ensures refusal { IfErr result IsOfStack }
 {
     let mut rest = bytes;
@@ -108,10 +107,9 @@ pub fn unwind_by_epilog<F: FnMut(u64) -> Result<u64, ()>>(
 
 /// The register that an epilog pops next, and the bytes after that pop; `None` at its end.
 pub fn next_popped(bytes: &[u8]) -> Option<(Reg, &[u8])>
-    ensures end { result ≡ None → (registers : List Reg) → pops_of bytes.now ≡ Some registers
-        → registers ≡ [] }
-    ensures pop { IfSome result (λ found. (registers : List Reg)
-        → pops_of bytes.now ≡ Some registers → IsPoppedFirst registers found.0 found.1.now) }
+    ensures end { result ≡ None → OverPops bytes.now (λ registers. registers ≡ []) }
+    ensures pop { IfSome result (λ found.
+        OverPops bytes.now (λ registers. IsPoppedFirst registers found.0 found.1.now)) }
     ensures less { IfSome result (λ found. length found.1.now < length bytes.now) }
 {
     if is_end(bytes) {

@@ -3,12 +3,12 @@
 ghost use Rattle.std.specs.Prelude.{◌≡◌, IfOk, IfErr, OnErr, Err, true};
 ghost use Rattle.framehop_registers.specs.Callback.{OverWords};
 ghost use Rattle.framehop_pe_codes.specs.CodesToUndo.{operations_from, codes_to_undo};
-ghost use Rattle.framehop_pe_codes.specs.Infos.{Info, info_at};
-ghost use Rattle.framehop_pe_codes.specs.InfoViews.{operations_left, IsFirst, IsFirstAt, IsChainRead, OverCodes};
+ghost use Rattle.framehop_pe_codes.specs.Infos.{info_at};
+ghost use Rattle.framehop_pe_codes.specs.InfoViews.{operations_left, IsFirstAt, IsChainRead, OverCodes, OverFirst};
 ghost use Rattle.framehop_pe_codes.specs.Machine.{caller_by_codes};
 ghost use Rattle.framehop_pe_codes.specs.MachineViews.{IsStepTo};
 ghost use Rattle.framehop_pe_codes.specs.Refusals.{IsOfStack};
-ghost use Rattle.framehop_pe_codes.specs.Sections.{file_of, unwind_info_memory};
+ghost use Rattle.framehop_pe_codes.specs.Sections.{info_memory};
 
 use crate::chain::{CodesLeft, ran_codes};
 use crate::info::{UnwindInfo, read_info};
@@ -33,8 +33,8 @@ pub fn first_info<'a>(
     sections: PeSections<'a>,
     address: u32,
 ) -> Result<UnwindInfo<'a>, PeUnwinderError>
-    ensures ok { IfOk result (λ info. IsFirstAt (unwind_info_memory (file_of sections.entry)) info address) }
-    ensures err { IfErr result (λ e. info_at (unwind_info_memory (file_of sections.entry)) true address ≡ Err e) }
+    ensures ok { IfOk result (λ info. IsFirstAt (info_memory sections.entry) info address) }
+    ensures err { IfErr result (λ e. info_at (info_memory sections.entry) true address ≡ Err e) }
 {
     let bytes = sections.unwind_info_memory_at_rva(address)?;
     match read_info(true, bytes) {
@@ -45,8 +45,8 @@ pub fn first_info<'a>(
 
 // The codes to undo of a chain by its first info, at an offset in the function.
 fn codes_from<'a>(sections: PeSections<'a>, info: UnwindInfo<'a>, offset: u32) -> CodesLeft<'a>
-    ensures { (first : Info) → IsFirst info.entry first
-        → operations_left result ≡ operations_from (unwind_info_memory (file_of sections.entry)) first offset }
+    ensures { OverFirst info.entry (λ first.
+        operations_left result ≡ operations_from (info_memory sections.entry) first offset) }
 {
     let is_framed = info.frame_register.is_some();
     CodesLeft {
@@ -65,10 +65,10 @@ pub fn read_chain<'a>(
     info: UnwindInfo<'a>,
     offset: u32,
 ) -> Result<PrologCodes<'a>, PeUnwinderError>
-    ensures ok { IfOk result (λ codes. (first : Info) → IsFirst info.entry first
-        → IsChainRead codes (codes_to_undo (unwind_info_memory (file_of sections.entry)) first offset)) }
-    ensures err { IfErr result (λ e. (first : Info) → IsFirst info.entry first
-        → codes_to_undo (unwind_info_memory (file_of sections.entry)) first offset ≡ Err e) }
+    ensures ok { IfOk result (λ codes. OverFirst info.entry (λ first.
+        IsChainRead codes (codes_to_undo (info_memory sections.entry) first offset))) }
+    ensures err { IfErr result (λ e. OverFirst info.entry (λ first.
+        codes_to_undo (info_memory sections.entry) first offset ≡ Err e)) }
 {
     let left = codes_from(sections, info, offset);
     let is_set = has_set_frame(left)?;

@@ -4,7 +4,7 @@ ghost use Rattle.std.specs.Prelude.{◌≡◌, ◌+◌, Some, None, IfErr, ℕ};
 ghost use Rattle.framehop_errors.specs.declared.pe.PeUnwinderError.TheVariants.{MissingStackData};
 ghost use Rattle.framehop_registers.specs.Callback.{OverWords};
 ghost use Rattle.framehop_pe_codes.specs.Machine.{above, below, word_or, by_frame, save_base, raised, popped, framed, restored, error_code_size, interrupted, undone, returned};
-ghost use Rattle.framehop_pe_codes.specs.MachineViews.{undone_seen, registers_seen, caller_seen};
+ghost use Rattle.framehop_pe_codes.specs.MachineViews.{LeavesAs, ReturnsAs, UndoesAs, registers_seen};
 ghost use Rattle.framehop_pe_codes.specs.Refusals.{IsOfStack};
 
 use crate::operation::UnwindOperation;
@@ -22,7 +22,7 @@ pub struct FrameBase {
     pub is_set: bool,
 }
 
-// So many bytes above an address.
+// The address a number of bytes above another.
 #[inline(always)]
 fn above(base: u64, bytes: u64) -> Result<u64, PeUnwinderError>
     ensures sum { result ≡ above base bytes }
@@ -32,7 +32,7 @@ fn above(base: u64, bytes: u64) -> Result<u64, PeUnwinderError>
         .ok_or(PeUnwinderError::MissingStackData(None))
 }
 
-// So many bytes below an address.
+// The address a number of bytes below another.
 #[inline(always)]
 fn below(base: u64, bytes: u64) -> Result<u64, PeUnwinderError>
     ensures difference { result ≡ below base bytes }
@@ -103,9 +103,8 @@ pub(crate) fn pop<F: FnMut(u64) -> Result<u64, ()>>(
 ) -> Result<(), PeUnwinderError>
     requires { F.IsAlwaysCallable read_stack.old }
     ensures callable { F.IsAlwaysCallable read_stack.new }
-    ensures popped { OverWords F.step read_stack.old read_stack.new (λ words.
-        registers_seen result regs.new
-        ≡ popped (MissingStackData told) register regs.old words) }
+    ensures popped { LeavesAs F.step read_stack.old read_stack.new result regs.new
+        (popped (MissingStackData told) register regs.old) }
     ensures refusal { IfErr result IsOfStack }
 {
     let sp = regs.sp();
@@ -126,9 +125,8 @@ fn restore<F: FnMut(u64) -> Result<u64, ()>>(
 ) -> Result<(), PeUnwinderError>
     requires { F.IsAlwaysCallable read_stack.old }
     ensures callable { F.IsAlwaysCallable read_stack.new }
-    ensures restored { OverWords F.step read_stack.old read_stack.new (λ words.
-        registers_seen result regs.new
-        ≡ restored frame.now register offset regs.old words) }
+    ensures restored { LeavesAs F.step read_stack.old read_stack.new result regs.new
+        (restored frame.now register offset regs.old) }
     ensures refusal { IfErr result IsOfStack }
 {
     let base = save_base(frame, regs)?;
@@ -153,8 +151,8 @@ fn interrupt<F: FnMut(u64) -> Result<u64, ()>>(
 ) -> Result<u64, PeUnwinderError>
     requires { F.IsAlwaysCallable read_stack.old }
     ensures callable { F.IsAlwaysCallable read_stack.new }
-    ensures interrupted { OverWords F.step read_stack.old read_stack.new (λ words.
-        caller_seen result regs.new ≡ interrupted has_error_code regs.old words) }
+    ensures interrupted { ReturnsAs F.step read_stack.old read_stack.new result regs.new
+        (interrupted has_error_code regs.old) }
     ensures refusal { IfErr result IsOfStack }
 {
     let at = above(regs.sp(), error_code_size(has_error_code))?;
@@ -182,8 +180,8 @@ pub(crate) fn return_to_caller<F: FnMut(u64) -> Result<u64, ()>>(
 ) -> Result<u64, PeUnwinderError>
     requires { F.IsAlwaysCallable read_stack.old }
     ensures callable { F.IsAlwaysCallable read_stack.new }
-    ensures returned { OverWords F.step read_stack.old read_stack.new (λ words.
-        caller_seen result regs.new ≡ returned regs.old words) }
+    ensures returned { ReturnsAs F.step read_stack.old read_stack.new result regs.new
+        (returned regs.old) }
     ensures refusal { IfErr result IsOfStack }
 {
     let sp = regs.sp();
@@ -202,8 +200,8 @@ pub(crate) fn undo<F: FnMut(u64) -> Result<u64, ()>>(
 ) -> Result<Option<u64>, PeUnwinderError>
     requires { F.IsAlwaysCallable read_stack.old }
     ensures callable { F.IsAlwaysCallable read_stack.new }
-    ensures undone { OverWords F.step read_stack.old read_stack.new (λ words.
-        undone_seen result regs.new ≡ undone frame.now operation regs.old words) }
+    ensures undone { UndoesAs F.step read_stack.old read_stack.new result regs.new
+        (undone frame.now operation regs.old) }
     ensures refusal { IfErr result IsOfStack }
 {
     match operation {

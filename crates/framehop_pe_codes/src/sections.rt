@@ -21,7 +21,7 @@ pub struct DataAtRvaRange<'a> {
 pub struct PeSections<'a> {
     /// The rows of functions, `.pdata`.
     pub pdata: &'a [u8],
-    /// Whether the rows of `.pdata` are known to increase. It may be true only where they do (`pdata_is_increasing`).
+    /// Whether the rows of `.pdata` are known to increase. It may be true only if they do (`pdata_is_increasing`).
     pub increasing: bool,
     /// `.rdata`, where unwind info is sought first.
     pub rdata: Option<&'a DataAtRvaRange<'a>>,

@@ -35,10 +35,10 @@ found_by sources cfa own rule.Architectural = None
 found_by sources cfa own (rule.Constant n) = None
 
 -- the value that was found: a number, or the word at an address, if it can be read
-abbrev pub found_in : Words → Found → Option ℕ
-found_in words (Value value) = Some value
-found_in words (Word at) = words at
+abbrev pub value_found : Words → Found → Option ℕ
+value_found words (Value value) = Some value
+value_found words (Word at) = words at
 
 -- the value that a register rule gives, if it gives one
 abbrev pub column_by : Sources → Words → (cfa own : ℕ) → RegisterRule ℕ → Option ℕ
-column_by sources words cfa own column = option_and_then (found_in words) (found_by sources cfa own column)
+column_by sources words cfa own column = option_and_then (value_found words) (found_by sources cfa own column)

@@ -1,5 +1,5 @@
 -- The attempt at a step by a row of call frames, on any architecture.
-use Rattle.std.specs.Prelude.{◌≡◌, ◌≢◌, ℕ, Bool, Option, Some, None, Result, Ok, Err}
+use Rattle.std.specs.Prelude.{◌≡◌, ◌≢◌, ℕ, Bool, Option, Some, None, OnErr, Result, Ok, Err}
 use Rattle.dwarf_readers.specs.Stretch.{Stretch}
 use Rattle.framehop_registers.specs.Callback.{Words, OverWords}
 use Rattle.framehop_rules.specs.Outcome.{Caller}
@@ -49,6 +49,14 @@ abbrev pub direct_trial : {Registers : Type 0} → Registers → Result (Caller 
     → Result ℕ DwarfUnwinderError × Registers
 direct_trial registers (Ok caller) = (Ok caller.return_address, caller.registers)
 direct_trial registers (Err failure) = (Err failure, registers)
+
+-- A step by the parts of a row, which took the callback from `old` to `new` and the registers from `before` to `after`, has the return
+-- address and the registers of the caller that the parts give, unless memory ran out; and an error leaves the registers.
+pub record AnswersCaller {Registers S : Type 0} (step : S → ℕ → Result ℕ (Unit {0}) → S → Type 0) (old new : S)
+    (before after : Registers) (result : Result ℕ DwarfUnwinderError)
+    (caller : Registers → Words → Result (Caller Registers) DwarfUnwinderError) : Type 0 where
+  pub answer : OverWords step old new (λ words. result ≢ Err why.OutOfMemory → (result, after) ≡ direct_trial before (caller before words))
+  pub registers : OnErr result (after ≡ before)
 
 -- the step by the caller that a row gives, or why it gives none
 abbrev pub trial_of_row_caller : {Rule Registers : Type 0} → Registers → Result (Caller Registers) DwarfUnwinderError

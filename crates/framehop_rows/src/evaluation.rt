@@ -6,7 +6,7 @@ ghost use Rattle.dwarf_readers.specs.InitialLength.{is_size};
 ghost use Rattle.framehop_registers.specs.Callback.{OverWords};
 ghost use Rattle.dwarf_frame_instructions.specs.InstructionViews.{expression_as};
 ghost use Rattle.dwarf_frame_instructions.specs.StateViews.{cfa_as, rule_as};
-ghost use Rattle.framehop_rows.specs.Columns.{found_by, found_in};
+ghost use Rattle.framehop_rows.specs.Columns.{found_by, value_found};
 ghost use Rattle.framehop_rows.specs.RowValues.{Evaluates, EvaluatesOver, cfa_in, column_in};
 ghost use Rattle.framehop_rows.specs.ExpressionValue.{program_value};
 ghost use Rattle.framehop_rows.specs.RowParts.{column_as};
@@ -214,7 +214,7 @@ fn read_found<F: FnMut(u64) -> Result<u64, ()>>(found: Found, read_stack: &mut F
     requires { F.IsAlwaysCallable read_stack.old }
     ensures callable { F.IsAlwaysCallable read_stack.new }
     ensures value { OverWords F.step read_stack.old read_stack.new (λ words.
-        result ≡ found_in words found) }
+        result ≡ value_found words found) }
 {
     match found {
         Found::Value(value) => Some(value),

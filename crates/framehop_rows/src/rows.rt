@@ -1,12 +1,11 @@
 //! Steps by the parts of rows, on any architecture.
 
-ghost use Rattle.std.specs.Prelude.{◌≡◌, ◌≢◌, ℕ, Option, Err, IfErr, IfSome, OnErr};
+ghost use Rattle.std.specs.Prelude.{◌≡◌, ℕ, Option, Err, IfErr, IfSome};
 ghost use Rattle.dwarf_constants.specs.declared.common.Register.{Register};
 ghost use Rattle.dwarf_frame_instructions.specs.Execution.{row_in};
-ghost use Rattle.framehop_registers.specs.Callback.{OverWords};
 ghost use Rattle.framehop_rules.specs.UnwindResults.{HasValidRule};
 ghost use Rattle.framehop_rows.specs.Memory.{HasExpressionPart, TakesMemory};
-ghost use Rattle.framehop_rows.specs.RowAttempt.{AnswersRow, DirectAnswer, MeetsExpressionPart, attempt_by_parts, direct_trial};
+ghost use Rattle.framehop_rows.specs.RowAttempt.{AnswersCaller, AnswersRow, DirectAnswer, MeetsExpressionPart, attempt_by_parts};
 ghost use Rattle.framehop_rows.specs.RowErrors.{IsOfRow};
 ghost use Rattle.framehop_rows.specs.RowParts.{parts_as, parts_of};
 ghost use Rattle.framehop_errors.specs.declared.dwarf.DwarfUnwinderError.TheVariants.{OutOfMemory};
@@ -67,11 +66,9 @@ pub(crate) trait PartsUnwinding: Arch {
     ) -> Result<u64, DwarfUnwinderError>
         requires { F.IsAlwaysCallable read_stack.old }
         ensures callable { F.IsAlwaysCallable read_stack.new }
-        ensures trial { OverWords F.step read_stack.old read_stack.new (λ words.
-            result ≢ Err OutOfMemory → (result, regs.new) ≡ direct_trial regs.old
-            (direct_answer S.Stack.capacity encoding.address_size is_first_frame regs.old words
-            (R.stretch (Section.reader section.now)) (parts_as R.Offset.value parts.now))) }
-        ensures keeps { OnErr result (regs.new ≡ regs.old) }
+        ensures caller { AnswersCaller F.step read_stack.old read_stack.new regs.old regs.new result
+            (λ regs words. direct_answer S.Stack.capacity encoding.address_size is_first_frame regs words
+            (R.stretch (Section.reader section.now)) (parts_as R.Offset.value parts.now)) }
         ensures refusals { IfErr result IsOfRow }
         ensures expression { result ≡ Err OutOfMemory
             → HasExpressionPart (parts_as R.Offset.value parts.now) }

@@ -6,7 +6,7 @@ ghost use Rattle.framehop_analysis.specs.Found.{IsFound};
 ghost use Rattle.framehop_analysis.specs.LookBackAarch64.{IsEpilogueRule};
 ghost use Rattle.framehop_analysis.specs.MachineAarch64.{raise, access_offset};
 ghost use Rattle.framehop_analysis.specs.EpilogueAarch64.{IsEnd, IsRuleFor, FieldsFit};
-ghost use Rattle.framehop_analysis.specs.EpilogueViewsAarch64.{IsTypeOfWord, SpellsNone, Restores, raise_of_type, load_offset_after};
+ghost use Rattle.framehop_analysis.specs.EpilogueViewsAarch64.{IsTypeOfWord, SpellsNone, IsRestoredBy, raise_of_type, load_offset_after};
 ghost use Rattle.framehop_rules.specs.declared.aarch64.unwind_rule.UnwindRuleAarch64.{UnwindRuleAarch64};
 
 use crate::aarch64::instruction_analysis::branches::{auth_tail_call_words, is_branch};
@@ -141,8 +141,7 @@ fn is_left(bytes: &[u8], restored: Restored) -> bool
 
 /// What is restored by the instructions that some bytes begin with, up to where the function is left.
 pub fn restored_by_epilogue(bytes: &[u8]) -> Option<Restored>
-    ensures restored { IfSome result (λ restored. (instructions : List EpilogueInstruction)
-        × IsEnd bytes.now instructions × Restores instructions restored) }
+    ensures restored { IfSome result (IsRestoredBy bytes.now) }
     ensures none { IfNone result ((instructions : List EpilogueInstruction) → IsEnd bytes.now instructions → ⊥) }
 {
     let mut restored = Restored {

@@ -37,7 +37,7 @@ pub fn first_word(bytes: &[u8]) -> Option<(u32, &[u8])>
     Some((u32::from_le_bytes(*word), suffix))
 }
 
-/// The word that some bytes end with, and what stands before it.
+/// The word that some bytes end with, and the bytes before it.
 pub fn last_word(bytes: &[u8]) -> Option<(&[u8], u32)>
     ensures bytes { MatchOption result (length bytes.now < 4) (λ last. bytes.now ≡ last.0.now ++ to_le_bytes w32 last.1) }
     ensures fits { IfSome result (λ last. last.1 < 2 ^ 32) }

@@ -23,7 +23,7 @@ returns-in-Ok-clause-answers g c =
     answers-by_caller a.scaled_rule a.direct_answer c.args.is_first_frame g.S.Stack.ArrayLike.capacity c.args.encoding.address_size section
     a.fp a.ra c.frame_pointer.result c.return_address.result (row_in number c.args.row.now) (parts_as number c.parts_of_row-parts.result)
     c.frame_pointer.ensures c.return_address.ensures c.parts_of_row-parts.ensures
-    _ _ c.args.regs.now c.unwind_by_parts.new.regs c.in-Ok.return_address c.in_default.ensures.rule c.in-Ok.ensures.trial
+    _ _ c.args.regs.now c.unwind_by_parts.new.regs c.in-Ok.return_address c.in_default.ensures.rule c.in-Ok.ensures.caller.answer
 
 pub returns-in-Err-clause-answers : goal.returns-in-Err-clause-answers
 returns-in-Err-clause-answers g c =
@@ -33,7 +33,7 @@ returns-in-Err-clause-answers g c =
     answers-by_refusal a.scaled_rule a.direct_answer c.args.is_first_frame g.S.Stack.ArrayLike.capacity c.args.encoding.address_size section
     a.fp a.ra c.frame_pointer.result c.return_address.result (row_in number c.args.row.now) (parts_as number c.parts_of_row-parts.result)
     c.frame_pointer.ensures c.return_address.ensures c.parts_of_row-parts.ensures
-    _ _ c.args.regs.now c.unwind_by_parts.new.regs c.in-Err.error c.in_default.ensures.rule c.in-Err.ensures.keeps c.in-Err.ensures.trial
+    _ _ c.args.regs.now c.unwind_by_parts.new.regs c.in-Err.error c.in_default.ensures.rule c.in-Err.ensures.caller.registers c.in-Err.ensures.caller.answer
 
 pub returns-in-Err-clause-expression : goal.returns-in-Err-clause-expression
 returns-in-Err-clause-expression g c h =
