@@ -13,6 +13,7 @@ pub mod RowAttemptX86_64
 pub mod RowErrors
 pub mod RowMeanings
 pub mod RowParts
+pub mod RowRules
 pub mod RowSources
 pub mod RowValues
 pub mod RuleFields

@@ -6,9 +6,11 @@ pub mod aarch64;
 mod dwarf;
 mod evaluation;
 mod parts;
+mod row_rules;
 mod rows;
 mod rule_fields;
 pub mod x86_64;
 
 pub use dwarf::DwarfUnwinding;
 pub use evaluation::{DwarfUnwindRegs, eval_cfa_rule, eval_register_rule};
+pub use row_rules::RowRules;
