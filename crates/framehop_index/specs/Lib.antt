@@ -2,5 +2,6 @@ pub mod CfiIndex
 pub mod CfiIndexView
 pub mod EntryFor
 pub mod FrameSections
+pub mod IndexSpans
 pub mod LastCie
 pub mod Lookups

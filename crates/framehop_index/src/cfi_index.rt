@@ -16,13 +16,13 @@ use dwarf_read_core::{LittleEndian, Reader, ReaderOffset};
 use framehop_errors::DwarfCfiIndexError;
 use std::alloc::{AllocError, Global};
 
-// What the index keeps of an FDE.
+/// What an index keeps of an FDE.
 #[derive(Debug, Clone, Copy, PartialEq, Eq)]
-struct IndexedFde {
-    // The first address of the code, relative to the base.
-    start: u32,
-    // The FDE's offset in the section, in bytes.
-    offset: u32,
+pub struct IndexedFde {
+    /// The first address of the code, relative to the base.
+    pub start: u32,
+    /// The FDE's offset in the section, in bytes.
+    pub offset: u32,
 }
 
 // What the index keeps of an FDE, if it can hold it.
@@ -184,7 +184,9 @@ pub struct DwarfCfiIndex {
 }
 
 impl DwarfCfiIndex {
+    ghost use Rattle.dwarf_frame_rows.specs.FrameSection.{FrameSection};
     ghost use Rattle.framehop_index.specs.CfiIndexView.{IsIndexOf, IsOffsetByIndex, LeavesOut, ReadsEnough, ReadsFew};
+    ghost use Rattle.framehop_index.specs.IndexSpans.{HasInSpans};
 
     /// The index of a section. Its starts are relative to `base_svma`; the section's pointers are relative
     /// to `bases`. An FDE that can't be read, by itself or by its CIE, is left out, and so is one whose start
@@ -234,6 +236,16 @@ impl DwarfCfiIndex {
     {
         let section = DebugFrame::new(debug_frame_data, LittleEndian);
         DwarfCfiIndex::try_new(alloc, &section, bases, base_svma)
+    }
+
+    /// The FDEs, in the order of their starts. Of equal starts the first in the section is the last.
+    pub fn fdes(&self) -> &[IndexedFde]
+        ensures fdes { result.now ≡ self.now.fdes.items }
+        ensures found { (base : ℕ) (section : FrameSection) → IsIndexOf self.now base section
+            → HasInSpans result.now base section }
+        ensures ordered { IsNonDecreasingBy (λ fde. fde.start) result.now }
+    {
+        &self.fdes
     }
 
     /// How many FDEs of the section are left out, since they can't be read or the index can't hold them.

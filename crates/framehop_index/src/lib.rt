@@ -8,7 +8,7 @@ mod cfi_index;
 mod last_cie;
 mod lookups;
 
-pub use cfi_index::{DwarfCfiIndex, IndexLookup};
+pub use cfi_index::{DwarfCfiIndex, IndexLookup, IndexedFde};
 pub use dwarf_frame_entries::BaseAddresses;
 pub use framehop_errors::DwarfCfiIndexError;
 pub use lookups::{containing_fde, fde_at, headed_offset};
