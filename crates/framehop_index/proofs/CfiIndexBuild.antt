@@ -8,7 +8,7 @@ use Rattle.std.proofs.lemmas.Bool.{and_parts}
 use Rattle.std.proofs.lemmas.Bool.Decides.{nat_tests}
 use Rattle.std.proofs.lemmas.List.{append-nil, append_assoc, length-map, length-reverse}
 use Rattle.std.proofs.lemmas.List.Elements.{All-nil, All-cons, All-head, All-tail}
-use Rattle.std.proofs.lemmas.List.Sorted.{All-permutation, IsPermutation-sym, IsPermutation-reverse, length_permutation}
+use Rattle.std.proofs.lemmas.List.Sorted.{All-permutation, IsPermutation-sym, IsPermutation-reverse, IsPermutation-trans, length_permutation}
 use Rattle.std.proofs.lemmas.List.Sums.{sum_by-cons}
 use Rattle.dwarf_constants.specs.declared.error.Error.{Error}
 use Rattle.dwarf_frame_rows.specs.FrameSection.{FrameSection}
@@ -173,6 +173,7 @@ module _ (base : ℕ) (section : FrameSection) (ys : List IndexedFde) (others : 
     has = with-index;
     finds = λ a. rw with-index (by a (last_of (filter (λ y. nat_le y.start a) ys)) refl);
     count = length_permutation (reverse kept) ys moved ∙ length-reverse kept ∙ length-map (indexed_fdes base section) (index_entry base);
+    moved = IsPermutation-trans kept (reverse kept) ys (IsPermutation-reverse kept) moved;
     leaves = leaves;
   }
     where

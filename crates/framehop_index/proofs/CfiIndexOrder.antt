@@ -16,7 +16,7 @@ either y (z ∷ zs) x h others alone = others h
 
 module _ {X : Type 0} (q : X → Bool) where
   -- where none passes, the filter is empty
-  filter-empty : (xs : List X) → ((k : ℕ) (d : X) → k < length xs → q (get_or xs k d) ≡ false) → filter q xs ≡ []
+  pub filter-empty : (xs : List X) → ((k : ℕ) (d : X) → k < length xs → q (get_or xs k d) ≡ false) → filter q xs ≡ []
   filter-empty [] fails = refl
   filter-empty (x ∷ xs) fails = rw (fails 0 x (omega arith)) (filter-empty xs (λ k d h. fails (suc k) d (omega arith)))
 

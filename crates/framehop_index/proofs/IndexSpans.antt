@@ -1,6 +1,6 @@
 -- Which FDE an index has from one start to the next.
-use Rattle.std.proofs.Common.{◌≡◌, ℕ, ◌+◌, ◌<◌, ◌≤◌, Bool, true, false, List, [], ◌∷◌, length, get_or, Option, Some, None, Result, Ok, Err, refl, sym, ap, subst, ◌∙◌, arith}
-use Rattle.std.specs.Prelude.{nat_le, nat_lt, option_map, suc}
+use Rattle.std.proofs.Common.{◌≡◌, ℕ, ◌+◌, ◌≤◌, Bool, true, List, [], ◌∷◌, get_or, Option, Some, None, Result, Ok, refl, sym, ap, subst, ◌∙◌, arith}
+use Rattle.std.specs.Prelude.{nat_le, option_map}
 use Rattle.std.specs.List.{filter, find}
 use Rattle.std.specs.List.Sorted.{IsNonDecreasingBy}
 use Rattle.std.proofs.lemmas.Bool.Decides.{nat_tests}
@@ -11,9 +11,9 @@ use Rattle.dwarf_frame_entries.specs.Entries.{Fde, fde_from_offset}
 use Rattle.list_laws.specs.Greatest.{is_greatest}
 use Rattle.list_laws.proofs.Laws.{by_case}
 use Rattle.framehop_index.specs.declared.cfi_index.IndexedFde.{IndexedFde}
-use Rattle.framehop_index.specs.CfiIndex.{Indexes, offset_by_index}
+use Rattle.framehop_index.specs.CfiIndex.{Indexes}
 use Rattle.framehop_index.specs.EntryFor.{has_index, indexed_entry, indexed_fdes}
-use Rattle.framehop_index.specs.IndexSpans.{HasInSpans, IsInSpan}
+use Rattle.framehop_index.specs.IndexSpans.{HasInSpans}
 use Rattle.framehop_index.proofs.CfiIndexOrder.{last-at, last-none}
 use Rattle.framehop_index.proofs.EntryPlaces.{indexed-there}
 

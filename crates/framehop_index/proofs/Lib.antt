@@ -4,5 +4,6 @@ pub mod EntryIndex
 pub mod EntryPlaces
 pub mod Halves
 pub mod IndexSpans
+pub mod Rising
 pub mod Scans
 pub mod WholeFdes

@@ -1,6 +1,7 @@
 -- What an index of a section's FDEs is made of.
 use Rattle.std.specs.Prelude.{◌≡◌, ◌≢◌, ℕ, ◌-◌, List, length, map, true, Option, Some, None, option_map, Result, Ok, Err, nat_le, if◌then◌else◌}
 use Rattle.std.specs.List.{filter}
+use Rattle.std.specs.List.Sorted.{IsPermutation}
 use Rattle.list_laws.specs.Last.{last_of}
 use Rattle.dwarf_constants.specs.declared.error.Error.{Error}
 use Rattle.dwarf_frame_rows.specs.FrameSection.{FrameSection}
@@ -38,9 +39,10 @@ abbrev pub offset_by_index : List IndexedFde → (relative : ℕ) → Option ℕ
 offset_by_index kept relative = option_map (λ fde. fde.offset) (last_of (filter (λ fde. nat_le fde.start relative) kept))
 
 -- These are kept by an index of the section, and so many FDEs are left out: the section has an index, for each address they give the
--- offset of its FDE, and there are as many as FDEs that the index holds.
+-- offset of its FDE, and they are what is kept of the FDEs that the index holds, in some order.
 pub record Indexes (kept : List IndexedFde) (others : ℕ) (base : ℕ) (section : FrameSection) : Type 0 where
   pub has : has_index section ≡ true
   pub finds : (relative : ℕ) → offset_by_index kept relative ≡ option_map (λ fde. fde.head.offset) (indexed_entry base relative section)
   pub count : length kept ≡ length (indexed_fdes base section)
+  pub moved : IsPermutation (map (index_entry base) (indexed_fdes base section)) kept
   pub leaves : others ≡ left_out base section

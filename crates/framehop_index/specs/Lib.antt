@@ -5,3 +5,4 @@ pub mod FrameSections
 pub mod IndexSpans
 pub mod LastCie
 pub mod Lookups
+pub mod Rising

@@ -1,11 +1,12 @@
 //! The index of a section of call frames, by which the FDE for an address is found.
 
-ghost use Rattle.std.specs.Prelude.{◌≡◌, ◌<◌, ◌≤◌, ◌^◌, ◌+◌, ◌*◌, ℕ, suc, length, nat_le, if◌then◌else◌};
+ghost use Rattle.std.specs.Prelude.{◌≡◌, ◌<◌, ◌≤◌, ◌^◌, ◌+◌, ◌*◌, ℕ, suc, length, nat_le, if◌then◌else◌, IfOk, IsTrue};
 ghost use Rattle.std.specs.List.Sorted.{IsNonDecreasingBy, IsPartitionPoint};
 ghost use Rattle.dwarf_frame_entries.specs.Entries.{fde_of};
 ghost use Rattle.framehop_index.specs.LastCie.{IsLastCie};
 ghost use Rattle.framehop_index.specs.FrameSections.{eh_frame_of, debug_frame_of};
 ghost use Rattle.framehop_index.specs.CfiIndex.{IsMadeOf, KeepsAll, entry_held, entry_kept};
+ghost use Rattle.framehop_index.specs.Rising.{IsSortedFromBack, RisesBy};
 
 use crate::last_cie::{LastCie, fde_by_last};
 use dwarf_frame_entries::{
@@ -101,6 +102,33 @@ fn kept_fdes<R: Reader, Section: UnwindSection<R>>(
             None => left_out += 1,
         }
     }
+}
+
+// Whether each FDE starts above the one before it.
+fn starts_rise(fdes: &[IndexedFde]) -> bool
+    ensures { IsTrue result → RisesBy (λ fde. fde.start) fdes.now }
+{
+    let mut rising = 1;
+    'rising: while rising < fdes.len() {
+        if fdes[rising].start <= fdes[rising - 1].start {
+            return false;
+        }
+        rising += 1;
+    }
+    true
+}
+
+// FDEs in the order of their starts, and of equal starts the last before the first. Most sections have them in
+// that order already, each start above the one before.
+fn in_order(mut fdes: Vec<IndexedFde>) -> Result<Vec<IndexedFde>, AllocError>
+    ensures { IfOk result (λ sorted. IsSortedFromBack fdes.items sorted.items) }
+{
+    if starts_rise(&fdes) {
+        return Ok(fdes);
+    }
+    fdes.reverse();
+    fdes.sort_by_key(|fde| fde.start)?;
+    Ok(fdes)
 }
 
 // How many FDEs of an index start at or below an address, and how many starts were read to find out.
@@ -202,9 +230,8 @@ impl DwarfCfiIndex {
         ensures { IsMadeOf result IsIndexOf base_svma
             (Section.frame section.now bases.now) }
     {
-        let KeptFdes { mut fdes, left_out } = kept_fdes(alloc, section, bases, base_svma)?;
-        fdes.reverse();
-        fdes.sort_by_key(|fde| fde.start)?;
+        let KeptFdes { fdes, left_out } = kept_fdes(alloc, section, bases, base_svma)?;
+        let fdes = in_order(fdes)?;
         Ok(DwarfCfiIndex { fdes, left_out })
     }
 

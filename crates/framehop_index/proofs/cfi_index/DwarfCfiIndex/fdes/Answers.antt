@@ -1,6 +1,3 @@
-use Rattle.std.proofs.Common.{List, sym, subst}
-use Rattle.framehop_index.specs.declared.cfi_index.IndexedFde.{IndexedFde}
-use Rattle.framehop_index.specs.IndexSpans.{HasInSpans}
 use Rattle.framehop_index.proofs.IndexSpans.{in-spans}
 use Rattle.framehop_index.proofs.cfi_index.DwarfCfiIndex.fdes.Goals as goal
 
