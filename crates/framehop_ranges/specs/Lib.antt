@@ -1,0 +1,5 @@
+pub mod Blocks
+pub mod Ranges
+pub mod RangeTables
+pub mod RangeValues
+pub mod Rises

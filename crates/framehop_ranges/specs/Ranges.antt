@@ -1,0 +1,25 @@
+-- Ranges of addresses and their values, while a table is built.
+use Rattle.std.specs.Prelude.{◌≡◌, ◌<◌, ◌≤◌, ◌+◌, ℕ, length, max}
+use Rattle.std.specs.List.{All}
+use Rattle.framehop_ranges.specs.declared.ranges.Ranges.{Ranges}
+use Rattle.framehop_ranges.specs.RangeValues.{value_in}
+use Rattle.framehop_ranges.specs.Rises.{Rises}
+
+-- the value at an address
+abbrev pub range_at : {V : Type 0} → Ranges V → ℕ → V
+range_at ranges address = value_in ranges.before ranges.starts.items ranges.values.items address
+
+-- the ranges have a value each, rise, and start below the end of the last
+pub record Sound {V : Type 0} (ranges : Ranges V) : Type 0 where
+  pub paired : length ranges.starts.items ≡ length ranges.values.items
+  pub rises : Rises ranges.starts.items
+  pub below : All (λ start. start < ranges.done) ranges.starts.items
+
+-- These ranges have the values of the old ones below the end of those, and from there up to another end one value.
+pub record Extends {V : Type 0} (old : Ranges V) (end : ℕ) (value : V) (ranges : Ranges V) : Type 0 where
+  pub sound : Sound ranges
+  pub same : ranges.before ≡ old.before
+  pub done : ranges.done ≡ max old.done end
+  pub few : length ranges.values.items ≤ length old.values.items + 1
+  pub below : (address : ℕ) → address < old.done → range_at ranges address ≡ range_at old address
+  pub from : (address : ℕ) → old.done ≤ address → address < ranges.done → range_at ranges address ≡ value
