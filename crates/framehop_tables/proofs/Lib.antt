@@ -1,0 +1,4 @@
+pub mod AttemptLaws
+pub mod IndexLaws
+pub mod RoomLaws
+pub mod RowLaws

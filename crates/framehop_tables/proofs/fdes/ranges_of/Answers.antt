@@ -1,0 +1,57 @@
+-- The FDEs of the index, one after the other.
+use Rattle.std.proofs.Common.{◌<◌, List, length, get_or, arith, refl, sym, subst, ◌∙◌}
+use Rattle.std.specs.Prelude.{IfOk}
+use Rattle.std.proofs.lemmas.Result.{IfOk-weaker}
+use Rattle.framehop_index.specs.declared.cfi_index.IndexedFde.{IndexedFde}
+use Rattle.framehop_tables.specs.declared.spans.Span.{Span}
+use Rattle.framehop_tables.specs.Covered.{tabulated}
+use Rattle.framehop_tables.specs.Tabulations.{AreOf}
+use Rattle.framehop_tables.proofs.IndexLaws.{all-said, next-done, next-few, next-says, says-none}
+use Rattle.framehop_tables.proofs.fdes.ranges_of.Goals as goal
+
+pub loop-place-init : goal.loop-place-init
+loop-place-init g c =
+    let frame = g.Section._UnwindSectionPrivate.frame c.args.section.now c.args.bases.now in
+    let t = tabulated g.A.DwarfUnwinding.rows g.A.RowRules.rule_of g.S.UnwindContextStorage.limits (g.Section._UnwindSectionPrivate.extensions c.args.section.now) c.args.base_svma frame in
+    let spans = c.fdes-fdes.ensures.found c.args.base_svma frame c.requires.index in
+    let start = rw c.end_of-end.ensures at c.start_at.ensures.start in
+    record {
+      sound = c.new-ranges.ensures.sound;
+      done = c.new-ranges.ensures.done ∙ c.start_at.ensures.start;
+      few = omega (arith, c.new-ranges.ensures.none);
+      says = λ relative below.
+          c.new-ranges.ensures.value relative ∙ sym (says-none t c.fdes-fdes.result.now spans c.fdes-fdes.ensures.ordered relative (omega (arith, below, c.new-ranges.ensures.done, start)));
+    }
+
+pub loop-place-preserved : goal.loop-place-preserved
+loop-place-preserved g c =
+    let frame = g.Section._UnwindSectionPrivate.frame c.args.section.now c.args.bases.now in
+    let t = tabulated g.A.DwarfUnwinding.rows g.A.RowRules.rule_of g.S.UnwindContextStorage.limits (g.Section._UnwindSectionPrivate.extensions c.args.section.now) c.args.base_svma frame in
+    let kept = c.fdes-fdes.result.now in
+    let up = c.fdes-fdes.ensures.ordered in
+    let spans = c.fdes-fdes.ensures.found c.args.base_svma frame c.requires.index in
+    let known = c.loop-place.invariant in
+    let d : IndexedFde = record { start = 0; offset = 0 } in
+    let span : Span = record { base_svma = c.args.base_svma; offset = (get_or kept c.loop-place.place d).offset; limit = c.start_at-in-loop-place.result } in
+    let within : c.loop-place.place < length kept = omega (arith, c.loop-place-test.true) in
+    let limit = rw c.end_of-end.ensures at c.start_at-in-loop-place.ensures.start in
+    let done = rw c.end_of-end.ensures at known.done in
+    let adds = c.in_ok-ranges.ensures in
+    record {
+      sound = adds.sound;
+      done = rw c.end_of-end.ensures (next-done t kept spans up c.loop-place.place d within span c.loop-place.ranges c.in_ok-ranges.ranges refl refl limit done adds);
+      few = next-few t kept spans up c.loop-place.place d within span c.loop-place.ranges c.in_ok-ranges.ranges refl refl limit done adds known.few;
+      says = next-says t kept spans up c.loop-place.place d within span c.loop-place.ranges c.in_ok-ranges.ranges refl refl limit done adds known.says;
+    }
+
+pub returns : goal.returns
+returns g c =
+    let frame = g.Section._UnwindSectionPrivate.frame c.args.section.now c.args.bases.now in
+    let t = tabulated g.A.DwarfUnwinding.rows g.A.RowRules.rule_of g.S.UnwindContextStorage.limits (g.Section._UnwindSectionPrivate.extensions c.args.section.now) c.args.base_svma frame in
+    let spans = c.fdes-fdes.ensures.found c.args.base_svma frame c.requires.index in
+    let known = c.loop-place.invariant in
+    let done = rw c.end_of-end.ensures at known.done in
+    subst (λ (kept : List IndexedFde). IfOk c.extend.result (AreOf t kept)) c.fdes-fdes.ensures.fdes
+    (IfOk-weaker c.extend.result _ _
+    (λ new extends. all-said t c.fdes-fdes.result.now spans c.fdes-fdes.ensures.ordered c.loop-place.place c.loop-place.ranges new (omega arith) extends done known.few known.says)
+    c.extend.ensures)

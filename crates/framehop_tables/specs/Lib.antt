@@ -1,0 +1,4 @@
+pub mod Covered
+pub mod IndexAttempts
+pub mod RuleTables
+pub mod Tabulations

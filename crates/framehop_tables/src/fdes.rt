@@ -1,0 +1,169 @@
+//! What the FDEs of an index say of relative addresses.
+
+ghost use Rattle.std.specs.Prelude.{◌≡◌, ◌≤◌, ◌^◌, IfOk};
+ghost use Rattle.dwarf_frame_entries.specs.Entries.{fde_from_offset};
+ghost use Rattle.dwarf_frame_entries.specs.EntryPrograms.{factors_of, fde_program, fde_rows};
+ghost use Rattle.dwarf_frame_entries.specs.EntryViews.{cie_view};
+ghost use Rattle.dwarf_frame_instructions.specs.ProgramRows.{program_of};
+ghost use Rattle.framehop_index.specs.CfiIndexView.{IsIndexOf};
+ghost use Rattle.framehop_ranges.specs.Ranges.{Sound};
+ghost use Rattle.framehop_tables.specs.Covered.{row_rules, tabulated};
+ghost use Rattle.framehop_tables.specs.Tabulations.{AddsEntry, AddsRows, AreOf, end_of, start_at};
+
+use crate::covered::{Covered, SameRule};
+use crate::rows::with_rows;
+use crate::spans::Span;
+use dwarf_frame_entries::{
+    BaseAddresses, CommonInformationEntry, FrameDescriptionEntry, UnwindContext, UnwindContextStorage,
+    UnwindSection,
+};
+use dwarf_frame_instructions::{Factors, FrameProgram, ProgramRows};
+use dwarf_readers::Reader;
+use framehop_index::{DwarfCfiIndex, IndexedFde, fde_at};
+use framehop_ranges::Ranges;
+use framehop_rows::RowRules;
+use std::alloc::{AllocError, Global};
+
+// What operands are multiplied by, and the size of an address, in the programs of a CIE.
+fn factors_of<R: Reader>(cie: &CommonInformationEntry<R>) -> Factors
+    ensures { result ≡ factors_of (cie_view R.stretch R.Offset.value cie.now) }
+{
+    Factors {
+        code_alignment_factor: cie.code_alignment_factor(),
+        data_alignment_factor: cie.data_alignment_factor(),
+        address_size: cie.address_size(),
+    }
+}
+
+// The program of an FDE.
+fn program_of_fde<'a, R: Reader, Section: UnwindSection<R>>(
+    section: &'a Section,
+    bases: &'a BaseAddresses,
+    fde: &FrameDescriptionEntry<R>,
+) -> FrameProgram<'a, R>
+where
+    R: 'a,
+    ensures { program_of result ≡ fde_program (Section.frame section.now bases.now)
+        (Section.extensions section.now) fde.now }
+{
+    FrameProgram {
+        factors: factors_of(fde.cie()),
+        initial_address: fde.initial_address(),
+        end_address: fde.end_address(),
+        initial_instructions: fde.cie().instructions(section, bases),
+        instructions: fde.instructions(section, bases),
+    }
+}
+
+// Adds what an FDE says up to the limit of a span.
+fn with_fde<
+    A: RowRules,
+    R: Reader,
+    Section: UnwindSection<R>,
+    S: UnwindContextStorage<R::Offset>,
+>(
+    ranges: Ranges<Covered<A::UnwindRule>>,
+    section: &Section,
+    bases: &BaseAddresses,
+    context: &mut UnwindContext<R::Offset, S>,
+    fde: &FrameDescriptionEntry<R>,
+    span: Span,
+) -> Result<Ranges<Covered<A::UnwindRule>>, AllocError>
+where
+    A::UnwindRule: SameRule,
+    requires fixed { S.never_allocates }
+    requires sound { Sound ranges }
+    requires fits { span.limit ≤ 2 ^ 32 }
+    ensures { let frame = Section.frame section.now bases.now in
+        let rows = fde_rows S.limits frame (Section.extensions section.now) fde.now in
+        IfOk result (AddsRows (row_rules A.rows A.rule_of) span rows ranges) }
+{
+    match ProgramRows::new(context, program_of_fde(section, bases, fde)) {
+        Ok(mut rows) => with_rows::<A, R, S>(ranges, &mut rows, span),
+        Err(_) => {
+            let uncovered = Covered::Says(A::rule_if_uncovered_by_fde());
+            ranges.extend(span.limit, uncovered)
+        }
+    }
+}
+
+// Adds what is at the offset of a span: what an FDE says there, or nothing if none can be read.
+fn with_entry<
+    A: RowRules,
+    R: Reader,
+    Section: UnwindSection<R>,
+    S: UnwindContextStorage<R::Offset>,
+>(
+    ranges: Ranges<Covered<A::UnwindRule>>,
+    section: &Section,
+    bases: &BaseAddresses,
+    context: &mut UnwindContext<R::Offset, S>,
+    span: Span,
+) -> Result<Ranges<Covered<A::UnwindRule>>, AllocError>
+where
+    A::UnwindRule: SameRule,
+    requires fixed { S.never_allocates }
+    requires sound { Sound ranges }
+    requires fits { span.limit ≤ 2 ^ 32 }
+    ensures { let frame = Section.frame section.now bases.now in
+        let t = tabulated A.rows A.rule_of S.limits (Section.extensions section.now) span.base_svma in
+        IfOk result (AddsEntry (t frame) span (fde_from_offset frame span.offset) ranges) }
+{
+    match fde_at(section, bases, span.offset) {
+        Ok(fde) => with_fde::<A, R, Section, S>(ranges, section, bases, context, &fde, span),
+        Err(_) => ranges.extend(span.limit, Covered::Nothing),
+    }
+}
+
+// The relative addresses up to here have 64 bits.
+fn end_of(base_svma: u64) -> u64
+    ensures { result ≡ end_of base_svma }
+{
+    (u64::MAX - base_svma).min((1 << 32) - 1) + 1
+}
+
+// Where the FDE at a place of an index starts; after the last the addresses end.
+fn start_at(end: u64, fdes: &[IndexedFde], place: usize) -> u64
+    ensures start { result ≡ start_at end fdes.now place }
+    ensures fits { result ≤ end }
+{
+    match fdes.get(place) {
+        Some(fde) => u64::from(fde.start).min(end),
+        None => end,
+    }
+}
+
+// What the FDEs of an index say of each relative address.
+pub(crate) fn ranges_of<
+    A: RowRules,
+    R: Reader,
+    Section: UnwindSection<R>,
+    S: UnwindContextStorage<R::Offset>,
+>(
+    alloc: Global,
+    section: &Section,
+    bases: &BaseAddresses,
+    context: &mut UnwindContext<R::Offset, S>,
+    index: &DwarfCfiIndex,
+    base_svma: u64,
+) -> Result<Ranges<Covered<A::UnwindRule>>, AllocError>
+where
+    A::UnwindRule: SameRule,
+    requires fixed { S.never_allocates }
+    requires index { IsIndexOf index.now base_svma (Section.frame section.now bases.now) }
+    ensures { let t = tabulated A.rows A.rule_of S.limits (Section.extensions section.now) base_svma in
+        IfOk result (AreOf (t (Section.frame section.now bases.now)) index.now.fdes.items) }
+{
+    let end = end_of(base_svma);
+    let fdes = index.fdes();
+    let mut ranges = Ranges::new(alloc, start_at(end, fdes, 0), Covered::Nothing);
+    for place in 0..fdes.len() {
+        let span = Span {
+            base_svma,
+            offset: fdes[place].offset,
+            limit: start_at(end, fdes, place + 1),
+        };
+        ranges = with_entry::<A, R, Section, S>(ranges, section, bases, &mut *context, span)?;
+    }
+    ranges.extend(1 << 32, Covered::Nothing)
+}

@@ -1,0 +1,88 @@
+//! What the rows of an FDE say of relative addresses.
+
+ghost use Rattle.std.specs.Prelude.{◌≡◌, ◌≤◌, ◌-◌, ◌^◌, IfOk, min};
+ghost use Rattle.dwarf_frame_instructions.specs.Execution.{row_in};
+ghost use Rattle.dwarf_frame_instructions.specs.ProgramRows.{rows_left};
+ghost use Rattle.framehop_ranges.specs.Ranges.{Sound, Extends};
+ghost use Rattle.framehop_tables.specs.Covered.{by_rule, row_rules};
+ghost use Rattle.framehop_tables.specs.Tabulations.{AddsRows};
+
+use crate::covered::{Covered, SameRule};
+use crate::spans::Span;
+use dwarf_frame_instructions::ProgramRows;
+use dwarf_frame_rows::{RegisterRule, RuledRegister, UnwindContextStorage, UnwindTableRow};
+use dwarf_readers::{Reader, ReaderOffset};
+use dwarf_storage::ArrayLike;
+use framehop_ranges::Ranges;
+use framehop_rows::RowRules;
+use std::alloc::AllocError;
+
+// What a row says: the rule that says it exactly, or else the row itself.
+#[inline(always)]
+fn covered_by_row<
+    A: RowRules,
+    T: ReaderOffset,
+    Rules: ArrayLike<Item = RuledRegister<RegisterRule<T>>>,
+>(
+    row: &UnwindTableRow<T, Rules>,
+    offset: u32,
+) -> Covered<A::UnwindRule>
+    ensures { result ≡ by_rule offset (A.rule_of (row_in T.value row.now)) }
+{
+    match A::rule_for_row(row) {
+        Some(rule) => Covered::Says(rule),
+        None => Covered::Evaluates(offset),
+    }
+}
+
+// Adds a row: what it says, from where the ranges end up to the row's end.
+#[inline(always)]
+fn with_row<
+    A: RowRules,
+    T: ReaderOffset,
+    Rules: ArrayLike<Item = RuledRegister<RegisterRule<T>>>,
+>(
+    ranges: Ranges<Covered<A::UnwindRule>>,
+    row: &UnwindTableRow<T, Rules>,
+    span: Span,
+) -> Result<Ranges<Covered<A::UnwindRule>>, AllocError>
+where
+    A::UnwindRule: SameRule,
+    requires sound { Sound ranges }
+    requires fits { span.limit ≤ 2 ^ 32 }
+    ensures { let row = row_in T.value row.now in
+        IfOk result (Extends ranges (min (row.end - span.base_svma) span.limit)
+        (by_rule span.offset (A.rule_of row))) }
+{
+    let end = row.end_address().saturating_sub(span.base_svma);
+    let covered = covered_by_row::<A, T, Rules>(row, span.offset);
+    ranges.extend(end.min(span.limit), covered)
+}
+
+// Adds the rows that are left, and up to the limit the rule for code that no row covers.
+pub(crate) fn with_rows<A: RowRules, R: Reader, S: UnwindContextStorage<R::Offset>>(
+    ranges: Ranges<Covered<A::UnwindRule>>,
+    rows: &mut ProgramRows<'_, '_, R, S>,
+    span: Span,
+) -> Result<Ranges<Covered<A::UnwindRule>>, AllocError>
+where
+    A::UnwindRule: SameRule,
+    requires fixed { S.never_allocates }
+    requires sound { Sound ranges }
+    requires fits { span.limit ≤ 2 ^ 32 }
+    ensures { let left = rows_left R.stretch R.Offset.limit R.Offset.value S.Stack.items S.limits rows.old in
+        IfOk result (AddsRows (row_rules A.rows A.rule_of) span left ranges) }
+{
+    let mut ranges = ranges;
+    'rows: loop {
+        if span.limit <= ranges.done() {
+            return Ok(ranges);
+        }
+        let _advanced = rows.advance();
+        let Some(row) = rows.current_row() else {
+            let uncovered = Covered::Says(A::rule_if_uncovered_by_fde());
+            return ranges.extend(span.limit, uncovered);
+        };
+        ranges = with_row::<A, R::Offset, S::Rules>(ranges, row, span)?;
+    }
+}
