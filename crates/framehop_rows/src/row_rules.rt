@@ -23,10 +23,7 @@ pub trait RowRules: DwarfUnwinding {
 
     /// The rule that says a row exactly, if one does: that of each step by the row, in a first and in a later
     /// frame.
-    fn rule_for_row<
-        T: ReaderOffset,
-        Rules: ArrayLike<Item = RuledRegister<RegisterRule<T>>>,
-    >(
+    fn rule_for_row<T: ReaderOffset, Rules: ArrayLike<Item = RuledRegister<RegisterRule<T>>>>(
         row: &UnwindTableRow<T, Rules>,
     ) -> Option<Self::UnwindRule>
         ensures rule { result ≡ rule_of (row_in T.value row.now) }
@@ -43,9 +40,7 @@ fn rule_by_parts<
     A: PartsUnwinding,
     T: ReaderOffset,
     Rules: ArrayLike<Item = RuledRegister<RegisterRule<T>>>,
->(
-    row: &UnwindTableRow<T, Rules>,
-) -> Option<A::UnwindRule>
+>(row: &UnwindTableRow<T, Rules>) -> Option<A::UnwindRule>
     ensures rule { result ≡ A.scaled_rule (parts_of A.fp A.ra (row_in T.value row.now)) }
     ensures valid { IfSome result A.UnwindRule.is_valid }
 {
@@ -63,10 +58,7 @@ impl RowRules for ArchX86_64 {
     ghost says = { λ first values address_size section row.
         rule-said _ (scaled_rule (parts_of RBP RA row)) };
 
-    fn rule_for_row<
-        T: ReaderOffset,
-        Rules: ArrayLike<Item = RuledRegister<RegisterRule<T>>>,
-    >(
+    fn rule_for_row<T: ReaderOffset, Rules: ArrayLike<Item = RuledRegister<RegisterRule<T>>>>(
         row: &UnwindTableRow<T, Rules>,
     ) -> Option<UnwindRuleX86_64> {
         rule_by_parts::<ArchX86_64, T, Rules>(row)
@@ -83,10 +75,7 @@ impl RowRules for ArchAarch64 {
     ghost says = { λ first values address_size section row.
         rule-said _ (scaled_rule (parts_of X29 X30 row)) };
 
-    fn rule_for_row<
-        T: ReaderOffset,
-        Rules: ArrayLike<Item = RuledRegister<RegisterRule<T>>>,
-    >(
+    fn rule_for_row<T: ReaderOffset, Rules: ArrayLike<Item = RuledRegister<RegisterRule<T>>>>(
         row: &UnwindTableRow<T, Rules>,
     ) -> Option<UnwindRuleAarch64> {
         rule_by_parts::<ArchAarch64, T, Rules>(row)

@@ -14,8 +14,8 @@ use crate::covered::{Covered, SameRule};
 use crate::rows::with_rows;
 use crate::spans::Span;
 use dwarf_frame_entries::{
-    BaseAddresses, CommonInformationEntry, FrameDescriptionEntry, UnwindContext, UnwindContextStorage,
-    UnwindSection,
+    BaseAddresses, CommonInformationEntry, FrameDescriptionEntry, UnwindContext,
+    UnwindContextStorage, UnwindSection,
 };
 use dwarf_frame_instructions::{Factors, FrameProgram, ProgramRows};
 use dwarf_readers::Reader;
@@ -56,12 +56,7 @@ where
 }
 
 // Adds what an FDE says up to the limit of a span.
-fn with_fde<
-    A: RowRules,
-    R: Reader,
-    Section: UnwindSection<R>,
-    S: UnwindContextStorage<R::Offset>,
->(
+fn with_fde<A: RowRules, R: Reader, Section: UnwindSection<R>, S: UnwindContextStorage<R::Offset>>(
     ranges: Ranges<Covered<A::UnwindRule>>,
     section: &Section,
     bases: &BaseAddresses,

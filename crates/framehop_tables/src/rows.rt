@@ -23,10 +23,7 @@ fn covered_by_row<
     A: RowRules,
     T: ReaderOffset,
     Rules: ArrayLike<Item = RuledRegister<RegisterRule<T>>>,
->(
-    row: &UnwindTableRow<T, Rules>,
-    offset: u32,
-) -> Covered<A::UnwindRule>
+>(row: &UnwindTableRow<T, Rules>, offset: u32) -> Covered<A::UnwindRule>
     ensures { result ≡ by_rule offset (A.rule_of (row_in T.value row.now)) }
 {
     match A::rule_for_row(row) {
@@ -37,11 +34,7 @@ fn covered_by_row<
 
 // Adds a row: what it says, from where the ranges end up to the row's end.
 #[inline(always)]
-fn with_row<
-    A: RowRules,
-    T: ReaderOffset,
-    Rules: ArrayLike<Item = RuledRegister<RegisterRule<T>>>,
->(
+fn with_row<A: RowRules, T: ReaderOffset, Rules: ArrayLike<Item = RuledRegister<RegisterRule<T>>>>(
     ranges: Ranges<Covered<A::UnwindRule>>,
     row: &UnwindTableRow<T, Rules>,
     span: Span,

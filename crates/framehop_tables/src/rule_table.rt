@@ -52,8 +52,9 @@ where
             IsMadeOf result (IsTableOf t) base_svma (Section.frame section.now bases.now) }
     {
         let index = DwarfCfiIndex::try_new(alloc, section, bases, base_svma)?;
-        let ranges =
-            ranges_of::<A, R, Section, S>(alloc, section, bases, context, &index, base_svma)?;
+        let ranges = ranges_of::<A, R, Section, S>(
+            alloc, section, bases, context, &index, base_svma,
+        )?;
         let table = RangeTable::try_new(alloc, ranges)?;
         Ok(RuleTable { table })
     }

@@ -7,7 +7,7 @@ use Rattle.framehop_tables.proofs.fdes.ranges_of.Given as goal
 abbrev pub invariant-loop-place : goal.invariant-loop-place
 invariant-loop-place g l =
     let t = tabulated g.A.DwarfUnwinding.rows g.A.RowRules.rule_of g.S.UnwindContextStorage.limits (g.Section._UnwindSectionPrivate.extensions l.section) l.base_svma
-        (g.Section._UnwindSectionPrivate.frame l.section l.bases) in
+    (g.Section._UnwindSectionPrivate.frame l.section l.bases) in
     record {
       sound : Sound l.ranges;
       done : l.ranges.done ≡ start_at l.end l.fdes l.place;

@@ -14,7 +14,7 @@ returns-in_default g c =
     let all = rows_left g.R.Reader.stretch g.R.Offset.ReaderOffset.limit g.R.Offset.ReaderOffset.value g.S-Stack-ArrayLike.items limits c.args.rows.now in
     let left = rows_left g.R.Reader.stretch g.R.Offset.ReaderOffset.limit g.R.Offset.ReaderOffset.value g.S-Stack-ArrayLike.items limits c.rows.rows in
     let none = none-given g.R.Reader.stretch g.R.Offset.ReaderOffset.limit g.R.Offset.ReaderOffset.value g.S-Stack-ArrayLike.items limits g.S.UnwindContextStorage.never_allocates c.requires.fixed
-        c.rows.rows c.advance-advanced.new.self c.advance-advanced.result c.advance-advanced.ensures.row (sym (rw c.in_default.is at c.current_row.ensures)) in
+    c.rows.rows c.advance-advanced.new.self c.advance-advanced.result c.advance-advanced.ensures.row (sym (rw c.in_default.is at c.current_row.ensures)) in
     let more : c.rows.ranges.done < c.args.span.limit = omega (arith, c.if-span-done.false, c.done.ensures) in
     IfOk-weaker c.extend.result _ _
     (λ new extends. reached-last rules c.args.span c.args.ranges all c.rows.ranges new left.rows left.refusal none more extends c.rows.invariant.reached)
@@ -29,7 +29,7 @@ rows-preserved g c =
     let rest = rows_left g.R.Reader.stretch g.R.Offset.ReaderOffset.limit g.R.Offset.ReaderOffset.value g.S-Stack-ArrayLike.items limits c.advance-advanced.new.self in
     let row = row_in g.R.Offset.ReaderOffset.value c.in-Some.row.now in
     let given = row-given g.R.Reader.stretch g.R.Offset.ReaderOffset.limit g.R.Offset.ReaderOffset.value g.S-Stack-ArrayLike.items limits g.S.UnwindContextStorage.never_allocates c.requires.fixed
-        c.rows.rows c.advance-advanced.new.self c.advance-advanced.result row c.advance-advanced.ensures.row (sym (rw c.in-Some.is at c.current_row.ensures)) in
+    c.rows.rows c.advance-advanced.new.self c.advance-advanced.result row c.advance-advanced.ensures.row (sym (rw c.in-Some.is at c.current_row.ensures)) in
     let more : c.rows.ranges.done < c.args.span.limit = omega (arith, c.if-span-done.false, c.done.ensures) in
     record {
       sound = c.in_ok-ranges.ensures.sound;

@@ -9,8 +9,7 @@ returns g c =
     let t = tabulated g.A.DwarfUnwinding.rows g.A.RowRules.rule_of g.S.UnwindContextStorage.limits (g.Section._UnwindSectionPrivate.extensions c.args.section.now) c.args.base_svma frame in
     let made = c.in_ok-index.ensures in
     let ranges = c.in_ok-ranges.ensures in
-    let room = room-indexed t c.in_ok-index.index.fdes.items c.in_ok-index.index.left_out made.0 in
-    (
+    let room = room-indexed t c.in_ok-index.index.fdes.items c.in_ok-index.index.left_out made.0 in (
       record {
         says = λ relative fits. c.in_ok-table.ensures.values relative ∙ ranges.says relative fits;
         few = omega (arith, c.in_ok-table.ensures.count, ranges.few, room);
