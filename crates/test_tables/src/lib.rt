@@ -1,0 +1,5 @@
+//! Tests of tables of values by address, by public calls alone.
+#![tactic(auto)]
+
+#[cfg(test)]
+mod ranges;
