@@ -25,7 +25,7 @@ pub use dwarf_frame_entries::{
     Augmentation, CfiEntriesIter, CieOrFde, CommonInformationEntry, Entry, FrameDescriptionEntry,
     PartialFrameDescriptionEntry, UnwindSection, UnwindTable, each_address_of_an_fde_has_one_row,
     listed_entries_stand_at_their_offsets, listed_fdes_are_of_their_section,
-    listed_fdes_stand_at_their_offsets, lookups_never_want_memory,
+    listed_fdes_stand_at_their_offsets, lookups_agree_if_fdes_are_read, lookups_never_want_memory,
     sections_have_no_more_entries_than_bytes,
 };
 pub use dwarf_frame_instructions::{

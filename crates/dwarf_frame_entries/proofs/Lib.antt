@@ -6,6 +6,7 @@ pub mod EntryCounts
 pub mod EntryLists
 pub mod EntryOffsets
 pub mod Laws
+pub mod LookupLaws
 pub mod LookupMemory
 pub mod Onward
 pub mod RowLookups

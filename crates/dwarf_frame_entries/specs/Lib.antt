@@ -8,6 +8,7 @@ pub mod EntryViews
 pub mod Getters
 pub mod HeadViews
 pub mod LetterViews
+pub mod LookupLaws
 pub mod Memory
 pub mod Parts
 pub mod PointerViews
