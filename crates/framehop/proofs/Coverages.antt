@@ -8,7 +8,7 @@ use Rattle.dwarf_frame_rows.specs.declared.base_addresses.BaseAddresses.{BaseAdd
 use Rattle.dwarf_frame_rows.specs.FrameSection.{FrameSection}
 use Rattle.dwarf_frame_entries.specs.Entries.{Fde}
 use Rattle.dwarf_frame_entries.specs.EntryPrograms.{fde_row}
-use Rattle.framehop.specs.Coverage.{Covered, by_row, by_fde}
+use Rattle.framehop.specs.Coverage.{Covered, by_fde_row, by_fde}
 use Rattle.framehop_index.specs.EntryFor.{has_index, indexed_entry}
 use Rattle.framehop.specs.SectionTypes.{section_of_type}
 use Rattle.framehop.specs.LookupMethods.{Lookup, method_by}
@@ -19,7 +19,7 @@ use Rattle.framehop.specs.UnwindDataViews.{IsNotCompact, IsNotPe, IsUnused}
 module _ (limits : Limits) (section : FrameSection) (vendor : Vendor) (address : ℕ) (fde : Fde) where
   -- the entry has a row
   pub covered-by : (size : ℕ) (row : Row ℕ) → size ≡ fde.cie.address_size → fde_row limits section vendor fde address ≡ Ok row → by_fde limits vendor section address fde ≡ Covered size section.within.bytes row
-  covered-by size row sized is = ap (by_row fde.cie.address_size section.within.bytes) is ∙ ap (λ n. Covered n section.within.bytes row) (sym sized)
+  covered-by size row sized is = ap (by_fde_row fde.cie.address_size section.within.bytes) is ∙ ap (λ n. Covered n section.within.bytes row) (sym sized)
 
 -- without an index there is no entry
 none-indexed : (base relative : ℕ) (section : FrameSection) → has_index section ≡ false → indexed_entry base relative section ≡ None

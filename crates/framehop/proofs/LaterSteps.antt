@@ -12,7 +12,7 @@ use Rattle.dwarf_frame_rows.specs.declared.rules.CfaRule.{CfaRule}
 use Rattle.dwarf_frame_rows.specs.declared.rules.CfaRule.TheVariants.{RegisterAndOffset, Expression}
 use Rattle.framehop.specs.Attempts.{StepLimits, attempt_by_method}
 use Rattle.framehop.specs.Coverage.{Coverage, Covered, Uncovered, NoFde, NoAddress, attempt_by, covered_by_fde, covered_by_scan}
-use Rattle.framehop_index.specs.Lookups.{offset_by_header, offset_by_index, parsed_header}
+use Rattle.framehop_index.specs.Lookups.{found_by_header, found_by_index, parsed_header}
 use Rattle.framehop.specs.LookupMethods.{Lookup, ByIndex, ByHeader, ByScan, method_by}
 use Rattle.framehop.specs.SectionTypes.{section_of_type}
 use Rattle.framehop.specs.Methods.{method_at}
@@ -133,8 +133,8 @@ module _ (rules : RulesRaise) (limits : StepLimits) (registers : UnwindRegsAarch
   -- by a lookup
   lookup-raised : (bases : BaseAddresses) (base relative : ℕ) (section : FrameSection) (lookup : Lookup)
       → by_attempt (meanings_aarch64 limits) false registers words (attempt_by_method rows limits base relative false (method_by lookup bases section base relative)) ≡ Answers caller → IsRaised (sp_of registers) (sp_of caller.registers)
-  lookup-raised bases base relative section ByIndex is = offset-raised base relative section (offset_by_index section base relative) is
-  lookup-raised bases base relative section (ByHeader bytes) is = offset-raised base relative section (offset_by_header bases (parsed_header bases (Some bytes)) base relative) is
+  lookup-raised bases base relative section ByIndex is = offset-raised base relative section (found_by_index section base relative) is
+  lookup-raised bases base relative section (ByHeader bytes) is = offset-raised base relative section (found_by_header bases (parsed_header bases (Some bytes)) base relative) is
   lookup-raised bases base relative section ByScan is = coverage-raised limits.values (covered_by_scan limits.rows rows.vendor section base relative) is
 
   -- by compact unwind info

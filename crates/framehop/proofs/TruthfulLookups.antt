@@ -23,13 +23,13 @@ use Rattle.dwarf_frame_entries.specs.Entries.{fde_from_offset}
 use Rattle.framehop_rows.specs.RowMeanings.{RowMeanings}
 use Rattle.framehop_unwinder.specs.Attempt.{Attempt, Says, SaysNothing}
 use Rattle.framehop.specs.Attempts.{StepLimits, attempt, attempt_by_method}
-use Rattle.framehop.specs.Coverage.{Coverage, NoAddress, Uncovered, attempt_by, by_entry, by_fde, by_row, by_scanned, covered_by_fde}
+use Rattle.framehop.specs.Coverage.{Coverage, NoAddress, Uncovered, attempt_by, by_entry, by_fde, by_fde_row, by_scanned, covered_by_fde}
 use Rattle.framehop_index.specs.EntryFor.{fits_index, has_index, indexed_entry, indexed_fdes}
 use Rattle.framehop_index.specs.FrameSections.{eh_frame_of}
-use Rattle.framehop_index.specs.Lookups.{offset_by_index}
+use Rattle.framehop_index.specs.Lookups.{found_by_index}
 use Rattle.framehop.specs.Methods.{Method, UsesFde, UsesScan, method_at}
 use Rattle.framehop.specs.LookupsAlike.{AllLeadTo, LeadsAbove}
-use Rattle.framehop.specs.TruthfulLookups.{AreTruthful, HeadedSection, eh_frame_in, headed_data, indexed_data, offset_headed, scanned_data}
+use Rattle.framehop.specs.TruthfulLookups.{AreTruthful, HeadedSection, headed_section, headed_data, indexed_data, offset_headed, scanned_data}
 use Rattle.framehop.proofs.RowStarts.{no-row-below}
 use Rattle.list_laws.specs.Greatest.{is_greatest}
 use Rattle.list_laws.proofs.Laws.{by_case}
@@ -83,7 +83,7 @@ module _ (h : HeadedSection) (t : AreTruthful h) where
   header = h.header
 
   abbrev s : FrameSection
-  s = eh_frame_in h
+  s = headed_section h
 
   -- the section has an index, which has each FDE
   has : has_index s ≡ true
@@ -125,7 +125,7 @@ module _ (h : HeadedSection) (t : AreTruthful h) where
       header-nearest fits =
           named fde listed fits (header_laws.has_rows s bases t.says t.is_truthful fde listed) (header_laws.named_nearest s bases t.says t.is_truthful (base + relative) fde nearest)
 
-      pub index-nearest : offset_by_index s base relative ≡ Some fde.head.offset
+      pub index-nearest : found_by_index s base relative ≡ Some fde.head.offset
       unfolding indexed_entry
       index-nearest = rw (has, all-held) (ap (option_map (λ (f : Fde). f.head.offset)) nearest)
 
@@ -149,7 +149,7 @@ module _ (h : HeadedSection) (t : AreTruthful h) where
           let inside : Contains (whole_fdes s) fde = found.1.0 in
           record { fde = fde; above = found.1.1.0; leads = named fde inside fits rows found.1.1.1; at_offset = there fde inside }
 
-      pub index-none : offset_by_index s base relative ≡ None
+      pub index-none : found_by_index s base relative ≡ None
       unfolding indexed_entry
       index-none = rw (has, all-held) (ap (option_map (λ (f : Fde). f.head.offset)) none)
 
@@ -178,7 +178,7 @@ module _ (h : HeadedSection) (t : AreTruthful h) where
       -- and so it is by the index
       indexed : (fde : Fde) → nearest_fde (base + relative) (whole_fdes s) ≡ Some fde → attempt m limits (indexed_data other h) relative first ≡ by_method (UsesFde s fde.head.offset)
       indexed fde nearest =
-          ap (λ (sec : FrameSection). by_method (method_at sec (offset_by_index sec base relative))) (same-section bases other h.section same)
+          ap (λ (sec : FrameSection). by_method (method_at sec (found_by_index sec base relative))) (same-section bases other h.section same)
           ∙ ap (λ (o : Option ℕ). by_method (method_at s o)) (index-nearest fde nearest)
 
       -- and by the scan, where the FDE contains the address
@@ -216,7 +216,7 @@ module _ (h : HeadedSection) (t : AreTruthful h) where
       no-row : (fde : Fde) → ((row : Row ℕ) → fde_row limits.rows s m.vendor fde (base + relative) ≡ Ok row → ⊥) → by_fde limits.rows m.vendor s (base + relative) fde ≡ Uncovered
       no-row fde none = by (fde_row limits.rows s m.vendor fde (base + relative)) refl
         where
-          by : (r : Result (Row ℕ) Error) → fde_row limits.rows s m.vendor fde (base + relative) ≡ r → by_row fde.cie.address_size s.within.bytes r ≡ Uncovered
+          by : (r : Result (Row ℕ) Error) → fde_row limits.rows s m.vendor fde (base + relative) ≡ r → by_fde_row fde.cie.address_size s.within.bytes r ≡ Uncovered
           by (Ok row) is = absurd (none row is)
           by (Err e) is = refl
 
@@ -257,7 +257,7 @@ module _ (h : HeadedSection) (t : AreTruthful h) where
 
         pub index-below : attempt m limits (indexed_data other h) relative first ≡ SaysNothing
         index-below =
-            ap (λ (sec : FrameSection). by_method (method_at sec (offset_by_index sec base relative))) (same-section bases other h.section same)
+            ap (λ (sec : FrameSection). by_method (method_at sec (found_by_index sec base relative))) (same-section bases other h.section same)
             ∙ ap (λ (o : Option ℕ). by_method (method_at s o)) (index-none fits none)
 
         pub scan-below : attempt m limits (scanned_data other h) relative first ≡ Says m.uncovered

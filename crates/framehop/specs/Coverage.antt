@@ -27,14 +27,14 @@ pub data Coverage : Type 0 where
   NoAddress : Coverage
 
 -- by a row of an FDE, or by none if there was an error
-abbrev pub by_row : (address_size : ℕ) → (section : Stretch) → Result (Row ℕ) Error → Coverage
-by_row address_size section (Ok row) = Covered address_size section row
-by_row address_size section (Err e) = Uncovered
+abbrev pub by_fde_row : (address_size : ℕ) → (section : Stretch) → Result (Row ℕ) Error → Coverage
+by_fde_row address_size section (Ok row) = Covered address_size section row
+by_fde_row address_size section (Err e) = Uncovered
 
 -- by an FDE of a section with the instructions of this vendor, within these limits of rows
 abbrev pub by_fde : Limits → Vendor → FrameSection → (address : ℕ) → Fde → Coverage
 by_fde limits vendor section address fde =
-    by_row fde.cie.address_size section.within.bytes (fde_row limits section vendor fde address)
+    by_fde_row fde.cie.address_size section.within.bytes (fde_row limits section vendor fde address)
 
 -- by what is at an offset
 abbrev pub by_entry : Limits → Vendor → FrameSection → (address : ℕ) → Result Fde Error → Coverage

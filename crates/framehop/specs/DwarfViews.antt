@@ -25,8 +25,8 @@ frame_section_bytes content (EhFrame data_) = EhFrame (content data_)
 frame_section_bytes content (DebugFrame data_) = DebugFrame (content data_)
 
 -- the section of what is lent: its bytes, and the addresses that its pointers are relative to
-abbrev pub section_lent : Bor BaseAddresses → UnwindSectionType (Bor (List ℕ)) → FrameSection
-section_lent bases section = section_of_type bases.now (frame_section_bytes (λ b. b.now) section)
+abbrev pub frame_section_lent : Bor BaseAddresses → UnwindSectionType (Bor (List ℕ)) → FrameSection
+frame_section_lent bases section = section_of_type bases.now (frame_section_bytes (λ b. b.now) section)
 
 -- A step by call frames, which took the callback from `old` to `new` and the registers from `before` to `after`, at an address that is
 -- covered so: it answers the attempt by the coverage; there is an answer only if the FDE is known, and an error is one of that
@@ -51,10 +51,10 @@ module _ {Rule Registers S A C L K : Type 0} (step : S → ℕ → Result ℕ (U
   abbrev pub AnswersFde : (offset : ℕ) → Type 0
   AnswersFde offset =
       AnswersCoverage step old new before after result m meets first values
-      (covered_by_fde limits m.vendor (section_lent unwinder.bases unwinder.section) unwinder.base_svma relative offset)
+      (covered_by_fde limits m.vendor (frame_section_lent unwinder.bases unwinder.section) unwinder.base_svma relative offset)
 
   -- By a scan of its section.
   abbrev pub AnswersScan : Type 0
   AnswersScan =
       AnswersCoverage step old new before after result m meets first values
-      (covered_by_scan limits m.vendor (section_lent unwinder.bases unwinder.section) unwinder.base_svma relative)
+      (covered_by_scan limits m.vendor (frame_section_lent unwinder.bases unwinder.section) unwinder.base_svma relative)

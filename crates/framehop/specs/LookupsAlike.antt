@@ -12,9 +12,9 @@ use Rattle.framehop_rows.specs.RowMeanings.{RowMeanings}
 use Rattle.framehop_unwinder.specs.Attempt.{Attempt, Meanings, Says, SaysNothing}
 use Rattle.framehop.specs.Attempts.{StepLimits, attempt}
 use Rattle.framehop.specs.Coverage.{Uncovered, covered_by_fde}
-use Rattle.framehop_index.specs.Lookups.{offset_by_index}
+use Rattle.framehop_index.specs.Lookups.{found_by_index}
 use Rattle.framehop.specs.SameSteps.{StepsAlike}
-use Rattle.framehop.specs.TruthfulLookups.{AreTruthfulFor, AttemptsAlike, HeadedSection, IsFdeFor, eh_frame_in, headed_data, indexed_data, nearest_in, offset_headed, scanned_data}
+use Rattle.framehop.specs.TruthfulLookups.{AreTruthfulFor, AttemptsAlike, HeadedSection, IsFdeFor, headed_section, headed_data, indexed_data, nearest_at, offset_headed, scanned_data}
 use Rattle.framehop.specs.UnwindData.{UnwindData}
 
 -- ---- addresses relative to the base of a section whose header is truthful; `bases` are the header's for the section
@@ -35,7 +35,7 @@ pub record AddressFrom : Type 0 where
   pub relative : ℕ
   pub fde : Fde
   pub truthful : AreTruthfulFor h bases
-  pub nearest : nearest_in h relative ≡ Some fde
+  pub nearest : nearest_at h relative ≡ Some fde
 
 -- The address is below all starts, and has 64 bits.
 pub record AddressBelow : Type 0 where
@@ -44,30 +44,30 @@ pub record AddressBelow : Type 0 where
   pub relative : ℕ
   pub truthful : AreTruthfulFor h bases
   pub fits : h.base + relative < 2 ^ 64
-  pub below : nearest_in h relative ≡ None
+  pub below : nearest_at h relative ≡ None
 
 -- ---- what lookups lead to
 
 -- Each lookup leads to this FDE: the header and the index by its offset, the scan by itself.
 pub record AllLeadTo (h : HeadedSection) (relative : ℕ) (fde : Fde) : Type 0 where
   pub by_header : offset_headed h relative ≡ Some fde.head.offset
-  pub by_index : offset_by_index (eh_frame_in h) h.base relative ≡ Some fde.head.offset
-  pub at_offset : fde_from_offset (eh_frame_in h) fde.head.offset ≡ Ok fde
-  pub by_scan : fde_for_address_skipping (eh_frame_in h) (h.base + relative) ≡ Ok fde
+  pub by_index : found_by_index (headed_section h) h.base relative ≡ Some fde.head.offset
+  pub at_offset : fde_from_offset (headed_section h) fde.head.offset ≡ Ok fde
+  pub by_scan : fde_for_address_skipping (headed_section h) (h.base + relative) ≡ Ok fde
 
 -- The header leads to an FDE that starts above the address.
 pub record LeadsAbove (h : HeadedSection) (relative : ℕ) : Type 0 where
   pub fde : Fde
   pub above : h.base + relative < fde.initial_address
   pub leads : offset_headed h relative ≡ Some fde.head.offset
-  pub at_offset : fde_from_offset (eh_frame_in h) fde.head.offset ≡ Ok fde
+  pub at_offset : fde_from_offset (headed_section h) fde.head.offset ≡ Ok fde
 
 -- The lookups of an address below all FDEs: a header with rows leads to an FDE above the address, an index to none, and after reading
 -- the section it is known that no FDE that can be read contains the address.
 pub record LookupsBelowAll (a : AddressBelow) : Type 0 where
   pub by_header : 0 < a.truthful.truthful.says.count → LeadsAbove a.h a.relative
-  pub by_index : offset_by_index (eh_frame_in a.h) a.h.base a.relative ≡ None
-  pub by_scan : fde_for_address_skipping (eh_frame_in a.h) (a.h.base + a.relative) ≡ Err NoUnwindInfoForAddress
+  pub by_index : found_by_index (headed_section a.h) a.h.base a.relative ≡ None
+  pub by_scan : fde_for_address_skipping (headed_section a.h) (a.h.base + a.relative) ≡ Err NoUnwindInfoForAddress
 
 -- ---- attempts
 
@@ -75,7 +75,7 @@ pub record LookupsBelowAll (a : AddressBelow) : Type 0 where
 abbrev pub HoldsOnlyWithin : Limits → Vendor → AddressFrom → Type 0
 HoldsOnlyWithin limits vendor a =
     let address = a.h.base + a.relative in
-    (row : Row ℕ) → fde_row limits (eh_frame_in a.h) vendor a.fde address ≡ Ok row → contains address a.fde ≡ true
+    (row : Row ℕ) → fde_row limits (headed_section a.h) vendor a.fde address ≡ Ok row → contains address a.fde ≡ true
 
 -- From the lowest start on the attempt by an index is that by the header; and so is that by a scan, unless a row of the nearest FDE holds
 -- past the end of the FDE's code.
@@ -87,7 +87,7 @@ pub record AttemptsFrom {Rule Registers : Type 0} (m : RowMeanings Rule Register
 abbrev pub LeavesUncovered : Limits → Vendor → AddressBelow → Type 0
 LeavesUncovered limits vendor a =
     (offset : ℕ) → offset_headed a.h a.relative ≡ Some offset
-    → covered_by_fde limits vendor (eh_frame_in a.h) a.h.base a.relative offset ≡ Uncovered
+    → covered_by_fde limits vendor (headed_section a.h) a.h.base a.relative offset ≡ Uncovered
 
 -- this is what a module's data says of a relative address, in a first and in a later frame
 abbrev pub AttemptIs : {Rule Registers : Type 0} → RowMeanings Rule Registers → StepLimits → (relative : ℕ) → UnwindData

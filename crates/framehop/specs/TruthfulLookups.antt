@@ -11,7 +11,7 @@ use Rattle.framehop_rows.specs.RowMeanings.{RowMeanings}
 use Rattle.framehop.specs.Attempts.{StepLimits, attempt}
 use Rattle.framehop_index.specs.EntryFor.{fits_index}
 use Rattle.framehop_index.specs.FrameSections.{eh_frame_of}
-use Rattle.framehop_index.specs.Lookups.{header_of, offset_by_header, parsed_header}
+use Rattle.framehop_index.specs.Lookups.{eh_frame_hdr_of, found_by_header, parsed_header}
 use Rattle.framehop.specs.LookupMethods.{Lookup, ByHeader, ByIndex, ByScan}
 use Rattle.framehop.specs.UnwindData.{UnwindData, CallFrames}
 use Rattle.framehop.specs.declared.dwarf.UnwindSectionType.TheVariants.{EhFrame}
@@ -25,8 +25,8 @@ pub record HeadedSection : Type 0 where
   pub base : ℕ
 
 -- the section
-abbrev pub eh_frame_in : HeadedSection → FrameSection
-eh_frame_in h = eh_frame_of h.bases h.section
+abbrev pub headed_section : HeadedSection → FrameSection
+headed_section h = eh_frame_of h.bases h.section
 
 -- a module with this section alone, whose FDEs are found by a lookup
 abbrev pub data_with : HeadedSection → BaseAddresses → Lookup → UnwindData
@@ -47,9 +47,9 @@ scanned_data bases h = data_with h bases ByScan
 -- The header is truthful, and an index from this base can hold each FDE of the section that can be read.
 pub record AreTruthful (h : HeadedSection) : Type 0 where
   pub says : Header
-  pub parses : header_of h.bases h.header ≡ Ok says
-  pub is_truthful : IsTruthful (eh_frame_in h) h.bases says
-  pub indexed : AllPass (fits_index h.base) (whole_fdes (eh_frame_in h))
+  pub parses : eh_frame_hdr_of h.bases h.header ≡ Ok says
+  pub is_truthful : IsTruthful (headed_section h) h.bases says
+  pub indexed : AllPass (fits_index h.base) (whole_fdes (headed_section h))
 
 -- The header is truthful, and these bases are the header's for the section.
 pub record AreTruthfulFor (h : HeadedSection) (bases : BaseAddresses) : Type 0 where
@@ -58,16 +58,16 @@ pub record AreTruthfulFor (h : HeadedSection) (bases : BaseAddresses) : Type 0 w
 
 -- An FDE of the section contains a relative address.
 pub record IsFdeFor (h : HeadedSection) (relative : ℕ) (fde : Fde) : Type 0 where
-  pub listed : Contains (whole_fdes (eh_frame_in h)) fde
+  pub listed : Contains (whole_fdes (headed_section h)) fde
   pub contained : contains (h.base + relative) fde ≡ true
 
 -- of the FDEs with the greatest start at or below a relative address, the first in the section
-abbrev pub nearest_in : HeadedSection → (relative : ℕ) → Option Fde
-nearest_in h relative = nearest_fde (h.base + relative) (whole_fdes (eh_frame_in h))
+abbrev pub nearest_at : HeadedSection → (relative : ℕ) → Option Fde
+nearest_at h relative = nearest_fde (h.base + relative) (whole_fdes (headed_section h))
 
 -- the offset that the header names for a relative address
 abbrev pub offset_headed : HeadedSection → (relative : ℕ) → Option ℕ
-offset_headed h relative = offset_by_header h.bases (parsed_header h.bases (Some h.header)) h.base relative
+offset_headed h relative = found_by_header h.bases (parsed_header h.bases (Some h.header)) h.base relative
 
 -- By the data of either of two modules the attempt at a relative address is the same.
 abbrev pub AttemptsAlike : {Rule Registers : Type 0} → RowMeanings Rule Registers → StepLimits → (relative : ℕ) → UnwindData → UnwindData

@@ -5,6 +5,8 @@ use Rattle.dwarf_frame_rows.specs.declared.base_addresses.BaseAddresses.{BaseAdd
 use Rattle.dwarf_frame_rows.specs.FrameSection.{FrameSection}
 use Rattle.framehop_compact.specs.CompactFiles.{Code, CompactFile}
 use Rattle.framehop_compact_tables.specs.Increasing as compact
+use Rattle.framehop_modules.specs.ChosenViews.{section_bytes}
+use Rattle.framehop_modules.specs.declared.module_sections.SectionData.{SectionData}
 use Rattle.framehop_pe_codes.specs.Sections.{PeFile, PeSection}
 use Rattle.framehop_pe.specs.Rows.{IsIncreasing}
 use Rattle.framehop_index.specs.CfiIndex.{IsMadeOf}
@@ -36,17 +38,26 @@ entries_view content by.Unindexed = said.ByIndex
 entries_view content by.Scan = said.ByScan
 
 -- a section of a PE file, by its bytes
-abbrev pub section_view : {D : Type 0} → (D → List ℕ) → SectionAtRva D → PeSection
-section_view content section = record { bytes = content section.bytes; rva_range = section.rva_range }
+abbrev pub pe_section_view : {D : Type 0} → (D → List ℕ) → SectionAtRva D → PeSection
+pe_section_view content section = record { bytes = content section.bytes; rva_range = section.rva_range }
 
 -- a PE file, by the bytes of its sections
 abbrev pub file_view : {D : Type 0} → (D → List ℕ) → PeModule D → PeFile
 file_view content file = record {
   pdata = content file.pdata;
-  rdata = option_map (section_view content) file.rdata;
-  xdata = option_map (section_view content) file.xdata;
-  text = option_map (section_view content) file.text;
+  rdata = option_map (pe_section_view content) file.rdata;
+  xdata = option_map (pe_section_view content) file.xdata;
+  text = option_map (pe_section_view content) file.text;
 }
+
+-- a section that is taken, by its bytes, if it is there
+abbrev pub taken_bytes : {D : Type 0} → (D → List ℕ) → Option (SectionData D) → Option (SectionData (List ℕ))
+taken_bytes content section = option_map (section_bytes content) section
+
+-- the PE file of the sections that are taken
+abbrev pub pe_file_taken : {D : Type 0} → (D → List ℕ) → (base : ℕ) → D → (rdata xdata text : Option (SectionData D)) → PeFile
+pe_file_taken content base pdata rdata xdata text =
+    data_.pe_file base (content pdata) (taken_bytes content rdata) (taken_bytes content xdata) (taken_bytes content text)
 
 -- the rows of a PE file increase, if the module says that they do
 abbrev pub IncreasesAsSaid : {D : Type 0} → (D → List ℕ) → PeModule D → Type 0

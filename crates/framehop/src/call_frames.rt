@@ -2,7 +2,7 @@
 
 ghost use Rattle.std.specs.Prelude.{◌≡◌, option_map};
 ghost use Rattle.framehop_rules.specs.UnwindResults.{HasValidRule};
-ghost use Rattle.framehop.specs.DwarfViews.{section_lent};
+ghost use Rattle.framehop.specs.DwarfViews.{frame_section_lent};
 ghost use Rattle.framehop.specs.LookupMethods.{method_by};
 ghost use Rattle.framehop.specs.MethodViews.{AnswersMethod};
 ghost use Rattle.framehop.specs.Methods.{method_at};
@@ -72,7 +72,7 @@ fn unwind_frame_if_found<A: DwarfUnwinding, P: AllocationPolicy, F: FnMut(u64) -
     ensures callable { F.IsAlwaysCallable read_stack.new }
     ensures answers { AnswersMethod F.step read_stack.old read_stack.new regs.old regs.new result
         A.rows A.MeetsExpression P.limits P.may_allocate unwinder.old.base_svma relative_address is_first_frame
-        (method_at (section_lent unwinder.old.bases unwinder.old.section)
+        (method_at (frame_section_lent unwinder.old.bases unwinder.old.section)
         fde_offset) }
     ensures valid { HasValidRule A.UnwindRule.is_valid result }
 {
@@ -119,13 +119,13 @@ pub(crate) fn unwind_frame_by_call_frames<
     read_stack: &mut F,
 ) -> Result<UnwindResult<A::UnwindRule>, UnwindFailure>
     requires lookup { LeadsInto base_svma
-        (section_lent bases section) lookup }
+        (frame_section_lent bases section) lookup }
     requires callable { F.IsAlwaysCallable read_stack.old }
     ensures callable { F.IsAlwaysCallable read_stack.new }
     ensures answers { AnswersMethod F.step read_stack.old read_stack.new regs.old regs.new result
         A.rows A.MeetsExpression P.limits P.may_allocate base_svma relative_address is_first_frame
         (method_by (lookup_view lookup.entry) bases.now
-        (section_lent bases.entry section.entry) base_svma relative_address) }
+        (frame_section_lent bases.entry section.entry) base_svma relative_address) }
     ensures valid { HasValidRule A.UnwindRule.is_valid result }
 {
     let alloc = unwind_context.alloc;

@@ -7,7 +7,7 @@ ghost use Rattle.framehop_rules.specs.UnwindResults.{HasValidRule};
 ghost use Rattle.framehop_rows.specs.Memory.{TakesMemory};
 ghost use Rattle.framehop.specs.Coverage.{by_entry, by_fde, by_near, by_scanned};
 ghost use Rattle.framehop.specs.DwarfViews.{AnswersCoverage, AnswersFde, AnswersScan, scan_failure};
-ghost use Rattle.framehop_index.specs.Lookups.{offset_by_header, parsed_header};
+ghost use Rattle.framehop_index.specs.Lookups.{found_by_header, parsed_header};
 ghost use Rattle.framehop_errors.specs.declared.dwarf.DwarfUnwinderError.TheVariants.{OutOfMemory};
 
 use dwarf_call_frames::{EhFrameHdr, ParsedEhFrameHdr};
@@ -293,7 +293,7 @@ impl<'a, A: DwarfUnwinding, UCS: UnwindContextStorage<usize>> DwarfUnwinder<'a, 
     /// an FDE for the address, if one contains it. `None` if there is no table, it has no row, the row
     /// can't be read, or the address doesn't fit 64 bits.
     pub fn get_fde_offset_for_relative_address(&self, relative_address: u32) -> Option<u32>
-        ensures { result ≡ offset_by_header self.now.bases.now self.now.eh_frame_hdr
+        ensures { result ≡ found_by_header self.now.bases.now self.now.eh_frame_hdr
             self.now.base_svma relative_address }
     {
         let header = self.eh_frame_hdr.as_ref()?;

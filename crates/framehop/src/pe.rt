@@ -1,15 +1,14 @@
 //! Steps by the unwind data of a PE file.
 
 ghost use Rattle.std.specs.Prelude.{◌≡◌, ℕ, IsTrue, option_and_then, option_map};
-ghost use Rattle.framehop_modules.specs.ChosenViews.{section_bytes};
 ghost use Rattle.framehop_rules.specs.UnwindResults.{HasValidRule, KeepsUnlessDirect};
 ghost use Rattle.framehop_pe_codes.specs.Sections.{file_of, section_of};
 ghost use Rattle.framehop_pe.specs.PeAttempts.{AnswersPe};
 ghost use Rattle.framehop_pe.specs.Rows.{IsIncreasing};
 ghost use Rattle.framehop.specs.MethodViews.{AnswersMethod};
 ghost use Rattle.framehop.specs.PeMethods.{method_by_pe};
-ghost use Rattle.framehop.specs.UnwindData.{pe_file, pe_section};
-ghost use Rattle.framehop.specs.UnwindDataViews.{IncreasesAsSaid, file_view, section_view};
+ghost use Rattle.framehop.specs.UnwindData.{pe_section};
+ghost use Rattle.framehop.specs.UnwindDataViews.{IncreasesAsSaid, file_view, pe_file_taken, pe_section_view, taken_bytes};
 
 use crate::cache::AllocationPolicy;
 use crate::call_frames::failure_of;
@@ -45,8 +44,8 @@ fn section_at<D: SectionBytes + Drop>(
     base_svma: u64,
     section: Option<SectionData<D>>,
 ) -> Option<SectionAtRva<D>>
-    ensures { option_map (section_view D.content) result
-        ≡ option_and_then (pe_section base_svma) (option_map (section_bytes D.content) section) }
+    ensures { option_map (pe_section_view D.content) result
+        ≡ option_and_then (pe_section base_svma) (taken_bytes D.content section) }
 {
     let section = section?;
     let rva_range = relative_range(base_svma, &section.svma_range)?;
@@ -65,10 +64,8 @@ impl<D: SectionBytes + Drop> PeModule<D> {
         xdata: Option<SectionData<D>>,
         text: Option<SectionData<D>>,
     ) -> Self
-        ensures view { file_view D.content result ≡ pe_file base_svma (D.content pdata)
-            (option_map (section_bytes D.content) rdata)
-            (option_map (section_bytes D.content) xdata)
-            (option_map (section_bytes D.content) text) }
+        ensures view { file_view D.content result
+            ≡ pe_file_taken D.content base_svma pdata rdata xdata text }
         ensures increasing { IncreasesAsSaid D.content result }
     {
         let increasing = pdata_is_increasing(pdata.bytes());
@@ -84,7 +81,7 @@ impl<D: SectionBytes + Drop> PeModule<D> {
 
 // A section that is lent, if there is one.
 fn lent<D: SectionBytes>(section: &Option<SectionAtRva<D>>) -> Option<DataAtRvaRange<'_>>
-    ensures { option_map section_of result ≡ option_map (section_view D.content) section.now }
+    ensures { option_map section_of result ≡ option_map (pe_section_view D.content) section.now }
 {
     match section {
         Some(section) => Some(DataAtRvaRange {

@@ -14,7 +14,7 @@ use Rattle.framehop_unwinder.specs.Walk.{Walk, WalkPosition, Starts, At, Over, m
 use Rattle.framehop_unwinder.specs.WalkViews.{walk_from}
 use Rattle.framehop_histories.specs.Alike.{AreAlike}
 use Rattle.framehop_histories.specs.Commands.{Act, NewUnwinder, NewCache, Load, Unload, Clone, Step, NewWalk, NextFrame, CommandState, Reply, Added, Removed, Unknown, Exhausted, Stepped, Moved, if_known, stepped, moved, reply_to}
-use Rattle.framehop_histories.specs.StateAfter.{state_after, state_done, walk_place, with_modules, with_moved}
+use Rattle.framehop_histories.specs.StateAfter.{state_after, state_done, walk_place, model_with_modules, with_moved}
 
 -- the reply from these parts of a state
 abbrev reply_by : {D R Regs : Type 0} → Meanings D R Regs → Act D Regs → List (List (Loaded D)) → ℕ → ℕ → List (Walk Regs) → Reply Regs
@@ -86,7 +86,7 @@ module _ {D R Regs : Type 0} (m : Meanings D R Regs) where
   move-count wanted Over loads c hs = refl
 
   set-modules-alike : (one other : CommandState D Regs) (i : ℕ) (found also : List (Loaded D)) → AreAlike one other → found ≡ also
-      → AreAlike (record one { model = with_modules i found one.model }) (record other { model = with_modules i also other.model })
+      → AreAlike (record one { model = model_with_modules i found one.model }) (record other { model = model_with_modules i also other.model })
   set-modules-alike one other i found also alike same = record {
     modules = set-alike one.model.unwinders other.model.unwinders i (loads_with found one.model.next) (loads_with also other.model.next) alike.modules same;
     caches = alike.caches;
@@ -95,7 +95,7 @@ module _ {D R Regs : Type 0} (m : Meanings D R Regs) where
   }
 
   unload-alike : (has : Bool) (one other : CommandState D Regs) (i : ℕ) (found also : List (Loaded D)) → AreAlike one other → found ≡ also
-      → AreAlike (record one { model = if has then with_modules i found one.model else one.model }) (record other { model = if has then with_modules i also other.model else other.model })
+      → AreAlike (record one { model = if has then model_with_modules i found one.model else one.model }) (record other { model = if has then model_with_modules i also other.model else other.model })
   unload-alike true one other i found also alike same = set-modules-alike one other i found also alike same
   unload-alike false one other i found also alike same = alike
 
@@ -118,7 +118,7 @@ module _ {D R Regs : Type 0} (m : Meanings D R Regs) where
   done-alike (Unload i start) one other alike =
       let same = modules-at one.model.unwinders other.model.unwinders i alike.modules in
       let less = without_loaded start (modules_in i other.model) in
-      subst (λ (has : Bool). AreAlike (state_done m (Unload i start) one) (record other { model = if has then with_modules i less other.model else other.model }))
+      subst (λ (has : Bool). AreAlike (state_done m (Unload i start) one) (record other { model = if has then model_with_modules i less other.model else other.model }))
       (ap (λ (found : List (Loaded D)). is_loaded_at start found) same)
       (unload-alike (is_loaded_at start (modules_in i one.model)) one other i (without_loaded start (modules_in i one.model)) less alike (ap (λ (found : List (Loaded D)). without_loaded start found) same))
   done-alike (Clone i) one other alike = record {

@@ -19,8 +19,8 @@ abbrev pub with_number : {Data : Type 0} → List (Loads (Loaded Data)) → Sess
 with_number unwinders model = record model { unwinders = unwinders; next = model.next + 1 }
 
 -- other modules in an unwinder, which takes the next number
-abbrev pub with_modules : {Data : Type 0} → ℕ → List (Loaded Data) → SessionModel Data → SessionModel Data
-with_modules unwinder modules model =
+abbrev pub model_with_modules : {Data : Type 0} → ℕ → List (Loaded Data) → SessionModel Data → SessionModel Data
+model_with_modules unwinder modules model =
     with_number (slice_set model.unwinders unwinder (loads_with modules model.next)) model
 
 -- a step through a cache, which is out of memory or not
@@ -47,10 +47,10 @@ abbrev pub model_after : {Data Rule Registers : Type 0} → Meanings Data Rule R
 model_after m NewUnwinder walks model = with_number (model.unwinders ++ loads_with [] model.next ∷ []) model
 model_after m NewCache walks model = record model { histories = model.histories ++ no_history ∷ [] }
 model_after m (Load unwinder module_) walks model =
-    with_modules unwinder (with_loaded module_ (modules_in unwinder model)) model
+    model_with_modules unwinder (with_loaded module_ (modules_in unwinder model)) model
 model_after m (Unload unwinder start) walks model =
     if is_loaded_at start (modules_in unwinder model)
-    then with_modules unwinder (without_loaded start (modules_in unwinder model)) model else model
+    then model_with_modules unwinder (without_loaded start (modules_in unwinder model)) model else model
 model_after m (Clone unwinder) walks model =
     record model { unwinders = model.unwinders ++ unwinder_at model.unwinders unwinder ∷ [] }
 model_after m (Step unwinder cache frame registers words) walks model = with_step m false unwinder cache frame model

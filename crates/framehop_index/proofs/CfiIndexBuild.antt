@@ -34,10 +34,6 @@ use Rattle.framehop_index.proofs.CfiIndexOrder.{none-passes, last-passes, none-h
 starts-above : (base : ℕ) (f : Fde) → fits_index base f ≡ true → base ≤ f.initial_address
 starts-above base f h = grind (arith, nat_tests)
 
--- and its offset has 32 bits
-pub offset-fits : (base : ℕ) (f : Fde) → fits_index base f ≡ true → nat_lt f.head.offset (2 ^ 32) ≡ true
-offset-fits base f h = grind (arith, nat_tests)
-
 -- ---- of the FDEs, the one with the greatest start
 
 -- no FDE at or below the address starts above a bound

@@ -3,7 +3,7 @@ use Rattle.std.specs.Prelude.{◌≡◌, ◌≤◌, ◌^◌, ℕ, suc, length, O
 use Rattle.dwarf_frame_rows.specs.FrameSection.{FrameSection}
 use Rattle.framehop_index.specs.CfiIndex.{Indexes}
 use Rattle.framehop_index.specs.EntryFor.{indexed_fdes, left_out}
-use Rattle.framehop_index.specs.Lookups.{offset_by_index}
+use Rattle.framehop_index.specs.Lookups.{found_by_index}
 use Rattle.framehop_index.specs.declared.cfi_index.DwarfCfiIndex.{DwarfCfiIndex}
 
 -- the index is that of the section, with starts relative to this base
@@ -13,7 +13,7 @@ IsIndexOf index base section = Indexes index.fdes.items index.left_out base sect
 -- What a look-up of a relative address gave is the offset of the FDE that the index of the section has.
 abbrev pub IsOffsetByIndex : DwarfCfiIndex → (relative : ℕ) → Option ℕ → Type 0
 IsOffsetByIndex index relative offset =
-    (base : ℕ) (section : FrameSection) → IsIndexOf index base section → offset ≡ offset_by_index section base relative
+    (base : ℕ) (section : FrameSection) → IsIndexOf index base section → offset ≡ found_by_index section base relative
 
 -- So many FDEs of the section are left out.
 abbrev pub LeavesOut : DwarfCfiIndex → (count : ℕ) → Type 0

@@ -13,6 +13,6 @@ abbrev pub IsLastCie : {R E O : Type 0} → (R → Stretch) → (O → ℕ) → 
 IsLastCie stretch value section last = IfSome last (λ last. cie_from_offset section last.offset ≡ Ok (cie_view stretch value last.cie))
 
 -- A call gave the CIE at this offset of a section, or the error of reading it.
-abbrev pub GivesCieAt : {R E O : Type 0} → (R → Stretch) → (O → ℕ) → Result (CommonInformationEntry R E O) Error → FrameSection
+abbrev pub GivesCieFrom : {R E O : Type 0} → (R → Stretch) → (O → ℕ) → Result (CommonInformationEntry R E O) Error → FrameSection
     → (offset : ℕ) → Type 0
-GivesCieAt stretch value result section offset = GivesCie stretch value result (cie_from_offset section offset)
+GivesCieFrom stretch value result section offset = GivesCie stretch value result (cie_from_offset section offset)

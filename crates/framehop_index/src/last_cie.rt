@@ -4,7 +4,7 @@ ghost use Rattle.std.specs.Prelude.{◌≡◌, Ok};
 ghost use Rattle.dwarf_endianity.specs.Answers.{Gives};
 ghost use Rattle.dwarf_frame_entries.specs.Entries.{cie_of, fde_of};
 ghost use Rattle.dwarf_frame_entries.specs.EntryViews.{cie_view};
-ghost use Rattle.framehop_index.specs.LastCie.{GivesCieAt, IsLastCie};
+ghost use Rattle.framehop_index.specs.LastCie.{GivesCieFrom, IsLastCie};
 
 use dwarf_frame_entries::{
     BaseAddresses, CommonInformationEntry, FrameDescriptionEntry, PartialFrameDescriptionEntry,
@@ -46,7 +46,7 @@ fn read_cie<R: Reader, Section: UnwindSection<R>>(
     last: &mut Option<LastCie<R>>,
 ) -> dwarf_read_core::Result<CommonInformationEntry<R>>
     requires { IsLastCie R.stretch R.Offset.value (Section.frame section.now bases.now) last.old }
-    ensures cie { GivesCieAt R.stretch R.Offset.value result (Section.frame section.now bases.now)
+    ensures cie { GivesCieFrom R.stretch R.Offset.value result (Section.frame section.now bases.now)
         (Section.Offset.number offset) }
     ensures last { IsLastCie R.stretch R.Offset.value (Section.frame section.now bases.now) last.new }
 {
@@ -67,7 +67,7 @@ fn cie_by_last<R: Reader, Section: UnwindSection<R>>(
     last: &mut Option<LastCie<R>>,
 ) -> dwarf_read_core::Result<CommonInformationEntry<R>>
     requires { IsLastCie R.stretch R.Offset.value (Section.frame section.now bases.now) last.old }
-    ensures cie { GivesCieAt R.stretch R.Offset.value result (Section.frame section.now bases.now)
+    ensures cie { GivesCieFrom R.stretch R.Offset.value result (Section.frame section.now bases.now)
         (Section.Offset.number offset) }
     ensures last { IsLastCie R.stretch R.Offset.value (Section.frame section.now bases.now) last.new }
 {

@@ -7,7 +7,7 @@ use Rattle.dwarf_frame_rows.specs.Row.{Row}
 use Rattle.dwarf_frame_entries.specs.Entries.{Fde, fde_from_offset}
 use Rattle.dwarf_frame_entries.specs.EntryPrograms.{fde_row}
 use Rattle.list_laws.proofs.Laws.{by_case}
-use Rattle.framehop_index.specs.Lookups.{offset_by_index}
+use Rattle.framehop_index.specs.Lookups.{found_by_index}
 use Rattle.framehop_rows.specs.RowAttempt.{RowAttempt, Translates, Gives, rule_of_row}
 use Rattle.framehop_rows.specs.RowMeanings.{RowMeanings}
 use Rattle.framehop_tables.specs.Covered.{Tabulated, by_entry, by_offset, by_row, by_rule, covered_at, tabulated}
@@ -49,7 +49,7 @@ module _ {Rule Registers : Type 0} (m : RowMeanings Rule Registers) (rule_of : R
 
   attempts-alike : attempt_by_table m frame (covered_at Of frame.relative) ≡ attempt_by_index m frame
   unfolding covered_at
-  attempts-alike = same-offset (offset_by_index frame.section frame.base frame.relative)
+  attempts-alike = same-offset (found_by_index frame.section frame.base frame.relative)
 
 pub attempts-by-index : {Rule Registers : Type 0} (m : RowMeanings Rule Registers) (rule_of : Row ℕ → Option Rule)
     → ((first : Bool) (values : Option ℕ) (address_size : ℕ) (section : Stretch) (row : Row ℕ) → rule_of_row (m.row_attempt first values address_size section row) ≡ rule_of row)

@@ -20,7 +20,7 @@ use Rattle.framehop_tables.specs.declared.covered.Covered.TheVariants.{Nothing}
 use Rattle.framehop_tables.specs.declared.spans.Span.{Span}
 use Rattle.framehop_index.specs.declared.cfi_index.IndexedFde.{IndexedFde}
 use Rattle.framehop_index.specs.IndexSpans.{HasInSpans, IsInSpan}
-use Rattle.framehop_index.specs.Lookups.{offset_by_index}
+use Rattle.framehop_index.specs.Lookups.{found_by_index}
 use Rattle.framehop_tables.specs.Covered.{Tabulated, by_entry, by_offset, covered_at}
 use Rattle.framehop_tables.specs.Tabulations.{AddsEntry, AddsRows, AreOf, GoOn, end_of, room_within, row_count, start_at}
 use Rattle.framehop_tables.proofs.RowLaws.{go-on-later}
@@ -130,7 +130,7 @@ module _ {Rule : Type 0} (t : Tabulated Rule) (kept : List IndexedFde) (spans : 
   -- at addresses past 64 bits it says nothing
   pub says-past : (relative : ℕ) → End ≤ relative → relative < 2 ^ 32 → covered_at t relative ≡ Nothing
   unfolding covered_at
-  says-past relative past fits = by (offset_by_index t.section t.base relative)
+  says-past relative past fits = by (found_by_index t.section t.base relative)
     where
       by : (found : Option ℕ) → by_offset t relative found ≡ Nothing
       by None = refl

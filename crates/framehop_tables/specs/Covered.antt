@@ -8,7 +8,7 @@ use Rattle.dwarf_frame_rows.specs.Row.{Row}
 use Rattle.dwarf_frame_instructions.specs.Programs.{RowList, row_among}
 use Rattle.dwarf_frame_entries.specs.Entries.{Fde, fde_from_offset}
 use Rattle.dwarf_frame_entries.specs.EntryPrograms.{fde_rows}
-use Rattle.framehop_index.specs.Lookups.{offset_by_index}
+use Rattle.framehop_index.specs.Lookups.{found_by_index}
 use Rattle.framehop_rows.specs.RowMeanings.{RowMeanings}
 use Rattle.framehop_tables.specs.declared.covered.Covered.{Covered}
 use Rattle.framehop_tables.specs.declared.covered.Covered.TheVariants.{Nothing, Says, Evaluates}
@@ -64,4 +64,4 @@ by_offset t relative None = Nothing
 
 -- what the index of a section says of a relative address
 unfoldable pub covered_at : {Rule : Type 0} → Tabulated Rule → (relative : ℕ) → Covered Rule
-covered_at t relative = by_offset t relative (offset_by_index t.section t.base relative)
+covered_at t relative = by_offset t relative (found_by_index t.section t.base relative)

@@ -6,7 +6,7 @@ use Rattle.dwarf_frame_rows.specs.FrameSection.{FrameSection}
 use Rattle.dwarf_frame_rows.specs.Row.{Row}
 use Rattle.dwarf_frame_entries.specs.Entries.{Fde, fde_from_offset}
 use Rattle.dwarf_frame_entries.specs.EntryPrograms.{fde_row}
-use Rattle.framehop_index.specs.Lookups.{offset_by_index}
+use Rattle.framehop_index.specs.Lookups.{found_by_index}
 use Rattle.framehop_rows.specs.RowAttempt.{RowAttempt, Translates}
 use Rattle.framehop_rows.specs.RowMeanings.{RowMeanings}
 use Rattle.framehop_tables.specs.declared.covered.Covered.{Covered}
@@ -41,7 +41,7 @@ module _ {Rule Registers : Type 0} (m : RowMeanings Rule Registers) (frame : Fra
 
   -- the attempt by the FDE that the section's index has, if it has one
   abbrev pub attempt_by_index : Option (RowAttempt Rule Registers)
-  attempt_by_index = option_and_then attempt_by_offset (offset_by_index frame.section frame.base frame.relative)
+  attempt_by_index = option_and_then attempt_by_offset (found_by_index frame.section frame.base frame.relative)
 
   -- the attempt by what a table says
   abbrev pub attempt_by_table : Covered Rule → Option (RowAttempt Rule Registers)

@@ -17,7 +17,7 @@ use Rattle.framehop_registers.specs.Callback.{Words}
 use Rattle.framehop_unwinder.specs.Progress.{SessionModel, IsAt, modules_in}
 use Rattle.framehop_histories.specs.Commands.{Act, NewUnwinder, Load, Unload, Clone, Step, NewWalk, NextFrame, CommandState, Reply, Added, Removed, Unknown, Exhausted, Stepped, Moved, if_known, modules_of, reply_to}
 use Rattle.framehop_histories.specs.Performs.{IsIn, IsObeyed}
-use Rattle.framehop_histories.specs.StateAfter.{state_after, state_done, walk_place, with_modules}
+use Rattle.framehop_histories.specs.StateAfter.{state_after, state_done, walk_place, model_with_modules}
 use Rattle.unwind_run_session.specs.Outputs.{CommandOutput, IsOutput, gives_frame, is_refusal, moves_after, next_state, output_of_act, text_for, without_walks}
 use Rattle.framehop_registers.specs.declared.error.Error.{Error}
 use Rattle.unwind_run_document.specs.declared.command.Command.{Command}
@@ -96,7 +96,7 @@ module _ {Data Rule Registers : Type 0} (m : Meanings Data Rule Registers) where
   load_made : (unwinder : ℕ) (module_ : Loaded Data) (state : CommandState Data Registers) → made_by (state_done m (Load unwinder module_) state).model ≡ made_by state.model
   load_made unwinder module_ state = ap (λ n. part n (length state.model.histories)) (length-set state.model.unwinders unwinder _)
 
-  unload_made_by : (has : Bool) (unwinder : ℕ) (modules : List (Loaded Data)) (model : SessionModel Data) → made_by (cond has (with_modules unwinder modules model) model) ≡ made_by model
+  unload_made_by : (has : Bool) (unwinder : ℕ) (modules : List (Loaded Data)) (model : SessionModel Data) → made_by (cond has (model_with_modules unwinder modules model) model) ≡ made_by model
   unload_made_by true unwinder modules model = ap (λ n. part n (length model.histories)) (length-set model.unwinders unwinder _)
   unload_made_by false unwinder modules model = refl
 

@@ -4,5 +4,6 @@ pub mod Roads
 pub mod RoadsAlike
 pub mod SectionViews
 pub mod Sections
+pub mod TaskViews
 pub mod Text
 pub mod TooLong

@@ -7,8 +7,8 @@ ghost use Rattle.unwind_run_document.specs.Sound.{IsSoundTask};
 ghost use Rattle.unwind_run_program.specs.Registers.{RegisterForms};
 ghost use Rattle.unwind_run_program.specs.Sections.{DataForms};
 ghost use Rattle.unwind_run_document.specs.CommandViews.{sections_view, task_of, words_view};
-ghost use Rattle.unwind_run_session.specs.Outputs.{Outputs};
-ghost use Rattle.unwind_run_program.specs.Text.{frame_at, made_in, output_of, words_of};
+ghost use Rattle.unwind_run_program.specs.TaskViews.{CarriesOut};
+ghost use Rattle.unwind_run_program.specs.Text.{frame_at, made_in, words_of};
 ghost use Rattle.unwind_run_document.specs.declared.command.FrameKind.TheVariants.{Ra};
 
 use crate::lines::step_line;
@@ -64,7 +64,7 @@ pub(crate) fn perform<A: DocumentModules>(
     command: Command,
 ) -> Result<Written, AllocError>
     requires { IsSoundTask (made_in session.old) (task_of command) }
-    ensures { Outputs (λ model. output_of A.meanings A.forms A.data_of model (task_of command))
+    ensures { CarriesOut A.meanings A.forms A.data_of (task_of command)
         session.old session.new result }
 {
     match command {
@@ -87,7 +87,7 @@ fn load_module<A: DocumentModules>(
     load: LoadCommand,
 ) -> Result<Written, AllocError>
     requires { load.unwinder < length session.old.unwinders }
-    ensures { Outputs (λ model. output_of A.meanings A.forms A.data_of model (task_of (Command.Load load)))
+    ensures { CarriesOut A.meanings A.forms A.data_of (task_of (Command.Load load))
         session.old session.new result }
 {
     let unwind_data = A::unwind_data(alloc, load.base_svma, load.sections, load.segments)?;
@@ -103,7 +103,7 @@ fn take_step<A: DocumentModules>(
     step: &StepCommand,
 ) -> Result<Written, AllocError>
     requires { IsSoundTask (made_in session.old) (task_of (Command.Step step.now)) }
-    ensures { Outputs (λ model. output_of A.meanings A.forms A.data_of model (task_of (Command.Step step.now)))
+    ensures { CarriesOut A.meanings A.forms A.data_of (task_of (Command.Step step.now))
         session.old session.new result }
 {
     let address = frame_address(step.kind, step.address);
@@ -129,7 +129,7 @@ fn take_walk<A: DocumentModules>(
     walk: &WalkCommand,
 ) -> Result<Written, AllocError>
     requires { IsSoundTask (made_in session.old) (task_of (Command.Walk walk.now)) }
-    ensures { Outputs (λ model. output_of A.meanings A.forms A.data_of model (task_of (Command.Walk walk.now)))
+    ensures { CarriesOut A.meanings A.forms A.data_of (task_of (Command.Walk walk.now))
         session.old session.new result }
 {
     let stack = &walk.stack;
@@ -154,7 +154,7 @@ fn take_roads<A: DocumentModules>(
     roads: &RoadsCommand,
 ) -> Result<Written, AllocError>
     requires { IsSoundTask (made_in session.old) (task_of (Command.Roads roads.now)) }
-    ensures { Outputs (λ model. output_of A.meanings A.forms A.data_of model (task_of (Command.Roads roads.now)))
+    ensures { CarriesOut A.meanings A.forms A.data_of (task_of (Command.Roads roads.now))
         session.old session.new result }
 {
     Ok(Written::lines(road_lines::<A>(alloc, roads)?))

@@ -4,7 +4,7 @@ use Rattle.dwarf_frame_rows.specs.FrameSection.{FrameSection}
 use Rattle.dwarf_frame_rows.specs.declared.base_addresses.BaseAddresses.{BaseAddresses}
 use Rattle.framehop.specs.Attempts.{step_limits}
 use Rattle.framehop.specs.Coverage.{covered_by_scan}
-use Rattle.framehop.specs.DwarfViews.{section_lent}
+use Rattle.framehop.specs.DwarfViews.{frame_section_lent}
 use Rattle.framehop.specs.LookupMethods.{method_by}
 use Rattle.framehop.specs.UnwindDataViews.{lookup_view}
 use Rattle.framehop.specs.declared.unwind_data.Lookup.{Lookup}
@@ -22,8 +22,8 @@ returns-in-Ok-clause-answers g c =
     let relative = c.args.relative_address in
     let base = c.args.base_svma in
     let u = c.new-unwinder.result in
-    let section = section_lent c.args.bases c.args.section in
-    let same = ap (λ t. section_lent u.bases t) c.new-unwinder.ensures.section ∙ ap (λ (b : Bor BaseAddresses). section_lent b c.args.section) c.new-unwinder.ensures.bases in
+    let section = frame_section_lent c.args.bases c.args.section in
+    let same = ap (λ t. frame_section_lent u.bases t) c.new-unwinder.ensures.section ∙ ap (λ (b : Bor BaseAddresses). frame_section_lent b c.args.section) c.new-unwinder.ensures.bases in
     let covered = ap (λ (s : FrameSection). covered_by_scan limits.rows m.vendor s u.base_svma relative) same
     ∙ ap (λ (n : ℕ). covered_by_scan limits.rows m.vendor section n relative) c.new-unwinder.ensures.base in
     policy-as m meets base relative first _ _ _ _ _ _ _ _ _ _ g.met.P.AllocationPolicy.limited g.met.P.AllocationPolicy.taken
@@ -41,8 +41,8 @@ returns-in-Err-clause-answers g c =
     let relative = c.args.relative_address in
     let base = c.args.base_svma in
     let u = c.new-unwinder.result in
-    let section = section_lent c.args.bases c.args.section in
-    let same = ap (λ t. section_lent u.bases t) c.new-unwinder.ensures.section ∙ ap (λ (b : Bor BaseAddresses). section_lent b c.args.section) c.new-unwinder.ensures.bases in
+    let section = frame_section_lent c.args.bases c.args.section in
+    let same = ap (λ t. frame_section_lent u.bases t) c.new-unwinder.ensures.section ∙ ap (λ (b : Bor BaseAddresses). frame_section_lent b c.args.section) c.new-unwinder.ensures.bases in
     let covered = ap (λ (s : FrameSection). covered_by_scan limits.rows m.vendor s u.base_svma relative) same
     ∙ ap (λ (n : ℕ). covered_by_scan limits.rows m.vendor section n relative) c.new-unwinder.ensures.base in
     policy-as m meets base relative first _ _ _ _ _ _ _ _ _ _ g.met.P.AllocationPolicy.limited g.met.P.AllocationPolicy.taken
