@@ -168,11 +168,8 @@ fn count_rows<R: Reader, Section: UnwindSection<R>, S: UnwindContextStorage<R::O
     tally: &mut Tally,
 ) -> Result<()> {
     let mut table = fde.rows(section, bases, context)?;
-    for _ in 0..u64::MAX {
-        match table.next_row()? {
-            Some(row) => tally.count(parts_of(row)),
-            None => break,
-        }
+    'rows: while let Some(row) = table.next_row()? {
+        tally.count(parts_of(row));
     }
     Ok(())
 }

@@ -107,6 +107,11 @@ scanned (Pe file) = Pe file
 scanned (Compact file eh_frame) = Compact file eh_frame
 scanned NoFormat = NoFormat
 
+-- FDEs are found by a header in `.eh_frame` alone.
+abbrev pub HasHeaderOfEhFrame : ModuleFormat → Type 0
+HasHeaderOfEhFrame (CallFrames (section.DebugFrame bytes) (ByHeader header)) = ⊥
+HasHeaderOfEhFrame other = Unit {0}
+
 -- the unwind data of a module with these sections
 abbrev pub unwind_data_of : Sections → UnwindData
 unwind_data_of s = record { format = format_of s.base_svma (chosen_sections s); bases = bases_of (base_svmas s); base_svma = s.base_svma }

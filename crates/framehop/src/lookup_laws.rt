@@ -4,16 +4,23 @@
 ghost use Rattle.std.specs.Prelude.{◌<◌, ◌+◌, ◌^◌, ℕ};
 ghost use Rattle.dwarf_frame_rows.specs.declared.base_addresses.BaseAddresses.{BaseAddresses};
 ghost use Rattle.dwarf_frame_entries.specs.Entries.{Fde};
+ghost use Rattle.framehop_modules.specs.Sections.{Sections};
 ghost use Rattle.framehop_unwinder.specs.Attempt.{Meanings};
 ghost use Rattle.framehop.specs.Attempts.{StepLimits};
 ghost use Rattle.framehop.specs.SameSteps.{StepsFollowAttempts};
 ghost use Rattle.framehop.specs.StepMeanings.{meanings_aarch64, meanings_x86_64};
 ghost use Rattle.framehop.specs.LookupsAlike.{AddressBelow, AddressFrom, AddressWithin, AllLeadTo, AllStepAlike, AttemptsBelow, AttemptsFrom, LookupsBelowAll};
 ghost use Rattle.framehop.specs.TruthfulLookups.{AllAttemptAlike, AreTruthfulFor, HeadedSection, IsFdeFor};
-ghost use Rattle.framehop.specs.UnwindData.{UnwindData};
+ghost use Rattle.framehop.specs.UnwindData.{HasHeaderOfEhFrame, UnwindData, scanned_data_of, unwind_data_of};
 
 use framehop_rows::DwarfUnwinding;
 use framehop_rules::Arch;
+
+/// The FDEs of `.debug_frame` are never found by a header, whatever sections a module has.
+pub fn headers_are_of_eh_frame()
+    ensures made { (s : Sections) → HasHeaderOfEhFrame (unwind_data_of s).format }
+    ensures scanning { (s : Sections) → HasHeaderOfEhFrame (scanned_data_of s).format }
+{}
 
 /// If an FDE contains an address of 64 bits, each lookup leads to it.
 pub fn truthful_lookups_lead_to_one_fde()

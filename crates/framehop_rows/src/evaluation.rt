@@ -17,7 +17,7 @@ use dwarf_constants::{Encoding, Error, Register};
 use dwarf_expressions::{Evaluation, EvaluationResult, EvaluationStorage, Value};
 use dwarf_frame_rows::{_UnwindSectionPrivate, CfaRule, RegisterRule, UnwindExpression};
 use dwarf_operations::Expression;
-use dwarf_readers::Reader;
+use dwarf_readers::{Reader, is_address_size};
 use std::alloc::{AllocError, Global};
 
 /// The registers of a frame, by their DWARF numbers.
@@ -36,13 +36,6 @@ fn offset_sum(base: u64, offset: i64) -> Option<u64>
 {
     let base = i64::try_from(base).ok()?;
     u64::try_from(base.checked_add(offset)?).ok()
-}
-
-// Whether an address can have this size in bytes.
-fn is_address_size(size: u8) -> bool
-    ensures { result ≡ is_size size }
-{
-    size == 1 || size == 2 || size == 4 || size == 8
 }
 
 // The result of an evaluation that failed: no value, or out of memory.

@@ -125,11 +125,11 @@ impl<'u, 'c, 'r, U: Unwinder, F: FnMut(u64) -> Result<u64, ()>> UnwindIterator<'
             (U.judgment self.old.unwinder.now) self.old.walk result self.new.walk }
         ensures walk { MovesOn (walk_of self.old.walk) result (walk_of self.new.walk) }
         ensures cache { MovesCache (U.steps_cache self.old.unwinder.now (wants_memory result))
-            (place_of self.old.walk.state) self.old.cache.now self.new.cache.now }
+            (walk_of self.old.walk).position self.old.cache.now self.new.cache.now }
         ensures fits { (other : U) → AreOneBook (U.loads self.old.unwinder.now) (U.loads other)
             → U.fits other self.old.cache.now → U.fits other self.new.cache.now }
         ensures memory { WantsMemoryOnlyIf U.takes_memory (wants_memory result)
-            (MoveAsks (U.asks_memory self.old.unwinder.now) (place_of self.old.walk.state)) }
+            (MoveAsks (U.asks_memory self.old.unwinder.now) (walk_of self.old.walk).position) }
         ensures unwinder { self.new.unwinder ≡ self.old.unwinder }
         ensures loans { (self.new.cache.ghost_name ≡ self.old.cache.ghost_name)
             × (self.new.read_stack.ghost_name ≡ self.old.read_stack.ghost_name) }

@@ -11,7 +11,7 @@ ghost use Rattle.framehop_unwinder.specs.Moves.{MoveWants, MovesOn};
 ghost use Rattle.framehop_unwinder.specs.History.{KeyHistory, HaveHistories, history_at, no_history};
 ghost use Rattle.framehop_unwinder.specs.State.{MovesThrough, StepsThrough, cache_at, empty_state, modules_at, new_cache, with_clone, with_modules, with_unloaded, with_unwinder};
 ghost use Rattle.framehop_unwinder.specs.Trials.{StaysUnlessStepped, StepsAs, wants_memory};
-ghost use Rattle.framehop_unwinder.specs.WalkViews.{MovesAs, place_of, walk_of};
+ghost use Rattle.framehop_unwinder.specs.WalkViews.{MovesAs, walk_of};
 
 use crate::cache::Cache;
 use crate::iterator::{StackWalk, UnwindIteratorState};
@@ -223,10 +223,10 @@ impl<A: ModuleUnwinding> Session<A> {
             MovesAs (judge A.meanings (modules_at self.old unwinder)) words
             (walk_of walk.old) result (walk_of walk.new)) }
         ensures walk { MovesOn (walk_of walk.old) result (walk_of walk.new) }
-        ensures caches { MovesThrough A.meanings (wants_memory result) (place_of walk.old.state)
+        ensures caches { MovesThrough A.meanings (wants_memory result) (walk_of walk.old).position
             unwinder cache self.old self.new }
         ensures memory { MoveWants A.takes_memory A.asks_memory (modules_at self.old unwinder)
-            (place_of walk.old.state) (wants_memory result) }
+            (walk_of walk.old).position (wants_memory result) }
     {
         let address = match walk.state {
             UnwindIteratorState::Initial(pc) => return Ok(Some(walk.state.begin(pc))),
