@@ -272,7 +272,7 @@ end_of zero raised bytes few = by (decide_left bytes raised)
     by : Dec (IsLeft bytes raised) → Dec (HasEnd raised bytes)
     by (yes left) = yes ([], tt, (bytes, refl, subst (IsLeft bytes) (plus_zero raised) left))
     by (no not_left) = no (λ end. let (x, fits, (suffix, is, more)) = first_of_more raised bytes not_left end in
-            omega (arith, few, ap length is, length-append (spell x) suffix))
+        omega (arith, few, ap length is, length-append (spell x) suffix))
 end_of (suc n) raised bytes few =
     by (decide_left bytes raised) (try_epilogue (λ x. BeginsThen bytes (spell x) (HasEnd (raised +ℤ raise_of x)))
     (λ x. decide_begins_then bytes (spell x) (HasEnd (raised +ℤ raise_of x))
@@ -454,8 +454,11 @@ epilogue_at text offset = by (decide_epilogue text offset)
     ruled : (list : List EpilogueInstruction) → IsEpilogue text offset list → Dec ((rule : UnwindRuleAarch64) × FieldsFit rule × IsRuleOfEpilogue list rule)
         → (found : Option UnwindRuleAarch64) × IsFound (IsEpilogueRule text offset) found
     ruled list there (yes (rule, fits, is)) = (Some rule, read_epilogue text offset (Some rule) (list, there, fits, is) tt)
-    ruled list there (no none) = (None, read_epilogue text offset None tt (λ other rule other_there fits is.
-            none (rule, fits, subst (λ (l : List EpilogueInstruction). IsRuleOfEpilogue l rule) (one_epilogue text offset other list other_there there) is)))
+    ruled list there (no none) = (
+      None,
+      read_epilogue text offset None tt (λ other rule other_there fits is.
+          none (rule, fits, subst (λ (l : List EpilogueInstruction). IsRuleOfEpilogue l rule) (one_epilogue text offset other list other_there there) is)),
+    )
 
     by : Dec ((list : List EpilogueInstruction) × IsEpilogue text offset list) → (found : Option UnwindRuleAarch64) × IsFound (IsEpilogueRule text offset) found
     by (no none) = (None, read_epilogue text offset None tt (λ list rule there fits is. none (list, there)))
@@ -503,12 +506,18 @@ prologue_between before from = by (decide_expected from (lowering_of_all run.run
 
     by : Dec (IsExpected from (lowering_of_all run.run)) → Dec ((rule : UnwindRuleAarch64) × FieldsFit rule × IsRuleOfPrologue run.run rule)
         → (found : Option UnwindRuleAarch64) × IsFound (IsPrologueRule before from) found
-    by (no none) ruled = (None, read_prologue before from None tt (λ list rule there fits is.
-            none (subst (λ (l : List PrologueInstruction). IsExpected from (lowering_of_all l)) (same_run before there.prefix run.prefix list run.run there.run longest_run) there.next)))
+    by (no none) ruled = (
+      None,
+      read_prologue before from None tt (λ list rule there fits is.
+          none (subst (λ (l : List PrologueInstruction). IsExpected from (lowering_of_all l)) (same_run before there.prefix run.prefix list run.run there.run longest_run) there.next)),
+    )
     by (yes next) (yes (rule, fits, is)) =
         (Some rule, read_prologue before from (Some rule) (run.run, record { prefix = run.prefix; run = longest_run; next = next }, fits, is) tt)
-    by (yes next) (no none) = (None, read_prologue before from None tt (λ list rule there fits is.
-            none (rule, fits, subst (λ (l : List PrologueInstruction). IsRuleOfPrologue l rule) (same_run before there.prefix run.prefix list run.run there.run longest_run) is)))
+    by (yes next) (no none) = (
+      None,
+      read_prologue before from None tt (λ list rule there fits is.
+          none (rule, fits, subst (λ (l : List PrologueInstruction). IsRuleOfPrologue l rule) (same_run before there.prefix run.prefix list run.run there.run longest_run) is)),
+    )
 
 pub prologue_at : (text : List ℕ) (offset : ℕ) → (found : Option UnwindRuleAarch64) × IsFound (IsPrologueRule (take offset text) (drop offset text)) found
 prologue_at text offset = prologue_between (take offset text) (drop offset text)
