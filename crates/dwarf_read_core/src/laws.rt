@@ -2,5 +2,4 @@
 //! because memory ran out.
 
 pub use dwarf_readers::equality::equal_slices_are_alike;
-pub use dwarf_readers::memory;
-pub use dwarf_readers::remainders;
+pub use dwarf_readers::{memory, remainders};
