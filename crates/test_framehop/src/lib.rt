@@ -9,6 +9,9 @@ mod cfi_index;
 mod expressions;
 #[cfg(test)]
 mod histories;
+mod pe_files;
+#[cfg(test)]
+mod pe_steps;
 #[cfg(test)]
 mod pop_lists;
 #[cfg(test)]
@@ -27,3 +30,5 @@ mod sessions;
 mod steps;
 #[cfg(test)]
 mod worked;
+
+pub use pe_files::{PeFile, PeSection};

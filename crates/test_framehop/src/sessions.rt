@@ -2,8 +2,8 @@
 ghost use Rattle.std.specs.Prelude.{true};
 
 use framehop::{
-    ExplicitModuleSectionInfo, FrameAddress, Generations, Module, ModuleUnwinding, Session,
-    load_module,
+    ExplicitModuleSectionInfo, FrameAddress, Generations, Module, ModuleSectionInfo,
+    ModuleUnwinding, Session, load_module,
 };
 use std::alloc::Global;
 use std::ops::Range;
@@ -16,9 +16,9 @@ pub type Sections<'a> = ExplicitModuleSectionInfo<&'a [u8]>;
 pub type Stepped<R> = (Option<u64>, R, bool);
 
 /// A module with these sections at these addresses.
-pub fn module_of<'a>(
+pub fn module_of<'a, I: ModuleSectionInfo<&'a [u8]> + Drop>(
     alloc: Global,
-    mut sections: Sections<'a>,
+    mut sections: I,
     range: Range<u64>,
 ) -> Result<Module<&'a [u8]>, Fail> {
     let base = range.start;
