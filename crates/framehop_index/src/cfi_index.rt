@@ -15,6 +15,7 @@ use dwarf_frame_entries::{
 };
 use dwarf_read_core::{LittleEndian, Reader, ReaderOffset};
 use framehop_errors::DwarfCfiIndexError;
+use list_laws::halves_are_counted;
 use std::alloc::{AllocError, Global};
 
 /// What an index keeps of an FDE.
@@ -172,6 +173,7 @@ fn halve(fdes: &[IndexedFde], address: u32) -> Halved
     ensures few { (k : ℕ) → length fdes.now ≤ 2 ^ k → result.reads ≤ suc k }
     ensures enough { (k : ℕ) → 2 ^ k ≤ suc (length fdes.now) → k ≤ result.reads }
 {
+    halves_are_counted();
     if fdes.is_empty() {
         return Halved {
             at_or_below: 0,

@@ -1,11 +1,13 @@
 -- Each read halves what is left, and tells of all on one side of it.
 use Rattle.std.proofs.Common.{arith, rules, ◌≡◌, ℕ, ◌+◌, ◌*◌, ◌/◌, ◌<◌, if◌then◌else◌, get_or, length, refl}
 use Rattle.std.specs.Prelude.{nat_le}
-use Rattle.framehop_index.proofs.Halves.{at-least-half, at-most-half, at-most-one, before-middle, behind-middle, enough, none-enough, part-of-half}
+use Rattle.framehop_index.proofs.Halves.{at-most-one, before-middle, behind-middle, part-of-half}
 use Rattle.framehop_index.proofs.cfi_index.halve.Goals as goal
 
 pub returns-then-is_empty-clause-enough : goal.returns-then-is_empty-clause-enough
-returns-then-is_empty-clause-enough c k h = let none : length c.args.fdes.now ≡ 0 = search rules in none-enough k (rw none at h)
+returns-then-is_empty-clause-enough c k h =
+    let none : length c.args.fdes.now ≡ 0 = search rules in
+    c.halves_are_counted.ensures.none_left 0 0 k (c.halves_are_counted.ensures.none 0).1 (rw none at h)
 
 pub overflow_add-reads : goal.overflow_add-reads
 overflow_add-reads c = let few = (c.halves.invariant.few 64 (omega (arith, c.halves.invariant.small))).0 in omega arith
@@ -25,12 +27,14 @@ halves-preserved c =
       small = known.small;
       before = rw moved (before-middle (λ fde. fde.start) _ c.requires.ordered _ middle _ within c.halves.low half count refl refl known.before);
       behind = rw moved (behind-middle (λ fde. fde.start) _ c.requires.ordered _ middle _ within c.halves.low c.halves.len half count refl (omega arith) refl known.behind);
-      few = at-most-half _ _ _ c.halves-test.true known.few;
-      enough = at-least-half _ _ _ known.enough;
+      few = c.halves_are_counted.ensures.at_most _ _ _ _ c.halves-test.true (omega arith) known.few;
+      enough = c.halves_are_counted.ensures.at_least _ _ _ _ (omega arith) known.enough;
     }
 
 pub overflow_add-result-2 : goal.overflow_add-result-2
 overflow_add-result-2 c = let few = (c.halves.invariant.few 64 (omega (arith, c.halves.invariant.small))).0 in omega arith
 
 pub returns-clause-enough : goal.returns-clause-enough
-returns-clause-enough c = enough (length c.args.fdes.now) c.halves.reads c.halves.len (omega (arith, c.halves-test.false, c.halves.invariant.some)) c.halves.invariant.enough
+returns-clause-enough c k h =
+    let one : c.halves.len ≡ 1 = omega (arith, c.halves-test.false, c.halves.invariant.some) in
+    c.halves_are_counted.ensures.one_left (length c.args.fdes.now) c.halves.reads k (rw one at c.halves.invariant.enough) h

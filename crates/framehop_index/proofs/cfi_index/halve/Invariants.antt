@@ -1,6 +1,6 @@
 use Rattle.std.proofs.Common.{◌<◌, ◌≤◌, ◌+◌, ◌^◌, length}
 use Rattle.std.specs.List.{AllWithin}
-use Rattle.framehop_index.proofs.Halves.{AtMostHalved, AtLeastHalved}
+use Rattle.list_laws.specs.Halves.{AtLeastHalved, AtMostHalved}
 use Rattle.framehop_index.proofs.cfi_index.halve.Given as goal
 
 abbrev pub invariant-halves : goal.invariant-halves
