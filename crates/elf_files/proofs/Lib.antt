@@ -1,0 +1,4 @@
+pub mod FileTables
+pub mod FunctionLists
+pub mod NoteLists
+pub mod Tables

@@ -1,0 +1,13 @@
+pub mod Bytes
+pub mod Tables
+pub mod Header
+pub mod Segments
+pub mod SegmentViews
+pub mod Strings
+pub mod Sections
+pub mod SectionViews
+pub mod Notes
+pub mod NoteViews
+pub mod BuildIds
+pub mod Symbols
+pub mod SymbolViews
