@@ -1,0 +1,11 @@
+pub mod Auxiliary
+pub mod CoreLaws
+pub mod Elements
+pub mod Files
+pub mod Growing
+pub mod Mapped
+pub mod NoteLaws
+pub mod RangeLaws
+pub mod SeenRanges
+pub mod SegmentLaws
+pub mod Words

@@ -1,0 +1,113 @@
+-- What segments have, one by one.
+use Rattle.std.proofs.Common.{◌≡◌, ℕ, suc, ◌+◌, ◌-◌, ◌<◌, List, [], ◌∷◌, ◌++◌, refl, ap, ◌∙◌, append_assoc, arith}
+use Rattle.std.proofs.lemmas.List.{map-append}
+use Rattle.std.specs.Prelude.{Result, Ok, Err}
+use Rattle.elf_files.specs.Bytes.{ElfResult}
+use Rattle.elf_files.specs.Notes.{NoteParts, segment_notes}
+use Rattle.elf_files.specs.Segments.{segment_at, segment_bytes}
+use Rattle.elf_files.specs.declared.error.ElfError.{ElfError}
+use Rattle.elf_files.specs.declared.header.Header.{Header}
+use Rattle.elf_files.specs.declared.segment.Segment.{Segment}
+use Rattle.elf_files.specs.declared.segment.SegmentKind.{SegmentKind}
+use Rattle.elf_files.specs.declared.segment.SegmentKind.TheVariants.{Null, Load, Dynamic, Interpreter, Note, EhFrameHeader, Other}
+use Rattle.core_files.specs.CoreFiles.{all_ok, gather, in_segment, loaded_in, notes_in}
+use Rattle.elf_files.specs.declared.note.Note.{Note as NoteRead}
+use Rattle.elf_files.specs.NoteViews.{note_seen}
+use Rattle.core_files.specs.declared.error.CoreError.TheVariants.{Elf}
+use Rattle.core_files.specs.NoteViews.{notes_seen}
+use Rattle.core_files.specs.Ranges.{KnownRange}
+use Rattle.core_files.specs.Refusals.{CoreResult, result_and_then, then_more, one, by_elf}
+use Rattle.core_files.proofs.Growing.{after, after-end, after-step, elf-more}
+
+module _ {A E : Type 0} where
+  pub gather-end : (give : ℕ → Result (List A) E) (i n : ℕ) → n ≡ 0 → gather give i n ≡ Ok []
+  unfolding gather
+  gather-end give i n none = rw none refl
+
+  pub gather-step : (give : ℕ → Result (List A) E) (i n m : ℕ) → n ≡ suc m → gather give i n ≡ then_more (give i) (gather give (i + 1) m)
+  unfolding gather
+  gather-step give i n m is = rw is refl
+
+  pub all-end : (values : List (Result A E)) → values ≡ [] → all_ok values ≡ Ok []
+  unfolding all_ok
+  all-end values is = rw is refl
+
+  pub all-step : (values others : List (Result A E)) (value : Result A E) → values ≡ value ∷ others → all_ok values ≡ then_more (one value) (all_ok others)
+  unfolding all_ok
+  all-step values others value is = rw is refl
+
+-- the next of what all segments have
+pub gathered : {A : Type 0} (give : ℕ → ElfResult (List A)) (whole : CoreResult (List A)) (done : List A) (i n : ℕ) → i < n → whole ≡ after done (by_elf (gather give i (n - i)))
+    → whole ≡ after done (then_more (by_elf (give i)) (by_elf (gather give (i + 1) (n - (i + 1)))))
+gathered {A} give whole done i n within is =
+    is ∙ ap (λ (left : ElfResult (List A)). after done (by_elf left)) (gather-step give i (n - i) (n - (i + 1)) (omega arith))
+    ∙ ap (λ (left : CoreResult (List A)). after done left) (elf-more (give i) (gather give (i + 1) (n - (i + 1))))
+
+-- ---- the segment with an index
+
+module _ {X : Type 0} (x y : X) where
+  load-is : (kind : SegmentKind) → kind ≡ Load → (elim kind [ Load ↦ x | _ ↦ y ]) ≡ x
+  load-is kind is = rw is refl
+
+  load-other : (kind : SegmentKind) → (kind ≡ Load → ⊥) → (elim kind [ Load ↦ x | _ ↦ y ]) ≡ y
+  load-other Load differs = absurd (differs refl)
+  load-other Null _ = refl
+  load-other Dynamic _ = refl
+  load-other Interpreter _ = refl
+  load-other Note _ = refl
+  load-other EhFrameHeader _ = refl
+  load-other (Other _) _ = refl
+
+  note-is : (kind : SegmentKind) → kind ≡ Note → (elim kind [ Note ↦ x | _ ↦ y ]) ≡ x
+  note-is kind is = rw is refl
+
+  note-other : (kind : SegmentKind) → (kind ≡ Note → ⊥) → (elim kind [ Note ↦ x | _ ↦ y ]) ≡ y
+  note-other Note differs = absurd (differs refl)
+  note-other Load _ = refl
+  note-other Null _ = refl
+  note-other Dynamic _ = refl
+  note-other Interpreter _ = refl
+  note-other EhFrameHeader _ = refl
+  note-other (Other _) _ = refl
+
+module _ {A : Type 0} (part : Segment → ElfResult (List A)) (bytes : List ℕ) (header : Header) (index : ℕ) where
+  pub segment-gives : (segment : Segment) → Ok segment ≡ segment_at bytes header index → in_segment part bytes header index ≡ part segment
+  segment-gives segment at = rw (← at) refl
+
+module _ (bytes : List ℕ) (segment : Segment) where
+  abbrev loaded : ElfResult (List KnownRange)
+  loaded = result_and_then (segment_bytes bytes segment) (λ found. Ok (record { address = segment.address; size = segment.memory_size; bytes = found } ∷ []))
+
+  pub loaded-other : (segment.kind ≡ Load → ⊥) → loaded_in bytes segment ≡ Ok []
+  loaded-other differs = load-other loaded (Ok []) segment.kind differs
+
+  pub loaded-here : (found : List ℕ) → segment.kind ≡ Load → segment_bytes bytes segment ≡ Ok found → loaded_in bytes segment ≡ Ok (record { address = segment.address; size = segment.memory_size; bytes = found } ∷ [])
+  loaded-here found is at = load-is loaded (Ok []) segment.kind is ∙ rw at refl
+
+  abbrev noted : ElfResult (List NoteParts)
+  noted = result_and_then (segment_notes bytes segment) all_ok
+
+  pub noted-other : (segment.kind ≡ Note → ⊥) → notes_in bytes segment ≡ Ok []
+  noted-other differs = note-other noted (Ok []) segment.kind differs
+
+  pub noted-here : (left : List (Result NoteParts ElfError)) → segment.kind ≡ Note → segment_notes bytes segment ≡ Ok left → notes_in bytes segment ≡ all_ok left
+  noted-here left is at = note-is noted (Ok []) segment.kind is ∙ rw at refl
+
+-- ---- the notes of a segment one by one
+
+module _ (whole : CoreResult (List NoteParts)) (pushed : List NoteParts) (before rest : List (Result NoteParts ElfError)) (is : whole ≡ after pushed (by_elf (all_ok before))) where
+  pub left-step : (part : NoteParts) → before ≡ Ok part ∷ rest → whole ≡ after (pushed ++ part ∷ []) (by_elf (all_ok rest))
+  left-step part at =
+      after-step whole (Ok (part ∷ [])) (by_elf (all_ok rest)) pushed (part ∷ []) (pushed ++ part ∷ [])
+      (is ∙ ap (λ (l : ElfResult (List NoteParts)). after pushed (by_elf l)) (all-step before rest (Ok part) at) ∙ ap (λ (l : CoreResult (List NoteParts)). after pushed l) (elf-more (Ok (part ∷ [])) (all_ok rest)))
+      refl refl
+
+  pub left-fail : (error : ElfError) → before ≡ Err error ∷ [] → whole ≡ Err (Elf error)
+  left-fail error at = is ∙ ap (λ (l : ElfResult (List NoteParts)). after pushed (by_elf l)) (all-step before [] (Err error) at)
+
+  pub left-end : before ≡ [] → whole ≡ Ok pushed
+  left-end at = after-end whole pushed (is ∙ ap (λ (l : ElfResult (List NoteParts)). after pushed (by_elf l)) (all-end before at))
+
+pub notes-grown : (old items new : List NoteRead) (pushed : List NoteParts) (note : NoteRead) → notes_seen items ≡ notes_seen old ++ pushed → new ≡ items ++ note ∷ [] → notes_seen new ≡ notes_seen old ++ (pushed ++ note_seen note ∷ [])
+notes-grown old items new pushed note is at =
+    ap (λ (l : List NoteRead). notes_seen l) at ∙ map-append note_seen items (note ∷ []) ∙ ap (λ (l : List NoteParts). l ++ note_seen note ∷ []) is ∙ append_assoc (notes_seen old) pushed (note_seen note ∷ [])

@@ -1,0 +1,94 @@
+-- Words byte by byte, and in one range.
+use Rattle.std.proofs.Common.{◌≡◌, ℕ, zero, suc, ◌+◌, ◌-◌, ◌^◌, ◌<◌, ◌≤◌, true, false, List, [], ◌∷◌, length, get_or, take, drop, refl, ap, sym, ◌∙◌, arith, length-drop}
+use Rattle.std.specs.Prelude.{nat_le, slice_get, Option, Some, None}
+use Rattle.std.specs.Option.{option_map, option_and_then}
+use Rattle.std.proofs.lemmas.Bool.Decides.{nat_tests}
+use Rattle.std.proofs.lemmas.List.{take_all, get_or-drop, get_or-take, length-take-le}
+use Rattle.std.proofs.lemmas.Option.{slice_get-get_or}
+use Rattle.dwarf_endianity.specs.ByteOrder.{little_endian}
+use Rattle.elf_files.specs.Bytes.{number_at}
+use Rattle.core_files.specs.Bytes.{u64_at}
+use Rattle.core_files.specs.Memory.{byte_among, byte_at, bytes_from, word_at}
+use Rattle.core_files.specs.Ranges.{KnownRange, byte_in, range_at, IsIncreasing}
+use Rattle.core_files.proofs.RangeLaws.{found-again}
+
+-- ---- a byte
+
+pub among-none : (ranges : List KnownRange) (address : ℕ) → None ≡ range_at ranges address → None ≡ byte_among ranges address
+among-none ranges address none = rw (← none) refl
+
+pub among-here : (ranges : List KnownRange) (address : ℕ) (range : KnownRange) → Some range ≡ range_at ranges address → byte_in address range ≡ byte_among ranges address
+among-here ranges address range at = rw (← at) refl
+
+pub byte-here : (segments files : List KnownRange) (address byte : ℕ) → Some byte ≡ byte_among segments address → Some byte ≡ byte_at segments files address
+unfolding byte_at
+byte-here segments files address byte here = rw (← here) refl
+
+pub byte-left-out : (segments files : List KnownRange) (address : ℕ) → None ≡ byte_among segments address → byte_among files address ≡ byte_at segments files address
+unfolding byte_at
+byte-left-out segments files address none = rw (← none) refl
+
+-- ---- bytes
+
+then-none : (o : Option ℕ) (rest : Option (List ℕ)) → rest ≡ None → option_and_then (λ (first : ℕ). option_map (λ (bytes : List ℕ). first ∷ bytes) rest) o ≡ None
+then-none None rest none = refl
+then-none (Some first) rest none = rw none refl
+
+bytes-missing : (byte : ℕ → Option ℕ) (count address k : ℕ) → k < count → byte (address + k) ≡ None → bytes_from byte address count ≡ None
+unfolding bytes_from
+bytes-missing byte zero address k less none = absurd (omega arith)
+bytes-missing byte (suc count) address zero less none = let here : byte address ≡ None = ap byte (omega arith) ∙ none in rw here refl
+bytes-missing byte (suc count) address (suc k) less none =
+    then-none (byte address) (bytes_from byte (address + 1) count) (bytes-missing byte count (address + 1) k (omega arith) (ap byte (omega arith) ∙ none))
+
+bytes-known : (byte : ℕ → Option ℕ) (bytes : List ℕ) (address : ℕ) → ((k : ℕ) → k < length bytes → byte (address + k) ≡ Some (get_or bytes k 0)) → bytes_from byte address (length bytes) ≡ Some bytes
+unfolding bytes_from
+bytes-known byte [] address known = refl
+bytes-known byte (x ∷ xs) address known =
+    let here : byte address ≡ Some x = ap byte (omega arith) ∙ known 0 (omega arith) in
+    let rest : bytes_from byte (address + 1) (length xs) ≡ Some xs = bytes-known byte xs (address + 1) (λ k h. ap byte (omega arith) ∙ known (suc k) (omega arith)) in
+    rw (here, rest) refl
+
+-- ---- a word
+
+module _ (segments files : List KnownRange) (address : ℕ) where
+  pub word-high : 2 ^ 64 < address + 8 → word_at segments files address ≡ None
+  unfolding word_at
+  word-high high = let is : nat_le (address + 8) (2 ^ 64) ≡ false = grind (arith, nat_tests) in rw is refl
+
+  pub word-missing : (k : ℕ) → address + 8 ≤ 2 ^ 64 → k < 8 → byte_at segments files (address + k) ≡ None → word_at segments files address ≡ None
+  unfolding word_at
+  word-missing k fits less none =
+      let is : nat_le (address + 8) (2 ^ 64) ≡ true = grind (arith, nat_tests) in
+      rw (is, bytes-missing (byte_at segments files) 8 address k less none) refl
+
+  word-known : (bytes : List ℕ) → address + 8 ≤ 2 ^ 64 → length bytes ≡ 8 → ((k : ℕ) → k < 8 → byte_at segments files (address + k) ≡ Some (get_or bytes k 0)) → word_at segments files address ≡ Some (little_endian bytes)
+  unfolding word_at
+  word-known bytes fits size known =
+      let is : nat_le (address + 8) (2 ^ 64) ≡ true = grind (arith, nat_tests) in
+      let all : bytes_from (byte_at segments files) address 8 ≡ Some bytes =
+      ap (λ (n : ℕ). bytes_from (byte_at segments files) address n) (sym size) ∙ bytes-known (byte_at segments files) bytes address (λ k h. known k (omega arith)) in
+      rw (is, all) refl
+
+  -- by its bytes
+  pub word-by-bytes : (bytes : List ℕ) → address + 8 ≤ 2 ^ 64 → length bytes ≡ 8 → ((k : ℕ) → k < 8 → byte_at segments files (address + k) ≡ Some (get_or bytes k 0)) → word_at segments files address ≡ Some (u64_at bytes 0)
+  unfolding number_at
+  word-by-bytes bytes fits size known = word-known bytes fits size known ∙ ap (λ (xs : List ℕ). Some (little_endian xs)) (sym (take_all 8 bytes (omega arith)))
+
+  -- in one of the segments
+  module _ (up : IsIncreasing segments) (range : KnownRange) (found : range_at segments address ≡ Some range) (low : range.address ≤ address) where
+    byte-in-range : (k : ℕ) → address - range.address + k < range.size → address - range.address + k < length range.bytes
+        → byte_at segments files (address + k) ≡ Some (get_or range.bytes (address - range.address + k) 0)
+    byte-in-range k size within =
+        sym (byte-here segments files (address + k) (get_or range.bytes (address - range.address + k) 0)
+        (sym (ap (slice_get range.bytes) (omega arith) ∙ slice_get-get_or range.bytes (address - range.address + k) 0 within)
+        ∙ among-here segments (address + k) range (sym (found-again segments up range address (address + k) found (omega arith) (omega arith)))))
+
+    pub word-in-range : address + 8 ≤ 2 ^ 64 → address - range.address + 7 < range.size → address - range.address + 7 < length range.bytes
+        → word_at segments files address ≡ Some (u64_at range.bytes (address - range.address))
+    unfolding number_at
+    word-in-range fits size within =
+        let at : ℕ = address - range.address in
+        let bytes : List ℕ = take 8 (drop at range.bytes) in
+        word-known bytes fits (length-take-le 8 (drop at range.bytes) (simp length-drop (omega arith)))
+        (λ k h. byte-in-range k (omega arith) (omega arith) ∙ ap Some (sym (get_or-take 8 (drop at range.bytes) k 0 h ∙ get_or-drop at range.bytes k 0)))

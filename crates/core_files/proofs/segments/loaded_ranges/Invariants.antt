@@ -1,0 +1,11 @@
+use Rattle.std.proofs.Common.{◌≡◌, ◌-◌}
+use Rattle.core_files.specs.CoreFiles.{gather, in_segment, loaded_in, loaded_ranges}
+use Rattle.core_files.specs.RangeViews.{ranges_seen}
+use Rattle.core_files.specs.Refusals.{by_elf}
+use Rattle.core_files.proofs.Growing.{after}
+use Rattle.core_files.proofs.segments.loaded_ranges.Given as goal
+
+abbrev pub invariant-loop-index : goal.invariant-loop-index
+invariant-loop-index l =
+    by_elf (loaded_ranges l.elf.bytes.now l.elf.header)
+    ≡ after (ranges_seen l.ranges.items) (by_elf (gather (in_segment (loaded_in l.elf.bytes.now) l.elf.bytes.now l.elf.header) l.index (l.elf.header.segment_count - l.index)))

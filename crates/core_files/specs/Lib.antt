@@ -1,0 +1,16 @@
+pub mod Auxv
+pub mod Bytes
+pub mod CoreFiles
+pub mod CoreViews
+pub mod FileViews
+pub mod HeaderViews
+pub mod MappedFiles
+pub mod Memory
+pub mod MemoryViews
+pub mod NoteViews
+pub mod Notes
+pub mod PacMask
+pub mod Prstatus
+pub mod RangeViews
+pub mod Ranges
+pub mod Refusals

@@ -1,0 +1,20 @@
+-- What contracts see of memory.
+use Rattle.std.specs.Prelude.{ℕ, Option, List}
+use Rattle.core_files.specs.declared.memory.Memory.{Memory}
+use Rattle.core_files.specs.Ranges.{KnownRange}
+use Rattle.core_files.specs.RangeViews.{ranges_seen}
+use Rattle.core_files.specs.Memory.{byte_at, word_at}
+
+-- The loaded segments, and the mapped files with their bytes.
+abbrev pub segments_of : Memory → List KnownRange
+segments_of memory = ranges_seen memory.segments.ranges.now
+
+abbrev pub files_of : Memory → List KnownRange
+files_of memory = ranges_seen memory.files.ranges.now
+
+-- The byte and the word at an address.
+abbrev pub byte_of : Memory → ℕ → Option ℕ
+byte_of memory address = byte_at (segments_of memory) (files_of memory) address
+
+abbrev pub word_of : Memory → ℕ → Option ℕ
+word_of memory address = word_at (segments_of memory) (files_of memory) address

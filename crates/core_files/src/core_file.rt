@@ -1,0 +1,108 @@
+//! A core file.
+
+ghost use Rattle.std.specs.Prelude.{◌≡◌};
+ghost use Rattle.core_files.specs.Auxv.{auxiliary_value};
+ghost use Rattle.core_files.specs.CoreFiles.{core_of};
+ghost use Rattle.core_files.specs.HeaderViews.{IsCore};
+ghost use Rattle.core_files.specs.NoteViews.{mappings_of};
+ghost use Rattle.core_files.specs.RangeViews.{ranges_seen};
+ghost use Rattle.core_files.specs.Refusals.{Gives};
+
+use crate::auxv::read_auxiliary;
+use crate::error::CoreError;
+use crate::mapped_files::MappedFile;
+use crate::memory::Memory;
+use crate::memory_range::MemoryRange;
+use crate::notes::{auxv_of, files_of, threads_of};
+use crate::segments::{core_notes, loaded_ranges};
+use crate::thread::Thread;
+use elf_files::{ElfFile, FileKind, Machine};
+use std::alloc::Global;
+
+/// A core file of Linux.
+#[derive(Debug, Drop)]
+pub struct CoreFile<'a> {
+    pub(crate) machine: Machine,
+    pub(crate) segments: Vec<MemoryRange<'a>>,
+    pub(crate) threads: Vec<Thread>,
+    pub(crate) mapped_files: Vec<MappedFile<'a>>,
+    pub(crate) auxv: &'a [u8],
+}
+
+// The file, if it is a core.
+fn core_header<'a>(bytes: &'a [u8]) -> Result<ElfFile<'a>, CoreError>
+    ensures { IsCore result bytes.now }
+{
+    let elf = ElfFile::parse(bytes)?;
+    let FileKind::Core = elf.kind() else {
+        return Err(CoreError::NotCore);
+    };
+    Ok(elf)
+}
+
+impl<'a> CoreFile<'a> {
+    ghost use Rattle.core_files.specs.CoreViews.{contents_of};
+    ghost use Rattle.core_files.specs.MemoryViews.{segments_of, files_of};
+
+    /// The core file with these bytes, which are read in place. Fails with the first refusal of the header, the loaded segments,
+    /// the notes, the threads and the mapped files, or if memory is refused.
+    pub fn parse(alloc: Global, bytes: &'a [u8]) -> Result<Self, CoreError>
+        ensures { Gives contents_of result (core_of bytes.now) }
+    {
+        let elf = core_header(bytes)?;
+        let segments = loaded_ranges(alloc, &elf)?;
+        let notes = core_notes(alloc, &elf)?;
+        let threads = threads_of(alloc, elf.machine(), &notes)?;
+        let mapped_files = files_of(alloc, &notes)?;
+        Ok(CoreFile {
+            machine: elf.machine(),
+            segments,
+            threads,
+            mapped_files,
+            auxv: auxv_of(&notes),
+        })
+    }
+
+    /// The machine.
+    pub fn machine(&self) -> Machine
+        ensures { result ≡ (contents_of self.now).machine }
+    {
+        self.machine
+    }
+
+    /// The loaded segments, in the order of the program headers.
+    pub fn segments(&self) -> &[MemoryRange<'a>]
+        ensures { ranges_seen result.now ≡ (contents_of self.now).segments }
+    {
+        self.segments.as_slice()
+    }
+
+    /// The threads, in the order of their `NT_PRSTATUS`; the first is the one that got the signal.
+    pub fn threads(&self) -> &[Thread]
+        ensures { result.now ≡ (contents_of self.now).threads }
+    {
+        self.threads.as_slice()
+    }
+
+    /// The mapped files, in the order of `NT_FILE`; none if there is none.
+    pub fn mapped_files(&self) -> &[MappedFile<'a>]
+        ensures { mappings_of result.now ≡ (contents_of self.now).files }
+    {
+        self.mapped_files.as_slice()
+    }
+
+    /// The value of the first entry of a type (`AT_*`) in the auxiliary vector, `NT_AUXV`.
+    pub fn auxiliary(&self, kind: u64) -> Option<u64>
+        ensures { result ≡ auxiliary_value (contents_of self.now).auxv kind }
+    {
+        read_auxiliary(self.auxv, kind)
+    }
+
+    /// The memory, with what the mapped files have of it, as `MappedFile::range` gives it.
+    pub fn memory<'m>(&'m self, files: &'m [MemoryRange<'a>]) -> Memory<'m, 'a>
+        ensures segments { segments_of result ≡ (contents_of self.now).segments }
+        ensures files { files_of result ≡ ranges_seen files.now }
+    {
+        Memory::new(self.segments.as_slice(), files)
+    }
+}

@@ -1,0 +1,15 @@
+//! The threads of a core.
+
+use crate::pac_mask::PointerAuthenticationMasks;
+use crate::registers::ThreadRegisters;
+
+/// A thread, as it was when the core was made.
+#[derive(Debug, Clone, Copy, PartialEq, Eq)]
+pub struct Thread {
+    /// Its id.
+    pub id: u32,
+    /// Its registers.
+    pub registers: ThreadRegisters,
+    /// On aarch64, the bits that hold a pointer authentication code, if the core says it.
+    pub pointer_authentication_masks: Option<PointerAuthenticationMasks>,
+}

@@ -1,0 +1,54 @@
+//! A core of aarch64 that is written by hand, with masks of pointer authentication for the first of two threads.
+
+use core_files::{CoreFile, PointerAuthenticationMasks};
+use std::test::Fail;
+
+// The header, and the program header of a segment of notes with 860 bytes.
+const HEADERS: [u8; 120] = [
+    0x7f, b'E', b'L', b'F', 2, 1, 1, 0, 0, 0, 0, 0, 0, 0, 0, 0, 4, 0, 0xb7, 0, 1, 0, 0, 0, 0, 0, 0,
+    0, 0, 0, 0, 0, 64, 0, 0, 0, 0, 0, 0, 0, 0, 0, 0, 0, 0, 0, 0, 0, 0, 0, 0, 0, 64, 0, 56, 0, 1, 0,
+    0, 0, 0, 0, 0, 0, 4, 0, 0, 0, 4, 0, 0, 0, 120, 0, 0, 0, 0, 0, 0, 0, 0, 0, 0, 0, 0, 0, 0, 0, 0,
+    0, 0, 0, 0, 0, 0, 0, 0x5c, 3, 0, 0, 0, 0, 0, 0, 0, 0, 0, 0, 0, 0, 0, 0, 4, 0, 0, 0, 0, 0, 0, 0,
+];
+
+// The NT_PRSTATUS of a thread.
+fn push_prstatus(core: &mut Vec<u8>, id: u8) -> Result<(), Fail> {
+    core.extend_from_slice(&[
+        5, 0, 0, 0, 0x88, 1, 0, 0, 1, 0, 0, 0, b'C', b'O', b'R', b'E', 0, 0, 0, 0,
+    ])?;
+    let mut descriptor = [0; 392];
+    descriptor[32] = id;
+    core.extend_from_slice(&descriptor)?;
+    Ok(())
+}
+
+// An NT_ARM_PAC_MASK.
+const PAC_MASK: [u8; 36] = [
+    6, 0, 0, 0, 16, 0, 0, 0, 6, 4, 0, 0, b'L', b'I', b'N', b'U', b'X', 0, 0, 0, 0, 0, 0, 0, 0, 0,
+    0x7f, 0, 0, 0, 0, 0, 0, 0, 0xff, 0,
+];
+
+#[test]
+fn of_the_first_thread(rt: HostRuntime) -> Result<(), Fail> {
+    let mut bytes = Vec::new(rt.alloc());
+    bytes.extend_from_slice(&HEADERS)?;
+    push_prstatus(&mut bytes, 7)?;
+    bytes.extend_from_slice(&PAC_MASK)?;
+    push_prstatus(&mut bytes, 8)?;
+    let core = CoreFile::parse(rt.alloc(), &bytes)?;
+    assert!(rt; core.threads().len() == 2);
+    assert!(rt; core.threads()[0].id == 7);
+    assert!(rt;
+        core.threads()[0].pointer_authentication_masks
+            == Some(PointerAuthenticationMasks {
+                data_mask: 0x007f_0000_0000_0000,
+                instruction_mask: 0x00ff_0000_0000_0000
+            })
+    );
+    assert!(rt; core.threads()[1].id == 8);
+    assert!(rt; core.threads()[1].pointer_authentication_masks.is_none());
+    assert!(rt; core.mapped_files().is_empty());
+    assert!(rt; core.segments().is_empty());
+    assert!(rt; core.auxiliary(6).is_none());
+    Ok(())
+}
