@@ -1,0 +1,6 @@
+pub mod Cells
+pub mod Ends
+pub mod FrameViews
+pub mod Frames
+pub mod Names
+pub mod Threads

@@ -1,0 +1,14 @@
+//! The text of backtraces, as people know it from gdb: a line for each thread, a line for each of its frames,
+//! and a line for why the walk stopped before the end of the stack. Nothing is read here.
+#![tactic(auto)]
+
+mod cells;
+mod ends;
+mod frames;
+mod names;
+mod threads;
+
+pub use ends::WalkEnd;
+pub use frames::{CodeLocation, NamedOffset, RegisterValue, ShownFrame};
+pub use names::push_name;
+pub use threads::{Backtrace, push_backtrace, text_of};

@@ -1,0 +1,38 @@
+//! Names of functions and files, which may be any bytes.
+
+ghost use Rattle.std.specs.Prelude.{◌≡◌};
+ghost use Rattle.backtrace_text.specs.Cells.{Pushes};
+ghost use Rattle.backtrace_text.specs.Names.{is_shown_as_it_is, shown_byte, shown_name};
+
+use crate::cells::{push_bytes, push_hex};
+use std::alloc::{AllocError, Global};
+
+// Whether a byte is shown as it is: printable ASCII, without the backslash.
+fn is_shown_as_it_is(byte: u8) -> bool
+    ensures { result ≡ is_shown_as_it_is byte }
+{
+    (b' '..=b'~').contains(&byte) && byte != b'\\'
+}
+
+// Appends a byte of a name.
+fn push_name_byte(alloc: Global, text: &mut Vec<u8>, byte: u8) -> Result<(), AllocError>
+    ensures { Pushes result text.old text.new (shown_byte byte) }
+{
+    if is_shown_as_it_is(byte) {
+        return push_bytes(text, &[byte]);
+    }
+    push_bytes(text, b"\\x")?;
+    push_hex(alloc, text, 2, u64::from(byte))
+}
+
+/// Appends a name. Bytes that aren't printable ASCII, and backslashes, are written as `\x` and two
+/// hexadecimal digits, so that a name from a file neither ends a line nor is taken by a terminal for a
+/// command.
+pub fn push_name(alloc: Global, text: &mut Vec<u8>, name: &[u8]) -> Result<(), AllocError>
+    ensures { Pushes result text.old text.new (shown_name name.now) }
+{
+    for byte in name {
+        push_name_byte(alloc, text, *byte)?;
+    }
+    Ok(())
+}

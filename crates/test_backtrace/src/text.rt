@@ -1,0 +1,103 @@
+use backtrace_text::{
+    Backtrace, CodeLocation, NamedOffset, RegisterValue, ShownFrame, WalkEnd, push_name, text_of,
+};
+use framehop_registers::Error;
+use std::alloc::{AllocError, Global};
+use std::test::Fail;
+
+// The text of two threads, as gdb lays frames out: numbers in two columns, 16 digits of an address, `??` for a
+// function that isn't known, and its line for a signal's frame.
+const EXPECTED: &str = "Thread 4711:
+#0  0x00007f2b6c0a9a7c in pthread_kill+0x12c from /lib/libc.so.6+0x969fc
+    rip 0x00007f2b6c0a9a7c rsp 0x00007ffd00000010
+#1  <signal handler called>
+#2  0x0000000000401136 in ?? from /srv/a b\\x0a+0x1136
+#3  0x0000000000000001 in ??
+Backtrace stopped: could not read stack memory at 0x7ffd00001000
+Thread 12:
+";
+
+// A place in a file or a function.
+fn at(name: &'static [u8], offset: u64) -> Option<NamedOffset<'static>> {
+    Some(NamedOffset { name, offset })
+}
+
+// A frame of a program without registers.
+fn code(alloc: Global, address: u64, file: Option<NamedOffset<'static>>) -> ShownFrame<'static> {
+    ShownFrame {
+        location: CodeLocation::Code {
+            address,
+            function: None,
+            file,
+        },
+        registers: Vec::new(alloc),
+    }
+}
+
+// The first frame of a thread, with two of its registers.
+fn first_frame(alloc: Global) -> Result<ShownFrame<'static>, AllocError> {
+    let address = 0x7f2b6c0a9a7c;
+    let mut registers = Vec::new(alloc);
+    registers.push(RegisterValue {
+        name: "rip",
+        value: address,
+    })?;
+    registers.push(RegisterValue {
+        name: "rsp",
+        value: 0x7ffd00000010,
+    })?;
+    let location = CodeLocation::Code {
+        address,
+        function: at(b"pthread_kill", 0x12c),
+        file: at(b"/lib/libc.so.6", 0x969fc),
+    };
+    Ok(ShownFrame {
+        location,
+        registers,
+    })
+}
+
+// The backtrace of a thread that handles a signal.
+fn interrupted(alloc: Global) -> Result<Backtrace<'static>, AllocError> {
+    let mut frames = Vec::new(alloc);
+    frames.push(first_frame(alloc)?)?;
+    frames.push(ShownFrame {
+        location: CodeLocation::SignalTrampoline,
+        registers: Vec::new(alloc),
+    })?;
+    frames.push(code(alloc, 0x401136, at(b"/srv/a b\n", 0x1136)))?;
+    frames.push(code(alloc, 1, None))?;
+    Ok(Backtrace {
+        thread: 4711,
+        frames,
+        end: WalkEnd::Stopped(Error::CouldNotReadStack(0x7ffd00001000)),
+    })
+}
+
+// The backtraces of two threads, of which the second has no frame.
+fn threads(alloc: Global) -> Result<Vec<Backtrace<'static>>, AllocError> {
+    let mut backtraces = Vec::new(alloc);
+    backtraces.push(interrupted(alloc)?)?;
+    backtraces.push(Backtrace {
+        thread: 12,
+        frames: Vec::new(alloc),
+        end: WalkEnd::EndOfStack,
+    })?;
+    Ok(backtraces)
+}
+
+#[test]
+fn threads_are_written_one_after_the_other(rt: HostRuntime) -> Result<(), Fail> {
+    let backtraces = threads(rt.alloc())?;
+    let text = text_of(rt.alloc(), &backtraces)?;
+    assert!(rt; text.as_slice() == EXPECTED.as_bytes());
+    Ok(())
+}
+
+#[test]
+fn names_stay_on_their_lines(rt: HostRuntime) -> Result<(), Fail> {
+    let mut text = Vec::new(rt.alloc());
+    push_name(rt.alloc(), &mut text, b"a\x1b[2J\\\xff~ \n")?;
+    assert!(rt; text.as_slice() == b"a\\x1b[2J\\x5c\\xff~ \\x0a".as_slice());
+    Ok(())
+}
