@@ -6,7 +6,7 @@ use Rattle.dwarf_frame_instructions.specs.Programs.{EntryProgram, rows_of_progra
 use Rattle.dwarf_frame_rows.specs.Effects.{Limits}
 use Rattle.dwarf_frame_entries.specs.Entries.{Fde, PartialFde}
 use Rattle.frame_table.proofs.Appends.{then}
-use Rattle.frame_table.specs.Entries.{Part, Setting, fde_or_fault, prefix_text, part_with, whole_fde_part}
+use Rattle.frame_table.specs.Entries.{Part, Setting, fde_or_fault, head_of, part_with, prefix_text, whole_fde_part}
 use Rattle.frame_table.specs.EntryWrites.{WritesPart}
 use Rattle.frame_table.specs.EntryPrefix.{EntryPrefix}
 use Rattle.frame_table.specs.declared.parts.PartEnd.{PartEnd}
@@ -14,11 +14,11 @@ use Rattle.frame_table_text.specs.Tables.{Table, table_text}
 
 -- the prefix of a line, by equal numbers
 pub same_prefix : (size size' offset offset' length length' : ℕ) (prefix : EntryPrefix) → size ≡ size' → offset ≡ offset' → length ≡ length'
-    → prefix_text size (record { offset = offset; length = length }) prefix ≡ prefix_text size' (record { offset = offset'; length = length' }) prefix
+    → prefix_text size (head_of offset length) prefix ≡ prefix_text size' (head_of offset' length') prefix
 same_prefix size size' offset offset' length length' prefix s o l =
-    ap (λ (n : ℕ). prefix_text n (record { offset = offset; length = length }) prefix) s
-    ∙ ap (λ (n : ℕ). prefix_text size' (record { offset = n; length = length }) prefix) o
-    ∙ ap (λ (n : ℕ). prefix_text size' (record { offset = offset'; length = n }) prefix) l
+    ap (λ (n : ℕ). prefix_text n (head_of offset length) prefix) s
+    ∙ ap (λ (n : ℕ). prefix_text size' (head_of n length) prefix) o
+    ∙ ap (λ (n : ℕ). prefix_text size' (head_of offset' n) prefix) l
 
 -- a line and a table, ended as an entry ends
 pub whole_part : (limits : Limits) (result : Result PartEnd AllocError) (before line t u new : List ℕ) (table shown : Table) (program meant : EntryProgram ℕ)

@@ -58,6 +58,10 @@ abbrev pub id_digits : CieOffsetEncoding → ℕ
 id_digits U32 = 8
 id_digits U64 = 16
 
+-- where an entry is, and how long it is
+abbrev pub head_of : (offset length : ℕ) → Head
+head_of offset length = record { offset = offset; length = length }
+
 -- the beginning of an entry's line: its offset, its length and its id
 abbrev pub prefix_text : ℕ → Head → EntryPrefix → List ℕ
 prefix_text address_size head prefix =

@@ -4,9 +4,10 @@ ghost use Rattle.std.specs.Prelude.{◌≡◌, ◌++◌, OnOk, []};
 ghost use Rattle.dwarf_endianity.specs.Answers.{Gives};
 ghost use Rattle.dwarf_frame_entries.specs.EntryViews.{cie_view};
 ghost use Rattle.dwarf_frame_instructions.specs.ProgramRows.{program_of};
-ghost use Rattle.frame_table.specs.Entries.{cie_factors, cie_prefix, cie_line, cie_part, cie_program, cie_register, part_or_fault, whole_cie_part};
-ghost use Rattle.frame_table.specs.EntryWrites.{WritesPart, setting_by};
-ghost use Rattle.frame_table.specs.EntryPrefixViews.{cie_prefix_view, prefix_view};
+ghost use Rattle.frame_table.specs.Entries.{cie_factors, cie_prefix, cie_register, whole_cie_part};
+ghost use Rattle.frame_table.specs.EntryWrites.{ListsCie, WritesPart, own_program, setting_by};
+ghost use Rattle.frame_table.specs.EntryPrefixViews.{cie_line_of, cie_prefix_view, prefix_view};
+ghost use Rattle.frame_table_text.specs.Pushes.{Pushes};
 
 use crate::entry_prefix::{CiePrefix, augmentation_of, entry_prefix_at};
 use crate::listed::Listed;
@@ -50,8 +51,8 @@ fn cie_program<'a, R: Reader, Section: UnwindSection<R>>(
 ) -> FrameProgram<'a, R>
 where
     R: 'a,
-    ensures { program_of result ≡ cie_program (Section.frame section.now bases.now)
-        (Section.extensions section.now) (cie_view R.stretch R.Offset.value cie.now) }
+    ensures { program_of result ≡ own_program Section.frame Section.extensions
+        section.now bases.now R.stretch R.Offset.value cie.now }
 {
     FrameProgram {
         factors: factors_of(cie),
@@ -99,9 +100,8 @@ fn push_cie_line<R: Reader>(
     prefix: &CiePrefix<R>,
     text: &mut Vec<u8>,
 ) -> Result<(), AllocError>
-    ensures { let view = cie_view R.stretch R.Offset.value cie.now in
-        OnOk result (text.new.items
-        ≡ text.old.items ++ cie_line view (cie_prefix_view R.stretch prefix.now)) }
+    ensures { Pushes result text.old text.new
+        (cie_line_of R.stretch R.Offset.value cie.now prefix.now) }
 {
     let offset = cie.offset().into_u64();
     let length = cie.entry_len().into_u64();
@@ -177,10 +177,8 @@ pub(crate) fn push_cie<R: Reader, Section: UnwindSection<R>, S: UnwindContextSto
     cie: &CommonInformationEntry<R>,
     text: &mut Vec<u8>,
 ) -> Result<PartEnd, AllocError>
-    ensures { let s = setting_by Section.frame Section.extensions S.limits listed.now in
-        let view = cie_view R.stretch R.Offset.value cie.now in
-        WritesPart (part_or_fault view.head.offset (cie_part s view))
-        text.old.items text.new.items result }
+    ensures { ListsCie Section.frame Section.extensions S.limits listed.now
+        R.stretch R.Offset.value cie.now text.old text.new result }
 {
     match cie_prefix(listed.section, listed.bases, cie.offset()) {
         Ok(prefix) => push_whole_cie(alloc, listed, context, cie, &prefix, text),

@@ -1,14 +1,13 @@
 //! What a listing has of frame description entries.
 
-ghost use Rattle.std.specs.Prelude.{◌≡◌, ◌++◌, IfOk, OnOk};
+ghost use Rattle.std.specs.Prelude.{◌≡◌, ◌++◌, OnOk};
 ghost use Rattle.dwarf_frame_entries.specs.Entries.{fde_of};
 ghost use Rattle.dwarf_frame_entries.specs.EntryPrograms.{fde_program};
 ghost use Rattle.dwarf_frame_instructions.specs.ProgramRows.{program_of};
 ghost use Rattle.dwarf_frame_rows.specs.Effects.{Limits};
-ghost use Rattle.frame_table.specs.Entries.{fde_line, fde_or_fault, fde_part, fde_places, fde_table, part_or_fault, whole_fde_part};
-ghost use Rattle.frame_table.specs.EntryWrites.{WritesPart, setting_by};
+ghost use Rattle.frame_table.specs.Entries.{fde_line, fde_or_fault, fde_places, fde_table, whole_fde_part};
+ghost use Rattle.frame_table.specs.EntryWrites.{HasTable, ListsFde, WritesPart, setting_by};
 ghost use Rattle.frame_table.specs.EntryPrefixViews.{prefix_view};
-ghost use Rattle.frame_table_text.specs.TableViews.{table_view};
 
 use crate::entry_prefix::{EntryPrefix, entry_prefix_at};
 use crate::listed::Listed;
@@ -49,9 +48,8 @@ fn fde_table<R: Reader, Section: UnwindSection<R>>(
     listed: &Listed<'_, Section>,
     fde: &FrameDescriptionEntry<R>,
 ) -> Result<Table, AllocError>
-    ensures { (limits : Limits)
-        → let s = setting_by Section.frame Section.extensions limits listed.now in
-        IfOk result (λ table. table_view table ≡ fde_table s fde.now) }
+    ensures { (limits : Limits) → HasTable
+        (fde_table (setting_by Section.frame Section.extensions limits listed.now) fde.now) result }
 {
     let cie = fde.cie();
     let (section, bases) = (listed.section, listed.bases);
@@ -167,9 +165,8 @@ pub(crate) fn push_fde<R: Reader, Section: UnwindSection<R>, S: UnwindContextSto
     partial: &PartialFrameDescriptionEntry<'_, Section, R>,
     text: &mut Vec<u8>,
 ) -> Result<PartEnd, AllocError>
-    ensures { let s = setting_by Section.frame Section.extensions S.limits listed.now in
-        WritesPart (part_or_fault partial.now.head.offset (fde_part s partial.now))
-        text.old.items text.new.items result }
+    ensures { ListsFde Section.frame Section.extensions S.limits listed.now
+        partial.now text.old text.new result }
 {
     match entry_prefix_at(listed.section, listed.bases, partial.offset()) {
         Ok(prefix) => push_fde_or_fault(alloc, listed, context, partial, &prefix, text),

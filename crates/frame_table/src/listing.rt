@@ -3,10 +3,8 @@
 ghost use Rattle.std.specs.Prelude.{◌≡◌, false};
 ghost use Rattle.json_program.specs.Errors.{ReportsFailures};
 ghost use Rattle.json_program.specs.Stream.{WritesText};
-ghost use Rattle.dwarf_frame_entries.specs.EntryViews.{entry_view};
-ghost use Rattle.frame_table.specs.Entries.{fault_text, listed_part};
-ghost use Rattle.frame_table.specs.EntryWrites.{WritesListing, WritesPart, setting_by};
-ghost use Rattle.frame_table.specs.Listing.{listing_of};
+ghost use Rattle.frame_table.specs.Entries.{fault_text};
+ghost use Rattle.frame_table.specs.EntryWrites.{Lists, ListsSection};
 
 use crate::cies::push_cie;
 use crate::fdes::push_fde;
@@ -27,9 +25,8 @@ fn push_entry<R: Reader, Section: UnwindSection<R>, S: UnwindContextStorage<R::O
     entry: &CieOrFde<'_, Section, R>,
     text: &mut Vec<u8>,
 ) -> Result<PartEnd, AllocError>
-    ensures { let s = setting_by Section.frame Section.extensions S.limits listed.now in
-        WritesPart (listed_part s (entry_view R.stretch R.Offset.value entry.now))
-        text.old.items text.new.items result }
+    ensures { Lists Section.frame Section.extensions S.limits listed.now
+        R.stretch R.Offset.value entry.now text.old text.new result }
 {
     match entry {
         Entry::Cie(cie) => push_cie(alloc, listed, context, cie, text),
@@ -74,8 +71,8 @@ pub(crate) fn write_listing<
     writer: &mut W,
 ) -> Result<bool, RunError>
     requires { W.has_failed writer.old ≡ false }
-    ensures listing { let s = setting_by Section.frame Section.extensions S.limits listed.now in
-        WritesListing (listing_of s) (W.contents writer.old) (W.contents writer.new) result }
+    ensures listing { ListsSection Section.frame Section.extensions S.limits listed.now
+        W.contents writer.old writer.new result }
     ensures errors { ReportsFailures result false (W.has_failed writer.new) }
 {
     let mut offset = start_of(listed.section);

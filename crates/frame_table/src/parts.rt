@@ -1,13 +1,12 @@
 //! What both kinds of entry have in a listing.
 
-ghost use Rattle.std.specs.Prelude.{◌≡◌, ◌*◌, ◌++◌, IfOk, OnOk, List, ℕ, string_bytes};
-ghost use Rattle.dwarf_readers.specs.Stretch.{Stretch};
+ghost use Rattle.std.specs.Prelude.{◌≡◌, IfOk, string_bytes};
 ghost use Rattle.dwarf_frame_entries.specs.EntryViews.{cie_view};
 ghost use Rattle.dwarf_frame_entries.specs.EntryPrograms.{factors_of};
-ghost use Rattle.frame_table.specs.Entries.{fault_part, fault_text, prefix_text, id_digits, part_with, entry_table};
-ghost use Rattle.frame_table.specs.EntryWrites.{WritesPart};
+ghost use Rattle.frame_table.specs.Entries.{entry_table, fault_part, fault_text, head_of, id_digits, prefix_text};
+ghost use Rattle.frame_table.specs.EntryWrites.{EndsPart, HasTable, WritesPart};
 ghost use Rattle.frame_table.specs.EntryPrefixViews.{prefix_view};
-ghost use Rattle.frame_table_text.specs.TableViews.{table_view};
+ghost use Rattle.frame_table_text.specs.Pushes.{Pushes};
 
 use crate::entry_prefix::EntryPrefix;
 use dwarf_constants::Error;
@@ -59,9 +58,7 @@ pub(crate) fn end_part(
     end: u64,
     text: &mut Vec<u8>,
 ) -> Result<PartEnd, AllocError>
-    ensures { (before body : List ℕ) → text.old.items ≡ before ++ body
-        → WritesPart (part_with offset end body refusal)
-        before text.new.items result }
+    ensures { EndsPart offset end refusal text.old.items text.new.items result }
 {
     match refusal {
         None => Ok(PartEnd {
@@ -83,7 +80,7 @@ fn id_digits(width: CieOffsetEncoding) -> usize
 }
 
 /// Appends the beginning of an entry's line: its offset, its length and its id.
-pub(crate) fn push_prefix<R>(
+pub(crate) fn push_prefix<R: Reader>(
     alloc: Global,
     address_size: u8,
     offset: u64,
@@ -91,9 +88,8 @@ pub(crate) fn push_prefix<R>(
     prefix: &EntryPrefix<R>,
     text: &mut Vec<u8>,
 ) -> Result<(), AllocError>
-    ensures { (stretch : R → Stretch) → OnOk result (text.new.items ≡ text.old.items
-        ++ prefix_text address_size (record { offset = offset; length = length })
-        (prefix_view stretch prefix.now)) }
+    ensures { Pushes result text.old text.new
+        (prefix_text address_size (head_of offset length) (prefix_view R.stretch prefix.now)) }
 {
     push_bytes(text, b"\n")?;
     push_hex(alloc, text, 8, offset)?;
@@ -111,8 +107,8 @@ pub(crate) fn table_of<'a, R: Reader>(
     mut columns: BTreeSet<u16>,
     own: CallFrameInstructionIter<'a, R>,
 ) -> Result<Table, AllocError>
-    ensures { IfOk result (λ table. table_view table ≡ entry_table machine
-        (cie_view R.stretch R.Offset.value cie.now) columns.keys own.entry) }
+    ensures { HasTable (entry_table machine (cie_view R.stretch R.Offset.value cie.now)
+        columns.keys own.entry) result }
 {
     let nops = add_columns(&mut columns, own)?;
     Ok(Table {

@@ -26,7 +26,7 @@ returns g c =
     (then old third fourth (start ++ name ++ said) (cie_factors cie)
     (then old second third (start ++ name) said
     (then old first second start name
-    (as_part old first _ start (c.in_ok-push_prefix.ensures g.R.Reader.stretch)
+    (as_part old first _ start c.in_ok-push_prefix.ensures
     (same_prefix _ _ _ _ _ _ prefix c.address_size-size.ensures (c.into_u64-offset.ensures.value ∙ c.offset.ensures) (c.into_u64-length.ensures.value ∙ c.entry_len.ensures)))
     c.in_ok-push_bytes.ensures)
     c.in_ok-push_reader.ensures)

@@ -18,7 +18,7 @@ returns g c =
     let size = c.address_size-size.ensures ∙ ap (λ (cie : Cie). cie.address_size) c.cie-cie.ensures in
     on_ok_weaker c.push_places.result
     (λ last. then _ _ _ _ _
-    (as_part _ _ _ _ (c.in_ok-push_prefix.ensures g.R.Reader.stretch)
+    (as_part _ _ _ _ c.in_ok-push_prefix.ensures
     (same_prefix _ _ _ _ _ _ (prefix_view g.R.Reader.stretch c.args.prefix.now) size (c.into_u64-offset.ensures.value ∙ c.offset.ensures) (c.into_u64-length.ensures.value ∙ c.entry_len.ensures)))
     (as_part _ _ _ _ last (same_places _ _ _ _ _ _ _ size c.initial_address-start.ensures c.end_address-end.ensures)))
     c.push_places.ensures
