@@ -14,6 +14,26 @@ long calls(long (*f)(long), long n) { long s = 0; for (long i = 0; i < n; i++) {
 long leaf(long n) { return n * 3; }
 void never(void) { __builtin_trap(); }
 """
+# Functions with stacks of several sizes, which save from none to six registers.
+STACKS = """
+extern long other(long, long *);
+long leaf(long x) { return x * 3 + 1; }
+long framed(long x) { long a[4] = {x, x + 1, x + 2, x + 3}; return other(x, a) + a[2]; }
+long big(long x) { long a[4096]; other(x, a); return a[x & 4095]; }
+long one(long x) { long a = x; return other(x, &a) + x; }
+long two(long x, long y) { long a = x; return other(x, &a) + other(y, &a) * x; }
+long three(long x, long y, long z) { long a = x; return other(x, &a) + other(y, &a) * x + z * y; }
+long most(long a, long b, long c, long d, long e) {
+    long r = 0;
+    for (long i = 0; i < a; i++) { r += other(b + i, &r) * c + d; r ^= e; }
+    return r;
+}
+long most_and_big(long a, long b, long c, long d, long e) {
+    long r[4096];
+    for (long i = 0; i < a; i++) { r[i] = other(b + i, r) * c + d; r[i + 1] ^= e; }
+    return r[a];
+}
+"""
 # The code that a signal handler returns to.
 TRAMPOLINE = """
     .text

@@ -171,44 +171,6 @@ some_arrangements (suc count) (suc left) fits = let some = some_arrangements cou
     positive : (a b : ℕ) → 0 < b → 0 < suc a * b
     positive a b some = grind arith
 
-of_none : (count : ℕ) → arrangement_count count 0 ≤ 1
-of_none zero = omega arith
-of_none (suc count) = omega arith
-
-of_one : (count : ℕ) → arrangement_count count 1 ≤ 1
-of_one zero = omega arith
-of_one (suc count) = omega (arith, of_none count)
-
-of_two : (count : ℕ) → arrangement_count count 2 ≤ 2
-of_two zero = omega arith
-of_two (suc count) = omega (arith, of_one count)
-
-of_three : (count : ℕ) → arrangement_count count 3 ≤ 6
-of_three zero = omega arith
-of_three (suc count) = omega (arith, of_two count)
-
-of_four : (count : ℕ) → arrangement_count count 4 ≤ 24
-of_four zero = omega arith
-of_four (suc count) = omega (arith, of_three count)
-
-of_five : (count : ℕ) → arrangement_count count 5 ≤ 120
-of_five zero = omega arith
-of_five (suc count) = omega (arith, of_four count)
-
-of_six : (count : ℕ) → arrangement_count count 6 ≤ 720
-of_six zero = omega arith
-of_six (suc count) = omega (arith, of_five count)
-
-pub few_arrangements : (count left : ℕ) → left ≤ 6 → arrangement_count count left ≤ 720
-few_arrangements count zero fits = omega (arith, of_none count)
-few_arrangements count (suc zero) fits = omega (arith, of_one count)
-few_arrangements count (suc (suc zero)) fits = omega (arith, of_two count)
-few_arrangements count (suc (suc (suc zero))) fits = omega (arith, of_three count)
-few_arrangements count (suc (suc (suc (suc zero)))) fits = omega (arith, of_four count)
-few_arrangements count (suc (suc (suc (suc (suc zero))))) fits = omega (arith, of_five count)
-few_arrangements count (suc (suc (suc (suc (suc (suc zero)))))) fits = omega (arith, of_six count)
-few_arrangements count (suc (suc (suc (suc (suc (suc (suc left))))))) fits = absurd (omega arith)
-
 get_past : {A : Type 0} (xs : List A) (i : ℕ) → length xs ≤ i → slice_get xs i ≡ None
 get_past [] i past = refl
 get_past (x ∷ xs) zero past = absurd (omega arith)

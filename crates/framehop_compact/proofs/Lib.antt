@@ -2,3 +2,4 @@ mod AnalysedRules
 mod Arrangements
 mod ValidRules
 mod PlaceOfBp
+mod Weights

@@ -22,6 +22,11 @@ arrangement_count zero left = 1
 arrangement_count (suc count) zero = 0
 arrangement_count (suc count) (suc left) = suc left * arrangement_count count left
 
+-- The product of the numbers from 1 on.
+abbrev pub factorial : ℕ → ℕ
+factorial zero = 1
+factorial (suc number) = suc number * factorial number
+
 -- The registers that a function can save, in the order of their numbers from 1.
 abbrev pub saved_register_names : List RegisterNameX86_64
 saved_register_names = RBX ∷ R12 ∷ R13 ∷ R14 ∷ R15 ∷ RBP ∷ []

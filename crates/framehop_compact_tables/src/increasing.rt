@@ -12,6 +12,7 @@ use crate::search::{Rows, rows_increase};
 use framehop_errors::CompactFormatError;
 
 // The entries of the page of an entry of the index.
+#[inline(always)]
 pub(crate) fn page_of<'a>(
     index: &Index<'a>,
     row: usize,
@@ -23,7 +24,12 @@ pub(crate) fn page_of<'a>(
 {
     let bytes = index.bytes;
     let page = page_at(bytes, index.page_offset(row), index.start(row))?;
-    Ok(PageEntries { bytes, page })
+    let entries = &bytes[page.entries_offset()..];
+    Ok(PageEntries {
+        bytes,
+        page,
+        entries,
+    })
 }
 
 // Whether the page of an entry can be read, and its starts increase.

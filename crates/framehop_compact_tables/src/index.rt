@@ -1,11 +1,11 @@
 //! The index of the first level, with an entry for each page.
 
-ghost use Rattle.std.specs.Prelude.{◌≡◌, ◌<◌, ◌≤◌, ◌+◌, ◌*◌, length, Ok, Err, IfOk, IfErr, true, false};
+ghost use Rattle.std.specs.Prelude.{◌≡◌, ◌<◌, ◌≤◌, ◌+◌, ◌*◌, drop, length, Ok, Err, IfOk, IfErr, true, false};
 ghost use Rattle.framehop_compact_tables.specs.Index.{index_offset, index_count, index_start, index_page, index_is_whole};
 ghost use Rattle.framehop_errors.specs.declared.compact_format.CompactFormatError.TheVariants.{Truncated};
 
 use crate::bytes::{is_within, u32_at};
-use crate::search::Rows;
+use crate::search::{Rows, count_at_most};
 use framehop_errors::CompactFormatError;
 
 /// The index of the first level (`unwind_info_section_header_index_entry`).
@@ -13,11 +13,14 @@ use framehop_errors::CompactFormatError;
 pub(crate) struct Index<'a> {
     pub(crate) bytes: &'a [u8],
     offset: u32,
+    // The bytes from the entries on.
+    entries: &'a [u8],
     pub(crate) count: u32,
     ghost header: { 28 ≤ length bytes.now },
     ghost at: { offset ≡ index_offset bytes.now },
     ghost counted: { count ≡ index_count bytes.now },
     ghost whole: { offset + 12 * count ≤ length bytes.now },
+    ghost from_entries: { entries.now ≡ drop offset bytes.now },
 }
 
 impl<'a> Index<'a> {
@@ -37,6 +40,7 @@ impl<'a> Index<'a> {
         Ok(Index {
             bytes,
             offset,
+            entries: &bytes[offset as usize..],
             count,
         })
     }
@@ -61,5 +65,13 @@ impl Rows for Index<'_> {
 
     fn start(&self, row: usize) -> u32 {
         u32_at(self.bytes, self.offset as usize + 12 * row)
+    }
+
+    #[inline(always)]
+    fn count_at_or_below(&self, row: usize, address: u32) -> usize {
+        count_at_most(
+            u64::from(u32_at(self.entries, 12 * row)),
+            u64::from(address),
+        )
     }
 }

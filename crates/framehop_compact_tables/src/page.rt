@@ -72,6 +72,7 @@ fn compressed_page(bytes: &[u8], offset: u32, start: u32) -> Page
 }
 
 // The header of the page at an offset.
+#[inline(always)]
 fn page_header_at(bytes: &[u8], offset: u32, start: u32) -> Result<Page, CompactFormatError>
     ensures { result ≡ page_header_at bytes.now offset start }
 {
@@ -88,6 +89,7 @@ fn page_header_at(bytes: &[u8], offset: u32, start: u32) -> Result<Page, Compact
 }
 
 // The page at an offset, with its entries whole.
+#[inline(always)]
 pub(crate) fn page_at(bytes: &[u8], offset: u32, start: u32) -> Result<Page, CompactFormatError>
     ensures page { result ≡ page_at bytes.now offset start }
     ensures whole { IfOk result (λ page.

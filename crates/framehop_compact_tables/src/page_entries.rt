@@ -1,12 +1,13 @@
 //! The entries of a page, each a function.
 
-ghost use Rattle.std.specs.Prelude.{◌≡◌, ◌<◌, ◌≤◌, ◌+◌, ◌*◌, ◌^◌, length};
+ghost use Rattle.std.specs.Prelude.{◌≡◌, ◌<◌, ◌≤◌, ◌+◌, ◌*◌, ◌%◌, ◌^◌, ℕ, ◌↔◌, nat_le, if◌then◌else◌, length, drop};
+ghost use Rattle.framehop_compact_tables.specs.Bytes.{capped_sum};
 ghost use Rattle.framehop_compact_tables.specs.Index.{common_offset, common_count};
 ghost use Rattle.framehop_compact_tables.specs.Pages.{entries_offset, entry_count, entry_size, entry_start, encoding_at, indexed_encoding, encoding_of};
 
 use crate::bytes::{is_within, u32_at};
 use crate::page::Page;
-use crate::search::Rows;
+use crate::search::{Rows, count_at_most};
 use framehop_errors::CompactFormatError;
 
 /// The entries of a page.
@@ -14,8 +15,11 @@ use framehop_errors::CompactFormatError;
 pub(crate) struct PageEntries<'a> {
     pub(crate) bytes: &'a [u8],
     pub(crate) page: Page,
+    // The bytes from the entries on.
+    pub(crate) entries: &'a [u8],
     ghost header: { 28 ≤ length bytes.now },
     ghost whole: { entries_offset page + entry_size page * entry_count page ≤ length bytes.now },
+    ghost from_entries: { entries.now ≡ drop (entries_offset page) bytes.now },
 }
 
 // The encoding at an offset.
@@ -49,6 +53,30 @@ fn indexed_encoding(
         return encoding_at(bytes, encodings_offset as usize + 4 * own as usize);
     }
     Err(CompactFormatError::BadEncodingIndex)
+}
+
+// What a sum of two numbers is at most if it is at most an address once it stops at the greatest number of 32 bits.
+#[inline(always)]
+fn limit_of_sums(address: u32) -> u64
+    ensures limit { (a b : ℕ) → a < 2 ^ 32 → b < 2 ^ 32 → (a + b ≤ result) ↔ (capped_sum a b ≤ address) }
+    ensures few { result ≤ 2 ^ 33 }
+{
+    if address == u32::MAX {
+        1 << 33
+    } else {
+        u64::from(address)
+    }
+}
+
+// 1 if an entry of a compressed page with this start and this word starts at or below an address, else 0. With its low 24 bits
+// above the index of its encoding, the word is in the order of the starts, and no bits of it are cut off.
+#[inline(always)]
+fn count_of_compressed(start: u32, word: u32, address: u32) -> usize
+    ensures { result ≡ (if nat_le (capped_sum start (word % 0x1000000)) address then 1 else 0) }
+{
+    let turned = 256 * (word % 0x100_0000) + (word >> 24);
+    let room = (1 << 40) + limit_of_sums(address) - u64::from(start);
+    count_at_most((1 << 48) + u64::from(turned), 256 * room + 255)
 }
 
 impl PageEntries<'_> {
@@ -96,6 +124,20 @@ impl Rows for PageEntries<'_> {
             } => {
                 let word = u32_at(self.bytes, entries_offset as usize + 4 * row);
                 start.saturating_add(word % 0x100_0000)
+            }
+        }
+    }
+
+    #[inline(always)]
+    fn count_at_or_below(&self, row: usize, address: u32) -> usize {
+        match self.page {
+            Page::Regular { .. } => {
+                let start = u32_at(self.entries, 8 * row);
+                count_at_most(u64::from(start), u64::from(address))
+            }
+            Page::Compressed { start, .. } => {
+                let word = u32_at(self.entries, 4 * row);
+                count_of_compressed(start, word, address)
             }
         }
     }

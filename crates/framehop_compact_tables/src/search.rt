@@ -20,6 +20,11 @@ pub(crate) trait Rows {
     fn start(&self, row: usize) -> u32
         requires { row < rows self.now }
         ensures { result ≡ start self.now row };
+
+    /// 1 if a row starts at or below an address, else 0: without a branch, which no processor could foresee.
+    fn count_at_or_below(&self, row: usize, address: u32) -> usize
+        requires { row < rows self.now }
+        ensures { result ≡ (if nat_le (start self.now row) address then 1 else 0) };
 }
 
 // Whether the starts increase strictly.
@@ -58,21 +63,32 @@ fn last_row<T: Rows, L: Ledger>(table: &T, address: u32, steps: &mut Steps<L>) -
     None
 }
 
-// 1 if a start is at or below an address, else 0: without a branch, which no processor could foresee.
+// 1 if a number is at most another, else 0: by a sum, whose highest bit stays.
 #[inline(always)]
-fn count_at_or_below(start: u32, address: u32) -> usize
-    ensures { result ≡ (if nat_le start address then 1 else 0) }
+pub(crate) fn count_at_most(number: u64, limit: u64) -> usize
+    requires number { number < 2 ^ 63 }
+    requires limit { limit < 2 ^ 63 }
+    ensures { result ≡ (if nat_le number limit then 1 else 0) }
 {
-    (((1 << 63) + u64::from(address) - u64::from(start)) >> 63) as usize
+    (((1 << 63) + limit - number) >> 63) as usize
 }
 
-// The first of the rows that are left: after a half of them, if the one there starts at or below the address.
+// The first of the rows that are left: after a half of them, if the one there starts at or below the address. Counted.
 #[inline(always)]
-fn half_left(low: usize, half: usize, start: u32, address: u32) -> usize
-    requires { low + half < 2 ^ 64 }
-    ensures { result ≡ low + half * (if nat_le start address then 1 else 0) }
+fn half_left<T: Rows, L: Ledger>(
+    table: &T,
+    low: usize,
+    half: usize,
+    address: u32,
+    steps: &mut Steps<L>,
+) -> usize
+    requires within { low + half < T.rows table.now }
+    requires fits { low + half < 2 ^ 64 }
+    ensures left { result ≡ low + half * (if nat_le (T.start table.now (low + half)) address then 1 else 0) }
+    ensures counted { steps.new ≡ steps.old + 1 }
 {
-    low + half * count_at_or_below(start, address)
+    steps.tick();
+    low + half * table.count_at_or_below(low + half, address)
 }
 
 // The same by halving, if the starts increase.
@@ -93,8 +109,7 @@ fn last_row_increasing<T: Rows, L: Ledger>(
     let mut len = count;
     'halves: while len > 1 {
         let half = len / 2;
-        let start = counted_start(table, low + half, steps);
-        low = half_left(low, half, start, address);
+        low = half_left(table, low, half, address, steps);
         len -= half;
     }
     if counted_start(table, low, steps) <= address {

@@ -2,7 +2,7 @@
 
 ghost use Rattle.std.specs.Prelude.{◌≡◌, ◌≤◌};
 ghost use Rattle.std.specs.Option.{option_map};
-ghost use Rattle.framehop_compact.specs.SavedRegisters.{registers_of, arrangement_count, saved_after_bp};
+ghost use Rattle.framehop_compact.specs.SavedRegisters.{registers_of, factorial, saved_after_bp};
 
 /// A register that a function can save, in the order of the encoding's numbers from 1 (`UNWIND_X86_64_REG_RBX` to
 /// `UNWIND_X86_64_REG_RBP`).
@@ -23,41 +23,46 @@ pub enum RegisterNameX86_64 {
     RBP,
 }
 
-// How many lists of so many of these registers there are, each register at most once.
-fn arrangement_count(count: usize, left: usize) -> usize
-    requires { left ≤ 6 }
-    ensures { result ≡ arrangement_count count left }
+// The factorial of a number up to 6.
+#[inline(always)]
+fn factorial(number: u8) -> u32
+    requires { number ≤ 6 }
+    ensures { result ≡ factorial number }
 {
-    if count == 0 {
-        1
-    } else if left == 0 {
-        0
-    } else {
-        left * arrangement_count(count - 1, left - 1)
+    match number {
+        0 | 1 => 1,
+        2 => 2,
+        3 => 6,
+        4 => 24,
+        5 => 120,
+        _ => 720,
     }
 }
 
 // How many registers come after RBP in the list with this count and number, if there is one and it has RBP. Each register is
 // chosen by the next digit of the number: its place among those that are left, whose weight is the number of lists of the
-// others. RBP is the last of those that are left.
+// others. RBP is the last of those that are left. The number and all weights are multiplied by the factorial of how many
+// registers aren't saved: so the weights are factorials, and a compiler that unrolls the loop divides by constants.
 pub(crate) fn saved_after_bp(count: u8, number: u16) -> Option<Option<u8>>
     ensures { result ≡ option_map saved_after_bp (registers_of count number) }
 {
     if count > 6 {
         return None;
     }
-    let count = usize::from(count);
-    let mut number = usize::from(number);
-    for taken in 0..count {
-        let weight = arrangement_count(count - 1 - taken, 5 - taken);
-        let place = number / weight;
-        if place > 5 - taken {
+    let mut rest = u32::from(number) * factorial(6 - count);
+    for taken in 0..6u8 {
+        if taken == count {
+            return Some(None);
+        }
+        let weight = factorial(5 - taken);
+        let place = rest / weight;
+        if place > u32::from(5 - taken) {
             return None;
         }
-        if place == 5 - taken {
-            return Some(Some((count - 1 - taken) as u8));
+        if place == u32::from(5 - taken) {
+            return Some(Some(count - 1 - taken));
         }
-        number %= weight;
+        rest %= weight;
     }
     Some(None)
 }

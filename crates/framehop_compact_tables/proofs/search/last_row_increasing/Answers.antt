@@ -12,9 +12,9 @@ halves-preserved g c =
     let known = c.halves.invariant in
     record {
       left = half-left (g.T.Rows.rows c.args.table.now) (g.T.Rows.start c.args.table.now) c.args.address c.halves.low c.halves.len c.half_left-low.result
-          c.requires c.halves-test.true known.left (rw (← c.counted_start-start.ensures.start) c.half_left-low.ensures);
-      counted = omega (arith, known.counted, c.counted_start-start.ensures.counted);
-      few = at-most-half _ (c.halves.steps - c.args.steps.now) _ c.halves.len c.halves-test.true (omega (arith, known.counted, c.counted_start-start.ensures.counted)) known.few;
+          c.requires c.halves-test.true known.left c.half_left-low.ensures.left;
+      counted = omega (arith, known.counted, c.half_left-low.ensures.counted);
+      few = at-most-half _ (c.halves.steps - c.args.steps.now) _ c.halves.len c.halves-test.true (omega (arith, known.counted, c.half_left-low.ensures.counted)) known.few;
     }
 
 pub returns-then-counted_start-address-clause-row : goal.returns-then-counted_start-address-clause-row
