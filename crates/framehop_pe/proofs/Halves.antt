@@ -1,5 +1,5 @@
 -- Halving of increasing rows.
-use Rattle.std.proofs.Common.{◌≡◌, ℕ, zero, suc, ◌+◌, ◌-◌, ◌/◌, ◌<◌, ◌≤◌, Bool, true, false, if◌then◌else◌, List, refl, ap, sym, ◌∙◌, arith}
+use Rattle.std.proofs.Common.{◌≡◌, ℕ, zero, suc, ◌+◌, ◌*◌, ◌-◌, ◌/◌, ◌<◌, ◌≤◌, Bool, true, false, if◌then◌else◌, List, refl, ap, sym, ◌∙◌, arith}
 use Rattle.std.specs.Prelude.{nat_le, nat_lt, ◌&&◌, Option, Some, None}
 use Rattle.std.proofs.lemmas.Bool.Decides.{nat_tests}
 use Rattle.framehop_pe.specs.Rows.{IsIncreasing, begin_at, end_at, first_number, first_row, pdata_rows, row_contains}
@@ -119,17 +119,17 @@ all-left bytes address count all some = record {
 }
 
 pub half-left : (bytes : List ℕ) (address low len next : ℕ) → IsIncreasing bytes → 1 < len → IsLeft bytes address low len
-    → next ≡ (if nat_le (begin_at bytes (low + len / 2)) address then low + len / 2 else low) → IsLeft bytes address next (len - len / 2)
+    → next ≡ low + len / 2 * (if nat_le (begin_at bytes (low + len / 2)) address then 1 else 0) → IsLeft bytes address next (len - len / 2)
 half-left bytes address low len next up more left is = by (nat_le (begin_at bytes (low + len / 2)) address) refl is
   where
-    by : (b : Bool) → nat_le (begin_at bytes (low + len / 2)) address ≡ b → next ≡ (if b then low + len / 2 else low) → IsLeft bytes address next (len - len / 2)
-    by true reached at = rw at (record {
+    by : (b : Bool) → nat_le (begin_at bytes (low + len / 2)) address ≡ b → next ≡ low + len / 2 * (if b then 1 else 0) → IsLeft bytes address next (len - len / 2)
+    by true reached at = let there : next ≡ low + len / 2 = omega arith in rw there (record {
       some = omega arith;
       within = omega (arith, left.within);
       first = λ above. grind (arith, nat_tests);
       after = λ row past inside. left.after row (omega arith) inside;
     })
-    by false missed at = rw at (record {
+    by false missed at = let there : next ≡ low = omega arith in rw there (record {
       some = omega arith;
       within = omega (arith, left.within);
       first = left.first;

@@ -31,21 +31,21 @@ module _ (file : PeFile) (function : RuntimeFunction) (address : ℕ) (is_first 
       ∙ ap (λ (r : Option Reg). result_and_then (epilog_at file r address function.end_address is_first) (next at.first)) same_register
       ∙ ap (λ (o : PeResult (Option EpilogLeft)). result_and_then o (next at.first)) is
 
-  pub read-epilog : (found : Option Epilog) (epilog : Epilog) → IsEpilogRead found (epilog_at file info.frame_register address function.end_address is_first) → found ≡ Some epilog
+  pub read-epilog : (found : Option Epilog) (epilog : Epilog) → IsEpilogRead (epilog_at file info.frame_register address function.end_address is_first) found → found ≡ Some epilog
       → (undo : ToUndo) × IsRead (undoing.Epilog info.frame_register epilog) undo × (to_undo_in file function address is_first ≡ Ok undo)
   read-epilog found epilog read is =
-      let (pops, popped, left) = subst (λ (o : Option Epilog). IsEpilogRead o (epilog_at file info.frame_register address function.end_address is_first)) is read in
+      let (pops, popped, left) = subst (λ (o : Option Epilog). IsEpilogRead (epilog_at file info.frame_register address function.end_address is_first) o) is read in
       let value : EpilogLeft = record { adjustment = epilog.adjustment; pops = pops } in (
         ByEpilog info.frame_register value,
         (pops, popped, refl),
         from-epilog (Ok (Some value)) left ∙ ap (λ (r : Option Reg). let o : PeResult ToUndo = Ok (ByEpilog r value) in o) same_register,
       )
 
-  module _ (found : Option Epilog) (read : IsEpilogRead found (epilog_at file info.frame_register address function.end_address is_first)) (is : found ≡ None) where
+  module _ (found : Option Epilog) (read : IsEpilogRead (epilog_at file info.frame_register address function.end_address is_first) found) (is : found ≡ None) where
     from-codes : (codes : PeResult CodesToUndo) → codes_to_undo (unwind_info_memory file) at.first (address - function.begin_address) ≡ codes
         → to_undo_in file function address is_first ≡ result_and_then codes (λ c. Ok (ByCodes c))
     from-codes codes came =
-        from-epilog (Ok None) (subst (λ (o : Option Epilog). IsEpilogRead o (epilog_at file info.frame_register address function.end_address is_first)) is read)
+        from-epilog (Ok None) (subst (λ (o : Option Epilog). IsEpilogRead (epilog_at file info.frame_register address function.end_address is_first) o) is read)
         ∙ ap (λ (o : PeResult CodesToUndo). result_and_then o (λ c. Ok (ByCodes c))) came
 
     pub read-codes : (codes : PrologCodes) → ((first : Info) → IsFirst info first → (operations : List UnwindOperation) × (operations_left codes.left ≡ Ok operations)

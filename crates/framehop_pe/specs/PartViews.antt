@@ -33,9 +33,9 @@ abbrev pub IsFoundRead : PeResult ToUndo → Undoing → Type 0
 IsFoundRead found undoing = (undo : ToUndo) × IsRead undoing undo × (found ≡ Ok undo)
 
 -- The epilog at an address, by what was read of it.
-abbrev pub IsEpilogRead : Option Epilog → PeResult (Option EpilogLeft) → Type 0
-IsEpilogRead None found = found ≡ Ok None
-IsEpilogRead (Some epilog) found =
+abbrev pub IsEpilogRead : PeResult (Option EpilogLeft) → Option Epilog → Type 0
+IsEpilogRead found None = found ≡ Ok None
+IsEpilogRead found (Some epilog) =
     (pops : List Reg) × (pops_of epilog.rest.now ≡ Some pops)
     × (found ≡ Ok (Some (record { adjustment = epilog.adjustment; pops = pops })))
 

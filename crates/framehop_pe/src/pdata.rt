@@ -1,6 +1,6 @@
 //! The rows of `.pdata`, and lookups of the function of an address.
 
-ghost use Rattle.std.specs.Prelude.{◌≡◌, ◌↔◌, ◌<◌, ◌≤◌, ◌+◌, ◌^◌, ℕ, IsTrue, IfSome, nat_le, if◌then◌else◌, Some, None};
+ghost use Rattle.std.specs.Prelude.{◌≡◌, ◌↔◌, ◌<◌, ◌≤◌, ◌+◌, ◌*◌, ◌^◌, ℕ, IsTrue, IfSome, nat_le, if◌then◌else◌, Some, None};
 ghost use Rattle.framehop_pe.specs.Rows.{pdata_rows, begin_at, end_at, unwind_info_at, function_at, function_of, first_row, row_contains, IsIncreasing};
 
 use dwarf_readers::{Counted, Steps, count_steps};
@@ -98,12 +98,21 @@ fn counted_begin<L: Ledger>(bytes: &[u8], row: usize, steps: &mut Steps<L>) -> u
     begin_at(bytes, row)
 }
 
-// The first of the rows that are left: those from the middle on if it begins at or below the address.
-fn passed(low: usize, half: usize, begin: u32, address: u32) -> usize
-    requires { low + half < 2 ^ 64 }
-    ensures { result ≡ (if nat_le begin address then low + half else low) }
+// 1 if a begin is at or below an address, else 0: without a branch, which no processor could foresee.
+#[inline(always)]
+fn count_at_or_below(begin: u32, address: u32) -> usize
+    ensures { result ≡ (if nat_le begin address then 1 else 0) }
 {
-    if begin <= address { low + half } else { low }
+    (((1 << 63) + u64::from(address) - u64::from(begin)) >> 63) as usize
+}
+
+// The first of the rows that are left: after a half of them, if the one there begins at or below the address.
+#[inline(always)]
+fn first_left(low: usize, half: usize, begin: u32, address: u32) -> usize
+    requires { low + half < 2 ^ 64 }
+    ensures { result ≡ low + half * (if nat_le begin address then 1 else 0) }
+{
+    low + half * count_at_or_below(begin, address)
 }
 
 // The row, if it contains the address.
@@ -140,7 +149,7 @@ pub fn pdata_lookup_increasing<L: Ledger>(
     'halves: while len > 1 {
         let half = len / 2;
         let begin = counted_begin(bytes, low + half, steps);
-        low = passed(low, half, begin, address);
+        low = first_left(low, half, begin, address);
         len -= half;
     }
     let begin = counted_begin(bytes, low, steps);
@@ -169,6 +178,7 @@ impl Counted for IncreasingLookup<'_> {
 }
 
 // The number of the first row that contains an address: by halving if the rows are known to increase.
+#[inline(always)]
 fn row_of(sections: &PeSections<'_>, address: u32) -> Option<usize>
     requires { IsTrue sections.now.increasing → IsIncreasing sections.now.pdata.now }
     ensures { result ≡ first_row sections.now.pdata.now address }
@@ -184,6 +194,7 @@ fn row_of(sections: &PeSections<'_>, address: u32) -> Option<usize>
 }
 
 // The function of an address.
+#[inline(always)]
 pub(crate) fn function_of(sections: &PeSections<'_>, address: u32) -> Option<RuntimeFunction>
     requires { IsTrue sections.now.increasing → IsIncreasing sections.now.pdata.now }
     ensures function { result ≡ function_of sections.now.pdata.now address }

@@ -11,6 +11,7 @@ use framehop_pe_codes::{CodesLeft, Epilog, SpAdjustment, UnwindOperation, next_p
 use framehop_rules::x86_64::{OffsetOrPop, UnwindRuleX86_64, rules_of_sequences};
 
 // So many bytes as an offset of a rule.
+#[inline(always)]
 fn offset_part(bytes: u32) -> OffsetOrPop
     ensures { result ≡ offset_part bytes }
 {
@@ -22,6 +23,7 @@ fn offset_part(bytes: u32) -> OffsetOrPop
 }
 
 // An operation of a prolog, to be undone.
+#[inline(always)]
 fn operation_part(operation: UnwindOperation) -> OffsetOrPop
     ensures { result ≡ operation_part operation }
 {

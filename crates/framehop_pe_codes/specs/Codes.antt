@@ -40,8 +40,10 @@ with_short operation operand = option_map (λ n. (operation n, 2)) (short_operan
 abbrev pub with_long : (ℕ → UnwindOperation) → List ℕ → Option SizedOperation
 with_long operation operand = option_map (λ n. (operation n, 4)) (long_operand operand)
 
--- The operation of a number and its info, with the operand in the bytes after them. A code may set a frame only if it is framed:
--- its unwind info names a frame register, and so does the first of the chain.
+-- The operation of a number and its info, with the operand in the bytes after them. By their numbers these are 0 UWOP_PUSH_NONVOL,
+-- 1 UWOP_ALLOC_LARGE, 2 UWOP_ALLOC_SMALL, 3 UWOP_SET_FPREG, 4 and 5 UWOP_SAVE_NONVOL and UWOP_SAVE_NONVOL_FAR, 8 and 9
+-- UWOP_SAVE_XMM128 and UWOP_SAVE_XMM128_FAR, and 10 UWOP_PUSH_MACHFRAME. A code may set a frame only if it is framed: its unwind info
+-- names a frame register, and so does the first of the chain.
 abbrev pub operation_of : ℕ → ℕ → Bool → List ℕ → Option SizedOperation
 operation_of number info is_framed operand =
     if number == 0 then Some (Push (register_numbered info), 0) else

@@ -3,7 +3,7 @@ use Rattle.std.specs.Prelude.{ℕ, ◌+◌, ◌*◌, ◌&&◌, true, Bool, List,
 use Rattle.framehop_errors.specs.declared.pe.PeUnwinderError.TheVariants.{UnwindInfoParseError}
 use Rattle.framehop_pe_codes.specs.Codes.{codes_of}
 use Rattle.framehop_pe_codes.specs.Infos.{InfoHeader, Info, header_of, with_codes, info_at, chain_from, operations_of}
-use Rattle.framehop_pe_codes.specs.CodesToUndo.{CodesToUndo}
+use Rattle.framehop_pe_codes.specs.CodesToUndo.{CodesToUndo, codes_to_undo}
 use Rattle.framehop_pe_codes.specs.Refusals.{PeResult, result_and_then, or_refusal}
 use Rattle.framehop_pe_codes.specs.Sections.{Memory, info_memory}
 use Rattle.framehop_pe_codes.specs.declared.info.UnwindInfo.{UnwindInfo}
@@ -56,6 +56,10 @@ abbrev pub IsChainRead : PrologCodes → PeResult CodesToUndo → Type 0
 IsChainRead codes found =
     (operations : List UnwindOperation) × (operations_left codes.left ≡ Ok operations)
     × (found ≡ Ok (record { frame = codes.frame; operations = operations }))
+
+-- The codes in memory are those that are undone of the chain of a first info, at an offset in its function.
+abbrev pub ReadsChain : Memory → UnwindInfo → ℕ → PrologCodes → Type 0
+ReadsChain memory info offset codes = OverFirst info (λ first. IsChainRead codes (codes_to_undo memory first offset))
 
 -- If the codes can all be read, this holds of what is undone by them.
 abbrev pub OverCodes : PrologCodes → (CodesToUndo → Type 0) → Type 0

@@ -9,3 +9,4 @@ pub mod EpilogRuns
 pub mod InfoViews
 pub mod MachineViews
 pub mod EpilogViews
+pub mod StepViews

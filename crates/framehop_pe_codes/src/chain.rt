@@ -53,6 +53,7 @@ impl CodesLeft<'_> {
     /// The next operation, or `None` after the last one. After an error nothing is said of what is left. Fails with
     /// `MissingUnwindInfoData` and `UnwindInfoParseError` if the next info of the chain isn't there or can't be read, and with
     /// the latter if it would be the 33rd.
+    #[inline(always)]
     pub fn next(&mut self) -> Result<Option<UnwindOperation>, PeUnwinderError>
         ensures ok { IfOk result (λ next. operations_left self.old
             ≡ next_and_left next (operations_left self.new)) }

@@ -54,6 +54,7 @@ pub(crate) fn bytes_after(bytes: &[u8], size: usize) -> &[u8]
 }
 
 // An operand of two bytes.
+#[inline(always)]
 fn short_operand(bytes: &[u8]) -> Option<u32>
     ensures value { result ≡ short_operand bytes.now }
     ensures fits { IfSome result (λ n. n < 65536) }
@@ -66,6 +67,7 @@ fn short_operand(bytes: &[u8]) -> Option<u32>
 }
 
 // An operand of four bytes.
+#[inline(always)]
 fn long_operand(bytes: &[u8]) -> Option<u32>
     ensures value { result ≡ long_operand bytes.now }
     ensures within { IfSome result (λ _. 4 ≤ length bytes.now) }
@@ -77,6 +79,7 @@ fn long_operand(bytes: &[u8]) -> Option<u32>
 }
 
 // The operation of a number and its info, and how many bytes its operand has.
+#[inline(always)]
 fn read_operation(
     number: u8,
     info: u8,
@@ -125,6 +128,7 @@ fn read_operation(
 /// The first code of some bytes, and how many bytes it has. `is_framed` says that its unwind info and the first of the
 /// chain name a frame register; otherwise no code may set a frame.
 #[tactic(auto, unfolding(crate::specs::Codes::code_of))]
+#[inline(always)]
 pub fn read_code(is_framed: bool, bytes: &[u8]) -> Option<(UnwindCode, usize)>
     ensures code { result ≡ code_of is_framed bytes.now }
     ensures within { IfSome result (λ found. found.1 ≤ length bytes.now) }

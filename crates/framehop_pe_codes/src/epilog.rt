@@ -58,6 +58,7 @@ fn is_pop(byte: u8) -> bool
 
 // The pop that some bytes begin with, and how many bytes it has.
 #[tactic(auto, unfolding(crate::specs::Epilogs::pop_of))]
+#[inline(always)]
 pub(crate) fn pop_of(bytes: &[u8]) -> Option<(Reg, usize)>
     ensures pop { result ≡ pop_of bytes.now }
     ensures within { IfSome result (λ found. found.1 ≤ length bytes.now) }
@@ -90,6 +91,7 @@ fn are_pops(bytes: &[u8]) -> bool
 }
 
 // An add of an immediate of one byte that isn't negative.
+#[inline(always)]
 fn short_add(bytes: &[u8]) -> Option<(SpAdjustment, usize)>
     ensures found { result ≡ short_add bytes.now }
     ensures within { IfSome result (λ found. found.1 ≤ length bytes.now) }
@@ -102,6 +104,7 @@ fn short_add(bytes: &[u8]) -> Option<(SpAdjustment, usize)>
 }
 
 // An add of an immediate of four bytes that isn't negative.
+#[inline(always)]
 fn long_add(bytes: &[u8]) -> Option<(SpAdjustment, usize)>
     ensures found { result ≡ long_add bytes.now }
     ensures within { IfSome result (λ found. found.1 ≤ length bytes.now) }
@@ -162,6 +165,7 @@ fn begins_lea(mode: u8, register: u8, bytes: &[u8]) -> bool
 }
 
 // The lea from a register with a displacement of one byte.
+#[inline(always)]
 fn short_lea(register: u8, bytes: &[u8]) -> Option<(SpAdjustment, usize)>
     requires { register < 16 }
     ensures found { result ≡ short_lea register bytes.now }
@@ -176,6 +180,7 @@ fn short_lea(register: u8, bytes: &[u8]) -> Option<(SpAdjustment, usize)>
 }
 
 // The lea from a register with a displacement of four bytes.
+#[inline(always)]
 fn long_lea(register: u8, bytes: &[u8]) -> Option<(SpAdjustment, usize)>
     requires { register < 16 }
     ensures found { result ≡ long_lea register bytes.now }
@@ -218,6 +223,7 @@ fn number_of(register: Reg) -> u8
 }
 
 // The lea from the frame register, if there is one.
+#[inline(always)]
 fn read_lea(frame_register: Option<Reg>, bytes: &[u8]) -> Option<(SpAdjustment, usize)>
     ensures found { result ≡ lea frame_register bytes.now }
     ensures within { IfSome result (λ found. found.1 ≤ length bytes.now) }
@@ -231,6 +237,7 @@ fn read_lea(frame_register: Option<Reg>, bytes: &[u8]) -> Option<(SpAdjustment, 
 
 // The adjustment that some bytes begin with, and how many bytes it has.
 #[tactic(auto, unfolding(crate::specs::Epilogs::adjustment_of))]
+#[inline(always)]
 fn adjustment_of(frame_register: Option<Reg>, bytes: &[u8]) -> (SpAdjustment, usize)
     ensures found { result ≡ adjustment_of frame_register bytes.now }
     ensures within { result.1 ≤ length bytes.now }
@@ -249,7 +256,8 @@ fn adjustment_of(frame_register: Option<Reg>, bytes: &[u8]) -> (SpAdjustment, us
 
 /// What some bytes are of an epilog, if they are: the bytes from an address to the end of its function, whose frame
 /// register is this. An epilog that ends otherwise than by `ret`, `rep ret`, `jmp` with a displacement or `jmp` through
-/// memory at RIP plus a displacement isn't recognised.
+/// memory at RIP plus a displacement isn't recognised. A jump counts as an end wherever it leads, also within the function.
+#[inline(always)]
 pub fn read_epilog(frame_register: Option<Reg>, bytes: &[u8]) -> Option<Epilog<'_>>
     ensures none { result ≡ None → epilog_of frame_register bytes.now ≡ None }
     ensures some { IfSome result (λ epilog. IsEpilog frame_register epilog bytes.now) }

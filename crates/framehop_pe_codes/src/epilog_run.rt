@@ -3,10 +3,11 @@
 ghost use Rattle.std.specs.Prelude.{◌≡◌, ◌≤◌, ◌<◌, pos, ◌+ℤ◌, true, false, [], length, Some, None, IfSome, IsSome, IfErr, OnErr};
 ghost use Rattle.framehop_registers.specs.Callback.{OverWords};
 ghost use Rattle.framehop_pe_codes.specs.Epilogs.{pops_of, pop_of, is_end};
-ghost use Rattle.framehop_pe_codes.specs.EpilogRuns.{caller_by_pops, moved, adjusted, caller_by_epilog};
-ghost use Rattle.framehop_pe_codes.specs.EpilogViews.{IsPoppedFirst, OverEpilog, OverPops};
-ghost use Rattle.framehop_pe_codes.specs.MachineViews.{caller_seen, registers_seen, IsStepTo};
+ghost use Rattle.framehop_pe_codes.specs.EpilogRuns.{moved, adjusted};
+ghost use Rattle.framehop_pe_codes.specs.EpilogViews.{IsPoppedFirst, OverPops};
+ghost use Rattle.framehop_pe_codes.specs.MachineViews.{registers_seen};
 ghost use Rattle.framehop_pe_codes.specs.Refusals.{IsOfStack};
+ghost use Rattle.framehop_pe_codes.specs.StepViews.{RunsPops, StepsByEpilog};
 
 use crate::code::bytes_after;
 use crate::epilog::{Epilog, SpAdjustment, is_end, pop_of};
@@ -15,6 +16,7 @@ use framehop_errors::PeUnwinderError;
 use framehop_registers::x86_64::{Reg, UnwindRegsX86_64};
 
 // The pop that comes next, if it isn't the end.
+#[inline(always)]
 fn next_pop(bytes: &[u8]) -> Option<(Reg, usize)>
     requires { IsSome (pops_of bytes.now) }
     ensures next { IfSome result (λ found. pop_of bytes.now ≡ Some found) }
@@ -35,9 +37,8 @@ fn run_pops<F: FnMut(u64) -> Result<u64, ()>>(
     requires callable { F.IsAlwaysCallable read_stack.old }
     requires pops { IsSome (pops_of bytes.now) }
     ensures callable { F.IsAlwaysCallable read_stack.new }
-    ensures run { OverWords F.step read_stack.old read_stack.new (λ words.
-        OverPops bytes.now (λ registers.
-        caller_seen result regs.new ≡ caller_by_pops registers regs.old words)) }
+    ensures run { OverWords F.step read_stack.old read_stack.new
+        (RunsPops bytes.now result regs.old regs.new) }
     ensures refusal { IfErr result IsOfStack }
 {
     let mut rest = bytes;
@@ -92,9 +93,8 @@ pub fn unwind_by_epilog<F: FnMut(u64) -> Result<u64, ()>>(
     requires callable { F.IsAlwaysCallable read_stack.old }
     requires pops { IsSome (pops_of epilog.now.rest.now) }
     ensures callable { F.IsAlwaysCallable read_stack.new }
-    ensures step { OverWords F.step read_stack.old read_stack.new (λ words.
-        OverEpilog epilog.now (λ left. IsStepTo result regs.old regs.new
-        (caller_by_epilog frame_register left regs.old words))) }
+    ensures step { OverWords F.step read_stack.old read_stack.new
+        (StepsByEpilog frame_register epilog.now result regs.old regs.new) }
     ensures error_keeps { OnErr result (regs.new ≡ regs.old) }
     ensures refusal { IfErr result IsOfStack }
 {
@@ -106,6 +106,7 @@ pub fn unwind_by_epilog<F: FnMut(u64) -> Result<u64, ()>>(
 }
 
 /// The register that an epilog pops next, and the bytes after that pop; `None` at its end.
+#[inline(always)]
 pub fn next_popped(bytes: &[u8]) -> Option<(Reg, &[u8])>
     ensures end { result ≡ None → OverPops bytes.now (λ registers. registers ≡ []) }
     ensures pop { IfSome result (λ found.

@@ -36,6 +36,7 @@ fn frame_register_of(byte: u8) -> Option<Reg>
 
 // The header that some bytes begin with, and the bytes of the codes, which may be none.
 #[tactic(auto, unfolding(crate::specs::Infos::header_of))]
+#[inline(always)]
 fn read_header(bytes: &[u8]) -> Option<UnwindInfo<'_>>
     ensures header { option_map header_seen result ≡ header_of bytes.now }
     ensures few { IfSome result (λ info. length info.codes.now ≤ 510) }
@@ -83,6 +84,7 @@ fn are_codes(is_framed: bool, bytes: &[u8]) -> bool
 
 /// The info that some bytes begin with, if its codes can be read too. `is_first_framed` says that the first info of its
 /// chain names a frame register; for the first one itself it is true.
+#[inline(always)]
 pub fn read_info(is_first_framed: bool, bytes: &[u8]) -> Option<UnwindInfo<'_>>
     ensures none { result ≡ None → info_of is_first_framed bytes.now ≡ None }
     ensures info { IfSome result (λ info. IsInfo is_first_framed info bytes.now) }

@@ -4,11 +4,10 @@ ghost use Rattle.std.specs.Prelude.{◌≡◌, IfOk, IfErr, OnErr, Err, true};
 ghost use Rattle.framehop_registers.specs.Callback.{OverWords};
 ghost use Rattle.framehop_pe_codes.specs.CodesToUndo.{operations_from, codes_to_undo};
 ghost use Rattle.framehop_pe_codes.specs.Infos.{info_at};
-ghost use Rattle.framehop_pe_codes.specs.InfoViews.{operations_left, IsFirstAt, IsChainRead, OverCodes, OverFirst};
-ghost use Rattle.framehop_pe_codes.specs.Machine.{caller_by_codes};
-ghost use Rattle.framehop_pe_codes.specs.MachineViews.{IsStepTo};
+ghost use Rattle.framehop_pe_codes.specs.InfoViews.{operations_left, IsFirstAt, OverCodes, OverFirst, ReadsChain};
 ghost use Rattle.framehop_pe_codes.specs.Refusals.{IsOfStack};
 ghost use Rattle.framehop_pe_codes.specs.Sections.{info_memory};
+ghost use Rattle.framehop_pe_codes.specs.StepViews.{StepsByCodes};
 
 use crate::chain::{CodesLeft, ran_codes};
 use crate::info::{UnwindInfo, read_info};
@@ -29,6 +28,7 @@ pub struct PrologCodes<'a> {
 
 /// The first info of a chain, at an address. Fails with `MissingUnwindInfoData`, and with `UnwindInfoParseError` if the
 /// bytes there are no unwind info of version 1.
+#[inline(always)]
 pub fn first_info<'a>(
     sections: PeSections<'a>,
     address: u32,
@@ -60,13 +60,13 @@ fn codes_from<'a>(sections: PeSections<'a>, info: UnwindInfo<'a>, offset: u32) -
 }
 
 /// Reads the whole chain of a first info, for an address at this offset in the function.
+#[inline(always)]
 pub fn read_chain<'a>(
     sections: PeSections<'a>,
     info: UnwindInfo<'a>,
     offset: u32,
 ) -> Result<PrologCodes<'a>, PeUnwinderError>
-    ensures ok { IfOk result (λ codes. OverFirst info.entry (λ first.
-        IsChainRead codes (codes_to_undo (info_memory sections.entry) first offset))) }
+    ensures ok { IfOk result (ReadsChain (info_memory sections.entry) info.entry offset) }
     ensures err { IfErr result (λ e. OverFirst info.entry (λ first.
         codes_to_undo (info_memory sections.entry) first offset ≡ Err e)) }
 {
@@ -89,9 +89,8 @@ pub fn unwind_by_codes<F: FnMut(u64) -> Result<u64, ()>>(
 ) -> Result<u64, PeUnwinderError>
     requires { F.IsAlwaysCallable read_stack.old }
     ensures callable { F.IsAlwaysCallable read_stack.new }
-    ensures step { OverWords F.step read_stack.old read_stack.new (λ words.
-        OverCodes codes.entry (λ undo. IsStepTo result regs.old regs.new
-        (caller_by_codes undo.frame undo.operations regs.old words))) }
+    ensures step { OverWords F.step read_stack.old read_stack.new
+        (StepsByCodes codes.entry result regs.old regs.new) }
     ensures error_keeps { OnErr result (regs.new ≡ regs.old) }
     ensures refusal { OverCodes codes.entry (λ undo. IfErr result IsOfStack) }
 {

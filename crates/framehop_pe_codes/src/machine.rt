@@ -192,6 +192,7 @@ pub(crate) fn return_to_caller<F: FnMut(u64) -> Result<u64, ()>>(
 }
 
 // Undoes one code; answers the address of the code that was interrupted, or `None` to go on.
+#[inline(always)]
 pub(crate) fn undo<F: FnMut(u64) -> Result<u64, ()>>(
     frame: &FrameBase,
     operation: UnwindOperation,

@@ -4,9 +4,8 @@ ghost use Rattle.std.specs.Prelude.{◌≡◌, IfErr, Ok};
 ghost use Rattle.framehop_registers.specs.Callback.{OverWords};
 ghost use Rattle.framehop_pe_codes.specs.CodesToUndo.{sets_frame};
 ghost use Rattle.framehop_pe_codes.specs.InfoViews.{operations_left, OverOperations};
-ghost use Rattle.framehop_pe_codes.specs.Machine.{caller_by_codes};
-ghost use Rattle.framehop_pe_codes.specs.MachineViews.{caller_seen};
 ghost use Rattle.framehop_pe_codes.specs.Refusals.{IsOfStack, result_and_then};
+ghost use Rattle.framehop_pe_codes.specs.StepViews.{RunsCodes};
 
 use crate::chain::CodesLeft;
 use crate::machine::{FrameBase, return_to_caller, undo};
@@ -37,9 +36,8 @@ pub(crate) fn undo_codes<F: FnMut(u64) -> Result<u64, ()>>(
 ) -> Result<u64, PeUnwinderError>
     requires { F.IsAlwaysCallable read_stack.old }
     ensures callable { F.IsAlwaysCallable read_stack.new }
-    ensures run { OverWords F.step read_stack.old read_stack.new (λ words.
-        OverOperations left.entry (λ operations.
-        caller_seen result regs.new ≡ caller_by_codes frame.now operations regs.old words)) }
+    ensures run { OverWords F.step read_stack.old read_stack.new
+        (RunsCodes frame.now left.entry result regs.old regs.new) }
     ensures refusal { OverOperations left.entry (λ operations. IfErr result IsOfStack) }
 {
     let mut rest = left;

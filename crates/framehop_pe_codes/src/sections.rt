@@ -33,6 +33,7 @@ pub struct PeSections<'a> {
 
 impl<'a> DataAtRvaRange<'a> {
     // The bytes from an address on.
+    #[inline(always)]
     fn bytes_from(&self, address: u32) -> Option<&'a [u8]>
         ensures some { IfSome result (λ bytes. bytes_from (section_of self.now) address ≡ Some bytes.now) }
         ensures none { result ≡ None → bytes_from (section_of self.now) address ≡ None }
@@ -49,6 +50,7 @@ impl<'a> DataAtRvaRange<'a> {
 }
 
 // The bytes of a section from an address on, if there is a section.
+#[inline(always)]
 fn bytes_of<'a>(section: Option<&'a DataAtRvaRange<'a>>, address: u32) -> Option<&'a [u8]>
     ensures some { IfSome result (λ bytes. section_bytes (section_lent section.entry) address ≡ Some bytes.now) }
     ensures none { result ≡ None → section_bytes (section_lent section.entry) address ≡ None }
@@ -63,6 +65,7 @@ impl<'a> PeSections<'a> {
     /// The bytes of unwind info from an address on: those of `.rdata` if the address is in its range and not past its
     /// data, or else those of `.xdata`. Fails with `MissingUnwindInfoData`.
     #[tactic(auto, unfolding(crate::specs::Sections::file_of))]
+    #[inline(always)]
     pub fn unwind_info_memory_at_rva(&self, rva: u32) -> Result<&'a [u8], PeUnwinderError>
         ensures ok { IfOk result (λ bytes. unwind_info_memory (file_of self.now) rva ≡ Ok bytes.now) }
         ensures err { IfErr result (λ e. unwind_info_memory (file_of self.now) rva ≡ Err e) }
@@ -79,6 +82,7 @@ impl<'a> PeSections<'a> {
     /// The code from an address on. Fails with `MissingInstructionData` if the address is outside of the range of `.text`
     /// or past its data.
     #[tactic(auto, unfolding(crate::specs::Sections::file_of))]
+    #[inline(always)]
     pub fn text_memory_at_rva(&self, rva: u32) -> Result<&'a [u8], PeUnwinderError>
         ensures ok { IfOk result (λ bytes. text_memory (file_of self.now) rva ≡ Ok bytes.now) }
         ensures err { IfErr result (λ e. text_memory (file_of self.now) rva ≡ Err e) }

@@ -35,6 +35,7 @@ pub(crate) enum Undoing<'a> {
 }
 
 // The code of a function from an address to its end.
+#[inline(always)]
 fn code_to_end<'a>(
     sections: PeSections<'a>,
     address: u32,
@@ -53,6 +54,7 @@ fn code_to_end<'a>(
 }
 
 // The epilog that is left at an address, in a first frame.
+#[inline(always)]
 fn epilog_at<'a>(
     sections: PeSections<'a>,
     frame_register: Option<Reg>,
@@ -61,8 +63,8 @@ fn epilog_at<'a>(
     is_first_frame: bool,
 ) -> Result<Option<Epilog<'a>>, PeUnwinderError>
     requires { address ≤ end }
-    ensures ok { IfOk result (λ epilog.
-        IsEpilogRead epilog (epilog_at (file_of sections.entry) frame_register address end is_first_frame)) }
+    ensures ok { IfOk result (IsEpilogRead
+        (epilog_at (file_of sections.entry) frame_register address end is_first_frame)) }
     ensures err { IfErr result (λ e.
         epilog_at (file_of sections.entry) frame_register address end is_first_frame ≡ Err e) }
 {
@@ -74,6 +76,7 @@ fn epilog_at<'a>(
 }
 
 // What is undone at an address in a function. Its first unwind info is read before all else.
+#[inline(always)]
 fn to_undo_in<'a>(
     sections: PeSections<'a>,
     function: RuntimeFunction,
@@ -166,6 +169,7 @@ fn undo<F: FnMut(u64) -> Result<u64, ()>>(
 
 // What is undone at an address.
 #[tactic(auto, unfolding(framehop_pe_codes::specs::Sections::file_of))]
+#[inline(always)]
 fn to_undo_at<'a>(
     sections: PeSections<'a>,
     address: u32,

@@ -18,8 +18,8 @@ pub halves-preserved : goal.halves-preserved
 halves-preserved g c =
     let known = c.halves.invariant in
     record {
-      left = half-left c.args.bytes.now c.args.address c.halves.low c.halves.len c.passed-low.result c.requires c.halves-test.true known.left
-          (rw (← c.counted_begin-begin.ensures.begin) c.passed-low.ensures);
+      left = half-left c.args.bytes.now c.args.address c.halves.low c.halves.len c.first_left-low.result c.requires c.halves-test.true known.left
+          (rw (← c.counted_begin-begin.ensures.begin) c.first_left-low.ensures);
       counted = omega (arith, known.counted, c.counted_begin-begin.ensures.counted);
       few =
           let one : c.counted_begin-begin.new.steps - c.args.steps.now ≡ c.halves.steps - c.args.steps.now + 1 = omega (arith, known.counted, c.counted_begin-begin.ensures.counted) in

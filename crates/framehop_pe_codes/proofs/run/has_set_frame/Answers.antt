@@ -1,4 +1,4 @@
-use Rattle.std.proofs.Common.{◌≡◌, ◌∙◌, Bool, true, false, List, ap, refl, sym}
+use Rattle.std.proofs.Common.{◌≡◌, ◌∙◌, Bool, true, false, ap, refl, sym}
 use Rattle.std.specs.Prelude.{◌||◌, Option, Some, Ok, Err}
 use Rattle.framehop_pe_codes.specs.CodesToUndo.{sets_frame}
 use Rattle.framehop_pe_codes.specs.InfoViews.{next_and_left, operations_left, with_operation}
