@@ -1,4 +1,5 @@
 pub mod CoverageAnswers
+pub mod CoveredSteps
 pub mod Coverages
 pub mod LaterSteps
 pub mod MethodAnswers
@@ -8,6 +9,7 @@ pub mod RowStarts
 pub mod RowTrials
 pub mod SameSteps
 pub mod SectionsMade
+pub mod Tabulations
 pub mod TruthfulLookups
 pub mod WalkEnds
 pub mod WalkValues

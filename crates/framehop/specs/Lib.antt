@@ -1,3 +1,4 @@
+pub mod ArchMeanings
 pub mod Attempts
 pub mod Coverage
 pub mod DwarfViews
@@ -6,11 +7,13 @@ pub mod LookupsAlike
 pub mod MethodViews
 pub mod Methods
 pub mod PeMethods
+pub mod Performances
 pub mod RowAttempts
 pub mod RowCfas
 pub mod SameSteps
 pub mod SectionTypes
 pub mod StepMeanings
+pub mod TabulatedViews
 pub mod TableMethods
 pub mod TruthfulLookups
 pub mod UnwindData

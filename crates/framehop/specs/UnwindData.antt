@@ -107,6 +107,20 @@ scanned (Pe file) = Pe file
 scanned (Compact file eh_frame) = Compact file eh_frame
 scanned NoFormat = NoFormat
 
+-- the format if FDEs are found by an index, also if there is a header
+abbrev pub indexed : ModuleFormat → ModuleFormat
+indexed (CallFrames section lookup) = CallFrames section ByIndex
+indexed (Pe file) = Pe file
+indexed (Compact file eh_frame) = Compact file eh_frame
+indexed NoFormat = NoFormat
+
+-- the section of call frames that a format has
+abbrev pub frame_section_of : ModuleFormat → Option (UnwindSectionType (List ℕ))
+frame_section_of (CallFrames section lookup) = Some section
+frame_section_of (Pe file) = None
+frame_section_of (Compact file eh_frame) = None
+frame_section_of NoFormat = None
+
 -- FDEs are found by a header in `.eh_frame` alone.
 abbrev pub HasHeaderOfEhFrame : ModuleFormat → Type 0
 HasHeaderOfEhFrame (CallFrames (section.DebugFrame bytes) (ByHeader header)) = ⊥
@@ -119,6 +133,14 @@ unwind_data_of s = record { format = format_of s.base_svma (chosen_sections s); 
 -- the unwind data of a module whose section of call frames is read at each step
 abbrev pub scanned_data_of : Sections → UnwindData
 scanned_data_of s = record { format = scanned (format_of s.base_svma (chosen_sections s)); bases = bases_of (base_svmas s); base_svma = s.base_svma }
+
+-- unwind data whose section of call frames is read by an index, also if there is a header
+abbrev pub by_index : UnwindData → UnwindData
+by_index given = record given { format = indexed given.format }
+
+-- the unwind data of a module with these sections, whose section of call frames is read by an index
+abbrev pub indexed_data_of : Sections → UnwindData
+indexed_data_of s = by_index (unwind_data_of s)
 
 -- How the unwind data of a PE file say to unwind a frame at a relative address, a first or a later one.
 abbrev pub PeMethods : Type 0 → Type 0 → Type 0

@@ -1,6 +1,7 @@
 -- The unwind data of a module as contracts see it.
 use Rattle.std.specs.Prelude.{◌≡◌, ℕ, List, Option, Some, None, option_map, Result, IfOk, IsTrue, false}
 use Rattle.std.specs.Borrow.{Bor}
+use Rattle.std.specs.declared.ops.Range.{Range}
 use Rattle.dwarf_frame_rows.specs.declared.base_addresses.BaseAddresses.{BaseAddresses}
 use Rattle.dwarf_frame_rows.specs.FrameSection.{FrameSection}
 use Rattle.framehop_compact.specs.CompactFiles.{Code, CompactFile}
@@ -75,6 +76,12 @@ compact_view content file = record {
   stubs = file.stubs;
   stub_helper = file.stub_helper;
 }
+
+-- the Mach-O file of the sections that are taken
+abbrev pub compact_file_taken : {D : Type 0} → (D → List ℕ) → (base : ℕ) → D → (stubs stub_helper : Option (Range ℕ)) → Option (SectionData D)
+    → CompactFile
+compact_file_taken content base unwind_info stubs stub_helper text =
+    data_.compact_file base (content unwind_info) stubs stub_helper (taken_bytes content text)
 
 -- the tables of a Mach-O file increase, if the module says that they do
 abbrev pub TablesIncrease : {D : Type 0} → (D → List ℕ) → CompactModule D → Type 0

@@ -3,12 +3,12 @@
 ghost use Rattle.std.specs.Prelude.{◌≡◌, IfOk, OnOk, OnErr, None, [], replicate};
 ghost use Rattle.std.specs.List.{All};
 ghost use Rattle.framehop_histories.specs.CommandViews.{OfCallback};
-ghost use Rattle.framehop_histories.specs.Performs.{Performs};
 ghost use Rattle.framehop_rules.specs.Slots.{no_counts};
 ghost use Rattle.framehop_unwinder.specs.CacheViews.{rules_of};
-ghost use Rattle.framehop.specs.StepMeanings.{asks_aarch64, meanings_aarch64};
+ghost use Rattle.framehop.specs.Performances.{PerformsAarch64};
 
 use crate::arch::BySections;
+use crate::by_tables::ByTables;
 use crate::cache::{AllocationPolicy, MayAllocateDuringUnwind};
 use crate::context::DwarfUnwindContext;
 use crate::histories::{self, Answer, Command};
@@ -25,6 +25,12 @@ use std::collections::VecDeque;
 /// `D`; `P` says whether a step may allocate.
 pub type UnwinderAarch64<D, P = MayAllocateDuringUnwind> = UnwinderInternal<
     BySections<ArchAarch64, D, P>,
+>;
+
+/// The unwinder of a process on aarch64, in which modules may have tables of rules, as
+/// [`load_module_tabulated`](crate::load_module_tabulated) makes them. Its caches are those of [`UnwinderAarch64`].
+pub type TabulatedUnwinderAarch64<D, P = MayAllocateDuringUnwind> = UnwinderInternal<
+    ByTables<ArchAarch64, D, P>,
 >;
 
 /// What steps on aarch64 keep and reuse: a cache of unwind rules, and storage that steps evaluate rows in.
@@ -79,9 +85,8 @@ pub fn perform<
     >,
 ) -> Result<Vec<Answer<UnwindRegsAarch64>>, AllocError>
     requires { All (OfCallback F.IsAlwaysCallable) commands.old.items }
-    ensures performs { IfOk result (λ answers.
-        Performs F.step P.may_allocate (asks_aarch64 P.limits) (meanings_aarch64 P.limits)
-        session.old commands.old.items session.new answers.items) }
+    ensures performs { IfOk result (λ done. PerformsAarch64 F.step P.may_allocate P.limits
+        session.old commands.old.items session.new done.items) }
     ensures performed { OnOk result (commands.new.items ≡ []) }
     ensures refused { OnErr result (session.new ≡ session.old) }
     ensures waiting { OnErr result (commands.new ≡ commands.old) }

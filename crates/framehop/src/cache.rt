@@ -10,7 +10,8 @@ use arrayvec::ArrayVec;
 use dwarf_expressions::EvaluationStorage;
 use dwarf_frame_rows::{RegisterRule, RuledRegister, UnwindContextStorage, UnwindTableRow};
 use dwarf_read_core::ReaderOffset;
-use dwarf_storage::{ArrayLike, StoreOnHeap};
+use dwarf_storage::{ArrayLike, ReservedVec, StoreOnHeap};
+use framehop_storage::InPlaceVec;
 
 /// Whether a step may allocate: the storage of rows and of the values of expressions.
 pub trait AllocationPolicy {
@@ -45,7 +46,7 @@ impl AllocationPolicy for MayAllocateDuringUnwind {
     ghost use Rattle.std.proofs.Common.{refl, true};
     ghost use Rattle.framehop.specs.StepMeanings.{limits_may_allocate};
 
-    type GimliUnwindContextStorage = StoreOnHeap;
+    type GimliUnwindContextStorage = StoreRowsOnHeap;
 
     type GimliEvaluationStorage = StoreOnHeap;
 
@@ -84,18 +85,41 @@ impl AllocationPolicy for MustNotAllocateDuringUnwind {
     ghost taken = { refl };
 }
 
+// How many rules a row holds.
+const MAX_RULES: usize = 192;
+
+// How many rows a storage holds.
+const MAX_ROWS: usize = 4;
+
+// The rules of a row, in place.
+type StackRules<T> = InPlaceVec<RuledRegister<RegisterRule<T>>, MAX_RULES>;
+
+/// Rows on the heap, of rules in place: at most 4 rows of 192 rules. The room for the rows is made with the context
+/// that keeps them, and no later call allocates.
+#[derive(Debug, Clone, Copy)]
+pub struct StoreRowsOnHeap;
+
+impl<T: ReaderOffset> UnwindContextStorage<T> for StoreRowsOnHeap {
+    ghost use Rattle.std.proofs.Common.{lit≤, refl};
+
+    type Rules = StackRules<T>;
+
+    type Stack = ReservedVec<UnwindTableRow<T, StackRules<T>>, MAX_ROWS>;
+
+    ghost limits = { limits_of (Some 192) (Some 4) };
+
+    ghost limited = { refl };
+
+    ghost never_allocates = { TakesNoMemory true (limits_of (Some 192) (Some 4)) };
+
+    ghost allocates_never = { (λ t. t, λ t. t) };
+
+    ghost room = { lit≤ tt };
+}
+
 /// Rows and values in place: at most 4 rows of 192 rules, and 64 values.
 #[derive(Debug, Clone, Copy)]
 pub struct StoreOnStack;
-
-// How many rules a row of `StoreOnStack` holds.
-const MAX_RULES: usize = 192;
-
-// How many rows `StoreOnStack` holds.
-const MAX_ROWS: usize = 4;
-
-// The rules of a row of `StoreOnStack`.
-type StackRules<T> = ArrayVec<RuledRegister<RegisterRule<T>>, MAX_RULES>;
 
 impl<T: ReaderOffset> UnwindContextStorage<T> for StoreOnStack {
     ghost use Rattle.std.proofs.Common.{lit≤, refl};

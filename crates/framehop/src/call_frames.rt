@@ -2,10 +2,11 @@
 
 ghost use Rattle.std.specs.Prelude.{◌≡◌, option_map};
 ghost use Rattle.framehop_rules.specs.UnwindResults.{HasValidRule};
+ghost use Rattle.framehop_tables.specs.Covered.{SaysValid, covered_at, tabulated};
 ghost use Rattle.framehop.specs.DwarfViews.{frame_section_lent};
-ghost use Rattle.framehop.specs.LookupMethods.{method_by};
+ghost use Rattle.framehop.specs.LookupMethods.{ByIndex, method_by};
 ghost use Rattle.framehop.specs.MethodViews.{AnswersMethod};
-ghost use Rattle.framehop.specs.Methods.{method_at};
+ghost use Rattle.framehop.specs.Methods.{UsesFde, method_at};
 ghost use Rattle.framehop.specs.UnwindData.{method_in};
 ghost use Rattle.framehop.specs.RowAttempts.{dwarf_failure, failure_of};
 ghost use Rattle.framehop.specs.UnwindDataViews.{LeadsInto, header_bytes, lookup_view};
@@ -17,8 +18,9 @@ use crate::dwarf::{DwarfUnwinder, UnwindSectionType};
 use crate::unwind_data::Lookup;
 use dwarf_frame_entries::BaseAddresses;
 use framehop_errors::{DwarfUnwinderError, PeUnwinderError, UnwinderError};
-use framehop_rows::DwarfUnwinding;
+use framehop_rows::{DwarfUnwinding, RowRules};
 use framehop_rules::UnwindResult;
+use framehop_tables::Covered;
 use framehop_unwinder::UnwindFailure;
 use std::alloc::Global;
 
@@ -176,6 +178,89 @@ pub(crate) fn unwind_frame_by_call_frames<
     }
 }
 
+// The step by the FDE at an offset of a section of call frames, from a frame at a relative address.
+fn unwind_frame_at_offset<A: DwarfUnwinding, P: AllocationPolicy, F: FnMut(u64) -> Result<u64, ()>>(
+    section: UnwindSectionType<&[u8]>,
+    bases: &BaseAddresses,
+    base_svma: u64,
+    regs: &mut A::UnwindRegs,
+    is_first_frame: bool,
+    relative_address: u32,
+    fde_offset: u32,
+    unwind_context: &mut DwarfUnwindContext<P>,
+    read_stack: &mut F,
+) -> Result<UnwindResult<A::UnwindRule>, UnwindFailure>
+    requires callable { F.IsAlwaysCallable read_stack.old }
+    ensures callable { F.IsAlwaysCallable read_stack.new }
+    ensures answers { AnswersMethod F.step read_stack.old read_stack.new regs.old regs.new result
+        A.rows A.MeetsExpression P.limits P.may_allocate base_svma relative_address is_first_frame
+        (UsesFde (frame_section_lent bases.entry section.entry) fde_offset) }
+    ensures valid { HasValidRule A.UnwindRule.is_valid result }
+{
+    let alloc = unwind_context.alloc;
+    let mut unwinder = DwarfUnwinder::<A, P::GimliUnwindContextStorage>::new(
+        section,
+        None,
+        &mut *unwind_context.rows,
+        bases,
+        base_svma,
+    );
+    unwind_frame_if_found::<A, P, F>(
+        &mut unwinder,
+        alloc,
+        regs,
+        is_first_frame,
+        relative_address,
+        Some(fde_offset),
+        UnwinderError::NoDwarfData,
+        read_stack,
+    )
+}
+
+// The step by what a table says of a relative address in a section of call frames, from a frame there.
+#[inline(always)]
+pub(crate) fn unwind_frame_by_covered<
+    A: RowRules,
+    P: AllocationPolicy,
+    F: FnMut(u64) -> Result<u64, ()>,
+>(
+    covered: Covered<A::UnwindRule>,
+    section: UnwindSectionType<&[u8]>,
+    bases: &BaseAddresses,
+    base_svma: u64,
+    regs: &mut A::UnwindRegs,
+    is_first_frame: bool,
+    relative_address: u32,
+    unwind_context: &mut DwarfUnwindContext<P>,
+    read_stack: &mut F,
+) -> Result<UnwindResult<A::UnwindRule>, UnwindFailure>
+    requires valid { SaysValid A.UnwindRule.is_valid covered }
+    requires covered { let t = tabulated A.rows A.rule_of P.limits.rows A.rows.vendor in
+        covered ≡ covered_at (t base_svma (frame_section_lent bases section)) relative_address }
+    requires callable { F.IsAlwaysCallable read_stack.old }
+    ensures callable { F.IsAlwaysCallable read_stack.new }
+    ensures answers { AnswersMethod F.step read_stack.old read_stack.new regs.old regs.new result
+        A.rows A.MeetsExpression P.limits P.may_allocate base_svma relative_address is_first_frame
+        (method_by ByIndex bases.now (frame_section_lent bases.entry section.entry) base_svma relative_address) }
+    ensures valid { HasValidRule A.UnwindRule.is_valid result }
+{
+    match covered {
+        Covered::Says(rule) => Ok(UnwindResult::ExecRule(rule)),
+        Covered::Nothing => Err(failure_of(UnwinderError::DwarfCfiIndexCouldNotFindAddress)),
+        Covered::Evaluates(fde_offset) => unwind_frame_at_offset::<A, P, F>(
+            section,
+            bases,
+            base_svma,
+            regs,
+            is_first_frame,
+            relative_address,
+            fde_offset,
+            unwind_context,
+            read_stack,
+        ),
+    }
+}
+
 // The step by the FDE at an offset of `__eh_frame`, which isn't in every module, from a frame at a relative address.
 pub(crate) fn unwind_frame_by_eh_frame<
     A: DwarfUnwinding,
@@ -202,22 +287,15 @@ pub(crate) fn unwind_frame_by_eh_frame<
     let Some(bytes) = eh_frame else {
         return Err(failure_of(UnwinderError::NoDwarfData));
     };
-    let alloc = unwind_context.alloc;
-    let mut unwinder = DwarfUnwinder::<A, P::GimliUnwindContextStorage>::new(
+    unwind_frame_at_offset::<A, P, F>(
         UnwindSectionType::EhFrame(bytes),
-        None,
-        &mut *unwind_context.rows,
         bases,
         base_svma,
-    );
-    unwind_frame_if_found::<A, P, F>(
-        &mut unwinder,
-        alloc,
         regs,
         is_first_frame,
         relative_address,
-        Some(fde_offset),
-        UnwinderError::NoDwarfData,
+        fde_offset,
+        unwind_context,
         read_stack,
     )
 }

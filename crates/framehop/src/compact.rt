@@ -4,11 +4,10 @@ ghost use Rattle.std.specs.Prelude.{◌≡◌, option_and_then, option_map};
 ghost use Rattle.framehop_compact.specs.CompactFiles.{code_of, file_of};
 ghost use Rattle.framehop_compact.specs.CompactResults.{HasValidCuiRule};
 ghost use Rattle.framehop_compact.specs.CompactSteps.{compact_step};
-ghost use Rattle.framehop_modules.specs.ChosenViews.{section_bytes};
 ghost use Rattle.framehop_rules.specs.UnwindResults.{HasValidRule};
 ghost use Rattle.framehop.specs.MethodViews.{AnswersMethod};
-ghost use Rattle.framehop.specs.UnwindData.{code_in, compact_file, method_by_compact, stub_range};
-ghost use Rattle.framehop.specs.UnwindDataViews.{TablesIncrease, code_view, compact_view};
+ghost use Rattle.framehop.specs.UnwindData.{code_in, method_by_compact, stub_range};
+ghost use Rattle.framehop.specs.UnwindDataViews.{TablesIncrease, code_view, compact_file_taken, compact_view, taken_bytes};
 
 use crate::cache::AllocationPolicy;
 use crate::call_frames::{failure_of, unwind_frame_by_eh_frame};
@@ -64,7 +63,7 @@ fn code_in<D: SectionBytes + Drop>(
     section: Option<SectionData<D>>,
 ) -> Option<CodeAt<D>>
     ensures { option_map (code_view D.content) result
-        ≡ option_and_then (code_in base_svma) (option_map (section_bytes D.content) section) }
+        ≡ option_and_then (code_in base_svma) (taken_bytes D.content section) }
 {
     let section = section?;
     let start = relative_to(base_svma, section.svma_range.start)?;
@@ -84,8 +83,8 @@ impl<D: SectionBytes + Drop> CompactModule<D> {
         stub_helper_svma: Option<Range<u64>>,
         text: Option<SectionData<D>>,
     ) -> Self
-        ensures view { compact_view D.content result ≡ compact_file base_svma (D.content unwind_info)
-            stubs_svma stub_helper_svma (option_map (section_bytes D.content) text) }
+        ensures view { compact_view D.content result ≡ compact_file_taken D.content base_svma
+            unwind_info stubs_svma stub_helper_svma text }
         ensures eh_frame { result.eh_frame ≡ eh_frame }
         ensures increasing { TablesIncrease D.content result }
     {

@@ -6,6 +6,7 @@
 
 pub mod aarch64;
 mod arch;
+mod by_tables;
 mod cache;
 mod call_frames;
 mod compact;
@@ -18,14 +19,17 @@ mod pe;
 mod relative;
 pub mod row_laws;
 pub mod rule_laws;
+mod tabulated_data;
+mod tabulation;
 mod unwind_data;
 pub mod walk_laws;
 pub mod x86_64;
 
 pub use arch::{BySections, Unwinding};
+pub use by_tables::ByTables;
 pub use cache::{
     AllocationPolicy, MayAllocateDuringUnwind, MustNotAllocateDuringUnwind, StoreOnStack,
-    policies_set_limits,
+    StoreRowsOnHeap, policies_set_limits,
 };
 pub use context::DwarfUnwindContext;
 pub use dwarf::{DwarfUnwinder, UnwindSectionType};
@@ -47,14 +51,18 @@ pub use framehop_pe::{
     DataAtRvaRange, PeSections, PeUnwinding, RuntimeFunction, pdata_is_increasing, pdata_lookup,
     pdata_lookup_increasing,
 };
-pub use framehop_rows::{DwarfUnwindRegs, DwarfUnwinding, eval_cfa_rule, eval_register_rule};
+pub use framehop_rows::{
+    DwarfUnwindRegs, DwarfUnwinding, RowRules, eval_cfa_rule, eval_register_rule,
+};
 pub use framehop_rules::{
     AddSigned, Arch, CacheHandle, CacheResult, CacheStats, Error, FrameAddress, HexNum, RuleCache,
     UnwindResult, UnwindRule, checked_add_signed, wrapping_add_signed,
 };
+pub use framehop_tables::{Covered, RuleLookup, RuleTable, SameRule};
 pub use framehop_unwinder::{
     AddUnwinderError, Cache, ModuleUnwinding, Session, StackWalk, UnwindFailure, UnwindIterator,
     Unwinder, UnwinderInternal, laws,
 };
-pub use module::{Module, load_module};
+pub use module::{Module, TabulatedModule, load_module, load_module_tabulated};
+pub use tabulated_data::TabulatedUnwindData;
 pub use unwind_data::ModuleUnwindData;

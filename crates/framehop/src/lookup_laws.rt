@@ -1,16 +1,14 @@
 //! Laws of the lookups of FDEs, if the header of a section is truthful. The functions do nothing when the program
 //! runs.
 
-ghost use Rattle.std.specs.Prelude.{◌<◌, ◌+◌, ◌^◌, ℕ};
-ghost use Rattle.dwarf_frame_rows.specs.declared.base_addresses.BaseAddresses.{BaseAddresses};
-ghost use Rattle.dwarf_frame_entries.specs.Entries.{Fde};
+ghost use Rattle.std.specs.Prelude.{◌<◌, ◌+◌, ◌^◌};
 ghost use Rattle.framehop_modules.specs.Sections.{Sections};
 ghost use Rattle.framehop_unwinder.specs.Attempt.{Meanings};
 ghost use Rattle.framehop.specs.Attempts.{StepLimits};
 ghost use Rattle.framehop.specs.SameSteps.{StepsFollowAttempts};
 ghost use Rattle.framehop.specs.StepMeanings.{meanings_aarch64, meanings_x86_64};
 ghost use Rattle.framehop.specs.LookupsAlike.{AddressBelow, AddressFrom, AddressWithin, AllLeadTo, AllStepAlike, AttemptsBelow, AttemptsFrom, LookupsBelowAll};
-ghost use Rattle.framehop.specs.TruthfulLookups.{AllAttemptAlike, AreTruthfulFor, HeadedSection, IsFdeFor};
+ghost use Rattle.framehop.specs.TruthfulLookups.{AllAttemptAlike};
 ghost use Rattle.framehop.specs.UnwindData.{HasHeaderOfEhFrame, UnwindData, scanned_data_of, unwind_data_of};
 
 use framehop_rows::DwarfUnwinding;
@@ -31,8 +29,8 @@ pub fn truthful_lookups_lead_to_one_fde()
 /// So if an FDE contains an address, the attempt there is the same by the section's header, by an index and by
 /// reading the section at each step, whatever other sections than `.eh_frame` the other two modules have.
 pub fn truthful_lookups_attempt_alike<A: DwarfUnwinding>()
-    ensures { (limits : StepLimits) (h : HeadedSection) (other : BaseAddresses) (relative : ℕ) (fde : Fde)
-        → AreTruthfulFor h other → IsFdeFor h relative fde → AllAttemptAlike A.rows limits h other relative }
+    ensures { (limits : StepLimits) (a : AddressWithin)
+        → AllAttemptAlike A.rows limits a.h a.bases a.relative }
 {}
 
 /// From the lowest start on the attempt at an address is the same by a truthful header and by an index, also if no

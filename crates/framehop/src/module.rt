@@ -2,10 +2,14 @@
 
 ghost use Rattle.std.specs.Prelude.{◌≡◌, IfOk};
 ghost use Rattle.std.specs.String.{string_bytes};
-ghost use Rattle.framehop.specs.UnwindData.{unwind_data_of};
+ghost use Rattle.framehop.specs.UnwindData.{indexed_data_of, unwind_data_of};
 
+use crate::cache::AllocationPolicy;
+use crate::tabulated_data::TabulatedUnwindData;
 use crate::unwind_data::ModuleUnwindData;
 use framehop_modules::{ModuleSectionInfo, SectionBytes};
+use framehop_rows::RowRules;
+use framehop_tables::SameRule;
 use std::alloc::{AllocError, Global};
 use std::ops::Range;
 
@@ -32,4 +36,34 @@ pub fn load_module<D: SectionBytes + Drop, I: ModuleSectionInfo<D>>(
 {
     let unwind_data = ModuleUnwindData::new(alloc, info)?;
     Module::new(alloc, name, avma_range, base_avma, unwind_data)
+}
+
+/// A module that is unwound by its sections, with a table of the rules that its call frames say or without.
+pub type TabulatedModule<A, D, P> = framehop_unwinder::Module<TabulatedUnwindData<A, D, P>>;
+
+/// As [`load_module`], with a table of the rules that its call frames say. An `.eh_frame_hdr` isn't used: steps are those of a
+/// module by an index. Fails if it fails to allocate.
+pub fn load_module_tabulated<
+    A: RowRules,
+    D: SectionBytes + Drop,
+    P: AllocationPolicy,
+    I: ModuleSectionInfo<D>,
+>(
+    alloc: Global,
+    name: String,
+    avma_range: Range<u64>,
+    base_avma: u64,
+    info: &mut I,
+) -> Result<TabulatedModule<A, D, P>, AllocError>
+where
+    A::UnwindRule: SameRule,
+    ensures name { IfOk result (λ module_. module_.name ≡ string_bytes name) }
+    ensures start { IfOk result (λ module_. module_.start ≡ avma_range.start) }
+    ensures end { IfOk result (λ module_. module_.end ≡ avma_range.end) }
+    ensures base { IfOk result (λ module_. module_.base ≡ base_avma) }
+    ensures unwind_data { IfOk result (λ module_.
+        module_.unwind_data ≡ indexed_data_of (I.sections info.old)) }
+{
+    let unwind_data = TabulatedUnwindData::new(alloc, info)?;
+    TabulatedModule::new(alloc, name, avma_range, base_avma, unwind_data)
 }

@@ -5,7 +5,7 @@ ghost use Rattle.framehop_modules.specs.ChosenViews.{sections_bytes};
 ghost use Rattle.framehop.specs.DwarfViews.{frame_section_bytes};
 ghost use Rattle.dwarf_frame_rows.specs.declared.base_addresses.BaseAddresses.{BaseAddresses};
 ghost use Rattle.framehop.specs.LookupMethods.{ByIndex};
-ghost use Rattle.framehop.specs.UnwindData.{CallFrames, Compact, Pe, bases_of, format_of, scanned, scanned_data_of, unwind_data_of};
+ghost use Rattle.framehop.specs.UnwindData.{CallFrames, Compact, Pe, bases_of, format_of, frame_section_of, scanned, scanned_data_of, unwind_data_of};
 ghost use Rattle.framehop.specs.UnwindDataViews.{IncreasesAsSaid, IsIndexedBy, IsLentBy, IsNotCompact, IsNotPe, IsUnused, LendsLookup, MakesEntries, TablesIncrease, compact_view, entries_view, file_view, format_view, lookup_view};
 
 use crate::compact::CompactModule;
@@ -301,6 +301,16 @@ impl<D: SectionBytes> ModuleUnwindData<D> {
         match &self.format {
             ModuleFormat::Compact(file) => Some(file),
             ModuleFormat::CallFrames(..) | ModuleFormat::Pe(_) | ModuleFormat::NoFormat => None,
+        }
+    }
+
+    // The section of call frames that the module is unwound by.
+    pub(crate) fn frame_section(&self) -> Option<UnwindSectionType<&[u8]>>
+        ensures { option_map (frame_section_bytes (λ b. b.now)) result ≡ frame_section_of self.now.format }
+    {
+        match &self.format {
+            ModuleFormat::CallFrames(section, _) => Some(bytes_of(section)),
+            ModuleFormat::Pe(_) | ModuleFormat::Compact(_) | ModuleFormat::NoFormat => None,
         }
     }
 

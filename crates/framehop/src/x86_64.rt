@@ -3,12 +3,12 @@
 ghost use Rattle.std.specs.Prelude.{◌≡◌, IfOk, OnOk, OnErr, None, [], replicate};
 ghost use Rattle.std.specs.List.{All};
 ghost use Rattle.framehop_histories.specs.CommandViews.{OfCallback};
-ghost use Rattle.framehop_histories.specs.Performs.{Performs};
 ghost use Rattle.framehop_rules.specs.Slots.{no_counts};
 ghost use Rattle.framehop_unwinder.specs.CacheViews.{rules_of};
-ghost use Rattle.framehop.specs.StepMeanings.{asks_x86_64, meanings_x86_64};
+ghost use Rattle.framehop.specs.Performances.{PerformsX86_64};
 
 use crate::arch::BySections;
+use crate::by_tables::ByTables;
 use crate::cache::{AllocationPolicy, MayAllocateDuringUnwind};
 use crate::context::DwarfUnwindContext;
 use crate::histories::{self, Answer, Command};
@@ -27,6 +27,12 @@ use std::collections::VecDeque;
 /// `D`; `P` says whether a step may allocate.
 pub type UnwinderX86_64<D, P = MayAllocateDuringUnwind> = UnwinderInternal<
     BySections<ArchX86_64, D, P>,
+>;
+
+/// The unwinder of a process on x86_64, in which modules may have tables of rules, as
+/// [`load_module_tabulated`](crate::load_module_tabulated) makes them. Its caches are those of [`UnwinderX86_64`].
+pub type TabulatedUnwinderX86_64<D, P = MayAllocateDuringUnwind> = UnwinderInternal<
+    ByTables<ArchX86_64, D, P>,
 >;
 
 /// What steps on x86_64 keep and reuse: a cache of unwind rules, and storage that steps evaluate rows in.
@@ -81,9 +87,8 @@ pub fn perform<
     >,
 ) -> Result<Vec<Answer<UnwindRegsX86_64>>, AllocError>
     requires { All (OfCallback F.IsAlwaysCallable) commands.old.items }
-    ensures performs { IfOk result (λ answers.
-        Performs F.step P.may_allocate (asks_x86_64 P.limits) (meanings_x86_64 P.limits)
-        session.old commands.old.items session.new answers.items) }
+    ensures performs { IfOk result (λ done. PerformsX86_64 F.step P.may_allocate P.limits
+        session.old commands.old.items session.new done.items) }
     ensures performed { OnOk result (commands.new.items ≡ []) }
     ensures refused { OnErr result (session.new ≡ session.old) }
     ensures waiting { OnErr result (commands.new ≡ commands.old) }

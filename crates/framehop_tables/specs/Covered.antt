@@ -13,6 +13,12 @@ use Rattle.framehop_rows.specs.RowMeanings.{RowMeanings}
 use Rattle.framehop_tables.specs.declared.covered.Covered.{Covered}
 use Rattle.framehop_tables.specs.declared.covered.Covered.TheVariants.{Nothing, Says, Evaluates}
 
+-- a rule that is said can be executed
+abbrev pub SaysValid : {Rule : Type 0} → (Rule → Type 0) → Covered Rule → Type 0
+SaysValid is_valid Nothing = Unit {0}
+SaysValid is_valid (Says rule) = is_valid rule
+SaysValid is_valid (Evaluates offset) = Unit {0}
+
 -- which rule says a row exactly, if one does, and the rule for code that no row covers
 pub record RowRules (Rule : Type 0) : Type 0 where
   pub rule_of : Row ℕ → Option Rule

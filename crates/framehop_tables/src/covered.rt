@@ -3,6 +3,7 @@
 ghost use Rattle.std.specs.Prelude.{◌≡◌, ◌↔◌, IsTrue};
 
 use framehop_ranges::SameValue;
+use framehop_rules::UnwindRule;
 use framehop_rules::aarch64::UnwindRuleAarch64;
 use framehop_rules::x86_64::UnwindRuleX86_64;
 
@@ -18,7 +19,7 @@ pub enum Covered<Rule> {
 }
 
 /// An unwind rule, which can be told from others.
-pub trait SameRule: Copy {
+pub trait SameRule: UnwindRule {
     /// Whether it is the same as another.
     fn is_same_rule(self, other: Self) -> bool
         ensures { IsTrue result ↔ self ≡ other };

@@ -11,6 +11,7 @@ ghost use Rattle.framehop_tables.specs.Covered.{row_rules, tabulated};
 ghost use Rattle.framehop_tables.specs.Tabulations.{AddsEntry, AddsRows, AreOf, end_of, start_at};
 
 use crate::covered::{Covered, SameRule};
+use crate::entry::{Entry, extend, nothing_up_to};
 use crate::rows::with_rows;
 use crate::spans::Span;
 use dwarf_frame_entries::{
@@ -57,13 +58,13 @@ where
 
 // Adds what an FDE says up to the limit of a span.
 fn with_fde<A: RowRules, R: Reader, Section: UnwindSection<R>, S: UnwindContextStorage<R::Offset>>(
-    ranges: Ranges<Covered<A::UnwindRule>>,
+    ranges: Ranges<Entry<A::UnwindRule>>,
     section: &Section,
     bases: &BaseAddresses,
     context: &mut UnwindContext<R::Offset, S>,
     fde: &FrameDescriptionEntry<R>,
     span: Span,
-) -> Result<Ranges<Covered<A::UnwindRule>>, AllocError>
+) -> Result<Ranges<Entry<A::UnwindRule>>, AllocError>
 where
     A::UnwindRule: SameRule,
     requires fixed { S.never_allocates }
@@ -77,7 +78,7 @@ where
         Ok(mut rows) => with_rows::<A, R, S>(ranges, &mut rows, span),
         Err(_) => {
             let uncovered = Covered::Says(A::rule_if_uncovered_by_fde());
-            ranges.extend(span.limit, uncovered)
+            extend(ranges, span.limit, uncovered)
         }
     }
 }
@@ -89,12 +90,12 @@ fn with_entry<
     Section: UnwindSection<R>,
     S: UnwindContextStorage<R::Offset>,
 >(
-    ranges: Ranges<Covered<A::UnwindRule>>,
+    ranges: Ranges<Entry<A::UnwindRule>>,
     section: &Section,
     bases: &BaseAddresses,
     context: &mut UnwindContext<R::Offset, S>,
     span: Span,
-) -> Result<Ranges<Covered<A::UnwindRule>>, AllocError>
+) -> Result<Ranges<Entry<A::UnwindRule>>, AllocError>
 where
     A::UnwindRule: SameRule,
     requires fixed { S.never_allocates }
@@ -106,7 +107,7 @@ where
 {
     match fde_at(section, bases, span.offset) {
         Ok(fde) => with_fde::<A, R, Section, S>(ranges, section, bases, context, &fde, span),
-        Err(_) => ranges.extend(span.limit, Covered::Nothing),
+        Err(_) => extend(ranges, span.limit, Covered::Nothing),
     }
 }
 
@@ -141,7 +142,7 @@ pub(crate) fn ranges_of<
     context: &mut UnwindContext<R::Offset, S>,
     index: &DwarfCfiIndex,
     base_svma: u64,
-) -> Result<Ranges<Covered<A::UnwindRule>>, AllocError>
+) -> Result<Ranges<Entry<A::UnwindRule>>, AllocError>
 where
     A::UnwindRule: SameRule,
     requires fixed { S.never_allocates }
@@ -151,7 +152,7 @@ where
 {
     let end = end_of(base_svma);
     let fdes = index.fdes();
-    let mut ranges = Ranges::new(alloc, start_at(end, fdes, 0), Covered::Nothing);
+    let mut ranges = nothing_up_to(alloc, start_at(end, fdes, 0));
     for place in 0..fdes.len() {
         let span = Span {
             base_svma,
@@ -160,5 +161,5 @@ where
         };
         ranges = with_entry::<A, R, Section, S>(ranges, section, bases, &mut *context, span)?;
     }
-    ranges.extend(1 << 32, Covered::Nothing)
+    extend(ranges, 1 << 32, Covered::Nothing)
 }

@@ -2,6 +2,7 @@
 #![tactic(auto)]
 
 mod covered;
+mod entry;
 mod fdes;
 mod rows;
 mod rule_table;

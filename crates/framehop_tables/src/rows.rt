@@ -4,10 +4,11 @@ ghost use Rattle.std.specs.Prelude.{◌≡◌, ◌≤◌, ◌-◌, ◌^◌, IfOk
 ghost use Rattle.dwarf_frame_instructions.specs.Execution.{row_in};
 ghost use Rattle.dwarf_frame_instructions.specs.ProgramRows.{rows_left};
 ghost use Rattle.framehop_ranges.specs.Ranges.{Sound, Extends};
-ghost use Rattle.framehop_tables.specs.Covered.{by_rule, row_rules};
+ghost use Rattle.framehop_tables.specs.Covered.{SaysValid, by_rule, row_rules};
 ghost use Rattle.framehop_tables.specs.Tabulations.{AddsRows};
 
 use crate::covered::{Covered, SameRule};
+use crate::entry::{Entry, extend};
 use crate::spans::Span;
 use dwarf_frame_instructions::ProgramRows;
 use dwarf_frame_rows::{RegisterRule, RuledRegister, UnwindContextStorage, UnwindTableRow};
@@ -24,7 +25,8 @@ fn covered_by_row<
     T: ReaderOffset,
     Rules: ArrayLike<Item = RuledRegister<RegisterRule<T>>>,
 >(row: &UnwindTableRow<T, Rules>, offset: u32) -> Covered<A::UnwindRule>
-    ensures { result ≡ by_rule offset (A.rule_of (row_in T.value row.now)) }
+    ensures covered { result ≡ by_rule offset (A.rule_of (row_in T.value row.now)) }
+    ensures valid { SaysValid A.UnwindRule.is_valid result }
 {
     match A::rule_for_row(row) {
         Some(rule) => Covered::Says(rule),
@@ -35,10 +37,10 @@ fn covered_by_row<
 // Adds a row: what it says, from where the ranges end up to the row's end.
 #[inline(always)]
 fn with_row<A: RowRules, T: ReaderOffset, Rules: ArrayLike<Item = RuledRegister<RegisterRule<T>>>>(
-    ranges: Ranges<Covered<A::UnwindRule>>,
+    ranges: Ranges<Entry<A::UnwindRule>>,
     row: &UnwindTableRow<T, Rules>,
     span: Span,
-) -> Result<Ranges<Covered<A::UnwindRule>>, AllocError>
+) -> Result<Ranges<Entry<A::UnwindRule>>, AllocError>
 where
     A::UnwindRule: SameRule,
     requires sound { Sound ranges }
@@ -49,15 +51,15 @@ where
 {
     let end = row.end_address().saturating_sub(span.base_svma);
     let covered = covered_by_row::<A, T, Rules>(row, span.offset);
-    ranges.extend(end.min(span.limit), covered)
+    extend(ranges, end.min(span.limit), covered)
 }
 
 // Adds the rows that are left, and up to the limit the rule for code that no row covers.
 pub(crate) fn with_rows<A: RowRules, R: Reader, S: UnwindContextStorage<R::Offset>>(
-    ranges: Ranges<Covered<A::UnwindRule>>,
+    ranges: Ranges<Entry<A::UnwindRule>>,
     rows: &mut ProgramRows<'_, '_, R, S>,
     span: Span,
-) -> Result<Ranges<Covered<A::UnwindRule>>, AllocError>
+) -> Result<Ranges<Entry<A::UnwindRule>>, AllocError>
 where
     A::UnwindRule: SameRule,
     requires fixed { S.never_allocates }
@@ -74,7 +76,7 @@ where
         let _advanced = rows.advance();
         let Some(row) = rows.current_row() else {
             let uncovered = Covered::Says(A::rule_if_uncovered_by_fde());
-            return ranges.extend(span.limit, uncovered);
+            return extend(ranges, span.limit, uncovered);
         };
         ranges = with_row::<A, R::Offset, S::Rules>(ranges, row, span)?;
     }

@@ -3,6 +3,7 @@
 ghost use Rattle.std.specs.Prelude.{◌≡◌, ◌≤◌, ◌^◌, ℕ, suc, IfOk};
 
 use crate::covered::{Covered, SameRule};
+use crate::entry::Entry;
 use crate::fdes::ranges_of;
 use dwarf_frame_entries::{BaseAddresses, UnwindContext, UnwindContextStorage, UnwindSection};
 use dwarf_readers::Reader;
@@ -25,8 +26,11 @@ pub struct RuleLookup<Rule> {
 /// What the index of a section says of each relative address: the unwind rule there, or which FDE's row has to be evaluated,
 /// or nothing.
 #[derive(Drop)]
-pub struct RuleTable<A: Arch> {
-    table: RangeTable<Covered<A::UnwindRule>>,
+pub struct RuleTable<A: Arch>
+where
+    A::UnwindRule: SameRule,
+{
+    table: RangeTable<Entry<A::UnwindRule>>,
 }
 
 impl<A: RowRules> RuleTable<A>
@@ -34,7 +38,7 @@ where
     A::UnwindRule: SameRule,
 {
     ghost use Rattle.framehop_index.specs.CfiIndex.{IsMadeOf};
-    ghost use Rattle.framehop_tables.specs.Covered.{tabulated};
+    ghost use Rattle.framehop_tables.specs.Covered.{SaysValid, tabulated};
     ghost use Rattle.framehop_tables.specs.RuleTables.{IsTableOf, SaysAsIndex, entry_count, rule_at};
 
     /// The table of a section whose vendor is the architecture's. Its relative addresses are relative to `base_svma`; the
@@ -59,15 +63,17 @@ where
         Ok(RuleTable { table })
     }
 
-    /// What the section's index says of a relative address. Reads at most ceil(log2(n)) + 1 of the n starts.
+    /// What the section's index says of a relative address: a rule can be executed. Reads at most ceil(log2(n)) + 1 of the n starts.
+    #[inline(always)]
     pub fn look_up(&self, relative: u32) -> RuleLookup<A::UnwindRule>
         ensures covered { result.covered ≡ rule_at self.now relative }
         ensures index { SaysAsIndex self.now relative result.covered }
+        ensures valid { SaysValid A.UnwindRule.is_valid result.covered }
         ensures few { (k : ℕ) → entry_count self.now ≤ 2 ^ k → result.starts_read ≤ suc k }
     {
         let found = self.table.look_up(relative);
         RuleLookup {
-            covered: found.value,
+            covered: found.value.covered(),
             starts_read: found.starts_read,
         }
     }

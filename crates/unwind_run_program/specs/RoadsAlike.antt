@@ -53,3 +53,7 @@ abbrev pub WriteAlike : {Rule Registers : Type 0} → (StepLimits → Meanings U
 WriteAlike {Registers} meanings steps =
     (limits : StepLimits) (forms : RegisterForms Registers)
     → road_lines (meanings limits) forms data_stated steps ≡ named_alike (scan_line (meanings limits) forms steps)
+
+-- each step from an address that is covered so
+abbrev pub EachWritesAlike : {Rule Registers : Type 0} → (StepLimits → Meanings UnwindData Rule Registers) → Type 0
+EachWritesAlike meanings = (steps : RoadSteps) → CoversStep steps → WriteAlike meanings steps

@@ -38,8 +38,8 @@ pub(crate) trait DocumentModules: ModuleUnwinding {
         sections: Vec<StatedSection>,
         segments: Vec<StatedSection>,
     ) -> Result<Self::UnwindData, AllocError>
-        ensures { IfOk result (λ unwind_data. unwind_data
-            ≡ data_of.loaded base_svma (sections_view sections.items) (sections_view segments.items)) };
+        ensures { IfOk result (λ given. given ≡ data_of.loaded base_svma
+            (sections_view sections.items) (sections_view segments.items)) };
 
     /// The same of sections alone, if each step scans the section of call frames.
     fn scanned_data(alloc: Global, base_svma: u64, sections: Vec<StatedSection>) -> Self::UnwindData

@@ -7,10 +7,8 @@ ghost use Rattle.unwind_run_session.specs.Outputs.{beginning};
 ghost use Rattle.unwind_run_document.specs.Sound.{AreSound};
 ghost use Rattle.unwind_run_document.specs.Document.{nothing_made};
 ghost use Rattle.unwind_run_document.specs.CommandViews.{content_view, tasks_of};
-ghost use Rattle.framehop.specs.Attempts.{format_meanings};
-ghost use Rattle.framehop.specs.StepMeanings.{meanings_by};
-ghost use Rattle.framehop.specs.TableMethods.{table_methods};
-ghost use Rattle.unwind_run_program.specs.Text.{text_of, ending_of, content_lines, lines_of, lines_under, limits_of_policy};
+ghost use Rattle.framehop.specs.ArchMeanings.{meanings_with};
+ghost use Rattle.unwind_run_program.specs.Text.{content_lines, ending_of, limits_of_policy, lines_of, lines_under, text_of};
 
 use crate::arch::DocumentArch;
 use crate::perform::{DocumentModules, perform};
@@ -113,8 +111,7 @@ fn run_on<A: DocumentArch, W: Sink>(
     requires writer { W.has_failed writer.old ≡ false }
     requires sound { AreSound nothing_made (tasks_of commands.items) }
     ensures text { WritesText result (W.contents writer.old) (W.contents writer.new) (lines_under
-        (meanings_by A.UnwindRule.meaning A.UnwindRule.fallback
-        (format_meanings A.rows (table_methods A.pe_attempt A.compact)))
+        (meanings_with A.UnwindRule.meaning A.UnwindRule.fallback A.rows A.pe_attempt A.compact)
         A.forms (limits_of_policy policy) generation (tasks_of commands.items)) }
     ensures errors { ReportsFailures result false (W.has_failed writer.new) }
 {

@@ -16,11 +16,11 @@ loop-place-init g c =
     let spans = c.fdes-fdes.ensures.found c.args.base_svma frame c.requires.index in
     let start = rw c.end_of-end.ensures at c.start_at.ensures.start in
     record {
-      sound = c.new-ranges.ensures.sound;
-      done = c.new-ranges.ensures.done ∙ c.start_at.ensures.start;
-      few = omega (arith, c.new-ranges.ensures.none);
+      sound = c.nothing_up_to-ranges.ensures.sound;
+      done = c.nothing_up_to-ranges.ensures.done ∙ c.start_at.ensures.start;
+      few = omega (arith, c.nothing_up_to-ranges.ensures.none);
       says = λ relative below.
-          c.new-ranges.ensures.value relative ∙ sym (says-none t c.fdes-fdes.result.now spans c.fdes-fdes.ensures.ordered relative (omega (arith, below, c.new-ranges.ensures.done, start)));
+          c.nothing_up_to-ranges.ensures.value relative ∙ sym (says-none t c.fdes-fdes.result.now spans c.fdes-fdes.ensures.ordered relative (omega (arith, below, c.nothing_up_to-ranges.ensures.done, start)));
     }
 
 pub loop-place-preserved : goal.loop-place-preserved

@@ -2,6 +2,7 @@ use Rattle.std.proofs.Common.{◌≡◌, ℕ, ◌+◌, List, [], ◌∷◌, ◌+
 use Rattle.std.specs.Prelude.{codes}
 use Rattle.dwarf_frame_entries.specs.Entries.{contains}
 use Rattle.framehop.specs.Attempts.{attempt_by_format, format_meanings}
+use Rattle.framehop.specs.LookupsAlike.{AddressWithin}
 use Rattle.framehop.specs.StepMeanings.{meanings_by}
 use Rattle.framehop.specs.TableMethods.{table_methods}
 use Rattle.framehop.specs.UnwindData.{UnwindData, bases_of}
@@ -33,11 +34,19 @@ returns g c r covers limits forms =
     let scanned = data_stated.scanned base alone in
     let contained : (relative : ℕ) → base + relative ≡ lookup_address frame → contains (base + relative) covers.fde ≡ true =
     λ relative is. subst (λ (x : ℕ). contains x covers.fde ≡ true) (sym is) covers.contained in
+    let within : (relative : ℕ) → base + relative ≡ lookup_address frame → AddressWithin = λ relative is. record {
+      h = headed_in t;
+      bases = other;
+      relative = relative;
+      fde = covers.fde;
+      truthful = record { truthful = covers.truthful; same = refl };
+      found = record { listed = covers.listed; contained = contained relative is };
+    } in
     let law = c.truthful_lookups_attempt_alike.ensures in
     let as_scanned : (relative : ℕ) → base + relative ≡ lookup_address frame → attempt_by_format formats limits headed relative frame.is_first ≡ attempt_by_format formats limits scanned relative frame.is_first =
-    λ relative is. sym ((law limits (headed_in t) other relative covers.fde (record { truthful = covers.truthful; same = refl }) (record { listed = covers.listed; contained = contained relative is })).by_scan frame.is_first) in
+    λ relative is. sym ((law limits (within relative is)).by_scan frame.is_first) in
     let as_headed : (relative : ℕ) → base + relative ≡ lookup_address frame → attempt_by_format formats limits indexed relative frame.is_first ≡ attempt_by_format formats limits headed relative frame.is_first =
-    λ relative is. (law limits (headed_in t) other relative covers.fde (record { truthful = covers.truthful; same = refl }) (record { listed = covers.listed; contained = contained relative is })).by_index frame.is_first in
+    λ relative is. (law limits (within relative is)).by_index frame.is_first in
     let same : (one : UnwindData) → ((relative : ℕ) → base + relative ≡ lookup_address frame → attempt_by_format formats limits one relative frame.is_first ≡ attempt_by_format formats limits scanned relative frame.is_first)
     → road_line m forms r one ≡ road_line m forms r scanned =
     λ one alike. ap (λ (a : Attempt g.row.A-UnwindRule.Denot g.row.A-UnwindRegs.Denot). outcome_line forms.text registers (by_attempt m frame.is_first registers (words_of r.stack) a))
