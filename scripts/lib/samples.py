@@ -4,7 +4,9 @@ import collections
 import pathlib
 import struct
 
+from lib.compact import Reader
 from lib.elf import Elf
+from lib.programs import STACKS
 from lib.tools import output, run
 
 # An entry of call frames in its bytes from its length on, without padding of its own: its CIE, and where its start's pointer is.
@@ -15,6 +17,8 @@ Entries = collections.namedtuple("Entries", "arch name cie fdes")
 Function = collections.namedtuple("Function", "code info")
 # The sections of a Mach-O file, by name: the address and the bytes.
 Image = collections.namedtuple("Image", "arch sections")
+# A function of a Mach-O file: its bytes, and its encoding.
+Encoded = collections.namedtuple("Encoded", "code encoding")
 
 PLATFORM = ("-platform_version", "macos", "11.0", "11.0")
 
@@ -118,12 +122,24 @@ def pe_functions(path, most=160):
 def compact_images(folder):
     """Small programs with `__unwind_info` that clang and lld build for macOS."""
     folder, found = pathlib.Path(folder), []
-    (folder / "a.c").write_text(C)
-    for arch, target in (("x86_64", "x86_64"), ("aarch64", "arm64")):
-        for flags in ((), ("-fomit-frame-pointer",)):
-            run("clang", f"--target={target}-apple-macos11", "-O2", *flags, "-c", "a.c", "-o", "a.o", folder=folder)
-            run("ld64.lld-14", "-arch", target, *PLATFORM, "-dylib", "-undefined", "dynamic_lookup", "a.o", "-o", "a.dylib", folder=folder)
-            found.append(Image(arch, macho_sections((folder / "a.dylib").read_bytes())))
+    for source in (C, STACKS):
+        (folder / "a.c").write_text(source)
+        for arch, target in (("x86_64", "x86_64"), ("aarch64", "arm64")):
+            for flags in ((), ("-fomit-frame-pointer",)):
+                run("clang", f"--target={target}-apple-macos11", "-O2", *flags, "-c", "a.c", "-o", "a.o", folder=folder)
+                run("ld64.lld-14", "-arch", target, *PLATFORM, "-dylib", "-undefined", "dynamic_lookup", "a.o", "-o", "a.dylib", folder=folder)
+                found.append(Image(arch, macho_sections((folder / "a.dylib").read_bytes())))
+    return found
+
+
+def encoded_functions(image):
+    """The functions of a Mach-O file that its `__unwind_info` names."""
+    start, code = image.sections["__text"]
+    reader, found, at = Reader(image.sections["__unwind_info"][1]), [], start
+    while function := reader.function(at):
+        begin, end, encoding = function
+        found.append(Encoded(code[begin - start : end - start], encoding))
+        at = end
     return found
 
 
