@@ -59,6 +59,7 @@ pub(crate) fn failure_of(error: UnwinderError) -> UnwindFailure
 }
 
 // The step by the FDE at the offset that was found, if one was; `not_found` says that none was.
+#[inline(always)]
 fn unwind_frame_if_found<A: DwarfUnwinding, P: AllocationPolicy, F: FnMut(u64) -> Result<u64, ()>>(
     unwinder: &mut DwarfUnwinder<'_, A, P::GimliUnwindContextStorage>,
     alloc: Global,
@@ -105,6 +106,7 @@ fn header_in<'a>(lookup: &Lookup<'a>) -> Option<&'a [u8]>
 }
 
 // The step by a section of call frames, from a frame at a relative address.
+#[inline(always)]
 pub(crate) fn unwind_frame_by_call_frames<
     A: DwarfUnwinding,
     P: AllocationPolicy,

@@ -151,6 +151,7 @@ fn bytes_of<D: SectionBytes>(section: &Option<D>) -> Option<&[u8]>
 }
 
 // The step by compact unwind info, from a frame at a relative address: by its rule, or by an FDE of `__eh_frame`.
+#[inline(never)]
 pub(crate) fn unwind_frame_by_compact<
     A: DwarfUnwinding + CompactUnwindInfoUnwinding,
     P: AllocationPolicy,

@@ -47,6 +47,7 @@ fn lookup_address(base_svma: u64, relative_address: u32) -> Result<u64, DwarfUnw
 
 // The step by an FDE from a frame at an address of its code: that of its row for the address, or the rule
 // for code that no row covers if it has none.
+#[inline(always)]
 fn unwind_frame_by_fde<
     A: DwarfUnwinding,
     ES: EvaluationStorage,
@@ -92,6 +93,7 @@ fn unwind_frame_by_fde<
 }
 
 // The step by the FDE at an offset of a section, from a frame at an address. Fails if the FDE can't be read.
+#[inline(always)]
 fn unwind_frame_at_offset<
     A: DwarfUnwinding,
     ES: EvaluationStorage,
@@ -262,6 +264,7 @@ impl<'a, A: DwarfUnwinding, UCS: UnwindContextStorage<usize>> DwarfUnwinder<'a, 
     /// Unwinds by a section, whose numbers are little-endian and whose addresses have 8 bytes unless a CIE
     /// says another size. `eh_frame_hdr` has the bytes of the section's header; one that doesn't parse has
     /// no table. Relative addresses are relative to `base_svma`, an address of the file.
+    #[inline(always)]
     pub fn new(
         section: UnwindSectionType<&'a [u8]>,
         eh_frame_hdr: Option<&'a [u8]>,

@@ -112,6 +112,7 @@ fn unwind_frame_by_sections<A: PeUnwinding, F: FnMut(u64) -> Result<u64, ()>>(
 }
 
 // The step by the unwind data of a PE file, from a frame at a relative address.
+#[inline(never)]
 pub(crate) fn unwind_frame_by_pe<
     A: DwarfUnwinding + PeUnwinding,
     P: AllocationPolicy,

@@ -1,6 +1,6 @@
 //! Where the sections of a module come from.
 
-ghost use Rattle.std.specs.Prelude.{◌≡◌, IfSome, IfNone, None, option_map};
+ghost use Rattle.std.specs.Prelude.{◌≡◌, IfSome, IfNone, None, option_map, bytes_eq};
 ghost use Rattle.framehop_modules.specs.Sections.{Sections, SectionLeft, SegmentLeft};
 ghost use Rattle.framehop_modules.specs.ExplicitTable.{kind_named, is_either, IsGiven};
 
@@ -133,6 +133,7 @@ enum SectionKind {
 
 impl SectionKind {
     // The section of a name.
+    #[inline(always)]
     fn named(name: &[u8]) -> Option<Self>
         ensures { result ≡ kind_named name.now }
     {
@@ -146,11 +147,11 @@ impl SectionKind {
             Some(SectionKind::EhFrameHdr)
         } else if is_one_of(name, b"__debug_frame", b".debug_frame") {
             Some(SectionKind::DebugFrame)
-        } else if name == b"__stubs".as_slice() {
+        } else if is_name(name, b"__stubs") {
             Some(SectionKind::Stubs)
-        } else if name == b"__stub_helper".as_slice() {
+        } else if is_name(name, b"__stub_helper") {
             Some(SectionKind::StubHelper)
-        } else if name == b"__unwind_info".as_slice() {
+        } else if is_name(name, b"__unwind_info") {
             Some(SectionKind::UnwindInfo)
         } else {
             None
@@ -158,11 +159,32 @@ impl SectionKind {
     }
 }
 
+// Whether a name is this text. Names are mostly literals, of which the compiler answers this, as it doesn't `==` of
+// slices.
+#[inline(always)]
+fn is_name(name: &[u8], text: &[u8]) -> bool
+    ensures { result ≡ bytes_eq name.now text.now }
+{
+    let mut left = name;
+    let mut wanted = text;
+    'bytes: while let Some((byte, bytes)) = left.split_first() {
+        match wanted.split_first() {
+            Some((first, others)) if *first == *byte => {
+                left = bytes;
+                wanted = others;
+            }
+            _ => return false,
+        }
+    }
+    wanted.is_empty()
+}
+
 // Whether a name is one of two.
+#[inline(always)]
 fn is_one_of(name: &[u8], one: &[u8], other: &[u8]) -> bool
     ensures { result ≡ is_either name.now one.now other.now }
 {
-    name == one || name == other
+    is_name(name, one) || is_name(name, other)
 }
 
 // The same range.
@@ -184,6 +206,7 @@ impl<D: SectionBytes> ModuleSectionInfo<D> for ExplicitModuleSectionInfo<D> {
         self.base_svma
     }
 
+    #[inline(always)]
     fn section_svma_range(&mut self, name: &[u8]) -> Option<Range<u64>> {
         match SectionKind::named(name)? {
             SectionKind::Text => copy_of(&self.text_svma),
@@ -196,6 +219,7 @@ impl<D: SectionBytes> ModuleSectionInfo<D> for ExplicitModuleSectionInfo<D> {
         }
     }
 
+    #[inline(always)]
     fn section_data(&mut self, name: &[u8]) -> Option<D>
         ensures data_ { option_map D.content result ≡ (sections_given D.content self.old).section_data name.now }
         ensures given { IfSome result (λ _.
@@ -213,14 +237,16 @@ impl<D: SectionBytes> ModuleSectionInfo<D> for ExplicitModuleSectionInfo<D> {
         }
     }
 
+    #[inline(always)]
     fn segment_svma_range(&mut self, name: &[u8]) -> Option<Range<u64>> {
-        if name == b"__TEXT".as_slice() {
+        if is_name(name, b"__TEXT") {
             copy_of(&self.text_segment_svma)
         } else {
             None
         }
     }
 
+    #[inline(always)]
     fn segment_data(&mut self, name: &[u8]) -> Option<D>
         ensures data_ { option_map D.content result ≡ (sections_given D.content self.old).segment_data name.now }
         ensures given { IfSome result (λ _.
@@ -228,7 +254,7 @@ impl<D: SectionBytes> ModuleSectionInfo<D> for ExplicitModuleSectionInfo<D> {
         ensures none { IfNone result (sections_given D.content self.new ≡ sections_given D.content self.old) }
         ensures once { IfSome result (λ _. self.new.text_segment ≡ None) }
     {
-        if name == b"__TEXT".as_slice() {
+        if is_name(name, b"__TEXT") {
             self.text_segment.take()
         } else {
             None

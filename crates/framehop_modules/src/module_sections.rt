@@ -94,6 +94,7 @@ fn whole_segment<D: SectionBytes, I: ModuleSectionInfo<D>>(
 }
 
 // The data under the first of two names that has some.
+#[inline(always)]
 fn either_section<D: SectionBytes, I: ModuleSectionInfo<D>>(
     info: &mut I,
     name: &[u8],
@@ -190,6 +191,7 @@ impl<D: SectionBytes> ModuleSections<D> {
 }
 
 // The start of a section that may have either of two names: of the first that has a range, else 0.
+#[inline(always)]
 fn start_of<D: SectionBytes, I: ModuleSectionInfo<D>>(
     info: &mut I,
     name: &[u8],

@@ -8,13 +8,49 @@ use std::marker::Model;
 
 const CACHE_ENTRY_COUNT: usize = 509;
 
-/// A rule that was kept, and what for.
+/// A rule that was kept, and what for, but the kind of its frame.
 #[derive(Clone, Copy, Debug, Drop)]
 struct CacheEntry<R> {
     address: u64,
     modules_generation: u64,
     unwind_rule: R,
-    is_first_frame: bool,
+}
+
+/// What is in a slot. The variant says the kind of the frame too, so that a slot of 32 bytes has all, and a new cache
+/// leaves room in the processor's first cache.
+#[derive(Clone, Copy, Debug, Drop)]
+enum CacheSlot<R> {
+    Empty,
+    FirstFrame(CacheEntry<R>),
+    LaterFrame(CacheEntry<R>),
+}
+
+impl<R> CacheSlot<R> {
+    ghost use Rattle.std.specs.Prelude.{option_map, Some};
+    ghost use Rattle.framehop_rules.specs.CacheViews.{entry_shown, slot_shown};
+
+    // The slot of a frame of this kind with an entry.
+    fn with(is_first_frame: bool, entry: CacheEntry<R>) -> Self
+        ensures { slot_shown result ≡ Some (entry_shown is_first_frame entry) }
+    {
+        if is_first_frame {
+            CacheSlot::FirstFrame(entry)
+        } else {
+            CacheSlot::LaterFrame(entry)
+        }
+    }
+
+    // What is in the slot, and whether it is of a first frame.
+    #[inline(always)]
+    fn entry(&self) -> Option<(bool, &CacheEntry<R>)>
+        ensures { option_map (λ found. entry_shown found.0 found.1.now) result ≡ slot_shown self.now }
+    {
+        match self {
+            CacheSlot::Empty => None,
+            CacheSlot::FirstFrame(entry) => Some((true, entry)),
+            CacheSlot::LaterFrame(entry) => Some((false, entry)),
+        }
+    }
 }
 
 /// How many look-ups found a rule, and why the others didn't. Each count stops at 2^64 - 1.
@@ -97,7 +133,7 @@ pub enum CacheResult<R> {
 /// The unwind rules that were kept last, one for each remainder of the address by 509.
 #[derive(Drop)]
 pub struct RuleCache<R: UnwindRule> {
-    entries: Vec<Option<CacheEntry<R>>>,
+    entries: Vec<CacheSlot<R>>,
     stats: CacheStats,
 }
 
@@ -132,7 +168,7 @@ impl<R: UnwindRule> RuleCache<R> {
         ensures slots { IfOk result (λ cache. cache.slots ≡ replicate 509 None) }
         ensures counts { IfOk result (λ cache. cache.counts ≡ no_counts) }
     {
-        let entries = vec![in alloc; None; CACHE_ENTRY_COUNT]?;
+        let entries = vec![in alloc; CacheSlot::Empty; CACHE_ENTRY_COUNT]?;
         Ok(RuleCache {
             entries,
             stats: CacheStats::new(),
@@ -156,15 +192,15 @@ impl<R: UnwindRule> RuleCache<R> {
             self.new.counts ≡ counts_after_lookup key self.old }
     {
         let slot = (address % (CACHE_ENTRY_COUNT as u64)) as u16;
-        match &self.entries[usize::from(slot)] {
+        match self.entries[usize::from(slot)].entry() {
             None => count(&mut self.stats.miss_empty_slot_count),
-            Some(entry) if entry.modules_generation != modules_generation => {
+            Some((_, entry)) if entry.modules_generation != modules_generation => {
                 count(&mut self.stats.miss_wrong_modules_count)
             }
-            Some(entry) if entry.address != address || entry.is_first_frame != is_first_frame => {
+            Some((of_first, entry)) if entry.address != address || of_first != is_first_frame => {
                 count(&mut self.stats.miss_wrong_address_count)
             }
-            Some(entry) => {
+            Some((_, entry)) => {
                 let unwind_rule = entry.unwind_rule;
                 count(&mut self.stats.hit_count);
                 return CacheResult::Hit(unwind_rule);
@@ -190,12 +226,12 @@ impl<R: UnwindRule> RuleCache<R> {
             address,
             modules_generation,
         } = handle;
-        self.entries[usize::from(slot)] = Some(CacheEntry {
+        let entry = CacheEntry {
             address,
             modules_generation,
             unwind_rule,
-            is_first_frame,
-        });
+        };
+        self.entries[usize::from(slot)] = CacheSlot::with(is_first_frame, entry);
     }
 
     /// How many look-ups found a rule so far, and why the others didn't.
