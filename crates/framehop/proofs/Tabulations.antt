@@ -28,7 +28,7 @@ use Rattle.framehop.specs.declared.tabulation.Tabulation.TheVariants.{Untabulate
 use Rattle.framehop.proofs.Coverages.{unused-says_nothing}
 
 -- a table of a section within limits that are the same
-pub made-as : {A Rule Registers : Type 0} (m : RowMeanings Rule Registers) (rule_of : Row ℕ → Option Rule) (result : Result (RuleTable A Registers Rule) DwarfCfiIndexError) (limits also : Limits) (vendor too : Vendor)
+pub made-as : {A Rule Registers Kept : Type 0} (m : RowMeanings Rule Registers) (rule_of : Row ℕ → Option Rule) (result : Result (RuleTable A Registers Rule Kept) DwarfCfiIndexError) (limits also : Limits) (vendor too : Vendor)
     (base : ℕ) (one other : FrameSection) → limits ≡ also → vendor ≡ too → one ≡ other
     → IsMadeOf result (IsTableOf (tabulated m rule_of limits vendor)) base one → IsMadeOf result (IsTableOf (tabulated m rule_of also too)) base other
 made-as m rule_of result limits also vendor too base one other same alike equal made =
@@ -77,13 +77,13 @@ lent-of Holds given bases base section is same alike holds =
 pub none-of : (Holds : ℕ → FrameSection → Type 0) (given : UnwindData) → None ≡ frame_section_of given.format → OfCallFrames Holds given → ⊥
 none-of Holds given is holds = subst (λ o. HoldsOfSection Holds given o) (sym is) holds
 
-module _ {A Registers Rule : Type 0} (t : (base : ℕ) → FrameSection → Tabulated Rule) where
+module _ {A Registers Rule Kept : Type 0} (t : (base : ℕ) → FrameSection → Tabulated Rule) where
   -- what is kept for a module's section
-  pub kept-for : (kept : Tabulation A Registers Rule) (given : UnwindData) (bases : BaseAddresses) (base : ℕ) (section : UnwindSectionType (List ℕ)) → Some section ≡ frame_section_of given.format → bases ≡ given.bases → base ≡ given.base_svma
+  pub kept-for : (kept : Tabulation A Registers Rule Kept) (given : UnwindData) (bases : BaseAddresses) (base : ℕ) (section : UnwindSectionType (List ℕ)) → Some section ≡ frame_section_of given.format → bases ≡ given.bases → base ≡ given.base_svma
       → IsKeptFor t kept base (section_of_type bases section) → IsTabulatedBy t kept given × (tabulated_view kept given ≡ by_index given)
   kept-for Untabulated given bases base section is same alike holds = absurd holds
   kept-for (Table table) given bases base section is same alike holds = (of-lent (IsKeptFor t (Table table)) given bases base section is same alike holds, refl)
-  kept-for Unindexed given bases base section is same alike holds = (of-lent (IsKeptFor {A = A} {Registers = Registers} t Unindexed) given bases base section is same alike holds, refl)
+  kept-for Unindexed given bases base section is same alike holds = (of-lent (IsKeptFor {A = A} {Registers = Registers} {Kept = Kept} t Unindexed) given bases base section is same alike holds, refl)
 
 module _ {Rule Registers : Type 0} (tables : TableMethods Rule Registers) (given : UnwindData) (relative : ℕ) (first : Bool) where
   -- the method by an index of the section of call frames

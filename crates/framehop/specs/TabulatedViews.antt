@@ -14,7 +14,7 @@ use Rattle.framehop.specs.declared.tabulation.Tabulation.{Tabulation}
 use Rattle.framehop.specs.declared.tabulation.Tabulation.TheVariants.{Untabulated, Table, Unindexed}
 
 -- the unwind data of a module, by its data and what is kept beside them
-abbrev pub tabulated_view : {A Registers Rule : Type 0} → Tabulation A Registers Rule → UnwindData → UnwindData
+abbrev pub tabulated_view : {A Registers Rule Kept : Type 0} → Tabulation A Registers Rule Kept → UnwindData → UnwindData
 tabulated_view Untabulated given = given
 tabulated_view (Table table) given = by_index given
 tabulated_view Unindexed given = by_index given
@@ -29,21 +29,21 @@ abbrev pub OfCallFrames : (ℕ → FrameSection → Type 0) → UnwindData → T
 OfCallFrames Holds given = HoldsOfSection Holds given (frame_section_of given.format)
 
 -- A table is that of this section; and a section that has an index doesn't lack one.
-abbrev pub IsKeptFor : {A Registers Rule : Type 0} → ((base : ℕ) → FrameSection → Tabulated Rule) → Tabulation A Registers Rule → (base : ℕ)
+abbrev pub IsKeptFor : {A Registers Rule Kept : Type 0} → ((base : ℕ) → FrameSection → Tabulated Rule) → Tabulation A Registers Rule Kept → (base : ℕ)
     → FrameSection → Type 0
 IsKeptFor t Untabulated base section = ⊥
 IsKeptFor t (Table table) base section = IsTableOf t table base section
 IsKeptFor t Unindexed base section = has_index section ≡ false
 
 -- So it is for the module's section of call frames, if something is kept.
-abbrev pub IsTabulatedBy : {A Registers Rule : Type 0} → ((base : ℕ) → FrameSection → Tabulated Rule) → Tabulation A Registers Rule → UnwindData
+abbrev pub IsTabulatedBy : {A Registers Rule Kept : Type 0} → ((base : ℕ) → FrameSection → Tabulated Rule) → Tabulation A Registers Rule Kept → UnwindData
     → Type 0
 IsTabulatedBy t Untabulated given = Unit {0}
 IsTabulatedBy t (Table table) given = OfCallFrames (IsKeptFor t (Table table)) given
-IsTabulatedBy {A} {Registers} t Unindexed given = OfCallFrames (IsKeptFor {A = A} {Registers = Registers} t Unindexed) given
+IsTabulatedBy {A} {Registers} {Rule} {Kept} t Unindexed given = OfCallFrames (IsKeptFor {A = A} {Registers = Registers} {Kept = Kept} t Unindexed) given
 
 -- If this is the table of a section, or why it has none, then that is what the result keeps, if there is one.
-abbrev pub KeepsTable : {A Registers Rule E : Type 0} → Result (RuleTable A Registers Rule) DwarfCfiIndexError → Result (Tabulation A Registers Rule) E
+abbrev pub KeepsTable : {A Registers Rule Kept E : Type 0} → Result (RuleTable A Registers Rule Kept) DwarfCfiIndexError → Result (Tabulation A Registers Rule Kept) E
     → Type 0
 KeepsTable {Rule = Rule} table result =
     (t : (base : ℕ) → FrameSection → Tabulated Rule) (base : ℕ) (section : FrameSection) → IsMadeOf table (IsTableOf t) base section

@@ -1,4 +1,5 @@
 pub mod Covered
 pub mod IndexAttempts
+pub mod Kept
 pub mod RuleTables
 pub mod Tabulations

@@ -10,11 +10,11 @@ use Rattle.framehop_tables.specs.declared.rule_table.RuleTable.{RuleTable}
 use Rattle.framehop_tables.specs.Covered.{Tabulated, covered_at}
 
 -- what a table says of a relative address
-abbrev pub rule_at : {A Registers Rule : Type 0} → RuleTable A Registers Rule → ℕ → Covered Rule
+abbrev pub rule_at : {A Registers Rule Kept : Type 0} → RuleTable A Registers Rule Kept → ℕ → Covered Rule
 rule_at table relative = value_at table.table relative
 
 -- how many entries a table has
-abbrev pub entry_count : {A Registers Rule : Type 0} → RuleTable A Registers Rule → ℕ
+abbrev pub entry_count : {A Registers Rule Kept : Type 0} → RuleTable A Registers Rule Kept → ℕ
 entry_count table = range_count table.table
 
 -- how many rows the FDEs of an index have, and how many FDEs there are
@@ -23,13 +23,13 @@ room_of t = sum_by (λ fde. length (fde_rows t.limits t.section t.vendor fde).ro
 
 -- The table says of each relative address of 32 bits what the index of the section says, with no more entries than rows and FDEs, and
 -- one.
-pub record IsTableOf {A Registers Rule : Type 0} (t : (base : ℕ) → FrameSection → Tabulated Rule) (table : RuleTable A Registers Rule) (base : ℕ)
+pub record IsTableOf {A Registers Rule Kept : Type 0} (t : (base : ℕ) → FrameSection → Tabulated Rule) (table : RuleTable A Registers Rule Kept) (base : ℕ)
     (section : FrameSection) : Type 0 where
   pub says : (relative : ℕ) → relative < 2 ^ 32 → rule_at table relative ≡ covered_at (t base section) relative
   pub few : entry_count table ≤ room_of (t base section) + 1
 
 -- What a look-up of a relative address gave is what the index of the table's section says.
-abbrev pub SaysAsIndex : {A Registers Rule : Type 0} → RuleTable A Registers Rule → (relative : ℕ) → Covered Rule → Type 0
-SaysAsIndex {A} {Registers} {Rule} table relative covered =
+abbrev pub SaysAsIndex : {A Registers Rule Kept : Type 0} → RuleTable A Registers Rule Kept → (relative : ℕ) → Covered Rule → Type 0
+SaysAsIndex {A} {Registers} {Rule} {Kept} table relative covered =
     (t : (base : ℕ) → FrameSection → Tabulated Rule) (base : ℕ) (section : FrameSection) → IsTableOf t table base section
     → covered ≡ covered_at (t base section) relative

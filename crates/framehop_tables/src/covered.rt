@@ -1,11 +1,7 @@
 //! What a table says of an address.
 
-ghost use Rattle.std.specs.Prelude.{◌≡◌, ◌↔◌, IsTrue};
-
+use crate::same_rule::SameRule;
 use framehop_ranges::SameValue;
-use framehop_rules::UnwindRule;
-use framehop_rules::aarch64::UnwindRuleAarch64;
-use framehop_rules::x86_64::UnwindRuleX86_64;
 
 /// What a table says of an address.
 #[derive(Debug, Clone, Copy, PartialEq, Eq)]
@@ -16,25 +12,6 @@ pub enum Covered<Rule> {
     Says(Rule),
     /// That no rule says its row, which is one of the FDE at this offset in the section, in bytes.
     Evaluates(u32),
-}
-
-/// An unwind rule, which can be told from others.
-pub trait SameRule: UnwindRule {
-    /// Whether it is the same as another.
-    fn is_same_rule(self, other: Self) -> bool
-        ensures { IsTrue result ↔ self ≡ other };
-}
-
-impl SameRule for UnwindRuleX86_64 {
-    fn is_same_rule(self, other: Self) -> bool {
-        self == other
-    }
-}
-
-impl SameRule for UnwindRuleAarch64 {
-    fn is_same_rule(self, other: Self) -> bool {
-        self == other
-    }
 }
 
 impl<Rule: SameRule> SameValue for Covered<Rule> {

@@ -5,58 +5,70 @@ ghost use Rattle.framehop_ranges.specs.Ranges.{Sound, Extends, range_at};
 ghost use Rattle.framehop_tables.specs.Covered.{SaysValid};
 ghost use Rattle.framehop_tables.specs.declared.covered.Covered.TheVariants.{Nothing};
 
-use crate::covered::{Covered, SameRule};
+use crate::covered::Covered;
+use crate::same_rule::{KeptRule, SameRule};
 use framehop_ranges::{Ranges, SameValue};
 use std::alloc::{AllocError, Global};
 use std::marker::Model;
 
-// What is said of a range of addresses, with a rule that can be executed.
+// What is kept of what is said of a range of addresses, with a rule that can be executed.
 #[derive(Copy)]
-pub(crate) struct Entry<Rule: SameRule> {
-    covered: Covered<Rule>,
+pub(crate) struct KeptEntry<K: KeptRule> {
+    kept: K,
 }
 
-impl<Rule: SameRule> Model for Entry<Rule> {
+// .. by the rule.
+pub(crate) type Entry<Rule> = KeptEntry<<Rule as SameRule>::Kept>;
+
+impl<K: KeptRule> Model for KeptEntry<K> {
+    ghost use Rattle.std.proofs.Common.{ap};
     ghost use Rattle.framehop_tables.specs.declared.covered.Covered.{Covered};
     ghost use Rattle.framehop_tables.specs.Covered.{SaysValid};
 
-    ghost Value = { Covered Rule };
+    ghost Value = { Covered K.Rule };
 
-    ghost view = { λ entry. entry.covered };
+    ghost view = { λ entry. K.covered_by entry.kept };
 
-    ghost inverse = { λ covered. record { covered = covered } };
+    ghost inverse = { λ covered. record { kept = K.kept_of covered } };
 
-    ghost invariant = { λ entry. SaysValid Rule.is_valid entry.covered };
+    ghost inverse_ok = { λ entry valid. ap (λ kept. record { kept = kept }) (K.keeps_no_more entry.kept) };
+
+    ghost invariant = { λ entry. SaysValid K.Rule.is_valid (K.covered_by entry.kept) };
 }
 
-impl<Rule: SameRule> Clone for Entry<Rule> {
+impl<K: KeptRule> Clone for KeptEntry<K> {
     fn clone(&self) -> Result<Self, AllocError> {
         Ok(*self)
     }
 }
 
-impl<Rule: SameRule> Entry<Rule> {
+impl<K: KeptRule> KeptEntry<K> {
     // What is said, if its rule can be executed.
-    pub(crate) fn new(covered: Covered<Rule>) -> Self
-        requires { SaysValid Rule.is_valid covered }
+    pub(crate) fn new(covered: Covered<K::Rule>) -> Self
+        requires { SaysValid K.Rule.is_valid covered }
         ensures { result ≡ covered }
     {
-        Entry { covered }
+        KeptEntry {
+            kept: K::keep(covered),
+        }
     }
 
     // What is said.
     #[inline(always)]
-    pub(crate) fn covered(self) -> Covered<Rule>
+    pub(crate) fn covered(self) -> Covered<K::Rule>
         ensures covered { result ≡ self }
-        ensures valid { SaysValid Rule.is_valid result }
+        ensures valid { SaysValid K.Rule.is_valid result }
     {
-        self.covered
+        self.kept.covered()
     }
 }
 
-impl<Rule: SameRule> SameValue for Entry<Rule> {
+impl<K: KeptRule> SameValue for KeptEntry<K>
+where
+    K::Rule: SameRule,
+{
     fn is_same(self, other: Self) -> bool {
-        self.covered.is_same(other.covered)
+        self.covered().is_same(other.covered())
     }
 }
 
@@ -67,7 +79,7 @@ pub(crate) fn nothing_up_to<Rule: SameRule>(alloc: Global, end: u64) -> Ranges<E
     ensures value { (address : ℕ) → range_at result address ≡ Nothing }
     ensures done { result.done ≡ end }
 {
-    Ranges::new(alloc, end, Entry::new(Covered::Nothing))
+    Ranges::new(alloc, end, KeptEntry::new(Covered::Nothing))
 }
 
 // Says this of the addresses up to an end, from where the ranges are done.
@@ -82,5 +94,5 @@ pub(crate) fn extend<Rule: SameRule>(
     requires valid { SaysValid Rule.is_valid covered }
     ensures { IfOk result (Extends ranges end covered) }
 {
-    ranges.extend(end, Entry::new(covered))
+    ranges.extend(end, KeptEntry::new(covered))
 }

@@ -10,9 +10,10 @@ ghost use Rattle.framehop_ranges.specs.Ranges.{Sound};
 ghost use Rattle.framehop_tables.specs.Covered.{row_rules, tabulated};
 ghost use Rattle.framehop_tables.specs.Tabulations.{AddsEntry, AddsRows, AreOf, end_of, start_at};
 
-use crate::covered::{Covered, SameRule};
+use crate::covered::Covered;
 use crate::entry::{Entry, extend, nothing_up_to};
 use crate::rows::with_rows;
+use crate::same_rule::SameRule;
 use crate::spans::Span;
 use dwarf_frame_entries::{
     BaseAddresses, CommonInformationEntry, FrameDescriptionEntry, UnwindContext,
@@ -107,7 +108,7 @@ where
 {
     match fde_at(section, bases, span.offset) {
         Ok(fde) => with_fde::<A, R, Section, S>(ranges, section, bases, context, &fde, span),
-        Err(_) => extend(ranges, span.limit, Covered::Nothing),
+        Err(_) => extend::<A::UnwindRule>(ranges, span.limit, Covered::Nothing),
     }
 }
 
@@ -152,7 +153,7 @@ where
 {
     let end = end_of(base_svma);
     let fdes = index.fdes();
-    let mut ranges = nothing_up_to(alloc, start_at(end, fdes, 0));
+    let mut ranges = nothing_up_to::<A::UnwindRule>(alloc, start_at(end, fdes, 0));
     for place in 0..fdes.len() {
         let span = Span {
             base_svma,
@@ -161,5 +162,5 @@ where
         };
         ranges = with_entry::<A, R, Section, S>(ranges, section, bases, &mut *context, span)?;
     }
-    extend(ranges, 1 << 32, Covered::Nothing)
+    extend::<A::UnwindRule>(ranges, 1 << 32, Covered::Nothing)
 }

@@ -4,10 +4,14 @@
 mod covered;
 mod entry;
 mod fdes;
+mod kept;
 mod rows;
 mod rule_table;
+mod same_rule;
 mod spans;
 pub mod table_laws;
 
-pub use covered::{Covered, SameRule};
+pub use covered::Covered;
+pub use kept::{KeptAarch64, KeptX86_64};
 pub use rule_table::{RuleLookup, RuleTable};
+pub use same_rule::{KeptRule, SameRule};

@@ -7,8 +7,9 @@ ghost use Rattle.framehop_ranges.specs.Ranges.{Sound, Extends};
 ghost use Rattle.framehop_tables.specs.Covered.{SaysValid, by_rule, row_rules};
 ghost use Rattle.framehop_tables.specs.Tabulations.{AddsRows};
 
-use crate::covered::{Covered, SameRule};
+use crate::covered::Covered;
 use crate::entry::{Entry, extend};
+use crate::same_rule::SameRule;
 use crate::spans::Span;
 use dwarf_frame_instructions::ProgramRows;
 use dwarf_frame_rows::{RegisterRule, RuledRegister, UnwindContextStorage, UnwindTableRow};

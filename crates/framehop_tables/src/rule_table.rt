@@ -2,9 +2,10 @@
 
 ghost use Rattle.std.specs.Prelude.{◌≡◌, ◌≤◌, ◌^◌, ℕ, suc, IfOk};
 
-use crate::covered::{Covered, SameRule};
+use crate::covered::Covered;
 use crate::entry::Entry;
 use crate::fdes::ranges_of;
+use crate::same_rule::SameRule;
 use dwarf_frame_entries::{BaseAddresses, UnwindContext, UnwindContextStorage, UnwindSection};
 use dwarf_readers::Reader;
 use framehop_errors::DwarfCfiIndexError;
