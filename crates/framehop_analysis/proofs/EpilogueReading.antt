@@ -1,10 +1,11 @@
 -- Pops at the start of some bytes can be read in one way.
-use Rattle.std.proofs.Common.{◌≡◌, ◌≢◌, ◌∙◌, ℕ, zero, suc, ◌+◌, ◌-◌, ◌<◌, ◌≤◌, refl, sym, ap, arith, ◌⊎◌, inl, inr, Bool, true, false, List, [], ◌∷◌, ◌++◌, length, append_assoc, append-nil, length-append, Option, Some, None}
+use Rattle.std.proofs.Common.{◌≡◌, ◌≢◌, ◌∙◌, ℕ, zero, suc, ◌+◌, ◌-◌, ◌<◌, ◌≤◌, refl, sym, ap, subst, arith, ◌⊎◌, inl, inr, Bool, true, false, List, [], ◌∷◌, ◌++◌, length, append_assoc, append-nil, length-append, Option, Some, None}
 use Rattle.std.specs.List.{AllByRecursion}
 use Rattle.framehop_analysis.specs.Instructions.{RexPrefix, NoRex, Rex, RexB, Instruction, Push, Pop, SetFramePointer, Return, Jump, Fits, bytes_of, spelling, is_plain_rbp_pop}
+use Rattle.std.specs.Option.{IfNone}
 use Rattle.framehop_analysis.specs.Found.{IsFound}
 use Rattle.framehop_analysis.specs.Epilogue.{IsEpilogue, IsEpilogueRule, ends_like_pop, LeavesFunction, is_pop_byte, last_rbp_pop, one_further, epilogue_rule, rule_of_pops}
-use Rattle.framehop_analysis.specs.EpilogueViews.{leaves_function, BeginsWithNoPop, IsPop, IsPopThen, IsPopRun}
+use Rattle.framehop_analysis.specs.EpilogueViews.{after_rex, leaves_function, BeginsWithNoPop, IsPop, IsPopThen, IsPopRun}
 use Rattle.std.proofs.lemmas.Bool.Decides.{nat_tests, Decides-eqb}
 use Rattle.std.specs.Prelude.{◌==◌, ◌||◌, ◌&&◌, nat_lt, take, drop, if◌then◌else◌}
 use Rattle.framehop_rules.specs.declared.x86_64.unwind_rule.UnwindRuleX86_64.{UnwindRuleX86_64}
@@ -20,7 +21,7 @@ head_of : List ℕ → ℕ
 head_of [] = 0
 head_of (x ∷ xs) = x
 
-heads : (x y : ℕ) (r t : List ℕ) → x ∷ r ≡ y ∷ t → x ≡ y
+pub heads : (x y : ℕ) (r t : List ℕ) → x ∷ r ≡ y ∷ t → x ≡ y
 heads x y r t same = cc
 
 tails : (x y : ℕ) (r t : List ℕ) → x ∷ r ≡ y ∷ t → r ≡ t
@@ -155,6 +156,48 @@ pop_with_rex bytes more suffix first second is is_more (inr rex_b) test =
     let high : second < 96 = grind (arith, nat_tests) in
     let back : 88 + (second - 88) ≡ second = omega arith in
     record { rex = RexB; low = second - 88; fits = omega arith; spelled = let e = ap (λ x. 65 ∷ x ∷ suffix) (sym back) in cc; is_bp = refl }
+
+-- the pop that is read after a prefix or none
+pub pop_read : (bytes rest suffix : List ℕ) (first byte : ℕ) → bytes ≡ first ∷ rest → after_rex bytes ≡ byte ∷ suffix → is_pop_byte byte ≡ true
+    → IsPopThen bytes (first == 93) suffix
+pop_read bytes rest suffix first byte is is_after test = by (first == 64) (first == 65) refl refl
+  where
+    read : after_rex (first ∷ rest) ≡ byte ∷ suffix
+    read = sym (ap after_rex is) ∙ is_after
+
+    with_rex : rest ≡ byte ∷ suffix → (first ≡ 64) ⊎ (first ≡ 65) → (first == 93) ≡ false → IsPopThen bytes (first == 93) suffix
+    with_rex is_rest rex other = subst (λ (b : Bool). IsPopThen bytes b suffix) (sym other) (pop_with_rex bytes rest suffix first byte is is_rest rex test)
+
+    by : (a b : Bool) → (first == 64) ≡ a → (first == 65) ≡ b → IsPopThen bytes (first == 93) suffix
+    by true b is_a is_b =
+        let same : first ≡ 64 = grind (arith, nat_tests) in
+        with_rex (ap (λ (t : Bool). if t || (first == 65) then rest else first ∷ rest) (sym is_a) ∙ read) (inl same) (ap (λ n. n == 93) same)
+    by false true is_a is_b =
+        let same : first ≡ 65 = grind (arith, nat_tests) in
+        with_rex (ap (λ (t : Bool). if t then rest else first ∷ rest) (sym (ap (λ (t : Bool). t || (first == 65)) is_a ∙ is_b)) ∙ read) (inr same) (ap (λ n. n == 93) same)
+    by false false is_a is_b =
+        let whole : first ∷ rest ≡ byte ∷ suffix = ap (λ (t : Bool). if t then rest else first ∷ rest) (sym (ap (λ (t : Bool). t || (first == 65)) is_a ∙ is_b)) ∙ read in
+        subst (λ (n : ℕ). IsPopThen bytes (n == 93) suffix) (sym (heads first byte rest suffix whole)) (plain_pop bytes suffix byte (is ∙ whole) test)
+
+-- what is said of none holds, if it holds anyway
+pub if_none : {A B : Type 0} (o : Option A) → B → IfNone o B
+if_none None is = is
+if_none (Some x) is = tt
+
+-- none is read
+pub no_pop_read : (bytes : List ℕ) → ((byte : ℕ) (suffix : List ℕ) → after_rex bytes ≡ byte ∷ suffix → is_pop_byte byte ≡ true → ⊥) → BeginsWithNoPop bytes
+no_pop_read bytes none rex low suffix fits is = by rex is
+  where
+    test : is_pop_byte (88 + low) ≡ true
+    test = grind (arith, nat_tests, fits)
+
+    by : (rex : RexPrefix) → bytes ≡ bytes_of (Pop rex low) ++ suffix → ⊥
+    by Rex is = none (88 + low) suffix (ap after_rex is) test
+    by RexB is = none (88 + low) suffix (ap after_rex is) test
+    by NoRex is =
+        let a : ((88 + low) == 64) ≡ false = grind (arith, nat_tests) in
+        let b : ((88 + low) == 65) ≡ false = grind (arith, nat_tests) in
+        none (88 + low) suffix (ap after_rex is ∙ ap (λ (t : Bool). if t then suffix else (88 + low) ∷ suffix) (ap (λ (t : Bool). t || ((88 + low) == 65)) a ∙ b)) test
 
 -- a run of pops, and one more
 pub run_and_one : (bytes suffix rest : List ℕ) (pops : List Instruction) (count : ℕ) (bp_offset_by_8 : Option ℕ) (is_plain_rbp : Bool) (new_offset : Option ℕ)

@@ -86,6 +86,23 @@ push_with_rex bytes before prefix byte previous is is_before (inr rex_b) test =
       whole = λ e. cc;
     }
 
+pub no_push : (bytes before : List ℕ) (byte : ℕ) → bytes ≡ before ++ byte ∷ [] → is_push_byte byte ≡ false → EndsWithNoPush bytes
+no_push bytes before byte is fails rex low prefix fits same = by rex same
+  where
+    passes : is_push_byte (80 + low) ≡ true
+    passes = grind (arith, nat_tests, fits)
+
+    differs : (front : List ℕ) → bytes ≡ front ++ (80 + low) ∷ [] → ⊥
+    differs front ends =
+        let last = (snoc_same before front byte (80 + low) (sym is ∙ ends)).lasts in
+        let no : false ≡ true = sym fails ∙ ap is_push_byte last ∙ passes in
+        cc
+
+    by : (rex : RexPrefix) → bytes ≡ prefix ++ bytes_of (Push rex low) → ⊥
+    by NoRex ends = differs prefix ends
+    by Rex ends = differs (prefix ++ 0x40 ∷ []) (ends ∙ two prefix 0x40 (80 + low))
+    by RexB ends = differs (prefix ++ 0x41 ∷ []) (ends ∙ two prefix 0x41 (80 + low))
+
 -- the push that is read, and another one that the bytes end with: the same, or without the prefix
 abbrev NeedsPrefix : RexPrefix → List ℕ → Type 0
 NeedsPrefix q f = q ≡ NoRex → (byte : ℕ) (more : List ℕ) → (byte ≡ 0x40) ⊎ (byte ≡ 0x41) → f ≢ more ++ byte ∷ []

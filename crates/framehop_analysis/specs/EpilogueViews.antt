@@ -1,6 +1,6 @@
 -- Pops that some bytes begin with.
 use Rattle.std.specs.List.{AllByRecursion}
-use Rattle.std.specs.Prelude.{ℕ, ◌≡◌, ◌≢◌, ◌+◌, ◌<◌, ◌≤◌, ◌==◌, ◌||◌, ◌&&◌, Bool, false, List, [], ◌∷◌, ◌++◌, length, Option}
+use Rattle.std.specs.Prelude.{ℕ, ◌≡◌, ◌≢◌, ◌+◌, ◌<◌, ◌≤◌, ◌==◌, ◌||◌, ◌&&◌, if◌then◌else◌, Bool, false, List, [], ◌∷◌, ◌++◌, length, Option}
 use Rattle.framehop_analysis.specs.Instructions.{RexPrefix, Instruction, Pop, bytes_of, spelling, is_plain_rbp_pop}
 use Rattle.framehop_analysis.specs.Epilogue.{last_rbp_pop}
 
@@ -11,6 +11,11 @@ pub record IsPopThen (bytes : List ℕ) (is_plain_rbp : Bool) (suffix : List ℕ
   pub fits : low < 8
   pub spelled : bytes ≡ bytes_of (Pop rex low) ++ suffix
   pub is_bp : is_plain_rbp ≡ is_plain_rbp_pop (Pop rex low)
+
+-- The bytes after a prefix that a pop can have, or all if they begin with none.
+abbrev pub after_rex : List ℕ → List ℕ
+after_rex [] = []
+after_rex (byte ∷ more) = if (byte == 0x40) || (byte == 0x41) then more else byte ∷ more
 
 -- The bytes begin with no pop.
 abbrev pub BeginsWithNoPop : List ℕ → Type 0

@@ -12,6 +12,12 @@ pub record EndsWithPush (bytes prefix : List ℕ) : Type 0 where
   pub spelled : bytes ≡ prefix ++ bytes_of (Push rex low)
   pub whole : rex ≡ NoRex → (byte : ℕ) (more : List ℕ) → (byte ≡ 0x40) ⊎ (byte ≡ 0x41) → prefix ≢ more ++ byte ∷ []
 
+-- The bytes end with a prefix that a push can have, and these come before it; or they end with none, and these are all.
+abbrev pub IsBeforeRex : List ℕ → List ℕ → Type 0
+IsBeforeRex bytes before =
+    ((byte : ℕ) × ((byte ≡ 0x40) ⊎ (byte ≡ 0x41)) × (bytes ≡ before ++ byte ∷ []))
+    ⊎ ((before ≡ bytes) × ((byte : ℕ) (more : List ℕ) → (byte ≡ 0x40) ⊎ (byte ≡ 0x41) → bytes ≢ more ++ byte ∷ []))
+
 -- The bytes end with no push.
 abbrev pub EndsWithNoPush : List ℕ → Type 0
 EndsWithNoPush bytes = (rex : RexPrefix) (low : ℕ) (prefix : List ℕ) → low < 8 → bytes ≢ prefix ++ bytes_of (Push rex low)

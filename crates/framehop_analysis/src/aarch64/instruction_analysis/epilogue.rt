@@ -14,7 +14,9 @@ use crate::aarch64::instruction_analysis::fields::{
     added_to_sp, first_word, units_of_8, units_of_16,
 };
 use crate::aarch64::instruction_analysis::look_back::is_in_end;
-use crate::aarch64::instruction_analysis::pair::{AddressingMode, Pair, load_pair};
+use crate::aarch64::instruction_analysis::pair::{
+    Pair, is_post_index, is_signed_offset, load_pair,
+};
 use framehop_rules::aarch64::UnwindRuleAarch64;
 
 // `ret`
@@ -60,10 +62,9 @@ fn loaded_from(number: u8, pair: Pair, at: i128, before: Option<i128>) -> Option
     ensures { result ≡ (if pair.second == number then Some (at +ℤ pos 8) else
         if pair.first == number then Some at else before) }
 {
-    if pair.second == number {
-        Some(at + 8)
-    } else if pair.first == number {
-        Some(at)
+    let is_second = pair.second == number;
+    if is_second | (pair.first == number) {
+        Some(at + i128::from(is_second) * 8)
     } else {
         before
     }
@@ -79,11 +80,13 @@ pub fn offset_and_raise(pair: Pair) -> (i128, i128)
     ensures offset_high { result.0 ≤ℤ pos 4096 }
 {
     let bytes = i128::from(pair.offset_by_8) * 8;
-    match pair.mode {
-        AddressingMode::PostIndex => (0, bytes),
-        AddressingMode::SignedOffset => (bytes, 0),
-        AddressingMode::PreIndex => (bytes, bytes),
-    }
+    let access_offset = if is_post_index(pair.mode) { 0 } else { bytes };
+    let raise = if is_signed_offset(pair.mode) {
+        0
+    } else {
+        bytes
+    };
+    (access_offset, raise)
 }
 
 impl Restored {
@@ -120,7 +123,7 @@ impl Restored {
 fn is_end_word(word: u32, restored: Restored) -> bool
     ensures { IsTrue result ↔ IsEndWord word restored.raise }
 {
-    if restored.raise != 0 && is_branch(word) {
+    if is_branch(word) && restored.raise != 0 {
         return true;
     }
     word == RETURN || word == AUTH_RETURN

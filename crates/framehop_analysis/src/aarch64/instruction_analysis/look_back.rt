@@ -91,5 +91,5 @@ pub fn is_in_end(bytes: &[u8], pc_offset: usize) -> bool
     requires { pc_offset ≤ length bytes.now }
     ensures { IsTrue result ↔ IsInEnd bytes.now pc_offset }
 {
-    is_in_auth_tail_call(bytes, pc_offset) || is_after_raise(bytes, pc_offset)
+    is_after_raise(bytes, pc_offset) || is_in_auth_tail_call(bytes, pc_offset)
 }

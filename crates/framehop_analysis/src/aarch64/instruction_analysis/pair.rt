@@ -62,14 +62,19 @@ fn signed(bits: u8) -> i8
 
 // The mode with these bits.
 fn mode_with(bits: u32) -> Option<AddressingMode>
+    requires { bits < 4 }
     ensures mode { IfSome result (λ mode. mode_bits mode ≡ bits) }
     ensures none { IfNone result ((mode : AddressingMode) → mode_bits mode ≢ bits) }
 {
-    match bits {
-        1 => Some(AddressingMode::PostIndex),
-        2 => Some(AddressingMode::SignedOffset),
-        3 => Some(AddressingMode::PreIndex),
-        _ => None,
+    if bits == 0 {
+        return None;
+    }
+    if bits % 2 == 0 {
+        Some(AddressingMode::SignedOffset)
+    } else if bits == 1 {
+        Some(AddressingMode::PostIndex)
+    } else {
+        Some(AddressingMode::PreIndex)
     }
 }
 

@@ -2,7 +2,7 @@
 ghost use Rattle.std.specs.Prelude.{◌≡◌, ◌+◌, ◌≤◌, ◌<◌, ◌^◌, ◌++◌, ◌||◌, nat_lt, if◌then◌else◌, ℕ, List, length, IfSome, IfNone};
 ghost use Rattle.framehop_analysis.specs.Found.{IsFound};
 ghost use Rattle.framehop_analysis.specs.Epilogue.{IsEpilogueRule, rule_of_pops, ends_like_pop, is_pop_byte};
-ghost use Rattle.framehop_analysis.specs.EpilogueViews.{IsPopThen, BeginsWithNoPop, IsWholePopRun, leaves_function};
+ghost use Rattle.framehop_analysis.specs.EpilogueViews.{IsPopThen, BeginsWithNoPop, IsWholePopRun, after_rex, leaves_function};
 
 use framehop_rules::x86_64::UnwindRuleX86_64;
 
@@ -24,18 +24,26 @@ fn is_pop_byte(byte: u8) -> bool
     (0x58..=0x5f).contains(&byte)
 }
 
+// The bytes after a REX prefix that a pop can have, or all bytes if they begin with none. Prefixes come and go among
+// pops, so that a processor would guess a branch on them wrong.
+fn after_rex(bytes: &[u8]) -> &[u8]
+    ensures { result.now ≡ after_rex bytes.now }
+{
+    match bytes {
+        [0x40 | 0x41, after @ ..] => after,
+        _ => bytes,
+    }
+}
+
 // The pop that some bytes begin with: whether it is `pop rbp` without a prefix, and the bytes after it.
 fn first_pop(bytes: &[u8]) -> Option<(bool, &[u8])>
     ensures pop { IfSome result (λ pop. IsPopThen bytes.now pop.0 pop.1.now) }
     ensures none { IfNone result (BeginsWithNoPop bytes.now) }
 {
-    let (&first, suffix) = bytes.split_first()?;
-    if is_pop_byte(first) {
-        return Some((first == 0x5d, suffix));
-    }
-    let (&second, suffix) = suffix.split_first()?;
-    if (first == 0x40 || first == 0x41) && is_pop_byte(second) {
-        Some((false, suffix))
+    let (&first, _) = bytes.split_first()?;
+    let (&byte, suffix) = after_rex(bytes).split_first()?;
+    if is_pop_byte(byte) {
+        Some((first == 0x5d, suffix))
     } else {
         None
     }

@@ -3,7 +3,7 @@ ghost use Rattle.std.specs.Prelude.{◌≡◌, ◌==◌, ◌&&◌, ◌||◌, ◌
 ghost use Rattle.framehop_analysis.specs.Instructions.{Instruction, spelling};
 ghost use Rattle.framehop_analysis.specs.Found.{IsFound};
 ghost use Rattle.framehop_analysis.specs.Prologue.{IsPrologueRule, IsLongestRun, EndsWith, rule_of_pushes, frame_setup};
-ghost use Rattle.framehop_analysis.specs.PrologueViews.{is_expected, is_push_byte, EndsWithPush, EndsWithNoPush};
+ghost use Rattle.framehop_analysis.specs.PrologueViews.{is_expected, is_push_byte, EndsWithPush, EndsWithNoPush, IsBeforeRex};
 
 use framehop_rules::x86_64::UnwindRuleX86_64;
 
@@ -41,23 +41,26 @@ fn is_expected_in_prologue(bytes: &[u8]) -> bool
     }
 }
 
+// The bytes before a REX prefix that a push can have, or all bytes if they end with none.
+fn before_rex(bytes: &[u8]) -> &[u8]
+    ensures { IsBeforeRex bytes.now result.now }
+{
+    match bytes {
+        [before @ .., 0x40 | 0x41] => before,
+        _ => bytes,
+    }
+}
+
 // The bytes before the push that some bytes end with.
 fn before_last_push(bytes: &[u8]) -> Option<&[u8]>
     ensures push { IfSome result (λ prefix. EndsWithPush bytes.now prefix.now) }
     ensures none { IfNone result (EndsWithNoPush bytes.now) }
 {
     let (&last, before) = bytes.split_last()?;
-    if !is_push_byte(last) {
-        return None;
-    }
-    let (&previous, prefix) = match before.split_last() {
-        Some(found) => found,
-        None => return Some(before),
-    };
-    if previous == 0x40 || previous == 0x41 {
-        Some(prefix)
+    if is_push_byte(last) {
+        Some(before_rex(before))
     } else {
-        Some(before)
+        None
     }
 }
 

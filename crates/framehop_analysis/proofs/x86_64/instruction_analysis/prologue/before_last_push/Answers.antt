@@ -1,21 +1,20 @@
-use Rattle.std.proofs.Common.{◌∙◌, sym, ap, [], ◌∷◌, inl, inr, length, arith, length-append}
-use Rattle.framehop_analysis.proofs.PrologueReading.{plain_push, push_with_rex, last_differs}
+use Rattle.std.proofs.Common.{◌∙◌, sym, subst, inl, inr}
+use Rattle.framehop_analysis.specs.PrologueViews.{EndsWithPush}
+use Rattle.framehop_analysis.proofs.PrologueReading.{no_push, plain_push, push_with_rex}
 use Rattle.framehop_analysis.proofs.x86_64.instruction_analysis.prologue.before_last_push.Goals as goal
 
-pub returns-in-None-clause-push : goal.returns-in-None-clause-push
-returns-in-None-clause-push c =
-    plain_push c.args.bytes.now c.in_ok-last.before.now c.in_ok-last.field-0-0.now c.in_ok-last.ensures.cases.0
-    (sym c.is_push_byte.ensures ∙ c.if-not-is_push_byte.false)
-    (λ b more is same. absurd (omega (arith, c.in-None.ensures.cases, ap length same, length-append more (b ∷ []))))
+pub returns-then-is_push_byte-clause-push : goal.returns-then-is_push_byte-clause-push
+returns-then-is_push_byte-clause-push c =
+    let bytes = c.args.bytes.now in
+    let before = c.in_ok-last.before.now in
+    let last = c.in_ok-last.field-0-0.now in
+    let is = c.in_ok-last.ensures.cases.0 in
+    let test = sym c.is_push_byte.ensures ∙ c.if-is_push_byte.true in
+    elim c.before_rex.ensures [
+      | inl (previous, rex, ends) ↦ push_with_rex bytes before c.before_rex.result.now last previous is ends rex test
+      | inr (same, whole) ↦ subst (EndsWithPush bytes) (sym same) (plain_push bytes before last is test whole)
+    ]
 
-pub returns-then-previous-eq65-clause-push : goal.returns-then-previous-eq65-clause-push
-returns-then-previous-eq65-clause-push c =
-    push_with_rex c.args.bytes.now c.in_ok-last.before.now c.in-Some.found.1.now c.in_ok-last.field-0-0.now c.in-Some.found.0.now
-    c.in_ok-last.ensures.cases.0 c.in-Some.ensures.cases.0 (elim c.if-previous-eq65.either [ inl rex ↦ inl rex | inr rex_b ↦ inr rex_b.1 ])
-    (sym c.is_push_byte.ensures ∙ c.if-not-is_push_byte.false)
-
-pub returns-else-previous-eq65-clause-push : goal.returns-else-previous-eq65-clause-push
-returns-else-previous-eq65-clause-push c =
-    plain_push c.args.bytes.now c.in_ok-last.before.now c.in_ok-last.field-0-0.now c.in_ok-last.ensures.cases.0
-    (sym c.is_push_byte.ensures ∙ c.if-not-is_push_byte.false)
-    (last_differs c.in_ok-last.before.now c.in-Some.found.1.now c.in-Some.found.0.now c.in-Some.ensures.cases.0 c.if-previous-eq65.false.0 c.if-previous-eq65.false.1)
+pub returns-else-is_push_byte-clause-none : goal.returns-else-is_push_byte-clause-none
+returns-else-is_push_byte-clause-none c =
+    no_push c.args.bytes.now c.in_ok-last.before.now c.in_ok-last.field-0-0.now c.in_ok-last.ensures.cases.0 (sym c.is_push_byte.ensures ∙ c.if-is_push_byte.false)
