@@ -45,8 +45,8 @@ fn sum_of(function: Function) -> u64 {
     said.wrapping_add(u64::from(function.start_address))
 }
 
-// The unwinder of a section, by halving if its tables increase.
-fn unwinder_of(section: &[u8]) -> CompactUnwindInfoUnwinder<'_, ArchX86_64> {
+/// The unwinder of a section, by halving if its tables increase.
+pub fn unwinder_of(section: &[u8]) -> CompactUnwindInfoUnwinder<'_, ArchX86_64> {
     if CompactUnwindInfoUnwinder::<ArchX86_64>::is_increasing(section) {
         CompactUnwindInfoUnwinder::new_increasing(section, None, (0, 0), (0, 0))
     } else {
@@ -55,8 +55,10 @@ fn unwinder_of(section: &[u8]) -> CompactUnwindInfoUnwinder<'_, ArchX86_64> {
 }
 
 /// Looks each address up, in an order in which neighbours are far apart.
-pub fn look_up_each(section: &[u8], addresses: Addresses) -> Tally {
-    let unwinder = unwinder_of(section);
+pub fn look_up_each(
+    unwinder: &CompactUnwindInfoUnwinder<'_, ArchX86_64>,
+    addresses: Addresses,
+) -> Tally {
     let mut tally = Tally { found: 0, sum: 0 };
     for i in 0..addresses.count {
         let index = i

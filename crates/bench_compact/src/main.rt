@@ -11,7 +11,7 @@ mod look_ups;
 use anyhow::Result;
 use dwarf_readers::{EndianSlice, LittleEndian, Reader};
 use framehop_compact_tables::is_increasing;
-use look_ups::{Addresses, Tally, look_up_each};
+use look_ups::{Addresses, Tally, look_up_each, unwinder_of};
 use std::env;
 use std::io::Read;
 use std::time::{Duration, Instant};
@@ -31,7 +31,7 @@ fn main(rt: HostRuntime) -> Result<()> {
     if env::args(&rt)?.nth(1).is_some() {
         print_times(&rt, section, addresses)
     } else {
-        print_tally(&rt, look_up_each(section, addresses))
+        print_tally(&rt, look_up_each(&unwinder_of(section), addresses))
     }
 }
 
@@ -45,14 +45,15 @@ fn print_tally(rt: &HostRuntime, tally: Tally) -> Result<()> {
 fn print_times(rt: &HostRuntime, section: &[u8], addresses: Addresses) -> Result<()> {
     let mut least_of_tests = Duration::MAX;
     let mut least_of_lookups = Duration::MAX;
-    let mut tally = look_up_each(section, addresses);
+    let unwinder = unwinder_of(section);
+    let mut tally = look_up_each(&unwinder, addresses);
     let mut increasing = 0u32;
     for _ in 0..ROUNDS {
         let start = Instant::now(rt)?;
         increasing = increasing.saturating_add(u32::from(is_increasing(section)));
         least_of_tests = least_of_tests.min(start.elapsed(rt)?);
         let start = Instant::now(rt)?;
-        tally = look_up_each(section, addresses);
+        tally = look_up_each(&unwinder, addresses);
         least_of_lookups = least_of_lookups.min(start.elapsed(rt)?);
     }
     println!(rt;

@@ -24,6 +24,15 @@ pub fn u32_at(bytes: &[u8], at: usize) -> u32
         + 16777216 * u32::from(bytes[at + 3])
 }
 
+// The number of 32 bits at an offset that is a sum of two.
+#[inline(always)]
+pub(crate) fn u32_after(bytes: &[u8], at: usize, more: usize) -> u32
+    requires { at + more + 4 ≤ length bytes.now }
+    ensures { result ≡ u32_at bytes.now (at + more) }
+{
+    u32_at(&bytes[at..], more)
+}
+
 // Whether a stretch is whole in the bytes.
 pub(crate) fn is_within(bytes: &[u8], offset: usize, size: usize) -> bool
     requires { offset + size < 2 ^ 64 }

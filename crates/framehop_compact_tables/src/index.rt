@@ -4,7 +4,7 @@ ghost use Rattle.std.specs.Prelude.{◌≡◌, ◌<◌, ◌≤◌, ◌+◌, ◌*
 ghost use Rattle.framehop_compact_tables.specs.Index.{index_offset, index_count, index_start, index_page, index_is_whole};
 ghost use Rattle.framehop_errors.specs.declared.compact_format.CompactFormatError.TheVariants.{Truncated};
 
-use crate::bytes::{is_within, u32_at};
+use crate::bytes::{is_within, u32_after, u32_at};
 use crate::search::{Rows, count_at_most};
 use framehop_errors::CompactFormatError;
 
@@ -68,10 +68,8 @@ impl Rows for Index<'_> {
     }
 
     #[inline(always)]
-    fn count_at_or_below(&self, row: usize, address: u32) -> usize {
-        count_at_most(
-            u64::from(u32_at(self.entries, 12 * row)),
-            u64::from(address),
-        )
+    fn count_at_or_below(&self, row: usize, more: usize, address: u32) -> usize {
+        let start = u32_after(self.entries, 12 * row, 12 * more);
+        count_at_most(u64::from(start), u64::from(address))
     }
 }

@@ -5,7 +5,7 @@ ghost use Rattle.framehop_compact_tables.specs.Bytes.{capped_sum};
 ghost use Rattle.framehop_compact_tables.specs.Index.{common_offset, common_count};
 ghost use Rattle.framehop_compact_tables.specs.Pages.{entries_offset, entry_count, entry_size, entry_start, encoding_at, indexed_encoding, encoding_of};
 
-use crate::bytes::{is_within, u32_at};
+use crate::bytes::{is_within, u32_after, u32_at};
 use crate::page::Page;
 use crate::search::{Rows, count_at_most};
 use framehop_errors::CompactFormatError;
@@ -68,15 +68,13 @@ fn limit_of_sums(address: u32) -> u64
     }
 }
 
-// 1 if an entry of a compressed page with this start and this word starts at or below an address, else 0. With its low 24 bits
-// above the index of its encoding, the word is in the order of the starts, and no bits of it are cut off.
+// 1 if an entry of a compressed page with this start and this word starts at or below an address, else 0.
 #[inline(always)]
 fn count_of_compressed(start: u32, word: u32, address: u32) -> usize
     ensures { result ≡ (if nat_le (capped_sum start (word % 0x1000000)) address then 1 else 0) }
 {
-    let turned = 256 * (word % 0x100_0000) + (word >> 24);
-    let room = (1 << 40) + limit_of_sums(address) - u64::from(start);
-    count_at_most((1 << 48) + u64::from(turned), 256 * room + 255)
+    let sum = u64::from(u32::MAX) + u64::from(word % 0x100_0000);
+    count_at_most(sum, limit_of_sums(address) + u64::from(u32::MAX - start))
 }
 
 impl PageEntries<'_> {
@@ -129,14 +127,14 @@ impl Rows for PageEntries<'_> {
     }
 
     #[inline(always)]
-    fn count_at_or_below(&self, row: usize, address: u32) -> usize {
+    fn count_at_or_below(&self, row: usize, more: usize, address: u32) -> usize {
         match self.page {
             Page::Regular { .. } => {
-                let start = u32_at(self.entries, 8 * row);
+                let start = u32_after(self.entries, 8 * row, 8 * more);
                 count_at_most(u64::from(start), u64::from(address))
             }
             Page::Compressed { start, .. } => {
-                let word = u32_at(self.entries, 4 * row);
+                let word = u32_after(self.entries, 4 * row, 4 * more);
                 count_of_compressed(start, word, address)
             }
         }

@@ -21,10 +21,11 @@ pub(crate) trait Rows {
         requires { row < rows self.now }
         ensures { result ≡ start self.now row };
 
-    /// 1 if a row starts at or below an address, else 0: without a branch, which no processor could foresee.
-    fn count_at_or_below(&self, row: usize, address: u32) -> usize
-        requires { row < rows self.now }
-        ensures { result ≡ (if nat_le (start self.now row) address then 1 else 0) };
+    /// 1 if the row that is so many after another starts at or below an address, else 0: without a branch, which no processor
+    /// could foresee.
+    fn count_at_or_below(&self, row: usize, more: usize, address: u32) -> usize
+        requires { row + more < rows self.now }
+        ensures { result ≡ (if nat_le (start self.now (row + more)) address then 1 else 0) };
 }
 
 // Whether the starts increase strictly.
@@ -73,25 +74,28 @@ pub(crate) fn count_at_most(number: u64, limit: u64) -> usize
     (((1 << 63) + limit - number) >> 63) as usize
 }
 
-// The first of the rows that are left: after a half of them, if the one there starts at or below the address. Counted.
+// How many of the rows that are left are passed over, of which the first is `more` after `low`: a half, if the row after it
+// starts at or below the address, else none. Counted.
 #[inline(always)]
-fn half_left<T: Rows, L: Ledger>(
+fn half_passed<T: Rows, L: Ledger>(
     table: &T,
     low: usize,
+    more: usize,
     half: usize,
     address: u32,
     steps: &mut Steps<L>,
 ) -> usize
-    requires within { low + half < T.rows table.now }
+    requires within { low + half + more < T.rows table.now }
     requires fits { low + half < 2 ^ 64 }
-    ensures left { result ≡ low + half * (if nat_le (T.start table.now (low + half)) address then 1 else 0) }
+    ensures passed { result ≡ half * (if nat_le (T.start table.now (low + half + more)) address then 1 else 0) }
     ensures counted { steps.new ≡ steps.old + 1 }
 {
     steps.tick();
-    low + half * table.count_at_or_below(low + half, address)
+    half * table.count_at_or_below(low + half, more, address)
 }
 
-// The same by halving, if the starts increase.
+// The same by halving, if the starts increase. The first of the rows that are left is `more` after `low`, so that the next read
+// waits for one number alone, which the comparison before it gives.
 fn last_row_increasing<T: Rows, L: Ledger>(
     table: &T,
     address: u32,
@@ -106,14 +110,18 @@ fn last_row_increasing<T: Rows, L: Ledger>(
         return None;
     }
     let mut low = 0;
+    let mut more = 0;
     let mut len = count;
     'halves: while len > 1 {
         let half = len / 2;
-        low = half_left(table, low, half, address, steps);
+        let passed = half_passed(table, low, more, half, address, steps);
+        low += more;
+        more = passed;
         len -= half;
     }
-    if counted_start(table, low, steps) <= address {
-        Some(low)
+    let last = low + more;
+    if counted_start(table, last, steps) <= address {
+        Some(last)
     } else {
         None
     }

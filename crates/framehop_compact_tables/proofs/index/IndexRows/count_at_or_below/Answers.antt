@@ -7,8 +7,11 @@ use Rattle.framehop_compact_tables.proofs.index.IndexRows.count_at_or_below.Goal
 pub returns : goal.returns
 returns c =
     let index = c.args.self.now in
-    let at = 12 * c.args.row in
-    let start_is : c.u32_at.result ≡ index_start index.bytes.now c.args.row =
-    c.u32_at.ensures ∙ ap (λ bytes. u32_at bytes at) index.from_entries ∙ u32_at-drop index.bytes.now index.offset at
+    let row = c.args.row + c.args.more in
+    let at = 12 * row in
+    let sum : 12 * c.args.row + 12 * c.args.more ≡ at = omega arith in
+    let start_is : c.u32_after-start.result ≡ index_start index.bytes.now row =
+    c.u32_after-start.ensures ∙ ap (λ at. u32_at index.entries.now at) sum
+    ∙ ap (λ bytes. u32_at bytes at) index.from_entries ∙ u32_at-drop index.bytes.now index.offset at
     ∙ ap (λ offset. u32_at index.bytes.now (offset + at)) index.at in
     grind (arith, start_is, c.count_at_most.ensures, c.from.ensures, c.from-2.ensures)
