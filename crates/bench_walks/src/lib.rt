@@ -4,6 +4,7 @@
 #![tactic(auto)]
 
 mod arch;
+mod modules;
 mod timing;
 mod work;
 

@@ -1,11 +1,12 @@
 //! How long the making of a module and walks through its code take, by the clock of the machine.
 
 use crate::arch::TimedArch;
+use crate::modules::{Parts, module_of, parts_of};
 use crate::work::{Walk, Work};
 use anyhow::{Result, bail};
 use framehop::{
-    Arch, BySections, Cache, DwarfUnwindContext, ExplicitModuleSectionInfo, Generations,
-    MayAllocateDuringUnwind, Module, Unwinder, UnwinderInternal, load_module,
+    Arch, BySections, Cache, DwarfUnwindContext, Generations, MayAllocateDuringUnwind, Module,
+    Unwinder, UnwinderInternal,
 };
 use std::alloc::Global;
 use std::time::{Clock, Duration, Instant};
@@ -25,41 +26,6 @@ pub struct Times {
     pub with_making: Duration,
 }
 
-/// The bytes of a section and of its header.
-#[derive(Drop)]
-struct Sections {
-    section: Vec<u8>,
-    header: Option<Vec<u8>>,
-}
-
-/// The bytes of the section that is timed, and of its header, for a module of their own.
-fn sections_of(alloc: Global, work: &Work) -> Result<Sections> {
-    let header = match &work.header {
-        Some(header) => Some(header.bytes.as_slice().to_vec(alloc)?),
-        None => None,
-    };
-    Ok(Sections {
-        section: work.section.as_slice().to_vec(alloc)?,
-        header,
-    })
-}
-
-/// The module with the section that is timed, and with its header, if it has one.
-fn module_of(alloc: Global, work: &Work, bytes: Sections) -> Result<Module<Vec<u8>>> {
-    let Sections { section, header } = bytes;
-    let header_start = work.header.as_ref().map(|header| header.start);
-    let mut sections = ExplicitModuleSectionInfo {
-        text_svma: Some(work.text..work.text),
-        eh_frame_svma: Some(work.eh_frame..work.eh_frame),
-        eh_frame: Some(section),
-        eh_frame_hdr_svma: header_start.map(|start| start..start),
-        eh_frame_hdr: header,
-        ..Default::default()
-    };
-    let name = String::from_str(alloc, "timed")?;
-    Ok(load_module(alloc, name, work.base..work.end, work.base, &mut sections)?)
-}
-
 /// Loads a module in an unwinder.
 fn load<U: Unwinder<Module = Module<Vec<u8>>>>(
     unwinder: &mut U,
@@ -74,7 +40,7 @@ fn load<U: Unwinder<Module = Module<Vec<u8>>>>(
 
 /// An unwinder with the module.
 fn unwinder_of<A: TimedArch>(alloc: Global, work: &Work) -> Result<TimedUnwinder<A>> {
-    let module = module_of(alloc, work, sections_of(alloc, work)?)?;
+    let module = module_of(alloc, work, parts_of(alloc, work)?)?;
     let mut generations = Generations::new();
     let mut unwinder = UnwinderInternal::new(alloc, &mut generations)?;
     load(&mut unwinder, &mut generations, module)?;
@@ -133,27 +99,37 @@ fn fresh_walks<A: TimedArch>(
     unwinder: &TimedUnwinder<A>,
     walks: &[Walk],
 ) -> Result<(Duration, Duration)> {
-    let mut fresh = Duration::ZERO;
     let all = Instant::now(clock)?;
+    for walk in walks {
+        let mut cache = new_cache::<A>(alloc)?;
+        frames_of(unwinder, &mut cache, A::registers(walk.first), walk);
+    }
+    let with_making = all.elapsed(clock)?;
+    let mut fresh = Duration::ZERO;
     for walk in walks {
         let mut cache = new_cache::<A>(alloc)?;
         let start = Instant::now(clock)?;
         frames_of(unwinder, &mut cache, A::registers(walk.first), walk);
         fresh = fresh.saturating_add(start.elapsed(clock)?);
     }
-    Ok((fresh, all.elapsed(clock)?))
+    Ok((fresh, with_making))
 }
 
-/// The least time of making the module, as often as there are rounds, one directly after the other.
-fn making(clock: &impl Clock, alloc: Global, work: &Work) -> Result<Duration> {
-    let mut copies = Vec::new(alloc);
+/// The parts of as many modules as there are rounds.
+fn parts_of_all(alloc: Global, work: &Work) -> Result<Vec<Parts>> {
+    let mut all = Vec::new(alloc);
     for _ in 0..work.rounds {
-        copies.push(sections_of(alloc, work)?)?;
+        all.push(parts_of(alloc, work)?)?;
     }
+    Ok(all)
+}
+
+/// The least time of making the module of its parts, as often as there are rounds, one directly after the other.
+fn making(clock: &impl Clock, alloc: Global, work: &Work) -> Result<Duration> {
     let mut least = Duration::MAX;
-    for sections in copies {
+    for parts in parts_of_all(alloc, work)? {
         let start = Instant::now(clock)?;
-        let _module = module_of(alloc, work, sections)?;
+        let _module = module_of(alloc, work, parts)?;
         least = least.min(start.elapsed(clock)?);
     }
     Ok(least)

@@ -1,0 +1,40 @@
+//! The modules that are timed.
+
+use crate::work::Work;
+use anyhow::Result;
+use framehop::{ExplicitModuleSectionInfo, Module, load_module};
+use std::alloc::Global;
+
+/// What the module that is timed is made of: its name, and its section with its header, if it has one.
+#[derive(Drop)]
+pub struct Parts {
+    name: String,
+    info: ExplicitModuleSectionInfo<Vec<u8>>,
+}
+
+/// The parts of a module of their own.
+pub fn parts_of(alloc: Global, work: &Work) -> Result<Parts> {
+    let header = match &work.header {
+        Some(header) => Some(header.bytes.as_slice().to_vec(alloc)?),
+        None => None,
+    };
+    let header_start = work.header.as_ref().map(|header| header.start);
+    let info = ExplicitModuleSectionInfo {
+        text_svma: Some(work.text..work.text),
+        eh_frame_svma: Some(work.eh_frame..work.eh_frame),
+        eh_frame: Some(work.section.as_slice().to_vec(alloc)?),
+        eh_frame_hdr_svma: header_start.map(|start| start..start),
+        eh_frame_hdr: header,
+        ..Default::default()
+    };
+    Ok(Parts {
+        name: String::from_str(alloc, "timed")?,
+        info,
+    })
+}
+
+/// The module of these parts.
+pub fn module_of(alloc: Global, work: &Work, parts: Parts) -> Result<Module<Vec<u8>>> {
+    let Parts { name, mut info } = parts;
+    Ok(load_module(alloc, name, work.base..work.end, work.base, &mut info)?)
+}
