@@ -1,5 +1,6 @@
 //! What a line of the input asks for.
 
+use crate::damage::{Listing, with_byte};
 use crate::lookups::Lookups;
 use crate::programs::Program;
 use crate::readers::{Shows, over_readers};
@@ -17,17 +18,31 @@ pub enum Which {
     DebugFrame,
 }
 
+// What is shown of a section.
+#[derive(Clone, Copy)]
+enum What {
+    // The rows of the FDE at an offset.
+    Program(u8),
+    // What the section has for the addresses.
+    Lookups,
+    // The same of each front of the section.
+    Fronts,
+    // The same of the section with each byte set to others.
+    Turned,
+}
+
 /// A section, and what is asked of it.
 #[derive(Drop)]
 pub struct Case {
     which: Which,
     vendor: Vendor,
     bytes: Vec<u8>,
-    // The offset of the FDE whose rows are shown; without one, what the section has for addresses is
-    // shown.
-    fde: Option<u8>,
+    what: What,
     addresses: Vec<u64>,
 }
+
+// The values to which each byte is set.
+const VALUES: [u8; 4] = [0x00, 0x7f, 0x80, 0xff];
 
 // What is shown by contexts of a storage, for both sizes of offsets.
 fn in_storage<S: UnwindContextStorage<usize>, Short: UnwindContextStorage<u32>>(
@@ -56,7 +71,7 @@ fn in_small_storages(alloc: Global, program: &Program<'_>, bytes: &[u8]) -> Resu
 
 impl Case {
     /// Reads a line: which section it is, whose extensions are read, the bytes in hexadecimal, the FDE's
-    /// offset or `-`, and addresses, with a space between any two.
+    /// offset or `-`, `fronts` or `turned`, and addresses, with a space between any two.
     pub fn parse(alloc: Global, line: &str) -> Result<Self> {
         let mut words = line.split_whitespace();
         let which = match words.next() {
@@ -68,9 +83,11 @@ impl Case {
             _ => Vendor::Default,
         };
         let bytes = hex::decode(alloc, words.next().context("bytes")?.as_bytes())?;
-        let fde = match words.next().context("an offset")? {
-            "-" => None,
-            offset => Some(offset.parse::<u8>()?),
+        let what = match words.next().context("an offset")? {
+            "-" => What::Lookups,
+            "fronts" => What::Fronts,
+            "turned" => What::Turned,
+            offset => What::Program(offset.parse::<u8>()?),
         };
         let mut addresses = Vec::new(alloc);
         for word in words {
@@ -80,16 +97,18 @@ impl Case {
             which,
             vendor,
             bytes,
-            fde,
+            what,
             addresses,
         })
     }
 
     /// What is shown of the line.
     pub fn show(&self, alloc: Global) -> Result<String> {
-        match self.fde {
-            Some(offset) => self.show_program(alloc, offset),
-            None => self.show_lookups(alloc),
+        match self.what {
+            What::Program(offset) => self.show_program(alloc, offset),
+            What::Lookups => self.show_lookups(alloc, &self.bytes),
+            What::Fronts => self.show_fronts(alloc),
+            What::Turned => self.show_turned(alloc),
         }
     }
 
@@ -107,12 +126,35 @@ impl Case {
         Ok(format!(in alloc; "{large}{small}")?)
     }
 
-    // What the section has for each address.
-    fn show_lookups(&self, alloc: Global) -> Result<String> {
+    // What a section has for each address.
+    fn show_lookups(&self, alloc: Global, bytes: &[u8]) -> Result<String> {
         let lookups = Lookups {
             which: self.which,
             addresses: &self.addresses,
         };
-        in_storage::<StoreOnHeap, StoreOnHeap>(alloc, &lookups, &self.bytes)
+        in_storage::<StoreOnHeap, StoreOnHeap>(alloc, &lookups, bytes)
+    }
+
+    // What each front of the section has for each address.
+    fn show_fronts(&self, alloc: Global) -> Result<String> {
+        let mut listing = Listing::new(alloc);
+        for size in 0..self.bytes.len() + 1 {
+            let lookups = self.show_lookups(alloc, &self.bytes[..size])?;
+            listing.add(&format!(in alloc; "{size} bytes")?, lookups)?;
+        }
+        Ok(listing.into_text())
+    }
+
+    // What the section has for each address with each byte set to each value.
+    fn show_turned(&self, alloc: Global) -> Result<String> {
+        let mut listing = Listing::new(alloc);
+        for place in 0..self.bytes.len() {
+            for value in VALUES {
+                let bytes = with_byte(alloc, &self.bytes, place, value)?;
+                let lookups = self.show_lookups(alloc, &bytes)?;
+                listing.add(&format!(in alloc; "byte {place} as {value}")?, lookups)?;
+            }
+        }
+        Ok(listing.into_text())
     }
 }

@@ -1,8 +1,9 @@
-//! Shows the rows that entries of call frames make, and what sections have for addresses, for each line
+//! Shows the rows that entries of call frames make, and what sections have for addresses, whole, cut and turned, for each line
 //! of the input. `scripts/frame-rows` writes the input and the expected output.
 #![tactic(auto)]
 
 mod case;
+mod damage;
 mod entry;
 mod lookups;
 mod programs;

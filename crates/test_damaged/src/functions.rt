@@ -1,7 +1,7 @@
 //! Functions of addresses in compact unwind info.
 
 use crate::readings::{Check, check_all};
-use crate::values::COMPACT;
+use crate::values::{COMPACT, UNSORTED_INDEX, UNSORTED_PAGE};
 use framehop_compact_tables::{CompactFormatError, Function, UnwindInfo, is_increasing};
 use std::alloc::Global;
 use std::process::Abort;
@@ -50,4 +50,14 @@ impl<H: Abort> Check<H> for FunctionOf {
 #[test]
 fn functions_of_unwind_info(rt: HostRuntime) -> Outcome {
     check_all(&rt, rt.alloc(), &FunctionOf(0x1005), &COMPACT)
+}
+
+#[test]
+fn functions_of_a_page_that_does_not_increase(rt: HostRuntime) -> Outcome {
+    check_all(&rt, rt.alloc(), &FunctionOf(0x1005), &UNSORTED_PAGE)
+}
+
+#[test]
+fn functions_of_an_index_that_does_not_increase(rt: HostRuntime) -> Outcome {
+    check_all(&rt, rt.alloc(), &FunctionOf(0x1005), &UNSORTED_INDEX)
 }
