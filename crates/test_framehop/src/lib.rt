@@ -6,9 +6,13 @@ mod arch;
 #[cfg(test)]
 mod cfi_index;
 #[cfg(test)]
+mod compact_steps;
+#[cfg(test)]
 mod expressions;
 #[cfg(test)]
 mod histories;
+#[cfg(test)]
+mod in_place_vec;
 mod pe_files;
 #[cfg(test)]
 mod pe_steps;
