@@ -3,9 +3,9 @@
 ghost use Rattle.std.specs.Prelude.{◌≡◌, ◌≤◌, ◌+◌, ◌*◌, length, Ok, Err, Some, IfOk, IfErr, IfSome, true};
 ghost use Rattle.std.specs.Option.{option_map};
 ghost use Rattle.list_laws.specs.Greatest.{greater_of};
-ghost use Rattle.elf_files.specs.Symbols.{symbol_kind, symbol_from, is_function, has_address, function_at, all_symbols, function_in, with_name, symbol_for_address, symbol_table};
+ghost use Rattle.elf_files.specs.Symbols.{symbol_kind, symbol_from, is_function, has_address, function_at, all_symbols, symbol_for_address, symbol_table};
 ghost use Rattle.elf_files.specs.SectionViews.{sections_in};
-ghost use Rattle.elf_files.specs.SymbolViews.{ContainsAddress, HasAddress, symbol_seen, with_earlier};
+ghost use Rattle.elf_files.specs.SymbolViews.{ContainsAddress, HasAddress, function_by, named_in, symbol_seen, with_earlier};
 
 use crate::bytes::{u16_at, u32_at, u64_at};
 use crate::error::ElfError;
@@ -150,10 +150,8 @@ fn symbol_table(sections: &SectionTable<'_>) -> Option<Section>
 impl<'a> ElfFile<'a> {
     // A symbol with its name.
     fn with_name(&self, section: &Section, symbol: SymbolEntry) -> Result<Symbol<'a>, ElfError>
-        ensures ok { IfOk result (λ found. with_name self.now.bytes.now self.now.header section.now (Some symbol)
-            ≡ Ok (Some (symbol_seen found))) }
-        ensures err { IfErr result
-            (λ e. with_name self.now.bytes.now self.now.header section.now (Some symbol) ≡ Err e) }
+        ensures ok { IfOk result (λ found. named_in self.now section.now symbol ≡ Ok (Some (symbol_seen found))) }
+        ensures err { IfErr result (λ e. named_in self.now section.now symbol ≡ Err e) }
         ensures same { IfOk result (λ found. (found.kind ≡ symbol.kind) × (found.value ≡ symbol.value)
             × (found.size ≡ symbol.size)) }
     {
@@ -170,10 +168,9 @@ impl<'a> ElfFile<'a> {
 
     // The function at an address by a symbol table.
     fn function_in(&self, address: u64, section: &Section) -> Result<Option<Symbol<'a>>, ElfError>
-        ensures ok { IfOk result (λ found. function_in self.now.bytes.now self.now.header address (Some section.now)
+        ensures ok { IfOk result (λ found. function_by self.now address section.now
             ≡ Ok (option_map symbol_seen found)) }
-        ensures err { IfErr result
-            (λ e. function_in self.now.bytes.now self.now.header address (Some section.now) ≡ Err e) }
+        ensures err { IfErr result (λ e. function_by self.now address section.now ≡ Err e) }
         ensures contains { IfOk result (λ found. IfSome found (ContainsAddress address)) }
     {
         if section.entry_size != SYMBOL_SIZE as u64 {

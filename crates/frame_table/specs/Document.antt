@@ -10,8 +10,8 @@ use Rattle.json_program.specs.declared.transfer.TheConstants.{DOCUMENT_LIMIT}
 use Rattle.json_program.specs.Faults.{Checked, ◌>>=◌, ◌⊛◌}
 use Rattle.json_program.specs.Json.{address_value, bytes_value, field, has_only, json_of, number_value, optional_value, text_value}
 use Rattle.dwarf_readers.specs.InitialLength.{is_size}
-use Rattle.frame_table.specs.declared.document.SectionName.{SectionName}
-use Rattle.frame_table.specs.declared.document.SectionName.TheVariants.{EhFrame, DebugFrame}
+use Rattle.frame_table_files.specs.SectionNames.{named}
+use Rattle.frame_table_files.specs.declared.section_name.SectionName.{SectionName}
 use Rattle.frame_table_text.specs.declared.names.Machine.{Machine}
 use Rattle.frame_table_text.specs.declared.names.Machine.TheVariants.{X86_64, AArch64}
 
@@ -22,13 +22,6 @@ pub record Stated : Type 0 where
   pub start : ℕ
   pub address_size : ℕ
   pub bytes : List ℕ
-
--- the section of a name
-abbrev pub named : List ℕ → Option SectionName
-named text =
-    if bytes_eq text (codes ".eh_frame") then Some EhFrame
-    else if bytes_eq text (codes ".debug_frame") then Some DebugFrame
-    else None
 
 -- a value that has to be the name of a section
 abbrev pub name_value : Data → Checked SectionName

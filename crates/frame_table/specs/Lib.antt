@@ -5,5 +5,10 @@ pub mod EntryWrites
 pub mod EntryPrefix
 pub mod EntryPrefixViews
 pub mod Listing
+pub mod Located
+pub mod LocatedViews
 pub mod Text
 pub mod TooLong
+pub mod FileText
+pub mod Arguments
+pub mod ArgumentViews

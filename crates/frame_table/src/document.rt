@@ -6,9 +6,10 @@ ghost use Rattle.serde_json.specs.View.{view};
 ghost use Rattle.dwarf_readers.specs.InitialLength.{is_size};
 ghost use Rattle.json_program.specs.Decoded.{Decodes};
 ghost use Rattle.json_program.specs.Json.{bytes_value, field, optional_value};
-ghost use Rattle.frame_table.specs.Document.{fields_in, machine_named, machine_value, name_value, named, of_document, size_of_addresses, size_value, stated_by, stated_in, stated_value};
+ghost use Rattle.frame_table.specs.Document.{fields_in, machine_named, machine_value, name_value, of_document, size_of_addresses, size_value, stated_by, stated_in, stated_value};
 ghost use Rattle.frame_table.specs.DocumentViews.{stated_view};
 
+use frame_table_files::SectionName;
 use frame_table_text::Machine;
 use json_program::check::{Checked, both, keep_fault};
 use json_program::field::{address_field, find_field, has_only, number_field, text_field, text_in};
@@ -17,13 +18,6 @@ use json_program::json::{bytes_in, read};
 use json_program::{DOCUMENT_LIMIT, DecodeError, Fault, FaultName};
 use serde_json::Value;
 use std::alloc::Global;
-
-/// The sections that are listed.
-#[derive(Clone, Copy, Debug, PartialEq, Eq)]
-pub(crate) enum SectionName {
-    EhFrame,
-    DebugFrame,
-}
 
 /// What a document states.
 #[derive(Debug, Drop)]
@@ -37,22 +31,11 @@ pub(crate) struct Stated {
     pub(crate) bytes: Vec<u8>,
 }
 
-// The section of a name.
-fn named(text: &str) -> Option<SectionName>
-    ensures { result ≡ named text.now }
-{
-    match text {
-        ".eh_frame" => Some(SectionName::EhFrame),
-        ".debug_frame" => Some(SectionName::DebugFrame),
-        _ => None,
-    }
-}
-
 // The section that the document names.
 fn name_field(object: &Value) -> Checked<SectionName>
     ensures { result ≡ field name_value (codes "name") (view object.now) }
 {
-    named(text_field(object, "name")?).ok_or(FaultName::BadCommand)
+    SectionName::named(text_field(object, "name")?).ok_or(FaultName::BadCommand)
 }
 
 // The machine of a name.

@@ -1,21 +1,10 @@
 //! One run of the program: a document in, the listing of its section out.
 
-ghost use Rattle.std.specs.Prelude.{◌≡◌, false, IsTrue};
-ghost use Rattle.json_program.specs.Errors.{ReportsFailures};
-ghost use Rattle.dwarf_readers.specs.InitialLength.{is_size};
-ghost use Rattle.frame_table.specs.DocumentViews.{stated_view};
-ghost use Rattle.frame_table.specs.EntryWrites.{WritesListing};
-ghost use Rattle.frame_table.specs.Listing.{listing_of};
-ghost use Rattle.frame_table.specs.Text.{bases_from, ending_by, ending_of, setting_of, text_of, vendor_of};
+ghost use Rattle.std.specs.Prelude.{◌≡◌};
+ghost use Rattle.frame_table.specs.Text.{ending_by, ending_of, text_of};
 
-use crate::document::{SectionName, Stated, decode};
-use crate::listed::Listed;
-use crate::listing::write_listing;
-use dwarf_constants::Vendor;
-use dwarf_frame_entries::{BaseAddresses, DebugFrame, EhFrame, UnwindContext};
-use dwarf_frame_rows::{SectionBaseAddresses, StoreOnHeap};
-use dwarf_readers::{EndianSlice, LittleEndian};
-use frame_table_text::Machine;
+use crate::document::decode;
+use crate::located::{list, located_in};
 use json_program::{DecodeError, Program, RunError, Sink, write_all};
 use std::alloc::Global;
 
@@ -41,8 +30,8 @@ impl Ending {
     }
 }
 
-// How a run ends that wrote a whole listing, or one with a fault.
-fn ending_by(is_whole: bool) -> Ending
+/// How a run ends that wrote a whole listing, or one with a fault.
+pub(crate) fn ending_by(is_whole: bool) -> Ending
     ensures { result ≡ ending_by is_whole }
 {
     if is_whole {
@@ -66,7 +55,7 @@ impl Program for FrameTables {
 
     fn answer<W: Sink>(alloc: Global, document: &[u8], writer: &mut W) -> Result<Ending, RunError> {
         match decode(alloc, document) {
-            Ok(stated) => Ok(ending_by(list(alloc, &stated, writer)?)),
+            Ok(stated) => Ok(ending_by(list(alloc, &located_in(&stated), writer)?)),
             Err(DecodeError::Fault(fault)) => {
                 let line = format!(in alloc; "{fault}\n")?;
                 write_all(writer, line.as_bytes())?;
@@ -77,68 +66,4 @@ impl Program for FrameTables {
     }
 
     ghost too_long = { too_long };
-}
-
-// Whose instructions are read.
-fn vendor_of(machine: Option<Machine>) -> Vendor
-    ensures { result ≡ vendor_of machine }
-{
-    match machine {
-        Some(Machine::AArch64) => Vendor::AArch64,
-        Some(Machine::X86_64) | None => Vendor::Default,
-    }
-}
-
-// Pointers are relative to the address at which the section starts, and to nothing else.
-fn bases_from(start: u64) -> BaseAddresses
-    ensures { result ≡ bases_from start }
-{
-    let none = SectionBaseAddresses {
-        section: None,
-        text: None,
-        data_base: None,
-    };
-    BaseAddresses {
-        eh_frame_hdr: none,
-        eh_frame: none,
-    }
-    .set_eh_frame(start)
-}
-
-// Writes the listing of a section, and returns whether it has no fault.
-fn list<W: Sink>(alloc: Global, stated: &Stated, writer: &mut W) -> Result<bool, RunError>
-    requires writer { W.has_failed writer.old ≡ false }
-    requires size { IsTrue (is_size stated.now.address_size) }
-    ensures listing { WritesListing (listing_of (setting_of (stated_view stated.now)))
-        (W.contents writer.old) (W.contents writer.new) result }
-    ensures errors { ReportsFailures result false (W.has_failed writer.new) }
-{
-    let bytes = stated.bytes.as_slice();
-    let machine = stated.machine;
-    let bases = bases_from(stated.start);
-    let mut context: UnwindContext<usize, StoreOnHeap> = UnwindContext::new(alloc)?;
-    match stated.name {
-        SectionName::EhFrame => {
-            let mut section = EhFrame::new(bytes, LittleEndian);
-            section.set_address_size(stated.address_size);
-            section.set_vendor(vendor_of(machine));
-            let listed = Listed {
-                section: &section,
-                bases: &bases,
-                machine,
-            };
-            write_listing(alloc, &listed, &mut context, writer)
-        }
-        SectionName::DebugFrame => {
-            let mut section = DebugFrame::new(bytes, LittleEndian);
-            section.set_address_size(stated.address_size);
-            section.set_vendor(vendor_of(machine));
-            let listed = Listed {
-                section: &section,
-                bases: &bases,
-                machine,
-            };
-            write_listing(alloc, &listed, &mut context, writer)
-        }
-    }
 }

@@ -1,7 +1,7 @@
 use Rattle.std.proofs.Common.{rules, subst}
 use Rattle.frame_table.specs.EntryWrites.{WritesListing}
 use Rattle.frame_table.specs.Listing.{Listing}
-use Rattle.frame_table.proofs.program.list.Goals as goal
+use Rattle.frame_table.proofs.located.list.Goals as goal
 
 pub returns-in-EhFrame-clause-listing : goal.returns-in-EhFrame-clause-listing
 returns-in-EhFrame-clause-listing g c =

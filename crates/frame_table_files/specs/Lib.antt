@@ -1,0 +1,4 @@
+pub mod SectionNames
+pub mod Bases
+pub mod FileSections
+pub mod SectionViews
