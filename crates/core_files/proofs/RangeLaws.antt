@@ -2,11 +2,11 @@
 use Rattle.std.proofs.Common.{◌≡◌, ℕ, zero, suc, ◌+◌, ◌-◌, ◌<◌, ◌≤◌, Bool, true, false, ◌&&◌, List, [], ◌∷◌, length, get_or, refl, ap, sym, ◌∙◌, arith}
 use Rattle.std.specs.Prelude.{nat_le, nat_lt, Some, None}
 use Rattle.std.specs.List.{find}
-use Rattle.std.specs.List.Sorted.{IsPartitionedBy, IsPartitionPoint}
+use Rattle.std.specs.List.Sorted.{IsPartitionedBy}
 use Rattle.std.proofs.lemmas.Bool.Decides.{nat_tests}
 use Rattle.std.proofs.lemmas.List.{get_or_default}
 use Rattle.list_laws.proofs.Laws.{by_case}
-use Rattle.core_files.specs.Ranges.{KnownRange, contains, range_at, IsBefore, IsIncreasing}
+use Rattle.core_files.specs.Ranges.{KnownRange, contains, range_at, BeginAtOrBelow, IsBefore, IsIncreasing}
 
 -- ---- tests
 
@@ -116,7 +116,7 @@ module _ (ranges : List KnownRange) (up : IsIncreasing ranges) where
       let same : (get_or ranges j e).address ≡ (get_or ranges j d).address = ap (λ (r : KnownRange). r.address) (get_or_default ranges j e d within) in
       ends-before (get_or ranges k e) address (omega (arith, before, same, low))
 
-  module _ (address count : ℕ) (bound : count ≤ length ranges) (point : IsPartitionPoint (λ range. nat_le range.address address ≡ true) (λ range. nat_le range.address address ≡ false) ranges count) where
+  module _ (address count : ℕ) (bound : count ≤ length ranges) (point : BeginAtOrBelow ranges address count) where
     pub halves-none : count ≡ 0 → range_at ranges address ≡ None
     halves-none none = pass-end ranges address (λ k e h. begins-after (get_or ranges k e) address (point.1 k e (omega arith) h))
 

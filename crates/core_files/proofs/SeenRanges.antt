@@ -5,7 +5,7 @@ use Rattle.std.specs.List.{AllWithin, AllAdjacentBelow}
 use Rattle.std.specs.List.Sorted.{IsPartitionedBy, IsPartitionPoint}
 use Rattle.std.proofs.lemmas.List.{get_or-map, length-map}
 use Rattle.core_files.specs.declared.memory_range.MemoryRange.{MemoryRange}
-use Rattle.core_files.specs.Ranges.{KnownRange, contains, range_at, IsBefore, IsIncreasing}
+use Rattle.core_files.specs.Ranges.{KnownRange, contains, range_at, BeginAtOrBelow, IsBefore, IsIncreasing}
 use Rattle.core_files.specs.RangeViews.{range_seen, ranges_seen}
 use Rattle.core_files.proofs.Mapped.{mapped-all, mapped-adjacent, mapped-back}
 use Rattle.core_files.proofs.RangeLaws.{pass-here, pass-end, starts-in-order, halves-none, halves-here, halves-missed}
@@ -51,12 +51,12 @@ module _ (ranges : List MemoryRange) where
 
       module _ (n : ℕ) (bound : n ≤ length ranges) where
         pub seen-partition : IsPartitionPoint (λ range. nat_le range.address address ≡ true) (λ range. nat_le range.address address ≡ false) ranges n
-            → IsPartitionPoint (λ range. nat_le range.address address ≡ true) (λ range. nat_le range.address address ≡ false) (ranges_seen ranges) n
+            → BeginAtOrBelow (ranges_seen ranges) address n
         seen-partition point =
             let above = mapped-all range_seen (λ (range : KnownRange). nat_le range.address address ≡ false) ranges n (length ranges) (omega arith) point.1 in
             (mapped-all range_seen (λ (range : KnownRange). nat_le range.address address ≡ true) ranges 0 n bound point.0, λ k e a b. above k e a (omega (arith, count)))
 
-        module _ (point : IsPartitionPoint (λ range. nat_le range.address address ≡ true) (λ range. nat_le range.address address ≡ false) (ranges_seen ranges) n) where
+        module _ (point : BeginAtOrBelow (ranges_seen ranges) address n) where
           pub seen-none : n ≡ 0 → None ≡ range_at (ranges_seen ranges) address
           seen-none none = sym (halves-none (ranges_seen ranges) up address n (omega (arith, count)) point none)
 

@@ -1,6 +1,7 @@
 -- Ranges of addresses, each with the bytes of its first addresses, as far as they are known.
-use Rattle.std.specs.Prelude.{ℕ, ◌+◌, ◌-◌, ◌≤◌, ◌&&◌, Bool, nat_le, nat_lt, List, length, slice_get, Option}
+use Rattle.std.specs.Prelude.{ℕ, ◌≡◌, ◌+◌, ◌-◌, ◌≤◌, ◌&&◌, Bool, true, false, nat_le, nat_lt, List, length, slice_get, Option}
 use Rattle.std.specs.List.{find, AllAdjacentBelow}
+use Rattle.std.specs.List.Sorted.{IsPartitionPoint}
 
 -- A range: its first address, how many addresses it has, and the bytes of the first ones.
 pub record KnownRange : Type 0 where
@@ -27,3 +28,8 @@ IsBefore range next = range.address + range.size ≤ next.address
 -- Each range ends before the next begins, so that none contains an address of another.
 abbrev pub IsIncreasing : List KnownRange → Type 0
 IsIncreasing ranges = AllAdjacentBelow IsBefore ranges (length ranges)
+
+-- So many ranges, the first ones, begin at an address or below it, and the others above it.
+abbrev pub BeginAtOrBelow : List KnownRange → ℕ → ℕ → Type 0
+BeginAtOrBelow ranges address count =
+    IsPartitionPoint (λ range. nat_le range.address address ≡ true) (λ range. nat_le range.address address ≡ false) ranges count

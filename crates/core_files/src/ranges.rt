@@ -1,10 +1,9 @@
 //! The range that contains an address.
 
-ghost use Rattle.std.specs.Prelude.{◌≡◌, ◌↔◌, ◌≤◌, length, nat_le, true, false, IsTrue, IfSome};
-ghost use Rattle.std.specs.List.Sorted.{IsPartitionPoint};
+ghost use Rattle.std.specs.Prelude.{◌≡◌, ◌↔◌, ◌≤◌, length, nat_le, IsTrue, IfSome};
 ghost use Rattle.std.specs.Option.{option_map};
 ghost use Rattle.core_files.specs.Memory.{byte_among};
-ghost use Rattle.core_files.specs.Ranges.{range_at, IsIncreasing};
+ghost use Rattle.core_files.specs.Ranges.{range_at, BeginAtOrBelow, IsIncreasing};
 ghost use Rattle.core_files.specs.RangeViews.{range_seen, ranges_seen};
 
 use crate::memory_range::MemoryRange;
@@ -46,8 +45,7 @@ fn range_by_pass<'a>(ranges: &[MemoryRange<'a>], address: u64) -> Option<MemoryR
 fn count_at_or_below(ranges: &[MemoryRange<'_>], address: u64) -> usize
     requires { IsIncreasing (ranges_seen ranges.now) }
     ensures bound { result ≤ length ranges.now }
-    ensures partition { IsPartitionPoint (λ range. nat_le range.address address ≡ true)
-        (λ range. nat_le range.address address ≡ false) (ranges_seen ranges.now) result }
+    ensures partition { BeginAtOrBelow (ranges_seen ranges.now) address result }
 {
     ranges.partition_point(
         |range: &MemoryRange<'_>| -> bool

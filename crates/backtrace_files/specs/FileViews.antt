@@ -1,0 +1,21 @@
+-- What contracts see of mapped files.
+use Rattle.std.specs.Prelude.{List, map}
+use Rattle.std.specs.Option.{option_copied, option_to_list}
+use Rattle.core_files.specs.FileViews.{mapping_of}
+use Rattle.core_files.specs.Ranges.{KnownRange}
+use Rattle.backtrace_files.specs.Files.{CodeOfFile, ProcessFile, range_of}
+use Rattle.backtrace_files.specs.declared.code.LoadedCode.{LoadedCode}
+use Rattle.backtrace_files.specs.declared.loaded_file.LoadedFile.{LoadedFile}
+
+abbrev pub file_seen : LoadedFile → ProcessFile
+file_seen file = record { mapping = mapping_of file.mapping; bytes = option_copied file.bytes }
+
+abbrev pub files_seen : List LoadedFile → List ProcessFile
+files_seen files = map file_seen files
+
+-- What a file has of the memory of its process, if its bytes are there.
+abbrev pub range_seen : LoadedFile → List KnownRange
+range_seen file = option_to_list (range_of (file_seen file))
+
+abbrev pub code_seen : LoadedCode → CodeOfFile
+code_seen code = record { bytes = code.file.bytes.now; header = code.file.header; bias = code.bias }

@@ -1,0 +1,74 @@
+-- Files that are mapped into a process, and where their code is.
+use Rattle.std.specs.Prelude.{ℕ, ◌+◌, ◌-◌, ◌*◌, ◌^◌, ◌%◌, ◌==◌, ◌&&◌, Bool, true, false, nat_lt, nat_le, if◌then◌else◌, List, [], ◌∷◌, Option, Some, None, option_and_then}
+use Rattle.std.specs.List.{find, filter_map}
+use Rattle.std.specs.Option.{option_map}
+use Rattle.std.specs.Result.{result_ok}
+use Rattle.core_files.specs.FileViews.{mapped_range}
+use Rattle.core_files.specs.MappedFiles.{FileMapping}
+use Rattle.core_files.specs.Ranges.{KnownRange}
+use Rattle.elf_files.specs.Bytes.{is_within}
+use Rattle.elf_files.specs.Header.{header_of}
+use Rattle.elf_files.specs.Segments.{all_segments}
+use Rattle.elf_files.specs.declared.header.Header.{Header}
+use Rattle.elf_files.specs.declared.segment.Segment.{Segment}
+use Rattle.elf_files.specs.declared.segment.SegmentKind.{SegmentKind}
+use Rattle.elf_files.specs.declared.segment.SegmentKind.TheVariants.{Load}
+
+-- A mapping of a file, and the bytes of the whole file, if they are there.
+pub record ProcessFile : Type 0 where
+  pub mapping : FileMapping
+  pub bytes : Option (List ℕ)
+
+-- what a mapped file has of memory
+abbrev pub range_of : ProcessFile → Option KnownRange
+range_of file = option_map (mapped_range file.mapping) file.bytes
+
+-- what mapped files have of memory, in their order
+abbrev pub ranges_of : List ProcessFile → List KnownRange
+ranges_of files = filter_map range_of files
+
+-- A file whose code is mapped: its bytes, its header, and the address in memory of the file's address 0.
+pub record CodeOfFile : Type 0 where
+  pub bytes : List ℕ
+  pub header : Header
+  pub bias : ℕ
+
+-- a segment is loaded (PT_LOAD)
+abbrev pub is_load : SegmentKind → Bool
+is_load Load = true
+is_load _ = false
+
+-- a segment has code: it is loaded, and may be executed (PF_X)
+abbrev pub is_code : Segment → Bool
+is_code segment = is_load segment.kind && ((segment.flags % 2) == 1)
+
+-- a mapping has bytes of a segment with code: in the file, the segment begins before the mapping ends, and the mapping before the segment
+-- ends
+abbrev pub has_code_of : FileMapping → Segment → Bool
+has_code_of mapping segment =
+    is_code segment && nat_lt (segment.offset - mapping.offset) (mapping.end - mapping.start)
+    && nat_lt (mapping.offset - segment.offset) segment.file_size
+
+-- the first segment with code of which a mapping has bytes
+abbrev pub code_segment : List ℕ → Header → FileMapping → Option Segment
+code_segment bytes header mapping =
+    if is_within bytes header.segment_table (56 * header.segment_count)
+    then find (has_code_of mapping) (all_segments bytes header) else None
+
+-- The address in memory of the file's address 0. What is at p_offset in the file has the address p_vaddr there, and start +
+-- (p_offset - offset) in memory. All sums are in 64 bits.
+abbrev pub bias_by : FileMapping → Segment → Option ℕ
+bias_by mapping segment =
+    let memory = mapping.start + segment.offset in
+    let file = mapping.offset + segment.address in
+    if nat_lt memory (2 ^ 64) && nat_lt file (2 ^ 64) && nat_le file memory then Some (memory - file) else None
+
+-- the code of a mapping, of a file with these bytes and this header
+abbrev pub code_of : FileMapping → List ℕ → Header → Option CodeOfFile
+code_of mapping bytes header =
+    option_map (λ bias. record { bytes = bytes; header = header; bias = bias })
+    (option_and_then (bias_by mapping) (code_segment bytes header mapping))
+
+-- the code of a mapped file, if its bytes are there
+abbrev pub loaded_code : ProcessFile → Option CodeOfFile
+loaded_code file = option_and_then (λ bytes. option_and_then (code_of file.mapping bytes) (result_ok (header_of bytes))) file.bytes

@@ -1,0 +1,7 @@
+pub mod BuildIds
+pub mod FileViews
+pub mod Files
+pub mod Locations
+pub mod ProcessFiles
+pub mod SectionViews
+pub mod Sections

@@ -1,0 +1,47 @@
+-- The function and the file at an address.
+use Rattle.std.specs.Prelude.{ℕ, ◌+◌, ◌-◌, ◌^◌, ◌&&◌, Bool, min, nat_le, nat_lt, if◌then◌else◌, List, Option, Some, None, option_and_then}
+use Rattle.std.specs.List.{find}
+use Rattle.std.specs.Option.{option_map}
+use Rattle.std.specs.Result.{result_ok}
+use Rattle.backtrace_text.specs.Frames as seen
+use Rattle.core_files.specs.MappedFiles.{FileMapping}
+use Rattle.elf_files.specs.Symbols.{NamedSymbol, symbol_for_address}
+use Rattle.backtrace_files.specs.Files.{CodeOfFile, ProcessFile, loaded_code}
+
+-- an address is mapped from a file
+abbrev pub is_mapped : ℕ → FileMapping → Bool
+is_mapped address mapping = nat_le mapping.start address && nat_lt address mapping.end
+
+-- the first file that an address is mapped from
+abbrev pub file_at : List ProcessFile → ℕ → Option ProcessFile
+file_at files address = find (λ file. is_mapped address file.mapping) files
+
+-- the function of a file at an address of the file, if its symbols can be read and have one
+abbrev pub symbol_at : CodeOfFile → ℕ → Option NamedSymbol
+symbol_at code address = option_and_then (λ symbol. symbol) (result_ok (symbol_for_address code.bytes code.header address))
+
+-- an address, from the start of a function on
+abbrev pub from_start : CodeOfFile → ℕ → NamedSymbol → seen.Offset
+from_start code address symbol = record { name = symbol.name; offset = address - code.bias - symbol.value }
+
+-- the function of a file at an address, looked up by another
+abbrev pub function_in : CodeOfFile → ℕ → ℕ → Option seen.Offset
+function_in code address lookup =
+    if nat_le code.bias lookup then option_map (from_start code address) (symbol_at code (lookup - code.bias)) else None
+
+-- the same of a mapped file
+abbrev pub function_at : ProcessFile → ℕ → ℕ → Option seen.Offset
+function_at file address lookup = option_and_then (λ code. function_in code address lookup) (loaded_code file)
+
+-- the place of an address in a mapped file, in 64 bits
+abbrev pub place_in : FileMapping → ℕ → seen.Offset
+place_in mapping address = record { name = mapping.name; offset = min (address - mapping.start + mapping.offset) (2 ^ 64 - 1) }
+
+-- the code at an address, by the file that was found
+abbrev pub location_in : Option ProcessFile → ℕ → ℕ → seen.Location
+location_in None address lookup = seen.Code address None None
+location_in (Some file) address lookup = seen.Code address (function_at file address lookup) (Some (place_in file.mapping address))
+
+-- the code at an address, by the file that another address is mapped from
+abbrev pub location_of : List ProcessFile → ℕ → ℕ → seen.Location
+location_of files address lookup = location_in (file_at files lookup) address lookup

@@ -1,0 +1,49 @@
+-- The files of a core's process.
+use Rattle.std.specs.Prelude.{ℕ, ◌+◌, ◌-◌, ◌^◌, min, codes, if◌then◌else◌, List, [], ◌∷◌, ◌++◌, length, slice_get, Option, Some, None, option_and_then}
+use Rattle.std.specs.Option.{option_map, option_to_list}
+use Rattle.core_files.specs.Auxv.{auxiliary_value}
+use Rattle.core_files.specs.CoreFiles.{CoreContents}
+use Rattle.core_files.specs.MappedFiles.{FileMapping}
+use Rattle.backtrace_files.specs.BuildIds.{bytes_at, has_other_build_id}
+use Rattle.backtrace_files.specs.Files.{ProcessFile}
+
+-- the bytes that are given for a mapped file, unless the core says that they are another file's
+abbrev pub kept_bytes : CoreContents → FileMapping → Option (List ℕ) → Option (List ℕ)
+kept_bytes core mapping given =
+    option_and_then (λ bytes. if has_other_build_id core mapping.name bytes then None else Some bytes) given
+
+-- the bytes that are given by a number
+abbrev pub given_bytes : List (Option (List ℕ)) → ℕ → Option (List ℕ)
+given_bytes contents number = option_and_then (λ bytes. bytes) (slice_get contents number)
+
+-- a mapping with its bytes, which are given by its number
+abbrev pub file_with : CoreContents → List (Option (List ℕ)) → ℕ → FileMapping → ProcessFile
+file_with core contents number mapping = record {
+  mapping = mapping;
+  bytes = kept_bytes core mapping (given_bytes contents number);
+}
+
+-- mappings with their bytes, which are numbered from here
+abbrev pub files_from : CoreContents → List (Option (List ℕ)) → ℕ → List FileMapping → List ProcessFile
+files_from core contents number [] = []
+files_from core contents number (mapping ∷ mappings) = file_with core contents number mapping ∷ files_from core contents (number + 1) mappings
+
+-- the mapped files, in the order of the core
+abbrev pub mapped_files : CoreContents → List (Option (List ℕ)) → List ProcessFile
+mapped_files core contents = files_from core contents 0 core.files
+
+-- the virtual shared object that begins at an address, with the bytes that a segment has from there on
+abbrev pub object_at : ℕ → List ℕ → ProcessFile
+object_at start bytes = record {
+  mapping = record { start = start; end = min (start + length bytes) (2 ^ 64 - 1); offset = 0; name = codes "[vdso]" };
+  bytes = Some bytes;
+}
+
+-- the virtual shared object, whose address is that of AT_SYSINFO_EHDR
+abbrev pub shared_object : CoreContents → Option ProcessFile
+shared_object core =
+    option_and_then (λ start. option_map (object_at start) (bytes_at core.segments start)) (auxiliary_value core.auxv 33)
+
+-- the mapped files, and then the virtual shared object, if there is one
+abbrev pub process_files : CoreContents → List (Option (List ℕ)) → List ProcessFile
+process_files core contents = mapped_files core contents ++ option_to_list (shared_object core)

@@ -1,0 +1,122 @@
+//! Whether a file is the one that was mapped, by build ids.
+
+ghost use Rattle.std.specs.Prelude.{◌≡◌, List, option_map, true, false};
+ghost use Rattle.std.specs.Option.{option_copied};
+ghost use Rattle.core_files.specs.CoreViews.{contents_of};
+ghost use Rattle.core_files.specs.FileViews.{mapping_of};
+ghost use Rattle.core_files.specs.NoteViews.{mappings_of};
+ghost use Rattle.core_files.specs.RangeViews.{ranges_seen, range_seen};
+ghost use Rattle.backtrace_files.specs.BuildIds.{build_id_at, build_id_of, bytes_at, bytes_from, begins_file, differ, first_mapping, id_without_sections, has_other_build_id};
+
+use core_files::{CoreFile, MappedFile, MemoryRange};
+use elf_files::{ElfFile, Header};
+
+// The bytes of a range from an address in it on.
+fn bytes_from<'a>(range: &MemoryRange<'a>, address: u64) -> Option<&'a [u8]>
+    ensures { option_copied result ≡ bytes_from address (range_seen range.now) }
+{
+    let Some(offset) = address.checked_sub(range.address) else {
+        return None;
+    };
+    if offset < range.size && offset < range.bytes.len() as u64 {
+        Some(&range.bytes[offset as usize..])
+    } else {
+        None
+    }
+}
+
+/// The bytes that one segment has from an address on, of the first that has some there.
+pub(crate) fn bytes_at<'a>(segments: &[MemoryRange<'a>], address: u64) -> Option<&'a [u8]>
+    ensures { option_copied result ≡ bytes_at (ranges_seen segments.now) address }
+{
+    for segment in segments {
+        if let Some(bytes) = bytes_from(segment, address) {
+            return Some(bytes);
+        }
+    }
+    None
+}
+
+// Whether a mapping is of the first bytes of a file with this name.
+fn begins_file(mapping: &MappedFile<'_>, name: &[u8]) -> bool
+    ensures { result ≡ begins_file name.now (mapping_of mapping.now) }
+{
+    mapping.offset == 0 && mapping.name == name
+}
+
+// The first mapping of the first bytes of a file with this name.
+fn first_mapping<'a>(mappings: &[MappedFile<'a>], name: &[u8]) -> Option<MappedFile<'a>>
+    ensures { option_map mapping_of result ≡ first_mapping (mappings_of mappings.now) name.now }
+{
+    for mapping in mappings {
+        if begins_file(mapping, name) {
+            return Some(*mapping);
+        }
+    }
+    None
+}
+
+// The build id in memory, of a file whose first bytes are there: by its segments.
+fn id_without_sections<'a>(bytes: &'a [u8]) -> Option<&'a [u8]>
+    ensures { option_copied result ≡ id_without_sections bytes.now }
+{
+    let Ok(elf) = ElfFile::parse(bytes) else {
+        return None;
+    };
+    let header = Header {
+        section_count: 0,
+        ..elf.header
+    };
+    let loaded = ElfFile { bytes, header };
+    match loaded.build_id() {
+        Ok(id) => id,
+        Err(_) => None,
+    }
+}
+
+// The build id of a file.
+fn build_id_of<'a>(bytes: &'a [u8]) -> Option<&'a [u8]>
+    ensures { option_copied result ≡ build_id_of bytes.now }
+{
+    let Ok(elf) = ElfFile::parse(bytes) else {
+        return None;
+    };
+    match elf.build_id() {
+        Ok(id) => id,
+        Err(_) => None,
+    }
+}
+
+// The build id of a file of this name, by what the core has of its first bytes.
+fn build_id_at<'a>(core: &CoreFile<'a>, name: &[u8]) -> Option<&'a [u8]>
+    ensures { option_copied result ≡ build_id_at (contents_of core.now) name.now }
+{
+    let Some(mapping) = first_mapping(core.mapped_files(), name) else {
+        return None;
+    };
+    let Some(bytes) = bytes_at(core.segments(), mapping.start) else {
+        return None;
+    };
+    id_without_sections(bytes)
+}
+
+// Whether the first build id is known and isn't the second.
+fn differ(one: Option<&[u8]>, other: Option<&[u8]>) -> bool
+    ensures { result ≡ differ (option_copied one.entry) (option_copied other.entry) }
+{
+    match one {
+        Some(one) => match other {
+            Some(other) => one != other,
+            None => true,
+        },
+        None => false,
+    }
+}
+
+/// Whether a file with these bytes isn't the one of this name that was mapped: the core has a build id of that, and the file has
+/// another one or none.
+pub fn has_other_build_id(core: &CoreFile<'_>, name: &[u8], bytes: &[u8]) -> bool
+    ensures { result ≡ has_other_build_id (contents_of core.now) name.now bytes.now }
+{
+    differ(build_id_at(core, name), build_id_of(bytes))
+}

@@ -1,0 +1,117 @@
+//! The files of a core's process.
+
+ghost use Rattle.std.specs.Prelude.{◌≡◌, IfOk, map};
+ghost use Rattle.std.specs.Option.{option_copied, option_map};
+ghost use Rattle.core_files.specs.CoreViews.{contents_of};
+ghost use Rattle.core_files.specs.FileViews.{mapping_of};
+ghost use Rattle.core_files.specs.NoteViews.{mappings_of};
+ghost use Rattle.backtrace_files.specs.FileViews.{file_seen, files_seen};
+ghost use Rattle.backtrace_files.specs.ProcessFiles.{file_with, files_from, given_bytes, kept_bytes, process_files, shared_object};
+
+use crate::build_ids::{bytes_at, has_other_build_id};
+use crate::loaded_file::LoadedFile;
+use core_files::{CoreFile, MappedFile};
+use std::alloc::{AllocError, Global};
+
+// The type of the entry of the auxiliary vector with the address of the virtual shared object.
+const AT_SYSINFO_EHDR: u64 = 33;
+
+// The bytes of a mapped file, unless they are those of another file.
+fn kept_bytes<'a>(
+    core: &CoreFile<'a>,
+    mapping: &MappedFile<'a>,
+    bytes: Option<&'a [u8]>,
+) -> Option<&'a [u8]>
+    ensures { option_copied result
+        ≡ kept_bytes (contents_of core.now) (mapping_of mapping.now) (option_copied bytes.entry) }
+{
+    let Some(bytes) = bytes else {
+        return None;
+    };
+    if has_other_build_id(core, mapping.name, bytes) {
+        None
+    } else {
+        Some(bytes)
+    }
+}
+
+// The bytes that are given by a number.
+fn given_bytes<'a>(contents: &[Option<&'a [u8]>], number: usize) -> Option<&'a [u8]>
+    ensures { option_copied result ≡ given_bytes (map option_copied contents.now) number }
+{
+    match contents.get(number) {
+        Some(bytes) => *bytes,
+        None => None,
+    }
+}
+
+// A mapping with its bytes, which are given by its number.
+fn file_with<'a>(
+    core: &CoreFile<'a>,
+    contents: &[Option<&'a [u8]>],
+    number: usize,
+    mapping: &MappedFile<'a>,
+) -> LoadedFile<'a>
+    ensures { file_seen result ≡ file_with (contents_of core.now)
+        (map option_copied contents.now) number (mapping_of mapping.now) }
+{
+    LoadedFile {
+        mapping: *mapping,
+        bytes: kept_bytes(core, mapping, given_bytes(contents, number)),
+    }
+}
+
+// Mapped files of a core in their order, with the bytes that are given by their numbers.
+fn files_with<'a>(
+    alloc: Global,
+    core: &CoreFile<'a>,
+    mappings: &[MappedFile<'a>],
+    contents: &[Option<&'a [u8]>],
+) -> Result<Vec<LoadedFile<'a>>, AllocError>
+    ensures { IfOk result (λ files. files_seen files.items ≡ files_from (contents_of core.now)
+        (map option_copied contents.now) 0 (mappings_of mappings.now)) }
+{
+    let mut files = Vec::new(alloc);
+    for (number, mapping) in mappings.iter().enumerate() {
+        files.push(file_with(core, contents, number, mapping))?;
+    }
+    Ok(files)
+}
+
+// The virtual shared object, which the kernel maps, by the core's memory.
+fn shared_object<'a>(core: &CoreFile<'a>) -> Option<LoadedFile<'a>>
+    ensures { option_map file_seen result ≡ shared_object (contents_of core.now) }
+{
+    let Some(start) = core.auxiliary(AT_SYSINFO_EHDR) else {
+        return None;
+    };
+    let Some(bytes) = bytes_at(core.segments(), start) else {
+        return None;
+    };
+    Some(LoadedFile {
+        mapping: MappedFile {
+            start,
+            end: start.saturating_add(bytes.len() as u64),
+            offset: 0,
+            name: b"[vdso]",
+        },
+        bytes: Some(bytes),
+    })
+}
+
+/// The files of a core's process, in the order of the core, and then the virtual shared object, if the core has it. `contents` has
+/// the bytes of the mapped files by their numbers; those of a file with another build id are left out.
+pub fn process_files<'a>(
+    alloc: Global,
+    core: &CoreFile<'a>,
+    contents: &[Option<&'a [u8]>],
+) -> Result<Vec<LoadedFile<'a>>, AllocError>
+    ensures { IfOk result (λ files. files_seen files.items
+        ≡ process_files (contents_of core.now) (map option_copied contents.now)) }
+{
+    let mut files = files_with(alloc, core, core.mapped_files(), contents)?;
+    if let Some(object) = shared_object(core) {
+        files.push(object)?;
+    }
+    Ok(files)
+}

@@ -1,0 +1,16 @@
+//! The files that are mapped into a process: where they are loaded, their sections for an unwinder, and what is at an address.
+#![tactic(auto)]
+
+mod build_ids;
+mod code;
+mod files;
+mod loaded_file;
+mod locations;
+mod sections;
+
+pub use build_ids::has_other_build_id;
+pub use code::{LoadedCode, loaded_code};
+pub use files::process_files;
+pub use loaded_file::{LoadedFile, memory_ranges};
+pub use locations::location_of;
+pub use sections::FileSections;

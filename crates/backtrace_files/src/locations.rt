@@ -1,0 +1,102 @@
+//! Functions and files at addresses.
+
+ghost use Rattle.std.specs.Prelude.{◌≡◌, option_map};
+ghost use Rattle.core_files.specs.FileViews.{mapping_of};
+ghost use Rattle.elf_files.specs.SymbolViews.{symbol_seen};
+ghost use Rattle.backtrace_text.specs.FrameViews.{location_view, offset_view};
+ghost use Rattle.backtrace_files.specs.FileViews.{code_seen, file_seen, files_seen};
+ghost use Rattle.backtrace_files.specs.Locations.{file_at, function_at, function_in, is_mapped, location_of, place_in, symbol_at};
+
+use crate::code::{LoadedCode, loaded_code};
+use crate::loaded_file::LoadedFile;
+use backtrace_text::{CodeLocation, NamedOffset};
+use core_files::MappedFile;
+use elf_files::Symbol;
+
+// Whether an address is mapped from a file.
+fn is_mapped(mapping: &MappedFile<'_>, address: u64) -> bool
+    ensures { result ≡ is_mapped address (mapping_of mapping.now) }
+{
+    mapping.start <= address && address < mapping.end
+}
+
+// The first file that an address is mapped from.
+fn file_at<'a>(files: &[LoadedFile<'a>], address: u64) -> Option<LoadedFile<'a>>
+    ensures { option_map file_seen result ≡ file_at (files_seen files.now) address }
+{
+    for file in files {
+        if is_mapped(&file.mapping, address) {
+            return Some(*file);
+        }
+    }
+    None
+}
+
+// The function of a file at an address of the file, if its symbols can be read and have one.
+fn symbol_at<'a>(code: &LoadedCode<'a>, address: u64) -> Option<Symbol<'a>>
+    ensures { option_map symbol_seen result ≡ symbol_at (code_seen code.now) address }
+{
+    match code.file.symbol_for_address(address) {
+        Ok(symbol) => symbol,
+        Err(_) => None,
+    }
+}
+
+// The function of a file at an address, looked up by another, with the distance from its start.
+fn function_in<'a>(code: &LoadedCode<'a>, address: u64, lookup: u64) -> Option<NamedOffset<'a>>
+    ensures { option_map offset_view result ≡ function_in (code_seen code.now) address lookup }
+{
+    let Some(relative) = lookup.checked_sub(code.bias) else {
+        return None;
+    };
+    match symbol_at(code, relative) {
+        Some(symbol) => Some(NamedOffset {
+            name: symbol.name,
+            offset: address
+                .saturating_sub(code.bias)
+                .saturating_sub(symbol.value),
+        }),
+        None => None,
+    }
+}
+
+// The same of a mapped file.
+fn function_at<'a>(file: &LoadedFile<'a>, address: u64, lookup: u64) -> Option<NamedOffset<'a>>
+    ensures { option_map offset_view result ≡ function_at (file_seen file.now) address lookup }
+{
+    match loaded_code(file) {
+        Some(code) => function_in(&code, address, lookup),
+        None => None,
+    }
+}
+
+// The place of an address in a mapped file.
+fn place_in<'a>(mapping: &MappedFile<'a>, address: u64) -> NamedOffset<'a>
+    ensures { offset_view result ≡ place_in (mapping_of mapping.now) address }
+{
+    NamedOffset {
+        name: mapping.name,
+        offset: address
+            .saturating_sub(mapping.start)
+            .saturating_add(mapping.offset),
+    }
+}
+
+/// Where the code at an address is, by the first file that has another address mapped, by which it is looked up: the function, if the
+/// file's symbols have one, and the file, with the offsets of the address in them.
+pub fn location_of<'a>(files: &[LoadedFile<'a>], address: u64, lookup: u64) -> CodeLocation<'a>
+    ensures { location_view result ≡ location_of (files_seen files.now) address lookup }
+{
+    match file_at(files, lookup) {
+        Some(file) => CodeLocation::Code {
+            address,
+            function: function_at(&file, address, lookup),
+            file: Some(place_in(&file.mapping, address)),
+        },
+        None => CodeLocation::Code {
+            address,
+            function: None,
+            file: None,
+        },
+    }
+}
