@@ -35,6 +35,12 @@ def part_of(text, name):
     return next((part for part in re.split(r"^Contents of the ", text, flags=re.M)[1:] if part.startswith(f"{name} section")), "")
 
 
+def listing_in(text, name):
+    """What such a text has of a section, as far as `frame_table` lists it: without headers of sections and lines of terminators."""
+    text = part_of(text, name).partition("\n")[2].partition("\n")[2]
+    return re.sub(r"\n[0-9a-f]{8,16} ZERO terminator\n+", "\n", text).strip("\n")
+
+
 def _rows(table):
     names, *lines = table.splitlines() or [""]
     names = names.split()[2:]
