@@ -7,9 +7,11 @@ use Rattle.backtrace_files.specs.Files.{CodeOfFile, ProcessFile, range_of}
 use Rattle.backtrace_files.specs.declared.code.LoadedCode.{LoadedCode}
 use Rattle.backtrace_files.specs.declared.loaded_file.LoadedFile.{LoadedFile}
 
+-- A mapped file, with its bytes if they are there.
 abbrev pub file_seen : LoadedFile → ProcessFile
 file_seen file = record { mapping = mapping_of file.mapping; bytes = option_copied file.bytes }
 
+-- Mapped files.
 abbrev pub files_seen : List LoadedFile → List ProcessFile
 files_seen files = map file_seen files
 
@@ -17,5 +19,6 @@ files_seen files = map file_seen files
 abbrev pub range_seen : LoadedFile → List KnownRange
 range_seen file = option_to_list (range_of (file_seen file))
 
+-- The code of a file as it is loaded: its bytes, its header, and by how much its addresses are moved.
 abbrev pub code_seen : LoadedCode → CodeOfFile
 code_seen code = record { bytes = code.file.bytes.now; header = code.file.header; bias = code.bias }
