@@ -1,7 +1,7 @@
 //! Values of expressions.
 
 use crate::readings::{OverReaders, Reading, check_all};
-use crate::values::{COUNT, PLT};
+use crate::values::{COUNT, EXPRESSIONS, PLT};
 use dwarf_constants::{Encoding, Error, Format, Result as Answer};
 use dwarf_expressions::{Evaluation, EvaluationResult, Expression, StoreOnHeap, Value};
 use dwarf_readers::Reader;
@@ -56,4 +56,12 @@ fn values_with_registers(rt: HostRuntime) -> Outcome {
 #[test]
 fn values_with_a_branch_and_constants(rt: HostRuntime) -> Outcome {
     check_all(&rt, rt.alloc(), &OverReaders(ValueOf), &COUNT)
+}
+
+#[test]
+fn values_of_worked_documents(rt: HostRuntime) -> Outcome {
+    for readings in &EXPRESSIONS {
+        check_all(&rt, rt.alloc(), &OverReaders(ValueOf), readings)?;
+    }
+    Ok(())
 }

@@ -1,7 +1,7 @@
 //! Functions of addresses in compact unwind info.
 
 use crate::readings::{Check, check_all};
-use crate::values::{COMPACT, UNSORTED_INDEX, UNSORTED_PAGE};
+use crate::values::{COMPACT, TABLES, UNSORTED_INDEX, UNSORTED_PAGE};
 use framehop_compact_tables::{CompactFormatError, Function, UnwindInfo, is_increasing};
 use std::alloc::Global;
 use std::process::Abort;
@@ -60,4 +60,12 @@ fn functions_of_a_page_that_does_not_increase(rt: HostRuntime) -> Outcome {
 #[test]
 fn functions_of_an_index_that_does_not_increase(rt: HostRuntime) -> Outcome {
     check_all(&rt, rt.alloc(), &FunctionOf(0x1005), &UNSORTED_INDEX)
+}
+
+#[test]
+fn functions_of_worked_documents(rt: HostRuntime) -> Outcome {
+    for readings in &TABLES {
+        check_all(&rt, rt.alloc(), &FunctionOf(0x1005), readings)?;
+    }
+    Ok(())
 }
