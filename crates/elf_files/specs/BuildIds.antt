@@ -31,10 +31,11 @@ section_build_id bytes section = if is_note_section section.kind then section_no
 abbrev pub segment_build_id : List ℕ → Segment → ElfResult (Option (List ℕ))
 segment_build_id bytes segment = if is_note_segment segment.kind then segment_notes bytes segment >>= build_id_in else Ok None
 
--- The first build id of the sections of a file, and of its segments.
+-- The first build id of the sections of a file.
 abbrev pub by_sections : List ℕ → Header → ElfResult (Option (List ℕ))
 by_sections bytes header = if_sections bytes header (first_found (section_build_id bytes) (all_sections bytes header))
 
+-- The first build id of its segments.
 abbrev pub by_segments : List ℕ → Header → ElfResult (Option (List ℕ))
 by_segments bytes header = if_segments bytes header (first_found (segment_build_id bytes) (all_segments bytes header))
 

@@ -10,48 +10,65 @@ use Rattle.elf_files.specs.declared.header.Machine.{Machine}
 use Rattle.elf_files.specs.declared.header.Machine.TheVariants.{X86_64, Aarch64}
 use Rattle.elf_files.specs.Bytes.{ElfResult, ◌>>=◌, unless, number_at, is_within}
 
--- The members of the ELF header.
+-- ---- the members of the ELF header
+
+-- EI_CLASS: how wide addresses are.
 abbrev pub ei_class : List ℕ → ℕ
 ei_class bytes = slice_index bytes 4
 
+-- EI_DATA: the order of bytes in numbers.
 abbrev pub ei_data : List ℕ → ℕ
 ei_data bytes = slice_index bytes 5
 
+-- EI_VERSION: the version of the identification.
 abbrev pub ei_version : List ℕ → ℕ
 ei_version bytes = slice_index bytes 6
 
+-- What the file is: ET_EXEC and others.
 abbrev pub e_type : List ℕ → ℕ
 e_type bytes = number_at 2 bytes 16
 
+-- The machine that it is for: EM_X86_64 and others.
 abbrev pub e_machine : List ℕ → ℕ
 e_machine bytes = number_at 2 bytes 18
 
+-- The version of the file.
 abbrev pub e_version : List ℕ → ℕ
 e_version bytes = number_at 4 bytes 20
 
+-- The address at which a process starts.
 abbrev pub e_entry : List ℕ → ℕ
 e_entry bytes = number_at 8 bytes 24
 
+-- The offset of the program headers, or 0.
 abbrev pub e_phoff : List ℕ → ℕ
 e_phoff bytes = number_at 8 bytes 32
 
+-- The offset of the section headers, or 0.
 abbrev pub e_shoff : List ℕ → ℕ
 e_shoff bytes = number_at 8 bytes 40
 
+-- The size of a program header in bytes.
 abbrev pub e_phentsize : List ℕ → ℕ
 e_phentsize bytes = number_at 2 bytes 54
 
+-- The number of program headers, or PN_XNUM.
 abbrev pub e_phnum : List ℕ → ℕ
 e_phnum bytes = number_at 2 bytes 56
 
+-- The size of a section header in bytes.
 abbrev pub e_shentsize : List ℕ → ℕ
 e_shentsize bytes = number_at 2 bytes 58
 
+-- The number of section headers, or 0.
 abbrev pub e_shnum : List ℕ → ℕ
 e_shnum bytes = number_at 2 bytes 60
 
+-- The index of the section with the names of sections, or SHN_XINDEX.
 abbrev pub e_shstrndx : List ℕ → ℕ
 e_shstrndx bytes = number_at 2 bytes 62
+
+-- ---- the header
 
 -- What a file begins with (EI_MAG0 to EI_MAG3): 0x7f and "ELF".
 abbrev pub magic : List ℕ

@@ -25,13 +25,15 @@ pub record NoteBytes : Type 0 where
 abbrev pub note_alignment : ℕ → ℕ
 note_alignment alignment = if alignment == 8 then 8 else 4
 
--- The members of a note: the size of its name, the size of its descriptor, and its type.
+-- The size of a note's name in bytes, with the 0 that ends it.
 abbrev pub n_namesz : List ℕ → ℕ
 n_namesz bytes = number_at 4 bytes 0
 
+-- The size of its descriptor in bytes.
 abbrev pub n_descsz : List ℕ → ℕ
 n_descsz bytes = number_at 4 bytes 4
 
+-- Its type.
 abbrev pub n_type : List ℕ → ℕ
 n_type bytes = number_at 4 bytes 8
 

@@ -73,15 +73,17 @@ section_bytes bytes section =
     unless (not (is_compressed section)) (CompressedSection section.offset)
     (bytes_at bytes section.offset section.size)
 
--- What sections are: notes (SHT_NOTE), symbols (SHT_SYMTAB), and symbols for dynamic linking (SHT_DYNSYM).
+-- A section has notes (SHT_NOTE).
 abbrev pub is_note_section : SectionKind → Bool
 is_note_section Note = true
 is_note_section _ = false
 
+-- It has symbols (SHT_SYMTAB).
 abbrev pub is_symbol_table : SectionKind → Bool
 is_symbol_table SymbolTable = true
 is_symbol_table _ = false
 
+-- It has symbols for dynamic linking (SHT_DYNSYM).
 abbrev pub is_dynamic_symbols : SectionKind → Bool
 is_dynamic_symbols DynamicSymbols = true
 is_dynamic_symbols _ = false

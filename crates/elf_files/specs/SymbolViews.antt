@@ -18,10 +18,11 @@ symbol_seen symbol = record {
   size = symbol.size;
 }
 
--- A symbol of a symbol table of a file with its name, and the function at an address by such a table.
+-- A symbol of a symbol table of a file, with its name.
 abbrev pub named_in : ElfFile → Section → SymbolEntry → ElfResult (Option NamedSymbol)
 named_in file section symbol = with_name file.bytes.now file.header section (Some symbol)
 
+-- The function at an address by such a table.
 abbrev pub function_by : ElfFile → ℕ → Section → ElfResult (Option NamedSymbol)
 function_by file address section = function_in file.bytes.now file.header address (Some section)
 

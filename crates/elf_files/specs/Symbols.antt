@@ -59,6 +59,7 @@ pub record NamedSymbol : Type 0 where
   pub value : ℕ
   pub size : ℕ
 
+-- A symbol of a table with this name.
 abbrev pub named : List ℕ → SymbolEntry → NamedSymbol
 named name symbol = record { name = name; kind = symbol.kind; section_index = symbol.section_index; value = symbol.value; size = symbol.size }
 
