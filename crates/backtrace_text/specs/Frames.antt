@@ -2,7 +2,7 @@
 use Rattle.std.specs.Prelude.{ℕ, List, [], ◌∷◌, ◌++◌, codes, decimal, Option, Some, None}
 use Rattle.std.specs.List.{flat_map}
 use Rattle.json_program.specs.Lines.{hexadecimal, line}
-use Rattle.backtrace_text.specs.Cells.{cell_of, hex_of}
+use Rattle.line_parts.specs.Parts.{cell_of, hex_of}
 use Rattle.backtrace_text.specs.Names.{shown_name}
 
 -- A place in what has this name: a function or a file.

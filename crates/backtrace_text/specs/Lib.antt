@@ -1,4 +1,3 @@
-pub mod Cells
 pub mod Ends
 pub mod FrameViews
 pub mod Frames

@@ -1,7 +1,7 @@
 -- How names of functions and files are shown, which may be any bytes.
 use Rattle.std.specs.Prelude.{ℕ, ◌==◌, ◌&&◌, Bool, not, nat_le, if◌then◌else◌, List, [], ◌∷◌, ◌++◌, codes}
 use Rattle.std.specs.List.{flat_map}
-use Rattle.backtrace_text.specs.Cells.{hex_of}
+use Rattle.line_parts.specs.Parts.{hex_of}
 
 -- a byte is shown as it is if it is printable ASCII, from the space to the tilde, and no backslash
 abbrev pub is_shown_as_it_is : ℕ → Bool

@@ -1,11 +1,11 @@
 //! How walks end.
 
 ghost use Rattle.std.specs.Prelude.{◌≡◌, Some};
-ghost use Rattle.backtrace_text.specs.Cells.{Pushes};
+ghost use Rattle.line_parts.specs.Parts.{Pushes};
 ghost use Rattle.backtrace_text.specs.Ends.{end_text, error_text};
 
-use crate::cells::push_bytes;
 use framehop_registers::Error;
+use line_parts::push_bytes;
 use std::alloc::{AllocError, Global};
 use std::fmt;
 

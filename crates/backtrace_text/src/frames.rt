@@ -2,12 +2,13 @@
 
 ghost use Rattle.std.specs.Prelude.{◌≡◌, map, option_map};
 ghost use Rattle.std.specs.List.{flat_map};
-ghost use Rattle.backtrace_text.specs.Cells.{Pushes};
+ghost use Rattle.line_parts.specs.Parts.{Pushes};
 ghost use Rattle.backtrace_text.specs.FrameViews.{frame_view, location_view, offset_view, register_view};
 ghost use Rattle.backtrace_text.specs.Frames.{address_text, file_text, frame_text, function_text, location_text, number_text, offset_text, register_text, registers_text};
 
-use crate::cells::{push_bytes, push_decimal_cell, push_hex, push_hexadecimal};
+use crate::cells::{push_decimal_cell, push_hexadecimal};
 use crate::names::push_name;
+use line_parts::{push_bytes, push_hex};
 use std::alloc::{AllocError, Global};
 
 /// A place in a function or a file.

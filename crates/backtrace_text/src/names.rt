@@ -1,10 +1,10 @@
 //! Names of functions and files, which may be any bytes.
 
 ghost use Rattle.std.specs.Prelude.{◌≡◌};
-ghost use Rattle.backtrace_text.specs.Cells.{Pushes};
+ghost use Rattle.line_parts.specs.Parts.{Pushes};
 ghost use Rattle.backtrace_text.specs.Names.{is_shown_as_it_is, shown_byte, shown_name};
 
-use crate::cells::{push_bytes, push_hex};
+use line_parts::{push_bytes, push_hex};
 use std::alloc::{AllocError, Global};
 
 // Whether a byte is shown as it is: printable ASCII, without the backslash.

@@ -1,13 +1,13 @@
 //! The text of backtraces of threads.
 
 ghost use Rattle.std.specs.Prelude.{◌≡◌, IfOk, map};
-ghost use Rattle.backtrace_text.specs.Cells.{Pushes};
+ghost use Rattle.line_parts.specs.Parts.{Pushes};
 ghost use Rattle.backtrace_text.specs.FrameViews.{backtrace_view, frame_view};
 ghost use Rattle.backtrace_text.specs.Threads.{backtrace_text, frames_text, text_of, thread_line};
 
-use crate::cells::push_bytes;
 use crate::ends::{WalkEnd, push_end};
 use crate::frames::{ShownFrame, push_frame};
+use line_parts::push_bytes;
 use std::alloc::{AllocError, Global};
 
 /// The backtrace of a thread.

@@ -14,7 +14,7 @@ use Rattle.dwarf_frame_rows.specs.FrameSection.{FrameSection}
 use Rattle.dwarf_frame_entries.specs.Entries.{AnyEntry, Cie, Fde, Head, PartialFde, end_address, fde_of}
 use Rattle.dwarf_frame_entries.specs.EntryPrograms.{cie_instructions, factors_of, fde_instructions, fde_program}
 use Rattle.dwarf_frame_entries.specs.declared.entries.Entry.TheVariants as which
-use Rattle.frame_table_text.specs.Cells.{hex_of}
+use Rattle.line_parts.specs.Parts.{hex_of}
 use Rattle.frame_table_text.specs.Columns.{all_nops, columns_with}
 use Rattle.frame_table.specs.EntryPrefix.{EntryPrefix, augmentation_text, entry_prefix_at}
 use Rattle.frame_table_text.specs.Tables.{Table, table_text}

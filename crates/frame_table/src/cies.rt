@@ -7,7 +7,7 @@ ghost use Rattle.dwarf_frame_instructions.specs.ProgramRows.{program_of};
 ghost use Rattle.frame_table.specs.Entries.{cie_factors, cie_prefix, cie_register, whole_cie_part};
 ghost use Rattle.frame_table.specs.EntryWrites.{ListsCie, WritesPart, own_program, setting_by};
 ghost use Rattle.frame_table.specs.EntryPrefixViews.{cie_line_of, cie_prefix_view, prefix_view};
-ghost use Rattle.frame_table_text.specs.Pushes.{Pushes};
+ghost use Rattle.line_parts.specs.Parts.{Pushes};
 
 use crate::entry_prefix::{CiePrefix, augmentation_of, entry_prefix_at};
 use crate::listed::Listed;

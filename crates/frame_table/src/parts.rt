@@ -6,7 +6,7 @@ ghost use Rattle.dwarf_frame_entries.specs.EntryPrograms.{factors_of};
 ghost use Rattle.frame_table.specs.Entries.{entry_table, fault_part, fault_text, head_of, id_digits, prefix_text};
 ghost use Rattle.frame_table.specs.EntryWrites.{EndsPart, HasTable, WritesPart};
 ghost use Rattle.frame_table.specs.EntryPrefixViews.{prefix_view};
-ghost use Rattle.frame_table_text.specs.Pushes.{Pushes};
+ghost use Rattle.line_parts.specs.Parts.{Pushes};
 
 use crate::entry_prefix::EntryPrefix;
 use dwarf_constants::Error;

@@ -19,7 +19,7 @@ use Rattle.dwarf_frame_instructions.specs.Programs.{RowList}
 use Rattle.dwarf_frame_instructions.specs.StateViews.{cfa_as, row_as, rule_as}
 use Rattle.dwarf_frame_instructions.specs.declared.rows.ProgramRows.{ProgramRows}
 use Rattle.dwarf_readers.specs.Stretch.{Stretch}
-use Rattle.frame_table_text.specs.Cells.{hex_of}
+use Rattle.line_parts.specs.Parts.{hex_of}
 use Rattle.frame_table_text.specs.TableViews.{ShowsNext}
 use Rattle.frame_table_text.specs.Tables.{Table, cfa_text, rule_text_in, found_text, if_shown, given_line, line_of_cells, row_line, row_lines, rule_text}
 use Rattle.frame_table_text.specs.declared.names.Machine.{Machine}

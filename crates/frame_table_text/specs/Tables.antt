@@ -9,7 +9,7 @@ use Rattle.dwarf_frame_rows.specs.declared.rules.CfaRule.{CfaRule}
 use Rattle.dwarf_frame_rows.specs.declared.rules.CfaRule.TheVariants as cfa
 use Rattle.dwarf_frame_rows.specs.declared.rules.RegisterRule.{RegisterRule}
 use Rattle.dwarf_frame_rows.specs.declared.rules.RegisterRule.TheVariants as rule
-use Rattle.frame_table_text.specs.Cells.{cell_of, hex_of, with_sign}
+use Rattle.line_parts.specs.Parts.{cell_of, hex_of, with_sign}
 use Rattle.frame_table_text.specs.Names.{register_in_full, register_name}
 use Rattle.frame_table_text.specs.declared.names.Machine.{Machine}
 

@@ -2,12 +2,11 @@
 //! numbers, the names of registers, the columns that instructions name, headings and rows.
 #![tactic(auto)]
 
-mod cells;
 mod columns;
 mod names;
 mod tables;
 
-pub use cells::{push_bytes, push_decimal, push_hex, push_signed};
 pub use columns::add_columns;
+pub use line_parts::{push_bytes, push_decimal, push_hex, push_signed};
 pub use names::Machine;
 pub use tables::Table;

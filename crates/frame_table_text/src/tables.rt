@@ -3,11 +3,10 @@
 ghost use Rattle.std.specs.Prelude.{◌≡◌, ◌≢◌, ◌<◌, ◌*◌, IfErr, IfOk, OnOk, string_bytes};
 ghost use Rattle.dwarf_frame_instructions.specs.ProgramRows.{current_row, rows_left, steps_left};
 ghost use Rattle.dwarf_frame_rows.specs.Row.{row_of};
-ghost use Rattle.frame_table_text.specs.Pushes.{Pushes};
+ghost use Rattle.line_parts.specs.Parts.{Pushes};
 ghost use Rattle.frame_table_text.specs.TableViews.{IfMore, ShowsNext, rows_within, table_view};
 ghost use Rattle.frame_table_text.specs.Tables.{cfa_text, column_cells, column_name, found_text, given_line, heading_line, if_shown, row_lines, rule_cells, rule_text, shown_line, table_text};
 
-use crate::cells::{push_bytes, push_cell, push_hex, signed_text};
 use crate::names::{Machine, register_in_full, register_name};
 use dwarf_constants::{Error, Register};
 use dwarf_frame_instructions::{FrameProgram, ProgramRows};
@@ -16,6 +15,7 @@ use dwarf_frame_rows::{
 };
 use dwarf_readers::{Reader, ReaderOffset};
 use dwarf_storage::ArrayLike;
+use line_parts::{push_bytes, push_cell, push_hex, signed_text};
 use std::alloc::{AllocError, Global};
 
 /// What the lines of one table have in common.

@@ -1,6 +1,6 @@
 use Rattle.std.proofs.Common.{◌≡◌, ◌++◌, take}
 use Rattle.std.specs.List.{flat_map}
-use Rattle.frame_table_text.specs.Cells.{cell_of}
+use Rattle.line_parts.specs.Parts.{cell_of}
 use Rattle.frame_table_text.specs.TableViews.{table_view}
 use Rattle.frame_table_text.specs.Tables.{column_name}
 use Rattle.frame_table_text.proofs.tables.Table.push_names.Given as goal

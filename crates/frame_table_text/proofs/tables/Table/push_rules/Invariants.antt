@@ -1,7 +1,7 @@
 use Rattle.std.proofs.Common.{◌≡◌, ◌++◌, take}
 use Rattle.std.specs.List.{flat_map}
 use Rattle.dwarf_frame_rows.specs.Row.{row_of}
-use Rattle.frame_table_text.specs.Cells.{cell_of}
+use Rattle.line_parts.specs.Parts.{cell_of}
 use Rattle.frame_table_text.specs.TableViews.{table_view}
 use Rattle.frame_table_text.specs.Tables.{rule_text_in}
 use Rattle.frame_table_text.proofs.tables.Table.push_rules.Given as goal

@@ -1,10 +1,10 @@
-//! Parts of lines, which are appended to a text. They fail if memory runs out, and may have appended a
+//! Parts of lines, which are appended to a text. The calls fail if memory runs out, and may have appended a
 //! part then.
+#![tactic(auto)]
 
 ghost use Rattle.std.specs.Prelude.{◌≡◌, IfOk, decimal, replicate, string_bytes};
 ghost use Rattle.std.specs.Fmt.{signed_decimal};
-ghost use Rattle.frame_table_text.specs.Cells.{cell_of, hex_of, with_sign};
-ghost use Rattle.frame_table_text.specs.Pushes.{Pushes};
+ghost use Rattle.line_parts.specs.Parts.{Pushes, cell_of, hex_of, with_sign};
 
 use std::alloc::{AllocError, Global};
 
@@ -25,8 +25,8 @@ pub fn push_bytes(text: &mut Vec<u8>, bytes: &[u8]) -> Result<(), AllocError>
     text.extend_from_slice(bytes)
 }
 
-/// Appends a cell of a table: a text, the spaces that bring it to its width, and one more.
-pub(crate) fn push_cell(text: &mut Vec<u8>, width: usize, cell: &[u8]) -> Result<(), AllocError>
+/// Appends a cell of a table: a text, the spaces that bring it to its width in bytes, and one more.
+pub fn push_cell(text: &mut Vec<u8>, width: usize, cell: &[u8]) -> Result<(), AllocError>
     ensures { Pushes result text.old text.new (cell_of width cell.now) }
 {
     push_bytes(text, cell)?;
@@ -64,8 +64,8 @@ pub fn push_signed(alloc: Global, text: &mut Vec<u8>, number: i64) -> Result<(),
     push_bytes(text, digits.as_bytes())
 }
 
-/// A number with its sign, which may be a plus.
-pub(crate) fn signed_text(alloc: Global, number: i64) -> Result<String, AllocError>
+/// A number in decimal digits with its sign, which may be a plus.
+pub fn signed_text(alloc: Global, number: i64) -> Result<String, AllocError>
     ensures { IfOk result (λ text. string_bytes text ≡ with_sign number) }
 {
     if number < 0 {
