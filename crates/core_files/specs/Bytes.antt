@@ -2,10 +2,11 @@
 use Rattle.std.specs.Prelude.{ℕ, zero, suc, ◌+◌, List, [], ◌∷◌}
 use Rattle.elf_files.specs.Bytes.{number_at}
 
--- A number of 32 bits, and one of 64.
+-- A number of 32 bits.
 abbrev pub u32_at : List ℕ → ℕ → ℕ
 u32_at bytes at = number_at 4 bytes at
 
+-- A number of 64 bits.
 abbrev pub u64_at : List ℕ → ℕ → ℕ
 u64_at bytes at = number_at 8 bytes at
 

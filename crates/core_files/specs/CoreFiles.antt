@@ -42,10 +42,11 @@ notes_in bytes segment = elim segment.kind [ Note ↦ result_and_then (segment_n
 abbrev pub in_segment : {A : Type 0} → (Segment → ElfResult (List A)) → List ℕ → Header → ℕ → ElfResult (List A)
 in_segment part bytes header index = result_and_then (segment_at bytes header index) part
 
--- What all segments have, in the order of their program headers.
+-- The ranges of all loaded segments, in the order of their program headers.
 abbrev pub loaded_ranges : List ℕ → Header → ElfResult (List KnownRange)
 loaded_ranges bytes header = gather (in_segment (loaded_in bytes) bytes header) 0 header.segment_count
 
+-- The notes of all segments of notes, in the same order.
 abbrev pub core_notes : List ℕ → Header → ElfResult (List NoteParts)
 core_notes bytes header = gather (in_segment (notes_in bytes) bytes header) 0 header.segment_count
 

@@ -12,16 +12,19 @@ pub record FileMapping : Type 0 where
   pub offset : ℕ
   pub name : List ℕ
 
--- How many files there are, the size of a page, and where the rows and the names begin.
+-- How many files there are.
 abbrev pub file_count : List ℕ → ℕ
 file_count descriptor = u64_at descriptor 0
 
+-- The size of a page in bytes.
 abbrev pub page_size : List ℕ → ℕ
 page_size descriptor = u64_at descriptor 8
 
+-- Where the row of a file begins.
 abbrev pub row_at : ℕ → ℕ
 row_at number = 16 + 24 * number
 
+-- The names of the files, which follow the rows.
 abbrev pub names_of : List ℕ → List ℕ
 names_of descriptor = drop (row_at (file_count descriptor)) descriptor
 

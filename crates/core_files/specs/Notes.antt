@@ -17,16 +17,19 @@ use Rattle.core_files.specs.Refusals.{Read, CoreResult, result_and_then, then_mo
 abbrev pub is_note : List ℕ → ℕ → NoteParts → Bool
 is_note name kind note = bytes_eq note.name name && (note.kind == kind)
 
--- NT_PRSTATUS, NT_AUXV and NT_FILE are named CORE, NT_ARM_PAC_MASK is named LINUX.
+-- NT_PRSTATUS: the status and the registers of a thread.
 abbrev pub is_prstatus : NoteParts → Bool
 is_prstatus = is_note (codes "CORE") 1
 
+-- NT_AUXV: the auxiliary vector.
 abbrev pub is_auxv : NoteParts → Bool
 is_auxv = is_note (codes "CORE") 6
 
+-- NT_FILE: the mapped files.
 abbrev pub is_file_table : NoteParts → Bool
 is_file_table = is_note (codes "CORE") 0x46494c45
 
+-- NT_ARM_PAC_MASK: the masks of pointer authentication.
 abbrev pub is_pac_mask : NoteParts → Bool
 is_pac_mask = is_note (codes "LINUX") 0x406
 

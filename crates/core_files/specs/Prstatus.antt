@@ -69,11 +69,12 @@ user_regs_aarch64 descriptor = record {
 abbrev pub status : List ℕ → ThreadRegisters → Prstatus
 status descriptor registers = record { pid = pr_pid descriptor; registers = registers }
 
--- What a descriptor is on each architecture: its size is the structure's there.
+-- What a descriptor is on x86_64: its size is that of the structure there.
 abbrev pub prstatus_x86_64 : List ℕ → Result Prstatus DescriptorError
 prstatus_x86_64 descriptor =
     if length descriptor == prstatus_size 27 then Ok (status descriptor (X86_64 (user_regs_x86_64 descriptor))) else Err PrstatusSize
 
+-- What it is on aarch64, likewise.
 abbrev pub prstatus_aarch64 : List ℕ → Result Prstatus DescriptorError
 prstatus_aarch64 descriptor =
     if length descriptor == prstatus_size 34 then Ok (status descriptor (Aarch64 (user_regs_aarch64 descriptor))) else Err PrstatusSize

@@ -7,5 +7,6 @@ use Rattle.core_files.specs.Ranges.{KnownRange}
 abbrev pub range_seen : MemoryRange → KnownRange
 range_seen range = record { address = range.address; size = range.size; bytes = range.bytes.now }
 
+-- Ranges, with their bytes.
 abbrev pub ranges_seen : List MemoryRange → List KnownRange
 ranges_seen ranges = map range_seen ranges

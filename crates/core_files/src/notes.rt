@@ -32,24 +32,28 @@ const NT_FILE: u32 = 0x4649_4c45;
 
 const NT_ARM_PAC_MASK: u32 = 0x406;
 
+// Whether a note is the status of a thread.
 fn is_prstatus(note: &Note<'_>) -> bool
     ensures { result ≡ is_prstatus (note_seen note.now) }
 {
     note.name == CORE && note.kind == NT_PRSTATUS
 }
 
+// Whether it is the auxiliary vector.
 fn is_auxv(note: &Note<'_>) -> bool
     ensures { result ≡ is_auxv (note_seen note.now) }
 {
     note.name == CORE && note.kind == NT_AUXV
 }
 
+// Whether it has the mapped files.
 fn is_file_table(note: &Note<'_>) -> bool
     ensures { result ≡ is_file_table (note_seen note.now) }
 {
     note.name == CORE && note.kind == NT_FILE
 }
 
+// Whether it has masks of pointer authentication.
 fn is_pac_mask(note: &Note<'_>) -> bool
     ensures { result ≡ is_pac_mask (note_seen note.now) }
 {
