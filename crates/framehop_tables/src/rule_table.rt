@@ -13,7 +13,7 @@ use framehop_index::DwarfCfiIndex;
 use framehop_ranges::RangeTable;
 use framehop_rows::RowRules;
 use framehop_rules::Arch;
-use std::alloc::Global;
+use std::alloc::{AllocError, Global};
 
 /// What a look-up found.
 #[derive(Debug, Clone, Copy, PartialEq, Eq)]
@@ -39,6 +39,7 @@ where
     A::UnwindRule: SameRule,
 {
     ghost use Rattle.framehop_index.specs.CfiIndex.{IsMadeOf};
+    ghost use Rattle.framehop_index.specs.CfiIndexView.{IsIndexOf};
     ghost use Rattle.framehop_tables.specs.Covered.{SaysValid, tabulated};
     ghost use Rattle.framehop_tables.specs.RuleTables.{IsTableOf, SaysAsIndex, entry_count, rule_at};
 
@@ -57,8 +58,25 @@ where
             IsMadeOf result (IsTableOf t) base_svma (Section.frame section.now bases.now) }
     {
         let index = DwarfCfiIndex::try_new(alloc, section, bases, base_svma)?;
+        Ok(RuleTable::by_index::<R, Section, S>(alloc, section, bases, base_svma, context, &index)?)
+    }
+
+    /// As `try_new`, by an index of the section, which has the same base. Fails if it fails to allocate.
+    pub fn by_index<R: Reader, Section: UnwindSection<R>, S: UnwindContextStorage<R::Offset>>(
+        alloc: Global,
+        section: &Section,
+        bases: &BaseAddresses,
+        base_svma: u64,
+        context: &mut UnwindContext<R::Offset, S>,
+        index: &DwarfCfiIndex,
+    ) -> Result<Self, AllocError>
+        requires fixed { S.never_allocates }
+        requires index { IsIndexOf index.now base_svma (Section.frame section.now bases.now) }
+        ensures { let t = tabulated A.rows A.rule_of S.limits (Section.extensions section.now) in
+            IfOk result (λ table. IsTableOf t table base_svma (Section.frame section.now bases.now)) }
+    {
         let ranges = ranges_of::<A, R, Section, S>(
-            alloc, section, bases, context, &index, base_svma,
+            alloc, section, bases, context, index, base_svma,
         )?;
         let table = RangeTable::try_new(alloc, ranges)?;
         Ok(RuleTable { table })
