@@ -1,8 +1,7 @@
 -- Steps of a module by its call frames, by the method that its data gives.
-use Rattle.std.proofs.Common.{◌≡◌, ℕ, Bool, false, Option, Some, None, Result, Ok, Err, refl, sym, subst}
+use Rattle.std.proofs.Common.{◌≡◌, ℕ, Bool, Option, Some, Result, Ok, Err, refl, sym, subst}
 use Rattle.dwarf_frame_rows.specs.FrameSection.{FrameSection}
 use Rattle.dwarf_frame_rows.specs.Row.{Row}
-use Rattle.framehop_registers.proofs.Laws.{over_none}
 use Rattle.framehop_rules.specs.declared.unwind_result.UnwindResult.{UnwindResult}
 use Rattle.framehop_unwinder.specs.Attempt.{Attempt, SaysNothing}
 use Rattle.framehop_unwinder.specs.Trials.{AnswersAttempt}

@@ -1,10 +1,9 @@
 -- Steps of a module by the unwind data of a PE file.
-use Rattle.std.proofs.Common.{◌≡◌, ◌∙◌, ℕ, Bool, false, true, refl, sym, ap, subst}
+use Rattle.std.proofs.Common.{◌≡◌, ◌∙◌, ℕ, Bool, false, refl, sym, ap, subst}
 use Rattle.std.specs.Borrow.{Bor}
 use Rattle.std.specs.Option.{option_copied}
 use Rattle.std.specs.Prelude.{Option, Some, None, option_map, Result, Ok, Err}
 use Rattle.dwarf_frame_rows.specs.Row.{Row}
-use Rattle.framehop_registers.specs.Callback.{Words}
 use Rattle.framehop_registers.proofs.Laws.{over_weaker}
 use Rattle.framehop_rules.specs.UnwindResults.{KeepsUnlessDirect}
 use Rattle.framehop_rules.specs.declared.unwind_result.UnwindResult.{UnwindResult}

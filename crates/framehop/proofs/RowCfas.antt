@@ -1,6 +1,6 @@
 -- Where a row answers a step, the caller's stack pointer is its CFA.
-use Rattle.std.proofs.Common.{◌≡◌, ℕ, ◌^◌, Bool, true, false, List, length, Option, Some, None, Result, Ok, Err, refl, sym, ap, ◌∙◌, arith, get_or-set_other, get_or-set_same}
-use Rattle.std.specs.Prelude.{ℤ, pos, negsuc, ◌+ℤ◌, ◌<◌, ◌≢◌, ◌&&◌, not, ◌==◌, nat_lt, nat_le, if◌then◌else◌, option_and_then, option_map, slice_set, unwrap_or}
+use Rattle.std.proofs.Common.{◌≡◌, ℕ, ◌^◌, Bool, true, false, length, Option, Some, None, Ok, Err, refl, sym, ap, ◌∙◌, arith, get_or-set_other, get_or-set_same}
+use Rattle.std.specs.Prelude.{ℤ, pos, negsuc, ◌+ℤ◌, ◌<◌, ◌≢◌, ◌&&◌, not, nat_lt, nat_le, if◌then◌else◌, option_and_then, option_map, slice_set, unwrap_or}
 use Rattle.std.proofs.lemmas.Bool.Decides.{nat_tests}
 use Rattle.dwarf_constants.specs.declared.common.Register.{Register}
 use Rattle.dwarf_readers.specs.Stretch.{Stretch}
@@ -15,7 +15,7 @@ use Rattle.framehop_registers.specs.Registers as x86_64_registers
 use Rattle.framehop_registers.specs.RegistersAarch64 as aarch64_registers
 use Rattle.framehop_registers.specs.declared.aarch64.unwindregs.UnwindRegsAarch64.{UnwindRegsAarch64}
 use Rattle.framehop_registers.specs.declared.x86_64.unwindregs.UnwindRegsX86_64.{UnwindRegsX86_64}
-use Rattle.framehop_rules.specs.Outcome.{Answers, Caller}
+use Rattle.framehop_rules.specs.Outcome.{Caller}
 use Rattle.framehop_rules.specs.RuleMeaning as x86_64_rules
 use Rattle.framehop_rules.specs.RuleMeaningAarch64 as aarch64_rules
 use Rattle.framehop_rules.specs.declared.aarch64.unwind_rule.UnwindRuleAarch64.{UnwindRuleAarch64}

@@ -21,7 +21,7 @@ use Rattle.framehop_rows.specs.RowErrors.{IsOfRow}
 use Rattle.framehop_rows.specs.RowMeanings.{RowMeanings}
 use Rattle.dwarf_frame_rows.specs.Row.{Row}
 use Rattle.framehop.specs.RowAttempts.{attempt_by_row, dwarf_failure}
-use Rattle.framehop.specs.Coverage.{Coverage, Covered, Uncovered, NoFde, NoAddress, attempt_by, EvaluatesExpression}
+use Rattle.framehop.specs.Coverage.{Coverage, Covered, Uncovered, NoFde, NoAddress, attempt_by}
 use Rattle.framehop.specs.DwarfViews.{AnswersCoverage}
 
 module _ {Rule Registers : Type 0} where

@@ -1,4 +1,5 @@
 pub mod ArchMeanings
+pub mod ArchTables
 pub mod Attempts
 pub mod Coverage
 pub mod DwarfViews
@@ -13,7 +14,6 @@ pub mod RowCfas
 pub mod SameSteps
 pub mod SectionTypes
 pub mod StepMeanings
-pub mod TabulatedViews
 pub mod TableMethods
 pub mod TruthfulLookups
 pub mod UnwindData

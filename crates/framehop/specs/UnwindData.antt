@@ -2,7 +2,6 @@
 use Rattle.std.specs.Prelude.{ℕ, ◌-◌, ◌^◌, ◌&&◌, nat_le, nat_lt, if◌then◌else◌, List, Bool, Option, Some, None, option_and_then, option_map, Ok, Err}
 use Rattle.std.specs.declared.ops.Range.{Range}
 use Rattle.dwarf_frame_rows.specs.declared.base_addresses.BaseAddresses.{BaseAddresses}
-use Rattle.dwarf_frame_rows.specs.FrameSection.{FrameSection}
 use Rattle.framehop_modules.specs.Sections.{Sections}
 use Rattle.framehop_modules.specs.Chosen.{chosen_sections, base_svmas}
 use Rattle.framehop_modules.specs.declared.module_sections.BaseSvmas.{BaseSvmas}
@@ -113,13 +112,6 @@ indexed (CallFrames section lookup) = CallFrames section ByIndex
 indexed (Pe file) = Pe file
 indexed (Compact file eh_frame) = Compact file eh_frame
 indexed NoFormat = NoFormat
-
--- the section of call frames that a format has
-abbrev pub frame_section_of : ModuleFormat → Option (UnwindSectionType (List ℕ))
-frame_section_of (CallFrames section lookup) = Some section
-frame_section_of (Pe file) = None
-frame_section_of (Compact file eh_frame) = None
-frame_section_of NoFormat = None
 
 -- FDEs are found by a header in `.eh_frame` alone.
 abbrev pub HasHeaderOfEhFrame : ModuleFormat → Type 0

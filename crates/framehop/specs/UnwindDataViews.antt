@@ -12,6 +12,7 @@ use Rattle.framehop_pe_codes.specs.Sections.{PeFile, PeSection}
 use Rattle.framehop_pe.specs.Rows.{IsIncreasing}
 use Rattle.framehop_index.specs.CfiIndex.{IsMadeOf}
 use Rattle.framehop_index.specs.CfiIndexView.{IsIndexOf}
+use Rattle.framehop.specs.ArchTables.{IsArchTableOf}
 use Rattle.framehop.specs.DwarfViews.{frame_section_bytes}
 use Rattle.framehop_index.specs.EntryFor.{has_index}
 use Rattle.framehop.specs.SectionTypes.{section_of_type}
@@ -25,6 +26,8 @@ use Rattle.framehop.specs.declared.unwind_data.Lookup.{Lookup}
 use Rattle.framehop.specs.declared.unwind_data.Lookup.TheVariants as which
 use Rattle.framehop.specs.declared.unwind_data.ModuleFormat.{ModuleFormat}
 use Rattle.framehop.specs.declared.unwind_data.ModuleFormat.TheVariants as format
+use Rattle.framehop.specs.declared.unwind_data.TabulatedIndex.{TabulatedIndex}
+use Rattle.framehop.specs.declared.tabulation.ArchRuleTable.{ArchRuleTable}
 use Rattle.framehop.specs.declared.compact.CodeAt.{CodeAt}
 use Rattle.framehop.specs.declared.compact.CompactModule.{CompactModule}
 use Rattle.framehop.specs.declared.pe.PeModule.{PeModule}
@@ -35,6 +38,7 @@ use Rattle.framehop_errors.specs.declared.cfi_index.DwarfCfiIndexError.{DwarfCfi
 abbrev pub entries_view : {D : Type 0} → (D → List ℕ) → Entries D → said.Lookup
 entries_view content (by.Header header) = said.ByHeader (content header)
 entries_view content (by.Index index) = said.ByIndex
+entries_view content (by.Table tabulated) = said.ByIndex
 entries_view content by.Unindexed = said.ByIndex
 entries_view content by.Scan = said.ByScan
 
@@ -95,10 +99,16 @@ format_view content (format.Pe file) = data_.Pe (file_view content file)
 format_view content (format.Compact file) = data_.Compact (compact_view content file) (option_map content file.eh_frame)
 format_view content format.NoFormat = data_.NoFormat
 
+-- an index is that of the section, with starts relative to this base, and a table is one of what it says
+pub record IsTabulatedIndexOf (tabulated : TabulatedIndex) (base : ℕ) (section : FrameSection) : Type 0 where
+  pub index : IsIndexOf tabulated.index base section
+  pub table : IsArchTableOf tabulated.table base section
+
 -- an index is that of the section, with starts relative to this base; and a section that has one doesn't lack it
 abbrev pub AreFoundBy : {D : Type 0} → (base : ℕ) → FrameSection → Entries D → Type 0
 AreFoundBy base section (by.Header header) = Unit {0}
 AreFoundBy base section (by.Index index) = IsIndexOf index base section
+AreFoundBy base section (by.Table tabulated) = IsTabulatedIndexOf tabulated.value base section
 AreFoundBy base section by.Unindexed = has_index section ≡ false
 AreFoundBy base section by.Scan = Unit {0}
 
@@ -146,6 +156,10 @@ MakesEntries index result =
 -- The section and the lookup that unwind data lends: an index is that of the section.
 abbrev pub IsLentBy : data_.UnwindData → UnwindSectionType (Bor (List ℕ)) → Lookup → Type 0
 IsLentBy given section lookup = LeadsInto given.base_svma (section_of_type given.bases (frame_section_bytes (λ b. b.now) section)) lookup
+
+-- The section and the table that unwind data lends: the table is that of the section.
+abbrev pub IsTabulatedFor : data_.UnwindData → UnwindSectionType (Bor (List ℕ)) → ArchRuleTable → Type 0
+IsTabulatedFor given section table = IsArchTableOf table given.base_svma (section_of_type given.bases (frame_section_bytes (λ b. b.now) section))
 
 -- the format isn't that of a PE file
 abbrev pub IsNotPe : data_.ModuleFormat → Type 0

@@ -8,7 +8,6 @@ ghost use Rattle.framehop_unwinder.specs.CacheViews.{rules_of};
 ghost use Rattle.framehop.specs.Performances.{PerformsAarch64};
 
 use crate::arch::BySections;
-use crate::by_tables::ByTables;
 use crate::cache::{AllocationPolicy, MayAllocateDuringUnwind};
 use crate::context::DwarfUnwindContext;
 use crate::histories::{self, Answer, Command};
@@ -25,12 +24,6 @@ use std::collections::VecDeque;
 /// `D`; `P` says whether a step may allocate.
 pub type UnwinderAarch64<D, P = MayAllocateDuringUnwind> = UnwinderInternal<
     BySections<ArchAarch64, D, P>,
->;
-
-/// The unwinder of a process on aarch64, in which modules may have tables of rules, as
-/// [`load_module_tabulated`](crate::load_module_tabulated) makes them. Its caches are those of [`UnwinderAarch64`].
-pub type TabulatedUnwinderAarch64<D, P = MayAllocateDuringUnwind> = UnwinderInternal<
-    ByTables<ArchAarch64, D, P>,
 >;
 
 /// What steps on aarch64 keep and reuse: a cache of unwind rules, and storage that steps evaluate rows in.

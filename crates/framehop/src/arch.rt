@@ -6,10 +6,11 @@ ghost use Rattle.framehop.specs.StepMeanings.{meanings_by};
 ghost use Rattle.framehop.specs.TableMethods.{table_methods};
 
 use crate::cache::AllocationPolicy;
-use crate::call_frames::{failure_of, unwind_frame_by_call_frames};
+use crate::call_frames::{failure_of, unwind_frame_by_call_frames, unwind_frame_by_covered};
 use crate::compact::unwind_frame_by_compact;
 use crate::context::DwarfUnwindContext;
 use crate::pe::unwind_frame_by_pe;
+use crate::tabulation::Tabulating;
 use crate::unwind_data::ModuleUnwindData;
 use framehop_analysis::InstructionAnalysis;
 use framehop_compact::CompactUnwindInfoUnwinding;
@@ -27,7 +28,8 @@ use std::marker::PhantomData;
 pub trait Unwinding: DwarfUnwinding
     + InstructionAnalysis
     + CompactUnwindInfoUnwinding
-    + PeUnwinding {}
+    + PeUnwinding
+    + Tabulating {}
 
 impl Unwinding for ArchX86_64 {}
 
@@ -93,6 +95,21 @@ impl<A: Unwinding, D: SectionBytes + Drop, P: AllocationPolicy> ModuleUnwinding
                 unwind_context,
                 read_stack,
             );
+        }
+        if let Some((section, table)) = unwind_data.table() {
+            if let Some(covered) = A::look_up(table, relative_address) {
+                return unwind_frame_by_covered::<A, P, F>(
+                    covered,
+                    section,
+                    unwind_data.bases(),
+                    unwind_data.base_svma(),
+                    regs,
+                    is_first_frame,
+                    relative_address,
+                    unwind_context,
+                    read_stack,
+                );
+            }
         }
         let Some((section, lookup)) = unwind_data.call_frames() else {
             return Err(failure_of(UnwinderError::NoModuleUnwindData));

@@ -4,7 +4,7 @@ ghost use Rattle.std.specs.Prelude.{◌≡◌, Bool, false, true, Some};
 ghost use Rattle.dwarf_frame_rows.specs.Effects.{TakesNoMemory, limits_of};
 ghost use Rattle.framehop_rows.specs.Memory.{takes_memory};
 ghost use Rattle.framehop.specs.Attempts.{StepLimits, step_limits};
-ghost use Rattle.framehop.specs.StepMeanings.{limits_may_allocate, limits_must_not_allocate};
+ghost use Rattle.framehop.specs.StepMeanings.{limits_may_allocate, limits_must_not_allocate, row_limits};
 
 use arrayvec::ArrayVec;
 use dwarf_expressions::EvaluationStorage;
@@ -35,6 +35,9 @@ pub trait AllocationPolicy {
 
     ghost taken: { may_allocate ≡ takes_memory Self.GimliEvaluationStorage.Stack.is_made_in_place
         Self.GimliEvaluationStorage.Stack.capacity };
+
+    /// Rows have the same limits under each policy, so that a table of rules serves them all.
+    ghost rows_limited: { limits.rows ≡ row_limits };
 }
 
 /// A step allocates the values of expressions alone. There is room for any number of them, for 4 rows, and
@@ -59,6 +62,8 @@ impl AllocationPolicy for MayAllocateDuringUnwind {
     ghost limited = { refl };
 
     ghost taken = { refl };
+
+    ghost rows_limited = { refl };
 }
 
 /// A step never allocates. There is room for 64 values of an expression, for 4 rows, and for 192 rules of a
@@ -83,6 +88,8 @@ impl AllocationPolicy for MustNotAllocateDuringUnwind {
     ghost limited = { refl };
 
     ghost taken = { refl };
+
+    ghost rows_limited = { refl };
 }
 
 // How many rules a row holds.

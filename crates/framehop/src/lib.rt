@@ -6,7 +6,6 @@
 
 pub mod aarch64;
 mod arch;
-mod by_tables;
 mod cache;
 mod call_frames;
 mod compact;
@@ -19,14 +18,12 @@ mod pe;
 mod relative;
 pub mod row_laws;
 pub mod rule_laws;
-mod tabulated_data;
 mod tabulation;
 mod unwind_data;
 pub mod walk_laws;
 pub mod x86_64;
 
 pub use arch::{BySections, Unwinding};
-pub use by_tables::ByTables;
 pub use cache::{
     AllocationPolicy, MayAllocateDuringUnwind, MustNotAllocateDuringUnwind, StoreOnStack,
     StoreRowsOnHeap, policies_set_limits,
@@ -63,6 +60,6 @@ pub use framehop_unwinder::{
     AddUnwinderError, Cache, ModuleUnwinding, Session, StackWalk, UnwindFailure, UnwindIterator,
     Unwinder, UnwinderInternal, laws,
 };
-pub use module::{Module, TabulatedModule, load_module, load_module_tabulated};
-pub use tabulated_data::TabulatedUnwindData;
+pub use module::{Module, load_module, load_module_tabulated};
+pub use tabulation::{ArchRuleTable, Tabulating};
 pub use unwind_data::ModuleUnwindData;

@@ -4,12 +4,9 @@ ghost use Rattle.std.specs.Prelude.{◌≡◌, IfOk};
 ghost use Rattle.std.specs.String.{string_bytes};
 ghost use Rattle.framehop.specs.UnwindData.{indexed_data_of, unwind_data_of};
 
-use crate::cache::AllocationPolicy;
-use crate::tabulated_data::TabulatedUnwindData;
+use crate::tabulation::Tabulating;
 use crate::unwind_data::ModuleUnwindData;
 use framehop_modules::{ModuleSectionInfo, SectionBytes};
-use framehop_rows::RowRules;
-use framehop_tables::SameRule;
 use std::alloc::{AllocError, Global};
 use std::ops::Range;
 
@@ -38,25 +35,16 @@ pub fn load_module<D: SectionBytes + Drop, I: ModuleSectionInfo<D>>(
     Module::new(alloc, name, avma_range, base_avma, unwind_data)
 }
 
-/// A module that is unwound by its sections, with a table of the rules that its call frames say or without.
-pub type TabulatedModule<A, D, P> = framehop_unwinder::Module<TabulatedUnwindData<A, D, P>>;
-
-/// As [`load_module`], with a table of the rules that its call frames say. An `.eh_frame_hdr` isn't used: steps are those of a
-/// module by an index. Fails if it fails to allocate.
-pub fn load_module_tabulated<
-    A: RowRules,
-    D: SectionBytes + Drop,
-    P: AllocationPolicy,
-    I: ModuleSectionInfo<D>,
->(
+/// As [`load_module`], with a table of the rules that its call frames say on the architecture `A`: there a step by a rule parses
+/// nothing, and on another one steps are by an index. An `.eh_frame_hdr` isn't used: steps are those of a module by an index. Fails
+/// if it fails to allocate.
+pub fn load_module_tabulated<A: Tabulating, D: SectionBytes + Drop, I: ModuleSectionInfo<D>>(
     alloc: Global,
     name: String,
     avma_range: Range<u64>,
     base_avma: u64,
     info: &mut I,
-) -> Result<TabulatedModule<A, D, P>, AllocError>
-where
-    A::UnwindRule: SameRule,
+) -> Result<Module<D>, AllocError>
     ensures name { IfOk result (λ module_. module_.name ≡ string_bytes name) }
     ensures start { IfOk result (λ module_. module_.start ≡ avma_range.start) }
     ensures end { IfOk result (λ module_. module_.end ≡ avma_range.end) }
@@ -64,6 +52,6 @@ where
     ensures unwind_data { IfOk result (λ module_.
         module_.unwind_data ≡ indexed_data_of (I.sections info.old)) }
 {
-    let unwind_data = TabulatedUnwindData::new(alloc, info)?;
-    TabulatedModule::new(alloc, name, avma_range, base_avma, unwind_data)
+    let unwind_data = ModuleUnwindData::tabulated::<A, I>(alloc, info)?;
+    Module::new(alloc, name, avma_range, base_avma, unwind_data)
 }

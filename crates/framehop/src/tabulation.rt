@@ -1,109 +1,131 @@
-//! The table of the rules that a module's call frames say.
+//! Tables of the rules that a module's call frames say.
 
-ghost use Rattle.std.specs.Prelude.{◌≡◌, IfOk};
-ghost use Rattle.framehop_index.specs.CfiIndex.{IsMadeOf};
-ghost use Rattle.framehop_tables.specs.Covered.{tabulated};
+ghost use Rattle.std.specs.Prelude.{◌≡◌, IfOk, IfSome};
+ghost use Rattle.framehop_index.specs.CfiIndexView.{IsIndexOf};
+ghost use Rattle.framehop_tables.specs.Covered.{SaysValid, tabulated};
 ghost use Rattle.framehop_tables.specs.RuleTables.{IsTableOf};
+ghost use Rattle.framehop.specs.ArchTables.{IsArchTableOf, SaysAsIndexOn};
 ghost use Rattle.framehop.specs.DwarfViews.{frame_section_lent};
-ghost use Rattle.framehop.specs.TabulatedViews.{IsTabulatedBy, KeepsTable, tabulated_view};
-ghost use Rattle.framehop.specs.UnwindData.{by_index};
+ghost use Rattle.framehop.specs.StepMeanings.{row_limits};
 
-use crate::cache::AllocationPolicy;
+use crate::cache::{AllocationPolicy, MayAllocateDuringUnwind};
 use crate::context::DwarfUnwindContext;
 use crate::dwarf::UnwindSectionType;
-use crate::unwind_data::ModuleUnwindData;
 use dwarf_frame_entries::{BaseAddresses, DebugFrame, EhFrame};
 use dwarf_read_core::{EndianSlice, LittleEndian};
-use framehop_errors::DwarfCfiIndexError;
-use framehop_modules::SectionBytes;
+use framehop_index::DwarfCfiIndex;
 use framehop_rows::RowRules;
 use framehop_rules::Arch;
-use framehop_tables::{RuleTable, SameRule};
+use framehop_rules::aarch64::{ArchAarch64, UnwindRuleAarch64};
+use framehop_rules::x86_64::{ArchX86_64, UnwindRuleX86_64};
+use framehop_tables::{Covered, RuleTable, SameRule};
 use std::alloc::{AllocError, Global};
 
-// What is kept beside the unwind data of a module.
+/// The table of a section of call frames, on the architecture that it was made for.
 #[derive(Drop)]
-pub(crate) enum Tabulation<A: Arch>
-where
-    A::UnwindRule: SameRule,
-{
-    // Nothing: the data say all.
-    Untabulated,
-    // What the index of its section of call frames says of each address.
-    Table(RuleTable<A>),
-    // That its section of call frames has no index.
-    Unindexed,
+pub enum ArchRuleTable {
+    /// On x86_64.
+    X86_64(RuleTable<ArchX86_64>),
+    /// On aarch64.
+    Aarch64(RuleTable<ArchAarch64>),
 }
 
-// The table of a section of call frames, in which rows have the room that steps under the policy have.
-fn table_of<A: RowRules, P: AllocationPolicy>(
+// The table of a section of call frames, in which rows have the room that steps under every policy have.
+fn table_of<A: RowRules>(
     alloc: Global,
     section: UnwindSectionType<&[u8]>,
     bases: &BaseAddresses,
     base_svma: u64,
-) -> Result<RuleTable<A>, DwarfCfiIndexError>
+    index: &DwarfCfiIndex,
+) -> Result<RuleTable<A>, AllocError>
 where
     A::UnwindRule: SameRule,
-    ensures { let t = tabulated A.rows A.rule_of P.limits.rows A.rows.vendor in
-        IsMadeOf result (IsTableOf t) base_svma (frame_section_lent bases.entry section.entry) }
+    requires index { IsIndexOf index.now base_svma (frame_section_lent bases section) }
+    ensures { let t = tabulated A.rows A.rule_of row_limits A.rows.vendor in
+        IfOk result (λ table. IsTableOf t table base_svma (frame_section_lent bases.entry section.entry)) }
 {
-    let mut context = DwarfUnwindContext::<P>::new(alloc)?;
+    let mut context = DwarfUnwindContext::<MayAllocateDuringUnwind>::new(alloc)?;
     match section {
         UnwindSectionType::EhFrame(bytes) => {
             let mut section = EhFrame::new(bytes, LittleEndian);
             section.set_vendor(A::vendor());
-            RuleTable::try_new::<EndianSlice<'_, LittleEndian>, _, P::GimliUnwindContextStorage>(
-                alloc,
-                &section,
-                bases,
-                base_svma,
-                &mut *context.rows,
-            )
+            RuleTable::by_index::<
+                EndianSlice<'_, LittleEndian>,
+                _,
+                <MayAllocateDuringUnwind as AllocationPolicy>::GimliUnwindContextStorage,
+            >(alloc, &section, bases, base_svma, &mut *context.rows, index)
         }
         UnwindSectionType::DebugFrame(bytes) => {
             let mut section = DebugFrame::new(bytes, LittleEndian);
             section.set_vendor(A::vendor());
-            RuleTable::try_new::<EndianSlice<'_, LittleEndian>, _, P::GimliUnwindContextStorage>(
-                alloc,
-                &section,
-                bases,
-                base_svma,
-                &mut *context.rows,
-            )
+            RuleTable::by_index::<
+                EndianSlice<'_, LittleEndian>,
+                _,
+                <MayAllocateDuringUnwind as AllocationPolicy>::GimliUnwindContextStorage,
+            >(alloc, &section, bases, base_svma, &mut *context.rows, index)
         }
     }
 }
 
-// What is kept of the table of a section. Fails if the table failed to allocate.
-fn kept_of<A: Arch>(
-    table: Result<RuleTable<A>, DwarfCfiIndexError>,
-) -> Result<Tabulation<A>, AllocError>
-where
-    A::UnwindRule: SameRule,
-    ensures { KeepsTable table result }
-{
-    match table {
-        Ok(table) => Ok(Tabulation::Table(table)),
-        Err(error) => match error {
-            DwarfCfiIndexError::OutOfMemory => Err(AllocError),
-            _ => Ok(Tabulation::Unindexed),
-        },
+/// An architecture that tables of rules are made for.
+pub trait Tabulating: RowRules {
+    /// The table of a section of call frames, by an index of the section, which has the same base. The section's pointers are
+    /// relative to `bases`. Fails if it fails to allocate.
+    fn tabulate(
+        alloc: Global,
+        section: UnwindSectionType<&[u8]>,
+        bases: &BaseAddresses,
+        base_svma: u64,
+        index: &DwarfCfiIndex,
+    ) -> Result<ArchRuleTable, AllocError>
+        requires { IsIndexOf index.now base_svma (frame_section_lent bases section) }
+        ensures { IfOk result (λ table.
+            IsArchTableOf table base_svma (frame_section_lent bases.entry section.entry)) };
+
+    /// What a table says of a relative address, if it is a table on this architecture: a rule can be executed.
+    fn look_up(table: &ArchRuleTable, relative_address: u32) -> Option<Covered<Self::UnwindRule>>
+        ensures covered { IfSome result (SaysAsIndexOn Self.rows Self.rule_of table.now relative_address) }
+        ensures valid { IfSome result (SaysValid Self.UnwindRule.is_valid) };
+}
+
+impl Tabulating for ArchX86_64 {
+    fn tabulate(
+        alloc: Global,
+        section: UnwindSectionType<&[u8]>,
+        bases: &BaseAddresses,
+        base_svma: u64,
+        index: &DwarfCfiIndex,
+    ) -> Result<ArchRuleTable, AllocError> {
+        let table = table_of::<ArchX86_64>(alloc, section, bases, base_svma, index)?;
+        Ok(ArchRuleTable::X86_64(table))
+    }
+
+    #[inline(always)]
+    fn look_up(table: &ArchRuleTable, relative_address: u32) -> Option<Covered<UnwindRuleX86_64>> {
+        match table {
+            ArchRuleTable::X86_64(table) => Some(table.look_up(relative_address).covered),
+            ArchRuleTable::Aarch64(_) => None,
+        }
     }
 }
 
-// What is kept beside unwind data: the table of their section of call frames, if they have one.
-pub(crate) fn tabulation_of<A: RowRules, D: SectionBytes, P: AllocationPolicy>(
-    alloc: Global,
-    unwind_data: &ModuleUnwindData<D>,
-) -> Result<Tabulation<A>, AllocError>
-where
-    A::UnwindRule: SameRule,
-    ensures kept { let t = tabulated A.rows A.rule_of P.limits.rows A.rows.vendor in
-        IfOk result (λ kept. IsTabulatedBy t kept unwind_data.now) }
-    ensures view { IfOk result (λ kept. tabulated_view kept unwind_data.now ≡ by_index unwind_data.now) }
-{
-    let Some(section) = unwind_data.frame_section() else {
-        return Ok(Tabulation::Untabulated);
-    };
-    kept_of(table_of::<A, P>(alloc, section, unwind_data.bases(), unwind_data.base_svma()))
+impl Tabulating for ArchAarch64 {
+    fn tabulate(
+        alloc: Global,
+        section: UnwindSectionType<&[u8]>,
+        bases: &BaseAddresses,
+        base_svma: u64,
+        index: &DwarfCfiIndex,
+    ) -> Result<ArchRuleTable, AllocError> {
+        let table = table_of::<ArchAarch64>(alloc, section, bases, base_svma, index)?;
+        Ok(ArchRuleTable::Aarch64(table))
+    }
+
+    #[inline(always)]
+    fn look_up(table: &ArchRuleTable, relative_address: u32) -> Option<Covered<UnwindRuleAarch64>> {
+        match table {
+            ArchRuleTable::X86_64(_) => None,
+            ArchRuleTable::Aarch64(table) => Some(table.look_up(relative_address).covered),
+        }
+    }
 }

@@ -2,21 +2,29 @@
 
 ghost use Rattle.std.specs.Prelude.{◌≡◌, ℕ, List, IfOk, IfSome, IfNone, option_map};
 ghost use Rattle.framehop_modules.specs.ChosenViews.{sections_bytes};
-ghost use Rattle.framehop.specs.DwarfViews.{frame_section_bytes};
+ghost use Rattle.framehop.specs.DwarfViews.{frame_section_bytes, frame_section_lent};
 ghost use Rattle.dwarf_frame_rows.specs.declared.base_addresses.BaseAddresses.{BaseAddresses};
 ghost use Rattle.framehop.specs.LookupMethods.{ByIndex};
-ghost use Rattle.framehop.specs.UnwindData.{CallFrames, Compact, Pe, bases_of, format_of, frame_section_of, scanned, scanned_data_of, unwind_data_of};
-ghost use Rattle.framehop.specs.UnwindDataViews.{IncreasesAsSaid, IsIndexedBy, IsLentBy, IsNotCompact, IsNotPe, IsUnused, LendsLookup, MakesEntries, TablesIncrease, compact_view, entries_view, file_view, format_view, lookup_view};
+ghost use Rattle.framehop.specs.UnwindData.{CallFrames, Compact, Pe, bases_of, format_of, indexed, indexed_data_of, scanned, scanned_data_of, unwind_data_of};
+ghost use Rattle.framehop.specs.UnwindDataViews.{AreFoundBy, IncreasesAsSaid, IsIndexedBy, IsLentBy, IsNotCompact, IsNotPe, IsTabulatedFor, IsUnused, LendsLookup, MakesEntries, TablesIncrease, compact_view, entries_view, file_view, format_view, lookup_view};
 
 use crate::compact::CompactModule;
 use crate::dwarf::UnwindSectionType;
 use crate::pe::PeModule;
+use crate::tabulation::{ArchRuleTable, Tabulating};
 use dwarf_frame_entries::BaseAddresses;
 use framehop_errors::DwarfCfiIndexError;
 use framehop_index::DwarfCfiIndex;
 use framehop_modules::{BaseSvmas, ModuleSectionInfo, ModuleSections, SectionBytes};
 use std::alloc::{AllocError, Global};
 use std::marker::Model;
+
+// An index of a section, with the table of what it says on one architecture.
+#[derive(Drop)]
+struct TabulatedIndex {
+    index: DwarfCfiIndex,
+    table: ArchRuleTable,
+}
 
 // How the FDEs of a section are found.
 #[derive(Drop)]
@@ -25,6 +33,8 @@ enum Entries<D> {
     Header(D),
     // By an index of the section.
     Index(DwarfCfiIndex),
+    // By an index of the section, or a table of what it says on one architecture.
+    Table(Box<TabulatedIndex>),
     // By an index, which the section doesn't have.
     Unindexed,
     // By reading the section from its first entry on.
@@ -164,6 +174,64 @@ fn format_with<D: SectionBytes + Drop>(
     }
 }
 
+// The sections without a header of `.eh_frame`.
+fn without_header<D: SectionBytes + Drop>(sections: ModuleSections<D>) -> ModuleSections<D>
+    ensures { (base : ℕ) → format_of base (sections_bytes D.content result)
+        ≡ indexed (format_of base (sections_bytes D.content sections)) }
+{
+    match sections {
+        ModuleSections::EhFrame { eh_frame, .. } => ModuleSections::EhFrame {
+            eh_frame,
+            eh_frame_hdr: None,
+        },
+        others => others,
+    }
+}
+
+// How the FDEs of a section are found, with a table on the architecture beside the index, if there is one. Fails if it fails to
+// allocate the table.
+fn with_table<A: Tabulating, D>(
+    alloc: Global,
+    entries: Entries<D>,
+    section: UnwindSectionType<&[u8]>,
+    bases: &BaseAddresses,
+    base_svma: u64,
+) -> Result<Entries<D>, AllocError>
+    requires { AreFoundBy base_svma (frame_section_lent bases section) entries }
+    ensures view { (content : D → List ℕ)
+        → IfOk result (λ found. entries_view content found ≡ entries_view content entries) }
+    ensures found { IfOk result (AreFoundBy base_svma (frame_section_lent bases.entry section.entry)) }
+{
+    match entries {
+        Entries::Index(index) => {
+            let table = A::tabulate(alloc, section, bases, base_svma, &index)?;
+            Ok(Entries::Table(Box::new(alloc, TabulatedIndex { index, table })?))
+        }
+        other => Ok(other),
+    }
+}
+
+// A format with a table on the architecture beside its index, if it has one. Fails if it fails to allocate the table.
+fn tabulated_format<A: Tabulating, D: SectionBytes + Drop>(
+    alloc: Global,
+    format: ModuleFormat<D>,
+    bases: &BaseAddresses,
+    base_svma: u64,
+) -> Result<ModuleFormat<D>, AllocError>
+    requires { IsIndexedBy D.content bases.now base_svma format }
+    ensures view { IfOk result (λ made. format_view D.content made ≡ format_view D.content format) }
+    ensures indexed { IfOk result (IsIndexedBy D.content bases.now base_svma) }
+{
+    match format {
+        ModuleFormat::CallFrames(section, entries) => {
+            let bytes = bytes_of(&section);
+            let entries = with_table::<A, D>(alloc, entries, bytes, bases, base_svma)?;
+            Ok(ModuleFormat::CallFrames(section, entries))
+        }
+        other => Ok(other),
+    }
+}
+
 // The format of a module with these sections, if its section of call frames is read at each step.
 fn scanned_format<D: SectionBytes + Drop>(
     sections: ModuleSections<D>,
@@ -223,6 +291,26 @@ impl<D: SectionBytes + Drop> ModuleUnwindData<D> {
         })
     }
 
+    /// As `new`, but FDEs are always found by an index, also if there is a header, with a table of what it says on the
+    /// architecture `A`: there a step by a rule parses nothing. Fails if it fails to allocate the index or the table.
+    pub fn tabulated<A: Tabulating, I: ModuleSectionInfo<D>>(
+        alloc: Global,
+        info: &mut I,
+    ) -> Result<Self, AllocError>
+        ensures { IfOk result (λ given. given ≡ indexed_data_of (I.sections info.old)) }
+    {
+        let bases = base_addresses(&BaseSvmas::of(info));
+        let base_svma = info.base_svma();
+        let sections = without_header(ModuleSections::choose(info));
+        let format = format_with(alloc, sections, &bases, base_svma)?;
+        let format = tabulated_format::<A, D>(alloc, format, &bases, base_svma)?;
+        Ok(ModuleUnwindData {
+            format,
+            bases,
+            base_svma,
+        })
+    }
+
     /// As `new`, but with neither index nor header: each step reads the call frame information from its
     /// first entry to the first FDE that contains the address.
     pub fn scanning<I: ModuleSectionInfo<D>>(info: &mut I) -> Self
@@ -258,6 +346,7 @@ fn lookup_by<D: SectionBytes>(entries: &Entries<D>) -> Option<Lookup<'_>>
     match entries {
         Entries::Header(header) => Some(Lookup::Header(header.bytes())),
         Entries::Index(index) => Some(Lookup::Index(index)),
+        Entries::Table(tabulated) => Some(Lookup::Index(&tabulated.index)),
         Entries::Scan => Some(Lookup::Scan),
         Entries::Unindexed => None,
     }
@@ -304,13 +393,18 @@ impl<D: SectionBytes> ModuleUnwindData<D> {
         }
     }
 
-    // The section of call frames that the module is unwound by.
-    pub(crate) fn frame_section(&self) -> Option<UnwindSectionType<&[u8]>>
-        ensures { option_map (frame_section_bytes (λ b. b.now)) result ≡ frame_section_of self.now.format }
+    // The section of call frames that the module is unwound by, with its table, if it has one.
+    pub(crate) fn table(&self) -> Option<(UnwindSectionType<&[u8]>, &ArchRuleTable)>
+        ensures format { IfSome result (λ found. self.now.format
+            ≡ CallFrames (frame_section_bytes (λ b. b.now) found.0) ByIndex) }
+        ensures table { IfSome result (λ found. IsTabulatedFor self.now found.0 found.1.now) }
     {
         match &self.format {
-            ModuleFormat::CallFrames(section, _) => Some(bytes_of(section)),
-            ModuleFormat::Pe(_) | ModuleFormat::Compact(_) | ModuleFormat::NoFormat => None,
+            ModuleFormat::CallFrames(section, Entries::Table(tabulated)) => Some((
+                bytes_of(section),
+                &tabulated.table,
+            )),
+            _ => None,
         }
     }
 

@@ -8,7 +8,6 @@ ghost use Rattle.framehop_unwinder.specs.CacheViews.{rules_of};
 ghost use Rattle.framehop.specs.Performances.{PerformsX86_64};
 
 use crate::arch::BySections;
-use crate::by_tables::ByTables;
 use crate::cache::{AllocationPolicy, MayAllocateDuringUnwind};
 use crate::context::DwarfUnwindContext;
 use crate::histories::{self, Answer, Command};
@@ -27,12 +26,6 @@ use std::collections::VecDeque;
 /// `D`; `P` says whether a step may allocate.
 pub type UnwinderX86_64<D, P = MayAllocateDuringUnwind> = UnwinderInternal<
     BySections<ArchX86_64, D, P>,
->;
-
-/// The unwinder of a process on x86_64, in which modules may have tables of rules, as
-/// [`load_module_tabulated`](crate::load_module_tabulated) makes them. Its caches are those of [`UnwinderX86_64`].
-pub type TabulatedUnwinderX86_64<D, P = MayAllocateDuringUnwind> = UnwinderInternal<
-    ByTables<ArchX86_64, D, P>,
 >;
 
 /// What steps on x86_64 keep and reuse: a cache of unwind rules, and storage that steps evaluate rows in.

@@ -2,9 +2,9 @@ use Rattle.std.proofs.Common.{◌^◌, false, ap, sym, ◌∙◌}
 use Rattle.dwarf_readers.specs.EndianSlice.{stretch_of}
 use Rattle.dwarf_frame_rows.specs.FrameSection.{FrameSection, frame_section}
 use Rattle.dwarf_frame_sections.specs.Sections.{FrameData, eh_frame, debug_frame}
-use Rattle.framehop.specs.Attempts.{StepLimits}
 use Rattle.framehop.specs.DwarfViews.{frame_section_bytes}
 use Rattle.framehop.specs.SectionTypes.{section_of_type}
+use Rattle.framehop.specs.StepMeanings.{row_limits}
 use Rattle.framehop.proofs.SectionsMade.{section-made}
 use Rattle.framehop.proofs.Tabulations.{made-as}
 use Rattle.framehop.proofs.tabulation.table_of.Goals as goal
@@ -18,8 +18,7 @@ returns-in-EhFrame g c =
     let set = ap frame c.set_vendor.ensures ∙ section-made (stretch_of (λ e. false)) eh_frame made bytes bases c.new-section.ensures.section c.new-section.ensures.others
     ∙ sym (ap (λ t. section_of_type bases (frame_section_bytes (λ b. b.now) t)) c.in-EhFrame.is) in
     let vendor = ap (λ d. d.vendor) c.set_vendor.ensures ∙ c.vendor.ensures in
-    let limits = sym (ap (λ (l : StepLimits). l.rows) g.met.P.AllocationPolicy.limited) in
-    made-as g.A.DwarfUnwinding.rows g.A.RowRules.rule_of _ _ _ _ _ c.args.base_svma _ _ limits vendor set c.try_new.ensures
+    made-as g.A.DwarfUnwinding.rows g.A.RowRules.rule_of _ row_limits _ _ c.args.base_svma _ _ vendor set c.by_index.ensures
 
 pub returns : goal.returns
 returns g c =
@@ -30,5 +29,4 @@ returns g c =
     let set = ap frame c.set_vendor-in-DebugFrame.ensures ∙ section-made (stretch_of (λ e. false)) debug_frame made bytes bases c.new-section-in-DebugFrame.ensures.section c.new-section-in-DebugFrame.ensures.others
     ∙ sym (ap (λ t. section_of_type bases (frame_section_bytes (λ b. b.now) t)) c.in-DebugFrame.is) in
     let vendor = ap (λ d. d.vendor) c.set_vendor-in-DebugFrame.ensures ∙ c.vendor-in-DebugFrame.ensures in
-    let limits = sym (ap (λ (l : StepLimits). l.rows) g.met.P.AllocationPolicy.limited) in
-    made-as g.A.DwarfUnwinding.rows g.A.RowRules.rule_of _ _ _ _ _ c.args.base_svma _ _ limits vendor set c.try_new-in-DebugFrame.ensures
+    made-as g.A.DwarfUnwinding.rows g.A.RowRules.rule_of _ row_limits _ _ c.args.base_svma _ _ vendor set c.by_index-in-DebugFrame.ensures

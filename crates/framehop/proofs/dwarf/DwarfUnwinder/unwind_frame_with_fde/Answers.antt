@@ -1,4 +1,4 @@
-use Rattle.std.proofs.Common.{◌≡◌, ◌^◌, false, ap, sym, ◌∙◌}
+use Rattle.std.proofs.Common.{◌^◌, false, ap, sym, ◌∙◌}
 use Rattle.dwarf_readers.specs.EndianSlice.{stretch_of}
 use Rattle.dwarf_frame_rows.specs.FrameSection.{FrameSection, frame_section}
 use Rattle.dwarf_frame_sections.specs.Sections.{FrameData, eh_frame, debug_frame}

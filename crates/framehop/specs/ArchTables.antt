@@ -1,0 +1,31 @@
+-- Tables of the rules that a module's call frames say, as contracts see them.
+use Rattle.std.specs.Prelude.{◌≡◌, ℕ, Option}
+use Rattle.dwarf_frame_rows.specs.FrameSection.{FrameSection}
+use Rattle.dwarf_frame_rows.specs.Row.{Row}
+use Rattle.framehop_rows.specs.RowAttemptAarch64 as aarch64_rows
+use Rattle.framehop_rows.specs.RowAttemptX86_64 as x86_64_rows
+use Rattle.framehop_rows.specs.RowMeanings.{RowMeanings}
+use Rattle.framehop_rows.specs.RowParts.{parts_of}
+use Rattle.framehop_rows.specs.ScaledRow as x86_64
+use Rattle.framehop_rows.specs.ScaledRowAarch64 as aarch64
+use Rattle.framehop_tables.specs.Covered.{covered_at, tabulated}
+use Rattle.framehop_tables.specs.RuleTables.{IsTableOf}
+use Rattle.framehop_tables.specs.declared.covered.Covered.{Covered}
+use Rattle.framehop.specs.StepMeanings.{row_limits}
+use Rattle.framehop.specs.declared.tabulation.ArchRuleTable.{ArchRuleTable}
+use Rattle.framehop.specs.declared.tabulation.ArchRuleTable.TheVariants.{X86_64, Aarch64}
+
+-- The table says of each relative address what the index of this section says on the table's architecture, with the room for rows that
+-- policies set.
+abbrev pub IsArchTableOf : ArchRuleTable → (base : ℕ) → FrameSection → Type 0
+IsArchTableOf (X86_64 table) base section =
+    IsTableOf (tabulated x86_64_rows.rows (λ row. x86_64.scaled_rule (parts_of x86_64.RBP x86_64.RA row)) row_limits x86_64_rows.rows.vendor) table base section
+IsArchTableOf (Aarch64 table) base section =
+    IsTableOf (tabulated aarch64_rows.rows (λ row. aarch64.scaled_rule (parts_of aarch64.X29 aarch64.X30 row)) row_limits aarch64_rows.rows.vendor) table base section
+
+-- What a look-up of a relative address gave is what the index of the table's section says on an architecture.
+abbrev pub SaysAsIndexOn : {Rule Registers : Type 0} → RowMeanings Rule Registers → (Row ℕ → Option Rule) → ArchRuleTable → (relative : ℕ)
+    → Covered Rule → Type 0
+SaysAsIndexOn m rule_of table relative covered =
+    (base : ℕ) (section : FrameSection) → IsArchTableOf table base section
+    → covered ≡ covered_at (tabulated m rule_of row_limits m.vendor base section) relative
