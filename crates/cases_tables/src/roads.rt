@@ -1,0 +1,231 @@
+//! The modules that steps are compared in, and the steps.
+
+use crate::arch::ComparedArch;
+use crate::case::Case;
+use crate::frames::{BASE, Frame, word_at};
+use anyhow::{Result, bail};
+use framehop::{
+    Arch, BySections, Cache, DwarfUnwindContext, Error, ExplicitModuleSectionInfo, Generations,
+    MayAllocateDuringUnwind, Module, ModuleUnwindData, Unwinder, UnwinderInternal, load_module,
+    load_module_tabulated,
+};
+use std::alloc::Global;
+
+/// An unwinder of an architecture.
+type Compared<A> = UnwinderInternal<BySections<A, Vec<u8>, MayAllocateDuringUnwind>>;
+
+/// What its steps keep and reuse.
+type ComparedCache<A> = Cache<<A as Arch>::UnwindRule, DwarfUnwindContext<MayAllocateDuringUnwind>>;
+
+/// What a step gives: the return address or why there is none, and the registers that it leaves.
+type Stepped = (std::result::Result<Option<u64>, Error>, (u64, u64, u64));
+
+/// An unwinder for each way to find the FDE of an address.
+#[derive(Drop)]
+struct Roads<A: ComparedArch> {
+    table: Compared<A>,
+    index: Compared<A>,
+    header: Compared<A>,
+    scan: Compared<A>,
+}
+
+// The sections of a case, with the header or without.
+fn sections_of(
+    alloc: Global,
+    case: &Case,
+    with_header: bool,
+) -> Result<ExplicitModuleSectionInfo<Vec<u8>>> {
+    let mut sections = ExplicitModuleSectionInfo {
+        base_svma: case.base,
+        text_svma: Some(case.text..case.text),
+        ..Default::default()
+    };
+    let bytes = case.section.as_slice().to_vec(alloc)?;
+    if case.is_debug_frame {
+        sections.debug_frame = Some(bytes);
+    } else {
+        sections.eh_frame = Some(bytes);
+        sections.eh_frame_svma = Some(case.section_start..case.section_start);
+    }
+    if with_header {
+        sections.eh_frame_hdr = Some(case.header.as_slice().to_vec(alloc)?);
+        sections.eh_frame_hdr_svma = Some(case.header_start..case.header_start);
+    }
+    Ok(sections)
+}
+
+// An unwinder of one module.
+fn unwinder_of<A: ComparedArch>(
+    alloc: Global,
+    generations: &mut Generations,
+    module: Module<Vec<u8>>,
+) -> Result<Compared<A>> {
+    let mut unwinder = UnwinderInternal::new(alloc, generations)?;
+    if unwinder.add_module(generations, module).is_err() {
+        bail!("the module was not loaded");
+    }
+    Ok(unwinder)
+}
+
+// The module of a case that finds FDEs by reading the section.
+fn scanned(alloc: Global, case: &Case) -> Result<Module<Vec<u8>>> {
+    let mut sections = sections_of(alloc, case, false)?;
+    let name = String::from_str(alloc, "scan")?;
+    let data = ModuleUnwindData::scanning(&mut sections);
+    Ok(Module::new(alloc, name, BASE..u64::MAX, BASE, data)?)
+}
+
+// The module of a case by its header or by an index.
+fn looked_up(alloc: Global, case: &Case, with_header: bool) -> Result<Module<Vec<u8>>> {
+    let mut sections = sections_of(alloc, case, with_header)?;
+    let name = String::from_str(alloc, "module")?;
+    Ok(load_module(alloc, name, BASE..u64::MAX, BASE, &mut sections)?)
+}
+
+// The module of a case with a table.
+fn tabulated<A: ComparedArch>(alloc: Global, case: &Case) -> Result<Module<Vec<u8>>> {
+    let mut sections = sections_of(alloc, case, true)?;
+    let name = String::from_str(alloc, "table")?;
+    Ok(load_module_tabulated::<A, Vec<u8>, ExplicitModuleSectionInfo<Vec<u8>>>(
+        alloc,
+        name,
+        BASE..u64::MAX,
+        BASE,
+        &mut sections,
+    )?)
+}
+
+impl<A: ComparedArch> Roads<A> {
+    // The unwinders of a case.
+    fn new(alloc: Global, case: &Case) -> Result<Self> {
+        let mut generations = Generations::new();
+        Ok(Roads {
+            table: unwinder_of::<A>(alloc, &mut generations, tabulated::<A>(alloc, case)?)?,
+            index: unwinder_of::<A>(alloc, &mut generations, looked_up(alloc, case, false)?)?,
+            header: unwinder_of::<A>(alloc, &mut generations, looked_up(alloc, case, true)?)?,
+            scan: unwinder_of::<A>(alloc, &mut generations, scanned(alloc, case)?)?,
+        })
+    }
+}
+
+// A step from a frame.
+fn step<A: ComparedArch>(
+    unwinder: &Compared<A>,
+    cache: &mut ComparedCache<A>,
+    frame: Frame,
+) -> Stepped {
+    let mut regs = A::registers(frame.numbers);
+    let mut read_stack = |at: u64| -> std::result::Result<u64, ()> { word_at(at) };
+    let result = unwinder.unwind_frame(frame.address, &mut regs, cache, &mut read_stack);
+    (result, A::numbers(regs))
+}
+
+/// What was counted.
+#[derive(Clone, Copy)]
+struct Tally {
+    steps: u32,
+    callers: u32,
+    differences: u32,
+}
+
+impl Tally {
+    // Counts a step, and shows it if it isn't as by the index.
+    fn count(
+        &mut self,
+        shown: &mut String,
+        road: &str,
+        frame: Frame,
+        stepped: Stepped,
+        by_index: Stepped,
+    ) -> Result<()> {
+        self.steps = self.steps.wrapping_add(1);
+        if let Ok(Some(_)) = stepped.0 {
+            self.callers = self.callers.wrapping_add(1);
+        }
+        if stepped != by_index {
+            self.differences = self.differences.wrapping_add(1);
+            let (at, is_first) = (frame.at, frame.is_first);
+            write!(
+                shown,
+                "{road} {at:#x} {is_first}: {stepped:?}, by index {by_index:?}\n"
+            )?;
+        }
+        Ok(())
+    }
+}
+
+// Compares steps from a frame: by the table and by the index, and by the two others if `in_all`.
+fn compare<A: ComparedArch>(
+    roads: &Roads<A>,
+    cache: &mut ComparedCache<A>,
+    frame: Frame,
+    in_all: bool,
+    tally: &mut Tally,
+    shown: &mut String,
+) -> Result<()> {
+    let by_index = step::<A>(&roads.index, cache, frame);
+    let by_table = step::<A>(&roads.table, cache, frame);
+    tally.count(shown, "table", frame, by_table, by_index)?;
+    if in_all {
+        let by_header = step::<A>(&roads.header, cache, frame);
+        tally.count(shown, "header", frame, by_header, by_index)?;
+        let by_scan = step::<A>(&roads.scan, cache, frame);
+        tally.count(shown, "scan", frame, by_scan, by_index)?;
+    }
+    Ok(())
+}
+
+// Compares steps from a first and a later frame at each address.
+fn compare_all<A: ComparedArch>(
+    roads: &Roads<A>,
+    cache: &mut ComparedCache<A>,
+    addresses: &[u32],
+    in_all: bool,
+    tally: &mut Tally,
+    shown: &mut String,
+) -> Result<()> {
+    for at in addresses {
+        compare::<A>(roads, cache, Frame::new(true, *at)?, in_all, tally, shown)?;
+        compare::<A>(roads, cache, Frame::new(false, *at)?, in_all, tally, shown)?;
+    }
+    Ok(())
+}
+
+/// Compares the steps of a case, through one cache, and shows what was counted and each difference.
+pub fn show_steps<A: ComparedArch>(alloc: Global, case: &Case) -> Result<String> {
+    let roads: Roads<A> = Roads::new(alloc, case)?;
+    let mut cache: ComparedCache<A> = Cache::new(alloc, DwarfUnwindContext::new(alloc)?)?;
+    let mut shown = String::new(alloc);
+    let mut tally = Tally {
+        steps: 0,
+        callers: 0,
+        differences: 0,
+    };
+    let has_header = !case.header.is_empty();
+    compare_all::<A>(
+        &roads,
+        &mut cache,
+        &case.inside,
+        has_header,
+        &mut tally,
+        &mut shown,
+    )?;
+    compare_all::<A>(
+        &roads,
+        &mut cache,
+        &case.others,
+        false,
+        &mut tally,
+        &mut shown,
+    )?;
+    let Tally {
+        steps,
+        callers,
+        differences,
+    } = tally;
+    write!(
+        shown,
+        "{steps} steps, {callers} callers, {differences} differences\n"
+    )?;
+    Ok(shown)
+}
