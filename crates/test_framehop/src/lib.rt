@@ -33,6 +33,8 @@ mod sessions;
 #[cfg(test)]
 mod steps;
 #[cfg(test)]
+mod tables;
+#[cfg(test)]
 mod worked;
 
 pub use pe_files::{PeFile, PeSection};
