@@ -1,8 +1,9 @@
 //! The modules that are timed.
 
+use crate::arch::TimedArch;
 use crate::work::Work;
 use anyhow::Result;
-use framehop::{ExplicitModuleSectionInfo, Module, load_module};
+use framehop::{ExplicitModuleSectionInfo, Module, load_module, load_module_tabulated};
 use std::alloc::Global;
 
 /// What the module that is timed is made of: its name, and its section with its header, if it has one.
@@ -33,8 +34,18 @@ pub fn parts_of(alloc: Global, work: &Work) -> Result<Parts> {
     })
 }
 
-/// The module of these parts.
-pub fn module_of(alloc: Global, work: &Work, parts: Parts) -> Result<Module<Vec<u8>>> {
+/// The module of these parts, with a table of rules if the work is to be timed with one.
+pub fn module_of<A: TimedArch>(
+    alloc: Global,
+    work: &Work,
+    parts: Parts,
+) -> Result<Module<Vec<u8>>> {
     let Parts { name, mut info } = parts;
-    Ok(load_module(alloc, name, work.base..work.end, work.base, &mut info)?)
+    let range = work.base..work.end;
+    if work.is_tabulated {
+        return Ok(load_module_tabulated::<A, Vec<u8>, ExplicitModuleSectionInfo<Vec<u8>>>(
+            alloc, name, range, work.base, &mut info,
+        )?);
+    }
+    Ok(load_module(alloc, name, range, work.base, &mut info)?)
 }

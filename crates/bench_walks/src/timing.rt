@@ -40,7 +40,7 @@ fn load<U: Unwinder<Module = Module<Vec<u8>>>>(
 
 /// An unwinder with the module.
 fn unwinder_of<A: TimedArch>(alloc: Global, work: &Work) -> Result<TimedUnwinder<A>> {
-    let module = module_of(alloc, work, parts_of(alloc, work)?)?;
+    let module = module_of::<A>(alloc, work, parts_of(alloc, work)?)?;
     let mut generations = Generations::new();
     let mut unwinder = UnwinderInternal::new(alloc, &mut generations)?;
     load(&mut unwinder, &mut generations, module)?;
@@ -125,11 +125,11 @@ fn parts_of_all(alloc: Global, work: &Work) -> Result<Vec<Parts>> {
 }
 
 /// The least time of making the module of its parts, as often as there are rounds, one directly after the other.
-fn making(clock: &impl Clock, alloc: Global, work: &Work) -> Result<Duration> {
+fn making<A: TimedArch>(clock: &impl Clock, alloc: Global, work: &Work) -> Result<Duration> {
     let mut least = Duration::MAX;
     for parts in parts_of_all(alloc, work)? {
         let start = Instant::now(clock)?;
-        let _module = module_of(alloc, work, parts)?;
+        let _module = module_of::<A>(alloc, work, parts)?;
         least = least.min(start.elapsed(clock)?);
     }
     Ok(least)
@@ -138,7 +138,7 @@ fn making(clock: &impl Clock, alloc: Global, work: &Work) -> Result<Duration> {
 /// Makes the module and all walks as often as there are rounds.
 pub fn time<A: TimedArch>(clock: &impl Clock, alloc: Global, work: &Work) -> Result<Times> {
     let mut times = Times {
-        module: making(clock, alloc, work)?,
+        module: making::<A>(clock, alloc, work)?,
         warm: Duration::MAX,
         fresh: Duration::MAX,
         with_making: Duration::MAX,
