@@ -8,10 +8,10 @@ use Rattle.framehop_analysis.specs.EpilogueAarch64.{FieldsFit, IsEnd, IsRuleFor,
 use Rattle.framehop_analysis.specs.EpilogueInstructionsAarch64.{Add, EpilogueFits, EpilogueInstruction, Load, SetsFramePointer, epilogue_spelling, epilogue_word, immediate_word}
 use Rattle.framehop_analysis.specs.Found.{IsFound, IsOfFirst}
 use Rattle.framehop_analysis.specs.FunctionEndsAarch64.{AuthReturn, AuthTailCall, FunctionEnd, IsAuthBranch, IsBranch, IsEndOf, IsLeft, IsMoveToX16, IsRegisterBranch, IsTail, Return, TailCall, auth_tail_call, bytes_of_words}
-use Rattle.framehop_analysis.specs.LookBackAarch64.{Back, BeginsWithBranch, EndsWithRaise, Forward, IsAfterRaise, IsEpilogue, IsEpilogueRule, IsInAuthTailCall, IsInEnd, Raises}
+use Rattle.framehop_analysis.specs.LookBackAarch64.{Back, BeginsWithBranch, EndsWithRaise, Forward, IsEpilogue, IsEpilogueRule, IsInAuthTailCall, IsInEnd, Raises}
 use Rattle.framehop_analysis.specs.PairsAarch64.{PairFits}
 use Rattle.framehop_analysis.specs.PrologueAarch64.{IsExpected, IsExpectedInstruction, IsLongestRun, IsPrologueRule, IsRuleOfPrologue}
-use Rattle.framehop_analysis.specs.PrologueInstructionsAarch64.{PrologueFits, PrologueInstruction, Sign, Store, Sub, lowering_of_all, prologue_spelling, prologue_word}
+use Rattle.framehop_analysis.specs.PrologueInstructionsAarch64.{PrologueFits, PrologueInstruction, Sign, Store, Sub, lowering_of_all, prologue_word}
 use Rattle.framehop_analysis.specs.declared.aarch64.instruction_analysis.pair.AddressingMode.{AddressingMode}
 use Rattle.framehop_analysis.specs.declared.aarch64.instruction_analysis.pair.AddressingMode.TheVariants.{PostIndex, PreIndex, SignedOffset}
 use Rattle.framehop_analysis.specs.declared.aarch64.instruction_analysis.pair.Pair.{Pair}

@@ -1,6 +1,5 @@
 -- The rule of the machine code at an offset of x86_64 code, as a function of the bytes.
-use Rattle.std.proofs.Common.{◌≡◌, ◌∙◌, ℕ, ◌+◌, ◌<◌, ◌≤◌, refl, sym, ap, arith, ◌⊎◌, inl, inr, Bool, true, false, List, [], ◌∷◌, ◌++◌, length, length-append, take, drop, Option, Some, None}
-use Rattle.std.specs.List.{AllByRecursion}
+use Rattle.std.proofs.Common.{◌≡◌, ℕ, ◌<◌, ◌≤◌, refl, ap, arith, ◌⊎◌, inl, inr, Bool, true, false, List, [], ◌∷◌, length, length-append, take, drop, Option, None}
 use Rattle.std.specs.Prelude.{IsTrue, ◌↔◌, ◌||◌, nat_lt}
 use Rattle.framehop_analysis.specs.Instructions.{RexPrefix, NoRex, Rex, RexB, Instruction, Push, Pop, SetFramePointer, Return, Jump, bytes_of, spelling}
 use Rattle.framehop_analysis.specs.Found.{IsFound, IsOfFirst}
@@ -8,7 +7,7 @@ use Rattle.framehop_analysis.specs.Epilogue.{IsEpilogueRule, ends_like_pop, last
 use Rattle.framehop_analysis.specs.EpilogueViews.{BeginsWithNoPop, IsPop, IsPopRun, leaves_function}
 use Rattle.framehop_analysis.specs.Prologue.{IsPrologueRule, IsPush, EndsWith, frame_setup, rule_of_pushes}
 use Rattle.framehop_analysis.specs.PrologueViews.{is_expected}
-use Rattle.framehop_analysis.proofs.Decisions.{CanTry, Longest, Whole, decide_as, decide_either, decide_ends, decide_some, longest, whole}
+use Rattle.framehop_analysis.proofs.Decisions.{CanTry, Whole, decide_as, decide_either, decide_ends, decide_some, longest, whole}
 use Rattle.framehop_analysis.proofs.EpilogueReading.{no_epilogue, read_epilogue}
 use Rattle.framehop_analysis.proofs.Found.{either_found}
 use Rattle.framehop_analysis.proofs.PrologueReading.{no_prologue, read_prologue}

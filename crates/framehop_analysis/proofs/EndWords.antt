@@ -210,6 +210,11 @@ left_in_word bytes more raised word None test is unset none bytes_is fits left =
   | ByWord other rest ends other_fits other_is ↦ subst (λ (w : ℕ). IsEndWord w raised) (four other word rest more other_fits fits (sym other_is ∙ bytes_is)).0 ends
 ]
 
+pub left_by_check_alone : (bytes more : List ℕ) (raised : ℤ) (word : ℕ) (found : Option ℕ) (test : Bool) → test ≡ is_some found → IfNone found ((count : ℕ) → ¬ BeginsWithAuthTailCall bytes count)
+    → bytes ≡ to_le_bytes w32 word ++ more → word < 2 ^ 32 → (IsEndWord word raised → ⊥) → IsLeft bytes raised → test ≡ true
+left_by_check_alone bytes more raised word (Some count) test is none bytes_is fits no_end left = is
+left_by_check_alone bytes more raised word None test is none bytes_is fits no_end left = absurd (no_end (left_in_word bytes more raised word None test is is none bytes_is fits left))
+
 pub checked_few : (bytes : List ℕ) (count : ℕ) → BeginsWithAuthTailCall bytes count → count < 7
 checked_few bytes count begins =
     let read = checked_reads bytes count begins in

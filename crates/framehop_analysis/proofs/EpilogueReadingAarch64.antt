@@ -1,5 +1,5 @@
 -- The instructions up to a return, read one after the other.
-use Rattle.std.proofs.Common.{◌≡◌, ◌∙◌, ℕ, ◌+◌, ◌*◌, ◌<◌, ◌≤◌, ◌^◌, refl, sym, ap, subst, arith, Bool, true, false, List, [], ◌∷◌, ◌++◌, length, length-append, append_assoc, append-nil, drop, Option, Some, None}
+use Rattle.std.proofs.Common.{◌≡◌, ◌∙◌, ℕ, ◌+◌, ◌*◌, ◌≤◌, ◌^◌, refl, sym, ap, subst, arith, Bool, true, false, List, [], ◌∷◌, ◌++◌, length, length-append, append_assoc, append-nil, drop, Option, Some, None}
 use Rattle.std.specs.Prelude.{ℤ, pos, negsuc, ◌+ℤ◌, ◌≤ℤ◌, ◌==◌, if◌then◌else◌}
 use Rattle.std.specs.List.{AllByRecursion}
 use Rattle.std.specs.Int.{to_le_bytes, w32}
@@ -8,8 +8,8 @@ use Rattle.framehop_rules.specs.declared.aarch64.unwind_rule.UnwindRuleAarch64.{
 use Rattle.std.proofs.lemmas.Int.{ints}
 use Rattle.framehop_analysis.specs.EpilogueInstructionsAarch64.{EpilogueInstruction, EpilogueFits, epilogue_word, epilogue_spelling}
 use Rattle.framehop_analysis.specs.MachineAarch64.{access_offset}
-use Rattle.framehop_analysis.specs.EpilogueAarch64.{raise_of, raise_of_all, load_offset, later, last_load_offset, IsRuleFor, IsRuleOfEpilogue, IsEnd}
-use Rattle.framehop_analysis.specs.EpilogueViewsAarch64.{IsTypeOf, raise_of_type, load_offset_after, Restores}
+use Rattle.framehop_analysis.specs.EpilogueAarch64.{raise_of, raise_of_all, load_offset, later, last_load_offset, FieldsFit, IsRuleFor, IsRuleOfEpilogue, IsEnd, HasNoRule}
+use Rattle.framehop_analysis.specs.EpilogueViewsAarch64.{IsTypeOf, BeginsWithNone, raise_of_type, load_offset_after, carried, Restores}
 use Rattle.framehop_analysis.specs.FunctionEndsAarch64.{IsLeft}
 use Rattle.framehop_analysis.specs.LookBackAarch64.{IsInEnd, IsEpilogue, Forward, Back}
 use Rattle.framehop_analysis.specs.declared.aarch64.instruction_analysis.epilogue.Restored.{Restored}
@@ -21,7 +21,7 @@ use Rattle.framehop_analysis.proofs.EndWords.{word_fits, no_step}
 
 -- ---- one more instruction after others
 
-zero_plus : (z : ℤ) → pos 0 +ℤ z ≡ z
+pub zero_plus : (z : ℤ) → pos 0 +ℤ z ≡ z
 zero_plus z = omega (arith, ints)
 
 regroup : (a b c : ℤ) → a +ℤ (b +ℤ c) ≡ (a +ℤ b) +ℤ c
@@ -30,10 +30,6 @@ regroup a b c = omega (arith, ints)
 raise_one_more : (done : List EpilogueInstruction) (x : EpilogueInstruction) → raise_of_all (done ++ x ∷ []) ≡ raise_of_all done +ℤ raise_of x
 raise_one_more [] x = omega (arith, ints)
 raise_one_more (y ∷ done) x = ap (λ z. raise_of y +ℤ z) (raise_one_more done x) ∙ regroup (raise_of y) (raise_of_all done) (raise_of x)
-
-abbrev carried : ℤ → Option ℤ → Option ℤ → Option ℤ
-carried raised before None = before
-carried raised before (Some bytes) = Some (raised +ℤ bytes)
 
 offset_one_more : (number : ℕ) (done : List EpilogueInstruction) (x : EpilogueInstruction) → last_load_offset number (done ++ x ∷ []) ≡ carried (raise_of_all done) (last_load_offset number done) (load_offset number x)
 offset_one_more number [] x = by (load_offset number x)
@@ -64,6 +60,17 @@ seen_offset number (LoadPair pair) x raised before (bit_30, is) =
     by false false = refl
 seen_offset number (AddToSp bytes) x raised before (shift, amount, is, bytes_is) = ap (λ i. carried raised before (load_offset number i)) (sym is)
 
+-- one instruction after others, by what it does alone
+pub offset_carried : (number : ℕ) (kind : EpilogueInstructionType) (raised : ℤ) (before : Option ℤ) → load_offset_after number kind raised before ≡ carried raised before (load_offset_after number kind (pos 0) None)
+offset_carried number (LoadPair pair) raised before = by (pair.second == number) (pair.first == number)
+  where
+    by : (a b : Bool) → (if a then Some ((raised +ℤ access_offset pair) +ℤ pos 8) else if b then Some (raised +ℤ access_offset pair) else before)
+        ≡ carried raised before (if a then Some ((pos 0 +ℤ access_offset pair) +ℤ pos 8) else if b then Some (pos 0 +ℤ access_offset pair) else None)
+    by true b = ap Some (sym (ap (λ z. raised +ℤ (z +ℤ pos 8)) (zero_plus (access_offset pair)) ∙ regroup raised (access_offset pair) (pos 8)))
+    by false true = ap Some (sym (ap (λ z. raised +ℤ z) (zero_plus (access_offset pair))))
+    by false false = refl
+offset_carried number (AddToSp bytes) raised before = refl
+
 -- ---- what has been read
 
 pub record IsPrefix (bytes : List ℕ) (done : List EpilogueInstruction) (rest : List ℕ) (restored : Restored) : Type 0 where
@@ -72,7 +79,7 @@ pub record IsPrefix (bytes : List ℕ) (done : List EpilogueInstruction) (rest :
   pub restores : Restores done restored
   pub low : negsuc (2 ^ 34 * length done) ≤ℤ restored.raise
   pub high : restored.raise ≤ℤ pos (2 ^ 34 * length done)
-  pub within : length done + length rest ≤ length bytes
+  pub within : 4 * length done + length rest ≤ length bytes
 
 spelling_one_more : (done : List EpilogueInstruction) (x : EpilogueInstruction) → epilogue_spelling (done ++ x ∷ []) ≡ epilogue_spelling done ++ to_le_bytes w32 (epilogue_word x)
 spelling_one_more [] x = refl
@@ -82,15 +89,15 @@ all_one_more : (done : List EpilogueInstruction) (x : EpilogueInstruction) → A
 all_one_more [] x all is = (is, tt)
 all_one_more (y ∷ done) x all is = (all.0, all_one_more done x all.1 is)
 
-pub prefix_and_one : (bytes rest more : List ℕ) (done : List EpilogueInstruction) (x : EpilogueInstruction) (kind : EpilogueInstructionType) (word : ℕ) (restored after : Restored)
-    → IsPrefix bytes done rest restored → rest ≡ to_le_bytes w32 word ++ more → EpilogueFits x → word ≡ epilogue_word x → IsTypeOf kind x
+pub prefix_and_one : (bytes rest more : List ℕ) (done : List EpilogueInstruction) (x : EpilogueInstruction) (kind : EpilogueInstructionType) (restored after : Restored)
+    → IsPrefix bytes done rest restored → rest ≡ to_le_bytes w32 (epilogue_word x) ++ more → EpilogueFits x → IsTypeOf kind x
     → after.raise ≡ restored.raise +ℤ raise_of_type kind → after.fp ≡ load_offset_after 29 kind restored.raise restored.fp → after.lr ≡ load_offset_after 30 kind restored.raise restored.lr
     → (restored.raise +ℤ negsuc (2 ^ 33)) ≤ℤ after.raise → after.raise ≤ℤ (restored.raise +ℤ pos (2 ^ 33))
     → IsPrefix bytes (done ++ x ∷ []) more after
-prefix_and_one bytes rest more done x kind word restored after prefix rest_is fits word_is seen raise_is fp_is lr_is above below =
+prefix_and_one bytes rest more done x kind restored after prefix rest_is fits seen raise_is fp_is lr_is above below =
     record {
       all = all_one_more done x prefix.all fits;
-      spelled = prefix.spelled ∙ ap (λ bs. epilogue_spelling done ++ bs) (rest_is ∙ ap (λ w. to_le_bytes w32 w ++ more) word_is)
+      spelled = prefix.spelled ∙ ap (λ bs. epilogue_spelling done ++ bs) rest_is
           ∙ sym (append_assoc (epilogue_spelling done) (to_le_bytes w32 (epilogue_word x)) more) ∙ ap (λ bs. bs ++ more) (sym (spelling_one_more done x));
       restores = record {
         raise = raise_is ∙ ap (λ z. restored.raise +ℤ z) (seen_raise kind x seen) ∙ ap (λ z. z +ℤ raise_of x) prefix.restores.raise ∙ sym (raise_one_more done x);
@@ -147,17 +154,11 @@ next_of bytes rest done list restored prefix end not_left =
     by (x ∷ more) fit is spelled =
         record { next = x; fits = fit.0; more = epilogue_spelling more ++ end.rest; spelled = spelled ∙ append_assoc (to_le_bytes w32 (epilogue_word x)) (epilogue_spelling more) end.rest }
 
-pub first_of : (bytes rest after : List ℕ) (done list : List EpilogueInstruction) (restored : Restored) (word : ℕ) → IsPrefix bytes done rest restored → IsEnd bytes list
-    → (IsLeft rest restored.raise → ⊥) → rest ≡ to_le_bytes w32 word ++ after → word < 2 ^ 32 → (x : EpilogueInstruction) × EpilogueFits x × (word ≡ epilogue_word x)
-first_of bytes rest after done list restored word prefix end not_left rest_is fits =
+-- and so it is left if none stands there
+pub no_end : (bytes rest : List ℕ) (done list : List EpilogueInstruction) (restored : Restored) → IsPrefix bytes done rest restored → BeginsWithNone rest → (IsLeft rest restored.raise → ⊥) → IsEnd bytes list → ⊥
+no_end bytes rest done list restored prefix none not_left end =
     let there = next_of bytes rest done list restored prefix end not_left in
-    (there.next, there.fits, (four word (epilogue_word there.next) after there.more fits (word_fits there.next there.fits) (sym rest_is ∙ there.spelled)).0)
-
--- and so four bytes
-pub not_short : (bytes rest : List ℕ) (done list : List EpilogueInstruction) (restored : Restored) → IsPrefix bytes done rest restored → length rest < 4 → (IsLeft rest restored.raise → ⊥) → IsEnd bytes list → ⊥
-not_short bytes rest done list restored prefix short not_left end =
-    let there = next_of bytes rest done list restored prefix end not_left in
-    omega (arith, short, ap length there.spelled)
+    none there.more there.next there.fits there.spelled
 
 -- ---- the end
 
@@ -200,8 +201,26 @@ restores_rule list restored rule restores is =
     (subst (λ (o : Option ℤ). IsRuleFor restored.raise o (last_load_offset 30 list) rule) restores.fp
     (subst (λ (o : Option ℤ). IsRuleFor restored.raise restored.fp o rule) restores.lr is))
 
+-- ---- none, where no rule says so
+
+-- no rule says so of the one list that there is
+pub no_rule_of : (bytes : List ℕ) (found : List EpilogueInstruction) (restored : Restored) → IsEnd bytes found → Restores found restored
+    → ((rule : UnwindRuleAarch64) → FieldsFit rule → IsRuleFor restored.raise restored.fp restored.lr rule → ⊥) → HasNoRule bytes
+no_rule_of bytes found restored end restores none list rule there fits is =
+    none rule fits (rule_restores found restored rule restores (subst (λ (l : List EpilogueInstruction). IsRuleOfEpilogue l rule) (same_end bytes list found there end) is))
+
+pub never_rule : {X : Type 0} (bytes : List ℕ) (o : Option X) → IfNone o ((list : List EpilogueInstruction) → IsEnd bytes list → ⊥) → IfNone o (HasNoRule bytes)
+never_rule bytes (Some x) none = tt
+never_rule bytes None none = λ list rule end fits is. none list end
+
+pub no_rule_kept : {X : Type 0} (bytes : List ℕ) (found : List EpilogueInstruction) (restored : Restored) (o : Option X) → IsEnd bytes found → Restores found restored
+    → IfNone o ((rule : UnwindRuleAarch64) → FieldsFit rule → IsRuleFor restored.raise restored.fp restored.lr rule → ⊥) → IfNone o (HasNoRule bytes)
+no_rule_kept bytes found restored (Some x) end restores none = tt
+no_rule_kept bytes found restored None end restores none = no_rule_of bytes found restored end restores none
+
 -- ---- forward, where the offset isn't in an end
 
-pub not_recognised : (text : List ℕ) (offset : ℕ) (list : List EpilogueInstruction) (test : Bool) → (IsInEnd text offset → test ≡ true) → test ≡ false → (IsEnd (drop offset text) list → ⊥) → IsEpilogue text offset list → ⊥
-not_recognised text offset list test tells unset none (Forward end) = none end
-not_recognised text offset list test tells unset none (Back empty there) = let set = tells there in cc
+pub not_recognised : (text : List ℕ) (offset : ℕ) (test : Bool) → (IsInEnd text offset → test ≡ true) → test ≡ false → HasNoRule (drop offset text)
+    → (list : List EpilogueInstruction) (rule : UnwindRuleAarch64) → IsEpilogue text offset list → FieldsFit rule → IsRuleOfEpilogue list rule → ⊥
+not_recognised text offset test tells unset none list rule (Forward end) fits is = none list rule end fits is
+not_recognised text offset test tells unset none list rule (Back empty there) fits is = let set = tells there in cc

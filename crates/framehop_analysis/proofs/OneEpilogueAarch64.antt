@@ -165,7 +165,3 @@ read_forward text offset list restored (Some rule) end restores is none =
 read_forward text offset list restored None end restores is none =
     read_epilogue text offset None tt (λ other rule there fits rule_is. none rule fits (rule_restores list restored rule restores
     (subst (λ (l : List EpilogueInstruction). IsRuleOfEpilogue l rule) (one_epilogue text offset other list there (Forward end)) rule_is)))
-
--- no rule was read
-pub no_epilogue : (text : List ℕ) (offset : ℕ) (result : Option UnwindRuleAarch64) → result ≡ None → ((list : List EpilogueInstruction) → IsEpilogue text offset list → ⊥) → IsFound (IsEpilogueRule text offset) result
-no_epilogue text offset result is none = subst (IsFound (IsEpilogueRule text offset)) (sym is) (read_epilogue text offset None tt (λ list rule stands fits rule_is. none list stands))

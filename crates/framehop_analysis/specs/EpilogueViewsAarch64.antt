@@ -1,9 +1,11 @@
 -- What the code keeps of an instruction of an epilogue, and of all of them.
-use Rattle.std.specs.Prelude.{ℕ, ◌≡◌, ◌≢◌, ◌<◌, ◌*◌, ◌^◌, ◌==◌, if◌then◌else◌, ℤ, pos, ◌+ℤ◌, List, Option, Some}
+use Rattle.std.specs.Prelude.{ℕ, ◌≡◌, ◌≢◌, ◌<◌, ◌*◌, ◌^◌, ◌==◌, if◌then◌else◌, ℤ, pos, ◌+ℤ◌, List, ◌++◌, Option, Some, None}
+use Rattle.std.specs.Int.{to_le_bytes, w32}
 use Rattle.framehop_analysis.specs.EpilogueInstructionsAarch64.{EpilogueInstruction, Load, Add, EpilogueFits, epilogue_word, immediate_word}
 use Rattle.framehop_analysis.specs.MachineAarch64.{access_offset, raise}
 use Rattle.framehop_analysis.specs.EpilogueAarch64.{IsEnd, raise_of_all, last_load_offset}
 use Rattle.framehop_analysis.specs.declared.aarch64.instruction_analysis.epilogue.Restored.{Restored}
+use Rattle.framehop_analysis.specs.declared.aarch64.instruction_analysis.epilogue.ShortRestored.{ShortRestored}
 use Rattle.framehop_analysis.specs.declared.aarch64.instruction_analysis.epilogue.EpilogueInstructionType.{EpilogueInstructionType}
 use Rattle.framehop_analysis.specs.declared.aarch64.instruction_analysis.epilogue.EpilogueInstructionType.TheVariants.{LoadPair, AddToSp}
 
@@ -19,6 +21,15 @@ IsTypeOfWord word kind = (instruction : EpilogueInstruction) × EpilogueFits ins
 -- The word spells no instruction of epilogues.
 abbrev pub SpellsNone : ℕ → Type 0
 SpellsNone word = (instruction : EpilogueInstruction) → EpilogueFits instruction → word ≢ epilogue_word instruction
+
+-- The bytes begin with an instruction of which this is kept, and go on with others.
+abbrev pub BeginsWithType : List ℕ → EpilogueInstructionType → List ℕ → Type 0
+BeginsWithType bytes kind suffix =
+    (instruction : EpilogueInstruction) × EpilogueFits instruction × (bytes ≡ to_le_bytes w32 (epilogue_word instruction) ++ suffix) × IsTypeOf kind instruction
+
+-- The bytes begin with no instruction of epilogues.
+abbrev pub BeginsWithNone : List ℕ → Type 0
+BeginsWithNone bytes = (suffix : List ℕ) (instruction : EpilogueInstruction) → EpilogueFits instruction → bytes ≢ to_le_bytes w32 (epilogue_word instruction) ++ suffix
 
 -- The word adds so many bytes to the stack pointer, or subtracts them, by its upper bits, and writes a register.
 abbrev pub IsImmediate : ℕ → ℕ → ℕ → ℕ → Type 0
@@ -40,6 +51,15 @@ load_offset_after number (LoadPair pair) raised before =
     if pair.second == number then Some ((raised +ℤ access_offset pair) +ℤ pos 8) else
     if pair.first == number then Some (raised +ℤ access_offset pair) else before
 load_offset_after number (AddToSp bytes) raised before = before
+
+-- The offset from which a register is loaded last, if it is then loaded at an offset, or isn't, once the stack pointer has been raised.
+abbrev pub carried : ℤ → Option ℤ → Option ℤ → Option ℤ
+carried raised before None = before
+carried raised before (Some bytes) = Some (raised +ℤ bytes)
+
+-- The same numbers, of any size.
+abbrev pub restored_of : ShortRestored → Restored
+restored_of short = record { raise = short.raise; fp = short.fp; lr = short.lr }
 
 -- What is kept of the instructions is how far they move the stack pointer, and from where they load x29 and x30.
 pub record Restores (instructions : List EpilogueInstruction) (restored : Restored) : Type 0 where

@@ -7,7 +7,7 @@ ghost use Rattle.framehop_analysis.specs.EpilogueViewsAarch64.{IsImmediate, IsNo
 use crate::aarch64::instruction_analysis::word::{SP, bit_22, from_bit_23, imm12, rd, rn};
 
 /// A number of bytes in units of 16, if it is a multiple and fits.
-pub fn units_of_16(bytes: i128) -> Option<u16>
+pub fn units_of_16(bytes: i64) -> Option<u16>
     ensures units { IfSome result (λ units. bytes ≡ pos (16 * units)) }
     ensures none { IfNone result ((units : ℕ) → units < 2 ^ 16 → bytes ≢ pos (16 * units)) }
 {
@@ -18,7 +18,7 @@ pub fn units_of_16(bytes: i128) -> Option<u16>
 }
 
 /// A number of bytes in units of 8, if it is a multiple and fits.
-pub fn units_of_8(bytes: i128) -> Option<i16>
+pub fn units_of_8(bytes: i64) -> Option<i16>
     ensures units { IfSome result (λ units. bytes ≡ pos 8 *ℤ units) }
     ensures none { IfNone result ((units : ℤ) → negsuc 32767 ≤ℤ units → units ≤ℤ pos 32767 → bytes ≢ pos 8 *ℤ units) }
 {

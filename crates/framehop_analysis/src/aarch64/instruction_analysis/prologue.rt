@@ -51,7 +51,7 @@ fn lowering(kind: PrologueInstructionType) -> i128
         PrologueInstructionType::SignReturnAddress => 0,
         PrologueInstructionType::StorePair(pair) => {
             let (_, raise) = offset_and_raise(pair);
-            0 - raise
+            0 - i128::from(raise)
         }
         PrologueInstructionType::SubtractFromSp(bytes) => i128::from(bytes),
     }

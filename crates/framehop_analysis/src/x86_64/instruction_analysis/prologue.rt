@@ -1,9 +1,9 @@
 //! Prologues of x86_64: pushes up to the address, after the setup of a frame pointer or not.
-ghost use Rattle.std.specs.Prelude.{◌≡◌, ◌==◌, ◌&&◌, ◌||◌, ◌+◌, ◌≤◌, ◌<◌, ◌^◌, ℕ, Bool, List, length, IfSome, IfNone, IsTrue, ◌↔◌};
+ghost use Rattle.std.specs.Prelude.{◌≡◌, ◌==◌, ◌&&◌, ◌||◌, if◌then◌else◌, ◌+◌, ◌≤◌, ◌<◌, ◌^◌, ℕ, Bool, List, length, IfSome, IfNone, IsTrue, ◌↔◌};
 ghost use Rattle.framehop_analysis.specs.Instructions.{Instruction, spelling};
 ghost use Rattle.framehop_analysis.specs.Found.{IsFound};
 ghost use Rattle.framehop_analysis.specs.Prologue.{IsPrologueRule, IsLongestRun, EndsWith, rule_of_pushes, frame_setup};
-ghost use Rattle.framehop_analysis.specs.PrologueViews.{is_expected, is_push_byte, EndsWithPush, EndsWithNoPush, IsBeforeRex};
+ghost use Rattle.framehop_analysis.specs.PrologueViews.{is_expected, is_push_byte, is_rex_byte, EndsWithPush, EndsWithNoPush, IsBeforeRex};
 
 use framehop_rules::x86_64::UnwindRuleX86_64;
 
@@ -25,6 +25,18 @@ fn is_wide_expected(second: u8, third: u8) -> bool
     (second == 0x83 || second == 0x81) && third == 0xec || second == 0x89 && third == 0xe5
 }
 
+// The second byte after a REX prefix that a push can have, or else the first. Prefixes come and go among pushes, so that a
+// processor would guess a branch on them wrong.
+fn after_rex(first: u8, second: u8) -> u8
+    ensures { result ≡ (if is_rex_byte first then second else first) }
+{
+    if first == 0x40 || first == 0x41 {
+        second
+    } else {
+        first
+    }
+}
+
 // Whether an instruction comes next that can stand in a prologue.
 fn is_expected_in_prologue(bytes: &[u8]) -> bool
     ensures { result ≡ is_expected bytes.now }
@@ -33,11 +45,13 @@ fn is_expected_in_prologue(bytes: &[u8]) -> bool
         return false;
     }
     let (first, second, third) = (bytes[0], bytes[1], bytes[2]);
+    if is_push_byte(after_rex(first, second)) {
+        return true;
+    }
     match first {
-        0x40 | 0x41 => is_push_byte(second),
         0x81 | 0x83 => second == 0xec,
         0x48 => is_wide_expected(second, third),
-        _ => is_push_byte(first),
+        _ => false,
     }
 }
 

@@ -1,25 +1,29 @@
-use Rattle.framehop_analysis.proofs.EpilogueReadingAarch64.{prefix_and_one, first_of, not_short, nothing}
+use Rattle.std.proofs.Common.{◌≡◌, arith, sym, subst, to_z, of_z}
+use Rattle.std.specs.Prelude.{ℤ}
+use Rattle.std.specs.Int.{w128}
+use Rattle.std.proofs.lemmas.Int.{ints}
+use Rattle.framehop_analysis.specs.FunctionEndsAarch64.{IsLeft}
+use Rattle.framehop_analysis.proofs.EpilogueReadingAarch64.{prefix_and_one, returned, no_end}
 use Rattle.framehop_analysis.proofs.aarch64.instruction_analysis.epilogue.restored_by_epilogue.Goals as goal
 
-pub returns-in_err-word-clause-none : goal.returns-in_err-word-clause-none
-returns-in_err-word-clause-none c =
-    let (done, prefix) = c.loop-rest.invariant in
-    nothing c.from_residual.result _ (λ list. not_short c.args.bytes.now c.loop-rest.rest.now done list c.loop-rest.restored prefix c.in_err-word.ensures.bytes
-    (λ left. let e = c.is_left.ensures.1 left in let f = c.loop-rest-test.true in cc))
-
-pub returns-in_err-kind-clause-none : goal.returns-in_err-kind-clause-none
-returns-in_err-kind-clause-none c =
-    let (done, prefix) = c.loop-rest.invariant in
-    nothing c.from_residual-in_err-kind.result _ (λ list end.
-    let (x, fits, is) = first_of c.args.bytes.now c.loop-rest.rest.now c.in_ok-word.suffix.now done list c.loop-rest.restored c.in_ok-word.word prefix end
-    (λ left. let e = c.is_left.ensures.1 left in let f = c.loop-rest-test.true in cc) c.in_ok-word.ensures.bytes c.in_ok-word.ensures.fits in
-    c.in_err-kind.ensures.none x fits is)
-
-pub loop-rest-preserved : goal.loop-rest-preserved
-loop-rest-preserved c =
-    let (done, prefix) = c.loop-rest.invariant in
-    let (x, fits, is, seen) = c.in_ok-kind.ensures.kind in (
+pub loop-kind-preserved : goal.loop-kind-preserved
+loop-kind-preserved c =
+    let (done, prefix) = c.loop-kind.invariant in
+    let (x, fits, is, seen) = c.in-Some.ensures.kind in (
       _,
-      prefix_and_one c.args.bytes.now c.loop-rest.rest.now c.in_ok-word.suffix.now done x c.in_ok-kind.kind c.in_ok-word.word c.loop-rest.restored c.after-restored.result prefix
-          c.in_ok-word.ensures.bytes fits is seen c.after-restored.ensures.raise c.after-restored.ensures.fp c.after-restored.ensures.lr c.after-restored.ensures.near.0 c.after-restored.ensures.near.1,
+      prefix_and_one c.args.bytes.now c.loop-kind.rest.now c.in-Some.suffix.now done x c.in-Some.kind c.loop-kind.restored c.after-restored.result prefix is fits seen
+          c.after-restored.ensures.raise c.after-restored.ensures.fp c.after-restored.ensures.lr c.after-restored.ensures.near.0 c.after-restored.ensures.near.1,
     )
+
+pub returns-then-is_left-clause-restored : goal.returns-then-is_left-clause-restored
+returns-then-is_left-clause-restored c =
+    let (done, prefix) = c.loop-kind.invariant in
+    let same : to_z w128 (of_z w128 c.loop-kind.restored.raise) ≡ c.loop-kind.restored.raise = omega (arith, ints, prefix.low, prefix.high, prefix.within) in
+    returned c.args.bytes.now c.loop-kind.rest.now done c.loop-kind.restored prefix (subst (λ (z : ℤ). IsLeft c.loop-kind.rest.now z) same (c.is_left.ensures.0 c.if-is_left.true))
+
+pub returns-else-is_left-clause-none : goal.returns-else-is_left-clause-none
+returns-else-is_left-clause-none c =
+    let (done, prefix) = c.loop-kind.invariant in
+    let same : to_z w128 (of_z w128 c.loop-kind.restored.raise) ≡ c.loop-kind.restored.raise = omega (arith, ints, prefix.low, prefix.high, prefix.within) in
+    λ list. no_end c.args.bytes.now c.loop-kind.rest.now done list c.loop-kind.restored prefix c.in_default.ensures.none
+    (λ left. let e = c.is_left.ensures.1 (subst (λ (z : ℤ). IsLeft c.loop-kind.rest.now z) (sym same) left) in let f = c.if-is_left.false in cc)

@@ -1,0 +1,11 @@
+use Rattle.std.proofs.Common.{List, length}
+use Rattle.framehop_analysis.specs.EpilogueInstructionsAarch64.{EpilogueInstruction}
+use Rattle.framehop_analysis.specs.EpilogueViewsAarch64.{restored_of}
+use Rattle.framehop_analysis.proofs.EpilogueReadingAarch64.{IsPrefix}
+use Rattle.framehop_analysis.proofs.aarch64.instruction_analysis.epilogue.restored_by_short_epilogue.Given as goal
+
+abbrev pub invariant-loop-kind : goal.invariant-loop-kind
+invariant-loop-kind l = (done : List EpilogueInstruction) × IsPrefix l.bytes done l.rest (restored_of l.restored)
+
+abbrev pub decreases-loop-kind : goal.decreases-loop-kind
+decreases-loop-kind l = length l.rest
