@@ -4,15 +4,13 @@ use Rattle.std.specs.List.{AllByRecursion}
 use Rattle.std.specs.Int.{to_le_bytes, w32}
 use Rattle.std.specs.Prelude.{ℤ, pos, negsuc, ◌+ℤ◌, ◌≤ℤ◌, IfSome, IfNone}
 use Rattle.std.proofs.lemmas.Int.{ints}
-use Rattle.framehop_analysis.specs.PairsAarch64.{mode_bits, imm7_of}
+use Rattle.framehop_analysis.specs.PairsAarch64.{IsPairWord, mode_bits, imm7_of}
 use Rattle.framehop_analysis.specs.EpilogueAarch64.{IsRuleFor, FieldsFit}
 use Rattle.framehop_analysis.specs.PrologueInstructionsAarch64.{PrologueInstruction, Sign, Store, Sub, PrologueFits, prologue_word, prologue_spelling, lowering, lowering_of_all}
 use Rattle.framehop_analysis.specs.PrologueAarch64.{IsExpectedWord, IsExpected, IsLongestRun, IsPrologue, IsPrologueRule, IsRuleOfPrologue}
-use Rattle.framehop_analysis.specs.PrologueViewsAarch64.{IsTypeOf, lowering_of_type}
 use Rattle.framehop_analysis.specs.Found.{IsFound}
 use Rattle.framehop_analysis.specs.declared.aarch64.instruction_analysis.epilogue.Restored.{Restored}
-use Rattle.framehop_analysis.specs.declared.aarch64.instruction_analysis.prologue.PrologueInstructionType.{PrologueInstructionType}
-use Rattle.framehop_analysis.specs.declared.aarch64.instruction_analysis.prologue.PrologueInstructionType.TheVariants.{SignReturnAddress, StorePair, SubtractFromSp}
+use Rattle.framehop_analysis.specs.declared.aarch64.instruction_analysis.pair.Pair.{Pair}
 use Rattle.framehop_rules.specs.declared.aarch64.unwind_rule.UnwindRuleAarch64.{UnwindRuleAarch64}
 use Rattle.framehop_analysis.proofs.DistinctWords.{same_fields, same_mode, same_words, same_pair, mode_few, words_few}
 use Rattle.framehop_analysis.proofs.Found.{found}
@@ -54,10 +52,12 @@ same_prologue_instruction (Store bit_30 pair) (Sub shift number) fits other_fits
 same_prologue_instruction (Sub shift number) (Store bit_30 pair) fits other_fits is =
     absurd (omega (arith, other_fits.0, fits.0, fits.1, other_fits.1.second, other_fits.1.first, mode_few pair.mode, words_few pair.offset_by_8 other_fits.1.low other_fits.1.high, is))
 
-pub seen_lowering : (kind : PrologueInstructionType) (x : PrologueInstruction) → IsTypeOf kind x → lowering_of_type kind ≡ lowering x
-seen_lowering SignReturnAddress x is = ap lowering (sym is)
-seen_lowering (StorePair pair) x (bit_30, is) = ap lowering (sym is)
-seen_lowering (SubtractFromSp bytes) x (shift, number, is, bytes_is) = ap pos bytes_is ∙ ap lowering (sym is)
+-- no store, no subtraction and no signature is none of the three
+pub spells_none : (word : ℕ) → ((pair : Pair) → IsPairWord 0 word pair → ⊥) → ((shift number : ℕ) → shift < 2 → number < 4096 → word ≢ prologue_word (Sub shift number)) → word ≢ prologue_word Sign
+    → (instruction : PrologueInstruction) → PrologueFits instruction → word ≢ prologue_word instruction
+spells_none word no_store no_sub no_sign (Store bit_30 pair) fits is = no_store pair (record { fits = fits.1; bit_30 = bit_30; bit_30_fits = fits.0; is = is })
+spells_none word no_store no_sub no_sign (Sub shift number) fits is = no_sub shift number fits.0 fits.1 is
+spells_none word no_store no_sub no_sign Sign fits is = no_sign is
 
 -- ---- lists by their ends
 
@@ -117,16 +117,16 @@ without_last prefix prefix2 other_prefix x more fits is all same = elim (by_end 
       )
 ]
 
-pub run_and_one : (bytes prefix prefix2 : List ℕ) (instructions : List PrologueInstruction) (x : PrologueInstruction) (kind : PrologueInstructionType) (restored after : Restored) → IsGreedyRun bytes prefix instructions restored
-    → PrologueFits x → prefix ≡ prefix2 ++ to_le_bytes w32 (prologue_word x) → IsTypeOf kind x
-    → after.raise ≡ restored.raise +ℤ lowering_of_type kind → after.fp ≡ restored.fp → after.lr ≡ restored.lr
+pub run_and_one : (bytes prefix prefix2 : List ℕ) (instructions : List PrologueInstruction) (x : PrologueInstruction) (lowered : ℤ) (restored after : Restored) → IsGreedyRun bytes prefix instructions restored
+    → PrologueFits x → prefix ≡ prefix2 ++ to_le_bytes w32 (prologue_word x) → lowered ≡ lowering x
+    → after.raise ≡ restored.raise +ℤ lowered → after.fp ≡ restored.fp → after.lr ≡ restored.lr
     → (restored.raise +ℤ negsuc (2 ^ 33)) ≤ℤ after.raise → after.raise ≤ℤ (restored.raise +ℤ pos (2 ^ 33))
     → IsGreedyRun bytes prefix2 (x ∷ instructions) after
-run_and_one bytes prefix prefix2 instructions x kind restored after run fits is seen raise_is fp_is lr_is above below =
+run_and_one bytes prefix prefix2 instructions x lowered restored after run fits is seen raise_is fp_is lr_is above below =
     record {
       all = (fits, run.all);
       spelled = run.spelled ∙ ap (λ bs. bs ++ prologue_spelling instructions) is ∙ append_assoc prefix2 (to_le_bytes w32 (prologue_word x)) (prologue_spelling instructions);
-      lowered = raise_is ∙ ap (λ z. restored.raise +ℤ z) (seen_lowering kind x seen) ∙ ap (λ z. z +ℤ lowering x) run.lowered ∙ swap (lowering_of_all instructions) (lowering x);
+      lowered = raise_is ∙ ap (λ z. restored.raise +ℤ z) seen ∙ ap (λ z. z +ℤ lowering x) run.lowered ∙ swap (lowering_of_all instructions) (lowering x);
       no_fp = fp_is ∙ run.no_fp;
       no_lr = lr_is ∙ run.no_lr;
       low = omega (arith, ints, run.low, above);

@@ -1,8 +1,7 @@
 -- What the code keeps of an instruction of a prologue.
 use Rattle.std.specs.Int.{to_le_bytes, w32}
-use Rattle.std.specs.Prelude.{ℕ, ◌≡◌, ◌≢◌, ◌*◌, ◌^◌, ℤ, pos, ◌-ℤ◌, List, ◌++◌}
-use Rattle.framehop_analysis.specs.MachineAarch64.{raise}
-use Rattle.framehop_analysis.specs.PrologueInstructionsAarch64.{PrologueInstruction, Sign, Store, Sub, PrologueFits, prologue_word, lowering_of_all}
+use Rattle.std.specs.Prelude.{ℕ, ◌≡◌, ◌≢◌, ◌*◌, ◌^◌, ℤ, List, ◌++◌}
+use Rattle.framehop_analysis.specs.PrologueInstructionsAarch64.{PrologueInstruction, Sign, Store, Sub, PrologueFits, prologue_word, lowering, lowering_of_all}
 use Rattle.framehop_analysis.specs.PrologueAarch64.{IsLongestRun}
 use Rattle.framehop_analysis.specs.declared.aarch64.instruction_analysis.prologue.PrologueInstructionType.{PrologueInstructionType}
 use Rattle.framehop_analysis.specs.declared.aarch64.instruction_analysis.prologue.PrologueInstructionType.TheVariants.{SignReturnAddress, StorePair, SubtractFromSp}
@@ -21,10 +20,14 @@ IsTypeOfWord word kind = (instruction : PrologueInstruction) × PrologueFits ins
 abbrev pub SpellsNone : ℕ → Type 0
 SpellsNone word = (instruction : PrologueInstruction) → PrologueFits instruction → word ≢ prologue_word instruction
 
--- The bytes end with an instruction of which this is kept.
-abbrev pub EndsWithType : List ℕ → List ℕ → PrologueInstructionType → Type 0
-EndsWithType bytes prefix kind =
-    (instruction : PrologueInstruction) × PrologueFits instruction × (bytes ≡ prefix ++ to_le_bytes w32 (prologue_word instruction)) × IsTypeOf kind instruction
+-- The word spells an instruction that lowers the stack pointer by so many bytes.
+abbrev pub IsLoweringOfWord : ℕ → ℤ → Type 0
+IsLoweringOfWord word bytes = (instruction : PrologueInstruction) × PrologueFits instruction × (word ≡ prologue_word instruction) × (bytes ≡ lowering instruction)
+
+-- The bytes end with such an instruction.
+abbrev pub EndsWithLowering : List ℕ → List ℕ → ℤ → Type 0
+EndsWithLowering text prefix bytes =
+    (instruction : PrologueInstruction) × PrologueFits instruction × (text ≡ prefix ++ to_le_bytes w32 (prologue_word instruction)) × (bytes ≡ lowering instruction)
 
 -- The bytes end with no instruction of prologues.
 abbrev pub EndsWithNone : List ℕ → Type 0
@@ -34,9 +37,3 @@ EndsWithNone bytes = (prefix : List ℕ) (instruction : PrologueInstruction) →
 abbrev pub IsLoweredBy : List ℕ → ℤ → Type 0
 IsLoweredBy bytes lowered =
     (prefix : List ℕ) × (instructions : List PrologueInstruction) × IsLongestRun bytes prefix instructions × (lowered ≡ lowering_of_all instructions)
-
--- By how many bytes it lowers the stack pointer.
-abbrev pub lowering_of_type : PrologueInstructionType → ℤ
-lowering_of_type SignReturnAddress = pos 0
-lowering_of_type (StorePair pair) = pos 0 -ℤ raise pair
-lowering_of_type (SubtractFromSp bytes) = pos bytes

@@ -3,7 +3,7 @@ ghost use Rattle.std.specs.Prelude.{◌≡◌, ◌≢◌, ◌*◌, ◌<◌, ◌^
 ghost use Rattle.std.specs.Int.{to_le_bytes, w32};
 ghost use Rattle.framehop_analysis.specs.Found.{IsFound};
 ghost use Rattle.framehop_analysis.specs.PrologueAarch64.{IsExpectedWord, IsExpected, IsPrologueRule};
-ghost use Rattle.framehop_analysis.specs.PrologueViewsAarch64.{IsTypeOfWord, SpellsNone, EndsWithType, EndsWithNone, IsLoweredBy, lowering_of_type};
+ghost use Rattle.framehop_analysis.specs.PrologueViewsAarch64.{IsTypeOfWord, IsLoweringOfWord, SpellsNone, EndsWithLowering, EndsWithNone, IsLoweredBy};
 ghost use Rattle.framehop_rules.specs.declared.aarch64.unwind_rule.UnwindRuleAarch64.{UnwindRuleAarch64};
 
 use crate::aarch64::instruction_analysis::epilogue::{Restored, offset_and_raise, rule_of};
@@ -41,49 +41,55 @@ fn prologue_instruction_type(word: u32) -> Option<PrologueInstructionType>
     }
 }
 
-// By how many bytes an instruction of a prologue lowers the stack pointer.
-fn lowering(kind: PrologueInstructionType) -> i128
-    ensures is { result ≡ lowering_of_type kind }
-    ensures low { negsuc 4096 ≤ℤ result }
-    ensures high { result ≤ℤ pos (2 ^ 32) }
+// By how many bytes the instruction of a word lowers the stack pointer, if it can stand in a prologue. No value of
+// `PrologueInstructionType` is made, whose parts would be put together and taken apart again for each word.
+fn lowering_of_word(word: u32) -> Option<i64>
+    ensures lowering { IfSome result (IsLoweringOfWord word) }
+    ensures near { IfSome result (λ lowering. (negsuc 4096 ≤ℤ lowering) × (lowering ≤ℤ pos (2 ^ 32))) }
+    ensures none { IfNone result (SpellsNone word) }
 {
-    match kind {
-        PrologueInstructionType::SignReturnAddress => 0,
-        PrologueInstructionType::StorePair(pair) => {
-            let (_, raise) = offset_and_raise(pair);
-            0 - i128::from(raise)
-        }
-        PrologueInstructionType::SubtractFromSp(bytes) => i128::from(bytes),
+    if word == SIGN_RETURN_ADDRESS {
+        return Some(0);
+    }
+    if let Some(pair) = store_pair(word) {
+        let (_, raise) = offset_and_raise(pair);
+        return Some(0 - raise);
+    }
+    match subtracted_from_sp(word) {
+        Some(bytes) => Some(i64::from(bytes)),
+        None => None,
     }
 }
 
 impl Restored {
-    // What a return restores from before one more instruction.
-    fn before(self, kind: PrologueInstructionType) -> Restored
+    // What a return restores from before one more instruction, which lowers the stack pointer by so many bytes.
+    fn before(self, lowering: i64) -> Restored
         requires low { negsuc (2 ^ 100) ≤ℤ self.raise }
         requires high { self.raise ≤ℤ pos (2 ^ 100) }
-        ensures raise { result.raise ≡ self.raise +ℤ lowering_of_type kind }
+        requires lowering { (negsuc 4096 ≤ℤ lowering) × (lowering ≤ℤ pos (2 ^ 32)) }
+        ensures raise { result.raise ≡ self.raise +ℤ lowering }
         ensures near { ((self.raise +ℤ negsuc (2 ^ 33)) ≤ℤ result.raise)
             × (result.raise ≤ℤ (self.raise +ℤ pos (2 ^ 33))) }
         ensures fp { result.fp ≡ self.fp }
         ensures lr { result.lr ≡ self.lr }
     {
         Restored {
-            raise: self.raise + lowering(kind),
+            raise: self.raise + i128::from(lowering),
             fp: self.fp,
             lr: self.lr,
         }
     }
 }
 
-// What the last instruction does, if it can stand in a prologue, and the bytes before it.
-fn before_last_instruction(bytes: &[u8]) -> Option<(&[u8], PrologueInstructionType)>
-    ensures kind { IfSome result (λ found. EndsWithType bytes.now found.0.now found.1) }
+// By how many bytes the last instruction lowers the stack pointer, if it can stand in a prologue, and the bytes before it.
+fn before_last_instruction(bytes: &[u8]) -> Option<(&[u8], i64)>
+    ensures lowering { IfSome result (λ found. EndsWithLowering bytes.now found.0.now found.1) }
+    ensures near { IfSome result (λ found. (negsuc 4096 ≤ℤ found.1) × (found.1 ≤ℤ pos (2 ^ 32))) }
     ensures none { IfNone result (EndsWithNone bytes.now) }
 {
     let (prefix, word) = last_word(bytes)?;
-    let kind = prologue_instruction_type(word)?;
-    Some((prefix, kind))
+    let lowering = lowering_of_word(word)?;
+    Some((prefix, lowering))
 }
 
 // What a return restores from before the instructions of a prologue that some bytes end with.
@@ -98,8 +104,8 @@ fn restored_before_prologue(bytes: &[u8]) -> Restored
         lr: None,
     };
     let mut prefix = bytes;
-    while let Some((before, kind)) = before_last_instruction(prefix) {
-        restored = restored.before(kind);
+    while let Some((before, lowering)) = before_last_instruction(prefix) {
+        restored = restored.before(lowering);
         prefix = before;
     }
     restored
