@@ -64,8 +64,7 @@ fn lowering_of_word(word: u32) -> Option<i64>
 impl Restored {
     // What a return restores from before one more instruction, which lowers the stack pointer by so many bytes.
     fn before(self, lowering: i64) -> Restored
-        requires low { negsuc (2 ^ 100) ≤ℤ self.raise }
-        requires high { self.raise ≤ℤ pos (2 ^ 100) }
+        requires raise { (negsuc (2 ^ 100) ≤ℤ self.raise) × (self.raise ≤ℤ pos (2 ^ 100)) }
         requires lowering { (negsuc 4096 ≤ℤ lowering) × (lowering ≤ℤ pos (2 ^ 32)) }
         ensures raise { result.raise ≡ self.raise +ℤ lowering }
         ensures near { ((self.raise +ℤ negsuc (2 ^ 33)) ≤ℤ result.raise)
