@@ -8,8 +8,8 @@ use Rattle.framehop_rules.specs.declared.aarch64.unwind_rule.UnwindRuleAarch64.{
 use Rattle.std.proofs.lemmas.Int.{ints}
 use Rattle.framehop_analysis.specs.EpilogueInstructionsAarch64.{EpilogueInstruction, EpilogueFits, epilogue_word, epilogue_spelling}
 use Rattle.framehop_analysis.specs.MachineAarch64.{access_offset}
-use Rattle.framehop_analysis.specs.EpilogueAarch64.{raise_of, raise_of_all, load_offset, later, last_load_offset, FieldsFit, IsRuleFor, IsRuleOfEpilogue, IsEnd, HasNoRule}
-use Rattle.framehop_analysis.specs.EpilogueViewsAarch64.{IsTypeOf, BeginsWithNone, raise_of_type, load_offset_after, carried, Restores}
+use Rattle.framehop_analysis.specs.EpilogueAarch64.{raise_of, raise_of_all, load_offset, later, last_load_offset, FieldsFit, IsRuleFor, IsRuleOfEpilogue, IsEnd}
+use Rattle.framehop_analysis.specs.EpilogueViewsAarch64.{IsTypeOf, BeginsWithNone, raise_of_type, load_offset_after, carried, Restores, HasNoRule}
 use Rattle.framehop_analysis.specs.FunctionEndsAarch64.{IsLeft}
 use Rattle.framehop_analysis.specs.LookBackAarch64.{IsInEnd, IsEpilogue, Forward, Back}
 use Rattle.framehop_analysis.specs.declared.aarch64.instruction_analysis.epilogue.Restored.{Restored}

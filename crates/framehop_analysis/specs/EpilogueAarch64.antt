@@ -67,7 +67,3 @@ pub record IsEnd (bytes : List ℕ) (instructions : List EpilogueInstruction) : 
   pub rest : List ℕ
   pub spelled : bytes ≡ epilogue_spelling instructions ++ rest
   pub left : IsLeft rest (raise_of_all instructions)
-
--- Whatever instructions the bytes begin with up to an end, no rule says so of them.
-abbrev pub HasNoRule : List ℕ → Type 0
-HasNoRule bytes = (list : List EpilogueInstruction) (rule : UnwindRuleAarch64) → IsEnd bytes list → FieldsFit rule → ¬ IsRuleOfEpilogue list rule

@@ -3,7 +3,8 @@ use Rattle.std.specs.Prelude.{ℕ, ◌≡◌, ◌≢◌, ◌<◌, ◌*◌, ◌^�
 use Rattle.std.specs.Int.{to_le_bytes, w32}
 use Rattle.framehop_analysis.specs.EpilogueInstructionsAarch64.{EpilogueInstruction, Load, Add, EpilogueFits, epilogue_word, immediate_word}
 use Rattle.framehop_analysis.specs.MachineAarch64.{access_offset, raise}
-use Rattle.framehop_analysis.specs.EpilogueAarch64.{IsEnd, raise_of_all, last_load_offset}
+use Rattle.framehop_analysis.specs.EpilogueAarch64.{IsEnd, IsRuleOfEpilogue, FieldsFit, raise_of_all, last_load_offset}
+use Rattle.framehop_rules.specs.declared.aarch64.unwind_rule.UnwindRuleAarch64.{UnwindRuleAarch64}
 use Rattle.framehop_analysis.specs.declared.aarch64.instruction_analysis.epilogue.Restored.{Restored}
 use Rattle.framehop_analysis.specs.declared.aarch64.instruction_analysis.epilogue.ShortRestored.{ShortRestored}
 use Rattle.framehop_analysis.specs.declared.aarch64.instruction_analysis.epilogue.EpilogueInstructionType.{EpilogueInstructionType}
@@ -70,3 +71,7 @@ pub record Restores (instructions : List EpilogueInstruction) (restored : Restor
 -- It is kept of the instructions that some bytes begin with, up to where the function is left.
 abbrev pub IsRestoredBy : List ℕ → Restored → Type 0
 IsRestoredBy bytes restored = (instructions : List EpilogueInstruction) × IsEnd bytes instructions × Restores instructions restored
+
+-- Whatever instructions the bytes begin with up to an end, no rule says so of them.
+abbrev pub HasNoRule : List ℕ → Type 0
+HasNoRule bytes = (list : List EpilogueInstruction) (rule : UnwindRuleAarch64) → IsEnd bytes list → FieldsFit rule → ¬ IsRuleOfEpilogue list rule

@@ -5,8 +5,8 @@ ghost use Rattle.framehop_analysis.specs.FunctionEndsAarch64.{IsEndWord, IsLeft}
 ghost use Rattle.framehop_analysis.specs.Found.{IsFound};
 ghost use Rattle.framehop_analysis.specs.LookBackAarch64.{IsEpilogueRule};
 ghost use Rattle.framehop_analysis.specs.MachineAarch64.{raise, access_offset};
-ghost use Rattle.framehop_analysis.specs.EpilogueAarch64.{IsEnd, IsRuleFor, FieldsFit, FitsOffset, HasNoRule};
-ghost use Rattle.framehop_analysis.specs.EpilogueViewsAarch64.{IsTypeOfWord, SpellsNone, BeginsWithType, BeginsWithNone, IsRestoredBy, restored_of, raise_of_type, load_offset_after, carried};
+ghost use Rattle.framehop_analysis.specs.EpilogueAarch64.{IsEnd, IsRuleFor, FieldsFit, FitsOffset};
+ghost use Rattle.framehop_analysis.specs.EpilogueViewsAarch64.{IsTypeOfWord, SpellsNone, BeginsWithType, BeginsWithNone, IsRestoredBy, restored_of, raise_of_type, load_offset_after, carried, HasNoRule};
 ghost use Rattle.framehop_rules.specs.declared.aarch64.unwind_rule.UnwindRuleAarch64.{UnwindRuleAarch64};
 
 use crate::aarch64::instruction_analysis::branches::{auth_tail_call_words, is_branch};

@@ -1,7 +1,7 @@
 use Rattle.std.proofs.Common.{subst, List, [], ℕ, refl, Some, None}
 use Rattle.framehop_rules.specs.declared.aarch64.unwind_rule.UnwindRuleAarch64.TheVariants.{NoOp}
-use Rattle.framehop_analysis.specs.EpilogueAarch64.{IsEnd, HasNoRule}
-use Rattle.framehop_analysis.specs.EpilogueViewsAarch64.{restored_of}
+use Rattle.framehop_analysis.specs.EpilogueAarch64.{IsEnd}
+use Rattle.framehop_analysis.specs.EpilogueViewsAarch64.{restored_of, HasNoRule}
 use Rattle.framehop_analysis.specs.LookBackAarch64.{Back}
 use Rattle.framehop_analysis.proofs.EpilogueReadingAarch64.{not_recognised}
 use Rattle.framehop_analysis.proofs.OneEpilogueAarch64.{read_epilogue, read_forward}
