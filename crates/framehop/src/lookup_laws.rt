@@ -13,6 +13,7 @@ ghost use Rattle.framehop.specs.UnwindData.{HasHeaderOfEhFrame, UnwindData, scan
 
 use framehop_rows::DwarfUnwinding;
 use framehop_rules::Arch;
+pub use framehop_tables::table_laws::tables_attempt_as_indexes;
 
 /// The FDEs of `.debug_frame` are never found by a header, whatever sections a module has.
 pub fn headers_are_of_eh_frame()

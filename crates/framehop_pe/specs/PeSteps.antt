@@ -18,6 +18,7 @@ abbrev pub attempt_by : ToUndo → Option UnwindRuleX86_64 → PeAttempt UnwindR
 attempt_by undo (Some rule) = SaysRule rule
 attempt_by undo None = SaysCodes (caller_of undo)
 
+-- The attempt by what is undone, by the rule of its parts, if they have one.
 abbrev pub attempt_to_undo : ToUndo → PeAttempt UnwindRuleX86_64 UnwindRegsX86_64
 attempt_to_undo undo = attempt_by undo (rule_of_parts (parts_of undo))
 
