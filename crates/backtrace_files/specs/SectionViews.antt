@@ -3,5 +3,6 @@ use Rattle.framehop_modules.specs.Sections.{Sections}
 use Rattle.backtrace_files.specs.Sections.{sections_of}
 use Rattle.backtrace_files.specs.declared.sections.FileSections.{FileSections}
 
+-- a file's sections by their names
 abbrev pub sections_seen : FileSections → Sections
 sections_seen sections = sections_of sections.file.bytes.now sections.file.header
