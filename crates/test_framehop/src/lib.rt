@@ -13,6 +13,8 @@ mod expressions;
 mod histories;
 #[cfg(test)]
 mod in_place_vec;
+#[cfg(test)]
+mod memory;
 mod pe_files;
 #[cfg(test)]
 mod pe_steps;

@@ -12,7 +12,7 @@ use std::alloc::Global;
 use std::test::Fail;
 
 /// The row of a function from 0x1000 to 0x1010, with its unwind info at 0x2000.
-static ROW: [u8; 12] = [0, 0x10, 0, 0, 0x10, 0x10, 0, 0, 0, 0x20, 0, 0];
+pub static ROW: [u8; 12] = [0, 0x10, 0, 0, 0x10, 0x10, 0, 0, 0, 0x20, 0, 0];
 
 /// The same row after one that begins above it.
 static UNSORTED: [u8; 24] = [
@@ -20,10 +20,10 @@ static UNSORTED: [u8; 24] = [
 ];
 
 /// Its unwind info: RBX is pushed, and the stack pointer goes down by 0x20.
-static INFO: [u8; 8] = [0x01, 0x05, 0x02, 0x00, 0x05, 0x32, 0x01, 0x30];
+pub static INFO: [u8; 8] = [0x01, 0x05, 0x02, 0x00, 0x05, 0x32, 0x01, 0x30];
 
 /// An unwind info whose codes have no rule: RBP is pushed after an allocation of 8.
-static UNDONE: [u8; 8] = [0x01, 0x02, 0x02, 0x00, 0x02, 0x50, 0x01, 0x02];
+pub static UNDONE: [u8; 8] = [0x01, 0x02, 0x02, 0x00, 0x02, 0x50, 0x01, 0x02];
 
 /// Its code: push rbx; sub rsp, 0x20; five times nop; add rsp, 0x20; pop rbx; ret.
 static TEXT: [u8; 16] = [
@@ -34,7 +34,7 @@ static TEXT: [u8; 16] = [
 type Registers = (u64, u64, u64);
 
 /// A file with these rows, the function's code, and this unwind info in `.xdata`.
-fn file_of<'a>(pdata: &'a [u8], info: &'a [u8]) -> PeFile<'a> {
+pub fn file_of<'a>(pdata: &'a [u8], info: &'a [u8]) -> PeFile<'a> {
     PeFile {
         pdata: section(0x5000, pdata),
         rdata: section(0x4000, &[]),

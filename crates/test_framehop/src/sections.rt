@@ -12,7 +12,7 @@ use test_readers::WORKED;
 
 /// A section `.debug_frame`: a CIE of version 4, whose addresses have 4 bytes, and an FDE of sixteen
 /// bytes of code at 0x1000, whose CFA is the expression RSP + 8.
-static NARROW: [u8; 40] = [
+pub static NARROW: [u8; 40] = [
     0x10, 0, 0, 0, 0xff, 0xff, 0xff, 0xff, 4, 0, 4, 0, 1, 0x78, 0x10, 0x0c, 7, 8, 0x90, 1, 0x10, 0,
     0, 0, 0, 0, 0, 0, 0, 0x10, 0, 0, 0x10, 0, 0, 0, 0x0f, 2, 0x77, 8,
 ];

@@ -5,7 +5,7 @@ use framehop::{
     ExplicitModuleSectionInfo, FrameAddress, Generations, Module, ModuleSectionInfo,
     ModuleUnwinding, Session, load_module,
 };
-use std::alloc::Global;
+use std::alloc::{AllocError, Global};
 use std::ops::Range;
 use std::test::Fail;
 
@@ -15,15 +15,24 @@ pub type Sections<'a> = ExplicitModuleSectionInfo<&'a [u8]>;
 /// What a step gives, the registers that it leaves, and whether its rule was found again.
 pub type Stepped<R> = (Option<u64>, R, bool);
 
-/// A module with these sections at these addresses.
-pub fn module_of<'a, I: ModuleSectionInfo<&'a [u8]> + Drop>(
+/// A module with these sections at these addresses, if memory isn't refused.
+pub fn try_module_of<'a, I: ModuleSectionInfo<&'a [u8]> + Drop>(
     alloc: Global,
     mut sections: I,
     range: Range<u64>,
-) -> Result<Module<&'a [u8]>, Fail> {
+) -> Result<Module<&'a [u8]>, AllocError> {
     let base = range.start;
     let name = String::from_str(alloc, "m")?;
-    Ok(load_module(alloc, name, range, base, &mut sections)?)
+    load_module(alloc, name, range, base, &mut sections)
+}
+
+/// A module with these sections at these addresses.
+pub fn module_of<'a, I: ModuleSectionInfo<&'a [u8]> + Drop>(
+    alloc: Global,
+    sections: I,
+    range: Range<u64>,
+) -> Result<Module<&'a [u8]>, Fail> {
+    Ok(try_module_of(alloc, sections, range)?)
 }
 
 /// A session of one unwinder, which has this module, and of one cache with this context.

@@ -3,7 +3,7 @@ use crate::worked::word_at;
 use framehop::aarch64::CacheAarch64;
 use framehop::x86_64::{CacheX86_64, UnwindRegsX86_64, UnwinderX86_64};
 use framehop::{
-    AllocationPolicy, ExplicitModuleSectionInfo, FrameAddress, Generations,
+    AllocationPolicy, Error, ExplicitModuleSectionInfo, FrameAddress, Generations,
     MayAllocateDuringUnwind, Module, MustNotAllocateDuringUnwind, Unwinder, load_module,
 };
 use std::alloc::Global;
@@ -16,6 +16,13 @@ const BY_EXPRESSION: [u8; 32] = [
     0x18, 0, 0, 0, 0x38, 0, 0, 0, 0x10, 0x10, 0, 0, 0, 0, 0, 0, 0x10, 0, 0, 0, 0, 0, 0, 0, 0x0f, 2,
     0x77, 8, 0, 0, 0, 0,
 ];
+
+/// The worked section, with that FDE.
+pub fn with_expression(alloc: Global) -> Result<Vec<u8>, Fail> {
+    let mut both = WORKED[..52].to_vec(alloc)?;
+    both.extend_from_slice(&BY_EXPRESSION)?;
+    Ok(both)
+}
 
 /// The registers ip, sp and bp.
 pub type Registers = (u64, u64, u64);
@@ -31,7 +38,7 @@ pub fn module_with(alloc: Global, section: &[u8]) -> Result<Module<Vec<u8>>, Fai
 }
 
 /// An unwinder of one module, which has this section.
-fn unwinder_of<P: AllocationPolicy>(
+pub fn unwinder_of<P: AllocationPolicy>(
     alloc: Global,
     section: &[u8],
 ) -> Result<UnwinderX86_64<Vec<u8>, P>, Fail> {
@@ -39,22 +46,30 @@ fn unwinder_of<P: AllocationPolicy>(
     let mut unwinder = UnwinderX86_64::new(alloc, &mut generations)?;
     let module = module_with(alloc, section)?;
     if unwinder.add_module(&mut generations, module).is_err() {
-        return Err(Fail::new("not loaded"));
+        return Err(Fail::new("OutOfMemory"));
     }
     Ok(unwinder)
 }
 
-/// What a step of any unwinder on x86_64 gives, and the registers that it leaves.
-fn step_by<U: Unwinder<UnwindRegs = UnwindRegsX86_64>>(
+/// The frame of an instruction pointer, or of a return address other than 0.
+pub fn frame_at(is_first: bool, address: u64) -> FrameAddress {
+    match FrameAddress::from_return_address(address) {
+        Some(frame) if !is_first => frame,
+        _ => FrameAddress::from_instruction_pointer(address),
+    }
+}
+
+/// What a step of any unwinder on x86_64 gives from a first frame or a later one, and the registers that it leaves.
+pub fn try_step<U: Unwinder<UnwindRegs = UnwindRegsX86_64>>(
     unwinder: &U,
     cache: &mut U::Cache,
+    is_first: bool,
     (ip, sp, bp): Registers,
-) -> Result<(Option<u64>, Registers), Fail> {
+) -> (Result<Option<u64>, Error>, Registers) {
     let mut regs = UnwindRegsX86_64::new(ip, sp, bp);
-    let address = FrameAddress::from_instruction_pointer(ip);
     let mut read = word_at;
-    let return_address = unwinder.unwind_frame(address, &mut regs, cache, &mut read)?;
-    Ok((return_address, (regs.ip(), regs.sp(), regs.bp())))
+    let answer = unwinder.unwind_frame(frame_at(is_first, ip), &mut regs, cache, &mut read);
+    (answer, (regs.ip(), regs.sp(), regs.bp()))
 }
 
 /// What a step gives in a module with this section, and the registers that it leaves.
@@ -65,7 +80,8 @@ pub fn step<P: AllocationPolicy>(
 ) -> Result<(Option<u64>, Registers), Fail> {
     let unwinder = unwinder_of::<P>(rt.alloc(), section)?;
     let mut cache = CacheX86_64::<P>::new_in(rt.alloc())?;
-    step_by(&unwinder, &mut cache.0, frame)
+    let (answer, left) = try_step(&unwinder, &mut cache.0, true, frame);
+    Ok((answer?, left))
 }
 
 /// Two equal steps through a new cache: the second finds the rule that the first kept.
@@ -78,7 +94,7 @@ fn a_cache_counts_its_look_ups(rt: HostRuntime) -> Result<(), Fail> {
         .add_module(&mut generations, module_with(alloc, &WORKED)?)
         .is_err()
     {
-        return Err(Fail::new("not loaded"));
+        return Err(Fail::new("OutOfMemory"));
     }
     let mut cache = CacheX86_64::new(alloc)?;
     let address = FrameAddress::from_instruction_pointer(0x101004);
@@ -104,8 +120,7 @@ fn new_caches_have_counted_nothing(rt: HostRuntime) -> Result<(), Fail> {
 
 #[test]
 fn a_row_gives_the_caller(rt: HostRuntime) -> Result<(), Fail> {
-    let mut both = WORKED[..52].to_vec(rt.alloc())?;
-    both.extend_from_slice(&BY_EXPRESSION)?;
+    let both = with_expression(rt.alloc())?;
     for (place, section, frame, caller) in [
         (
             "before the push RSP is raised",
