@@ -1,6 +1,6 @@
 //! Steps in modules of Mach-O files by compact unwind info, with a session's caches, on the worked stack.
 
-use crate::sessions::{Sections, Stepped, module_of, step_twice};
+use crate::sessions::{Sections, Stepped, module_of, step_after, step_twice};
 use crate::worked::word_at;
 use framehop::aarch64::{ArchAarch64, UnwindRegsAarch64};
 use framehop::x86_64::{ArchX86_64, UnwindRegsX86_64};
@@ -151,5 +151,46 @@ fn call_frames_are_found_by_their_offset(rt: HostRuntime) -> Result<(), Fail> {
     let frame = (0x101002, 0x20, 0x20);
     let by_frame_pointer = step_x86_64(rt.alloc(), sections, false, frame)?;
     assert!(rt; by_frame_pointer == (Some(0x100200), (0x100200, 0x30, 0x40), true));
+    Ok(())
+}
+
+/// What the second of two steps of x86_64 through one cache gives, each from the kind of a frame and registers.
+fn step_after_x86_64(
+    alloc: Global,
+    before: (bool, Registers),
+    frame: (bool, Registers),
+) -> Result<Stepped<Registers>, Fail> {
+    let module = module_of(alloc, sections_of(&X86_64, None), 0x100000..0x110000)?;
+    let context = DwarfUnwindContext::new(alloc)?;
+    let (return_address, regs, is_hit) = step_after::<
+        BySections<ArchX86_64, &[u8], MustNotAllocateDuringUnwind>,
+        _,
+    >(
+        alloc,
+        module,
+        context,
+        (frame_at(before.0, before.1.0)?, regs_of(before.1)),
+        (frame_at(frame.0, frame.1.0)?, regs_of(frame.1)),
+        word_at,
+    )?;
+    Ok((return_address, (regs.ip(), regs.sp(), regs.bp()), is_hit))
+}
+
+/// The registers of x86_64.
+fn regs_of((ip, sp, bp): Registers) -> UnwindRegsX86_64 {
+    UnwindRegsX86_64::new(ip, sp, bp)
+}
+
+/// A first frame and a later one with the same address for lookups, the start of a function with a stack of six words: the first is
+/// before it, the later one has it. A cache has the rule of the one when the other's is asked for.
+#[test]
+fn a_cache_keeps_the_kinds_of_frames_apart(rt: HostRuntime) -> Result<(), Fail> {
+    let (first, later) = (
+        (true, (0x100570, 0x48, 0x20)),
+        (false, (0x100571, 0x20, 0x20)),
+    );
+    let wanted = (Some(0x100100), (0x100100, 0x50, 0x20), false);
+    assert!(rt; step_after_x86_64(rt.alloc(), first, later)? == wanted);
+    assert!(rt; step_after_x86_64(rt.alloc(), later, first)? == wanted);
     Ok(())
 }
