@@ -1,0 +1,5 @@
+pub mod Lists
+pub mod ProcessLaws
+pub mod SessionLaws
+pub mod StillCallback
+pub mod WalkLaws

@@ -1,0 +1,35 @@
+-- The process of a core, and the module of a mapping.
+use Rattle.std.proofs.Common.{◌≡◌, ℕ, List, [], ap, ◌∙◌}
+use Rattle.backtrace_files.specs.Files.{CodeOfFile, ProcessFile, ranges_of}
+use Rattle.core_files.specs.CoreFiles.{CoreContents}
+use Rattle.core_files.specs.MappedFiles.{FileMapping}
+use Rattle.core_files.specs.Memory.{word_at}
+use Rattle.core_files.specs.Ranges.{KnownRange}
+use Rattle.framehop.specs.UnwindData.{UnwindData}
+use Rattle.framehop_unwinder.specs.Modules.{Loaded}
+use Rattle.backtrace_walks.specs.Backtraces.{Process, process_with}
+use Rattle.backtrace_walks.specs.Modules.{data_of_code, module_with, modules_of}
+
+-- files and the words of ranges, as a process
+abbrev pub process_by : List ProcessFile → List KnownRange → List KnownRange → Process
+process_by files segments ranges = record { files = files; modules = modules_of files; words = word_at segments ranges }
+
+pub same_process : (core : CoreContents) (files : List ProcessFile) (segments ranges : List KnownRange)
+    → segments ≡ core.segments → ranges ≡ ranges_of files → process_by files segments ranges ≡ process_with core files
+same_process core files segments ranges same_segments same_ranges =
+    ap (λ (ss : List KnownRange). process_by files ss ranges) same_segments
+    ∙ ap (λ (rs : List KnownRange). process_by files core.segments rs) same_ranges
+
+-- a module, by its parts
+abbrev pub module_by : List ℕ → ℕ → ℕ → ℕ → UnwindData → Loaded UnwindData
+module_by name start end base given = record { name = name; start = start; end = end; base = base; unwind_data = given }
+
+pub module_is : (module_ : Loaded UnwindData) (mapping : FileMapping) (code : CodeOfFile)
+    → module_.name ≡ [] → module_.start ≡ mapping.start → module_.end ≡ mapping.end → module_.base ≡ code.bias
+    → module_.unwind_data ≡ data_of_code code → module_ ≡ module_with mapping code
+module_is module_ mapping code named starts ends based given =
+    ap (λ (n : List ℕ). module_by n module_.start module_.end module_.base module_.unwind_data) named
+    ∙ ap (λ (n : ℕ). module_by [] n module_.end module_.base module_.unwind_data) starts
+    ∙ ap (λ (n : ℕ). module_by [] mapping.start n module_.base module_.unwind_data) ends
+    ∙ ap (λ (n : ℕ). module_by [] mapping.start mapping.end n module_.unwind_data) based
+    ∙ ap (λ (d : UnwindData). module_by [] mapping.start mapping.end code.bias d) given

@@ -1,0 +1,10 @@
+pub mod Backtraces
+pub mod Modules
+pub mod ProcessViews
+pub mod RegisterViews
+pub mod Registers
+pub mod SessionViews
+pub mod Signals
+pub mod Starts
+pub mod WalkedViews
+pub mod Walks

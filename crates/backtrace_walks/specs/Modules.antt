@@ -1,0 +1,40 @@
+-- The modules of a process's files.
+use Rattle.std.specs.Prelude.{ℕ, List, [], ◌∷◌, Option, Some, None}
+use Rattle.std.specs.Option.{option_map}
+use Rattle.backtrace_files.specs.Files.{CodeOfFile, ProcessFile, loaded_code}
+use Rattle.backtrace_files.specs.Sections.{sections_of}
+use Rattle.core_files.specs.MappedFiles.{FileMapping}
+use Rattle.framehop.specs.UnwindData.{UnwindData, unwind_data_of}
+use Rattle.framehop_unwinder.specs.Modules.{Loaded, with_loaded}
+
+-- the unwind data of a file's code: that of its sections
+abbrev pub data_of_code : CodeOfFile → UnwindData
+data_of_code code = unwind_data_of (sections_of code.bytes code.header)
+
+-- the module of a mapping with code: its addresses are those of the mapping, and relative ones are the file's
+abbrev pub module_with : FileMapping → CodeOfFile → Loaded UnwindData
+module_with mapping code = record {
+  name = [];
+  start = mapping.start;
+  end = mapping.end;
+  base = code.bias;
+  unwind_data = data_of_code code;
+}
+
+-- the module of a file, if its code is mapped
+abbrev pub module_of : ProcessFile → Option (Loaded UnwindData)
+module_of file = option_map (module_with file.mapping) (loaded_code file)
+
+-- modules, once one more is loaded, if there is one
+abbrev pub with_one : List (Loaded UnwindData) → Option (Loaded UnwindData) → List (Loaded UnwindData)
+with_one modules None = modules
+with_one modules (Some module_) = with_loaded module_ modules
+
+-- modules, once those of files are loaded, one after the other
+abbrev pub with_files : List (Loaded UnwindData) → List ProcessFile → List (Loaded UnwindData)
+with_files modules [] = modules
+with_files modules (file ∷ files) = with_files (with_one modules (module_of file)) files
+
+-- the modules of files
+abbrev pub modules_of : List ProcessFile → List (Loaded UnwindData)
+modules_of files = with_files [] files

@@ -1,0 +1,113 @@
+//! Architectures, by how cores state the registers of their threads.
+
+ghost use Rattle.std.specs.Prelude.{◌≡◌, IfOk, map};
+ghost use Rattle.std.specs.Option.{option_map};
+ghost use Rattle.backtrace_text.specs.FrameViews.{register_view};
+ghost use Rattle.core_files.specs.MemoryViews.{word_of};
+ghost use Rattle.backtrace_walks.specs.Registers.{ThreadForms};
+ghost use Rattle.backtrace_walks.specs.RegisterViews.{start_seen};
+
+use crate::registers::{
+    ThreadStart, registers_aarch64, registers_x86_64, shown_aarch64, shown_x86_64,
+};
+use crate::signals::{interrupted_aarch64, interrupted_x86_64};
+use backtrace_text::RegisterValue;
+use core_files::{Memory, Thread, ThreadRegisters};
+use framehop::{BySections, MustNotAllocateDuringUnwind, Unwinding};
+use framehop_registers::aarch64::UnwindRegsAarch64;
+use framehop_registers::x86_64::UnwindRegsX86_64;
+use framehop_rules::aarch64::ArchAarch64;
+use framehop_rules::x86_64::ArchX86_64;
+use std::alloc::{AllocError, Global};
+
+/// An architecture, by how a core states the registers of its threads, and by which of a frame's are shown.
+pub trait ThreadArch: Unwinding {
+    ghost forms: { ThreadForms Self.UnwindRegs };
+
+    /// Where the walk over a thread's stack begins, if the thread's registers are this architecture's.
+    fn start_of(thread: &Thread) -> Option<ThreadStart<Self::UnwindRegs>>
+        ensures { option_map start_seen result ≡ forms.start thread.now };
+
+    /// Where a thread was that a signal interrupted, by a frame's code address and registers: `None` if its code isn't what
+    /// handlers return to.
+    fn interrupted(
+        memory: &Memory<'_, '_>,
+        code: u64,
+        registers: &Self::UnwindRegs,
+    ) -> Option<ThreadStart<Self::UnwindRegs>>
+        ensures { option_map start_seen result
+            ≡ forms.interrupted (word_of memory.now) code registers.now };
+
+    /// The registers of a frame that are shown.
+    fn shown_registers(
+        alloc: Global,
+        registers: &Self::UnwindRegs,
+    ) -> Result<Vec<RegisterValue>, AllocError>
+        ensures { IfOk result (λ shown.
+            map register_view shown.items ≡ forms.shown registers.now) };
+}
+
+impl ThreadArch for ArchX86_64 {
+    ghost use Rattle.backtrace_walks.specs.Registers.{forms_x86_64};
+
+    ghost forms = { forms_x86_64 };
+
+    fn start_of(thread: &Thread) -> Option<ThreadStart<UnwindRegsX86_64>> {
+        match &thread.registers {
+            ThreadRegisters::X86_64(user) => Some(ThreadStart {
+                pc: user.rip,
+                registers: registers_x86_64(user),
+            }),
+            ThreadRegisters::Aarch64(_) => None,
+        }
+    }
+
+    fn interrupted(
+        memory: &Memory<'_, '_>,
+        code: u64,
+        registers: &UnwindRegsX86_64,
+    ) -> Option<ThreadStart<UnwindRegsX86_64>> {
+        interrupted_x86_64(memory, code, registers)
+    }
+
+    fn shown_registers(
+        alloc: Global,
+        registers: &UnwindRegsX86_64,
+    ) -> Result<Vec<RegisterValue>, AllocError> {
+        shown_x86_64(alloc, registers)
+    }
+}
+
+impl ThreadArch for ArchAarch64 {
+    ghost use Rattle.backtrace_walks.specs.Registers.{forms_aarch64};
+
+    ghost forms = { forms_aarch64 };
+
+    fn start_of(thread: &Thread) -> Option<ThreadStart<UnwindRegsAarch64>> {
+        match &thread.registers {
+            ThreadRegisters::Aarch64(user) => Some(ThreadStart {
+                pc: user.pc,
+                registers: registers_aarch64(user, thread.pointer_authentication_masks),
+            }),
+            ThreadRegisters::X86_64(_) => None,
+        }
+    }
+
+    fn interrupted(
+        memory: &Memory<'_, '_>,
+        code: u64,
+        registers: &UnwindRegsAarch64,
+    ) -> Option<ThreadStart<UnwindRegsAarch64>> {
+        interrupted_aarch64(memory, code, registers)
+    }
+
+    fn shown_registers(
+        alloc: Global,
+        registers: &UnwindRegsAarch64,
+    ) -> Result<Vec<RegisterValue>, AllocError> {
+        shown_aarch64(alloc, registers)
+    }
+}
+
+/// Modules of an architecture that are unwound by the sections of files, which are read in place. No step allocates.
+pub type FileModules<'a, A> = BySections<A, &'a [u8], MustNotAllocateDuringUnwind>;
