@@ -1,0 +1,2 @@
+pub mod ArgumentViews
+pub mod Arguments

@@ -1,0 +1,253 @@
+//! The arguments of the program.
+
+ghost use Rattle.std.specs.Prelude.{◌≡◌, ◌<◌, IfSome, map, option_map, string_bytes};
+ghost use Rattle.backtrace.specs.Arguments.{begins_with_dash, digit_of, number_of, number_with, parsed_limit, parsed_next, parsed_path, parsed_thread, parsed_word, request_by, request_of};
+ghost use Rattle.backtrace.specs.ArgumentViews.{parsed_seen, request_seen};
+
+use backtrace_walks::BacktraceOptions;
+
+/// How the program is called.
+pub(crate) const USAGE: &str =
+    "usage: backtrace CORE [--root DIR] [--thread ID] [--limit N] [--registers]
+Prints the stacks of the threads of a core file.
+  --root DIR     reads the files that the core names below DIR
+  --thread ID    prints the stack of this thread alone
+  --limit N      prints at most N frames of a stack, 1048576 without it
+  --registers    prints the registers of each frame too";
+
+// The most frames of a stack, if no limit is said.
+const DEFAULT_LIMIT: u64 = 1 << 20;
+
+/// The stacks that a run is asked for.
+#[derive(Clone, Copy, Debug)]
+pub(crate) struct CoreRequest<'a> {
+    /// The path of the core.
+    pub(crate) core: &'a str,
+    /// The folder that the names of mapped files are below, or no text.
+    pub(crate) root: &'a str,
+    /// Which stacks, and how much of each.
+    pub(crate) options: BacktraceOptions,
+}
+
+/// What a run is asked for.
+#[derive(Clone, Copy, Debug)]
+pub(crate) enum Request<'a> {
+    /// The stacks of a core.
+    Stacks(CoreRequest<'a>),
+    /// How the program is called.
+    Help,
+}
+
+// What the next word is.
+#[derive(Clone, Copy, Debug)]
+enum Awaited {
+    // The path of the core, or an option.
+    Word,
+    // The folder of `--root`.
+    Root,
+    // The number of `--thread`.
+    Thread,
+    // The number of `--limit`.
+    Limit,
+}
+
+// What the words so far say.
+#[derive(Clone, Copy, Debug)]
+struct Parsed<'a> {
+    core: Option<&'a str>,
+    root: &'a str,
+    options: BacktraceOptions,
+    help: bool,
+    awaited: Awaited,
+}
+
+// The value of a decimal digit.
+fn digit_of(byte: u8) -> Option<u64>
+    ensures { result ≡ digit_of byte }
+{
+    if b'0' <= byte && byte <= b'9' {
+        Some(u64::from(byte - b'0'))
+    } else {
+        None
+    }
+}
+
+// A number with a digit more, if it is one of 64 bits.
+fn number_with(number: u64, byte: u8) -> Option<u64>
+    ensures { result ≡ number_with number byte }
+{
+    let Some(digit) = digit_of(byte) else {
+        return None;
+    };
+    match number.checked_mul(10) {
+        Some(tens) => tens.checked_add(digit),
+        None => None,
+    }
+}
+
+// The number that decimal digits say, if it is one of 64 bits.
+fn number_of(word: &str) -> Option<u64>
+    ensures { result ≡ number_of word.now }
+{
+    if word.is_empty() {
+        return None;
+    }
+    let mut number = 0;
+    for byte in word.as_bytes() {
+        let Some(next) = number_with(number, *byte) else {
+            return None;
+        };
+        number = next;
+    }
+    Some(number)
+}
+
+// Whether a word begins as an option does.
+fn begins_with_dash(word: &str) -> bool
+    ensures { result ≡ begins_with_dash word.now }
+{
+    match word.as_bytes() {
+        [first, ..] => *first == b'-',
+        [] => false,
+    }
+}
+
+// What the words say, with the path of the core, if there is none yet.
+fn parsed_path<'a>(parsed: Parsed<'a>, word: &'a str) -> Option<Parsed<'a>>
+    ensures { option_map parsed_seen result ≡ parsed_path (parsed_seen parsed.entry) word.entry.now }
+{
+    if parsed.core.is_some() || begins_with_dash(word) {
+        return None;
+    }
+    Some(Parsed {
+        core: Some(word),
+        ..parsed
+    })
+}
+
+// What the words say, with one that is no value of an option.
+fn parsed_word<'a>(parsed: Parsed<'a>, word: &'a str) -> Option<Parsed<'a>>
+    ensures { option_map parsed_seen result ≡ parsed_word (parsed_seen parsed.entry) word.entry.now }
+{
+    match word {
+        "--root" => Some(Parsed {
+            awaited: Awaited::Root,
+            ..parsed
+        }),
+        "--thread" => Some(Parsed {
+            awaited: Awaited::Thread,
+            ..parsed
+        }),
+        "--limit" => Some(Parsed {
+            awaited: Awaited::Limit,
+            ..parsed
+        }),
+        "--registers" => Some(Parsed {
+            options: BacktraceOptions {
+                registers: true,
+                ..parsed.options
+            },
+            ..parsed
+        }),
+        "--help" | "-h" => Some(Parsed {
+            help: true,
+            ..parsed
+        }),
+        path => parsed_path(parsed, path),
+    }
+}
+
+// What the words say, with the id of a thread.
+fn parsed_thread<'a>(parsed: Parsed<'a>, word: &str) -> Option<Parsed<'a>>
+    ensures { option_map parsed_seen result ≡ parsed_thread (parsed_seen parsed.entry) word.now }
+{
+    match number_of(word) {
+        Some(thread) => Some(Parsed {
+            options: BacktraceOptions {
+                thread: Some(thread),
+                ..parsed.options
+            },
+            awaited: Awaited::Word,
+            ..parsed
+        }),
+        None => None,
+    }
+}
+
+// What the words say, with a limit of frames.
+fn parsed_limit<'a>(parsed: Parsed<'a>, word: &str) -> Option<Parsed<'a>>
+    ensures { option_map parsed_seen result ≡ parsed_limit (parsed_seen parsed.entry) word.now }
+{
+    match number_of(word) {
+        Some(limit) => Some(Parsed {
+            options: BacktraceOptions {
+                limit,
+                ..parsed.options
+            },
+            awaited: Awaited::Word,
+            ..parsed
+        }),
+        None => None,
+    }
+}
+
+// What the words say, with one more.
+fn parsed_next<'a>(parsed: Parsed<'a>, word: &'a str) -> Option<Parsed<'a>>
+    ensures { option_map parsed_seen result ≡ parsed_next (parsed_seen parsed.entry) word.entry.now }
+{
+    match parsed.awaited {
+        Awaited::Word => parsed_word(parsed, word),
+        Awaited::Root => Some(Parsed {
+            root: word,
+            awaited: Awaited::Word,
+            ..parsed
+        }),
+        Awaited::Thread => parsed_thread(parsed, word),
+        Awaited::Limit => parsed_limit(parsed, word),
+    }
+}
+
+// What words ask for, once all are read.
+fn request_by<'a>(parsed: Parsed<'a>) -> Option<Request<'a>>
+    ensures { option_map request_seen result ≡ request_by (parsed_seen parsed.entry) }
+{
+    if parsed.help {
+        return Some(Request::Help);
+    }
+    let Awaited::Word = parsed.awaited else {
+        return None;
+    };
+    match parsed.core {
+        Some(core) => Some(Request::Stacks(CoreRequest {
+            core,
+            root: parsed.root,
+            options: parsed.options,
+        })),
+        None => None,
+    }
+}
+
+/// What the arguments ask for, after the program's name: `None` if they name an option that there isn't, if a value is missing or no
+/// number of 64 bits, or if they have no core or two.
+pub(crate) fn request_of(words: &[String]) -> Option<Request<'_>>
+    ensures { option_map request_seen result ≡ request_of (map string_bytes words.now) }
+{
+    let mut parsed = Parsed {
+        core: None,
+        root: "",
+        options: BacktraceOptions {
+            thread: None,
+            limit: DEFAULT_LIMIT,
+            registers: false,
+        },
+        help: false,
+        awaited: Awaited::Word,
+    };
+    for word in words {
+        let Some(next) = parsed_next(parsed, word.as_str()) else {
+            return None;
+        };
+        parsed = next;
+    }
+    request_by(parsed)
+}

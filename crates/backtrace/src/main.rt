@@ -1,0 +1,110 @@
+//! Prints the stacks of the threads of a core file, in lines like gdb's.
+//!
+//! The exit status is 0 if the stacks were printed, 2 if the arguments or the core has a fault, or the core hasn't the thread that is
+//! asked for, and 1 if the core can't be read, standard output failed or memory ran out.
+#![tactic(auto)]
+
+mod arguments;
+mod files;
+mod stacks;
+
+use anyhow::{Context, Result, bail};
+use arguments::{CoreRequest, Request, USAGE, request_of};
+use backtrace_files::has_other_build_id;
+use backtrace_text::push_name;
+use core_files::{CoreError, CoreFile, Thread};
+use files::{NamedFile, contents_of, read_files};
+use json_program::Streamed;
+use stacks::write_stacks;
+use std::process::ExitCode;
+use std::{env, fs, io};
+
+// The exit status if the arguments or the core has a fault.
+const FAULTY: u8 = 2;
+
+// Says something of a file on standard error, by its name in ASCII.
+fn say_of(rt: &HostRuntime, name: &[u8], what: &str) -> Result<()> {
+    let mut line = Vec::new(rt.alloc());
+    push_name(rt.alloc(), &mut line, name)?;
+    let name = String::from_utf8(line)?;
+    eprintln!(rt; "backtrace: {name}: {what}")?;
+    Ok(())
+}
+
+// Says of a file that it is missing or another than the core's.
+fn say_if_missing(rt: &HostRuntime, core: &CoreFile<'_>, file: &NamedFile<'_>) -> Result<()> {
+    match &file.bytes {
+        Ok(bytes) => {
+            if has_other_build_id(core, file.name, bytes.as_slice()) {
+                say_of(rt, file.name, "has another build id than the core")?;
+            }
+        }
+        Err(error) => {
+            let why = format!(in rt.alloc(); "{error}")?;
+            say_of(rt, file.name, why.as_str())?;
+        }
+    }
+    Ok(())
+}
+
+// Whether one of the threads has this id.
+fn has_thread(threads: &[Thread], id: u64) -> bool {
+    threads.iter().any(|thread| u64::from(thread.id) == id)
+}
+
+// Prints the stacks of a core that was read.
+fn print_stacks(
+    rt: &HostRuntime,
+    core: &CoreFile<'_>,
+    request: &CoreRequest<'_>,
+) -> Result<ExitCode> {
+    if let Some(id) = request.options.thread {
+        if !has_thread(core.threads(), id) {
+            eprintln!(rt; "backtrace: the core has no thread {id}")?;
+            return Ok(ExitCode::from(FAULTY));
+        }
+    }
+    let files = read_files(rt, request.root, core.mapped_files())?;
+    for file in &files {
+        say_if_missing(rt, core, file)?;
+    }
+    let contents = contents_of(rt.alloc(), files.as_slice(), core.mapped_files())?;
+    let mut sink = Streamed::new(io::writer(rt));
+    write_stacks(
+        rt.alloc(),
+        core,
+        contents.as_slice(),
+        &request.options,
+        &mut sink,
+    )?;
+    Ok(ExitCode::SUCCESS)
+}
+
+// Reads a core, and prints its stacks.
+fn run(rt: &HostRuntime, request: &CoreRequest<'_>) -> Result<ExitCode> {
+    let path = request.core;
+    let bytes = fs::read(rt, path).context(format_args!("{path}"))?;
+    match CoreFile::parse(rt.alloc(), bytes.as_slice()) {
+        Ok(core) => print_stacks(rt, &core, request),
+        Err(CoreError::OutOfMemory) => bail!("out of memory"),
+        Err(refusal) => {
+            eprintln!(rt; "backtrace: {path}: {refusal}")?;
+            Ok(ExitCode::from(FAULTY))
+        }
+    }
+}
+
+fn main(rt: HostRuntime) -> Result<ExitCode> {
+    let words: Vec<String> = env::args(&rt)?.skip(1).collect(rt.alloc())?;
+    match request_of(words.as_slice()) {
+        Some(Request::Stacks(request)) => run(&rt, &request),
+        Some(Request::Help) => {
+            println!(rt; "{USAGE}")?;
+            Ok(ExitCode::SUCCESS)
+        }
+        None => {
+            eprintln!(rt; "{USAGE}")?;
+            Ok(ExitCode::from(FAULTY))
+        }
+    }
+}
