@@ -16,12 +16,12 @@ Segment = collections.namedtuple("Segment", "kind flags offset address size")
 
 
 class Elf:
-    """An ELF file. Gives up if the file is no such file."""
+    """An ELF file, of the bytes at its path or of those that are given. Gives up if the file is no such file."""
 
-    def __init__(self, path):
+    def __init__(self, path, data=None):
         self.path = path
         try:
-            self.data = pathlib.Path(path).read_bytes()
+            self.data = pathlib.Path(path).read_bytes() if data is None else data
         except OSError as error:
             give_up(error)
         if self.data[:6] != b"\x7fELF\x02\x01":
