@@ -1,0 +1,307 @@
+"""Programs that are stopped, and cores that are made of them, by gdb or on aarch64 by qemu.
+
+A core of qemu has neither an NT_FILE nor an NT_ARM_PAC_MASK, which Linux writes: they are added, with the mappings that the program copied
+from its /proc/self/maps before its `main`, and the bits of a signature of addresses of 48 bits.
+"""
+
+import collections
+import pathlib
+import resource
+import subprocess
+import time
+
+from lib import cores
+from lib.tools import give_up, run
+
+DOWN = """
+#include <stdlib.h>
+#include <string.h>
+struct sized { long a[9]; };
+__attribute__((noinline)) long down(long n, struct sized s) {
+    volatile char room[48];
+    memset((void *)room, (int)n, sizeof room);
+    if (n == 0) abort();
+    s.a[n % 9] += n;
+    return down(n - 1, s) + room[n % 48];
+}
+int main(int argc, char **argv) {
+    struct sized s = {{1, 2, 3}};
+    return (int)down(argc > 1 ? atol(argv[1]) : 5, s);
+}
+"""
+
+THREADS = """
+#include <pthread.h>
+#include <stdlib.h>
+#include <unistd.h>
+static pthread_barrier_t all;
+static void *work(void *argument) {
+    long n = (long)argument;
+    volatile long room[n % 7 + 1];
+    room[0] = n;
+    if (n % 3 == 0 && n > 9) return work((void *)(n - 10));
+    pthread_barrier_wait(&all);
+    pause();
+    return (void *)room[0];
+}
+int main(void) {
+    pthread_t thread;
+    pthread_barrier_init(&all, 0, 41);
+    for (long n = 0; n < 40; n++) pthread_create(&thread, 0, work, (void *)n);
+    pthread_barrier_wait(&all);
+    usleep(100000);
+    abort();
+}
+"""
+
+THROWS = """
+#include <cstdlib>
+#include <stdexcept>
+#include <string>
+struct Guard { std::string name; ~Guard() { if (name == "stop") abort(); } };
+__attribute__((noinline)) int thrower(int n) {
+    Guard guard{n == 0 ? "stop" : "go on"};
+    if (n == 0) throw std::runtime_error("thrown");
+    return thrower(n - 1) + 1;
+}
+int main() {
+    try { return thrower(6); } catch (const std::exception &) { return 3; }
+}
+"""
+
+SORTS = """
+#include <stdlib.h>
+static int compare(const void *a, const void *b) {
+    int x = *(const int *)a, y = *(const int *)b;
+    if (x == 77) abort();
+    return x < y ? -1 : x > y;
+}
+int main(void) {
+    int numbers[100];
+    for (int i = 0; i < 100; i++) numbers[i] = (i * 37) % 101;
+    qsort(numbers, 100, sizeof *numbers, compare);
+    return numbers[0];
+}
+"""
+
+SIGNALS = """
+#include <pthread.h>
+#include <signal.h>
+#include <stdlib.h>
+#include <string.h>
+static volatile int depth;
+static void inner(int number) { abort(); }
+static void outer(int number, siginfo_t *info, void *context) { depth += number; if (raise(SIGUSR1)) depth = 0; }
+__attribute__((noinline)) static long crash(volatile long *at, long n) { long room[4] = {n, n + 1}; return *at + room[n & 1]; }
+__attribute__((noinline)) static long callee(long n) { return n > 3 ? crash(0, n) + 1 : callee(n + 1) + n; }
+int main(int argc, char **argv) {
+    static char room[1 << 16];
+    stack_t stack = {.ss_sp = room, .ss_size = sizeof room};
+    struct sigaction action;
+    memset(&action, 0, sizeof action);
+    if (argc > 1) sigaltstack(&stack, 0);
+    action.sa_sigaction = outer;
+    action.sa_flags = SA_SIGINFO | (argc > 1 ? SA_ONSTACK : 0);
+    sigaction(SIGSEGV, &action, 0);
+    signal(SIGUSR1, inner);
+    return (int)callee(argc);
+}
+"""
+
+RUST = r"""
+use std::sync::{Arc, Barrier};
+use std::time::Duration;
+#[inline(never)]
+fn apply<F: FnMut(u64) -> u64>(n: u64, mut f: F) -> u64 {
+    std::hint::black_box(f(n)) + 1
+}
+fn work(n: u64, all: &Barrier) -> u64 {
+    apply(n, |a| {
+        apply(a + 1, |b| {
+            apply(b + 1, |c| {
+                all.wait();
+                if n != 3 {
+                    loop { std::thread::park(); }
+                }
+                std::thread::sleep(Duration::from_millis(200));
+                let list: Vec<u64> = (0..c).collect();
+                std::hint::black_box(&list)[c as usize + 9]
+            })
+        })
+    })
+}
+fn main() {
+    std::panic::set_hook(Box::new(|_| std::process::abort()));
+    let all = Arc::new(Barrier::new(8));
+    let threads: Vec<_> = (0..8).map(|n| { let all = all.clone(); std::thread::spawn(move || work(n, &all)) }).collect();
+    for thread in threads { let _ = thread.join(); }
+}
+"""
+
+# Writes over its stack from the fifth caller on: letters, zeros, an address of its code, one of its stack, or an address without memory.
+DAMAGED = """
+#include <stdlib.h>
+static volatile long *from;
+long down(long n, long kind);
+__attribute__((noinline)) static void damage(long kind) {
+    long words[] = {0x4141414141414141, 0, (long)down + 24, (long)(from + 5), 4096};
+    for (long i = 0; i < 64; i++) from[i] = words[kind];
+    abort();
+}
+__attribute__((noinline)) long down(long n, long kind) {
+    volatile long room[6] = {n, 2, 3};
+    if (n == 4) from = room;
+    if (n == 0) damage(kind);
+    return down(n - 1, kind) + room[n % 6];
+}
+int main(int argc, char **argv) { return (int)down(argc + 9, atol(argv[1])); }
+"""
+
+# Copies the mappings of the process before `main`, for a program of aarch64.
+MAPS = """
+#include <fcntl.h>
+#include <stdlib.h>
+#include <unistd.h>
+__attribute__((constructor)) static void copy_maps(void) {
+    char bytes[4096];
+    int from = open("/proc/self/maps", O_RDONLY), to = open("maps", O_WRONLY | O_CREAT | O_TRUNC, 0600);
+    for (long n; (n = read(from, bytes, sizeof bytes)) > 0;) if (write(to, bytes, n) != n) abort();
+    close(from);
+    close(to);
+}
+"""
+
+# Each built program: its source, compiler, options and arguments.
+BUILT = {
+    "c": (DOWN, "gcc", ["-O1"], ["20"]),
+    "c-plain": (DOWN, "gcc", ["-O0"], ["20"]),
+    "c-clang": (DOWN, "clang", ["-O2", "-fomit-frame-pointer"], ["20"]),
+    "callback": (SORTS, "gcc", ["-O2"], []),
+    "exception": (THROWS, "g++", ["-O1"], []),
+    "exception-clang": (THROWS, "clang++", ["-O2"], []),
+    "threads": (THREADS, "gcc", ["-O1", "-pthread"], []),
+    "static": (THREADS, "gcc", ["-O1", "-pthread", "-static"], []),
+    "static-pie": (DOWN, "gcc", ["-O1", "-static-pie"], ["9"]),
+    "stripped": (DOWN, "gcc", ["-O2", "-s"], ["30"]),
+    "frame-pointers": (DOWN, "gcc", ["-O1", "-fno-omit-frame-pointer", "-fno-asynchronous-unwind-tables", "-fno-unwind-tables"], ["9"]),
+    "no-pie": (DOWN, "clang", ["-O1", "-no-pie"], ["9"]),
+    "signals": (SIGNALS, "gcc", ["-O1"], []),
+    "signals-clang": (SIGNALS, "clang", ["-O2"], []),
+    "signal-stack": (SIGNALS, "gcc", ["-O2"], ["1"]),
+    "signals-static": (SIGNALS, "gcc", ["-O1", "-static"], []),
+    "deep": (DOWN, "gcc", ["-O1"], ["9990"]),
+    "deeper": (DOWN, "gcc", ["-O1"], ["99995"]),
+    "rust": (RUST, "rustc", ["-O"], []),
+    "rust-plain": (RUST, "rustc", [], []),
+    "damaged-letters": (DAMAGED, "gcc", ["-O1"], ["0"]),
+    "damaged-zeros": (DAMAGED, "gcc", ["-O1"], ["1"]),
+    "damaged-code": (DAMAGED, "gcc", ["-O1"], ["2"]),
+    "damaged-stack": (DAMAGED, "gcc", ["-O1"], ["3"]),
+    "damaged-low": (DAMAGED, "gcc", ["-O1"], ["4"]),
+}
+
+# Each program of the system that is stopped at work: its path and arguments.
+STOPPED = {
+    "python3": ("/usr/bin/python3", "-c", "import time\ndef f(n):\n    return f(n - 1) + 1 if n else time.sleep(600)\nf(40)"),
+    "python3-sorts": ("/usr/bin/python3", "-c", "import re\nclass A:\n    def __init__(s, n): s.n = n\n    def __lt__(s, o):\n"
+                      "        [None for _ in range(10**9)]\nsorted([A(n) for n in range(9)])"),
+    "perl": ("/usr/bin/perl", "-e", "sub f { my $n = shift; return $n ? f($n - 1) : sleep 600 } f(30)"),
+    "bash": ("/usr/bin/bash", "-c", "f() { if [ $1 = 0 ]; then while :; do :; done; else f $(($1 - 1)); fi; }; f 20"),
+}
+
+# Each program of aarch64: its source, compiler, options and arguments. Return addresses are signed in those with SIGNED.
+ARM_GCC, ARM_GXX, SIGNED = "aarch64-linux-gnu-gcc", "aarch64-linux-gnu-g++", "-mbranch-protection=standard"
+ARM_BUILT = {
+    "aarch64-c": (DOWN, ARM_GCC, ["-O1"], ["20"]),
+    "aarch64-c-plain": (DOWN, ARM_GCC, ["-O0", SIGNED], ["20"]),
+    "aarch64-signed": (DOWN, ARM_GCC, ["-O2", SIGNED], ["20"]),
+    "aarch64-no-frame-pointers": (DOWN, ARM_GCC, ["-O2", "-fomit-frame-pointer", SIGNED], ["20"]),
+    "aarch64-callback": (SORTS, ARM_GCC, ["-O2", SIGNED], []),
+    "aarch64-exception": (THROWS, ARM_GXX, ["-O1", SIGNED], []),
+    "aarch64-threads": (THREADS, ARM_GCC, ["-O1", "-pthread", SIGNED], []),
+    "aarch64-static": (THREADS, ARM_GCC, ["-O1", "-pthread", "-static"], []),
+    "aarch64-stripped": (DOWN, ARM_GCC, ["-O2", "-s", SIGNED], ["30"]),
+    "aarch64-frame-pointers": (DOWN, ARM_GCC, ["-O1", "-fno-asynchronous-unwind-tables", "-fno-unwind-tables", SIGNED], ["9"]),
+    "aarch64-signals": (SIGNALS, ARM_GCC, ["-O1", SIGNED], []),
+    "aarch64-signal-stack": (SIGNALS, ARM_GCC, ["-O1"], ["1"]),
+    "aarch64-signals-static": (SIGNALS, ARM_GCC, ["-O1", "-static"], []),
+    "aarch64-deep": (DOWN, ARM_GCC, ["-O1", SIGNED], ["9990"]),
+}
+ARM_ROOT = "/usr/aarch64-linux-gnu"
+ARM_MASK = 0x7F << 48
+
+NAMES = [*BUILT, *STOPPED, *ARM_BUILT]
+
+# A program with its core; the debugger for it, with its first commands; and whether eu-stack can be asked.
+Made = collections.namedtuple("Made", "program core debugger by_eu_stack")
+
+MAKE = ["-ex", "set debuginfod enabled off", "-ex", "set confirm off", "-ex", "set height 0", "-ex", "handle SIGSEGV SIGUSR1 nostop noprint pass"]
+
+
+def build(folder, source, compiler, options):
+    """Builds a program, and returns its path."""
+    suffix = ".rs" if compiler == "rustc" else ".cc" if "++" in compiler else ".c"
+    path, program = (folder / "source").with_suffix(suffix), folder / "program"
+    path.write_text(source)
+    run(compiler, *options, *(["-A", "warnings"] if compiler == "rustc" else ["-w"]), "-o", program, path)
+    return program
+
+
+def make_by_gdb(folder, source, compiler, options, arguments):
+    """Builds a program, runs it up to its signal, and makes its core."""
+    program, core = build(folder, source, compiler, options), folder / "core"
+    run("bash", "-c", 'ulimit -s unlimited; MALLOC_ARENA_MAX=1 exec "$@"', "bash", "gdb", "-nx", "-batch", *MAKE, "-ex", "run", "-ex", f"generate-core-file {core}",
+        "--args", program, *arguments)
+    return Made(program, core, ["gdb", "-nx", "-batch"], True)
+
+
+def make_stopped(folder, name):
+    """Runs a program for a moment, and makes its core."""
+    core = folder / "core"
+    process = subprocess.Popen(STOPPED[name], stdin=subprocess.DEVNULL)
+    try:
+        time.sleep(1)
+        run("gdb", "-nx", "-batch", *MAKE, "-p", str(process.pid), "-ex", f"generate-core-file {core}")
+    finally:
+        process.kill()
+        process.wait()
+    return Made(pathlib.Path(STOPPED[name][0]), core, ["gdb", "-nx", "-batch"], True)
+
+
+def mappings_in(path):
+    """The mappings of files that a program copied."""
+    for line in path.read_text().splitlines():
+        span, _, offset, _, _, *name = line.split(maxsplit=5)
+        if name and name[0].startswith("/"):
+            start, end = (int(part, 16) for part in span.split("-"))
+            yield cores.Mapping(start, end, int(offset, 16), name[0].encode())
+
+
+def dump_by_qemu(folder, program, *arguments):
+    """The core that qemu makes of a program of aarch64."""
+    unlimited = (resource.RLIM_INFINITY, resource.RLIM_INFINITY)
+    subprocess.run(["qemu-aarch64", "-L", ARM_ROOT, "-seed", "1", program, *arguments], cwd=folder, capture_output=True,
+                   preexec_fn=lambda: resource.setrlimit(resource.RLIMIT_CORE, unlimited))
+    # Linux makes one of qemu itself.
+    (folder / "core").unlink(missing_ok=True)
+    made = sorted(folder.glob("qemu_*.core"))
+    return made[0] if made else give_up("qemu-aarch64 made no core")
+
+
+def make_arm(folder, name):
+    """Builds a program of aarch64, and runs it under qemu up to its signal."""
+    source, compiler, options, arguments = ARM_BUILT[name]
+    (folder / "maps.h").write_text(MAPS)
+    program, core = build(folder, source, compiler, [*options, "-include", folder / "maps.h"]), folder / "core"
+    dumped = dump_by_qemu(folder, program, *arguments).read_bytes()
+    files = cores.file_note(list(mappings_in(folder / "maps")))
+    masked = lambda notes: b"".join(each.whole + (cores.mask_note(ARM_MASK) if each.kind == cores.PRSTATUS else b"") for each in notes)
+    core.write_bytes(cores.with_notes(dumped, lambda notes: masked(notes) + files))
+    return Made(program, core, ["gdb-multiarch", "-nx", "-batch", "-ex", f"set sysroot {ARM_ROOT}"], False)
+
+
+def make(folder, name):
+    """A program with its core, in a folder."""
+    if name in BUILT:
+        return make_by_gdb(folder, *BUILT[name])
+    return (make_stopped if name in STOPPED else make_arm)(folder, name)
