@@ -38,7 +38,7 @@ def cells(figure):
         f"{number(figure.here)} {figure.unit}",
         "–" if there is None else f"{number(there)} {figure.unit}",
         "–" if ratio is None else f"{ratio:.2f}",
-        "–" if allowed is None else f"{allowed:.1f}",
+        "–" if allowed is None else f"{allowed:.1f}" if round(allowed, 1) == allowed else f"{allowed:.2f}",
     ]
 
 
@@ -52,16 +52,25 @@ def markdown_table(rows):
     return "\n".join([head, "|" + "---|" * len(rows[0]), *rest])
 
 
-def show(figures, names=ORIGINAL, markdown=False):
-    """Prints figures, with the names of ours and the other's. Returns whether all are within what is allowed."""
-    rows = [["Measured", *names, "Ratio", "Allowed"], *map(cells, figures)]
+def print_rows(rows, markdown):
+    """Prints rows, of which the first is the head."""
     if markdown:
         print(markdown_table(rows))
-    else:
-        widths = [max(map(len, column)) for column in zip(*rows)]
-        for row in rows:
-            print(row[0].ljust(widths[0]), *(cell.rjust(width) for cell, width in zip(row[1:], widths[1:])), sep="  ")
+        return
+    widths = [max(map(len, column)) for column in zip(*rows)]
+    for row in rows:
+        print(row[0].ljust(widths[0]), *(cell.rjust(width) for cell, width in zip(row[1:], widths[1:])), sep="  ")
+
+
+def show(figures, names=ORIGINAL, markdown=False):
+    """Prints figures, with the names of ours and the other's. Returns whether all are within what is allowed."""
+    print_rows([["Measured", *names, "Ratio", "Allowed"], *map(cells, figures)], markdown)
     return all(figure.is_within() for figure in figures)
+
+
+def show_values(figures, markdown=False):
+    """Prints figures that are beside nothing."""
+    print_rows([["Counted", "Value"], *(cells(figure)[:2] for figure in figures)], markdown)
 
 
 # ---- the chart
@@ -100,11 +109,20 @@ def groups_of(text):
     return [group for group in groups if group.bars]
 
 
+def groups_of_roads(groups):
+    """Of these ratios those of fresh steps by header, index and table, which `bench/tables` prints, by library."""
+    found = {}
+    for label, ratio in (bar for group in groups for bar in group.bars):
+        if match := re.fullmatch(r"(\S+), a fresh step (by (?:its header|an index|a table))", label):
+            found.setdefault(match[1], []).append((match[2], ratio))
+    return [Group(library, bars) for library, bars in found.items()]
+
+
 # Sizes in pixels: labels end at LABELS, and the longest bar is BARS long.
 WIDTH, LABELS, BARS, ROW, MARGIN = 960, 470, 430, 20, 14
 
 
-def chart(groups):
+def chart(groups, title="Time as a multiple of the original's; less is faster"):
     """A chart of the ratios as SVG: a bar for each, and a line at 1.0, the original's time."""
     top = max(ratio for group in groups for _, ratio in group.bars)
     scale = BARS / max(1.25, top)
@@ -113,7 +131,7 @@ def chart(groups):
     def text(x, y, content, more=""):
         parts.append(f'<text x="{x:.0f}" y="{y:.0f}"{more}>{html.escape(content)}</text>')
 
-    text(MARGIN, at + 12, "Time as a multiple of the original's; less is faster", ' class="title"')
+    text(MARGIN, at + 12, title, ' class="title"')
     text(LABELS + scale, at + 30, "1.0", ' class="axis" text-anchor="middle"')
     at += 36
     first = at

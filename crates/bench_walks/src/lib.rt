@@ -1,6 +1,6 @@
-//! Times the making of a module, with its index, by a header in its place or with a table of rules, and walks through its code, for comparing them
+//! Times the making of a module, with its index or by a header in its place, and walks through its code, for comparing them
 //! with another program's. Each architecture has a program of its own, as a profiler's is: with both in one, compilers share
-//! functions between them, and steps are slower.
+//! functions between them, and steps are slower; and so has each way in which modules are made.
 #![tactic(auto)]
 
 mod arch;
@@ -10,36 +10,68 @@ mod work;
 
 use anyhow::Result;
 pub use arch::TimedArch;
+use modules::parts_of;
+pub use modules::{Making, Parts, Plain};
 use std::env;
 use std::io::Read;
 use std::rt::{Clock, Env};
 use timing::{frames_of_all, time};
-pub use work::FirstRegisters;
 use work::read_work;
+pub use work::{FirstRegisters, Header, Stack, Walk, Work};
 
-/// Reads from standard input what is said at `read_work`, and prints how many frames the walks give, and with the argument
-/// `time`, or `time-table` for a module with a table of rules, the least nanoseconds of all rounds: of a module, of all walks through one cache that has seen them before, and of
-/// all walks with a new cache each, without and with the making of the caches. Fails if the input ends too soon, if
-/// reading or writing fails, or if it fails to allocate.
-pub fn run<A: TimedArch, R: AllocGlobal + Input + Print + Env + Clock>(rt: &R) -> Result<()> {
+/// Reads from standard input what is said at `read_work`, and prints how many frames the walks give. With the argument `time` it
+/// also prints the least nanoseconds of all rounds: of a module, of all walks through one cache that has seen them before, and of
+/// all walks with a new cache each, without and with the making of the caches. With `made` it prints a line before the module is
+/// made and one while it is there instead, for counting the memory that it takes. Fails if the input ends too soon, if reading or
+/// writing fails, or if it fails to allocate.
+pub fn run<A: TimedArch, M: Making, R: AllocGlobal + Input + Print + Env + Clock>(
+    rt: &R,
+) -> Result<()> {
     let mut input = Vec::new(rt.alloc());
     rt.reader().read_to_end(&mut input)?;
     let mode = match env::args(rt)?.nth(1) {
         Some(mode) => mode,
         None => String::new(rt.alloc()),
     };
-    let is_tabulated = mode.as_str() == "time-table";
-    let work = read_work(rt.alloc(), &input, is_tabulated)?;
-    println!(rt; "{} frames", frames_of_all::<A>(rt.alloc(), &work)?)?;
-    if is_tabulated || mode.as_str() == "time" {
-        let times = time::<A>(rt, rt.alloc(), &work)?;
-        println!(rt;
-            "module {} ns, warm {} ns, fresh {} ns, with making {} ns",
-            times.module.as_nanos(),
-            times.warm.as_nanos(),
-            times.fresh.as_nanos(),
-            times.with_making.as_nanos()
-        )?;
+    let work = read_work(rt.alloc(), &input)?;
+    match mode.as_str() {
+        "made" => print_made::<A, M, R>(rt, &work),
+        "time" => print_times::<A, M, R>(rt, &work),
+        _ => print_frames::<A, M, R>(rt, &work),
     }
+}
+
+// How many frames the walks give.
+fn print_frames<A: TimedArch, M: Making, R: AllocGlobal + Print>(
+    rt: &R,
+    work: &Work,
+) -> Result<()> {
+    println!(rt; "{} frames", frames_of_all::<A, M>(rt.alloc(), work)?)?;
+    Ok(())
+}
+
+// The same, and the times.
+fn print_times<A: TimedArch, M: Making, R: AllocGlobal + Print + Clock>(
+    rt: &R,
+    work: &Work,
+) -> Result<()> {
+    print_frames::<A, M, R>(rt, work)?;
+    let times = time::<A, M>(rt, rt.alloc(), work)?;
+    println!(rt;
+        "module {} ns, warm {} ns, fresh {} ns, with making {} ns",
+        times.module.as_nanos(),
+        times.warm.as_nanos(),
+        times.fresh.as_nanos(),
+        times.with_making.as_nanos()
+    )?;
+    Ok(())
+}
+
+// A line before the module is made, and one while it is there.
+fn print_made<A: TimedArch, M: Making, R: AllocGlobal + Print>(rt: &R, work: &Work) -> Result<()> {
+    let parts = parts_of(rt.alloc(), work)?;
+    println!(rt; "parts")?;
+    let module = M::module_of::<A>(rt.alloc(), work, parts)?;
+    println!(rt; "module {}", module.name())?;
     Ok(())
 }

@@ -3,14 +3,14 @@
 use crate::arch::TimedArch;
 use crate::work::Work;
 use anyhow::Result;
-use framehop::{ExplicitModuleSectionInfo, Module, load_module, load_module_tabulated};
+use framehop::{ExplicitModuleSectionInfo, Module, load_module};
 use std::alloc::Global;
 
 /// What the module that is timed is made of: its name, and its section with its header, if it has one.
 #[derive(Drop)]
 pub struct Parts {
-    name: String,
-    info: ExplicitModuleSectionInfo<Vec<u8>>,
+    pub name: String,
+    pub info: ExplicitModuleSectionInfo<Vec<u8>>,
 }
 
 /// The parts of a module of their own.
@@ -34,18 +34,23 @@ pub fn parts_of(alloc: Global, work: &Work) -> Result<Parts> {
     })
 }
 
-/// The module of these parts, with a table of rules if the work is to be timed with one.
-pub fn module_of<A: TimedArch>(
-    alloc: Global,
-    work: &Work,
-    parts: Parts,
-) -> Result<Module<Vec<u8>>> {
-    let Parts { name, mut info } = parts;
-    let range = work.base..work.end;
-    if work.is_tabulated {
-        return Ok(load_module_tabulated::<A, Vec<u8>, ExplicitModuleSectionInfo<Vec<u8>>>(
-            alloc, name, range, work.base, &mut info,
-        )?);
+/// How the module that is timed is made. A program has one way alone, so that it has no code of another.
+pub trait Making {
+    /// The module of these parts.
+    fn module_of<A: TimedArch>(alloc: Global, work: &Work, parts: Parts) -> Result<Module<Vec<u8>>>;
+}
+
+/// A module is made with its header, or with an index if it has none.
+#[derive(Debug, Clone, Copy)]
+pub struct Plain;
+
+impl Making for Plain {
+    fn module_of<A: TimedArch>(
+        alloc: Global,
+        work: &Work,
+        parts: Parts,
+    ) -> Result<Module<Vec<u8>>> {
+        let Parts { name, mut info } = parts;
+        Ok(load_module(alloc, name, work.base..work.end, work.base, &mut info)?)
     }
-    Ok(load_module(alloc, name, range, work.base, &mut info)?)
 }

@@ -1,7 +1,7 @@
 //! How long the making of a module and walks through its code take, by the clock of the machine.
 
 use crate::arch::TimedArch;
-use crate::modules::{Parts, module_of, parts_of};
+use crate::modules::{Making, Parts, parts_of};
 use crate::work::{Walk, Work};
 use anyhow::{Result, bail};
 use framehop::{
@@ -39,8 +39,8 @@ fn load<U: Unwinder<Module = Module<Vec<u8>>>>(
 }
 
 /// An unwinder with the module.
-fn unwinder_of<A: TimedArch>(alloc: Global, work: &Work) -> Result<TimedUnwinder<A>> {
-    let module = module_of::<A>(alloc, work, parts_of(alloc, work)?)?;
+fn unwinder_of<A: TimedArch, M: Making>(alloc: Global, work: &Work) -> Result<TimedUnwinder<A>> {
+    let module = M::module_of::<A>(alloc, work, parts_of(alloc, work)?)?;
     let mut generations = Generations::new();
     let mut unwinder = UnwinderInternal::new(alloc, &mut generations)?;
     load(&mut unwinder, &mut generations, module)?;
@@ -86,8 +86,8 @@ fn frames_of_each<A: TimedArch, U: Unwinder<UnwindRegs = A::UnwindRegs>>(
 }
 
 /// How many frames all walks give.
-pub fn frames_of_all<A: TimedArch>(alloc: Global, work: &Work) -> Result<u32> {
-    let unwinder = unwinder_of::<A>(alloc, work)?;
+pub fn frames_of_all<A: TimedArch, M: Making>(alloc: Global, work: &Work) -> Result<u32> {
+    let unwinder = unwinder_of::<A, M>(alloc, work)?;
     let mut cache = new_cache::<A>(alloc)?;
     Ok(frames_of_each::<A, TimedUnwinder<A>>(&unwinder, &mut cache, &work.walks))
 }
@@ -125,25 +125,33 @@ fn parts_of_all(alloc: Global, work: &Work) -> Result<Vec<Parts>> {
 }
 
 /// The least time of making the module of its parts, as often as there are rounds, one directly after the other.
-fn making<A: TimedArch>(clock: &impl Clock, alloc: Global, work: &Work) -> Result<Duration> {
+fn making<A: TimedArch, M: Making>(
+    clock: &impl Clock,
+    alloc: Global,
+    work: &Work,
+) -> Result<Duration> {
     let mut least = Duration::MAX;
     for parts in parts_of_all(alloc, work)? {
         let start = Instant::now(clock)?;
-        let _module = module_of::<A>(alloc, work, parts)?;
+        let _module = M::module_of::<A>(alloc, work, parts)?;
         least = least.min(start.elapsed(clock)?);
     }
     Ok(least)
 }
 
 /// Makes the module and all walks as often as there are rounds.
-pub fn time<A: TimedArch>(clock: &impl Clock, alloc: Global, work: &Work) -> Result<Times> {
+pub fn time<A: TimedArch, M: Making>(
+    clock: &impl Clock,
+    alloc: Global,
+    work: &Work,
+) -> Result<Times> {
     let mut times = Times {
-        module: making::<A>(clock, alloc, work)?,
+        module: making::<A, M>(clock, alloc, work)?,
         warm: Duration::MAX,
         fresh: Duration::MAX,
         with_making: Duration::MAX,
     };
-    let unwinder = unwinder_of::<A>(alloc, work)?;
+    let unwinder = unwinder_of::<A, M>(alloc, work)?;
     let mut cache = new_cache::<A>(alloc)?;
     frames_of_each::<A, TimedUnwinder<A>>(&unwinder, &mut cache, &work.walks);
     for _ in 0..work.rounds {

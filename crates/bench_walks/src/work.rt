@@ -60,8 +60,6 @@ pub struct Work {
     pub walks: Vec<Walk>,
     pub header: Option<Header>,
     pub section: Vec<u8>,
-    /// Whether the module has a table of rules.
-    pub is_tabulated: bool,
 }
 
 /// Reads what is to be timed: the rounds, the module's base and its end, and the addresses of `.text` and `.eh_frame` as the
@@ -69,7 +67,7 @@ pub struct Work {
 /// register, the stack pointer, the frame pointer, the bits of a code address, the most frames, and its stack's start, number
 /// of words, and words; the address of `.eh_frame_hdr`, its number of bytes, 0 if there is none, and these; and then the
 /// bytes of `.eh_frame`. Rounds, counts and limits have four bytes, all else eight, the low byte first.
-pub fn read_work(alloc: Global, bytes: &[u8], is_tabulated: bool) -> Result<Work> {
+pub fn read_work(alloc: Global, bytes: &[u8]) -> Result<Work> {
     let mut reader = EndianSlice::new(bytes, LittleEndian);
     let rounds = reader.read_u32()?;
     let base = reader.read_u64()?;
@@ -92,7 +90,6 @@ pub fn read_work(alloc: Global, bytes: &[u8], is_tabulated: bool) -> Result<Work
         walks,
         header,
         section,
-        is_tabulated,
     })
 }
 
