@@ -3,3 +3,4 @@ mod Arrangements
 mod ValidRules
 mod PlaceOfBp
 mod Weights
+mod BpOfSix

@@ -29,16 +29,28 @@ impl OpcodeArm64 {
     pub fn parse(opcode: u32) -> OpcodeArm64
         ensures { result ≡ opcode_of opcode }
     {
-        match (opcode >> 24) % 16 {
-            0 => OpcodeArm64::Null,
-            2 => OpcodeArm64::Frameless {
-                stack_size_by_16: ((opcode >> 12) % 4096) as u16,
-            },
-            3 => OpcodeArm64::Dwarf {
-                eh_frame_fde: opcode % 0x100_0000,
-            },
-            4 => OpcodeArm64::FrameBased,
-            kind => OpcodeArm64::UnrecognizedKind(kind as u8),
+        // Not by a table of jumps, whose targets processors foresee less well.
+        let kind = (opcode >> 24) % 16;
+        if kind < 2 {
+            if kind == 0 {
+                OpcodeArm64::Null
+            } else {
+                OpcodeArm64::UnrecognizedKind(1)
+            }
+        } else if kind < 4 {
+            if kind == 2 {
+                OpcodeArm64::Frameless {
+                    stack_size_by_16: ((opcode >> 12) % 4096) as u16,
+                }
+            } else {
+                OpcodeArm64::Dwarf {
+                    eh_frame_fde: opcode % 0x100_0000,
+                }
+            }
+        } else if kind == 4 {
+            OpcodeArm64::FrameBased
+        } else {
+            OpcodeArm64::UnrecognizedKind(kind as u8)
         }
     }
 }

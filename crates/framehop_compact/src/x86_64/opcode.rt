@@ -80,15 +80,22 @@ impl OpcodeX86_64 {
     pub fn parse(opcode: u32) -> OpcodeX86_64
         ensures { result ≡ opcode_of opcode }
     {
-        match (opcode >> 24) % 16 {
-            0 => OpcodeX86_64::Null,
-            1 => OpcodeX86_64::FrameBased,
-            2 => frameless(opcode, false),
-            3 => frameless(opcode, true),
-            4 => OpcodeX86_64::Dwarf {
+        // Not by a table of jumps, whose targets processors foresee less well.
+        let kind = (opcode >> 24) % 16;
+        if kind < 2 {
+            if kind == 0 {
+                OpcodeX86_64::Null
+            } else {
+                OpcodeX86_64::FrameBased
+            }
+        } else if kind < 4 {
+            frameless(opcode, kind == 3)
+        } else if kind == 4 {
+            OpcodeX86_64::Dwarf {
                 eh_frame_fde: opcode % 0x100_0000,
-            },
-            kind => OpcodeX86_64::UnrecognizedKind(kind as u8),
+            }
+        } else {
+            OpcodeX86_64::UnrecognizedKind(kind as u8)
         }
     }
 }

@@ -35,30 +35,59 @@ fn factorial(number: u8) -> u32
     FACTORIALS[usize::from(number)]
 }
 
-// How many registers come after RBP in the list with this count and number, if there is one and it has RBP. Each register is
-// chosen by the next digit of the number: its place among those that are left, whose weight is the number of lists of the
-// others. RBP is the last of those that are left. The number and all weights are multiplied by the factorial of how many
-// registers aren't saved: so the weights are factorials, and a compiler that unrolls the loop divides by constants.
+// How many registers come before RBP in each list of all six, in lexicographic order. Each line has the lists with the same first
+// two registers.
+#[rattlefmt::skip]
+const BEFORE_BP: [u8; 720] = [
+    5, 4, 5, 4, 3, 3, 5, 4, 5, 4, 3, 3, 5, 4, 5, 4, 3, 3, 2, 2, 2, 2, 2, 2,
+    5, 4, 5, 4, 3, 3, 5, 4, 5, 4, 3, 3, 5, 4, 5, 4, 3, 3, 2, 2, 2, 2, 2, 2,
+    5, 4, 5, 4, 3, 3, 5, 4, 5, 4, 3, 3, 5, 4, 5, 4, 3, 3, 2, 2, 2, 2, 2, 2,
+    5, 4, 5, 4, 3, 3, 5, 4, 5, 4, 3, 3, 5, 4, 5, 4, 3, 3, 2, 2, 2, 2, 2, 2,
+    1, 1, 1, 1, 1, 1, 1, 1, 1, 1, 1, 1, 1, 1, 1, 1, 1, 1, 1, 1, 1, 1, 1, 1,
+    5, 4, 5, 4, 3, 3, 5, 4, 5, 4, 3, 3, 5, 4, 5, 4, 3, 3, 2, 2, 2, 2, 2, 2,
+    5, 4, 5, 4, 3, 3, 5, 4, 5, 4, 3, 3, 5, 4, 5, 4, 3, 3, 2, 2, 2, 2, 2, 2,
+    5, 4, 5, 4, 3, 3, 5, 4, 5, 4, 3, 3, 5, 4, 5, 4, 3, 3, 2, 2, 2, 2, 2, 2,
+    5, 4, 5, 4, 3, 3, 5, 4, 5, 4, 3, 3, 5, 4, 5, 4, 3, 3, 2, 2, 2, 2, 2, 2,
+    1, 1, 1, 1, 1, 1, 1, 1, 1, 1, 1, 1, 1, 1, 1, 1, 1, 1, 1, 1, 1, 1, 1, 1,
+    5, 4, 5, 4, 3, 3, 5, 4, 5, 4, 3, 3, 5, 4, 5, 4, 3, 3, 2, 2, 2, 2, 2, 2,
+    5, 4, 5, 4, 3, 3, 5, 4, 5, 4, 3, 3, 5, 4, 5, 4, 3, 3, 2, 2, 2, 2, 2, 2,
+    5, 4, 5, 4, 3, 3, 5, 4, 5, 4, 3, 3, 5, 4, 5, 4, 3, 3, 2, 2, 2, 2, 2, 2,
+    5, 4, 5, 4, 3, 3, 5, 4, 5, 4, 3, 3, 5, 4, 5, 4, 3, 3, 2, 2, 2, 2, 2, 2,
+    1, 1, 1, 1, 1, 1, 1, 1, 1, 1, 1, 1, 1, 1, 1, 1, 1, 1, 1, 1, 1, 1, 1, 1,
+    5, 4, 5, 4, 3, 3, 5, 4, 5, 4, 3, 3, 5, 4, 5, 4, 3, 3, 2, 2, 2, 2, 2, 2,
+    5, 4, 5, 4, 3, 3, 5, 4, 5, 4, 3, 3, 5, 4, 5, 4, 3, 3, 2, 2, 2, 2, 2, 2,
+    5, 4, 5, 4, 3, 3, 5, 4, 5, 4, 3, 3, 5, 4, 5, 4, 3, 3, 2, 2, 2, 2, 2, 2,
+    5, 4, 5, 4, 3, 3, 5, 4, 5, 4, 3, 3, 5, 4, 5, 4, 3, 3, 2, 2, 2, 2, 2, 2,
+    1, 1, 1, 1, 1, 1, 1, 1, 1, 1, 1, 1, 1, 1, 1, 1, 1, 1, 1, 1, 1, 1, 1, 1,
+    5, 4, 5, 4, 3, 3, 5, 4, 5, 4, 3, 3, 5, 4, 5, 4, 3, 3, 2, 2, 2, 2, 2, 2,
+    5, 4, 5, 4, 3, 3, 5, 4, 5, 4, 3, 3, 5, 4, 5, 4, 3, 3, 2, 2, 2, 2, 2, 2,
+    5, 4, 5, 4, 3, 3, 5, 4, 5, 4, 3, 3, 5, 4, 5, 4, 3, 3, 2, 2, 2, 2, 2, 2,
+    5, 4, 5, 4, 3, 3, 5, 4, 5, 4, 3, 3, 5, 4, 5, 4, 3, 3, 2, 2, 2, 2, 2, 2,
+    1, 1, 1, 1, 1, 1, 1, 1, 1, 1, 1, 1, 1, 1, 1, 1, 1, 1, 1, 1, 1, 1, 1, 1,
+    0, 0, 0, 0, 0, 0, 0, 0, 0, 0, 0, 0, 0, 0, 0, 0, 0, 0, 0, 0, 0, 0, 0, 0,
+    0, 0, 0, 0, 0, 0, 0, 0, 0, 0, 0, 0, 0, 0, 0, 0, 0, 0, 0, 0, 0, 0, 0, 0,
+    0, 0, 0, 0, 0, 0, 0, 0, 0, 0, 0, 0, 0, 0, 0, 0, 0, 0, 0, 0, 0, 0, 0, 0,
+    0, 0, 0, 0, 0, 0, 0, 0, 0, 0, 0, 0, 0, 0, 0, 0, 0, 0, 0, 0, 0, 0, 0, 0,
+    0, 0, 0, 0, 0, 0, 0, 0, 0, 0, 0, 0, 0, 0, 0, 0, 0, 0, 0, 0, 0, 0, 0, 0,
+];
+
+// How many registers come after RBP in the list with this count and number, if there is one and it has RBP. A list of fewer
+// registers begins lists of all six. The number of the first of them is its own, multiplied by how many they are: the factorial of
+// how many registers aren't saved. The list of no register has any number.
 pub(crate) fn saved_after_bp(count: u8, number: u16) -> Option<Option<u8>>
     ensures { result ≡ option_map saved_after_bp (registers_of count number) }
 {
     if count > 6 {
         return None;
     }
-    let mut rest = u32::from(number) * factorial(6 - count);
-    for taken in 0..6u8 {
-        if taken == count {
-            return Some(None);
-        }
-        let weight = factorial(5 - taken);
-        let place = rest / weight;
-        if place > u32::from(5 - taken) {
-            return None;
-        }
-        if place == u32::from(5 - taken) {
-            return Some(Some(count - 1 - taken));
-        }
-        rest %= weight;
+    let first = u32::from(number) * factorial(6 - count);
+    if first >= 720 {
+        return if count == 0 { Some(None) } else { None };
     }
-    Some(None)
+    let before = BEFORE_BP[first as usize];
+    if before < count {
+        Some(Some(count - 1 - before))
+    } else {
+        Some(None)
+    }
 }
