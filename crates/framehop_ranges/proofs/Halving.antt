@@ -1,10 +1,11 @@
--- Halving a list in order: what is known of what is left.
+-- Halving entries in order: what is known of what is left.
 use Rattle.std.proofs.Common.{◌≡◌, ℕ, zero, suc, ◌+◌, ◌-◌, ◌*◌, ◌<◌, ◌≤◌, Bool, true, false, if◌then◌else◌, List, length, get_or, refl, ap, ◌∙◌, arith}
 use Rattle.std.specs.Prelude.{nat_le}
 use Rattle.std.specs.List.{AllWithin}
 use Rattle.std.specs.List.Sorted.{IsNonDecreasingBy}
 use Rattle.std.proofs.lemmas.Bool.Decides.{nat_tests}
 use Rattle.std.proofs.lemmas.List.{get_or_default}
+use Rattle.framehop_ranges.specs.declared.entry.RangeEntry.{RangeEntry}
 
 times-one : (half count : ℕ) → count ≡ 1 → half * count ≡ half
 times-one half count one = ap (λ (n : ℕ). half * n) one ∙ omega arith
@@ -23,32 +24,32 @@ part-of-half half zero h = omega arith
 part-of-half half (suc zero) h = omega arith
 part-of-half half (suc (suc n)) h = absurd (omega arith)
 
-module _ (xs : List ℕ) (up : IsNonDecreasingBy (λ x. x) xs) (limit middle e : ℕ) (within : middle < length xs) where
-  same : (d : ℕ) → get_or xs middle d ≡ get_or xs middle e
-  same d = get_or_default xs middle d e within
+module _ {V : Type 0} (xs : List (RangeEntry V)) (up : IsNonDecreasingBy (λ x. x.start) xs) (limit middle : ℕ) (e : RangeEntry V) (within : middle < length xs) where
+  same : (d : RangeEntry V) → (get_or xs middle d).start ≡ (get_or xs middle e).start
+  same d = ap (λ (x : RangeEntry V). x.start) (get_or_default xs middle d e within)
 
-  -- if the one that is read is at or below a limit, all before it are
-  up-to : get_or xs middle e ≤ limit → AllWithin (λ y. y ≤ limit) xs 0 (middle + 1)
+  -- if the one that is read starts at or below a limit, all before it do
+  up-to : (get_or xs middle e).start ≤ limit → AllWithin (λ y. y.start ≤ limit) xs 0 (middle + 1)
   up-to low k d a b = let is = same d in let le = up k middle d (omega arith) within in omega arith
 
-  -- if it is above a limit, all after it are
-  from-on : limit < get_or xs middle e → AllWithin (λ y. limit < y) xs middle (length xs)
+  -- if it starts above a limit, all after it do
+  from-on : limit < (get_or xs middle e).start → AllWithin (λ y. limit < y.start) xs middle (length xs)
   from-on high k d a b = let is = same d in let le = up middle k d a b in omega arith
 
-  -- .. and so, if a middle counts as one if it is at or below a limit, all before so many middles are
-  pub before-middle : (low half count : ℕ) → low + half ≡ middle → count ≡ (if nat_le (get_or xs middle e) limit then 1 else 0) → AllWithin (λ y. y ≤ limit) xs 0 low
-      → AllWithin (λ y. y ≤ limit) xs 0 (low + half * count)
-  before-middle low half count at is known = by (nat_le (get_or xs middle e) limit) refl is
+  -- .. and so, if a middle counts as one if it starts at or below a limit, all before so many middles do
+  pub before-middle : (low half count : ℕ) → low + half ≡ middle → count ≡ (if nat_le (get_or xs middle e).start limit then 1 else 0) → AllWithin (λ y. y.start ≤ limit) xs 0 low
+      → AllWithin (λ y. y.start ≤ limit) xs 0 (low + half * count)
+  before-middle low half count at is known = by (nat_le (get_or xs middle e).start limit) refl is
     where
-      by : (b : Bool) → nat_le (get_or xs middle e) limit ≡ b → count ≡ (if b then 1 else 0) → AllWithin (λ y. y ≤ limit) xs 0 (low + half * count)
+      by : (b : Bool) → nat_le (get_or xs middle e).start limit ≡ b → count ≡ (if b then 1 else 0) → AllWithin (λ y. y.start ≤ limit) xs 0 (low + half * count)
       by true low-enough one k d a b = let all : half * count ≡ half = times-one half count one in up-to (grind (arith, nat_tests)) k d a (omega arith)
       by false high none k d a b = let nothing : half * count ≡ 0 = times-none half count none in known k d a (omega arith)
 
-  -- and all after what is left are above it
-  pub after-middle : (low len half count : ℕ) → low + half ≡ middle → half + half ≤ len → count ≡ (if nat_le (get_or xs middle e) limit then 1 else 0)
-      → AllWithin (λ y. limit < y) xs (low + len) (length xs) → AllWithin (λ y. limit < y) xs (low + half * count + (len - half)) (length xs)
-  after-middle low len half count at twice is known = by (nat_le (get_or xs middle e) limit) refl is
+  -- and all after what is left start above it
+  pub after-middle : (low len half count : ℕ) → low + half ≡ middle → half + half ≤ len → count ≡ (if nat_le (get_or xs middle e).start limit then 1 else 0)
+      → AllWithin (λ y. limit < y.start) xs (low + len) (length xs) → AllWithin (λ y. limit < y.start) xs (low + half * count + (len - half)) (length xs)
+  after-middle low len half count at twice is known = by (nat_le (get_or xs middle e).start limit) refl is
     where
-      by : (b : Bool) → nat_le (get_or xs middle e) limit ≡ b → count ≡ (if b then 1 else 0) → AllWithin (λ y. limit < y) xs (low + half * count + (len - half)) (length xs)
+      by : (b : Bool) → nat_le (get_or xs middle e).start limit ≡ b → count ≡ (if b then 1 else 0) → AllWithin (λ y. limit < y.start) xs (low + half * count + (len - half)) (length xs)
       by true low-enough one k d a b = let all : half * count ≡ half = times-one half count one in known k d (omega arith) b
       by false high none k d a b = let nothing : half * count ≡ 0 = times-none half count none in from-on (grind (arith, nat_tests)) k d (omega arith) b

@@ -5,8 +5,8 @@ use Rattle.framehop_ranges.specs.RangeValues.{value_in}
 
 -- the value at an address
 abbrev pub value_at : {V : Type 0} → RangeTable V → ℕ → V
-value_at table address = value_in table.before table.starts.items table.values.items address
+value_at table address = value_in table.before table.entries.items address
 
 -- how many ranges a table has
 abbrev pub range_count : {V : Type 0} → RangeTable V → ℕ
-range_count table = length table.values.items
+range_count table = length table.entries.items

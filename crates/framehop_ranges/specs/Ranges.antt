@@ -7,19 +7,24 @@ use Rattle.framehop_ranges.specs.Rises.{Rises}
 
 -- the value at an address
 abbrev pub range_at : {V : Type 0} → Ranges V → ℕ → V
-range_at ranges address = value_in ranges.before ranges.starts.items ranges.values.items address
+range_at ranges address = value_in ranges.before ranges.entries.items address
 
--- the ranges have a value each, rise, and start below the end of the last
+-- the ranges rise, and start below the end of the last
 pub record Sound {V : Type 0} (ranges : Ranges V) : Type 0 where
-  pub paired : length ranges.starts.items ≡ length ranges.values.items
-  pub rises : Rises ranges.starts.items
-  pub below : All (λ start. start < ranges.done) ranges.starts.items
+  pub rises : Rises ranges.entries.items
+  pub below : All (λ entry. entry.start < ranges.done) ranges.entries.items
+
+-- nothing has changed
+pub record AreSame {V : Type 0} (old ranges : Ranges V) : Type 0 where
+  pub before : ranges.before ≡ old.before
+  pub entries : ranges.entries.items ≡ old.entries.items
+  pub done : ranges.done ≡ old.done
 
 -- These ranges have the values of the old ones below the end of those, and from there up to another end one value.
 pub record Extends {V : Type 0} (old : Ranges V) (end : ℕ) (value : V) (ranges : Ranges V) : Type 0 where
   pub sound : Sound ranges
   pub same : ranges.before ≡ old.before
   pub done : ranges.done ≡ max old.done end
-  pub few : length ranges.values.items ≤ length old.values.items + 1
+  pub few : length ranges.entries.items ≤ length old.entries.items + 1
   pub below : (address : ℕ) → address < old.done → range_at ranges address ≡ range_at old address
   pub from : (address : ℕ) → old.done ≤ address → address < ranges.done → range_at ranges address ≡ value

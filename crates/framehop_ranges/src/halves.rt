@@ -1,18 +1,20 @@
-//! A search by halves among some of the starts of a table.
+//! A search by halves among some of the entries of a table.
 
 ghost use Rattle.std.specs.Prelude.{◌≡◌, ◌<◌, ◌≤◌, ◌^◌, ◌+◌, ◌*◌, ◌-◌, ℕ, suc, length, nat_le, if◌then◌else◌};
 ghost use Rattle.std.specs.List.{AllWithin};
 ghost use Rattle.std.specs.List.Sorted.{IsNonDecreasingBy, IsPartitionPoint};
 ghost use Rattle.framehop_ranges.specs.Blocks.{IsPart};
 
-// Some of a table's starts: from one place up to another.
+use crate::entry::RangeEntry;
+
+// Some of a table's entries: from one place up to another.
 #[derive(Clone, Copy)]
 pub(crate) struct Part {
     pub(crate) first: usize,
     pub(crate) end: usize,
 }
 
-// How many starts are at or below an address, and how many were read to find out.
+// How many entries start at or below an address, and how many starts were read to find out.
 #[derive(Clone, Copy)]
 pub(crate) struct Halved {
     pub(crate) at_or_below: usize,
@@ -27,15 +29,15 @@ fn count_at_or_below(start: u32, address: u32) -> usize
     ((u64::from(address) + (1 << 32) - u64::from(start)) >> 32) as usize
 }
 
-// Halves a part of the starts until it is known how many of all are at or below an address. All before the
-// part are, and none after it is.
+// Halves a part of the entries until it is known how many of all start at or below an address. All before the
+// part do, and none after it does.
 #[inline(always)]
-pub(crate) fn halve(starts: &[u32], part: Part, address: u32) -> Halved
-    requires ordered { IsNonDecreasingBy (λ start. start) starts.now }
-    requires part { IsPart starts.now address part.first part.end }
-    ensures bound { result.at_or_below ≤ length starts.now }
-    ensures partition { IsPartitionPoint (λ start. start ≤ address)
-        (λ start. address < start) starts.now result.at_or_below }
+pub(crate) fn halve<V: Copy>(entries: &[RangeEntry<V>], part: Part, address: u32) -> Halved
+    requires ordered { IsNonDecreasingBy (λ entry. entry.start) entries.now }
+    requires part { IsPart entries.now address part.first part.end }
+    ensures bound { result.at_or_below ≤ length entries.now }
+    ensures partition { IsPartitionPoint (λ entry. entry.start ≤ address)
+        (λ entry. address < entry.start) entries.now result.at_or_below }
     ensures few { (k : ℕ) → part.end - part.first ≤ 2 ^ k → result.reads ≤ suc k }
 {
     let mut len = part.end - part.first;
@@ -49,12 +51,12 @@ pub(crate) fn halve(starts: &[u32], part: Part, address: u32) -> Halved
     let mut reads: u32 = 0;
     'halves: while len > 1 {
         let half = len / 2;
-        low += half * count_at_or_below(starts[low + half], address);
+        low += half * count_at_or_below(entries[low + half].start, address);
         reads += 1;
         len -= half;
     }
     Halved {
-        at_or_below: low + count_at_or_below(starts[low], address),
+        at_or_below: low + count_at_or_below(entries[low].start, address),
         reads: reads + 1,
     }
 }

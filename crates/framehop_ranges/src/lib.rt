@@ -3,6 +3,7 @@
 #![tactic(auto)]
 
 mod blocks;
+mod entry;
 mod halves;
 mod range_table;
 mod ranges;

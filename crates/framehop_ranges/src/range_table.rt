@@ -6,6 +6,7 @@ ghost use Rattle.framehop_ranges.specs.Blocks.{AreBlocksOf, IsPart, Passes};
 ghost use Rattle.framehop_ranges.specs.Rises.{Rises};
 
 use crate::blocks::{block_of, blocks_of};
+use crate::entry::RangeEntry;
 use crate::halves::{Part, halve};
 use crate::ranges::Ranges;
 use crate::same::SameValue;
@@ -20,32 +21,30 @@ pub struct RangeLookup<V> {
     pub starts_read: u32,
 }
 
-/// A value for each address of 32 bits, by the starts of the ranges where it changes. How many starts are below each
-/// block of `2^shift` addresses is kept beside them, so that a look-up searches the starts of one block.
+/// A value for each address of 32 bits, by the starts of the ranges where it changes. How many ranges start below each
+/// block of `2^shift` addresses is kept beside them, so that a look-up searches the entries of one block.
 #[derive(Drop)]
 pub struct RangeTable<V> {
     before: V,
-    starts: Vec<u32>,
-    values: Vec<V>,
+    entries: Vec<RangeEntry<V>>,
     blocks: Vec<u32>,
     shift: u32,
-    ghost paired: { length starts.items ≡ length values.items },
-    ghost rises: { Rises starts.items },
+    ghost rises: { Rises entries.items },
     ghost shifts: { shift < 32 },
-    ghost counted: { AreBlocksOf (2 ^ shift) starts.items blocks.items },
+    ghost counted: { AreBlocksOf (2 ^ shift) entries.items blocks.items },
 }
 
 // By how many bits an address is shifted for its block: so many that there are no more blocks up to the last start than
-// a quarter of the starts, and one.
-fn shift_for(starts: &[u32]) -> u32
+// a quarter of the entries, and one.
+fn shift_for<V: Copy>(entries: &[RangeEntry<V>]) -> u32
     ensures { result < 32 }
 {
-    let Some(last) = starts.last() else {
+    let Some(last) = entries.last() else {
         return 0;
     };
-    let blocks = starts.len() as u64 / 4;
+    let blocks = entries.len() as u64 / 4;
     let mut shift = 0;
-    'shifts: while shift < 31 && u64::from(*last >> shift) > blocks {
+    'shifts: while shift < 31 && u64::from(last.start >> shift) > blocks {
         shift += 1;
     }
     shift
@@ -59,40 +58,38 @@ impl<V: SameValue> RangeTable<V> {
     pub fn try_new(alloc: Global, ranges: Ranges<V>) -> Result<Self, AllocError>
         requires { Sound ranges }
         ensures values { IfOk result (λ table. (address : ℕ) → value_at table address ≡ range_at ranges address) }
-        ensures count { IfOk result (λ table. range_count table ≡ length ranges.values.items) }
+        ensures count { IfOk result (λ table. range_count table ≡ length ranges.entries.items) }
     {
         let Ranges {
             before,
-            starts,
-            values,
+            entries,
             done: _,
         } = ranges;
-        let shift = shift_for(&starts);
-        let blocks = blocks_of(alloc, &starts, shift)?;
+        let shift = shift_for(&entries);
+        let blocks = blocks_of(alloc, &entries, shift)?;
         Ok(RangeTable {
             before,
-            starts,
-            values,
+            entries,
             blocks,
             shift,
         })
     }
 
-    // How many starts are below a block of addresses.
+    // How many entries start below a block of addresses.
     #[inline(always)]
     fn starts_below(&self, block: usize) -> usize
-        ensures { Passes (block * 2 ^ self.now.shift) self.now.starts.items result }
+        ensures { Passes (block * 2 ^ self.now.shift) self.now.entries.items result }
     {
         match self.blocks.get(block) {
             Some(passed) => *passed as usize,
-            None => self.starts.len(),
+            None => self.entries.len(),
         }
     }
 
-    // The starts among which the last at or below an address is: those in the address's block.
+    // The entries among which the last that starts at or below an address is: those in the address's block.
     #[inline(always)]
     fn part(&self, address: u32) -> Part
-        ensures part { IsPart self.now.starts.items address result.first result.end }
+        ensures part { IsPart self.now.entries.items address result.first result.end }
         ensures few { result.end - result.first ≤ 2 ^ self.now.shift }
     {
         let block = block_of(address, self.shift);
@@ -101,17 +98,17 @@ impl<V: SameValue> RangeTable<V> {
         Part { first, end }
     }
 
-    // The value at an address, if so many starts are at or below it.
+    // The value at an address, if so many entries start at or below it.
     #[inline(always)]
     fn value_of(&self, count: usize, address: u32) -> V
-        requires bound { count ≤ length self.now.starts.items }
-        requires partition { IsPartitionPoint (λ start. start ≤ address)
-            (λ start. address < start) self.now.starts.items count }
+        requires bound { count ≤ length self.now.entries.items }
+        requires partition { IsPartitionPoint (λ entry. entry.start ≤ address)
+            (λ entry. address < entry.start) self.now.entries.items count }
         ensures { result ≡ value_at self.now address }
     {
         match count {
             0 => self.before,
-            count => self.values[count - 1],
+            count => self.entries[count - 1].value,
         }
     }
 
@@ -122,7 +119,7 @@ impl<V: SameValue> RangeTable<V> {
         ensures few { (k : ℕ) → range_count self.now ≤ 2 ^ k → result.starts_read ≤ suc k }
         ensures near { result.starts_read ≤ suc self.now.shift }
     {
-        let halved = halve(&self.starts, self.part(address), address);
+        let halved = halve(&self.entries, self.part(address), address);
         RangeLookup {
             value: self.value_of(halved.at_or_below, address),
             starts_read: halved.reads,

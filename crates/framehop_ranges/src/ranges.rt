@@ -1,9 +1,10 @@
 //! Ranges of addresses and their values, built from address 0 upwards.
 
-ghost use Rattle.std.specs.Prelude.{◌≡◌, ◌≤◌, ◌^◌, ℕ, IfOk, length};
+ghost use Rattle.std.specs.Prelude.{◌≡◌, ◌≤◌, ◌^◌, ℕ, IfOk, OnErr, length};
 ghost use Rattle.framehop_ranges.specs.RangeValues.{last_or};
-ghost use Rattle.framehop_ranges.specs.Ranges.{Sound, Extends, range_at};
+ghost use Rattle.framehop_ranges.specs.Ranges.{AreSame, Sound, Extends, range_at};
 
+use crate::entry::RangeEntry;
 use crate::same::SameValue;
 use std::alloc::{AllocError, Global};
 
@@ -12,19 +13,18 @@ use std::alloc::{AllocError, Global};
 pub struct Ranges<V> {
     // The value below the first start.
     pub(crate) before: V,
-    pub(crate) starts: Vec<u32>,
-    pub(crate) values: Vec<V>,
+    pub(crate) entries: Vec<RangeEntry<V>>,
     // Where the next range starts.
     pub(crate) done: u64,
 }
 
 // The value from the last start on.
 #[inline(always)]
-fn last_value<V: Copy>(before: V, values: &[V]) -> V
-    ensures { result ≡ last_or before values.now }
+fn last_value<V: Copy>(before: V, entries: &[RangeEntry<V>]) -> V
+    ensures { result ≡ last_or before entries.now }
 {
-    match values.last() {
-        Some(value) => *value,
+    match entries.last() {
+        Some(entry) => entry.value,
         None => before,
     }
 }
@@ -33,14 +33,13 @@ impl<V: SameValue> Ranges<V> {
     /// The addresses up to an end have one value, for which a table has no entry.
     pub fn new(alloc: Global, end: u64, value: V) -> Self
         ensures sound { Sound result }
-        ensures none { length result.values.items ≡ 0 }
+        ensures none { length result.entries.items ≡ 0 }
         ensures value { (address : ℕ) → range_at result address ≡ value }
         ensures done { result.done ≡ end }
     {
         Ranges {
             before: value,
-            starts: Vec::new(alloc),
-            values: Vec::new(alloc),
+            entries: Vec::new(alloc),
             done: end,
         }
     }
@@ -54,21 +53,22 @@ impl<V: SameValue> Ranges<V> {
     }
 
     /// Gives the addresses up to an end a value, from where the ranges are done; nothing changes if they are
-    /// done beyond it. If memory is refused, nothing is left.
+    /// done beyond it, or if memory is refused.
     #[inline(always)]
-    pub fn extend(mut self, end: u64, value: V) -> Result<Self, AllocError>
-        requires sound { Sound self }
+    pub fn extend(&mut self, end: u64, value: V) -> Result<(), AllocError>
+        requires sound { Sound self.old }
         requires fits { end ≤ 2 ^ 32 }
-        ensures { IfOk result (Extends self end value) }
+        ensures extends { IfOk result (λ _. Extends self.old end value self.new) }
+        ensures refused { OnErr result (AreSame self.old self.new) }
     {
         if end <= self.done {
-            return Ok(self);
+            return Ok(());
         }
-        if !last_value(self.before, &self.values).is_same(value) {
-            self.starts.push(self.done as u32)?;
-            self.values.push(value)?;
+        if !last_value(self.before, &self.entries).is_same(value) {
+            let start = self.done as u32;
+            self.entries.push(RangeEntry { start, value })?;
         }
         self.done = end;
-        Ok(self)
+        Ok(())
     }
 }

@@ -196,7 +196,7 @@ module _ {Rule : Type 0} (t : Tabulated Rule) (kept : List IndexedFde) (spans : 
           adds.from starts relative from below ∙ ap (λ (o : ℕ). by_entry t o (fde_from_offset t.section Offset) (span.base_svma + relative)) offset
           ∙ ap (λ (b : ℕ). by_entry t Offset (fde_from_offset t.section Offset) (b + relative)) base ∙ sym says)
 
-      pub next-few : length old.values.items + room_within t (drop i kept) ≤ room_within t kept → length new.values.items + room_within t (drop (i + 1) kept) ≤ room_within t kept
+      pub next-few : length old.entries.items + room_within t (drop i kept) ≤ room_within t kept → length new.entries.items + room_within t (drop (i + 1) kept) ≤ room_within t kept
       next-few before =
           let rest : drop i kept ≡ get_or kept i d ∷ drop (suc i) kept = drop-cons kept i d within in
           let count : room_within t (drop i kept) ≡ row_count t (fde_from_offset t.section Offset) + 1 + room_within t (drop (suc i) kept) = ap (room_within t) rest in
@@ -205,7 +205,7 @@ module _ {Rule : Type 0} (t : Tabulated Rule) (kept : List IndexedFde) (spans : 
           omega (arith, adds.few, before, count, ap (room_within t) next)
 
   -- after the last FDE all is said
-  pub all-said : (i : ℕ) (old new : Ranges (Covered Rule)) → length kept ≤ i → Extends old (2 ^ 32) Nothing new → old.done ≡ start_at End kept i → length old.values.items + room_within t (drop i kept) ≤ room_within t kept
+  pub all-said : (i : ℕ) (old new : Ranges (Covered Rule)) → length kept ≤ i → Extends old (2 ^ 32) Nothing new → old.done ≡ start_at End kept i → length old.entries.items + room_within t (drop i kept) ≤ room_within t kept
       → ((relative : ℕ) → relative < old.done → range_at old relative ≡ covered_at t relative) → AreOf t kept new
   all-said i old new past extends done few says = record {
     sound = extends.sound;

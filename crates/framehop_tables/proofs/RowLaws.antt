@@ -60,7 +60,7 @@ module _ {Rule : Type 0} (rules : RowRules Rule) (span : Span) (old : Ranges (Co
     pub same : ranges.before ≡ old.before
     pub least : old.done ≤ ranges.done
     pub most : ranges.done ≤ max old.done span.limit
-    pub few : length ranges.values.items + length left.rows ≤ length old.values.items + length all.rows
+    pub few : length ranges.entries.items + length left.rows ≤ length old.entries.items + length all.rows
     pub below : (relative : ℕ) → relative < old.done → range_at ranges relative ≡ range_at old relative
     pub goes : GoOn (span.base_svma + old.done) all.rows → ranges.done < span.limit → GoOn (span.base_svma + ranges.done) left.rows
     pub from : GoOn (span.base_svma + old.done) all.rows → (relative : ℕ) → old.done ≤ relative → relative < ranges.done

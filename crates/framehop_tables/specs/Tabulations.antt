@@ -23,7 +23,7 @@ pub record AddsRows {Rule : Type 0} (rules : RowRules Rule) (span : Span) (left 
   pub sound : Sound new
   pub same : new.before ≡ old.before
   pub done : new.done ≡ max old.done span.limit
-  pub few : length new.values.items ≤ length old.values.items + length left.rows + 1
+  pub few : length new.entries.items ≤ length old.entries.items + length left.rows + 1
   pub below : (relative : ℕ) → relative < old.done → range_at new relative ≡ range_at old relative
   pub from : GoOn (span.base_svma + old.done) left.rows → (relative : ℕ) → old.done ≤ relative → relative < new.done
       → range_at new relative ≡ by_rows rules span.offset left (span.base_svma + relative)
@@ -38,7 +38,7 @@ pub record AddsEntry {Rule : Type 0} (t : Tabulated Rule) (span : Span) (entry :
   pub sound : Sound new
   pub same : new.before ≡ old.before
   pub done : new.done ≡ max old.done span.limit
-  pub few : length new.values.items ≤ length old.values.items + row_count t entry + 1
+  pub few : length new.entries.items ≤ length old.entries.items + row_count t entry + 1
   pub below : (relative : ℕ) → relative < old.done → range_at new relative ≡ range_at old relative
   pub from : IfOk entry (λ fde. fde.initial_address ≤ span.base_svma + old.done) → (relative : ℕ) → old.done ≤ relative
       → relative < new.done → range_at new relative ≡ by_entry t span.offset entry (span.base_svma + relative)
@@ -63,5 +63,5 @@ room_within t (kept ∷ others) = row_count t (fde_from_offset t.section kept.of
 -- These ranges say of each relative address what the index says.
 pub record AreOf {Rule : Type 0} (t : Tabulated Rule) (kept : List IndexedFde) (ranges : Ranges (Covered Rule)) : Type 0 where
   pub sound : Sound ranges
-  pub few : length ranges.values.items ≤ room_within t kept + 1
+  pub few : length ranges.entries.items ≤ room_within t kept + 1
   pub says : (relative : ℕ) → relative < 2 ^ 32 → range_at ranges relative ≡ covered_at t relative

@@ -63,19 +63,17 @@ impl<K: KeptRule> KeptEntry<K> {
     }
 }
 
-impl<K: KeptRule> SameValue for KeptEntry<K>
-where
-    K::Rule: SameRule,
-{
+impl<K: KeptRule> SameValue for KeptEntry<K> {
+    #[inline(always)]
     fn is_same(self, other: Self) -> bool {
-        self.covered().is_same(other.covered())
+        self.kept.is_same_kept(other.kept)
     }
 }
 
 // The addresses up to an end, of which nothing is said.
 pub(crate) fn nothing_up_to<Rule: SameRule>(alloc: Global, end: u64) -> Ranges<Entry<Rule>>
     ensures sound { Sound result }
-    ensures none { length result.values.items ≡ 0 }
+    ensures none { length result.entries.items ≡ 0 }
     ensures value { (address : ℕ) → range_at result address ≡ Nothing }
     ensures done { result.done ≡ end }
 {
@@ -85,14 +83,14 @@ pub(crate) fn nothing_up_to<Rule: SameRule>(alloc: Global, end: u64) -> Ranges<E
 // Says this of the addresses up to an end, from where the ranges are done.
 #[inline(always)]
 pub(crate) fn extend<Rule: SameRule>(
-    ranges: Ranges<Entry<Rule>>,
+    ranges: &mut Ranges<Entry<Rule>>,
     end: u64,
     covered: Covered<Rule>,
-) -> Result<Ranges<Entry<Rule>>, AllocError>
-    requires sound { Sound ranges }
+) -> Result<(), AllocError>
+    requires sound { Sound ranges.old }
     requires fits { end ≤ 2 ^ 32 }
     requires valid { SaysValid Rule.is_valid covered }
-    ensures { IfOk result (Extends ranges end covered) }
+    ensures { IfOk result (λ _. Extends ranges.old end covered ranges.new) }
 {
     ranges.extend(end, KeptEntry::new(covered))
 }

@@ -12,7 +12,7 @@ ghost use Rattle.framehop_tables.specs.Tabulations.{AddsEntry, AddsRows, AreOf, 
 
 use crate::covered::Covered;
 use crate::entry::{Entry, extend, nothing_up_to};
-use crate::rows::with_rows;
+use crate::rows::add_rows;
 use crate::same_rule::SameRule;
 use crate::spans::Span;
 use dwarf_frame_entries::{
@@ -58,25 +58,25 @@ where
 }
 
 // Adds what an FDE says up to the limit of a span.
-fn with_fde<A: RowRules, R: Reader, Section: UnwindSection<R>, S: UnwindContextStorage<R::Offset>>(
-    ranges: Ranges<Entry<A::UnwindRule>>,
+fn add_fde<A: RowRules, R: Reader, Section: UnwindSection<R>, S: UnwindContextStorage<R::Offset>>(
+    ranges: &mut Ranges<Entry<A::UnwindRule>>,
     section: &Section,
     bases: &BaseAddresses,
     context: &mut UnwindContext<R::Offset, S>,
     fde: &FrameDescriptionEntry<R>,
     span: Span,
-) -> Result<Ranges<Entry<A::UnwindRule>>, AllocError>
+) -> Result<(), AllocError>
 where
     A::UnwindRule: SameRule,
     requires fixed { S.never_allocates }
-    requires sound { Sound ranges }
+    requires sound { Sound ranges.old }
     requires fits { span.limit ≤ 2 ^ 32 }
     ensures { let frame = Section.frame section.now bases.now in
         let rows = fde_rows S.limits frame (Section.extensions section.now) fde.now in
-        IfOk result (AddsRows (row_rules A.rows A.rule_of) span rows ranges) }
+        IfOk result (λ _. AddsRows (row_rules A.rows A.rule_of) span rows ranges.old ranges.new) }
 {
     match ProgramRows::new(context, program_of_fde(section, bases, fde)) {
-        Ok(mut rows) => with_rows::<A, R, S>(ranges, &mut rows, span),
+        Ok(mut rows) => add_rows::<A, R, S>(ranges, &mut rows, span),
         Err(_) => {
             let uncovered = Covered::Says(A::rule_if_uncovered_by_fde());
             extend(ranges, span.limit, uncovered)
@@ -85,29 +85,24 @@ where
 }
 
 // Adds what is at the offset of a span: what an FDE says there, or nothing if none can be read.
-fn with_entry<
-    A: RowRules,
-    R: Reader,
-    Section: UnwindSection<R>,
-    S: UnwindContextStorage<R::Offset>,
->(
-    ranges: Ranges<Entry<A::UnwindRule>>,
+fn add_entry<A: RowRules, R: Reader, Section: UnwindSection<R>, S: UnwindContextStorage<R::Offset>>(
+    ranges: &mut Ranges<Entry<A::UnwindRule>>,
     section: &Section,
     bases: &BaseAddresses,
     context: &mut UnwindContext<R::Offset, S>,
     span: Span,
-) -> Result<Ranges<Entry<A::UnwindRule>>, AllocError>
+) -> Result<(), AllocError>
 where
     A::UnwindRule: SameRule,
     requires fixed { S.never_allocates }
-    requires sound { Sound ranges }
+    requires sound { Sound ranges.old }
     requires fits { span.limit ≤ 2 ^ 32 }
     ensures { let frame = Section.frame section.now bases.now in
         let t = tabulated A.rows A.rule_of S.limits (Section.extensions section.now) span.base_svma in
-        IfOk result (AddsEntry (t frame) span (fde_from_offset frame span.offset) ranges) }
+        IfOk result (λ _. AddsEntry (t frame) span (fde_from_offset frame span.offset) ranges.old ranges.new) }
 {
     match fde_at(section, bases, span.offset) {
-        Ok(fde) => with_fde::<A, R, Section, S>(ranges, section, bases, context, &fde, span),
+        Ok(fde) => add_fde::<A, R, Section, S>(ranges, section, bases, context, &fde, span),
         Err(_) => extend::<A::UnwindRule>(ranges, span.limit, Covered::Nothing),
     }
 }
@@ -160,7 +155,8 @@ where
             offset: fdes[place].offset,
             limit: start_at(end, fdes, place + 1),
         };
-        ranges = with_entry::<A, R, Section, S>(ranges, section, bases, &mut *context, span)?;
+        add_entry::<A, R, Section, S>(&mut ranges, section, bases, &mut *context, span)?;
     }
-    extend::<A::UnwindRule>(ranges, 1 << 32, Covered::Nothing)
+    extend::<A::UnwindRule>(&mut ranges, 1 << 32, Covered::Nothing)?;
+    Ok(ranges)
 }

@@ -13,7 +13,7 @@ const _: () = prove!(size_of::<KeptX86_64>() == 8);
 const _: () = prove!(size_of::<KeptAarch64>() == 8);
 
 /// What tables of x86_64 keep: which rule is said with its numbers, or what else a table says.
-#[derive(Clone, Copy)]
+#[derive(Clone, Copy, PartialEq, Eq)]
 pub enum KeptX86_64 {
     Nothing,
     Evaluates(u32),
@@ -52,10 +52,6 @@ fn kept_rule_x86_64(rule: UnwindRuleX86_64) -> KeptX86_64
 
 impl SameRule for UnwindRuleX86_64 {
     type Kept = KeptX86_64;
-
-    fn is_same_rule(self, other: Self) -> bool {
-        self == other
-    }
 }
 
 impl KeptRule for KeptX86_64 {
@@ -76,6 +72,11 @@ impl KeptRule for KeptX86_64 {
             Covered::Says(rule) => kept_rule_x86_64(rule),
             Covered::Evaluates(offset) => KeptX86_64::Evaluates(offset),
         }
+    }
+
+    #[inline(always)]
+    fn is_same_kept(self, other: Self) -> bool {
+        self == other
     }
 
     #[inline(always)]
@@ -110,7 +111,7 @@ impl KeptRule for KeptX86_64 {
 }
 
 /// What tables of aarch64 keep: which rule is said with its numbers, or what else a table says.
-#[derive(Clone, Copy)]
+#[derive(Clone, Copy, PartialEq, Eq)]
 pub enum KeptAarch64 {
     Nothing,
     Evaluates(u32),
@@ -158,10 +159,6 @@ fn kept_rule_aarch64(rule: UnwindRuleAarch64) -> KeptAarch64
 
 impl SameRule for UnwindRuleAarch64 {
     type Kept = KeptAarch64;
-
-    fn is_same_rule(self, other: Self) -> bool {
-        self == other
-    }
 }
 
 impl KeptRule for KeptAarch64 {
@@ -182,6 +179,11 @@ impl KeptRule for KeptAarch64 {
             Covered::Says(rule) => kept_rule_aarch64(rule),
             Covered::Evaluates(offset) => KeptAarch64::Evaluates(offset),
         }
+    }
+
+    #[inline(always)]
+    fn is_same_kept(self, other: Self) -> bool {
+        self == other
     }
 
     #[inline(always)]

@@ -37,18 +37,19 @@ fn covered_by_row<
 
 // Adds a row: what it says, from where the ranges end up to the row's end.
 #[inline(always)]
-fn with_row<A: RowRules, T: ReaderOffset, Rules: ArrayLike<Item = RuledRegister<RegisterRule<T>>>>(
-    ranges: Ranges<Entry<A::UnwindRule>>,
+#[inline(always)]
+fn add_row<A: RowRules, T: ReaderOffset, Rules: ArrayLike<Item = RuledRegister<RegisterRule<T>>>>(
+    ranges: &mut Ranges<Entry<A::UnwindRule>>,
     row: &UnwindTableRow<T, Rules>,
     span: Span,
-) -> Result<Ranges<Entry<A::UnwindRule>>, AllocError>
+) -> Result<(), AllocError>
 where
     A::UnwindRule: SameRule,
-    requires sound { Sound ranges }
+    requires sound { Sound ranges.old }
     requires fits { span.limit ≤ 2 ^ 32 }
     ensures { let row = row_in T.value row.now in
-        IfOk result (Extends ranges (min (row.end - span.base_svma) span.limit)
-        (by_rule span.offset (A.rule_of row))) }
+        IfOk result (λ _. Extends ranges.old (min (row.end - span.base_svma) span.limit)
+        (by_rule span.offset (A.rule_of row)) ranges.new) }
 {
     let end = row.end_address().saturating_sub(span.base_svma);
     let covered = covered_by_row::<A, T, Rules>(row, span.offset);
@@ -56,29 +57,28 @@ where
 }
 
 // Adds the rows that are left, and up to the limit the rule for code that no row covers.
-pub(crate) fn with_rows<A: RowRules, R: Reader, S: UnwindContextStorage<R::Offset>>(
-    ranges: Ranges<Entry<A::UnwindRule>>,
+pub(crate) fn add_rows<A: RowRules, R: Reader, S: UnwindContextStorage<R::Offset>>(
+    ranges: &mut Ranges<Entry<A::UnwindRule>>,
     rows: &mut ProgramRows<'_, '_, R, S>,
     span: Span,
-) -> Result<Ranges<Entry<A::UnwindRule>>, AllocError>
+) -> Result<(), AllocError>
 where
     A::UnwindRule: SameRule,
     requires fixed { S.never_allocates }
-    requires sound { Sound ranges }
+    requires sound { Sound ranges.old }
     requires fits { span.limit ≤ 2 ^ 32 }
     ensures { let left = rows_left R.stretch R.Offset.limit R.Offset.value S.Stack.items S.limits rows.old in
-        IfOk result (AddsRows (row_rules A.rows A.rule_of) span left ranges) }
+        IfOk result (λ _. AddsRows (row_rules A.rows A.rule_of) span left ranges.old ranges.new) }
 {
-    let mut ranges = ranges;
     'rows: loop {
         if span.limit <= ranges.done() {
-            return Ok(ranges);
+            return Ok(());
         }
         let _advanced = rows.advance();
         let Some(row) = rows.current_row() else {
             let uncovered = Covered::Says(A::rule_if_uncovered_by_fde());
             return extend(ranges, span.limit, uncovered);
         };
-        ranges = with_row::<A, R::Offset, S::Rules>(ranges, row, span)?;
+        add_row::<A, R::Offset, S::Rules>(&mut *ranges, row, span)?;
     }
 }

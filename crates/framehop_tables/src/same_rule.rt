@@ -27,14 +27,14 @@ pub trait KeptRule: Copy {
     /// What a table says.
     fn covered(self) -> Covered<Self::Rule>
         ensures { result ≡ covered_by self };
+
+    /// Whether it is the same as another.
+    fn is_same_kept(self, other: Self) -> bool
+        ensures { IsTrue result ↔ self ≡ other };
 }
 
-/// An unwind rule that tables keep, and which can be told from others.
+/// An unwind rule that tables keep, by what can be told from others.
 pub trait SameRule: UnwindRule {
     /// What is kept.
     type Kept: KeptRule<Rule = Self>;
-
-    /// Whether it is the same as another.
-    fn is_same_rule(self, other: Self) -> bool
-        ensures { IsTrue result ↔ self ≡ other };
 }

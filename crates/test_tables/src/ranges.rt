@@ -18,7 +18,7 @@ impl SameValue for Letter {
 fn table_of(alloc: Global, ends: &[(u32, u8)]) -> Result<RangeTable<Letter>, AllocError> {
     let mut ranges = Ranges::new(alloc, 8, Letter(b'-'));
     'ends: for (end, letter) in ends {
-        ranges = ranges.extend(u64::from(*end), Letter(*letter))?;
+        ranges.extend(u64::from(*end), Letter(*letter))?;
     }
     RangeTable::try_new(alloc, ranges)
 }

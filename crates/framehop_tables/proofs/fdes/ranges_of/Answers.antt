@@ -1,7 +1,5 @@
 -- The FDEs of the index, one after the other.
 use Rattle.std.proofs.Common.{◌<◌, List, length, get_or, arith, refl, sym, subst, ◌∙◌}
-use Rattle.std.specs.Prelude.{IfOk}
-use Rattle.std.proofs.lemmas.Result.{IfOk-weaker}
 use Rattle.framehop_index.specs.declared.cfi_index.IndexedFde.{IndexedFde}
 use Rattle.framehop_tables.specs.declared.spans.Span.{Span}
 use Rattle.framehop_tables.specs.Covered.{tabulated}
@@ -36,12 +34,12 @@ loop-place-preserved g c =
     let within : c.loop-place.place < length kept = omega (arith, c.loop-place-test.true) in
     let limit = rw c.end_of-end.ensures at c.start_at-in-loop-place.ensures.start in
     let done = rw c.end_of-end.ensures at known.done in
-    let adds = c.in_ok-ranges.ensures in
+    let adds = c.in_ok-add_entry.ensures in
     record {
       sound = adds.sound;
-      done = rw c.end_of-end.ensures (next-done t kept spans up c.loop-place.place d within span c.loop-place.ranges c.in_ok-ranges.ranges refl refl limit done adds);
-      few = next-few t kept spans up c.loop-place.place d within span c.loop-place.ranges c.in_ok-ranges.ranges refl refl limit done adds known.few;
-      says = next-says t kept spans up c.loop-place.place d within span c.loop-place.ranges c.in_ok-ranges.ranges refl refl limit done adds known.says;
+      done = rw c.end_of-end.ensures (next-done t kept spans up c.loop-place.place d within span c.loop-place.ranges c.add_entry.new.ranges refl refl limit done adds);
+      few = next-few t kept spans up c.loop-place.place d within span c.loop-place.ranges c.add_entry.new.ranges refl refl limit done adds known.few;
+      says = next-says t kept spans up c.loop-place.place d within span c.loop-place.ranges c.add_entry.new.ranges refl refl limit done adds known.says;
     }
 
 pub returns : goal.returns
@@ -51,7 +49,5 @@ returns g c =
     let spans = c.fdes-fdes.ensures.found c.args.base_svma frame c.requires.index in
     let known = c.loop-place.invariant in
     let done = rw c.end_of-end.ensures at known.done in
-    subst (λ (kept : List IndexedFde). IfOk c.extend.result (AreOf t kept)) c.fdes-fdes.ensures.fdes
-    (IfOk-weaker c.extend.result _ _
-    (λ new extends. all-said t c.fdes-fdes.result.now spans c.fdes-fdes.ensures.ordered c.loop-place.place c.loop-place.ranges new (omega arith) extends done known.few known.says)
-    c.extend.ensures)
+    subst (λ (kept : List IndexedFde). AreOf t kept c.extend.new.ranges) c.fdes-fdes.ensures.fdes
+    (all-said t c.fdes-fdes.result.now spans c.fdes-fdes.ensures.ordered c.loop-place.place c.loop-place.ranges c.extend.new.ranges (omega arith) c.in_ok-extend.ensures done known.few known.says)

@@ -11,6 +11,6 @@ invariant-loop-place g l =
     record {
       sound : Sound l.ranges;
       done : l.ranges.done ≡ start_at l.end l.fdes l.place;
-      few : length l.ranges.values.items + room_within t (drop l.place l.fdes) ≤ room_within t l.fdes;
+      few : length l.ranges.entries.items + room_within t (drop l.place l.fdes) ≤ room_within t l.fdes;
       says : (relative : ℕ) → relative < l.ranges.done → range_at l.ranges relative ≡ covered_at t relative;
     }

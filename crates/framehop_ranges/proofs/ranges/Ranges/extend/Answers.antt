@@ -2,17 +2,16 @@
 use Rattle.std.proofs.Common.{arith, refl, sym, ap, ◌∙◌}
 use Rattle.framehop_ranges.proofs.RangeLaws.{pushed, spread}
 use Rattle.framehop_ranges.proofs.ranges.Ranges.extend.Goals as goal
-use Rattle.framehop_ranges.proofs.ranges.Ranges.extend.Goals.{then-not-is_same+in_ok-push+in_ok-push-2, else-not-is_same}
+use Rattle.framehop_ranges.proofs.ranges.Ranges.extend.Goals.{then-not-is_same+in_ok-push, else-not-is_same}
 
-pub returns : goal.returns
-returns g c =
+pub returns-clause-extends : goal.returns-clause-extends
+returns-clause-extends g c =
     elim c.if-not-is_same.branch [
-      | then-not-is_same+in_ok-push+in_ok-push-2 w ↦
-          pushed c.args.self _ c.args.end c.args.value c.requires.sound (omega arith) (ap (λ p. p.before) w.self-is) refl
-          (ap (λ p. p.starts.items) w.self-is ∙ w.in_ok-push.ensures.items)
-          (ap (λ p. p.values.items) w.self-is ∙ w.in_ok-push-2.ensures.items)
+      | then-not-is_same+in_ok-push w ↦
+          pushed c.args.self.now _ c.args.end c.args.value c.requires.sound (omega arith) (ap (λ p. p.before) w.self-is) refl
+          (ap (λ p. p.entries.items) w.self-is ∙ w.in_ok-push.ensures.items)
       | else-not-is_same w ↦
-          spread c.args.self _ c.args.end c.args.value c.requires.sound (omega arith) (ap (λ p. p.before) w.self-is) refl
-          (ap (λ p. p.starts.items) w.self-is) (ap (λ p. p.values.items) w.self-is)
+          spread c.args.self.now _ c.args.end c.args.value c.requires.sound (omega arith) (ap (λ p. p.before) w.self-is) refl
+          (ap (λ p. p.entries.items) w.self-is)
           (rw c.deref.ensures.value at (sym c.last_value.ensures ∙ w.if-not-is_same.ensures.0 refl))
     ]

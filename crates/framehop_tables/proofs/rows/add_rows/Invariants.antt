@@ -2,7 +2,7 @@ use Rattle.dwarf_frame_instructions.specs.ProgramRows.{rows_left, steps_left}
 use Rattle.framehop_ranges.specs.Ranges.{Sound}
 use Rattle.framehop_tables.specs.Covered.{row_rules}
 use Rattle.framehop_tables.proofs.RowLaws.{Reaches}
-use Rattle.framehop_tables.proofs.rows.with_rows.Given as goal
+use Rattle.framehop_tables.proofs.rows.add_rows.Given as goal
 
 abbrev pub invariant-rows : goal.invariant-rows
 invariant-rows g l =

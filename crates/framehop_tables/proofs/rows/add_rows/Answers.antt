@@ -5,7 +5,7 @@ use Rattle.dwarf_frame_instructions.specs.Execution.{row_in}
 use Rattle.dwarf_frame_instructions.specs.ProgramRows.{rows_left}
 use Rattle.framehop_tables.specs.Covered.{row_rules}
 use Rattle.framehop_tables.proofs.RowLaws.{none-given, reached-last, reached-more, row-given}
-use Rattle.framehop_tables.proofs.rows.with_rows.Goals as goal
+use Rattle.framehop_tables.proofs.rows.add_rows.Goals as goal
 
 pub returns-in_default : goal.returns-in_default
 returns-in_default g c =
@@ -17,7 +17,7 @@ returns-in_default g c =
     c.rows.rows c.advance-advanced.new.self c.advance-advanced.result c.advance-advanced.ensures.row (sym (rw c.in_default.is at c.current_row.ensures)) in
     let more : c.rows.ranges.done < c.args.span.limit = omega (arith, c.if-span-done.false, c.done.ensures) in
     IfOk-weaker c.extend.result _ _
-    (λ new extends. reached-last rules c.args.span c.args.ranges all c.rows.ranges new left.rows left.refusal none more extends c.rows.invariant.reached)
+    (λ _ extends. reached-last rules c.args.span c.args.ranges.now all c.rows.ranges c.extend.new.ranges left.rows left.refusal none more extends c.rows.invariant.reached)
     (rw c.rule_if_uncovered_by_fde.ensures.rule at c.extend.ensures)
 
 pub rows-preserved : goal.rows-preserved
@@ -32,6 +32,6 @@ rows-preserved g c =
     c.rows.rows c.advance-advanced.new.self c.advance-advanced.result row c.advance-advanced.ensures.row (sym (rw c.in-Some.is at c.current_row.ensures)) in
     let more : c.rows.ranges.done < c.args.span.limit = omega (arith, c.if-span-done.false, c.done.ensures) in
     record {
-      sound = c.in_ok-ranges.ensures.sound;
-      reached = reached-more rules c.args.span c.args.ranges all c.rows.ranges c.in_ok-ranges.ranges left.rows left.refusal row rest more given.0 given.1 c.in_ok-ranges.ensures c.rows.invariant.reached;
+      sound = c.in_ok-add_row.ensures.sound;
+      reached = reached-more rules c.args.span c.args.ranges.now all c.rows.ranges c.add_row.new.ranges left.rows left.refusal row rest more given.0 given.1 c.in_ok-add_row.ensures c.rows.invariant.reached;
     }

@@ -1,0 +1,9 @@
+//! What a table has for each range of addresses.
+
+/// Where a range starts, and the value from there on. They are side by side, so that the memory in which a look-up finds
+/// the last start at or below an address has its value too.
+#[derive(Clone, Copy)]
+pub(crate) struct RangeEntry<V> {
+    pub(crate) start: u32,
+    pub(crate) value: V,
+}
