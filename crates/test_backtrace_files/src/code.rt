@@ -1,0 +1,53 @@
+//! Where the code of a mapping is loaded.
+
+use crate::object::object;
+use backtrace_files::{LoadedFile, loaded_code};
+use core_files::MappedFile;
+use std::test::Fail;
+
+// A mapping of these bytes from an offset on.
+fn mapped<'a>(start: u64, end: u64, offset: u64, bytes: &'a [u8]) -> LoadedFile<'a> {
+    LoadedFile {
+        mapping: MappedFile {
+            start,
+            end,
+            offset,
+            name: b"/a",
+        },
+        bytes: Some(bytes),
+    }
+}
+
+// Where the file's address 0 is, if the mapping has code.
+fn bias(file: &LoadedFile<'_>) -> Option<u64> {
+    match loaded_code(file) {
+        Some(code) => Some(code.bias),
+        None => None,
+    }
+}
+
+#[test]
+fn by_the_segment_with_code(rt: HostRuntime) -> Result<(), Fail> {
+    let bytes = object(rt.alloc())?;
+    // the code has offset 0x308 and address 0x1308
+    assert!(rt; bias(&mapped(0x7000_0300, 0x7000_0348, 0x300, &bytes)) == Some(0x6fff_f000));
+    assert!(rt; bias(&mapped(0x7000_0000, 0x7000_0309, 0, &bytes)) == Some(0x6fff_f000));
+    assert!(rt; bias(&mapped(0x7000_0347, 0x7000_0400, 0x347, &bytes)) == Some(0x6fff_f000));
+    assert!(rt; bias(&mapped(0x1300, 0x1348, 0x300, &bytes)) == Some(0));
+    Ok(())
+}
+
+#[test]
+fn mappings_without_code(rt: HostRuntime) -> Result<(), Fail> {
+    let bytes = object(rt.alloc())?;
+    assert!(rt; bias(&mapped(0x7000_0000, 0x7000_0308, 0, &bytes)).is_none());
+    assert!(rt; bias(&mapped(0x7000_0348, 0x7000_0400, 0x348, &bytes)).is_none());
+    // the file's address 0 would be below 0, or past the last address
+    assert!(rt; bias(&mapped(0x12ff, 0x1347, 0x300, &bytes)).is_none());
+    assert!(rt; bias(&mapped(u64::MAX - 0x100, u64::MAX, 0x300, &bytes)).is_none());
+    assert!(rt; bias(&mapped(0x7000_0300, 0x7000_0348, 0x300, b"text")).is_none());
+    let mut file = mapped(0x7000_0300, 0x7000_0348, 0x300, &bytes);
+    file.bytes = None;
+    assert!(rt; bias(&file).is_none());
+    Ok(())
+}

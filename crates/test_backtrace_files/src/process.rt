@@ -1,0 +1,100 @@
+//! The files of a process, and what they have of its memory.
+
+use crate::object::{object, other_object};
+use crate::small_core::{SHARED_OBJECT, core_with};
+use backtrace_files::{LoadedFile, memory_ranges, process_files};
+use core_files::{CoreFile, MappedFile};
+use std::alloc::Global;
+use std::process::Abort;
+use std::test::Fail;
+
+// Whether bytes are these, or none are there.
+fn are_same(bytes: Option<&[u8]>, expected: Option<&[u8]>) -> bool {
+    match (bytes, expected) {
+        (Some(bytes), Some(expected)) => bytes == expected,
+        (None, None) => true,
+        _ => false,
+    }
+}
+
+// The file is mapped here, and has this name and these bytes.
+fn expect(
+    rt: &impl Abort,
+    file: &LoadedFile<'_>,
+    at: (u64, u64),
+    name: &[u8],
+    bytes: Option<&[u8]>,
+) {
+    assert!(rt; (file.mapping.start, file.mapping.offset) == at);
+    assert!(rt; file.mapping.name == name);
+    assert!(rt; are_same(file.bytes, bytes));
+}
+
+// A core with these contents has the two mappings of `/a` with these bytes, one of `/b` without, and the shared object.
+fn expect_files(
+    rt: &impl Abort,
+    alloc: Global,
+    core: &CoreFile<'_>,
+    contents: &[Option<&[u8]>],
+    first: Option<&[u8]>,
+    second: Option<&[u8]>,
+) -> Result<(), Fail> {
+    let files = process_files(alloc, core, contents)?;
+    let [one, two, three, object] = files.as_slice() else {
+        assert!(rt; false);
+        return Ok(());
+    };
+    expect(rt, one, (0x7000_0000, 0), b"/a", first);
+    expect(rt, two, (0x7000_0300, 0x300), b"/a", second);
+    expect(rt, three, (0x7100_0000, 0), b"/b", None);
+    let known = Some(SHARED_OBJECT.as_slice());
+    expect(rt, object, (0x7fff_0000, 0), b"[vdso]", known);
+    assert!(rt; object.mapping.end == 0x7fff_0010);
+    Ok(())
+}
+
+#[test]
+fn files_in_their_order_and_the_shared_object(rt: HostRuntime) -> Result<(), Fail> {
+    let file = object(rt.alloc())?;
+    let whole = Some(file.as_slice());
+    let bytes = core_with(rt.alloc(), &file)?;
+    let core = CoreFile::parse(rt.alloc(), &bytes)?;
+    expect_files(&rt, rt.alloc(), &core, &[whole, whole, None], whole, whole)?;
+    expect_files(&rt, rt.alloc(), &core, &[None, whole], None, whole)?;
+    expect_files(&rt, rt.alloc(), &core, &[], None, None)
+}
+
+#[test]
+fn bytes_with_another_build_id_are_left_out(rt: HostRuntime) -> Result<(), Fail> {
+    let file = object(rt.alloc())?;
+    let other = other_object(rt.alloc())?;
+    let whole = Some(other.as_slice());
+    let bytes = core_with(rt.alloc(), &file)?;
+    let core = CoreFile::parse(rt.alloc(), &bytes)?;
+    expect_files(&rt, rt.alloc(), &core, &[whole, whole], None, None)
+}
+
+#[test]
+fn ranges_of_files_with_bytes(rt: HostRuntime) -> Result<(), Fail> {
+    let mapping = MappedFile {
+        start: 0x1000,
+        end: 0x3000,
+        offset: 4,
+        name: b"/a",
+    };
+    let files = [
+        LoadedFile {
+            mapping,
+            bytes: None,
+        },
+        LoadedFile {
+            mapping,
+            bytes: Some(b"0123456789"),
+        },
+    ];
+    let ranges = memory_ranges(rt.alloc(), &files)?;
+    assert!(rt; ranges.len() == 1);
+    assert!(rt; ranges[0].address == 0x1000 && ranges[0].size == 0x2000);
+    assert!(rt; ranges[0].bytes == b"456789".as_slice());
+    Ok(())
+}
