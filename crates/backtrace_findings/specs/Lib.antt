@@ -1,0 +1,4 @@
+pub mod LeftOut
+pub mod Lines
+pub mod Overlaps
+pub mod PlaceViews

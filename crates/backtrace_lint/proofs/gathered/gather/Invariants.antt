@@ -1,0 +1,9 @@
+use Rattle.std.proofs.Common.{length}
+use Rattle.backtrace_lint.proofs.Gathers.{Gathering}
+use Rattle.backtrace_lint.proofs.gathered.gather.Given as goal
+
+abbrev pub invariant-entries : goal.invariant-entries
+invariant-entries g l = Gathering (g.Section._UnwindSectionPrivate.frame l.section l.bases) l.fdes.items l.offset l.entries.entries
+
+abbrev pub decreases-entries : goal.decreases-entries
+decreases-entries g l = length l.entries.entries

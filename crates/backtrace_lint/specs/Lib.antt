@@ -1,0 +1,5 @@
+pub mod Faults
+pub mod GatheredViews
+pub mod LintText
+pub mod LintViews
+pub mod ListedFdes

@@ -1,0 +1,60 @@
+//! A pass over the entries of a section.
+
+ghost use Rattle.std.specs.Prelude.{◌≡◌, IfOk, OnOk};
+ghost use Rattle.dwarf_frame_entries.specs.EntryViews.{entry_view};
+ghost use Rattle.backtrace_lint.specs.GatheredViews.{Gathers};
+ghost use Rattle.backtrace_lint.specs.ListedFdes.{listed_entry, with_listed};
+
+use crate::entries::{listed_entry, offset_after};
+use backtrace_findings::{Fault, ListedFde};
+use dwarf_frame_entries::{BaseAddresses, CieOrFde, UnwindSection};
+use dwarf_readers::Reader;
+use std::alloc::{AllocError, Global};
+
+/// The FDEs of a section's list, and the error that ends it, if one does.
+#[derive(Drop)]
+pub(crate) struct Gathered {
+    pub(crate) fdes: Vec<ListedFde>,
+    pub(crate) fault: Option<Fault>,
+}
+
+// Adds the FDE that an entry is, if it isn't a CIE.
+fn push_entry<R: Reader, Section: UnwindSection<R>>(
+    fdes: &mut Vec<ListedFde>,
+    entry: &CieOrFde<'_, Section, R>,
+) -> Result<(), AllocError>
+    ensures { OnOk result (fdes.new.items ≡ with_listed fdes.old.items
+        (listed_entry R.Offset.limit Section.kind (entry_view R.stretch R.Offset.value entry.now))) }
+{
+    let Some(fde) = listed_entry(entry) else {
+        return Ok(());
+    };
+    fdes.push(fde)?;
+    Ok(())
+}
+
+/// What the list of a section's entries has.
+pub(crate) fn gather<R: Reader, Section: UnwindSection<R>>(
+    alloc: Global,
+    section: &Section,
+    bases: &BaseAddresses,
+) -> Result<Gathered, AllocError>
+    ensures { IfOk result (Gathers (Section.frame section.now bases.now)) }
+{
+    let mut fdes = Vec::new(alloc);
+    let mut offset = 0;
+    let mut entries = section.entries(bases);
+    'entries: loop {
+        match entries.next() {
+            Ok(Some(entry)) => {
+                push_entry(&mut fdes, &entry)?;
+                offset = offset_after(section, bases, &entry);
+            }
+            Ok(None) => return Ok(Gathered { fdes, fault: None }),
+            Err(error) => {
+                let fault = Some(Fault { offset, error });
+                return Ok(Gathered { fdes, fault });
+            }
+        }
+    }
+}
