@@ -110,12 +110,12 @@ def groups_of(text):
 
 
 def groups_of_roads(groups):
-    """Of these ratios those of fresh steps by header, index and table, which `bench/tables` prints, by library."""
+    """Of these ratios the first of fresh steps by header, index and table, which `bench/tables` prints, by library."""
     found = {}
     for label, ratio in (bar for group in groups for bar in group.bars):
         if match := re.fullmatch(r"(\S+), a fresh step (by (?:its header|an index|a table))", label):
-            found.setdefault(match[1], []).append((match[2], ratio))
-    return [Group(library, bars) for library, bars in found.items()]
+            found.setdefault(match[1], {}).setdefault(match[2], ratio)
+    return [Group(library, list(bars.items())) for library, bars in found.items()]
 
 
 # Sizes in pixels: labels end at LABELS, and the longest bar is BARS long.

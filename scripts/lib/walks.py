@@ -19,6 +19,8 @@ STACK = 0x7FFD_8000_0000
 WORDS = [BASE + 0x1000 + 16 * i for i in range(128)]
 MOST_STEPS = 2048
 WALKS, DEPTH, FRAMES, MOST_FRAME = 32, 128, 400, 512
+# The most bytes of a document, as ./unwind takes it.
+LONGEST = 1 << 24
 
 # A machine: its name, the names of the first frame's registers and of readelf's, how many bytes an instruction has at least, and a CIE
 # without an augmentation.
@@ -273,14 +275,15 @@ class Turns:
         return lambda: times_of(program, ["time"], path)
 
     def rival(self, document):
-        """A run of it by the original or its peer, or None if there is neither."""
+        """A run of it by the original or its peer, or None if there is neither, or if the document is too long for the peer."""
         if self.original:
             path = self._file(work(document, self.rounds))
             return lambda: times_of(self.original, [document["arch"]], path)
-        if self.peer:
-            path = self._file(json.dumps(document, separators=(",", ":")).encode())
-            return lambda: times_of_peer(self.peer, path, self.rounds)
-        return None
+        text = json.dumps(document, separators=(",", ":")).encode() if self.peer else b""
+        if not 0 < len(text) <= LONGEST:
+            return None
+        path = self._file(text)
+        return lambda: times_of_peer(self.peer, path, self.rounds)
 
     def least(self, runs, is_same=True):
         """The least times of each run, which has to give as many frames as the others if they make the same walks; those of None are
