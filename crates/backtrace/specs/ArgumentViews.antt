@@ -1,7 +1,7 @@
 -- Arguments as contracts see them.
-use Rattle.std.specs.Prelude.{option_map}
+use Rattle.std.specs.Prelude.{map, option_map, string_bytes}
 use Rattle.std.specs.Option.{option_copied}
-use Rattle.backtrace.specs.Arguments.{Parsed, Request, Stacks, help, stacks}
+use Rattle.backtrace.specs.Arguments.{Parsed, Request, Stacks, help, lint, stacks}
 use Rattle.backtrace.specs.declared.arguments.CoreRequest.{CoreRequest}
 use Rattle.backtrace.specs.declared.arguments.Parsed.{Parsed as Said}
 use Rattle.backtrace.specs.declared.arguments.Request.{Request as Asked}
@@ -24,4 +24,5 @@ stacks_seen asked = record { core = asked.core.now; root = asked.root.now; optio
 -- what is asked for
 abbrev pub request_seen : Asked → Request
 request_seen (asked.Stacks stacks_asked) = stacks (stacks_seen stacks_asked)
+request_seen (asked.Lint files) = lint (map string_bytes files.now)
 request_seen asked.Help = help

@@ -1,5 +1,6 @@
 -- What the arguments of the program ask for.
 use Rattle.std.specs.Prelude.{ℕ, ◌+◌, ◌-◌, ◌*◌, ◌^◌, ◌==◌, ◌&&◌, ◌||◌, Bool, true, false, nat_le, nat_lt, if◌then◌else◌, List, [], ◌∷◌, codes, bytes_eq, Option, Some, None, is_some, option_and_then, option_map}
+use Rattle.std.specs.List.{list_any}
 use Rattle.backtrace.specs.declared.arguments.Awaited.{Awaited}
 use Rattle.backtrace.specs.declared.arguments.Awaited.TheVariants.{Word, Root, Thread, Limit}
 use Rattle.backtrace_walks.specs.declared.backtraces.BacktraceOptions.{BacktraceOptions}
@@ -10,9 +11,10 @@ pub record Stacks : Type 0 where
   pub root : List ℕ
   pub options : BacktraceOptions
 
--- the stacks of a core, or how the program is called
+-- the stacks of a core, the findings of the files at some paths, or how the program is called
 pub data Request : Type 0 where
   stacks : Stacks → Request
+  lint : (files : List (List ℕ)) → Request
   help : Request
 
 -- What the words so far say, and what the next one is.
@@ -109,6 +111,19 @@ stacks_by Limit parsed = None
 abbrev pub request_by : Parsed → Option Request
 request_by parsed = if parsed.is_help then Some help else stacks_by parsed.awaited parsed
 
+-- the stacks that words ask for, or how the program is called
+abbrev pub stacks_request : List (List ℕ) → Option Request
+stacks_request words = option_and_then request_by (parsed_words nothing_said words)
+
+-- a word is an option
+abbrev pub option_among : List (List ℕ) → Bool
+option_among words = list_any begins_with_dash words
+
+-- the findings of files
+abbrev pub lint_request : List (List ℕ) → Option Request
+lint_request words = if option_among words then None else Some (lint words)
+
 -- what arguments ask for, without the program's name
 abbrev pub request_of : List (List ℕ) → Option Request
-request_of words = option_and_then request_by (parsed_words nothing_said words)
+request_of [] = None
+request_of (word ∷ words) = if bytes_eq word (codes "--lint") then lint_request words else stacks_request (word ∷ words)

@@ -1,2 +1,3 @@
 pub mod ArgumentViews
 pub mod Arguments
+pub mod Statuses

@@ -1,7 +1,7 @@
 //! The arguments of the program.
 
 ghost use Rattle.std.specs.Prelude.{◌≡◌, ◌<◌, IfSome, map, option_map, string_bytes};
-ghost use Rattle.backtrace.specs.Arguments.{begins_with_dash, digit_of, number_of, number_with, parsed_limit, parsed_next, parsed_path, parsed_thread, parsed_word, request_by, request_of};
+ghost use Rattle.backtrace.specs.Arguments.{begins_with_dash, digit_of, number_of, lint_request, number_with, option_among, parsed_limit, parsed_next, parsed_path, parsed_thread, parsed_word, request_by, request_of, stacks_request};
 ghost use Rattle.backtrace.specs.ArgumentViews.{parsed_seen, request_seen};
 
 use backtrace_walks::BacktraceOptions;
@@ -9,11 +9,15 @@ use backtrace_walks::BacktraceOptions;
 /// How the program is called.
 pub(crate) const USAGE: &str =
     "usage: backtrace CORE [--root DIR] [--thread ID] [--limit N] [--registers]
+       backtrace --lint FILE..
 Prints the stacks of the threads of a core file.
   --root DIR     reads the files that the core names below DIR
   --thread ID    prints the stack of this thread alone
   --limit N      prints at most N frames of a stack, 1048576 without it
-  --registers    prints the registers of each frame too";
+  --registers    prints the registers of each frame too
+With --lint prints what an unwinder meets in the call frames of ELF files: the error that ends the entries of .eh_frame, or of
+.debug_frame if a file has no .eh_frame, the FDEs that an index leaves out, and the FDEs that overlap. The exit status is 1 if it
+prints something, 2 if a file can't be read.";
 
 // The most frames of a stack, if no limit is said.
 const DEFAULT_LIMIT: u64 = 1 << 20;
@@ -34,6 +38,8 @@ pub(crate) struct CoreRequest<'a> {
 pub(crate) enum Request<'a> {
     /// The stacks of a core.
     Stacks(CoreRequest<'a>),
+    /// The findings of files.
+    Lint(&'a [String]),
     /// How the program is called.
     Help,
 }
@@ -227,10 +233,9 @@ fn request_by<'a>(parsed: Parsed<'a>) -> Option<Request<'a>>
     }
 }
 
-/// What the arguments ask for, after the program's name: `None` if they name an option that there isn't, if a value is missing or no
-/// number of 64 bits, or if they have no core or two.
-pub(crate) fn request_of(words: &[String]) -> Option<Request<'_>>
-    ensures { option_map request_seen result ≡ request_of (map string_bytes words.now) }
+// The stacks that words ask for.
+fn stacks_request(words: &[String]) -> Option<Request<'_>>
+    ensures { option_map request_seen result ≡ stacks_request (map string_bytes words.now) }
 {
     let mut parsed = Parsed {
         core: None,
@@ -250,4 +255,40 @@ pub(crate) fn request_of(words: &[String]) -> Option<Request<'_>>
         parsed = next;
     }
     request_by(parsed)
+}
+
+// Whether a word is an option.
+fn option_among(words: &[String]) -> bool
+    ensures { result ≡ option_among (map string_bytes words.now) }
+{
+    for word in words {
+        if begins_with_dash(word.as_str()) {
+            return true;
+        }
+    }
+    false
+}
+
+// The findings that the words after `--lint` ask for.
+fn lint_request(words: &[String]) -> Option<Request<'_>>
+    ensures { option_map request_seen result ≡ lint_request (map string_bytes words.now) }
+{
+    if option_among(words) {
+        return None;
+    }
+    Some(Request::Lint(words))
+}
+
+/// What the arguments ask for, after the program's name: `None` if they name an option that there isn't, if a value is missing or no
+/// number of 64 bits, or if they have no core or two. After `--lint` there are names of files alone.
+pub(crate) fn request_of(words: &[String]) -> Option<Request<'_>>
+    ensures { option_map request_seen result ≡ request_of (map string_bytes words.now) }
+{
+    match words {
+        [first, files @ ..] => match first.as_str() {
+            "--lint" => lint_request(files),
+            _ => stacks_request(words),
+        },
+        [] => None,
+    }
 }

@@ -1,11 +1,13 @@
-//! Prints the stacks of the threads of a core file, in lines like gdb's.
+//! Prints the stacks of the threads of a core file, in lines like gdb's, or what an unwinder meets in the call frames of ELF files.
 //!
 //! The exit status is 0 if the stacks were printed, 2 if the arguments or the core has a fault, or the core hasn't the thread that is
-//! asked for, and 1 if the core can't be read, standard output failed or memory ran out.
+//! asked for, and 1 if the core can't be read, standard output failed or memory ran out. Of files it is 0 if nothing was found, 2 if
+//! one of them can't be read, and else 1.
 #![tactic(auto)]
 
 mod arguments;
 mod files;
+mod lint;
 mod stacks;
 
 use anyhow::{Context, Result, bail};
@@ -15,11 +17,12 @@ use backtrace_text::push_name;
 use core_files::{CoreError, CoreFile, Thread};
 use files::{NamedFile, contents_of, read_files};
 use json_program::Streamed;
+use lint::lint_files;
 use stacks::write_stacks;
 use std::process::ExitCode;
 use std::{env, fs, io};
 
-// The exit status if the arguments or the core has a fault.
+// The exit status if the arguments, the core or a file has a fault.
 const FAULTY: u8 = 2;
 
 // Says something of a file on standard error, by its name in ASCII.
@@ -98,6 +101,7 @@ fn main(rt: HostRuntime) -> Result<ExitCode> {
     let words: Vec<String> = env::args(&rt)?.skip(1).collect(rt.alloc())?;
     match request_of(words.as_slice()) {
         Some(Request::Stacks(request)) => run(&rt, &request),
+        Some(Request::Lint(files)) => lint_files(&rt, files),
         Some(Request::Help) => {
             println!(rt; "{USAGE}")?;
             Ok(ExitCode::SUCCESS)
