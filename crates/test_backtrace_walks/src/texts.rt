@@ -1,0 +1,119 @@
+//! The text of a core's threads.
+
+use crate::process::core_x86_64;
+use crate::program::program;
+use backtrace_walks::{BacktraceOptions, core_text};
+use core_files::CoreFile;
+use std::alloc::Global;
+use std::process::Abort;
+use std::test::Fail;
+
+// All threads, up to a limit of frames.
+const ALL: BacktraceOptions = BacktraceOptions {
+    thread: None,
+    limit: 16,
+    registers: false,
+};
+
+const WHOLE: &str = "Thread 7:
+#0  0x0000000000101000 in leaf+0x0 from /program+0x1000
+#1  0x0000000000101200 in ?? from /program+0x1200
+#2  0x0000000000101300 in ?? from /program+0x1300
+#3  0x0000000000101400 in ?? from /program+0x1400
+Thread 9:
+#0  0x0000000000101500 in ?? from /program+0x1500
+#1  <signal handler called>
+#2  0x0000000000101600 in ?? from /program+0x1600
+";
+
+const ONE_THREAD: &str = "Thread 9:
+#0  0x0000000000101500 in ?? from /program+0x1500
+    rip 0x0000000000101500 rsp 0x0000000000007128 rbp 0x0000000000007120
+#1  <signal handler called>
+    rip 0x0000000000200000 rsp 0x0000000000007130 rbp 0x0000000000007120
+#2  0x0000000000101600 in ?? from /program+0x1600
+    rip 0x0000000000101600 rsp 0x0000000000007300 rbp 0x0000000000007310
+";
+
+const TWO_FRAMES: &str = "Thread 7:
+#0  0x0000000000101000 in leaf+0x0 from /program+0x1000
+#1  0x0000000000101200 in ?? from /program+0x1200
+Backtrace stopped: limit reached
+Thread 9:
+#0  0x0000000000101500 in ?? from /program+0x1500
+#1  <signal handler called>
+Backtrace stopped: limit reached
+";
+
+// Without its call frames the first thread's stack is walked by frame pointers alone.
+const WITHOUT_FILE: &str = "Thread 7:
+#0  0x0000000000101000 in ?? from /program+0x1000
+#1  0x0000000000101300 in ?? from /program+0x1300
+#2  0x0000000000101400 in ?? from /program+0x1400
+";
+
+// The text of the core is this one.
+fn expect(
+    rt: &impl Abort,
+    alloc: Global,
+    contents: &[Option<&[u8]>],
+    options: &BacktraceOptions,
+    expected: &str,
+) -> Result<(), Fail> {
+    let bytes = core_x86_64(alloc)?;
+    let core = CoreFile::parse(alloc, &bytes)?;
+    let text = core_text(alloc, &core, contents, options)?;
+    assert!(rt; text.as_slice() == expected.as_bytes());
+    Ok(())
+}
+
+#[test]
+fn of_all_threads(rt: HostRuntime) -> Result<(), Fail> {
+    let file = program(rt.alloc())?;
+    expect(&rt, rt.alloc(), &[Some(file.as_slice())], &ALL, WHOLE)
+}
+
+#[test]
+fn of_one_thread_with_registers(rt: HostRuntime) -> Result<(), Fail> {
+    let file = program(rt.alloc())?;
+    let options = BacktraceOptions {
+        thread: Some(9),
+        registers: true,
+        ..ALL
+    };
+    expect(
+        &rt,
+        rt.alloc(),
+        &[Some(file.as_slice())],
+        &options,
+        ONE_THREAD,
+    )?;
+    let none = BacktraceOptions {
+        thread: Some(8),
+        ..ALL
+    };
+    expect(&rt, rt.alloc(), &[Some(file.as_slice())], &none, "")
+}
+
+#[test]
+fn up_to_a_limit(rt: HostRuntime) -> Result<(), Fail> {
+    let file = program(rt.alloc())?;
+    let options = BacktraceOptions { limit: 2, ..ALL };
+    expect(
+        &rt,
+        rt.alloc(),
+        &[Some(file.as_slice())],
+        &options,
+        TWO_FRAMES,
+    )
+}
+
+#[test]
+fn without_the_file(rt: HostRuntime) -> Result<(), Fail> {
+    let options = BacktraceOptions {
+        thread: Some(7),
+        ..ALL
+    };
+    expect(&rt, rt.alloc(), &[], &options, WITHOUT_FILE)?;
+    expect(&rt, rt.alloc(), &[Some(b"text")], &options, WITHOUT_FILE)
+}
