@@ -66,22 +66,24 @@ parsed_word parsed word =
     else if bytes_eq word (codes "--help") || bytes_eq word (codes "-h") then Some (record parsed { is_help = true })
     else parsed_path parsed word
 
--- the values of options
+-- the id of a thread, after `--thread`
 abbrev pub parsed_thread : Parsed → List ℕ → Option Parsed
 parsed_thread parsed word =
     option_map (λ thread. record parsed { options = record parsed.options { thread = Some thread }; awaited = Word }) (number_of word)
 
+-- a number of frames, after `--limit`
 abbrev pub parsed_limit : Parsed → List ℕ → Option Parsed
 parsed_limit parsed word =
     option_map (λ limit. record parsed { options = record parsed.options { limit = limit }; awaited = Word }) (number_of word)
 
--- one word more
+-- a word, by what it is awaited as
 abbrev pub parsed_as : Awaited → Parsed → List ℕ → Option Parsed
 parsed_as Word parsed word = parsed_word parsed word
 parsed_as Root parsed word = Some (record parsed { root = word; awaited = Word })
 parsed_as Thread parsed word = parsed_thread parsed word
 parsed_as Limit parsed word = parsed_limit parsed word
 
+-- one word more
 abbrev pub parsed_next : Parsed → List ℕ → Option Parsed
 parsed_next parsed word = parsed_as parsed.awaited parsed word
 
