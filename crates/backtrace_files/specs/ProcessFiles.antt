@@ -28,9 +28,9 @@ abbrev pub files_from : CoreContents → List (Option (List ℕ)) → ℕ → Li
 files_from core contents number [] = []
 files_from core contents number (mapping ∷ mappings) = file_with core contents number mapping ∷ files_from core contents (number + 1) mappings
 
--- the mapped files, in the order of the core
-abbrev pub mapped_files : CoreContents → List (Option (List ℕ)) → List ProcessFile
-mapped_files core contents = files_from core contents 0 core.files
+-- mappings with their bytes
+abbrev pub files_with : CoreContents → List (Option (List ℕ)) → List FileMapping → List ProcessFile
+files_with core contents mappings = files_from core contents 0 mappings
 
 -- the virtual shared object that begins at an address, with the bytes that a segment has from there on
 abbrev pub object_at : ℕ → List ℕ → ProcessFile
@@ -44,6 +44,6 @@ abbrev pub shared_object : CoreContents → Option ProcessFile
 shared_object core =
     option_and_then (λ start. option_map (object_at start) (bytes_at core.segments start)) (auxiliary_value core.auxv 33)
 
--- the mapped files, and then the virtual shared object, if there is one
+-- the mapped files, in the order of the core, and then the virtual shared object, if there is one
 abbrev pub process_files : CoreContents → List (Option (List ℕ)) → List ProcessFile
-process_files core contents = mapped_files core contents ++ option_to_list (shared_object core)
+process_files core contents = files_with core contents core.files ++ option_to_list (shared_object core)

@@ -1,12 +1,13 @@
 //! The files of a core's process.
 
-ghost use Rattle.std.specs.Prelude.{◌≡◌, IfOk, map};
+ghost use Rattle.std.specs.Prelude.{◌≡◌, map};
 ghost use Rattle.std.specs.Option.{option_copied, option_map};
 ghost use Rattle.core_files.specs.CoreViews.{contents_of};
 ghost use Rattle.core_files.specs.FileViews.{mapping_of};
 ghost use Rattle.core_files.specs.NoteViews.{mappings_of};
-ghost use Rattle.backtrace_files.specs.FileViews.{file_seen, files_seen};
-ghost use Rattle.backtrace_files.specs.ProcessFiles.{file_with, files_from, given_bytes, kept_bytes, process_files, shared_object};
+ghost use Rattle.backtrace_files.specs.FileViews.{file_seen};
+ghost use Rattle.backtrace_files.specs.ProcessFiles.{file_with, files_with, given_bytes, kept_bytes, process_files, shared_object};
+ghost use Rattle.backtrace_files.specs.Results.{IfOkAre};
 
 use crate::build_ids::{bytes_at, has_other_build_id};
 use crate::loaded_file::LoadedFile;
@@ -68,8 +69,8 @@ fn files_with<'a>(
     mappings: &[MappedFile<'a>],
     contents: &[Option<&'a [u8]>],
 ) -> Result<Vec<LoadedFile<'a>>, AllocError>
-    ensures { IfOk result (λ files. files_seen files.items ≡ files_from (contents_of core.now)
-        (map option_copied contents.now) 0 (mappings_of mappings.now)) }
+    ensures { IfOkAre file_seen result (files_with (contents_of core.now)
+        (map option_copied contents.now) (mappings_of mappings.now)) }
 {
     let mut files = Vec::new(alloc);
     for (number, mapping) in mappings.iter().enumerate() {
@@ -106,8 +107,8 @@ pub fn process_files<'a>(
     core: &CoreFile<'a>,
     contents: &[Option<&'a [u8]>],
 ) -> Result<Vec<LoadedFile<'a>>, AllocError>
-    ensures { IfOk result (λ files. files_seen files.items
-        ≡ process_files (contents_of core.now) (map option_copied contents.now)) }
+    ensures { IfOkAre file_seen result
+        (process_files (contents_of core.now) (map option_copied contents.now)) }
 {
     let mut files = files_with(alloc, core, core.mapped_files(), contents)?;
     if let Some(object) = shared_object(core) {

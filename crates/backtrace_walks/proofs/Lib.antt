@@ -1,4 +1,5 @@
 pub mod Lists
+pub mod MoveLaws
 pub mod ProcessLaws
 pub mod SessionLaws
 pub mod StillCallback

@@ -10,14 +10,14 @@ use Rattle.framehop_unwinder.specs.Frames.{Frame, frame_of}
 use Rattle.framehop_unwinder.specs.Walk.{Judgment, Move, Walk, move}
 use Rattle.framehop_unwinder.specs.WalkViews.{frame_answer}
 use Rattle.backtrace_walks.specs.WalkedViews.{IsTaken}
-use Rattle.backtrace_walks.specs.Starts.{Start}
+use Rattle.backtrace_walks.specs.declared.registers.ThreadStart.{ThreadStart}
 use Rattle.backtrace_walks.specs.Walks.{FrameWith, Stack, ends_by, frame_before, frames_by, resumed, stack_from}
 
 -- frames, and then those of a walk that goes on
 abbrev pub frames_before : {R : Type 0} → List (FrameWith R) → Stack R → Stack R
 frames_before frames stack = record { frames = frames ++ stack.frames; end = stack.end }
 
-module _ {R : Type 0} (judgment : Judgment R) (interrupted : ℕ → R → Option (Start R)) (words : Words) (limit : ℕ) (first : Walk R) where
+module _ {R : Type 0} (judgment : Judgment R) (interrupted : ℕ → R → Option (ThreadStart R)) (words : Words) (limit : ℕ) (first : Walk R) where
   -- the frames so far and those that are left are those of the whole walk
   abbrev pub SoFar : ℕ → List (FrameWith R) → Walk R → Type 0
   SoFar left frames walk = frames_before frames (stack_from judgment interrupted words left walk) ≡ stack_from judgment interrupted words limit first
@@ -28,22 +28,26 @@ module _ {R : Type 0} (judgment : Judgment R) (interrupted : ℕ → R → Optio
   made_before left frames old made is so_far =
       ap (λ (m : Move R). frames_before frames (frames_by m.answer m.walk.registers (stack_from judgment interrupted words left (resumed interrupted m.answer m.walk)))) is ∙ so_far
 
+  -- A move more: the frames so far, what it returned, and how that was taken.
+  abbrev pub Moves : ℕ → List (FrameWith R) → List (FrameWith R) → Walk R → Walk R → Result (Option FrameAddress) Error → Option WalkEnd → Type 0
+  Moves left frames more old new answer end =
+      SoFar (suc left) frames old × (record { answer = frame_answer answer; walk = new } ≡ move judgment words old) × IsTaken answer new.registers end frames more
+
   one_more : (frames : List (FrameWith R)) (frame : FrameWith R) (others : Stack R) → frames_before (frames ++ frame ∷ []) others ≡ frames_before frames (frame_before frame others)
   one_more frames frame others = ap (λ (fs : List (FrameWith R)). record { frames = fs; end = others.end }) (append_assoc frames (frame ∷ []) others.frames)
 
   -- a move more, which gave a frame
   pub goes_on : (left : ℕ) (frames more : List (FrameWith R)) (old new : Walk R) (answer : Result (Option FrameAddress) Error) (end : Option WalkEnd)
-      → SoFar (suc left) frames old → record { answer = frame_answer answer; walk = new } ≡ move judgment words old
-      → IsTaken answer new.registers end frames more → end ≡ None → SoFar left more (resumed interrupted (frame_answer answer) new)
-  goes_on left frames more old new (Ok (Some address)) end so_far is taken none =
+      → Moves left frames more old new answer end → end ≡ None → SoFar left more (resumed interrupted (frame_answer answer) new)
+  goes_on left frames more old new (Ok (Some address)) end (so_far, is, taken) none =
       let frame : FrameWith R = record { frame = frame_of address; registers = new.registers } in
       let next = resumed interrupted (Ok (Some (frame_of address))) new in
       ap (λ (fs : List (FrameWith R)). frames_before fs (stack_from judgment interrupted words left next)) taken.1
       ∙ one_more frames frame (stack_from judgment interrupted words left next)
       ∙ made_before left frames old (record { answer = frame_answer (Ok (Some address)); walk = new }) is so_far
-  goes_on left frames more old new (Ok None) end so_far is taken none =
+  goes_on left frames more old new (Ok None) end (so_far, is, taken) none =
       let bad : Some EndOfStack ≡ None = sym taken.0 ∙ none in cc
-  goes_on left frames more old new (Err error) end so_far is taken none =
+  goes_on left frames more old new (Err error) end (so_far, is, taken) none =
       let bad : Some (Stopped error) ≡ None = sym taken.0 ∙ none in cc
 
   ended : (frames : List (FrameWith R)) (end : WalkEnd) → record { frames = frames; end = end } ≡ frames_before frames (ends_by end)
@@ -54,16 +58,15 @@ module _ {R : Type 0} (judgment : Judgment R) (interrupted : ℕ → R → Optio
 
   -- a move more, which ended the walk
   pub stops : (left : ℕ) (frames more : List (FrameWith R)) (old new : Walk R) (answer : Result (Option FrameAddress) Error) (end : Option WalkEnd) (how : WalkEnd)
-      → SoFar (suc left) frames old → record { answer = frame_answer answer; walk = new } ≡ move judgment words old
-      → IsTaken answer new.registers end frames more → end ≡ Some how → record { frames = more; end = how } ≡ stack_from judgment interrupted words limit first
-  stops left frames more old new (Ok (Some address)) end how so_far is taken some =
+      → Moves left frames more old new answer end → end ≡ Some how → record { frames = more; end = how } ≡ stack_from judgment interrupted words limit first
+  stops left frames more old new (Ok (Some address)) end how (so_far, is, taken) some =
       let bad : None ≡ Some how = sym taken.0 ∙ some in cc
-  stops left frames more old new (Ok None) end how so_far is taken some =
+  stops left frames more old new (Ok None) end how (so_far, is, taken) some =
       ap (λ (fs : List (FrameWith R)). record { frames = fs; end = how }) taken.1
       ∙ ap (λ (e : WalkEnd). record { frames = frames; end = e }) (some-same how EndOfStack (sym some ∙ taken.0))
       ∙ ended frames EndOfStack
       ∙ made_before left frames old (record { answer = frame_answer (Ok None); walk = new }) is so_far
-  stops left frames more old new (Err error) end how so_far is taken some =
+  stops left frames more old new (Err error) end how (so_far, is, taken) some =
       ap (λ (fs : List (FrameWith R)). record { frames = fs; end = how }) taken.1
       ∙ ap (λ (e : WalkEnd). record { frames = frames; end = e }) (some-same how (Stopped error) (sym some ∙ taken.0))
       ∙ ended frames (Stopped error)

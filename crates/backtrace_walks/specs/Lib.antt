@@ -1,10 +1,9 @@
 pub mod Backtraces
 pub mod Modules
 pub mod ProcessViews
-pub mod RegisterViews
 pub mod Registers
 pub mod SessionViews
 pub mod Signals
-pub mod Starts
+pub mod StackMeanings
 pub mod WalkedViews
 pub mod Walks

@@ -6,22 +6,13 @@ use Rattle.core_files.specs.declared.registers.ThreadRegisters.{ThreadRegisters}
 use Rattle.core_files.specs.declared.registers.ThreadRegisters.TheVariants.{X86_64, Aarch64}
 use Rattle.core_files.specs.declared.registers.UserRegsAarch64.{UserRegsAarch64}
 use Rattle.core_files.specs.declared.registers.UserRegsX86_64.{UserRegsX86_64}
-use Rattle.core_files.specs.declared.thread.Thread.{Thread}
 use Rattle.framehop_registers.specs.Registers.{bp_of, ip_of, new_registers, sp_of, with_values}
 use Rattle.framehop_registers.specs.RegistersAarch64 as aarch64
 use Rattle.framehop_registers.specs.declared.aarch64.unwindregs.PtrAuthMask.{PtrAuthMask}
 use Rattle.framehop_registers.specs.declared.aarch64.unwindregs.UnwindRegsAarch64.{UnwindRegsAarch64}
 use Rattle.framehop_registers.specs.declared.x86_64.unwindregs.Reg.TheVariants.{RAX, RDX, RCX, RBX, RSI, RDI, R8, R9, R10, R11, R12, R13, R14, R15}
 use Rattle.framehop_registers.specs.declared.x86_64.unwindregs.UnwindRegsX86_64.{UnwindRegsX86_64}
-use Rattle.backtrace_walks.specs.Signals.{interrupted_aarch64, interrupted_x86_64}
-use Rattle.backtrace_walks.specs.Starts.{Interruption, Start}
-
--- How an architecture has the registers of threads: where the walk over a thread's stack begins, if the thread has registers of this
--- architecture; where a signal interrupted a thread; and which registers of a frame are shown.
-pub record ThreadForms (Registers : Type 0) : Type 0 where
-  pub start : Thread → Option (Start Registers)
-  pub interrupted : Interruption Registers
-  pub shown : Registers → List Register
+use Rattle.backtrace_walks.specs.declared.registers.ThreadStart.{ThreadStart}
 
 -- a register with its name
 abbrev pub shown_register : List ℕ → ℕ → Register
@@ -37,7 +28,8 @@ registers_x86_64 user =
     (user.rax ∷ user.rdx ∷ user.rcx ∷ user.rbx ∷ user.rsi ∷ user.rdi ∷ user.r8 ∷ user.r9 ∷ user.r10 ∷ user.r11 ∷ user.r12 ∷ user.r13
     ∷ user.r14 ∷ user.r15 ∷ [])
 
-abbrev pub start_x86_64 : ThreadRegisters → Option (Start UnwindRegsX86_64)
+-- where the walk over a thread's stack begins, if its registers are those of x86_64
+abbrev pub start_x86_64 : ThreadRegisters → Option (ThreadStart UnwindRegsX86_64)
 start_x86_64 (X86_64 user) = Some (record { pc = user.rip; registers = registers_x86_64 user })
 start_x86_64 (Aarch64 user) = None
 
@@ -47,9 +39,6 @@ shown_x86_64 registers =
     shown_register (codes "rip") (ip_of registers)
     ∷ shown_register (codes "rsp") (sp_of registers)
     ∷ shown_register (codes "rbp") (bp_of registers) ∷ []
-
-abbrev pub forms_x86_64 : ThreadForms UnwindRegsX86_64
-forms_x86_64 = record { start = λ thread. start_x86_64 thread.registers; interrupted = interrupted_x86_64; shown = shown_x86_64 }
 
 -- ---- aarch64
 
@@ -64,7 +53,8 @@ registers_aarch64 user masks =
     let mask = mask_of_thread masks in
     aarch64.new_registers mask (aarch64.stripped_address mask (slice_index user.regs 30)) user.sp (slice_index user.regs 29)
 
-abbrev pub start_aarch64 : ThreadRegisters → Option PointerAuthenticationMasks → Option (Start UnwindRegsAarch64)
+-- where the walk over a thread's stack begins, if its registers are those of aarch64
+abbrev pub start_aarch64 : ThreadRegisters → Option PointerAuthenticationMasks → Option (ThreadStart UnwindRegsAarch64)
 start_aarch64 (X86_64 user) masks = None
 start_aarch64 (Aarch64 user) masks = Some (record { pc = user.pc; registers = registers_aarch64 user masks })
 
@@ -74,10 +64,3 @@ shown_aarch64 registers =
     shown_register (codes "sp") (aarch64.sp_of registers)
     ∷ shown_register (codes "x29") (aarch64.fp_of registers)
     ∷ shown_register (codes "x30") (aarch64.lr_of registers) ∷ []
-
-abbrev pub forms_aarch64 : ThreadForms UnwindRegsAarch64
-forms_aarch64 = record {
-  start = λ thread. start_aarch64 thread.registers thread.pointer_authentication_masks;
-  interrupted = interrupted_aarch64;
-  shown = shown_aarch64;
-}

@@ -8,7 +8,12 @@ use Rattle.framehop_registers.specs.declared.aarch64.unwindregs.PtrAuthMask.{Ptr
 use Rattle.framehop_registers.specs.declared.aarch64.unwindregs.UnwindRegsAarch64.{UnwindRegsAarch64}
 use Rattle.framehop_registers.specs.declared.x86_64.unwindregs.Reg.TheVariants.{RAX, RDX, RCX, RBX, RSI, RDI, R8, R9, R10, R11, R12, R13, R14, R15}
 use Rattle.framehop_registers.specs.declared.x86_64.unwindregs.UnwindRegsX86_64.{UnwindRegsX86_64}
-use Rattle.backtrace_walks.specs.Starts.{Interruption, Start}
+use Rattle.backtrace_walks.specs.declared.registers.ThreadStart.{ThreadStart}
+
+-- Where a thread was that a signal interrupted, by the code address of the frame that the handler returns to, its registers and the
+-- words of the stack: none, if no handler returns there.
+abbrev pub Interruption : Type 0 → Type 0
+Interruption Registers = Words → ℕ → Registers → Option (ThreadStart Registers)
 
 -- the word at a distance above an address, at addresses of 64 bits
 abbrev pub word_above : Words → ℕ → ℕ → Option ℕ

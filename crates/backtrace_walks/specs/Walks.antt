@@ -7,7 +7,7 @@ use Rattle.framehop_registers.specs.declared.error.Error.{Error}
 use Rattle.framehop_unwinder.specs.Frames.{Frame}
 use Rattle.framehop_unwinder.specs.Walk.{Judgment, Walk, move}
 use Rattle.framehop_unwinder.specs.WalkViews.{walk_from}
-use Rattle.backtrace_walks.specs.Starts.{Start}
+use Rattle.backtrace_walks.specs.declared.registers.ThreadStart.{ThreadStart}
 
 -- A frame of a walk, with its registers.
 pub record FrameWith (Registers : Type 0) : Type 0 where
@@ -34,19 +34,19 @@ frames_by (Ok None) registers others = ends_by EndOfStack
 frames_by (Err error) registers others = ends_by (Stopped error)
 
 -- a walk, or one that begins anew
-abbrev pub begun_or : {Registers : Type 0} → Walk Registers → Option (Start Registers) → Walk Registers
+abbrev pub begun_or : {Registers : Type 0} → Walk Registers → Option (ThreadStart Registers) → Walk Registers
 begun_or walk None = walk
 begun_or walk (Some start) = walk_from start.pc start.registers
 
 -- A walk after a move that returned this: it begins anew where a signal interrupted the thread, if a handler returns to the frame.
-abbrev pub resumed : {Registers : Type 0} → (ℕ → Registers → Option (Start Registers)) → Result (Option Frame) Error → Walk Registers
+abbrev pub resumed : {Registers : Type 0} → (ℕ → Registers → Option (ThreadStart Registers)) → Result (Option Frame) Error → Walk Registers
     → Walk Registers
 resumed interrupted (Ok (Some frame)) walk = begun_or walk (interrupted frame.address walk.registers)
 resumed interrupted (Ok None) walk = walk
 resumed interrupted (Err error) walk = walk
 
 -- The frames of a walk from where it is on, at most so many: move by move, up to the first that gives no frame.
-abbrev pub stack_from : {Registers : Type 0} → Judgment Registers → (ℕ → Registers → Option (Start Registers)) → Words → ℕ → Walk Registers
+abbrev pub stack_from : {Registers : Type 0} → Judgment Registers → (ℕ → Registers → Option (ThreadStart Registers)) → Words → ℕ → Walk Registers
     → Stack Registers
 stack_from judgment interrupted words zero walk = ends_by LimitReached
 stack_from judgment interrupted words (suc left) walk =

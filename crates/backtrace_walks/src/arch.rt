@@ -1,11 +1,10 @@
 //! Architectures, by how cores state the registers of their threads.
 
-ghost use Rattle.std.specs.Prelude.{◌≡◌, IfOk, map};
-ghost use Rattle.std.specs.Option.{option_map};
+ghost use Rattle.std.specs.Prelude.{◌≡◌};
+ghost use Rattle.backtrace_files.specs.Results.{IfOkAre};
 ghost use Rattle.backtrace_text.specs.FrameViews.{register_view};
 ghost use Rattle.core_files.specs.MemoryViews.{word_of};
-ghost use Rattle.backtrace_walks.specs.Registers.{ThreadForms};
-ghost use Rattle.backtrace_walks.specs.RegisterViews.{start_seen};
+ghost use Rattle.backtrace_walks.specs.StackMeanings.{StackMeanings};
 
 use crate::registers::{
     ThreadStart, registers_aarch64, registers_x86_64, shown_aarch64, shown_x86_64,
@@ -13,7 +12,7 @@ use crate::registers::{
 use crate::signals::{interrupted_aarch64, interrupted_x86_64};
 use backtrace_text::RegisterValue;
 use core_files::{Memory, Thread, ThreadRegisters};
-use framehop::{BySections, MustNotAllocateDuringUnwind, Unwinding};
+use framehop::{BySections, ModuleUnwinding, MustNotAllocateDuringUnwind, Unwinding};
 use framehop_registers::aarch64::UnwindRegsAarch64;
 use framehop_registers::x86_64::UnwindRegsX86_64;
 use framehop_rules::aarch64::ArchAarch64;
@@ -22,11 +21,12 @@ use std::alloc::{AllocError, Global};
 
 /// An architecture, by how a core states the registers of its threads, and by which of a frame's are shown.
 pub trait ThreadArch: Unwinding {
-    ghost forms: { ThreadForms Self.UnwindRegs };
+    /// What the stacks of its threads mean.
+    ghost stacks: { StackMeanings Self.UnwindRule Self.UnwindRegs };
 
     /// Where the walk over a thread's stack begins, if the thread's registers are this architecture's.
     fn start_of(thread: &Thread) -> Option<ThreadStart<Self::UnwindRegs>>
-        ensures { option_map start_seen result ≡ forms.start thread.now };
+        ensures { result ≡ stacks.start thread.now };
 
     /// Where a thread was that a signal interrupted, by a frame's code address and registers: `None` if its code isn't what
     /// handlers return to.
@@ -35,22 +35,24 @@ pub trait ThreadArch: Unwinding {
         code: u64,
         registers: &Self::UnwindRegs,
     ) -> Option<ThreadStart<Self::UnwindRegs>>
-        ensures { option_map start_seen result
-            ≡ forms.interrupted (word_of memory.now) code registers.now };
+        ensures { result ≡ stacks.interrupted (word_of memory.now) code registers.now };
 
     /// The registers of a frame that are shown.
     fn shown_registers(
         alloc: Global,
         registers: &Self::UnwindRegs,
     ) -> Result<Vec<RegisterValue>, AllocError>
-        ensures { IfOk result (λ shown.
-            map register_view shown.items ≡ forms.shown registers.now) };
+        ensures { IfOkAre register_view result (stacks.shown registers.now) };
+
+    /// Steps go by what the sections of files mean, and don't allocate.
+    ghost steps_are: { stacks.steps ≡ ⟦<FileModules<'static, Self> as ModuleUnwinding>⟧.meanings };
 }
 
 impl ThreadArch for ArchX86_64 {
-    ghost use Rattle.backtrace_walks.specs.Registers.{forms_x86_64};
+    ghost use Rattle.std.specs.Prelude.{refl};
+    ghost use Rattle.backtrace_walks.specs.StackMeanings.{stacks_x86_64};
 
-    ghost forms = { forms_x86_64 };
+    ghost stacks = { stacks_x86_64 };
 
     fn start_of(thread: &Thread) -> Option<ThreadStart<UnwindRegsX86_64>> {
         match &thread.registers {
@@ -76,12 +78,15 @@ impl ThreadArch for ArchX86_64 {
     ) -> Result<Vec<RegisterValue>, AllocError> {
         shown_x86_64(alloc, registers)
     }
+
+    ghost steps_are = { refl };
 }
 
 impl ThreadArch for ArchAarch64 {
-    ghost use Rattle.backtrace_walks.specs.Registers.{forms_aarch64};
+    ghost use Rattle.std.specs.Prelude.{refl};
+    ghost use Rattle.backtrace_walks.specs.StackMeanings.{stacks_aarch64};
 
-    ghost forms = { forms_aarch64 };
+    ghost stacks = { stacks_aarch64 };
 
     fn start_of(thread: &Thread) -> Option<ThreadStart<UnwindRegsAarch64>> {
         match &thread.registers {
@@ -107,6 +112,8 @@ impl ThreadArch for ArchAarch64 {
     ) -> Result<Vec<RegisterValue>, AllocError> {
         shown_aarch64(alloc, registers)
     }
+
+    ghost steps_are = { refl };
 }
 
 /// Modules of an architecture that are unwound by the sections of files, which are read in place. No step allocates.

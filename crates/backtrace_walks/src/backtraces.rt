@@ -1,15 +1,11 @@
 //! The backtraces of threads.
 
-ghost use Rattle.std.specs.Prelude.{◌≡◌, ◌++◌, ◌∷◌, [], IfOk, OnOk, map};
+ghost use Rattle.std.specs.Prelude.{◌≡◌, OnOk, map};
 ghost use Rattle.std.specs.Option.{option_map, option_to_list};
-ghost use Rattle.backtrace_files.specs.FileViews.{files_seen};
+ghost use Rattle.backtrace_files.specs.Results.{Adds, IfOkAre, IfOkIs};
 ghost use Rattle.backtrace_text.specs.FrameViews.{backtrace_view, frame_view, location_view, register_view};
-ghost use Rattle.core_files.specs.MemoryViews.{word_of};
-ghost use Rattle.framehop.specs.ArchMeanings.{meanings_with};
-ghost use Rattle.framehop.specs.StepMeanings.{limits_must_not_allocate};
 ghost use Rattle.backtrace_walks.specs.Backtraces.{backtrace_of, backtraces_of, is_chosen, location_of_frame, registers_if, shown_frame, shown_stack, walk_of_thread};
 ghost use Rattle.backtrace_walks.specs.ProcessViews.{IsSessionOf, process_seen};
-ghost use Rattle.backtrace_walks.specs.RegisterViews.{start_seen};
 ghost use Rattle.backtrace_walks.specs.WalkedViews.{frame_seen, frames_seen, stack_seen};
 
 use crate::arch::{FileModules, ThreadArch};
@@ -48,8 +44,7 @@ fn registers_if<A: ThreadArch>(
     are_shown: bool,
     registers: &A::UnwindRegs,
 ) -> Result<Vec<RegisterValue>, AllocError>
-    ensures { IfOk result (λ shown. map register_view shown.items
-        ≡ registers_if A.forms are_shown registers.now) }
+    ensures { IfOkAre register_view result (registers_if A.stacks are_shown registers.now) }
 {
     if are_shown {
         A::shown_registers(alloc, registers)
@@ -63,8 +58,8 @@ fn location_of_frame<'a, A: ThreadArch>(
     process: &CoreProcess<'_, '_, 'a>,
     frame: &WalkedFrame<A::UnwindRegs>,
 ) -> CodeLocation<'a>
-    ensures { location_view result ≡ location_of_frame A.forms (files_seen process.now.files.now)
-        (word_of process.now.memory) (frame_seen frame.now) }
+    ensures { location_view result
+        ≡ location_of_frame A.stacks (process_seen process.now) (frame_seen frame.now) }
 {
     let address = code_of(frame.address);
     match A::interrupted(&process.memory, address, &frame.registers) {
@@ -73,53 +68,35 @@ fn location_of_frame<'a, A: ThreadArch>(
     }
 }
 
-// A frame as it is shown.
+// A frame as it is shown, with its registers or without.
 fn shown_frame<'a, A: ThreadArch>(
     alloc: Global,
     process: &CoreProcess<'_, '_, 'a>,
-    registers_shown: bool,
+    registers: bool,
     frame: &WalkedFrame<A::UnwindRegs>,
 ) -> Result<ShownFrame<'a>, AllocError>
-    ensures { IfOk result (λ shown. frame_view shown
-        ≡ shown_frame A.forms (files_seen process.now.files.now) (word_of process.now.memory)
-        registers_shown (frame_seen frame.now)) }
+    ensures { IfOkIs frame_view result
+        (shown_frame A.stacks (process_seen process.now) registers (frame_seen frame.now)) }
 {
     Ok(ShownFrame {
         location: location_of_frame::<A>(process, frame),
-        registers: registers_if::<A>(alloc, registers_shown, &frame.registers)?,
+        registers: registers_if::<A>(alloc, registers, &frame.registers)?,
     })
-}
-
-// Adds a frame as it is shown.
-fn push_frame<'a, A: ThreadArch>(
-    alloc: Global,
-    shown: &mut Vec<ShownFrame<'a>>,
-    process: &CoreProcess<'_, '_, 'a>,
-    registers_shown: bool,
-    frame: &WalkedFrame<A::UnwindRegs>,
-) -> Result<(), AllocError>
-    ensures { OnOk result (map frame_view shown.new.items ≡ map frame_view shown.old.items
-        ++ shown_frame A.forms (files_seen process.now.files.now) (word_of process.now.memory)
-        registers_shown (frame_seen frame.now) ∷ []) }
-{
-    shown.push(shown_frame::<A>(alloc, process, registers_shown, frame)?)?;
-    Ok(())
 }
 
 // Frames as they are shown.
 fn shown_frames<'a, A: ThreadArch>(
     alloc: Global,
     process: &CoreProcess<'_, '_, 'a>,
-    registers_shown: bool,
+    registers: bool,
     frames: &[WalkedFrame<A::UnwindRegs>],
 ) -> Result<Vec<ShownFrame<'a>>, AllocError>
-    ensures { IfOk result (λ shown. map frame_view shown.items
-        ≡ map (shown_frame A.forms (files_seen process.now.files.now) (word_of process.now.memory)
-        registers_shown) (frames_seen frames.now)) }
+    ensures { IfOkAre frame_view result
+        (map (shown_frame A.stacks (process_seen process.now) registers) (frames_seen frames.now)) }
 {
     let mut shown = Vec::new(alloc);
     for frame in frames {
-        push_frame::<A>(alloc, &mut shown, process, registers_shown, frame)?;
+        shown.push(shown_frame::<A>(alloc, process, registers, frame)?)?;
     }
     Ok(shown)
 }
@@ -128,17 +105,16 @@ fn shown_frames<'a, A: ThreadArch>(
 fn shown_stack<'a, A: ThreadArch>(
     alloc: Global,
     process: &CoreProcess<'_, '_, 'a>,
-    registers_shown: bool,
+    registers: bool,
     thread: u64,
     stack: &WalkedStack<A::UnwindRegs>,
 ) -> Result<Backtrace<'a>, AllocError>
-    ensures { IfOk result (λ backtrace. backtrace_view backtrace
-        ≡ shown_stack A.forms (files_seen process.now.files.now) (word_of process.now.memory)
-        registers_shown thread (stack_seen stack.now)) }
+    ensures { IfOkIs backtrace_view result
+        (shown_stack A.stacks (process_seen process.now) registers thread (stack_seen stack.now)) }
 {
     Ok(Backtrace {
         thread,
-        frames: shown_frames::<A>(alloc, process, registers_shown, stack.frames.as_slice())?,
+        frames: shown_frames::<A>(alloc, process, registers, stack.frames.as_slice())?,
         end: stack.end,
     })
 }
@@ -162,10 +138,8 @@ fn walk_in<'a, A: ThreadArch>(
     limit: u64,
 ) -> Result<WalkedStack<A::UnwindRegs>, AllocError>
     requires { IsSessionOf process.now session.old }
-    ensures walked { IfOk result (λ stack. stack_seen stack
-        ≡ walk_of_thread (meanings_with A.UnwindRule.meaning A.UnwindRule.fallback A.rows A.pe_attempt
-        A.compact limits_must_not_allocate) A.forms (process_seen process.now) limit
-        (start_seen start.now)) }
+    ensures walked { IfOkIs stack_seen result
+        (walk_of_thread A.stacks (process_seen process.now) limit start.now) }
     ensures session { IsSessionOf process.now session.new }
 {
     walk_thread::<A>(alloc, session, &process.memory, start, limit)
@@ -180,10 +154,8 @@ fn backtrace_of<'a, A: ThreadArch>(
     thread: &Thread,
 ) -> Result<Option<Backtrace<'a>>, AllocError>
     requires { IsSessionOf process.now session.old }
-    ensures backtrace { IfOk result (λ backtrace. option_map backtrace_view backtrace
-        ≡ backtrace_of (meanings_with A.UnwindRule.meaning A.UnwindRule.fallback A.rows A.pe_attempt
-        A.compact limits_must_not_allocate) A.forms (process_seen process.now) options.now
-        thread.now) }
+    ensures backtrace { IfOkIs (option_map backtrace_view) result
+        (backtrace_of A.stacks (process_seen process.now) options.now thread.now) }
     ensures session { IsSessionOf process.now session.new }
 {
     let id = u64::from(thread.id);
@@ -203,8 +175,8 @@ fn push_found<'a>(
     backtraces: &mut Vec<Backtrace<'a>>,
     found: Option<Backtrace<'a>>,
 ) -> Result<(), AllocError>
-    ensures { OnOk result (map backtrace_view backtraces.new.items ≡ map backtrace_view
-        backtraces.old.items ++ option_to_list (option_map backtrace_view found.entry)) }
+    ensures { OnOk result (Adds backtrace_view backtraces.old backtraces.new
+        (option_to_list (option_map backtrace_view found.entry))) }
 {
     let Some(backtrace) = found else {
         return Ok(());
@@ -223,10 +195,8 @@ pub fn backtraces_of<'a, A: ThreadArch>(
     threads: &[Thread],
 ) -> Result<Vec<Backtrace<'a>>, AllocError>
     requires { IsSessionOf process.now session.old }
-    ensures { IfOk result (λ backtraces. map backtrace_view backtraces.items
-        ≡ backtraces_of (meanings_with A.UnwindRule.meaning A.UnwindRule.fallback A.rows A.pe_attempt
-        A.compact limits_must_not_allocate) A.forms (process_seen process.now) options.now
-        threads.now) }
+    ensures { IfOkAre backtrace_view result
+        (backtraces_of A.stacks (process_seen process.now) options.now threads.now) }
 {
     let mut backtraces = Vec::new(alloc);
     for thread in threads {

@@ -1,7 +1,7 @@
 //! The registers of threads, as walks begin with them and as they are shown.
 
-ghost use Rattle.std.specs.Prelude.{◌≡◌, ◌++◌, ◌∷◌, [], IfOk, OnOk, map};
-ghost use Rattle.std.specs.Option.{option_map};
+ghost use Rattle.std.specs.Prelude.{◌≡◌, ◌∷◌, [], OnOk};
+ghost use Rattle.backtrace_files.specs.Results.{Adds, IfOkAre};
 ghost use Rattle.backtrace_text.specs.FrameViews.{register_view};
 ghost use Rattle.backtrace_walks.specs.Registers.{mask_of_thread, registers_aarch64, registers_x86_64, shown_aarch64, shown_register, shown_x86_64};
 
@@ -69,8 +69,8 @@ fn push_register(
     name: &'static str,
     value: u64,
 ) -> Result<(), AllocError>
-    ensures { OnOk result (map register_view registers.new.items
-        ≡ map register_view registers.old.items ++ shown_register name.now value ∷ []) }
+    ensures { OnOk result (Adds register_view registers.old registers.new
+        (shown_register name.now value ∷ [])) }
 {
     registers.push(RegisterValue { name, value })?;
     Ok(())
@@ -81,7 +81,7 @@ pub(crate) fn shown_x86_64(
     alloc: Global,
     registers: &UnwindRegsX86_64,
 ) -> Result<Vec<RegisterValue>, AllocError>
-    ensures { IfOk result (λ shown. map register_view shown.items ≡ shown_x86_64 registers.now) }
+    ensures { IfOkAre register_view result (shown_x86_64 registers.now) }
 {
     let mut shown = Vec::new(alloc);
     push_register(&mut shown, "rip", registers.ip())?;
@@ -95,7 +95,7 @@ pub(crate) fn shown_aarch64(
     alloc: Global,
     registers: &UnwindRegsAarch64,
 ) -> Result<Vec<RegisterValue>, AllocError>
-    ensures { IfOk result (λ shown. map register_view shown.items ≡ shown_aarch64 registers.now) }
+    ensures { IfOkAre register_view result (shown_aarch64 registers.now) }
 {
     let mut shown = Vec::new(alloc);
     push_register(&mut shown, "sp", registers.sp())?;

@@ -1,8 +1,7 @@
 //! Where a signal interrupted a thread, on Linux.
 
-ghost use Rattle.std.specs.Prelude.{◌≡◌, option_map};
+ghost use Rattle.std.specs.Prelude.{◌≡◌};
 ghost use Rattle.core_files.specs.MemoryViews.{word_of};
-ghost use Rattle.backtrace_walks.specs.RegisterViews.{start_seen};
 ghost use Rattle.backtrace_walks.specs.Signals.{context_aarch64, context_x86_64, has_low_byte, interrupted_aarch64, interrupted_x86_64, is_word, returns_x86_64, saved_word, word_above};
 
 use crate::registers::ThreadStart;
@@ -85,8 +84,7 @@ pub(crate) fn interrupted_x86_64(
     code: u64,
     registers: &UnwindRegsX86_64,
 ) -> Option<ThreadStart<UnwindRegsX86_64>>
-    ensures { option_map start_seen result
-        ≡ interrupted_x86_64 (word_of memory.now) code registers.now }
+    ensures { result ≡ interrupted_x86_64 (word_of memory.now) code registers.now }
 {
     if !returns_x86_64(memory, code) {
         return None;
@@ -119,8 +117,7 @@ pub(crate) fn interrupted_aarch64(
     code: u64,
     registers: &UnwindRegsAarch64,
 ) -> Option<ThreadStart<UnwindRegsAarch64>>
-    ensures { option_map start_seen result
-        ≡ interrupted_aarch64 (word_of memory.now) code registers.now }
+    ensures { result ≡ interrupted_aarch64 (word_of memory.now) code registers.now }
 {
     if !is_word(0xd400_0001_d280_1168, memory.word(code)) {
         return None;

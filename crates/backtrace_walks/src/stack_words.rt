@@ -1,16 +1,11 @@
 //! The walk over a thread's stack, in the memory of a process.
 
-ghost use Rattle.std.specs.Prelude.{◌≡◌, IfOk};
+ghost use Rattle.std.specs.Prelude.{◌≡◌};
+ghost use Rattle.backtrace_files.specs.Results.{IfOkIs};
 ghost use Rattle.core_files.specs.MemoryViews.{word_of};
 ghost use Rattle.framehop_registers.specs.Callback.{read_answer};
-ghost use Rattle.framehop.specs.ArchMeanings.{meanings_with};
-ghost use Rattle.framehop.specs.StepMeanings.{limits_must_not_allocate};
-ghost use Rattle.framehop_unwinder.specs.Judge.{judge};
-ghost use Rattle.framehop_unwinder.specs.State.{modules_at};
-ghost use Rattle.framehop_unwinder.specs.WalkViews.{walk_from};
-ghost use Rattle.backtrace_walks.specs.SessionViews.{IsReady, KeepsModules};
+ghost use Rattle.backtrace_walks.specs.SessionViews.{IsReady, KeepsModules, stack_in};
 ghost use Rattle.backtrace_walks.specs.WalkedViews.{stack_seen};
-ghost use Rattle.backtrace_walks.specs.Walks.{stack_from};
 
 use crate::arch::{FileModules, ThreadArch};
 use crate::registers::ThreadStart;
@@ -36,11 +31,8 @@ pub fn walk_thread<'a, A: ThreadArch>(
     limit: u64,
 ) -> Result<WalkedStack<A::UnwindRegs>, AllocError>
     requires { IsReady session.old }
-    ensures walked { IfOk result (λ stack. stack_seen stack
-        ≡ stack_from (judge (meanings_with A.UnwindRule.meaning A.UnwindRule.fallback A.rows
-        A.pe_attempt A.compact limits_must_not_allocate) (modules_at session.old 0))
-        (A.forms.interrupted (word_of memory.now)) (word_of memory.now) limit
-        (walk_from start.now.pc start.now.registers)) }
+    ensures walked { IfOkIs stack_seen result
+        (stack_in A.stacks session.old (word_of memory.now) limit start.now (word_of memory.now)) }
     ensures session { KeepsModules session.old session.new }
 {
     let mut read_stack = |at: u64| -> Result<u64, ()>

@@ -3,14 +3,13 @@
 ghost use Rattle.std.specs.Prelude.{◌≡◌, IfOk, map};
 ghost use Rattle.std.specs.Option.{option_copied};
 ghost use Rattle.backtrace_files.specs.FileViews.{files_seen};
-ghost use Rattle.backtrace_text.specs.FrameViews.{backtrace_view};
 ghost use Rattle.backtrace_files.specs.Files.{ranges_of};
+ghost use Rattle.backtrace_files.specs.Results.{IfOkAre};
+ghost use Rattle.backtrace_text.specs.FrameViews.{backtrace_view};
 ghost use Rattle.core_files.specs.CoreViews.{contents_of};
 ghost use Rattle.core_files.specs.RangeViews.{ranges_seen};
 ghost use Rattle.backtrace_walks.specs.ProcessViews.{process_seen};
-ghost use Rattle.framehop.specs.ArchMeanings.{meanings_with};
-ghost use Rattle.framehop.specs.StepMeanings.{limits_must_not_allocate};
-ghost use Rattle.backtrace_walks.specs.Backtraces.{backtraces_of, backtraces_on, core_backtraces, core_text, process_with};
+ghost use Rattle.backtrace_walks.specs.Backtraces.{backtraces_by, backtraces_with, core_backtraces, core_text, process_with};
 
 use crate::arch::ThreadArch;
 use crate::backtraces::{BacktraceOptions, CoreProcess, backtraces_of};
@@ -46,11 +45,8 @@ fn backtraces_by<'a, A: ThreadArch>(
     files: &[LoadedFile<'a>],
     options: &BacktraceOptions,
 ) -> Result<Vec<Backtrace<'a>>, AllocError>
-    ensures { IfOk result (λ backtraces. map backtrace_view backtraces.items
-        ≡ backtraces_of (meanings_with A.UnwindRule.meaning A.UnwindRule.fallback A.rows A.pe_attempt
-        A.compact limits_must_not_allocate) A.forms
-        (process_with (contents_of core.now) (files_seen files.now)) options.now
-        (contents_of core.now).threads) }
+    ensures { IfOkAre backtrace_view result
+        (backtraces_by A.stacks (contents_of core.now) (files_seen files.now) options.now) }
 {
     let ranges = memory_ranges(alloc, files)?;
     let mut session = session_of::<A>(alloc, files)?;
@@ -59,15 +55,14 @@ fn backtraces_by<'a, A: ThreadArch>(
 }
 
 // The backtraces of a core's threads on its machine.
-fn backtraces_on<'a>(
+fn backtraces_with<'a>(
     alloc: Global,
     core: &CoreFile<'a>,
     files: &[LoadedFile<'a>],
     options: &BacktraceOptions,
 ) -> Result<Vec<Backtrace<'a>>, AllocError>
-    ensures { IfOk result (λ backtraces. map backtrace_view backtraces.items
-        ≡ backtraces_on (contents_of core.now).machine (contents_of core.now) (files_seen files.now)
-        options.now) }
+    ensures { IfOkAre backtrace_view result
+        (backtraces_with (contents_of core.now) (files_seen files.now) options.now) }
 {
     match core.machine() {
         Machine::X86_64 => backtraces_by::<ArchX86_64>(alloc, core, files, options),
@@ -83,11 +78,11 @@ pub fn core_backtraces<'a>(
     contents: &[Option<&'a [u8]>],
     options: &BacktraceOptions,
 ) -> Result<Vec<Backtrace<'a>>, AllocError>
-    ensures { IfOk result (λ backtraces. map backtrace_view backtraces.items
-        ≡ core_backtraces (contents_of core.now) (map option_copied contents.now) options.now) }
+    ensures { IfOkAre backtrace_view result
+        (core_backtraces (contents_of core.now) (map option_copied contents.now) options.now) }
 {
     let files = process_files(alloc, core, contents)?;
-    backtraces_on(alloc, core, files.as_slice(), options)
+    backtraces_with(alloc, core, files.as_slice(), options)
 }
 
 /// The text of these backtraces. Fails if memory is refused.

@@ -1,18 +1,13 @@
 //! The walk over a stack, up to a limit of frames.
 
 ghost use Rattle.std.specs.Prelude.{◌≡◌, IfOk, OnOk, false};
-ghost use Rattle.framehop_registers.specs.Callback.{AnswersBy, Words};
 ghost use Rattle.core_files.specs.MemoryViews.{word_of};
-ghost use Rattle.framehop.specs.ArchMeanings.{meanings_with};
-ghost use Rattle.framehop.specs.StepMeanings.{limits_must_not_allocate};
 ghost use Rattle.framehop_unwinder.specs.Frames.{frame_of, lookup_address};
-ghost use Rattle.framehop_unwinder.specs.Judge.{judge};
-ghost use Rattle.framehop_unwinder.specs.State.{modules_at};
 ghost use Rattle.framehop_unwinder.specs.Trials.{wants_memory};
-ghost use Rattle.framehop_unwinder.specs.WalkViews.{frame_answer, walk_from, walk_of};
-ghost use Rattle.backtrace_walks.specs.SessionViews.{IsReady, KeepsModules};
-ghost use Rattle.backtrace_walks.specs.WalkedViews.{IsTaken, frames_seen, stack_seen};
-ghost use Rattle.backtrace_walks.specs.Walks.{resumed, stack_from};
+ghost use Rattle.framehop_unwinder.specs.WalkViews.{frame_answer, walk_of};
+ghost use Rattle.backtrace_walks.specs.SessionViews.{IsReady, KeepsModules, stack_in};
+ghost use Rattle.backtrace_walks.specs.WalkedViews.{IsTaken, WalksAs, frames_seen};
+ghost use Rattle.backtrace_walks.specs.Walks.{resumed};
 
 use crate::arch::{FileModules, ThreadArch};
 use crate::registers::ThreadStart;
@@ -89,7 +84,7 @@ fn resumed<A: ThreadArch>(
     answer: Result<Option<FrameAddress>, Error>,
 ) -> StackWalk<A::UnwindRegs>
     ensures { walk_of result
-        ≡ resumed (A.forms.interrupted (word_of memory.now)) (frame_answer answer) (walk_of walk) }
+        ≡ resumed (A.stacks.interrupted (word_of memory.now)) (frame_answer answer) (walk_of walk) }
 {
     match answer {
         Ok(Some(address)) => {
@@ -116,11 +111,8 @@ pub fn walk<'a, A: ThreadArch, F: FnMut(u64) -> Result<u64, ()>>(
     requires callable { F.IsAlwaysCallable read_stack.old }
     requires session { IsReady session.old }
     ensures callable { F.IsAlwaysCallable read_stack.new }
-    ensures walked { (words : Words) → AnswersBy F.step read_stack.old words
-        → IfOk result (λ stack. stack_seen stack ≡ stack_from (judge (meanings_with A.UnwindRule.meaning
-        A.UnwindRule.fallback A.rows A.pe_attempt A.compact limits_must_not_allocate)
-        (modules_at session.old 0)) (A.forms.interrupted (word_of memory.now)) words limit
-        (walk_from start.now.pc start.now.registers)) }
+    ensures walked { WalksAs F.step read_stack.old result
+        (stack_in A.stacks session.old (word_of memory.now) limit start.now) }
     ensures session { KeepsModules session.old session.new }
 {
     let mut frames = Vec::new(alloc);

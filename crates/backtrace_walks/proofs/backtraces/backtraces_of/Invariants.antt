@@ -1,6 +1,4 @@
 use Rattle.std.proofs.Common.{◌≡◌, ◌++◌, drop, map}
-use Rattle.framehop.specs.ArchMeanings.{meanings_with}
-use Rattle.framehop.specs.StepMeanings.{limits_must_not_allocate}
 use Rattle.backtrace_text.specs.FrameViews.{backtrace_view}
 use Rattle.backtrace_walks.specs.Backtraces.{backtraces_of}
 use Rattle.backtrace_walks.specs.ProcessViews.{IsSessionOf, process_seen}
@@ -9,8 +7,7 @@ use Rattle.backtrace_walks.proofs.backtraces.backtraces_of.Given as goal
 -- the backtraces so far, and then those of the threads that are left
 abbrev pub invariant-loop-thread : goal.invariant-loop-thread
 invariant-loop-thread g l =
-    let meanings = meanings_with g.A.UnwindRule.UnwindRule.meaning g.A.UnwindRule.UnwindRule.fallback g.A.DwarfUnwinding.rows g.A.PeUnwinding.pe_attempt g.A.CompactUnwindInfoUnwinding.compact limits_must_not_allocate in
-    let of_threads = backtraces_of meanings g.A.ThreadArch.forms (process_seen l.process) l.options in
+    let of_threads = backtraces_of g.A.ThreadArch.stacks (process_seen l.process) l.options in
     record {
       session : IsSessionOf l.process l.session;
       so_far : map backtrace_view l.backtraces.items ++ of_threads (drop l.thread-index l.threads) ≡ of_threads l.threads;

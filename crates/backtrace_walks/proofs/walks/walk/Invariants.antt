@@ -1,8 +1,6 @@
 use Rattle.std.proofs.Common.{◌-◌}
 use Rattle.framehop_registers.specs.Callback.{Words, AnswersBy}
 use Rattle.core_files.specs.MemoryViews.{word_of}
-use Rattle.framehop.specs.ArchMeanings.{meanings_with}
-use Rattle.framehop.specs.StepMeanings.{limits_must_not_allocate}
 use Rattle.framehop_unwinder.specs.Judge.{judge}
 use Rattle.framehop_unwinder.specs.State.{modules_at}
 use Rattle.framehop_unwinder.specs.WalkViews.{walk_from, walk_of}
@@ -14,9 +12,8 @@ use Rattle.backtrace_walks.proofs.walks.walk.Given as goal
 -- the frames so far and those that are left are those of the whole walk
 abbrev pub invariant-loop : goal.invariant-loop
 invariant-loop g l =
-    let meanings = meanings_with g.A.UnwindRule.UnwindRule.meaning g.A.UnwindRule.UnwindRule.fallback g.A.DwarfUnwinding.rows g.A.PeUnwinding.pe_attempt g.A.CompactUnwindInfoUnwinding.compact limits_must_not_allocate in
-    let judgment = judge meanings (modules_at l.fn.session 0) in
-    let interrupted = g.A.ThreadArch.forms.interrupted (word_of l.memory) in
+    let judgment = judge g.A.ThreadArch.stacks.steps (modules_at l.fn.session 0) in
+    let interrupted = g.A.ThreadArch.stacks.interrupted (word_of l.memory) in
     record {
       callable : goal.F-IsAlwaysCallable g l.read_stack;
       session : KeepsModules l.fn.session l.session;
