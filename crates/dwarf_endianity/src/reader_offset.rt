@@ -26,9 +26,11 @@ pub trait ReaderOffset: Debug
     /// The limit that every offset is below.
     ghost limit: { ℕ };
 
+    /// The offset of this number.
     fn from_u8(offset: u8) -> Self
         ensures { value result ≡ offset };
 
+    /// The offset of this number.
     fn from_u16(offset: u16) -> Self
         ensures { value result ≡ offset };
 
@@ -36,6 +38,7 @@ pub trait ReaderOffset: Debug
     fn from_i16(offset: i16) -> Self
         ensures { value result ≡ wrapped_offset limit offset };
 
+    /// The offset of this number.
     fn from_u32(offset: u32) -> Self
         ensures { value result ≡ offset };
 
@@ -43,6 +46,7 @@ pub trait ReaderOffset: Debug
     fn from_u64(offset: u64) -> Result<Self>
         ensures { Gives value result (offset_below limit offset) };
 
+    /// The offset as a number of 64 bits, which it always fits.
     fn into_u64(self) -> u64
         ensures value { result ≡ value self }
         ensures fits { value self < limit }

@@ -111,6 +111,7 @@ pub trait Reader: Debug + Copy {
         self.len().into_u64() == 0
     }
 
+    /// Reads an unsigned byte.
     fn read_u8(&mut self) -> Result<u8>
         ensures read { Reads result (byte_at (stretch self.old)) (stretch self.new) }
         ensures unchanged { OnErr result (stretch self.new ≡ stretch self.old) }
@@ -120,6 +121,7 @@ pub trait Reader: Debug + Copy {
         Ok(bytes[0])
     }
 
+    /// Reads a byte as a signed number in two's complement.
     fn read_i8(&mut self) -> Result<i8>
         ensures read { Reads result (signed_byte_at (stretch self.old)) (stretch self.new) }
         ensures unchanged { OnErr result (stretch self.new ≡ stretch self.old) }
@@ -127,6 +129,7 @@ pub trait Reader: Debug + Copy {
         Ok(self.read_u8()?.cast_signed())
     }
 
+    /// Reads an unsigned number of 2 bytes in the reader's byte order.
     fn read_u16(&mut self) -> Result<u16>
         ensures read { Reads result (number_at 2 (stretch self.old)) (stretch self.new) }
         ensures unchanged { OnErr result (stretch self.new ≡ stretch self.old) }
@@ -136,6 +139,7 @@ pub trait Reader: Debug + Copy {
         Ok(self.endian().read_u16(&bytes))
     }
 
+    /// Reads a signed number of 2 bytes in the reader's byte order.
     fn read_i16(&mut self) -> Result<i16>
         ensures read { Reads result (signed_number_at w16 (stretch self.old)) (stretch self.new) }
         ensures unchanged { OnErr result (stretch self.new ≡ stretch self.old) }
@@ -143,6 +147,7 @@ pub trait Reader: Debug + Copy {
         Ok(self.read_u16()?.cast_signed())
     }
 
+    /// Reads an unsigned number of 4 bytes in the reader's byte order.
     fn read_u32(&mut self) -> Result<u32>
         ensures read { Reads result (number_at 4 (stretch self.old)) (stretch self.new) }
         ensures unchanged { OnErr result (stretch self.new ≡ stretch self.old) }
@@ -152,6 +157,7 @@ pub trait Reader: Debug + Copy {
         Ok(self.endian().read_u32(&bytes))
     }
 
+    /// Reads a signed number of 4 bytes in the reader's byte order.
     fn read_i32(&mut self) -> Result<i32>
         ensures read { Reads result (signed_number_at w32 (stretch self.old)) (stretch self.new) }
         ensures unchanged { OnErr result (stretch self.new ≡ stretch self.old) }
@@ -159,6 +165,7 @@ pub trait Reader: Debug + Copy {
         Ok(self.read_u32()?.cast_signed())
     }
 
+    /// Reads an unsigned number of 8 bytes in the reader's byte order.
     fn read_u64(&mut self) -> Result<u64>
         ensures read { Reads result (number_at 8 (stretch self.old)) (stretch self.new) }
         ensures unchanged { OnErr result (stretch self.new ≡ stretch self.old) }
@@ -168,6 +175,7 @@ pub trait Reader: Debug + Copy {
         Ok(self.endian().read_u64(&bytes))
     }
 
+    /// Reads a signed number of 8 bytes in the reader's byte order.
     fn read_i64(&mut self) -> Result<i64>
         ensures read { Reads result (signed_number_at w64 (stretch self.old)) (stretch self.new) }
         ensures unchanged { OnErr result (stretch self.new ≡ stretch self.old) }
@@ -175,6 +183,7 @@ pub trait Reader: Debug + Copy {
         Ok(self.read_u64()?.cast_signed())
     }
 
+    /// Reads an unsigned number of 16 bytes in the reader's byte order.
     fn read_u128(&mut self) -> Result<u128>
         ensures read { Reads result (number_at 16 (stretch self.old)) (stretch self.new) }
         ensures unchanged { OnErr result (stretch self.new ≡ stretch self.old) }

@@ -13,6 +13,7 @@ use Rattle.framehop_errors.specs.declared.pe.PeUnwinderError.TheVariants as pe
 use Rattle.framehop_errors.specs.declared.unwinder.UnwinderError.{UnwinderError}
 use Rattle.framehop_errors.specs.declared.unwinder.UnwinderError.TheVariants as unwinder
 
+-- a variant of DwarfCfiIndexError: what an index can't be made for
 abbrev pub index_error_name : DwarfCfiIndexError → List ℕ
 index_error_name (cfi_index.Gimli _) = codes "Gimli"
 index_error_name cfi_index.CouldNotSubtractBaseAddress = codes "CouldNotSubtractBaseAddress"
@@ -20,6 +21,7 @@ index_error_name cfi_index.RelativeAddressTooBig = codes "RelativeAddressTooBig"
 index_error_name cfi_index.FdeOffsetTooBig = codes "FdeOffsetTooBig"
 index_error_name cfi_index.OutOfMemory = codes "OutOfMemory"
 
+-- a variant of CompactUnwindInfoUnwinderError: why a step by __unwind_info has no result
 abbrev pub compact_error_name : CompactUnwindInfoUnwinderError → List ℕ
 compact_error_name (compact.BadFormat _) = codes "BadFormat"
 compact_error_name (compact.AddressOutsideRange _) = codes "AddressOutsideRange"
@@ -35,11 +37,13 @@ compact_error_name compact.StackSizeDoesNotFit = codes "StackSizeDoesNotFit"
 compact_error_name compact.StubFunctionCannotBeCaller = codes "StubFunctionCannotBeCaller"
 compact_error_name compact.InvalidFrameless = codes "InvalidFrameless"
 
+-- a variant of CompactFormatError: what is wrong with the bytes of __unwind_info
 abbrev pub compact_format_error_name : CompactFormatError → List ℕ
 compact_format_error_name compact_format.Truncated = codes "Truncated"
 compact_format_error_name (compact_format.BadPageKind _) = codes "BadPageKind"
 compact_format_error_name compact_format.BadEncodingIndex = codes "BadEncodingIndex"
 
+-- a variant of DwarfUnwinderError: why a step by call frame information has no result
 abbrev pub dwarf_error_name : DwarfUnwinderError → List ℕ
 dwarf_error_name (dwarf.FdeFromOffsetFailed _) = codes "FdeFromOffsetFailed"
 dwarf_error_name (dwarf.UnwindInfoForAddressFailed _) = codes "UnwindInfoForAddressFailed"
@@ -51,6 +55,7 @@ dwarf_error_name dwarf.DidNotAdvance = codes "DidNotAdvance"
 dwarf_error_name dwarf.StackPointerMovedBackwards = codes "StackPointerMovedBackwards"
 dwarf_error_name dwarf.OutOfMemory = codes "OutOfMemory"
 
+-- a variant of PeUnwinderError: why a step by Windows' unwind data has no result
 abbrev pub pe_error_name : PeUnwinderError → List ℕ
 pe_error_name (pe.MissingUnwindInfoData _) = codes "MissingUnwindInfoData"
 pe_error_name (pe.MissingInstructionData _) = codes "MissingInstructionData"
@@ -58,6 +63,7 @@ pe_error_name (pe.MissingStackData _) = codes "MissingStackData"
 pe_error_name pe.UnwindInfoParseError = codes "UnwindInfoParseError"
 pe_error_name pe.Aarch64Unsupported = codes "Aarch64Unsupported"
 
+-- a variant of UnwinderError: why a module's data gives no step
 abbrev pub unwinder_error_name : UnwinderError → List ℕ
 unwinder_error_name (unwinder.CompactUnwindInfo _) = codes "CompactUnwindInfo"
 unwinder_error_name (unwinder.Dwarf _) = codes "Dwarf"

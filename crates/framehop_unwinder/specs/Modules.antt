@@ -64,10 +64,11 @@ without_module start address (module_ ∷ others) =
 abbrev pub last_end : {Module : Type 0} → (Module → ℕ) → List Module → ℕ
 last_end end modules = unwrap_or (option_map end (last_of modules)) 0
 
--- loaded modules with one more, and without the last that starts at an address, if one does
+-- loaded modules with one more
 abbrev pub with_loaded : {Data : Type 0} → Loaded Data → List (Loaded Data) → List (Loaded Data)
 with_loaded module_ modules = with_module (λ m. m.start) module_ modules
 
+-- loaded modules without the last that starts at an address, if one does
 abbrev pub without_loaded : {Data : Type 0} → ℕ → List (Loaded Data) → List (Loaded Data)
 without_loaded start modules = without_module (λ m. m.start) start modules
 
