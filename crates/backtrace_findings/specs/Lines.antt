@@ -26,6 +26,7 @@ count_text place what count = place_text place ++ what ++ codes ": " ++ decimal 
 abbrev pub fault_line : Place → Fault → List ℕ
 fault_line place fault = place_text place ++ codes "fault: " ++ line (variant_name fault.error ++ codes " at " ++ hexadecimal fault.offset)
 
+-- the line of the error that ends a list of entries, if one does
 abbrev pub fault_text : Place → Option Fault → List ℕ
 fault_text place None = []
 fault_text place (Some fault) = fault_line place fault

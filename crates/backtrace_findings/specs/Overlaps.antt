@@ -13,6 +13,7 @@ spanned_at offset (Ok code) =
     if nat_lt code.start code.end then Some (record { offset = offset; start = code.start; end = code.end }) else None
 spanned_at offset (Err error) = None
 
+-- an FDE of the list likewise
 abbrev pub spanned : ListedFde → Option SpannedFde
 spanned fde = spanned_at fde.offset fde.read
 
