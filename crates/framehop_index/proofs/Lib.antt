@@ -4,6 +4,7 @@ pub mod EntryIndex
 pub mod EntryPlaces
 pub mod Halves
 pub mod IndexSpans
+pub mod PartialFdes
 pub mod Rising
 pub mod Scans
 pub mod WholeFdes

@@ -12,9 +12,9 @@ use dwarf_frame_entries::{
 };
 use dwarf_read_core::{Reader, ReaderOffset};
 
-// The CIE that was read last, and its offset in the section.
+/// The CIE of a section that was read last, and its offset there.
 #[derive(Drop)]
-pub(crate) struct LastCie<R: Reader> {
+pub struct LastCie<R: Reader> {
     offset: u64,
     cie: CommonInformationEntry<R>,
 }

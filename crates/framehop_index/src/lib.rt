@@ -11,4 +11,5 @@ mod lookups;
 pub use cfi_index::{DwarfCfiIndex, IndexLookup, IndexedFde};
 pub use dwarf_frame_entries::BaseAddresses;
 pub use framehop_errors::DwarfCfiIndexError;
-pub use lookups::{containing_fde, fde_at, headed_offset};
+pub use last_cie::LastCie;
+pub use lookups::{containing_fde, fde_at, fde_at_by_last, headed_offset};

@@ -4,9 +4,10 @@ ghost use Rattle.std.specs.Prelude.{◌≡◌};
 ghost use Rattle.dwarf_endianity.specs.Answers.{Gives};
 ghost use Rattle.dwarf_frame_entries.specs.AddressLookups.{fde_for_address_skipping};
 ghost use Rattle.dwarf_frame_entries.specs.Entries.{fde_from_offset};
+ghost use Rattle.framehop_index.specs.LastCie.{IsLastCie};
 ghost use Rattle.framehop_index.specs.Lookups.{headed_offset, offset_in_table};
 
-use crate::last_cie::fde_by_last;
+use crate::last_cie::{LastCie, fde_by_last};
 use dwarf_call_frames::{EhHdrTable, ParsedEhFrameHdr};
 use dwarf_frame_entries::{BaseAddresses, Entry, FrameDescriptionEntry, UnwindSection};
 use dwarf_read_core::{EndianSlice, Error, LittleEndian, Reader, ReaderOffset};
@@ -29,6 +30,24 @@ pub fn fde_at<R: Reader, Section: UnwindSection<R>>(
     let offset = typed_offset::<R, Section>(offset);
     let partial = section.partial_fde_from_offset(bases, offset)?;
     partial.parse_by_offset()
+}
+
+/// The FDE at an offset of a section, in bytes, as [`fde_at`] gives it. Its CIE is read only if it isn't the one that was read last,
+/// and is kept in that one's place.
+#[inline(always)]
+pub fn fde_at_by_last<R: Reader, Section: UnwindSection<R>>(
+    section: &Section,
+    bases: &BaseAddresses,
+    offset: u32,
+    last: &mut Option<LastCie<R>>,
+) -> dwarf_read_core::Result<FrameDescriptionEntry<R>>
+    requires { IsLastCie R.stretch R.Offset.value (Section.frame section.now bases.now) last.old }
+    ensures fde { Gives (λ fde. fde) result (fde_from_offset (Section.frame section.now bases.now) offset) }
+    ensures last { IsLastCie R.stretch R.Offset.value (Section.frame section.now bases.now) last.new }
+{
+    let offset = typed_offset::<R, Section>(offset);
+    let partial = section.partial_fde_from_offset(bases, offset)?;
+    fde_by_last(section, bases, &partial, last)
 }
 
 // The offset of the FDE that the table of a header names for an address. Fails as

@@ -6,6 +6,7 @@ ghost use Rattle.dwarf_frame_entries.specs.EntryPrograms.{factors_of, fde_progra
 ghost use Rattle.dwarf_frame_entries.specs.EntryViews.{cie_view};
 ghost use Rattle.dwarf_frame_instructions.specs.ProgramRows.{program_of};
 ghost use Rattle.framehop_index.specs.CfiIndexView.{IsIndexOf};
+ghost use Rattle.framehop_index.specs.LastCie.{IsLastCie};
 ghost use Rattle.framehop_ranges.specs.Ranges.{Sound};
 ghost use Rattle.framehop_tables.specs.Covered.{row_rules, tabulated};
 ghost use Rattle.framehop_tables.specs.Tabulations.{AddsEntry, AddsRows, AreOf, end_of, start_at};
@@ -21,7 +22,7 @@ use dwarf_frame_entries::{
 };
 use dwarf_frame_instructions::{Factors, FrameProgram, ProgramRows};
 use dwarf_readers::Reader;
-use framehop_index::{DwarfCfiIndex, IndexedFde, fde_at};
+use framehop_index::{DwarfCfiIndex, IndexedFde, LastCie, fde_at_by_last};
 use framehop_ranges::Ranges;
 use framehop_rows::RowRules;
 use std::alloc::{AllocError, Global};
@@ -84,12 +85,14 @@ where
     }
 }
 
-// Adds what is at the offset of a span: what an FDE says there, or nothing if none can be read.
+// Adds what is at the offset of a span: what an FDE says there, or nothing if none can be read. The FDE's CIE is read only if it
+// isn't the one that was read last.
 fn add_entry<A: RowRules, R: Reader, Section: UnwindSection<R>, S: UnwindContextStorage<R::Offset>>(
     ranges: &mut Ranges<Entry<A::UnwindRule>>,
     section: &Section,
     bases: &BaseAddresses,
     context: &mut UnwindContext<R::Offset, S>,
+    last: &mut Option<LastCie<R>>,
     span: Span,
 ) -> Result<(), AllocError>
 where
@@ -97,11 +100,13 @@ where
     requires fixed { S.never_allocates }
     requires sound { Sound ranges.old }
     requires fits { span.limit ≤ 2 ^ 32 }
-    ensures { let frame = Section.frame section.now bases.now in
+    requires last { IsLastCie R.stretch R.Offset.value (Section.frame section.now bases.now) last.old }
+    ensures last { IsLastCie R.stretch R.Offset.value (Section.frame section.now bases.now) last.new }
+    ensures adds { let frame = Section.frame section.now bases.now in
         let t = tabulated A.rows A.rule_of S.limits (Section.extensions section.now) span.base_svma in
         IfOk result (λ _. AddsEntry (t frame) span (fde_from_offset frame span.offset) ranges.old ranges.new) }
 {
-    match fde_at(section, bases, span.offset) {
+    match fde_at_by_last(section, bases, span.offset, last) {
         Ok(fde) => add_fde::<A, R, Section, S>(ranges, section, bases, context, &fde, span),
         Err(_) => extend::<A::UnwindRule>(ranges, span.limit, Covered::Nothing),
     }
@@ -149,13 +154,14 @@ where
     let end = end_of(base_svma);
     let fdes = index.fdes();
     let mut ranges = nothing_up_to::<A::UnwindRule>(alloc, start_at(end, fdes, 0));
+    let mut last = None;
     for place in 0..fdes.len() {
         let span = Span {
             base_svma,
             offset: fdes[place].offset,
             limit: start_at(end, fdes, place + 1),
         };
-        add_entry::<A, R, Section, S>(&mut ranges, section, bases, &mut *context, span)?;
+        add_entry::<A, R, Section, S>(&mut ranges, section, bases, &mut *context, &mut last, span)?;
     }
     extend::<A::UnwindRule>(&mut ranges, 1 << 32, Covered::Nothing)?;
     Ok(ranges)

@@ -15,6 +15,7 @@ loop-place-init g c =
     let start = rw c.end_of-end.ensures at c.start_at.ensures.start in
     record {
       sound = c.nothing_up_to-ranges.ensures.sound;
+      last = tt;
       done = c.nothing_up_to-ranges.ensures.done ∙ c.start_at.ensures.start;
       few = omega (arith, c.nothing_up_to-ranges.ensures.none);
       says = λ relative below.
@@ -34,9 +35,10 @@ loop-place-preserved g c =
     let within : c.loop-place.place < length kept = omega (arith, c.loop-place-test.true) in
     let limit = rw c.end_of-end.ensures at c.start_at-in-loop-place.ensures.start in
     let done = rw c.end_of-end.ensures at known.done in
-    let adds = c.in_ok-add_entry.ensures in
+    let adds = c.in_ok-add_entry.ensures.adds in
     record {
       sound = adds.sound;
+      last = c.add_entry.ensures.last;
       done = rw c.end_of-end.ensures (next-done t kept spans up c.loop-place.place d within span c.loop-place.ranges c.add_entry.new.ranges refl refl limit done adds);
       few = next-few t kept spans up c.loop-place.place d within span c.loop-place.ranges c.add_entry.new.ranges refl refl limit done adds known.few;
       says = next-says t kept spans up c.loop-place.place d within span c.loop-place.ranges c.add_entry.new.ranges refl refl limit done adds known.says;
