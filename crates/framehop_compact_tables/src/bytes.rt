@@ -1,6 +1,6 @@
 //! Numbers in the section's bytes.
 
-ghost use Rattle.std.specs.Prelude.{◌≡◌, ◌≤◌, ◌<◌, ◌+◌, ◌^◌, length};
+ghost use Rattle.std.specs.Prelude.{◌≡◌, ◌≤◌, ◌<◌, ◌+◌, ◌/◌, ◌%◌, ◌^◌, length};
 ghost use Rattle.framehop_compact_tables.specs.Bytes.{u16_at, u32_at, is_within};
 
 // The number of 16 bits in the two bytes at an offset, lowest byte first.
@@ -31,6 +31,20 @@ pub(crate) fn u32_after(bytes: &[u8], at: usize, more: usize) -> u32
     ensures { result ≡ u32_at bytes.now (at + more) }
 {
     u32_at(&bytes[at..], more)
+}
+
+// The number of 32 bits at an offset that is a sum of two. Its high 24 bits are the low ones of the number a byte further on.
+#[inline(always)]
+#[tactic(auto, unfolding(crate::specs::Bytes::u32_at))]
+pub(crate) fn u32_below(bytes: &[u8], at: usize, more: usize) -> u32
+    requires { at + more + 4 ≤ length bytes.now }
+    ensures { result / 256 ≡ u32_at bytes.now (at + more + 1) % 0x1000000 }
+{
+    let rest = &bytes[at..];
+    u32::from(rest[more])
+        + 256 * u32::from(rest[more + 1])
+        + 65536 * u32::from(rest[more + 2])
+        + 16777216 * u32::from(rest[more + 3])
 }
 
 // Whether a stretch is whole in the bytes.

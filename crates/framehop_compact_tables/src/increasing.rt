@@ -25,10 +25,12 @@ pub(crate) fn page_of<'a>(
     let bytes = index.bytes;
     let page = page_at(bytes, index.page_offset(row), index.start(row))?;
     let entries = &bytes[page.entries_offset()..];
+    let before = &bytes[page.entries_offset().saturating_sub(1)..];
     Ok(PageEntries {
         bytes,
         page,
         entries,
+        before,
     })
 }
 

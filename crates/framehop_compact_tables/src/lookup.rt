@@ -26,6 +26,7 @@ pub struct UnwindInfo<'a> {
 }
 
 // The end of an entry: where the next one starts, or else the next page.
+#[inline(always)]
 fn end_of(index: &Index<'_>, row: usize, entries: &PageEntries<'_>, entry: usize) -> u32
     requires page { row + 1 < index_count index.now.bytes.now }
     requires entry { entry < entry_count entries.now.page }
@@ -41,6 +42,7 @@ fn end_of(index: &Index<'_>, row: usize, entries: &PageEntries<'_>, entry: usize
 }
 
 // The function of an entry of a page.
+#[inline(always)]
 fn function_of(
     index: &Index<'_>,
     row: usize,

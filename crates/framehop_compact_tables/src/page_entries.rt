@@ -1,11 +1,11 @@
 //! The entries of a page, each a function.
 
-ghost use Rattle.std.specs.Prelude.{◌≡◌, ◌<◌, ◌≤◌, ◌+◌, ◌*◌, ◌%◌, ◌^◌, ℕ, ◌↔◌, nat_le, if◌then◌else◌, length, drop};
+ghost use Rattle.std.specs.Prelude.{◌≡◌, ◌<◌, ◌≤◌, ◌+◌, ◌-◌, ◌*◌, ◌/◌, ◌%◌, ◌^◌, ℕ, ◌↔◌, nat_le, if◌then◌else◌, length, drop};
 ghost use Rattle.framehop_compact_tables.specs.Bytes.{capped_sum};
 ghost use Rattle.framehop_compact_tables.specs.Index.{common_offset, common_count};
 ghost use Rattle.framehop_compact_tables.specs.Pages.{entries_offset, entry_count, entry_size, entry_start, encoding_at, indexed_encoding, encoding_of};
 
-use crate::bytes::{is_within, u32_after, u32_at};
+use crate::bytes::{is_within, u32_after, u32_at, u32_below};
 use crate::page::Page;
 use crate::search::{Rows, count_at_most};
 use framehop_errors::CompactFormatError;
@@ -17,12 +17,16 @@ pub(crate) struct PageEntries<'a> {
     pub(crate) page: Page,
     // The bytes from the entries on.
     pub(crate) entries: &'a [u8],
+    // The bytes from one below the entries on, if there is one there.
+    pub(crate) before: &'a [u8],
     ghost header: { 28 ≤ length bytes.now },
     ghost whole: { entries_offset page + entry_size page * entry_count page ≤ length bytes.now },
     ghost from_entries: { entries.now ≡ drop (entries_offset page) bytes.now },
+    ghost from_before: { before.now ≡ drop (entries_offset page - 1) bytes.now },
 }
 
 // The encoding at an offset.
+#[inline(always)]
 fn encoding_at(bytes: &[u8], offset: usize) -> Result<u32, CompactFormatError>
     requires { offset < 2 ^ 60 }
     ensures { result ≡ encoding_at bytes.now offset }
@@ -34,6 +38,7 @@ fn encoding_at(bytes: &[u8], offset: usize) -> Result<u32, CompactFormatError>
 }
 
 // The encoding with an index: the common ones first, then the page's.
+#[inline(always)]
 fn indexed_encoding(
     bytes: &[u8],
     encodings_offset: u32,
@@ -77,8 +82,20 @@ fn count_of_compressed(start: u32, word: u32, address: u32) -> usize
     count_at_most(sum, limit_of_sums(address) + u64::from(u32::MAX - start))
 }
 
+// The same by the word that begins one byte lower, whose high 24 bits are the distance from the page's start: no comparison waits
+// for a mask.
+#[inline(always)]
+fn count_of_lower(start: u32, word: u32, address: u32) -> usize
+    ensures { result ≡ (if nat_le (capped_sum start (word / 256)) address then 1 else 0) }
+{
+    let sum = 256 * u64::from(u32::MAX) + u64::from(word);
+    let limit = limit_of_sums(address) + u64::from(u32::MAX - start);
+    count_at_most(sum, 256 * limit + 255)
+}
+
 impl PageEntries<'_> {
     // The encoding of an entry.
+    #[inline(always)]
     pub(crate) fn encoding(&self, entry: usize) -> Result<u32, CompactFormatError>
         requires { entry < entry_count self.now.page }
         ensures { result ≡ encoding_of self.now.bytes.now self.now.page entry }
@@ -110,6 +127,7 @@ impl Rows for PageEntries<'_> {
         self.page.entry_count()
     }
 
+    #[inline(always)]
     fn start(&self, row: usize) -> u32 {
         match self.page {
             Page::Regular { entries_offset, .. } => {
@@ -133,9 +151,18 @@ impl Rows for PageEntries<'_> {
                 let start = u32_after(self.entries, 8 * row, 8 * more);
                 count_at_most(u64::from(start), u64::from(address))
             }
-            Page::Compressed { start, .. } => {
-                let word = u32_after(self.entries, 4 * row, 4 * more);
-                count_of_compressed(start, word, address)
+            Page::Compressed {
+                start,
+                entries_offset,
+                ..
+            } => {
+                if entries_offset == 0 {
+                    let word = u32_after(self.entries, 4 * row, 4 * more);
+                    count_of_compressed(start, word, address)
+                } else {
+                    let word = u32_below(self.before, 4 * row, 4 * more);
+                    count_of_lower(start, word, address)
+                }
             }
         }
     }
