@@ -1,5 +1,5 @@
 -- The rule of the machine code is one alone.
-use Rattle.std.proofs.Common.{◌≡◌, ◌∙◌, ℕ, Bool, true, false, refl, sym, List, Option, Some, None}
+use Rattle.std.proofs.Common.{◌≡◌, ℕ, Bool, true, false, refl, sym, List, Option, Some, None}
 use Rattle.framehop_analysis.specs.Found.{IsFound}
 use Rattle.framehop_compact.specs.Analysed.{IsAnalysed, IsKnownAt, RulesAt, analysed}
 

@@ -1,5 +1,5 @@
 -- Numbers of lists, and their weights, multiplied by the factorial of how many registers aren't saved.
-use Rattle.std.proofs.Common.{◌≡◌, ◌∙◌, ℕ, zero, suc, ◌+◌, ◌-◌, ◌*◌, ◌^◌, ◌<◌, ◌≤◌, refl, sym, ap, arith}
+use Rattle.std.proofs.Common.{◌≡◌, ◌∙◌, ℕ, zero, suc, ◌-◌, ◌*◌, ◌^◌, ◌<◌, ◌≤◌, sym, ap, arith}
 use Rattle.std.specs.Prelude.{◌/◌, ◌%◌}
 use Rattle.std.proofs.Math.Nat.{mul_assoc, mul_comm, mul-sub, mul-div-mul_left, mod-eq-sub-mul-div}
 use Rattle.framehop_compact.specs.SavedRegisters.{arrangement_count, factorial}

@@ -1,5 +1,5 @@
 -- The step in a function of x86_64.
-use Rattle.std.specs.Prelude.{ℕ, ◌≡◌, ◌-◌, ◌%◌, nat_eq, nat_lt, Bool, true, if◌then◌else◌, List, [], ◌∷◌, Option, Some, None, Ok, Err}
+use Rattle.std.specs.Prelude.{ℕ, ◌-◌, ◌%◌, nat_eq, nat_lt, Bool, true, if◌then◌else◌, List, [], ◌∷◌, Option, Some, None, Ok, Err}
 use Rattle.std.specs.List.{starts_with}
 use Rattle.framehop_errors.specs.declared.compact.CompactUnwindInfoUnwinderError.TheVariants.{FunctionHasNoInfo, BadOpcodeKind}
 use Rattle.framehop_errors.specs.declared.compact.CompactUnwindInfoUnwinderError.TheVariants as error

@@ -13,6 +13,7 @@ use framehop_errors::CompactUnwindInfoUnwinderError;
 use framehop_rules::aarch64::{ArchAarch64, UnwindRuleAarch64};
 
 // The rule of a function that calls no other, and so has a first frame alone.
+#[inline(always)]
 fn frameless_rule(
     stack_size_by_16: u16,
     is_first_frame: bool,
@@ -41,6 +42,7 @@ fn is_null(opcode: OpcodeArm64) -> bool
 }
 
 // The rule in the body of a function.
+#[inline(always)]
 fn body_rule(
     opcode: OpcodeArm64,
     is_first_frame: bool,
@@ -90,15 +92,18 @@ impl CompactUnwindInfoUnwinding for ArchAarch64 {
         address_offset_within_function: usize,
         function_bytes: Option<&[u8]>,
     ) -> Result<CuiUnwindResult<UnwindRuleAarch64>, CompactUnwindInfoUnwinderError> {
-        let offset = address_offset_within_function;
-        let opcode = OpcodeArm64::parse(function.opcode);
-        if is_first_frame && is_null(opcode) {
+        // The encoding is parsed where its kind is used: of a kind that it keeps meanwhile LLVM makes a table of jumps.
+        if !is_first_frame {
+            return body_rule(OpcodeArm64::parse(function.opcode), false);
+        }
+        if is_null(OpcodeArm64::parse(function.opcode)) {
             return Ok(CuiUnwindResult::ExecRule(UnwindRuleAarch64::NoOp));
         }
-        if let Some(rule) = analysed_rule::<ArchAarch64>(is_first_frame, offset, function_bytes) {
+        let offset = address_offset_within_function;
+        if let Some(rule) = analysed_rule::<ArchAarch64>(true, offset, function_bytes) {
             return Ok(CuiUnwindResult::ExecRule(rule));
         }
-        body_rule(opcode, is_first_frame)
+        body_rule(OpcodeArm64::parse(function.opcode), true)
     }
 
     fn rule_for_stub_helper(

@@ -26,6 +26,7 @@ pub enum OpcodeArm64 {
 
 impl OpcodeArm64 {
     /// What an encoding says.
+    #[inline(always)]
     pub fn parse(opcode: u32) -> OpcodeArm64
         ensures { result ≡ opcode_of opcode }
     {

@@ -1,4 +1,4 @@
-use Rattle.std.proofs.Common.{◌≡◌, ◌∙◌, Option, ap, sym}
+use Rattle.std.proofs.Common.{◌∙◌, Option, ap, sym}
 use Rattle.std.specs.Option.{option_map}
 use Rattle.framehop_analysis.specs.Epilogue.{IsEpilogueRule}
 use Rattle.framehop_analysis.specs.Prologue.{IsPrologueRule}
