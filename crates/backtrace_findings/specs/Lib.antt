@@ -1,3 +1,6 @@
+pub mod HeaderLines
+pub mod HeaderViews
+pub mod Headers
 pub mod LeftOut
 pub mod Lines
 pub mod Overlaps

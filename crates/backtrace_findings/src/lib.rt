@@ -3,11 +3,18 @@
 #![tactic(auto)]
 
 mod fdes;
+mod header_lines;
+mod headers;
 mod left_out;
 mod lines;
 mod overlaps;
 
 pub use fdes::{Code, Fault, ListedFde};
+pub use header_lines::{push_header_fault, push_header_rows};
+pub use headers::{
+    HeaderFault, HeaderRow, LocatedFde, UnorderedRow, UntrueRow, located_fdes, rowless_fdes,
+    unordered_rows, untrue_rows,
+};
 pub use left_out::{LeftOut, LeftOutCause, left_outs};
 pub use lines::{Place, push_fault, push_left_outs, push_overlaps};
 pub use overlaps::{Overlap, SpannedFde, overlaps_of};

@@ -23,24 +23,28 @@ pub struct Place<'a> {
     pub section: &'a [u8],
 }
 
-// Appends `0x` and a number in hexadecimal digits.
-fn push_hexadecimal(alloc: Global, text: &mut Vec<u8>, number: u64) -> Result<(), AllocError>
+/// Appends `0x` and a number in hexadecimal digits.
+pub(crate) fn push_hexadecimal(
+    alloc: Global,
+    text: &mut Vec<u8>,
+    number: u64,
+) -> Result<(), AllocError>
     ensures { Pushes result text.old text.new (hexadecimal number) }
 {
     let digits = format!(in alloc; "0x{number:x}")?;
     push_bytes(text, digits.as_bytes())
 }
 
-// Appends the name of an error.
-fn push_error(alloc: Global, text: &mut Vec<u8>, error: Error) -> Result<(), AllocError>
+/// Appends the name of an error.
+pub(crate) fn push_error(alloc: Global, text: &mut Vec<u8>, error: Error) -> Result<(), AllocError>
     ensures { Pushes result text.old text.new (variant_name error) }
 {
     let name = format!(in alloc; "{error}")?;
     push_bytes(text, name.as_bytes())
 }
 
-// Appends the file and the section.
-fn push_place(text: &mut Vec<u8>, place: &Place<'_>) -> Result<(), AllocError>
+/// Appends the file and the section.
+pub(crate) fn push_place(text: &mut Vec<u8>, place: &Place<'_>) -> Result<(), AllocError>
     ensures { Pushes result text.old text.new (place_text (place_seen place.now)) }
 {
     push_bytes(text, place.file)?;
@@ -49,8 +53,8 @@ fn push_place(text: &mut Vec<u8>, place: &Place<'_>) -> Result<(), AllocError>
     push_bytes(text, b": ")
 }
 
-// Appends what is counted, and before the first of it.
-fn push_count(
+/// Appends what is counted, and before the first of it.
+pub(crate) fn push_count(
     alloc: Global,
     text: &mut Vec<u8>,
     place: &Place<'_>,

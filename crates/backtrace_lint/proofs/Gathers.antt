@@ -6,7 +6,6 @@ use Rattle.dwarf_constants.specs.declared.error.Error.{Error}
 use Rattle.dwarf_frame_rows.specs.FrameSection.{FrameSection}
 use Rattle.dwarf_frame_entries.specs.Entries.{AnyEntry}
 use Rattle.dwarf_frame_entries.specs.EntryLists.{entries_of}
-use Rattle.backtrace_findings.specs.declared.fdes.Fault.{Fault}
 use Rattle.backtrace_findings.specs.declared.fdes.ListedFde.{ListedFde}
 use Rattle.backtrace_lint.specs.Faults.{fault_from, fault_of, offset_after}
 use Rattle.backtrace_lint.specs.ListedFdes.{listed_among, listed_entry, listed_fdes, with_listed}

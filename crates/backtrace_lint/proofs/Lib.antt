@@ -1,1 +1,9 @@
+pub mod Each
 pub mod Gathers
+pub mod HeaderLines
+pub mod HeaderTables
+pub mod Members
+pub mod NamedFdes
+pub mod ReadRows
+pub mod Rising
+pub mod TruthfulHeaders

@@ -1,5 +1,5 @@
 -- What an unwinder meets in the call frames of an ELF file, line by line.
-use Rattle.std.specs.Prelude.{ℕ, ◌^◌, Bool, true, false, List, [], ◌∷◌, ◌++◌, codes, Option, None, Result, Ok, Err}
+use Rattle.std.specs.Prelude.{ℕ, ◌^◌, Bool, true, false, List, [], ◌∷◌, ◌++◌, codes, Option, Some, None, Result, Ok, Err}
 use Rattle.std.specs.List.{filter_map}
 use Rattle.json_program.specs.Lines.{line}
 use Rattle.dwarf_readers.specs.Stretch.{whole}
@@ -12,12 +12,16 @@ use Rattle.frame_table_files.specs.declared.error.FileError.{FileError}
 use Rattle.frame_table_files.specs.declared.error.FileError.TheVariants.{Elf, NoSection, NoCallFrames}
 use Rattle.frame_table_files.specs.declared.section_name.SectionName.{SectionName}
 use Rattle.frame_table_files.specs.declared.section_name.SectionName.TheVariants.{EhFrame, DebugFrame}
+use Rattle.elf_files.specs.Bytes.{ElfResult}
+use Rattle.backtrace_findings.specs.HeaderLines.{header_text}
+use Rattle.backtrace_findings.specs.Headers.{located_fdes}
 use Rattle.backtrace_findings.specs.LeftOut.{left_out}
 use Rattle.backtrace_findings.specs.Lines.{Place, fault_text, left_outs_text, overlaps_text}
 use Rattle.backtrace_findings.specs.Overlaps.{overlaps_of}
 use Rattle.backtrace_findings.specs.declared.fdes.Fault.{Fault}
 use Rattle.backtrace_findings.specs.declared.fdes.ListedFde.{ListedFde}
 use Rattle.backtrace_lint.specs.Faults.{fault_of}
+use Rattle.backtrace_lint.specs.Headers.{HeaderSection, header_for, header_name, header_rows, section_start, with_header}
 use Rattle.backtrace_lint.specs.ListedFdes.{listed_fdes}
 
 -- the lines of an error that ends a list of entries, and of the FDEs before it
@@ -38,24 +42,43 @@ kind_of DebugFrame = debug_frame
 abbrev pub frames_of : FileSection → FrameSection
 frames_of s = frame_section (2 ^ 64) (kind_of s.name) 8 (whole false s.bytes) s.bases
 
--- the lines of the section of the file with this name
-abbrev pub file_section_text : (name : List ℕ) → FileSection → List ℕ
-file_section_text name s = section_text (record { file = name; section = name_text s.name }) (frames_of s)
+-- the lines of the header of a section, which has these FDEs
+abbrev pub header_lines : (name : List ℕ) → FileSection → HeaderSection → List ListedFde → List ℕ
+header_lines name s header fdes =
+    header_text (record { file = name; section = header_name }) (section_start s.bases)
+    (header_rows (with_header header.address s.bases) header.bytes) (located_fdes fdes)
+
+-- .. if there is one
+abbrev pub lines_of : (name : List ℕ) → FileSection → Option HeaderSection → List ListedFde → List ℕ
+lines_of name s None fdes = []
+lines_of name s (Some header) fdes = header_lines name s header fdes
+
+-- the lines of the section of the file with this name, and of its header
+abbrev pub file_section_text : (name : List ℕ) → FileSection → Option HeaderSection → List ℕ
+file_section_text name s header =
+    section_text (record { file = name; section = name_text s.name }) (frames_of s)
+    ++ lines_of name s header (listed_fdes (frames_of s))
 
 -- the line of a file that has no call frames
 abbrev pub no_call_frames_text : (name : List ℕ) → List ℕ
 no_call_frames_text name = name ++ line (codes ": no call frames")
 
--- the lines of a file by its section of call frames, or why the file can't be read
-abbrev pub lint_text_for : (name : List ℕ) → Result FileSection FileError → Result (List ℕ) FileError
-lint_text_for name (Ok section) = Ok (file_section_text name section)
-lint_text_for name (Err NoCallFrames) = Ok (no_call_frames_text name)
-lint_text_for name (Err (NoSection section)) = Err (NoSection section)
-lint_text_for name (Err (Elf error)) = Err (Elf error)
+-- the lines of a file by its section of call frames and the header of that, if they can be read
+abbrev pub text_with_header : (name : List ℕ) → FileSection → ElfResult (Option HeaderSection) → Result (List ℕ) FileError
+text_with_header name section (Ok header) = Ok (file_section_text name section header)
+text_with_header name section (Err error) = Err (Elf error)
 
--- the lines of the file with this name and these bytes: of its `.eh_frame`, or if there is none of its `.debug_frame`
+-- the lines of a file by its section of call frames, or why the file can't be read
+abbrev pub lint_text_for : (name bytes : List ℕ) → Result FileSection FileError → Result (List ℕ) FileError
+lint_text_for name bytes (Ok section) = text_with_header name section (header_for section.name bytes)
+lint_text_for name bytes (Err NoCallFrames) = Ok (no_call_frames_text name)
+lint_text_for name bytes (Err (NoSection section)) = Err (NoSection section)
+lint_text_for name bytes (Err (Elf error)) = Err (Elf error)
+
+-- the lines of the file with this name and these bytes: of its `.eh_frame` and the header of that, or if there is none of its
+-- `.debug_frame`
 abbrev pub lint_text_of : (name bytes : List ℕ) → Result (List ℕ) FileError
-lint_text_of name bytes = lint_text_for name (section_of_file None bytes)
+lint_text_of name bytes = lint_text_for name bytes (section_of_file None bytes)
 
 -- what is written
 abbrev pub written_text : Result (List ℕ) FileError → List ℕ

@@ -3,11 +3,14 @@
 ghost use Rattle.std.specs.Prelude.{◌≡◌, false, IfOk};
 ghost use Rattle.json_program.specs.Errors.{ReportsFailures};
 ghost use Rattle.json_program.specs.Stream.{WritesText};
-ghost use Rattle.backtrace_lint.specs.LintText.{has_findings, lint_text_of, no_call_frames_text, written_text};
+ghost use Rattle.backtrace_lint.specs.Headers.{header_for};
+ghost use Rattle.backtrace_lint.specs.LintText.{has_findings, lint_text_of, no_call_frames_text, text_with_header, written_text};
 ghost use Rattle.backtrace_lint.specs.LintViews.{IsLint};
+ghost use Rattle.frame_table_files.specs.SectionViews.{section_seen};
 
+use crate::headers::header_for;
 use crate::sections::file_section_text;
-use frame_table_files::{FileError, section_of_file};
+use frame_table_files::{FileError, FileSection, section_of_file};
 use json_program::{RunError, Sink, write_all};
 use line_parts::push_bytes;
 use std::alloc::{AllocError, Global};
@@ -22,6 +25,22 @@ fn no_call_frames_text(alloc: Global, name: &[u8]) -> Result<Vec<u8>, AllocError
     Ok(text)
 }
 
+// The lines of a file by its section of call frames, or why its header can't be read.
+fn text_with_header(
+    alloc: Global,
+    name: &[u8],
+    file: &[u8],
+    section: &FileSection<'_>,
+) -> Result<Result<Vec<u8>, FileError>, AllocError>
+    ensures { IfOk result (IsLint (text_with_header name.now (section_seen section.now)
+        (header_for section.now.name file.now))) }
+{
+    match header_for(section.name, file) {
+        Ok(header) => Ok(Ok(file_section_text(alloc, name, section, &header)?)),
+        Err(error) => Ok(Err(FileError::Elf(error))),
+    }
+}
+
 /// The lines of what an unwinder meets in the call frames of the file with these bytes, or why the file can't be read.
 pub fn lint_text(
     alloc: Global,
@@ -31,7 +50,7 @@ pub fn lint_text(
     ensures { IfOk result (IsLint (lint_text_of name.now file.now)) }
 {
     match section_of_file(file, None) {
-        Ok(section) => Ok(Ok(file_section_text(alloc, name, &section)?)),
+        Ok(section) => text_with_header(alloc, name, file, &section),
         Err(FileError::NoCallFrames) => Ok(Ok(no_call_frames_text(alloc, name)?)),
         Err(FileError::NoSection(section)) => Ok(Err(FileError::NoSection(section))),
         Err(FileError::Elf(error)) => Ok(Err(FileError::Elf(error))),

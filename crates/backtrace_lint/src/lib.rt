@@ -6,7 +6,9 @@
 mod entries;
 mod file;
 mod gathered;
+mod headers;
 mod sections;
+pub mod truthful;
 
 pub use file::{lint_text, write_lint};
 pub use frame_table_files::FileError;

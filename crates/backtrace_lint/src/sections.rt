@@ -1,19 +1,39 @@
-//! The findings of a section.
+//! The findings of a section and of its header.
 
 ghost use Rattle.std.specs.Prelude.{◌≡◌, IfOk};
+ghost use Rattle.line_parts.specs.Parts.{Pushes};
 ghost use Rattle.backtrace_findings.specs.PlaceViews.{place_seen};
-ghost use Rattle.backtrace_lint.specs.GatheredViews.{gathered_text_of};
-ghost use Rattle.backtrace_lint.specs.LintText.{file_section_text, section_text};
+ghost use Rattle.backtrace_lint.specs.GatheredViews.{Gathers, gathered_text_of};
+ghost use Rattle.backtrace_lint.specs.HeaderViews.{header_seen, if_seen};
+ghost use Rattle.backtrace_lint.specs.LintText.{file_section_text, frames_of, header_lines, lines_of};
 ghost use Rattle.frame_table_files.specs.SectionViews.{section_seen};
 
 use crate::gathered::{Gathered, gather};
+use crate::headers::{HeaderSection, header_rows, section_start, with_header};
 use backtrace_findings::{
-    Place, left_outs, overlaps_of, push_fault, push_left_outs, push_overlaps,
+    ListedFde, Place, left_outs, located_fdes, overlaps_of, push_fault, push_header_fault,
+    push_header_rows, push_left_outs, push_overlaps,
 };
-use dwarf_frame_entries::{BaseAddresses, DebugFrame, EhFrame, UnwindSection};
-use dwarf_readers::{LittleEndian, Reader};
+use dwarf_frame_entries::{DebugFrame, EhFrame};
+use dwarf_readers::LittleEndian;
 use frame_table_files::{FileSection, SectionName};
 use std::alloc::{AllocError, Global};
+
+// What the list of a file's section has.
+fn gather_section(alloc: Global, section: &FileSection<'_>) -> Result<Gathered, AllocError>
+    ensures { IfOk result (Gathers (frames_of (section_seen section.now))) }
+{
+    match section.name {
+        SectionName::EhFrame => {
+            let frames = EhFrame::new(section.bytes, LittleEndian);
+            gather(alloc, &frames, &section.bases)
+        }
+        SectionName::DebugFrame => {
+            let frames = DebugFrame::new(section.bytes, LittleEndian);
+            gather(alloc, &frames, &section.bases)
+        }
+    }
+}
 
 // The lines of what was gathered of a section.
 fn gathered_text(
@@ -32,41 +52,67 @@ fn gathered_text(
     Ok(text)
 }
 
-// The lines of a section.
-fn section_text<R: Reader, Section: UnwindSection<R>>(
+// Appends the lines of the header of a section that has these FDEs.
+fn push_header(
     alloc: Global,
-    place: &Place<'_>,
-    section: &Section,
-    bases: &BaseAddresses,
-) -> Result<Vec<u8>, AllocError>
-    ensures { IfOk result (λ text. text.items
-        ≡ section_text (place_seen place.now) (Section.frame section.now bases.now)) }
+    text: &mut Vec<u8>,
+    name: &[u8],
+    section: &FileSection<'_>,
+    header: &HeaderSection<'_>,
+    fdes: &[ListedFde],
+) -> Result<(), AllocError>
+    ensures { Pushes result text.old text.new
+        (header_lines name.now (section_seen section.now) (header_seen header.now) fdes.now) }
 {
-    let gathered = gather(alloc, section, bases)?;
-    gathered_text(alloc, place, &gathered)
+    let place = Place {
+        file: name,
+        section: b".eh_frame_hdr",
+    };
+    let bases = with_header(header.address, &section.bases);
+    match header_rows(alloc, header.bytes, &bases)? {
+        Ok(rows) => {
+            let located = located_fdes(alloc, fdes)?;
+            let start = section_start(&section.bases);
+            push_header_rows(alloc, text, &place, start, &rows, &located)
+        }
+        Err(fault) => push_header_fault(alloc, text, &place, fault),
+    }
 }
 
-/// The lines of a file's section.
+// Appends these lines if there is a header.
+fn push_if_headed(
+    alloc: Global,
+    text: &mut Vec<u8>,
+    name: &[u8],
+    section: &FileSection<'_>,
+    header: &Option<HeaderSection<'_>>,
+    fdes: &[ListedFde],
+) -> Result<(), AllocError>
+    ensures { Pushes result text.old text.new (lines_of name.now (section_seen section.now)
+        (if_seen header.now) fdes.now) }
+{
+    match header {
+        Some(header) => push_header(alloc, text, name, section, header, fdes),
+        None => Ok(()),
+    }
+}
+
+/// The lines of a file's section, and of its header, if it has one.
 pub(crate) fn file_section_text(
     alloc: Global,
     name: &[u8],
     section: &FileSection<'_>,
+    header: &Option<HeaderSection<'_>>,
 ) -> Result<Vec<u8>, AllocError>
-    ensures { IfOk result (λ text. text.items
-        ≡ file_section_text name.now (section_seen section.now)) }
+    ensures { IfOk result (λ text. text.items ≡ file_section_text name.now (section_seen section.now)
+        (if_seen header.now)) }
 {
     let place = Place {
         file: name,
         section: section.name.text().as_bytes(),
     };
-    match section.name {
-        SectionName::EhFrame => {
-            let frames = EhFrame::new(section.bytes, LittleEndian);
-            section_text(alloc, &place, &frames, &section.bases)
-        }
-        SectionName::DebugFrame => {
-            let frames = DebugFrame::new(section.bytes, LittleEndian);
-            section_text(alloc, &place, &frames, &section.bases)
-        }
-    }
+    let gathered = gather_section(alloc, section)?;
+    let mut text = gathered_text(alloc, &place, &gathered)?;
+    push_if_headed(alloc, &mut text, name, section, header, &gathered.fdes)?;
+    Ok(text)
 }

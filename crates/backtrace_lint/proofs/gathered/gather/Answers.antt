@@ -1,6 +1,3 @@
-use Rattle.std.proofs.Common.{◌≡◌, ◌∷◌, List, Result, Ok}
-use Rattle.dwarf_constants.specs.declared.error.Error.{Error}
-use Rattle.dwarf_frame_entries.specs.Entries.{AnyEntry}
 use Rattle.dwarf_frame_entries.specs.EntryViews.{entry_view}
 use Rattle.backtrace_lint.proofs.Gathers.{entry-gathered}
 use Rattle.backtrace_lint.proofs.gathered.gather.Goals as goal
