@@ -5,3 +5,4 @@ pub mod LeftOut
 pub mod Lines
 pub mod Overlaps
 pub mod PlaceViews
+pub mod RowLines

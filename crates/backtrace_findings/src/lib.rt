@@ -8,6 +8,7 @@ mod headers;
 mod left_out;
 mod lines;
 mod overlaps;
+mod rows;
 
 pub use fdes::{Code, Fault, ListedFde};
 pub use header_lines::{push_header_fault, push_header_rows};
@@ -18,3 +19,4 @@ pub use headers::{
 pub use left_out::{LeftOut, LeftOutCause, left_outs};
 pub use lines::{Place, push_fault, push_left_outs, push_overlaps};
 pub use overlaps::{Overlap, SpannedFde, overlaps_of};
+pub use rows::{FailedFde, push_failed, push_unsaid};

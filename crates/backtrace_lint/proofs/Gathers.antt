@@ -1,11 +1,10 @@
 -- A pass over the entries of a section.
-use Rattle.std.proofs.Common.{◌≡◌, ℕ, List, [], ◌∷◌, ◌++◌, Option, Some, None, Result, Ok, Err, refl, sym, ap, ◌∙◌}
+use Rattle.std.proofs.Common.{◌≡◌, ℕ, List, [], ◌∷◌, ◌++◌, Option, Some, None, Result, Ok, refl, sym, ap, ◌∙◌}
 use Rattle.std.specs.List.{cons_option}
-use Rattle.std.proofs.lemmas.List.{append-nil, append_assoc}
+use Rattle.std.proofs.lemmas.List.{append_assoc}
 use Rattle.dwarf_constants.specs.declared.error.Error.{Error}
 use Rattle.dwarf_frame_rows.specs.FrameSection.{FrameSection}
 use Rattle.dwarf_frame_entries.specs.Entries.{AnyEntry}
-use Rattle.dwarf_frame_entries.specs.EntryLists.{entries_of}
 use Rattle.backtrace_findings.specs.declared.fdes.ListedFde.{ListedFde}
 use Rattle.backtrace_lint.specs.Faults.{fault_from, fault_of, offset_after}
 use Rattle.backtrace_lint.specs.ListedFdes.{listed_among, listed_entry, listed_fdes, with_listed}
@@ -14,11 +13,6 @@ use Rattle.backtrace_lint.specs.ListedFdes.{listed_among, listed_entry, listed_f
 pub record Gathering (section : FrameSection) (found : List ListedFde) (offset : ℕ) (left : List (Result AnyEntry Error)) : Type 0 where
   pub lists : listed_fdes section ≡ found ++ listed_among section left
   pub faults : fault_of section ≡ fault_from section offset left
-
--- nothing is gathered at the start
-pub none-gathered : (section : FrameSection) (fdes : List ListedFde) (offset : ℕ) (left : List (Result AnyEntry Error)) → fdes ≡ [] → offset ≡ 0 → left ≡ entries_of section
-    → Gathering section fdes offset left
-none-gathered section fdes offset left none start all = record { lists = rw (none, all) refl; faults = rw (start, all) refl }
 
 module _ (section : FrameSection) (before after : List ListedFde) (offset next : ℕ) (all left : List (Result AnyEntry Error)) (entry : AnyEntry) (is : all ≡ Ok entry ∷ left)
     (on : next ≡ offset_after section entry) (gathering : Gathering section before offset all) where
@@ -46,19 +40,3 @@ module _ (section : FrameSection) (before after : List ListedFde) (offset next :
   -- an entry is gathered
   pub entry-gathered : after ≡ with_listed before (listed_entry section.limit section.kind entry) → Gathering section after next left
   entry-gathered pushed = gathered-by (listed_entry section.limit section.kind entry) refl pushed
-
--- the list ends
-pub ends-gathered : (section : FrameSection) (fdes : List ListedFde) (offset : ℕ) (left : List (Result AnyEntry Error)) → left ≡ [] → Gathering section fdes offset left
-    → (fdes ≡ listed_fdes section) × (None ≡ fault_of section)
-ends-gathered section fdes offset left none gathering = (
-  sym (gathering.lists ∙ ap (λ (items : List (Result AnyEntry Error)). fdes ++ listed_among section items) none ∙ append-nil fdes),
-  sym (gathering.faults ∙ ap (fault_from section offset) none),
-)
-
--- the list ends at an error
-pub fault-gathered : (section : FrameSection) (fdes : List ListedFde) (offset : ℕ) (left : List (Result AnyEntry Error)) (error : Error) → left ≡ Err error ∷ [] → Gathering section fdes offset left
-    → (fdes ≡ listed_fdes section) × (Some (record { offset = offset; error = error }) ≡ fault_of section)
-fault-gathered section fdes offset left error is gathering = (
-  sym (gathering.lists ∙ ap (λ (items : List (Result AnyEntry Error)). fdes ++ listed_among section items) is ∙ append-nil fdes),
-  sym (gathering.faults ∙ ap (fault_from section offset) is),
-)

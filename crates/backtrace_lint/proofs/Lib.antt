@@ -1,4 +1,5 @@
 pub mod Each
+pub mod FoundRows
 pub mod Gathers
 pub mod HeaderLines
 pub mod HeaderTables
@@ -6,4 +7,5 @@ pub mod Members
 pub mod NamedFdes
 pub mod ReadRows
 pub mod Rising
+pub mod RowSteps
 pub mod TruthfulHeaders

@@ -1,8 +1,11 @@
 pub mod Faults
+pub mod FileRows
 pub mod GatheredViews
 pub mod HeaderViews
 pub mod Headers
 pub mod LintText
 pub mod LintViews
 pub mod ListedFdes
+pub mod RowFindings
+pub mod RowViews
 pub mod TruthfulHeaders

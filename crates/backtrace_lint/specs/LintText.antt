@@ -18,9 +18,12 @@ use Rattle.backtrace_findings.specs.Headers.{located_fdes}
 use Rattle.backtrace_findings.specs.LeftOut.{left_out}
 use Rattle.backtrace_findings.specs.Lines.{Place, fault_text, left_outs_text, overlaps_text}
 use Rattle.backtrace_findings.specs.Overlaps.{overlaps_of}
+use Rattle.backtrace_findings.specs.RowLines.{faileds_text, unsaids_text}
 use Rattle.backtrace_findings.specs.declared.fdes.Fault.{Fault}
 use Rattle.backtrace_findings.specs.declared.fdes.ListedFde.{ListedFde}
+use Rattle.backtrace_findings.specs.declared.rows.FailedFde.{FailedFde}
 use Rattle.backtrace_lint.specs.Faults.{fault_of}
+use Rattle.backtrace_lint.specs.FileRows.{failed_on, unsaid_on}
 use Rattle.backtrace_lint.specs.Headers.{HeaderSection, header_for, header_name, header_rows, section_start, with_header}
 use Rattle.backtrace_lint.specs.ListedFdes.{listed_fdes}
 
@@ -42,6 +45,14 @@ kind_of DebugFrame = debug_frame
 abbrev pub frames_of : FileSection → FrameSection
 frames_of s = frame_section (2 ^ 64) (kind_of s.name) 8 (whole false s.bytes) s.bases
 
+-- the lines of the rows of a section
+abbrev pub rows_text : Place → List ℕ → List FailedFde → List ℕ
+rows_text place unsaid failed = unsaids_text place unsaid ++ faileds_text place failed
+
+-- .. of the section of a file
+abbrev pub file_rows_text : Place → FileSection → List ℕ
+file_rows_text place s = rows_text place (unsaid_on s.machine (frames_of s)) (failed_on s.machine (frames_of s))
+
 -- the lines of the header of a section, which has these FDEs
 abbrev pub header_lines : (name : List ℕ) → FileSection → HeaderSection → List ListedFde → List ℕ
 header_lines name s header fdes =
@@ -57,7 +68,7 @@ lines_of name s (Some header) fdes = header_lines name s header fdes
 abbrev pub file_section_text : (name : List ℕ) → FileSection → Option HeaderSection → List ℕ
 file_section_text name s header =
     section_text (record { file = name; section = name_text s.name }) (frames_of s)
-    ++ lines_of name s header (listed_fdes (frames_of s))
+    ++ file_rows_text (record { file = name; section = name_text s.name }) s ++ lines_of name s header (listed_fdes (frames_of s))
 
 -- the line of a file that has no call frames
 abbrev pub no_call_frames_text : (name : List ℕ) → List ℕ

@@ -5,8 +5,10 @@
 
 mod entries;
 mod file;
+mod file_rows;
 mod gathered;
 mod headers;
+mod rows;
 mod sections;
 pub mod truthful;
 

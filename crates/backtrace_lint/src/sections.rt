@@ -5,14 +5,16 @@ ghost use Rattle.line_parts.specs.Parts.{Pushes};
 ghost use Rattle.backtrace_findings.specs.PlaceViews.{place_seen};
 ghost use Rattle.backtrace_lint.specs.GatheredViews.{Gathers, gathered_text_of};
 ghost use Rattle.backtrace_lint.specs.HeaderViews.{header_seen, if_seen};
-ghost use Rattle.backtrace_lint.specs.LintText.{file_section_text, frames_of, header_lines, lines_of};
+ghost use Rattle.backtrace_lint.specs.LintText.{file_rows_text, file_section_text, frames_of, header_lines, lines_of, rows_text};
 ghost use Rattle.frame_table_files.specs.SectionViews.{section_seen};
 
+use crate::file_rows::rows_of_section;
 use crate::gathered::{Gathered, gather};
 use crate::headers::{HeaderSection, header_rows, section_start, with_header};
+use crate::rows::RowFindings;
 use backtrace_findings::{
-    ListedFde, Place, left_outs, located_fdes, overlaps_of, push_fault, push_header_fault,
-    push_header_rows, push_left_outs, push_overlaps,
+    ListedFde, Place, left_outs, located_fdes, overlaps_of, push_failed, push_fault,
+    push_header_fault, push_header_rows, push_left_outs, push_overlaps, push_unsaid,
 };
 use dwarf_frame_entries::{DebugFrame, EhFrame};
 use dwarf_readers::LittleEndian;
@@ -50,6 +52,34 @@ fn gathered_text(
     let overlaps = overlaps_of(alloc, &gathered.fdes)?;
     push_overlaps(alloc, &mut text, place, &overlaps)?;
     Ok(text)
+}
+
+// Appends the lines of what is found in the rows of a section.
+fn push_rows(
+    alloc: Global,
+    text: &mut Vec<u8>,
+    place: &Place<'_>,
+    rows: &RowFindings,
+) -> Result<(), AllocError>
+    ensures { Pushes result text.old text.new
+        (rows_text (place_seen place.now) rows.now.unsaid.items rows.now.failed.items) }
+{
+    push_unsaid(alloc, text, place, &rows.unsaid)?;
+    push_failed(alloc, text, place, &rows.failed)
+}
+
+// Appends the lines of the rows of a file's section.
+fn push_file_rows(
+    alloc: Global,
+    text: &mut Vec<u8>,
+    place: &Place<'_>,
+    section: &FileSection<'_>,
+) -> Result<(), AllocError>
+    ensures { Pushes result text.old text.new
+        (file_rows_text (place_seen place.now) (section_seen section.now)) }
+{
+    let rows = rows_of_section(alloc, section)?;
+    push_rows(alloc, text, place, &rows)
 }
 
 // Appends the lines of the header of a section that has these FDEs.
@@ -113,6 +143,7 @@ pub(crate) fn file_section_text(
     };
     let gathered = gather_section(alloc, section)?;
     let mut text = gathered_text(alloc, &place, &gathered)?;
+    push_file_rows(alloc, &mut text, &place, section)?;
     push_if_headed(alloc, &mut text, name, section, header, &gathered.fdes)?;
     Ok(text)
 }
