@@ -8,17 +8,17 @@
 mod arguments;
 mod files;
 mod lint;
-mod stacks;
 
 use anyhow::{Context, Result, bail};
 use arguments::{CoreRequest, Request, USAGE, request_of};
 use backtrace_files::has_other_build_id;
 use backtrace_text::push_name;
+use backtrace_walks::write_stacks;
 use core_files::{CoreError, CoreFile, Thread};
 use files::{NamedFile, contents_of, read_files};
 use json_program::Streamed;
 use lint::lint_files;
-use stacks::write_stacks;
+use std::io::{BufWriter, Write};
 use std::process::ExitCode;
 use std::{env, fs, io};
 
@@ -72,7 +72,7 @@ fn print_stacks(
         say_if_missing(rt, core, file)?;
     }
     let contents = contents_of(rt.alloc(), files.as_slice(), core.mapped_files())?;
-    let mut sink = Streamed::new(io::writer(rt));
+    let mut sink = Streamed::new(BufWriter::new(rt.alloc(), io::writer(rt))?);
     write_stacks(
         rt.alloc(),
         core,
@@ -80,6 +80,7 @@ fn print_stacks(
         &request.options,
         &mut sink,
     )?;
+    sink.into_inner().flush()?;
     Ok(ExitCode::SUCCESS)
 }
 

@@ -1,13 +1,11 @@
--- Frames and backtraces of the code, as contracts see them.
+-- Frames of the code, as contracts see them.
 use Rattle.std.specs.Prelude.{map, option_map}
 use Rattle.backtrace_text.specs.Frames as seen
-use Rattle.backtrace_text.specs.Threads as threads
 use Rattle.backtrace_text.specs.declared.frames.CodeLocation.{CodeLocation}
 use Rattle.backtrace_text.specs.declared.frames.CodeLocation.TheVariants.{Code, SignalTrampoline}
 use Rattle.backtrace_text.specs.declared.frames.NamedOffset.{NamedOffset}
 use Rattle.backtrace_text.specs.declared.frames.RegisterValue.{RegisterValue}
 use Rattle.backtrace_text.specs.declared.frames.ShownFrame.{ShownFrame}
-use Rattle.backtrace_text.specs.declared.threads.Backtrace.{Backtrace}
 
 -- an offset from the start of what has a name
 abbrev pub offset_view : NamedOffset → seen.Offset
@@ -25,11 +23,3 @@ register_view register = record { name = register.name.now; value = register.val
 -- a frame
 abbrev pub frame_view : ShownFrame → seen.Frame
 frame_view frame = record { location = location_view frame.location; registers = map register_view frame.registers.items }
-
--- the backtrace of a thread
-abbrev pub backtrace_view : Backtrace → threads.Backtrace
-backtrace_view backtrace = record {
-  thread = backtrace.thread;
-  frames = map frame_view backtrace.frames.items;
-  end = backtrace.end;
-}

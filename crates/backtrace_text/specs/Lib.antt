@@ -3,3 +3,4 @@ pub mod FrameViews
 pub mod Frames
 pub mod Names
 pub mod Threads
+pub mod Writes

@@ -16,13 +16,13 @@ pub record Backtrace : Type 0 where
 abbrev pub thread_line : ℕ → List ℕ
 thread_line thread = line (codes "Thread " ++ decimal thread ++ codes ":")
 
--- the lines of frames, which are numbered from 0
-abbrev pub frames_text : List Frame → List ℕ
-frames_text frames = flat_map (λ (number, frame). frame_text number frame) (enumerate_from 0 frames)
+-- the lines of frames, which are numbered from here on
+abbrev pub frames_text : ℕ → List Frame → List ℕ
+frames_text first frames = flat_map (λ (number, frame). frame_text number frame) (enumerate_from first frames)
 
--- the lines of a backtrace
+-- the lines of a backtrace, whose frames are numbered from 0
 abbrev pub backtrace_text : Backtrace → List ℕ
-backtrace_text backtrace = thread_line backtrace.thread ++ frames_text backtrace.frames ++ end_text backtrace.end
+backtrace_text backtrace = thread_line backtrace.thread ++ frames_text 0 backtrace.frames ++ end_text backtrace.end
 
 -- the text of backtraces, one after the other
 abbrev pub text_of : List Backtrace → List ℕ

@@ -7,8 +7,9 @@ mod ends;
 mod frames;
 mod names;
 mod threads;
+mod writing;
 
 pub use ends::WalkEnd;
 pub use frames::{CodeLocation, NamedOffset, RegisterValue, ShownFrame};
 pub use names::push_name;
-pub use threads::{Backtrace, push_backtrace, text_of};
+pub use writing::{write_end, write_frame, write_thread};

@@ -1,5 +1,5 @@
 -- The backtraces of a core's threads.
-use Rattle.std.specs.Prelude.{ℕ, ◌==◌, Bool, true, false, if◌then◌else◌, List, [], map, Option, Some, None}
+use Rattle.std.specs.Prelude.{ℕ, ◌==◌, Bool, true, if◌then◌else◌, List, [], map, Option, Some, None}
 use Rattle.std.specs.List.{filter_map}
 use Rattle.std.specs.Option.{option_map}
 use Rattle.backtrace_files.specs.Files.{ProcessFile, ranges_of}
@@ -16,9 +16,10 @@ use Rattle.framehop.specs.UnwindData.{UnwindData}
 use Rattle.framehop_registers.specs.Callback.{Words}
 use Rattle.framehop_unwinder.specs.Frames.{lookup_address}
 use Rattle.framehop_unwinder.specs.Modules.{Loaded}
+use Rattle.framehop_unwinder.specs.Walk.{Walk}
 use Rattle.backtrace_walks.specs.Modules.{modules_of}
-use Rattle.backtrace_walks.specs.StackMeanings.{StackMeanings, stack_by, stacks_aarch64, stacks_x86_64}
-use Rattle.backtrace_walks.specs.Walks.{FrameWith, Stack}
+use Rattle.backtrace_walks.specs.StackMeanings.{StackMeanings, advance_by, stack_by, stacks_aarch64, stacks_x86_64}
+use Rattle.backtrace_walks.specs.Walks.{Advance, FrameWith, Stack}
 use Rattle.backtrace_walks.specs.declared.backtraces.BacktraceOptions.{BacktraceOptions}
 use Rattle.backtrace_walks.specs.declared.registers.ThreadStart.{ThreadStart}
 
@@ -69,6 +70,10 @@ shown_stack stacks process with_registers thread stack = record {
 -- the walk over a stack of a process from where a thread is
 abbrev pub walk_of_thread : {Rule Registers : Type 0} → StackMeanings Rule Registers → Process → ℕ → ThreadStart Registers → Stack Registers
 walk_of_thread stacks process limit start = stack_by stacks process.modules process.words limit start process.words
+
+-- a move of that walk
+abbrev pub advance_of_thread : {Rule Registers : Type 0} → StackMeanings Rule Registers → Process → Walk Registers → Advance Registers
+advance_of_thread stacks process walk = advance_by stacks process.modules process.words process.words walk
 
 -- the backtrace of a thread whose walk begins here
 abbrev pub backtrace_from : {Rule Registers : Type 0} → StackMeanings Rule Registers → Process → BacktraceOptions → ℕ → ThreadStart Registers

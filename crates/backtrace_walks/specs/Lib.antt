@@ -5,5 +5,6 @@ pub mod Registers
 pub mod SessionViews
 pub mod Signals
 pub mod StackMeanings
+pub mod StackTexts
 pub mod WalkedViews
 pub mod Walks

@@ -1,5 +1,5 @@
 -- The modules of a process's files.
-use Rattle.std.specs.Prelude.{ℕ, List, [], ◌∷◌, Option, Some, None}
+use Rattle.std.specs.Prelude.{List, [], ◌∷◌, Option, Some, None}
 use Rattle.std.specs.Option.{option_map}
 use Rattle.backtrace_files.specs.Files.{CodeOfFile, ProcessFile, loaded_code}
 use Rattle.backtrace_files.specs.Sections.{sections_of}

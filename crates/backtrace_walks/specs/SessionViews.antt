@@ -1,12 +1,15 @@
 -- What contracts see of the session of a core's modules.
-use Rattle.std.specs.Prelude.{ℕ, ◌≡◌, ◌<◌, List, length}
+use Rattle.std.specs.Prelude.{◌≡◌, ◌<◌, List, length}
+use Rattle.core_files.specs.MemoryViews.{word_of}
+use Rattle.core_files.specs.declared.memory.Memory.{Memory}
 use Rattle.framehop.specs.UnwindData.{UnwindData}
 use Rattle.framehop_registers.specs.Callback.{Words}
 use Rattle.framehop_unwinder.specs.Modules.{Loaded}
 use Rattle.framehop_unwinder.specs.State.{SessionState, modules_at}
-use Rattle.backtrace_walks.specs.StackMeanings.{StackMeanings, stack_by}
-use Rattle.backtrace_walks.specs.Walks.{Stack}
-use Rattle.backtrace_walks.specs.declared.registers.ThreadStart.{ThreadStart}
+use Rattle.framehop_unwinder.specs.WalkViews.{walk_of}
+use Rattle.framehop_unwinder.specs.declared.iterator.StackWalk.{StackWalk}
+use Rattle.backtrace_walks.specs.StackMeanings.{StackMeanings, advance_by}
+use Rattle.backtrace_walks.specs.Walks.{Advance}
 
 -- A session has an unwinder and a cache at least.
 pub record IsReady {Data Rule : Type 0} (session : SessionState Data Rule) : Type 0 where
@@ -23,7 +26,7 @@ pub record HasModules {Data Rule : Type 0} (loaded : List (Loaded Data)) (sessio
   pub ready : IsReady session
   pub modules : modules_at session 0 ≡ loaded
 
--- The walk over a stack by the modules of a session's first unwinder.
-abbrev pub stack_in : {Rule Registers : Type 0} → StackMeanings Rule Registers → SessionState UnwindData Rule → Words → ℕ → ThreadStart Registers
-    → Words → Stack Registers
-stack_in stacks session memory limit start words = stack_by stacks (modules_at session 0) memory limit start words
+-- A move of a walk over a stack by the modules of a session's first unwinder, where a signal's frame is read from a memory.
+abbrev pub advance_in : {Rule Registers : Type 0} → StackMeanings Rule Registers → SessionState UnwindData Rule → Memory → StackWalk Registers
+    → Words → Advance Registers
+advance_in stacks session memory walk words = advance_by stacks (modules_at session 0) (word_of memory) words (walk_of walk)

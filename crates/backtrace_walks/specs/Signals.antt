@@ -1,6 +1,6 @@
 -- Where a signal interrupted a thread, on Linux: what the kernel pushed is at the stack pointer of the code that a handler returns to
 -- (rt_sigreturn).
-use Rattle.std.specs.Prelude.{ℕ, ◌+◌, ◌^◌, ◌%◌, ◌==◌, ◌&&◌, Bool, false, nat_lt, if◌then◌else◌, List, [], ◌∷◌, Option, Some, None, option_map, unwrap_or}
+use Rattle.std.specs.Prelude.{ℕ, ◌+◌, ◌^◌, ◌%◌, ◌==◌, ◌&&◌, Bool, false, nat_lt, if◌then◌else◌, [], ◌∷◌, Option, Some, None, option_map, unwrap_or}
 use Rattle.framehop_registers.specs.Callback.{Words}
 use Rattle.framehop_registers.specs.Registers.{new_registers, sp_of, with_values}
 use Rattle.framehop_registers.specs.RegistersAarch64 as aarch64

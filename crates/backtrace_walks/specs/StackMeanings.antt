@@ -12,10 +12,11 @@ use Rattle.framehop_rules.specs.declared.x86_64.unwind_rule.UnwindRuleX86_64.{Un
 use Rattle.framehop_unwinder.specs.Attempt.{Meanings}
 use Rattle.framehop_unwinder.specs.Judge.{judge}
 use Rattle.framehop_unwinder.specs.Modules.{Loaded}
+use Rattle.framehop_unwinder.specs.Walk.{Walk}
 use Rattle.framehop_unwinder.specs.WalkViews.{walk_from}
 use Rattle.backtrace_walks.specs.Registers.{shown_aarch64, shown_x86_64, start_aarch64, start_x86_64}
 use Rattle.backtrace_walks.specs.Signals.{Interruption, interrupted_aarch64, interrupted_x86_64}
-use Rattle.backtrace_walks.specs.Walks.{Stack, stack_from}
+use Rattle.backtrace_walks.specs.Walks.{Advance, Stack, advance, stack_from}
 use Rattle.backtrace_walks.specs.declared.registers.ThreadStart.{ThreadStart}
 
 -- What the stacks of threads mean on an architecture: what steps go by; where the walk over a thread's stack begins, if the thread has
@@ -43,6 +44,11 @@ stacks_aarch64 = record {
   interrupted = interrupted_aarch64;
   shown = shown_aarch64;
 }
+
+-- a move of a walk over a stack by these modules: a signal's frame is read from the memory, and steps read these words
+abbrev pub advance_by : {Rule Registers : Type 0} → StackMeanings Rule Registers → List (Loaded UnwindData) → Words → Words → Walk Registers
+    → Advance Registers
+advance_by stacks modules memory words walk = advance (judge stacks.steps modules) (stacks.interrupted memory) words walk
 
 -- the walk over a stack by these modules from where a thread is, up to a limit of frames: a signal's frame is read from the memory, and
 -- steps read these words

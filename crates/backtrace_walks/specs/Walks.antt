@@ -19,19 +19,21 @@ pub record Stack (Registers : Type 0) : Type 0 where
   pub frames : List (FrameWith Registers)
   pub end : WalkEnd
 
--- no more frames
-abbrev pub ends_by : {Registers : Type 0} → WalkEnd → Stack Registers
-ends_by end = record { frames = []; end = end }
+-- What a walk has next: a frame, or its end.
+pub data Next (Registers : Type 0) : Type 0 where
+  Reaches : FrameWith Registers → Next Registers
+  Ends : WalkEnd → Next Registers
 
--- a frame, and then the others
-abbrev pub frame_before : {Registers : Type 0} → FrameWith Registers → Stack Registers → Stack Registers
-frame_before frame others = record { frames = frame ∷ others.frames; end = others.end }
+-- What a walk has next, and where it goes on.
+pub record Advance (Registers : Type 0) : Type 0 where
+  pub next : Next Registers
+  pub walk : Walk Registers
 
--- the frames from a move on that returned this and left these registers, where those after its frame are given
-abbrev pub frames_by : {Registers : Type 0} → Result (Option Frame) Error → Registers → Stack Registers → Stack Registers
-frames_by (Ok (Some frame)) registers others = frame_before (record { frame = frame; registers = registers }) others
-frames_by (Ok None) registers others = ends_by EndOfStack
-frames_by (Err error) registers others = ends_by (Stopped error)
+-- what is next if a move returned this and left these registers
+abbrev pub next_by : {Registers : Type 0} → Result (Option Frame) Error → Registers → Next Registers
+next_by (Ok (Some frame)) registers = Reaches (record { frame = frame; registers = registers })
+next_by (Ok None) registers = Ends EndOfStack
+next_by (Err error) registers = Ends (Stopped error)
 
 -- a walk, or one that begins anew
 abbrev pub begun_or : {Registers : Type 0} → Walk Registers → Option (ThreadStart Registers) → Walk Registers
@@ -45,11 +47,30 @@ resumed interrupted (Ok (Some frame)) walk = begun_or walk (interrupted frame.ad
 resumed interrupted (Ok None) walk = walk
 resumed interrupted (Err error) walk = walk
 
+-- a move of a walk, which goes on behind signals
+abbrev pub advance : {Registers : Type 0} → Judgment Registers → (ℕ → Registers → Option (ThreadStart Registers)) → Words → Walk Registers
+    → Advance Registers
+advance judgment interrupted words walk =
+    let made = move judgment words walk in
+    record { next = next_by made.answer made.walk.registers; walk = resumed interrupted made.answer made.walk }
+
+-- no more frames
+abbrev pub ends_by : {Registers : Type 0} → WalkEnd → Stack Registers
+ends_by end = record { frames = []; end = end }
+
+-- a frame, and then the others
+abbrev pub frame_before : {Registers : Type 0} → FrameWith Registers → Stack Registers → Stack Registers
+frame_before frame others = record { frames = frame ∷ others.frames; end = others.end }
+
+-- the frames from what is next on, where those after its frame are given
+abbrev pub frames_by : {Registers : Type 0} → Next Registers → Stack Registers → Stack Registers
+frames_by (Reaches frame) others = frame_before frame others
+frames_by (Ends end) others = ends_by end
+
 -- The frames of a walk from where it is on, at most so many: move by move, up to the first that gives no frame.
 abbrev pub stack_from : {Registers : Type 0} → Judgment Registers → (ℕ → Registers → Option (ThreadStart Registers)) → Words → ℕ → Walk Registers
     → Stack Registers
 stack_from judgment interrupted words zero walk = ends_by LimitReached
 stack_from judgment interrupted words (suc left) walk =
-    let made = move judgment words walk in
-    frames_by made.answer made.walk.registers
-    (stack_from judgment interrupted words left (resumed interrupted made.answer made.walk))
+    let made = advance judgment interrupted words walk in
+    frames_by made.next (stack_from judgment interrupted words left made.walk)

@@ -1,4 +1,4 @@
-//! The backtraces of a core's threads: its modules, the walk over each thread's stack, and the text of all.
+//! The stacks of a core's threads: its modules, the walk over each thread's stack, and the text of all, written frame by frame.
 #![tactic(auto)]
 
 mod arch;
@@ -7,13 +7,15 @@ mod registers;
 mod session;
 mod signals;
 mod stack_words;
+mod stacks;
 mod texts;
 mod walks;
 
 pub use arch::{FileModules, ThreadArch};
-pub use backtraces::{BacktraceOptions, CoreProcess, backtraces_of};
+pub use backtraces::{BacktraceOptions, CoreProcess};
 pub use registers::ThreadStart;
 pub use session::session_of;
-pub use stack_words::walk_thread;
-pub use texts::{core_backtraces, core_text};
-pub use walks::{WalkedFrame, WalkedStack, walk};
+pub use stack_words::next_in_memory;
+pub use stacks::write_threads;
+pub use texts::write_stacks;
+pub use walks::{NextFrame, WalkedFrame, next_frame};

@@ -1,18 +1,17 @@
 //! The walk over a thread's stack, in the memory of a process.
 
-ghost use Rattle.std.specs.Prelude.{◌≡◌};
-ghost use Rattle.backtrace_files.specs.Results.{IfOkIs};
+ghost use Rattle.std.specs.Prelude.{◌≡◌, OnErr};
 ghost use Rattle.core_files.specs.MemoryViews.{word_of};
 ghost use Rattle.framehop_registers.specs.Callback.{read_answer};
-ghost use Rattle.backtrace_walks.specs.SessionViews.{IsReady, KeepsModules, stack_in};
-ghost use Rattle.backtrace_walks.specs.WalkedViews.{stack_seen};
+ghost use Rattle.framehop_unwinder.specs.WalkViews.{walk_of};
+ghost use Rattle.backtrace_walks.specs.SessionViews.{IsReady, KeepsModules, advance_in};
+ghost use Rattle.backtrace_walks.specs.WalkedViews.{IsAdvance};
 
 use crate::arch::{FileModules, ThreadArch};
-use crate::registers::ThreadStart;
-use crate::walks::{WalkedStack, walk};
+use crate::walks::{NextFrame, next_frame};
 use core_files::Memory;
-use framehop::Session;
-use std::alloc::{AllocError, Global};
+use framehop::{Session, StackWalk};
+use std::alloc::AllocError;
 
 // The word at an address.
 fn word_at(memory: &Memory<'_, '_>, address: u64) -> Result<u64, ()>
@@ -21,23 +20,21 @@ fn word_at(memory: &Memory<'_, '_>, address: u64) -> Result<u64, ()>
     memory.word(address).ok_or(())
 }
 
-/// Walks over the frames of a thread through a session with the modules of its process, up to a limit of frames. The words of its
-/// stack are those of the memory. Fails only if memory for the frames is refused, or if a step is out of memory.
-pub fn walk_thread<'a, A: ThreadArch>(
-    alloc: Global,
+/// Makes the next move of a walk over a thread's stack, as [`next_frame`] does. The words of the stack are those of the memory.
+pub fn next_in_memory<'a, A: ThreadArch>(
     session: &mut Session<FileModules<'a, A>>,
     memory: &Memory<'_, 'a>,
-    start: &ThreadStart<A::UnwindRegs>,
-    limit: u64,
-) -> Result<WalkedStack<A::UnwindRegs>, AllocError>
+    walk: &mut StackWalk<A::UnwindRegs>,
+) -> Result<NextFrame<A::UnwindRegs>, AllocError>
     requires { IsReady session.old }
-    ensures walked { IfOkIs stack_seen result
-        (stack_in A.stacks session.old (word_of memory.now) limit start.now (word_of memory.now)) }
+    ensures next { IsAdvance result walk.new
+        (advance_in A.stacks session.old memory.now walk.old (word_of memory.now)) }
+    ensures stays { OnErr result (walk_of walk.new ≡ walk_of walk.old) }
     ensures session { KeepsModules session.old session.new }
 {
     let mut read_stack = |at: u64| -> Result<u64, ()>
         ensures answer { result ≡ read_answer (word_of memory.entry.now at) }
         ensures same { memory.exit ≡ memory.entry }
     { word_at(memory, at) };
-    walk::<A, _>(alloc, session, memory, start, limit, &mut read_stack)
+    next_frame::<A, _>(session, memory, walk, &mut read_stack)
 }

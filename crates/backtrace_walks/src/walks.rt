@@ -1,21 +1,20 @@
-//! The walk over a stack, up to a limit of frames.
+//! The moves of a walk over a stack.
 
-ghost use Rattle.std.specs.Prelude.{◌≡◌, IfOk, OnOk, false};
+ghost use Rattle.std.specs.Prelude.{◌≡◌, IfOk, OnErr, is_err};
 ghost use Rattle.core_files.specs.MemoryViews.{word_of};
 ghost use Rattle.framehop_unwinder.specs.Frames.{frame_of, lookup_address};
 ghost use Rattle.framehop_unwinder.specs.Trials.{wants_memory};
 ghost use Rattle.framehop_unwinder.specs.WalkViews.{frame_answer, walk_of};
-ghost use Rattle.backtrace_walks.specs.SessionViews.{IsReady, KeepsModules, stack_in};
-ghost use Rattle.backtrace_walks.specs.WalkedViews.{IsTaken, WalksAs, frames_seen};
-ghost use Rattle.backtrace_walks.specs.Walks.{resumed};
+ghost use Rattle.backtrace_walks.specs.SessionViews.{IsReady, KeepsModules, advance_in};
+ghost use Rattle.backtrace_walks.specs.WalkedViews.{AdvancesAs, next_seen};
+ghost use Rattle.backtrace_walks.specs.Walks.{next_by, resumed};
 
 use crate::arch::{FileModules, ThreadArch};
-use crate::registers::ThreadStart;
 use backtrace_text::WalkEnd;
 use core_files::Memory;
 use framehop::{Session, StackWalk};
 use framehop_registers::{Error, FrameAddress};
-use std::alloc::{AllocError, Global};
+use std::alloc::AllocError;
 
 /// A frame of a walk.
 #[derive(Clone, Copy, Debug)]
@@ -26,34 +25,28 @@ pub struct WalkedFrame<R> {
     pub registers: R,
 }
 
-/// The frames of a walk.
-#[derive(Debug, Drop)]
-pub struct WalkedStack<R> {
-    /// The frames, the innermost first.
-    pub frames: Vec<WalkedFrame<R>>,
-    /// How the walk ended.
-    pub end: WalkEnd,
+/// What a walk has next.
+#[derive(Clone, Copy, Debug)]
+pub enum NextFrame<R> {
+    /// A frame.
+    Frame(WalkedFrame<R>),
+    /// Its end.
+    End(WalkEnd),
 }
 
-// Takes what a move of a walk returned, with the registers there: adds its frame, or returns how the walk ends. A move that is out of
-// memory is taken by no walk: this call fails too.
-fn take_move<R: Copy>(
-    frames: &mut Vec<WalkedFrame<R>>,
+// What is next if a move returned this, with these registers. A move that is out of memory is taken by no walk: this call fails too.
+fn next_by<R: Copy>(
     answer: Result<Option<FrameAddress>, Error>,
     registers: R,
-) -> Result<Option<WalkEnd>, AllocError>
-    ensures taken { IfOk result (λ end. IsTaken answer registers end
-        (frames_seen frames.old.items) (frames_seen frames.new.items)) }
-    ensures memory { OnOk result (wants_memory answer ≡ false) }
+) -> Result<NextFrame<R>, AllocError>
+    ensures next { IfOk result (λ next. next_seen next ≡ next_by (frame_answer answer) registers) }
+    ensures memory { wants_memory answer ≡ is_err result }
 {
     match answer {
-        Ok(Some(address)) => {
-            frames.push(WalkedFrame { address, registers })?;
-            Ok(None)
-        }
-        Ok(None) => Ok(Some(WalkEnd::EndOfStack)),
+        Ok(Some(address)) => Ok(NextFrame::Frame(WalkedFrame { address, registers })),
+        Ok(None) => Ok(NextFrame::End(WalkEnd::EndOfStack)),
         Err(Error::OutOfMemory) => Err(AllocError),
-        Err(error) => Ok(Some(WalkEnd::Stopped(error))),
+        Err(error) => Ok(NextFrame::End(WalkEnd::Stopped(error))),
     }
 }
 
@@ -98,34 +91,25 @@ fn resumed<A: ThreadArch>(
     }
 }
 
-/// Walks over the frames of the first unwinder of a session through its first cache, from where a thread is, up to a limit of
-/// frames, and on from where a signal interrupted the thread. The session goes on having these modules.
-pub fn walk<'a, A: ThreadArch, F: FnMut(u64) -> Result<u64, ()>>(
-    alloc: Global,
+/// Makes the next move of a walk over the frames of the first unwinder of a session, through its first cache. The walk is then where
+/// it goes on: at the frame, or where a signal interrupted the thread, if a handler returns to the frame. The session goes on having
+/// these modules. Fails only if a step is out of memory.
+pub fn next_frame<'a, A: ThreadArch, F: FnMut(u64) -> Result<u64, ()>>(
     session: &mut Session<FileModules<'a, A>>,
     memory: &Memory<'_, 'a>,
-    start: &ThreadStart<A::UnwindRegs>,
-    limit: u64,
+    walk: &mut StackWalk<A::UnwindRegs>,
     read_stack: &mut F,
-) -> Result<WalkedStack<A::UnwindRegs>, AllocError>
+) -> Result<NextFrame<A::UnwindRegs>, AllocError>
     requires callable { F.IsAlwaysCallable read_stack.old }
     requires session { IsReady session.old }
     ensures callable { F.IsAlwaysCallable read_stack.new }
-    ensures walked { WalksAs F.step read_stack.old result
-        (stack_in A.stacks session.old (word_of memory.now) limit start.now) }
+    ensures next { AdvancesAs F.step read_stack.old read_stack.new result walk.new
+        (advance_in A.stacks session.old memory.now walk.old) }
+    ensures stays { OnErr result (walk_of walk.new ≡ walk_of walk.old) }
     ensures session { KeepsModules session.old session.new }
 {
-    let mut frames = Vec::new(alloc);
-    let mut walk = StackWalk::new(start.pc, start.registers);
-    for _ in 0..limit {
-        let answer = session.next_frame(0, 0, &mut walk, read_stack);
-        if let Some(end) = take_move(&mut frames, answer, walk.regs())? {
-            return Ok(WalkedStack { frames, end });
-        }
-        walk = resumed::<A>(memory, walk, answer);
-    }
-    Ok(WalkedStack {
-        frames,
-        end: WalkEnd::LimitReached,
-    })
+    let answer = session.next_frame(0, 0, walk, read_stack);
+    let next = next_by(answer, walk.regs())?;
+    *walk = resumed::<A>(memory, *walk, answer);
+    Ok(next)
 }

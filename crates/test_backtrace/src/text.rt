@@ -1,7 +1,11 @@
+ghost use Rattle.std.specs.Prelude.{◌≡◌, false};
+
 use backtrace_text::{
-    Backtrace, CodeLocation, NamedOffset, RegisterValue, ShownFrame, WalkEnd, push_name, text_of,
+    CodeLocation, NamedOffset, RegisterValue, ShownFrame, WalkEnd, push_name, write_end,
+    write_frame, write_thread,
 };
 use framehop_registers::Error;
+use json_program::{RunError, Sink, Streamed};
 use std::alloc::{AllocError, Global};
 use std::test::Fail;
 
@@ -57,8 +61,8 @@ fn first_frame(alloc: Global) -> Result<ShownFrame<'static>, AllocError> {
     })
 }
 
-// The backtrace of a thread that handles a signal.
-fn interrupted(alloc: Global) -> Result<Backtrace<'static>, AllocError> {
+// The frames of a thread that handles a signal.
+fn interrupted(alloc: Global) -> Result<Vec<ShownFrame<'static>>, AllocError> {
     let mut frames = Vec::new(alloc);
     frames.push(first_frame(alloc)?)?;
     frames.push(ShownFrame {
@@ -67,30 +71,29 @@ fn interrupted(alloc: Global) -> Result<Backtrace<'static>, AllocError> {
     })?;
     frames.push(code(alloc, 0x401136, at(b"/srv/a b\n", 0x1136)))?;
     frames.push(code(alloc, 1, None))?;
-    Ok(Backtrace {
-        thread: 4711,
-        frames,
-        end: WalkEnd::Stopped(Error::CouldNotReadStack(0x7ffd00001000)),
-    })
+    Ok(frames)
 }
 
-// The backtraces of two threads, of which the second has no frame.
-fn threads(alloc: Global) -> Result<Vec<Backtrace<'static>>, AllocError> {
-    let mut backtraces = Vec::new(alloc);
-    backtraces.push(interrupted(alloc)?)?;
-    backtraces.push(Backtrace {
-        thread: 12,
-        frames: Vec::new(alloc),
-        end: WalkEnd::EndOfStack,
-    })?;
-    Ok(backtraces)
+// Writes the stacks of two threads, of which the second has no frame.
+fn write_threads<W: Sink>(alloc: Global, sink: &mut W) -> Result<(), RunError>
+    requires { W.has_failed sink.old ≡ false }
+{
+    write_thread(alloc, 4711, sink)?;
+    let frames = interrupted(alloc)?;
+    for (number, frame) in frames.iter().enumerate() {
+        write_frame(alloc, number as u64, frame, sink)?;
+    }
+    let end = WalkEnd::Stopped(Error::CouldNotReadStack(0x7ffd00001000));
+    write_end(alloc, end, sink)?;
+    write_thread(alloc, 12, sink)?;
+    write_end(alloc, WalkEnd::EndOfStack, sink)
 }
 
 #[test]
 fn threads_are_written_one_after_the_other(rt: HostRuntime) -> Result<(), Fail> {
-    let backtraces = threads(rt.alloc())?;
-    let text = text_of(rt.alloc(), &backtraces)?;
-    assert!(rt; text.as_slice() == EXPECTED.as_bytes());
+    let mut sink = Streamed::new(Vec::new(rt.alloc()));
+    write_threads(rt.alloc(), &mut sink)?;
+    assert!(rt; sink.into_inner().as_slice() == EXPECTED.as_bytes());
     Ok(())
 }
 

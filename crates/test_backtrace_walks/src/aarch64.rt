@@ -1,8 +1,9 @@
 //! Signed return addresses on aarch64.
 
 use crate::process::core_aarch64;
-use backtrace_walks::{BacktraceOptions, core_text};
+use backtrace_walks::{BacktraceOptions, write_stacks};
 use core_files::CoreFile;
+use json_program::Streamed;
 use std::alloc::Global;
 use std::process::Abort;
 use std::test::Fail;
@@ -30,8 +31,9 @@ fn expect(rt: &impl Abort, alloc: Global, masks: u32, expected: &str) -> Result<
         limit: 16,
         registers: true,
     };
-    let text = core_text(alloc, &core, &[], &options)?;
-    assert!(rt; text.as_slice() == expected.as_bytes());
+    let mut sink = Streamed::new(Vec::new(alloc));
+    write_stacks(alloc, &core, &[], &options, &mut sink)?;
+    assert!(rt; sink.into_inner().as_slice() == expected.as_bytes());
     Ok(())
 }
 

@@ -2,8 +2,9 @@
 
 use crate::process::core_x86_64;
 use crate::program::program;
-use backtrace_walks::{BacktraceOptions, core_text};
+use backtrace_walks::{BacktraceOptions, write_stacks};
 use core_files::CoreFile;
+use json_program::Streamed;
 use std::alloc::Global;
 use std::process::Abort;
 use std::test::Fail;
@@ -62,8 +63,9 @@ fn expect(
 ) -> Result<(), Fail> {
     let bytes = core_x86_64(alloc)?;
     let core = CoreFile::parse(alloc, &bytes)?;
-    let text = core_text(alloc, &core, contents, options)?;
-    assert!(rt; text.as_slice() == expected.as_bytes());
+    let mut sink = Streamed::new(Vec::new(alloc));
+    write_stacks(alloc, &core, contents, options, &mut sink)?;
+    assert!(rt; sink.into_inner().as_slice() == expected.as_bytes());
     Ok(())
 }
 

@@ -1,12 +1,18 @@
 //! Walks through the session of a process.
 
+ghost use Rattle.backtrace_walks.specs.SessionViews.{IsReady};
+
 use crate::bytes::push_words;
 use crate::process::STACK;
 use crate::program::program;
 use backtrace_files::LoadedFile;
 use backtrace_text::WalkEnd;
-use backtrace_walks::{ThreadArch, ThreadStart, WalkedStack, session_of, walk, walk_thread};
+use backtrace_walks::{
+    FileModules, NextFrame, ThreadArch, ThreadStart, WalkedFrame, next_frame, next_in_memory,
+    session_of,
+};
 use core_files::{MappedFile, Memory, MemoryRange};
+use framehop::{Session, StackWalk};
 use framehop_registers::x86_64::UnwindRegsX86_64;
 use framehop_registers::{Error, FrameAddress};
 use framehop_rules::x86_64::ArchX86_64;
@@ -46,9 +52,12 @@ fn shown(address: FrameAddress) -> (u64, bool) {
     }
 }
 
+// The frames of a walk, and how it ends.
+type Walked<R> = (Vec<WalkedFrame<R>>, WalkEnd);
+
 // The walk ends where the next frame record can't be read.
-fn expect_frames(rt: &impl Abort, stack: &WalkedStack<UnwindRegsX86_64>) {
-    let [first, second, third] = stack.frames.as_slice() else {
+fn expect_frames(rt: &impl Abort, walked: &Walked<UnwindRegsX86_64>) {
+    let [first, second, third] = walked.0.as_slice() else {
         assert!(rt; false);
         return;
     };
@@ -59,20 +68,40 @@ fn expect_frames(rt: &impl Abort, stack: &WalkedStack<UnwindRegsX86_64>) {
     assert!(rt; shown(third.address) == (0x10_1300, true));
     assert!(rt; third.registers.sp() == STACK + 48);
     assert!(rt; third.registers.bp() == 0x9000);
-    assert!(rt; stack.end == WalkEnd::Stopped(Error::CouldNotReadStack(0x9000)));
+    assert!(rt; walked.1 == WalkEnd::Stopped(Error::CouldNotReadStack(0x9000)));
 }
 
-// The walk over the memory of a process with these files. It is made twice, so that the second goes by the rules that the first kept.
+// A walk over the memory of a process.
+fn walked_through<'a, A: ThreadArch>(
+    alloc: Global,
+    session: &mut Session<FileModules<'a, A>>,
+    memory: &Memory<'_, 'a>,
+    start: &ThreadStart<A::UnwindRegs>,
+) -> Result<Walked<A::UnwindRegs>, AllocError>
+    requires { IsReady session.old }
+    ensures { IsReady session.new }
+{
+    let mut frames = Vec::new(alloc);
+    let mut walk = StackWalk::new(start.pc, start.registers);
+    for _ in 0..8 {
+        match next_in_memory::<A>(session, memory, &mut walk)? {
+            NextFrame::Frame(frame) => frames.push(frame)?,
+            NextFrame::End(end) => return Ok((frames, end)),
+        }
+    }
+    Ok((frames, WalkEnd::LimitReached))
+}
+
+// A walk over the memory of a process with these files. It is made twice, so that the second goes by the rules that the first kept.
 fn walked_in_memory<'a, A: ThreadArch>(
     alloc: Global,
     files: &[LoadedFile<'a>],
     memory: &Memory<'_, 'a>,
     start: &ThreadStart<A::UnwindRegs>,
-    limit: u64,
-) -> Result<WalkedStack<A::UnwindRegs>, AllocError> {
+) -> Result<Walked<A::UnwindRegs>, AllocError> {
     let mut session = session_of::<A>(alloc, files)?;
-    walk_thread::<A>(alloc, &mut session, memory, start, limit)?;
-    walk_thread::<A>(alloc, &mut session, memory, start, limit)
+    walked_through::<A>(alloc, &mut session, memory, start)?;
+    walked_through::<A>(alloc, &mut session, memory, start)
 }
 
 // The word at an address of the stack.
@@ -88,16 +117,37 @@ fn word_at(at: u64) -> Result<u64, ()> {
     }
 }
 
-// The walk over words that the caller knows.
+// A walk over the words that a callback reads.
+fn walked_over<'a, A: ThreadArch, F: FnMut(u64) -> Result<u64, ()>>(
+    alloc: Global,
+    session: &mut Session<FileModules<'a, A>>,
+    start: &ThreadStart<A::UnwindRegs>,
+    read_stack: &mut F,
+) -> Result<Walked<A::UnwindRegs>, AllocError>
+    requires callable { F.IsAlwaysCallable read_stack.old }
+    requires session { IsReady session.old }
+{
+    let memory = Memory::new(&[], &[]);
+    let mut frames = Vec::new(alloc);
+    let mut walk = StackWalk::new(start.pc, start.registers);
+    for _ in 0..8 {
+        match next_frame::<A, F>(session, &memory, &mut walk, read_stack)? {
+            NextFrame::Frame(frame) => frames.push(frame)?,
+            NextFrame::End(end) => return Ok((frames, end)),
+        }
+    }
+    Ok((frames, WalkEnd::LimitReached))
+}
+
+// A walk over words that the caller knows.
 fn walked_by_words<'a, A: ThreadArch>(
     alloc: Global,
     files: &[LoadedFile<'a>],
-    memory: &Memory<'_, 'a>,
     start: &ThreadStart<A::UnwindRegs>,
-) -> Result<WalkedStack<A::UnwindRegs>, AllocError> {
+) -> Result<Walked<A::UnwindRegs>, AllocError> {
     let mut session = session_of::<A>(alloc, files)?;
     let mut read_stack = |at: u64| -> Result<u64, ()> { word_at(at) };
-    walk::<A, _>(alloc, &mut session, memory, start, 8, &mut read_stack)
+    walked_over::<A, _>(alloc, &mut session, start, &mut read_stack)
 }
 
 #[test]
@@ -112,11 +162,8 @@ fn over_the_memory_of_a_process(rt: HostRuntime) -> Result<(), Fail> {
         bytes: &bytes,
     }];
     let memory = Memory::new(&segments, &[]);
-    let stack = walked_in_memory::<ArchX86_64>(rt.alloc(), &files, &memory, &start(), 8)?;
-    expect_frames(&rt, &stack);
-    let limited = walked_in_memory::<ArchX86_64>(rt.alloc(), &files, &memory, &start(), 2)?;
-    assert!(rt; limited.frames.len() == 2);
-    assert!(rt; limited.end == WalkEnd::LimitReached);
+    let walked = walked_in_memory::<ArchX86_64>(rt.alloc(), &files, &memory, &start())?;
+    expect_frames(&rt, &walked);
     Ok(())
 }
 
@@ -124,8 +171,7 @@ fn over_the_memory_of_a_process(rt: HostRuntime) -> Result<(), Fail> {
 fn over_words_of_the_caller(rt: HostRuntime) -> Result<(), Fail> {
     let file = program(rt.alloc())?;
     let files = [mapped(&file)];
-    let memory = Memory::new(&[], &[]);
-    let stack = walked_by_words::<ArchX86_64>(rt.alloc(), &files, &memory, &start())?;
-    expect_frames(&rt, &stack);
+    let walked = walked_by_words::<ArchX86_64>(rt.alloc(), &files, &start())?;
+    expect_frames(&rt, &walked);
     Ok(())
 }

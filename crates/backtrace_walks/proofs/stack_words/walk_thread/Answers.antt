@@ -1,9 +1,0 @@
-use Rattle.std.proofs.Common.{sym}
-use Rattle.core_files.specs.MemoryViews.{word_of}
-use Rattle.backtrace_walks.proofs.StillCallback.{answers_always}
-use Rattle.backtrace_walks.proofs.stack_words.walk_thread.Goals as goal
-
-pub returns-clause-walked : goal.returns-clause-walked
-returns-clause-walked g c =
-    c.walk.ensures.walked (word_of c.args.memory.now)
-    (answers_always _ _ _ (λ at r next fits read. sym read.met.1.1) (λ at r next fits read. read.met.0))

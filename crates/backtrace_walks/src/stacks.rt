@@ -1,0 +1,143 @@
+//! The stacks of threads, written frame by frame. A call that fails has written a prefix of its text.
+
+ghost use Rattle.std.specs.Prelude.{◌≡◌, false};
+ghost use Rattle.backtrace_text.specs.Writes.{Writes};
+ghost use Rattle.framehop_unwinder.specs.WalkViews.{walk_of};
+ghost use Rattle.json_program.specs.Errors.{ReportsFailures};
+ghost use Rattle.backtrace_walks.specs.Backtraces.{advance_of_thread, is_chosen};
+ghost use Rattle.backtrace_walks.specs.ProcessViews.{IsSessionOf, process_seen};
+ghost use Rattle.backtrace_walks.specs.StackTexts.{text_from, thread_text, threads_text, walk_text};
+ghost use Rattle.backtrace_walks.specs.WalkedViews.{IsAdvance};
+
+use crate::arch::{FileModules, ThreadArch};
+use crate::backtraces::{BacktraceOptions, CoreProcess, shown_frame};
+use crate::registers::ThreadStart;
+use crate::stack_words::next_in_memory;
+use crate::walks::NextFrame;
+use backtrace_text::{WalkEnd, write_end, write_frame, write_thread};
+use core_files::Thread;
+use framehop::{Session, StackWalk};
+use json_program::{RunError, Sink};
+use std::alloc::{AllocError, Global};
+
+// Makes the next move of a walk over a stack of a process.
+fn next_in<'a, A: ThreadArch>(
+    session: &mut Session<FileModules<'a, A>>,
+    process: &CoreProcess<'_, '_, 'a>,
+    walk: &mut StackWalk<A::UnwindRegs>,
+) -> Result<NextFrame<A::UnwindRegs>, AllocError>
+    requires { IsSessionOf process.now session.old }
+    ensures next { IsAdvance result walk.new
+        (advance_of_thread A.stacks (process_seen process.now) (walk_of walk.old)) }
+    ensures session { IsSessionOf process.now session.new }
+{
+    next_in_memory::<A>(session, &process.memory, walk)
+}
+
+// Writes the lines of the frames of a walk, each before the next move is made, and the line of how the walk ends.
+fn write_walk<'a, A: ThreadArch, W: Sink>(
+    alloc: Global,
+    session: &mut Session<FileModules<'a, A>>,
+    process: &CoreProcess<'_, '_, 'a>,
+    options: &BacktraceOptions,
+    start: &ThreadStart<A::UnwindRegs>,
+    sink: &mut W,
+) -> Result<(), RunError>
+    requires session { IsSessionOf process.now session.old }
+    requires sink { W.has_failed sink.old ≡ false }
+    ensures text { Writes W.contents sink.old sink.new result
+        (walk_text A.stacks (process_seen process.now) options.now start.now) }
+    ensures errors { ReportsFailures result false (W.has_failed sink.new) }
+    ensures session { IsSessionOf process.now session.new }
+{
+    let mut walk = StackWalk::new(start.pc, start.registers);
+    for number in 0..options.limit {
+        match next_in::<A>(session, process, &mut walk)? {
+            NextFrame::Frame(frame) => {
+                let shown = shown_frame::<A>(alloc, process, options.registers, &frame)?;
+                write_frame(alloc, number, &shown, sink)?;
+            }
+            NextFrame::End(end) => return write_end(alloc, end, sink),
+        }
+    }
+    write_end(alloc, WalkEnd::LimitReached, sink)
+}
+
+// Writes the stack of a thread whose walk begins here.
+fn write_stack<'a, A: ThreadArch, W: Sink>(
+    alloc: Global,
+    session: &mut Session<FileModules<'a, A>>,
+    process: &CoreProcess<'_, '_, 'a>,
+    options: &BacktraceOptions,
+    id: u64,
+    start: &ThreadStart<A::UnwindRegs>,
+    sink: &mut W,
+) -> Result<(), RunError>
+    requires session { IsSessionOf process.now session.old }
+    requires sink { W.has_failed sink.old ≡ false }
+    ensures text { Writes W.contents sink.old sink.new result
+        (text_from A.stacks (process_seen process.now) options.now id start.now) }
+    ensures errors { ReportsFailures result false (W.has_failed sink.new) }
+    ensures session { IsSessionOf process.now session.new }
+{
+    write_thread(alloc, id, sink)?;
+    write_walk::<A, W>(alloc, session, process, options, start, sink)
+}
+
+// Whether a thread is asked for.
+fn is_chosen(thread: Option<u64>, id: u64) -> bool
+    ensures { result ≡ is_chosen thread id }
+{
+    match thread {
+        Some(thread) => thread == id,
+        None => true,
+    }
+}
+
+// Writes the stack of a thread, if it is asked for and has registers of the architecture.
+fn write_chosen<'a, A: ThreadArch, W: Sink>(
+    alloc: Global,
+    session: &mut Session<FileModules<'a, A>>,
+    process: &CoreProcess<'_, '_, 'a>,
+    options: &BacktraceOptions,
+    thread: &Thread,
+    sink: &mut W,
+) -> Result<(), RunError>
+    requires session { IsSessionOf process.now session.old }
+    requires sink { W.has_failed sink.old ≡ false }
+    ensures text { Writes W.contents sink.old sink.new result
+        (thread_text A.stacks (process_seen process.now) options.now thread.now) }
+    ensures errors { ReportsFailures result false (W.has_failed sink.new) }
+    ensures session { IsSessionOf process.now session.new }
+{
+    let id = u64::from(thread.id);
+    if !is_chosen(options.thread, id) {
+        return Ok(());
+    }
+    let Some(start) = A::start_of(thread) else {
+        return Ok(());
+    };
+    write_stack::<A, W>(alloc, session, process, options, id, &start, sink)
+}
+
+/// Writes the stacks of threads, in their order, of those that are asked for and have registers of the architecture, by a session with
+/// the modules of their process.
+pub fn write_threads<'a, A: ThreadArch, W: Sink>(
+    alloc: Global,
+    session: &mut Session<FileModules<'a, A>>,
+    process: &CoreProcess<'_, '_, 'a>,
+    options: &BacktraceOptions,
+    threads: &[Thread],
+    sink: &mut W,
+) -> Result<(), RunError>
+    requires session { IsSessionOf process.now session.old }
+    requires sink { W.has_failed sink.old ≡ false }
+    ensures text { Writes W.contents sink.old sink.new result
+        (threads_text A.stacks (process_seen process.now) options.now threads.now) }
+    ensures errors { ReportsFailures result false (W.has_failed sink.new) }
+{
+    for thread in threads {
+        write_chosen::<A, W>(alloc, session, process, options, thread, sink)?;
+    }
+    Ok(())
+}
