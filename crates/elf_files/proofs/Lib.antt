@@ -1,4 +1,6 @@
 pub mod FileTables
 pub mod FunctionLists
+pub mod Laws
 pub mod NoteLists
+pub mod Prefixes
 pub mod Tables

@@ -80,10 +80,13 @@ next_note alignment left =
 unfoldable pub notes_of : ℕ → NoteBytes → List (Result NoteParts ElfError)
 notes_of alignment left = items_of (λ left. length left.bytes) (next_note alignment) left
 
+-- The notes of a segment that has these bytes.
+abbrev pub notes_with : List ℕ → Segment → List (Result NoteParts ElfError)
+notes_with found segment = notes_of (note_alignment segment.alignment) (record { bytes = found; offset = segment.offset })
+
 -- The notes of a segment.
 abbrev pub segment_notes : List ℕ → Segment → ElfResult (List (Result NoteParts ElfError))
-segment_notes bytes segment =
-    segment_bytes bytes segment >>= (λ found. Ok (notes_of (note_alignment segment.alignment) (record { bytes = found; offset = segment.offset })))
+segment_notes bytes segment = segment_bytes bytes segment >>= (λ found. Ok (notes_with found segment))
 
 -- The notes of a section.
 abbrev pub section_notes : List ℕ → Section → ElfResult (List (Result NoteParts ElfError))
