@@ -3,7 +3,7 @@ use Rattle.std.proofs.Common.{◌≡◌, ℕ, suc, ◌+◌, ◌-◌, ◌*◌, �
 use Rattle.std.specs.Prelude.{Some, None, Ok, Err}
 use Rattle.std.specs.List.{find}
 use Rattle.core_files.specs.MappedFiles.{FileMapping}
-use Rattle.elf_files.specs.Bytes.{ElfResult, is_within}
+use Rattle.elf_files.specs.Bytes.{is_within}
 use Rattle.elf_files.specs.Segments.{all_segments, segment_at, segment_of}
 use Rattle.elf_files.specs.Tables.{entries}
 use Rattle.elf_files.specs.declared.error.ElfError.{ElfError}

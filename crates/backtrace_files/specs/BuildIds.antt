@@ -1,24 +1,18 @@
 -- Whether a file is the one that was mapped, by build ids.
-use Rattle.std.specs.Prelude.{ℕ, ◌-◌, ◌==◌, ◌&&◌, Bool, true, false, not, nat_le, nat_lt, bytes_eq, if◌then◌else◌, List, length, drop, Option, Some, None, option_and_then}
+use Rattle.std.specs.Prelude.{ℕ, ◌==◌, ◌&&◌, Bool, true, false, not, bytes_eq, List, Option, Some, None, option_and_then}
 use Rattle.std.specs.List.{find}
 use Rattle.std.specs.Result.{result_ok}
 use Rattle.list_laws.specs.First.{first_value}
 use Rattle.core_files.specs.CoreFiles.{CoreContents}
 use Rattle.core_files.specs.MappedFiles.{FileMapping}
-use Rattle.core_files.specs.Ranges.{KnownRange}
+use Rattle.core_files.specs.Ranges.{KnownRange, file_in}
 use Rattle.elf_files.specs.BuildIds.{build_id}
 use Rattle.elf_files.specs.Header.{header_of}
 use Rattle.elf_files.specs.declared.header.Header.{Header}
 
--- the bytes of a range from an address on, if it has that one
-abbrev pub bytes_from : ℕ → KnownRange → Option (List ℕ)
-bytes_from address range =
-    let offset = address - range.address in
-    if nat_le range.address address && nat_lt offset range.size && nat_lt offset (length range.bytes) then Some (drop offset range.bytes) else None
-
--- the same, of the first range that has some
-abbrev pub bytes_at : List KnownRange → ℕ → Option (List ℕ)
-bytes_at ranges address = first_value (bytes_from address) ranges
+-- the file that begins at an address of the first range in which one can
+abbrev pub file_at : List KnownRange → ℕ → Option (List ℕ)
+file_at ranges address = first_value (file_in address) ranges
 
 -- a mapping is of the first bytes of a file with this name
 abbrev pub begins_file : List ℕ → FileMapping → Bool
@@ -40,11 +34,11 @@ id_without_sections bytes = option_and_then (λ header. readable_id bytes (recor
 abbrev pub build_id_of : List ℕ → Option (List ℕ)
 build_id_of bytes = option_and_then (readable_id bytes) (result_ok (header_of bytes))
 
--- the build id of the file of this name that was mapped, by what the core has of its first bytes
+-- the build id of the file of this name that was mapped, by what the core has of it from its first byte on
 abbrev pub build_id_at : CoreContents → List ℕ → Option (List ℕ)
 build_id_at core name =
     option_and_then id_without_sections
-    (option_and_then (λ (mapping : FileMapping). bytes_at core.segments mapping.start) (first_mapping core.files name))
+    (option_and_then (λ (mapping : FileMapping). file_at core.segments mapping.start) (first_mapping core.files name))
 
 -- the first build id is known, and isn't the second
 abbrev pub differ : Option (List ℕ) → Option (List ℕ) → Bool

@@ -4,7 +4,7 @@ use Rattle.std.specs.Option.{option_map, option_to_list}
 use Rattle.core_files.specs.Auxv.{auxiliary_value}
 use Rattle.core_files.specs.CoreFiles.{CoreContents}
 use Rattle.core_files.specs.MappedFiles.{FileMapping}
-use Rattle.backtrace_files.specs.BuildIds.{bytes_at, has_other_build_id}
+use Rattle.backtrace_files.specs.BuildIds.{file_at, has_other_build_id}
 use Rattle.backtrace_files.specs.Files.{ProcessFile}
 
 -- the bytes that are given for a mapped file, unless the core says that they are another file's
@@ -39,10 +39,10 @@ object_at start bytes = record {
   bytes = Some bytes;
 }
 
--- the virtual shared object, whose address is that of AT_SYSINFO_EHDR
+-- the virtual shared object, a file at the address of AT_SYSINFO_EHDR
 abbrev pub shared_object : CoreContents → Option ProcessFile
 shared_object core =
-    option_and_then (λ start. option_map (object_at start) (bytes_at core.segments start)) (auxiliary_value core.auxv 33)
+    option_and_then (λ start. option_map (object_at start) (file_at core.segments start)) (auxiliary_value core.auxv 33)
 
 -- the mapped files, in the order of the core, and then the virtual shared object, if there is one
 abbrev pub process_files : CoreContents → List (Option (List ℕ)) → List ProcessFile

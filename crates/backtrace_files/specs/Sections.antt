@@ -1,5 +1,5 @@
 -- The sections of an ELF file, as an unwinder takes them.
-use Rattle.std.specs.Prelude.{ℕ, ◌+◌, ◌-◌, ◌^◌, ◌||◌, Bool, min, bytes_eq, codes, if◌then◌else◌, List, Option, Some, None, option_and_then}
+use Rattle.std.specs.Prelude.{ℕ, ◌+◌, ◌-◌, ◌^◌, ◌||◌, Bool, min, bytes_eq, codes, if◌then◌else◌, List, Option, None, option_and_then}
 use Rattle.std.specs.Option.{option_map}
 use Rattle.std.specs.Result.{result_ok}
 use Rattle.std.specs.declared.ops.Range.{Range}

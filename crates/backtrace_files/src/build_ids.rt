@@ -5,32 +5,18 @@ ghost use Rattle.std.specs.Option.{option_copied};
 ghost use Rattle.core_files.specs.CoreViews.{contents_of};
 ghost use Rattle.core_files.specs.FileViews.{mapping_of};
 ghost use Rattle.core_files.specs.NoteViews.{mappings_of};
-ghost use Rattle.core_files.specs.RangeViews.{ranges_seen, range_seen};
-ghost use Rattle.backtrace_files.specs.BuildIds.{build_id_at, build_id_of, bytes_at, bytes_from, begins_file, differ, first_mapping, id_without_sections, has_other_build_id};
+ghost use Rattle.core_files.specs.RangeViews.{ranges_seen};
+ghost use Rattle.backtrace_files.specs.BuildIds.{build_id_at, build_id_of, begins_file, differ, file_at, first_mapping, id_without_sections, has_other_build_id};
 
 use core_files::{CoreFile, MappedFile, MemoryRange};
 use elf_files::{ElfFile, Header};
 
-// The bytes of a range from an address in it on.
-fn bytes_from<'a>(range: &MemoryRange<'a>, address: u64) -> Option<&'a [u8]>
-    ensures { option_copied result ≡ bytes_from address (range_seen range.now) }
-{
-    let Some(offset) = address.checked_sub(range.address) else {
-        return None;
-    };
-    if offset < range.size && offset < range.bytes.len() as u64 {
-        Some(&range.bytes[offset as usize..])
-    } else {
-        None
-    }
-}
-
-/// The bytes that one segment has from an address on, of the first that has some there.
-pub(crate) fn bytes_at<'a>(segments: &[MemoryRange<'a>], address: u64) -> Option<&'a [u8]>
-    ensures { option_copied result ≡ bytes_at (ranges_seen segments.now) address }
+/// The bytes of the file that begins at an address, in the first segment in which one can.
+pub(crate) fn file_at<'a>(segments: &[MemoryRange<'a>], address: u64) -> Option<&'a [u8]>
+    ensures { option_copied result ≡ file_at (ranges_seen segments.now) address }
 {
     for segment in segments {
-        if let Some(bytes) = bytes_from(segment, address) {
+        if let Some(bytes) = segment.file_at(address) {
             return Some(bytes);
         }
     }
@@ -94,7 +80,7 @@ fn build_id_at<'a>(core: &CoreFile<'a>, name: &[u8]) -> Option<&'a [u8]>
     let Some(mapping) = first_mapping(core.mapped_files(), name) else {
         return None;
     };
-    let Some(bytes) = bytes_at(core.segments(), mapping.start) else {
+    let Some(bytes) = file_at(core.segments(), mapping.start) else {
         return None;
     };
     id_without_sections(bytes)

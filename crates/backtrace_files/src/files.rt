@@ -9,7 +9,7 @@ ghost use Rattle.backtrace_files.specs.FileViews.{file_seen};
 ghost use Rattle.backtrace_files.specs.ProcessFiles.{file_with, files_with, given_bytes, kept_bytes, process_files, shared_object};
 ghost use Rattle.backtrace_files.specs.Results.{IfOkAre};
 
-use crate::build_ids::{bytes_at, has_other_build_id};
+use crate::build_ids::{file_at, has_other_build_id};
 use crate::loaded_file::LoadedFile;
 use core_files::{CoreFile, MappedFile};
 use std::alloc::{AllocError, Global};
@@ -86,7 +86,7 @@ fn shared_object<'a>(core: &CoreFile<'a>) -> Option<LoadedFile<'a>>
     let Some(start) = core.auxiliary(AT_SYSINFO_EHDR) else {
         return None;
     };
-    let Some(bytes) = bytes_at(core.segments(), start) else {
+    let Some(bytes) = file_at(core.segments(), start) else {
         return None;
     };
     Some(LoadedFile {

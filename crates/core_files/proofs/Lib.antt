@@ -5,7 +5,9 @@ pub mod Files
 pub mod Growing
 pub mod Mapped
 pub mod NoteLaws
+pub mod Parts
 pub mod RangeLaws
 pub mod SeenRanges
 pub mod SegmentLaws
 pub mod Words
+pub mod Zeros

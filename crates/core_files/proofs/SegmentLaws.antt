@@ -3,8 +3,8 @@ use Rattle.std.proofs.Common.{◌≡◌, ℕ, suc, ◌+◌, ◌-◌, ◌<◌, Li
 use Rattle.std.proofs.lemmas.List.{map-append}
 use Rattle.std.specs.Prelude.{Result, Ok, Err}
 use Rattle.elf_files.specs.Bytes.{ElfResult}
-use Rattle.elf_files.specs.Notes.{NoteParts, segment_notes}
-use Rattle.elf_files.specs.Segments.{segment_at, segment_bytes}
+use Rattle.elf_files.specs.Notes.{NoteParts, notes_with}
+use Rattle.elf_files.specs.Segments.{segment_at}
 use Rattle.elf_files.specs.declared.error.ElfError.{ElfError}
 use Rattle.elf_files.specs.declared.header.Header.{Header}
 use Rattle.elf_files.specs.declared.segment.Segment.{Segment}
@@ -74,24 +74,24 @@ module _ {A : Type 0} (part : Segment → ElfResult (List A)) (bytes : List ℕ)
   pub segment-gives : (segment : Segment) → Ok segment ≡ segment_at bytes header index → in_segment part bytes header index ≡ part segment
   segment-gives segment at = rw (← at) refl
 
-module _ (bytes : List ℕ) (segment : Segment) where
+module _ (read : Segment → ElfResult (List ℕ)) (segment : Segment) where
   abbrev loaded : ElfResult (List KnownRange)
-  loaded = result_and_then (segment_bytes bytes segment) (λ found. Ok (record { address = segment.address; size = segment.memory_size; bytes = found } ∷ []))
+  loaded = result_and_then (read segment) (λ found. Ok (record { address = segment.address; size = segment.memory_size; bytes = found } ∷ []))
 
-  pub loaded-other : (segment.kind ≡ Load → ⊥) → loaded_in bytes segment ≡ Ok []
+  pub loaded-other : (segment.kind ≡ Load → ⊥) → loaded_in read segment ≡ Ok []
   loaded-other differs = load-other loaded (Ok []) segment.kind differs
 
-  pub loaded-here : (found : List ℕ) → segment.kind ≡ Load → segment_bytes bytes segment ≡ Ok found → loaded_in bytes segment ≡ Ok (record { address = segment.address; size = segment.memory_size; bytes = found } ∷ [])
+  pub loaded-here : (found : List ℕ) → segment.kind ≡ Load → read segment ≡ Ok found → loaded_in read segment ≡ Ok (record { address = segment.address; size = segment.memory_size; bytes = found } ∷ [])
   loaded-here found is at = load-is loaded (Ok []) segment.kind is ∙ rw at refl
 
   abbrev noted : ElfResult (List NoteParts)
-  noted = result_and_then (segment_notes bytes segment) all_ok
+  noted = result_and_then (read segment) (λ found. all_ok (notes_with found segment))
 
-  pub noted-other : (segment.kind ≡ Note → ⊥) → notes_in bytes segment ≡ Ok []
+  pub noted-other : (segment.kind ≡ Note → ⊥) → notes_in read segment ≡ Ok []
   noted-other differs = note-other noted (Ok []) segment.kind differs
 
-  pub noted-here : (left : List (Result NoteParts ElfError)) → segment.kind ≡ Note → segment_notes bytes segment ≡ Ok left → notes_in bytes segment ≡ all_ok left
-  noted-here left is at = note-is noted (Ok []) segment.kind is ∙ rw at refl
+  pub noted-here : (found : List ℕ) (left : List (Result NoteParts ElfError)) → segment.kind ≡ Note → read segment ≡ Ok found → left ≡ notes_with found segment → notes_in read segment ≡ all_ok left
+  noted-here found left is at same = note-is noted (Ok []) segment.kind is ∙ rw (at, same) refl
 
 -- ---- the notes of a segment one by one
 

@@ -1,16 +1,50 @@
 -- Words byte by byte, and in one range.
-use Rattle.std.proofs.Common.{◌≡◌, ℕ, zero, suc, ◌+◌, ◌-◌, ◌^◌, ◌<◌, ◌≤◌, true, false, List, [], ◌∷◌, length, get_or, take, drop, refl, ap, sym, ◌∙◌, arith, length-drop}
-use Rattle.std.specs.Prelude.{nat_le, slice_get, Option, Some, None}
+use Rattle.std.proofs.Common.{◌≡◌, ℕ, zero, suc, ◌+◌, ◌-◌, ◌^◌, ◌<◌, ◌≤◌, true, false, List, [], ◌∷◌, length, get_or, take, drop, replicate, refl, ap, sym, ◌∙◌, arith, length-drop, length-append}
+use Rattle.std.proofs.Math.Seq.{drop-append-add}
+use Rattle.std.specs.Prelude.{◌==◌, nat_le, slice_get, slice_index_or, Option, Some, None}
 use Rattle.std.specs.Option.{option_map, option_and_then}
 use Rattle.std.proofs.lemmas.Bool.Decides.{nat_tests}
-use Rattle.std.proofs.lemmas.List.{take_all, get_or-drop, get_or-take, length-take-le}
+use Rattle.std.proofs.lemmas.List.{take_all, get_or-drop, get_or-replicate, get_or-take, get_or_append_left, length-replicate, length-take-le}
 use Rattle.std.proofs.lemmas.Option.{slice_get-get_or}
 use Rattle.dwarf_endianity.specs.ByteOrder.{little_endian}
 use Rattle.elf_files.specs.Bytes.{number_at}
 use Rattle.core_files.specs.Bytes.{u64_at}
 use Rattle.core_files.specs.Memory.{byte_among, byte_at, bytes_from, word_at}
-use Rattle.core_files.specs.Ranges.{KnownRange, byte_in, range_at, IsIncreasing}
+use Rattle.core_files.specs.Ranges.{KnownRange, after_zeros, byte_in, contains, file_in, range_at, IsIncreasing}
 use Rattle.core_files.proofs.RangeLaws.{found-again}
+
+-- ---- bytes after zeros
+
+module _ (zeros : ℕ) (bytes : List ℕ) where
+  pub length-after-zeros : length (after_zeros zeros bytes) ≡ zeros + length bytes
+  length-after-zeros = simp (length-append, length-replicate)
+
+  pub byte-in-zeros : (place : ℕ) → place < zeros → slice_index_or (after_zeros zeros bytes) place 0 ≡ 0
+  byte-in-zeros place within = get_or_append_left (replicate zeros 0) bytes 0 place (omega (arith, length-replicate {A = ℕ} zeros 0)) ∙ get_or-replicate zeros place 0 0 within
+
+  module _ (place at : ℕ) (is : place ≡ zeros + at) where
+    pub zeros-dropped : drop place (after_zeros zeros bytes) ≡ drop at bytes
+    zeros-dropped =
+        let after : place ≡ length (replicate zeros 0) + at = omega (arith, is, length-replicate {A = ℕ} zeros 0) in
+        ap (λ (n : ℕ). drop n (after_zeros zeros bytes)) after ∙ drop-append-add (replicate zeros 0) bytes at
+
+    -- a byte after them, and one of them
+    pub byte-after-zeros : slice_index_or (after_zeros zeros bytes) place 0 ≡ slice_index_or bytes at 0
+    byte-after-zeros =
+        sym (get_or-drop place (after_zeros zeros bytes) 0 0 ∙ ap (λ (n : ℕ). get_or (after_zeros zeros bytes) n 0) (let same : place + 0 ≡ place = omega arith in same))
+        ∙ ap (λ (xs : List ℕ). get_or xs 0 0) zeros-dropped ∙ get_or-drop at bytes 0 0 ∙ ap (λ (n : ℕ). get_or bytes n 0) (let same : at + 0 ≡ at = omega arith in same)
+
+    pub word-after-zeros : u64_at (after_zeros zeros bytes) place ≡ u64_at bytes at
+    unfolding number_at
+    word-after-zeros = ap (λ (xs : List ℕ). little_endian (take 8 xs)) zeros-dropped
+
+-- ---- a file that begins in a range
+
+pub file-here : (range : KnownRange) (address : ℕ) (found : List ℕ) → contains address range ≡ true → slice_index_or range.bytes (address - range.address) 0 ≡ 0x7f
+    → found ≡ drop (address - range.address) range.bytes → Some found ≡ file_in address range
+file-here range address found here magic is =
+    let first : (slice_index_or range.bytes (address - range.address) 0 == 0x7f) ≡ true = grind (arith, nat_tests) in
+    rw (here, first, is) refl
 
 -- ---- a byte
 

@@ -1,9 +1,10 @@
 -- Core files (System V gABI, "ELF Header", ET_CORE; "Program Header"): loaded segments, and notes.
-use Rattle.std.specs.Prelude.{ℕ, zero, suc, ◌+◌, List, [], ◌∷◌, Result, Ok, Err}
-use Rattle.elf_files.specs.Bytes.{ElfResult}
+use Rattle.std.specs.Prelude.{◌≡◌, ℕ, zero, suc, ◌+◌, ◌^◌, ◌<◌, ◌==◌, nat_lt, List, [], ◌∷◌, ◌++◌, length, slice_get, Some, None, Result, Ok, Err}
+use Rattle.elf_files.specs.Bytes.{ElfResult, unless}
 use Rattle.elf_files.specs.Header.{header_of}
-use Rattle.elf_files.specs.Notes.{NoteParts, segment_notes}
+use Rattle.elf_files.specs.Notes.{NoteParts, notes_with}
 use Rattle.elf_files.specs.Segments.{segment_at, segment_bytes}
+use Rattle.elf_files.specs.declared.error.ElfError.TheVariants.{Truncated}
 use Rattle.elf_files.specs.declared.header.FileKind.TheVariants.{Core}
 use Rattle.elf_files.specs.declared.header.Header.{Header}
 use Rattle.elf_files.specs.declared.header.Machine.{Machine}
@@ -13,7 +14,7 @@ use Rattle.core_files.specs.declared.error.CoreError.TheVariants.{NotCore}
 use Rattle.core_files.specs.declared.thread.Thread.{Thread}
 use Rattle.core_files.specs.MappedFiles.{FileMapping}
 use Rattle.core_files.specs.Notes.{threads_of, files_of, auxv_of}
-use Rattle.core_files.specs.Ranges.{KnownRange}
+use Rattle.core_files.specs.Ranges.{KnownRange, after_zeros}
 use Rattle.core_files.specs.Refusals.{CoreResult, result_and_then, then_more, one, by_elf}
 
 -- All values, or the first error.
@@ -26,29 +27,36 @@ unfoldable pub gather : {A E : Type 0} → (ℕ → Result (List A) E) → ℕ �
 gather give first zero = Ok []
 gather give first (suc count) = then_more (give first) (gather give (first + 1) count)
 
--- What a loaded segment has in memory.
-abbrev pub loaded_in : List ℕ → Segment → ElfResult (List KnownRange)
-loaded_in bytes segment = elim segment.kind [
-  | Load ↦ result_and_then (segment_bytes bytes segment) (λ found.
+-- What gives the bytes of a segment with a number.
+abbrev pub SegmentReader : Type 0
+SegmentReader = ℕ → Segment → ElfResult (List ℕ)
+
+-- What a loaded segment has in memory, by its bytes.
+abbrev pub loaded_in : (Segment → ElfResult (List ℕ)) → Segment → ElfResult (List KnownRange)
+loaded_in read segment = elim segment.kind [
+  | Load ↦ result_and_then (read segment) (λ found.
       Ok (record { address = segment.address; size = segment.memory_size; bytes = found } ∷ []))
   | _ ↦ Ok []
 ]
 
--- The notes of a segment of notes.
-abbrev pub notes_in : List ℕ → Segment → ElfResult (List NoteParts)
-notes_in bytes segment = elim segment.kind [ Note ↦ result_and_then (segment_notes bytes segment) all_ok | _ ↦ Ok [] ]
+-- The notes of a segment of notes, by its bytes.
+abbrev pub notes_in : (Segment → ElfResult (List ℕ)) → Segment → ElfResult (List NoteParts)
+notes_in read segment = elim segment.kind [
+  | Note ↦ result_and_then (read segment) (λ found. all_ok (notes_with found segment))
+  | _ ↦ Ok []
+]
 
 -- What the segment with an index has.
 abbrev pub in_segment : {A : Type 0} → (Segment → ElfResult (List A)) → List ℕ → Header → ℕ → ElfResult (List A)
 in_segment part bytes header index = result_and_then (segment_at bytes header index) part
 
 -- The ranges of all loaded segments, in the order of their program headers.
-abbrev pub loaded_ranges : List ℕ → Header → ElfResult (List KnownRange)
-loaded_ranges bytes header = gather (in_segment (loaded_in bytes) bytes header) 0 header.segment_count
+abbrev pub loaded_ranges : SegmentReader → List ℕ → Header → ElfResult (List KnownRange)
+loaded_ranges read bytes header = gather (λ index. in_segment (loaded_in (read index)) bytes header index) 0 header.segment_count
 
 -- The notes of all segments of notes, in the same order.
-abbrev pub core_notes : List ℕ → Header → ElfResult (List NoteParts)
-core_notes bytes header = gather (in_segment (notes_in bytes) bytes header) 0 header.segment_count
+abbrev pub core_notes : SegmentReader → List ℕ → Header → ElfResult (List NoteParts)
+core_notes read bytes header = gather (λ index. in_segment (notes_in (read index)) bytes header index) 0 header.segment_count
 
 -- What a core says of its process.
 pub record CoreContents : Type 0 where
@@ -63,11 +71,58 @@ abbrev pub core_header : List ℕ → CoreResult Header
 core_header bytes = result_and_then (by_elf (header_of bytes)) (λ header. elim header.kind [ Core ↦ Ok header | _ ↦ Err NotCore ])
 
 -- What a file says, if it is a core, or the first refusal: of the header, the segments, the notes, the threads, and the mapped files.
-unfoldable pub core_of : List ℕ → CoreResult CoreContents
-core_of bytes =
+-- Its header and program headers are in these bytes; what gives those of loaded segments and of notes is said.
+unfoldable pub core_by : SegmentReader → SegmentReader → List ℕ → CoreResult CoreContents
+core_by loaded noted bytes =
     result_and_then (core_header bytes) (λ header.
-    result_and_then (by_elf (loaded_ranges bytes header)) (λ segments.
-    result_and_then (by_elf (core_notes bytes header)) (λ notes.
+    result_and_then (by_elf (loaded_ranges loaded bytes header)) (λ segments.
+    result_and_then (by_elf (core_notes noted bytes header)) (λ notes.
     result_and_then (threads_of header.machine 0 notes) (λ threads.
     result_and_then (files_of 0 notes) (λ files.
     Ok (record { machine = header.machine; segments = segments; threads = threads; files = files; auxv = auxv_of notes }))))))
+
+-- The same of a whole file.
+abbrev pub core_of : List ℕ → CoreResult CoreContents
+core_of bytes = core_by (λ index. segment_bytes bytes) (λ index. segment_bytes bytes) bytes
+
+-- ---- a file that is read in parts: its program headers, and the bytes of each segment
+
+-- The bytes of a segment: so many zeros, and others.
+pub record KnownPart : Type 0 where
+  pub zeros : ℕ
+  pub bytes : List ℕ
+
+-- All of them.
+abbrev pub part_bytes : KnownPart → List ℕ
+part_bytes part = after_zeros part.zeros part.bytes
+
+-- What comes next if a part has the bytes of a segment, as many as its program header says.
+abbrev pub if_part : {A : Type 0} → KnownPart → Segment → ElfResult A → ElfResult A
+if_part part segment next =
+    unless (nat_lt (segment.offset + segment.file_size) (2 ^ 64)) (Truncated segment.offset) (
+    unless (length (part_bytes part) == segment.file_size) (Truncated segment.offset) next)
+
+-- The bytes of the segment with a number.
+abbrev pub loaded_apart : List KnownPart → SegmentReader
+loaded_apart parts index segment = elim (slice_get parts index) [
+  | None ↦ Err (Truncated segment.offset)
+  | Some part ↦ if_part part segment (Ok (part_bytes part))
+]
+
+-- The same, if none of them are kept as a number of zeros.
+abbrev pub noted_apart : List KnownPart → SegmentReader
+noted_apart parts index segment = elim (slice_get parts index) [
+  | None ↦ Err (Truncated segment.offset)
+  | Some part ↦ if_part part segment (unless (part.zeros == 0) (Truncated segment.offset) (Ok part.bytes))
+]
+
+-- What the parts say.
+abbrev pub core_in_parts : List ℕ → List KnownPart → CoreResult CoreContents
+core_in_parts head parts = core_by (loaded_apart parts) (noted_apart parts) head
+
+-- A file has these parts: it begins with these bytes, and has those of each segment where its program header says.
+abbrev pub HasParts : List ℕ → List ℕ → List KnownPart → Type 0
+HasParts bytes head parts =
+    ((rest : List ℕ) × (bytes ≡ head ++ rest))
+    × ((header : Header) (index : ℕ) (segment : Segment) (found : List ℕ) → header_of head ≡ Ok header → index < header.segment_count
+    → segment_at head header index ≡ Ok segment → loaded_apart parts index segment ≡ Ok found → segment_bytes bytes segment ≡ Ok found)

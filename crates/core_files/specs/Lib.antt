@@ -14,3 +14,4 @@ pub mod Prstatus
 pub mod RangeViews
 pub mod Ranges
 pub mod Refusals
+pub mod SegmentViews

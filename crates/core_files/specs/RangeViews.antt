@@ -1,11 +1,11 @@
 -- What contracts see of ranges.
 use Rattle.std.specs.Prelude.{List, map}
 use Rattle.core_files.specs.declared.memory_range.MemoryRange.{MemoryRange}
-use Rattle.core_files.specs.Ranges.{KnownRange}
+use Rattle.core_files.specs.Ranges.{KnownRange, after_zeros}
 
 -- A range, with its bytes.
 abbrev pub range_seen : MemoryRange → KnownRange
-range_seen range = record { address = range.address; size = range.size; bytes = range.bytes.now }
+range_seen range = record { address = range.address; size = range.size; bytes = after_zeros range.zeros range.bytes.now }
 
 -- Ranges, with their bytes.
 abbrev pub ranges_seen : List MemoryRange → List KnownRange

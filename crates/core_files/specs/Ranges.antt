@@ -1,7 +1,11 @@
 -- Ranges of addresses, each with the bytes of its first addresses, as far as they are known.
-use Rattle.std.specs.Prelude.{ℕ, ◌≡◌, ◌+◌, ◌-◌, ◌≤◌, ◌&&◌, Bool, true, false, nat_le, nat_lt, List, length, slice_get, Option}
+use Rattle.std.specs.Prelude.{ℕ, ◌≡◌, ◌+◌, ◌-◌, ◌≤◌, ◌==◌, ◌&&◌, Bool, true, false, nat_le, nat_lt, if◌then◌else◌, List, ◌++◌, length, drop, replicate, slice_get, slice_index_or, Option, Some, None}
 use Rattle.std.specs.List.{find, AllAdjacentBelow}
 use Rattle.std.specs.List.Sorted.{IsPartitionPoint}
+
+-- So many zeros, and then other bytes.
+abbrev pub after_zeros : ℕ → List ℕ → List ℕ
+after_zeros zeros bytes = replicate zeros 0 ++ bytes
 
 -- A range: its first address, how many addresses it has, and the bytes of the first ones.
 pub record KnownRange : Type 0 where
@@ -20,6 +24,12 @@ range_at ranges address = find (contains address) ranges
 -- The byte at an address that a range contains, if it is known.
 abbrev pub byte_in : ℕ → KnownRange → Option ℕ
 byte_in address range = slice_get range.bytes (address - range.address)
+
+-- The bytes of a range from an address on, if it has that one, and an ELF file can begin there (gABI, "ELF Identification": EI_MAG0).
+abbrev pub file_in : ℕ → KnownRange → Option (List ℕ)
+file_in address range =
+    let offset = address - range.address in
+    if contains address range && (slice_index_or range.bytes offset 0 == 0x7f) then Some (drop offset range.bytes) else None
 
 -- One range ends where another begins, or before it.
 abbrev pub IsBefore : KnownRange → KnownRange → Type 0

@@ -1,12 +1,14 @@
 //! A core file.
 
-ghost use Rattle.std.specs.Prelude.{◌≡◌};
+ghost use Rattle.std.specs.Prelude.{◌≡◌, List, ℕ, Ok, IfOk};
 ghost use Rattle.core_files.specs.Auxv.{auxiliary_value};
-ghost use Rattle.core_files.specs.CoreFiles.{core_of};
+ghost use Rattle.std.specs.Option.{option_copied};
+ghost use Rattle.core_files.specs.CoreFiles.{HasParts, core_by, core_in_parts, core_of};
 ghost use Rattle.core_files.specs.HeaderViews.{IsCore};
 ghost use Rattle.core_files.specs.NoteViews.{mappings_of};
 ghost use Rattle.core_files.specs.RangeViews.{ranges_seen};
 ghost use Rattle.core_files.specs.Refusals.{Gives};
+ghost use Rattle.core_files.specs.SegmentViews.{loaded_by, noted_by, parts_seen};
 
 use crate::auxv::read_auxiliary;
 use crate::error::CoreError;
@@ -14,6 +16,7 @@ use crate::mapped_files::MappedFile;
 use crate::memory::Memory;
 use crate::memory_range::MemoryRange;
 use crate::notes::{auxv_of, files_of, threads_of};
+use crate::segment_bytes::SegmentBytes;
 use crate::segments::{core_notes, loaded_ranges};
 use crate::thread::Thread;
 use elf_files::{ElfFile, FileKind, Machine};
@@ -44,14 +47,18 @@ impl<'a> CoreFile<'a> {
     ghost use Rattle.core_files.specs.CoreViews.{contents_of};
     ghost use Rattle.core_files.specs.MemoryViews.{segments_of, files_of};
 
-    /// The core file with these bytes, which are read in place. Fails with the first refusal of the header, the loaded segments,
-    /// the notes, the threads and the mapped files, or if memory is refused.
-    pub fn parse(alloc: Global, bytes: &'a [u8]) -> Result<Self, CoreError>
-        ensures { Gives contents_of result (core_of bytes.now) }
+    // The core file that begins with these bytes, and whose segments were read apart or are in them too.
+    fn read(
+        alloc: Global,
+        bytes: &'a [u8],
+        parts: Option<&'a [SegmentBytes]>,
+    ) -> Result<Self, CoreError>
+        ensures { Gives contents_of result (core_by (loaded_by (option_copied parts.entry) bytes.now)
+            (noted_by (option_copied parts.entry) bytes.now) bytes.now) }
     {
         let elf = core_header(bytes)?;
-        let segments = loaded_ranges(alloc, &elf)?;
-        let notes = core_notes(alloc, &elf)?;
+        let segments = loaded_ranges(alloc, &elf, parts)?;
+        let notes = core_notes(alloc, &elf, parts)?;
         let threads = threads_of(alloc, elf.machine(), &notes)?;
         let mapped_files = files_of(alloc, &notes)?;
         Ok(CoreFile {
@@ -61,6 +68,30 @@ impl<'a> CoreFile<'a> {
             mapped_files,
             auxv: auxv_of(&notes),
         })
+    }
+
+    /// The core file with these bytes, which are read in place. Fails with the first refusal of the header, the loaded segments,
+    /// the notes, the threads and the mapped files, or if memory is refused.
+    pub fn parse(alloc: Global, bytes: &'a [u8]) -> Result<Self, CoreError>
+        ensures { Gives contents_of result (core_of bytes.now) }
+    {
+        CoreFile::read(alloc, bytes, None)
+    }
+
+    /// The core file that begins with the bytes of `head`, which its program headers are in. `parts` has the bytes of each loaded
+    /// segment and of each segment of notes at the index of its program header. Fails as `parse` does, and with `Truncated` if a
+    /// program header isn't in `head`, if the bytes of a segment are not as many as it has in the file, or if notes begin with
+    /// zeros that aren't kept.
+    pub fn parse_in_parts(
+        alloc: Global,
+        head: &'a [u8],
+        parts: &'a [SegmentBytes],
+    ) -> Result<Self, CoreError>
+        ensures parts { Gives contents_of result (core_in_parts head.now (parts_seen parts.now)) }
+        ensures whole { IfOk result (λ core. (bytes : List ℕ) → HasParts bytes head.now (parts_seen parts.now)
+            → core_of bytes ≡ Ok (contents_of core)) }
+    {
+        CoreFile::read(alloc, head, Some(parts))
     }
 
     /// The machine.

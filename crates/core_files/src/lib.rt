@@ -14,6 +14,7 @@ mod pac_mask;
 mod prstatus;
 mod ranges;
 mod registers;
+mod segment_bytes;
 mod segments;
 mod thread;
 
@@ -26,4 +27,5 @@ pub use memory_range::MemoryRange;
 pub use pac_mask::{PointerAuthenticationMasks, read_pac_mask};
 pub use prstatus::{Prstatus, read_prstatus_aarch64, read_prstatus_x86_64};
 pub use registers::{ThreadRegisters, UserRegsAarch64, UserRegsX86_64};
+pub use segment_bytes::SegmentBytes;
 pub use thread::Thread;

@@ -33,6 +33,7 @@ impl MappedFile<'_> {
         MemoryRange {
             address: self.start,
             size: self.end.saturating_sub(self.start),
+            zeros: 0,
             bytes: bytes_after(file, offset),
         }
     }

@@ -70,11 +70,16 @@ impl<'m, 'a> Memory<'m, 'a> {
             return None;
         };
         let offset = address - segment.address;
-        let last = offset + (WORD_SIZE - 1);
-        if last >= segment.size || last >= segment.bytes.len() as u64 {
+        if offset + (WORD_SIZE - 1) >= segment.size {
             return None;
         }
-        Some(u64_at(segment.bytes, offset as usize))
+        let Some(at) = offset.checked_sub(segment.zeros) else {
+            return None;
+        };
+        if at + (WORD_SIZE - 1) >= segment.bytes.len() as u64 {
+            return None;
+        }
+        Some(u64_at(segment.bytes, at as usize))
     }
 
     /// The word of 64 bits at an address, if its eight bytes are known, in one segment or more. The lowest byte is first.

@@ -1,54 +1,139 @@
 //! What the segments of a core have.
 
-ghost use Rattle.std.specs.Prelude.{◌≡◌, ◌<◌};
-ghost use Rattle.core_files.specs.CoreFiles.{all_ok, in_segment, loaded_in, loaded_ranges, notes_in, core_notes};
+ghost use Rattle.std.specs.Prelude.{◌≡◌, ◌<◌, ◌+◌, ◌^◌, length, Ok, Err, IfOk, IfErr};
+ghost use Rattle.std.specs.Option.{option_copied};
+ghost use Rattle.core_files.specs.CoreFiles.{all_ok, core_notes, in_segment, loaded_apart, loaded_in, loaded_ranges, noted_apart, notes_in};
 ghost use Rattle.core_files.specs.NoteViews.{notes_seen};
 ghost use Rattle.core_files.specs.RangeViews.{ranges_seen};
+ghost use Rattle.core_files.specs.Ranges.{after_zeros};
 ghost use Rattle.core_files.specs.Refusals.{Appends, Gives, by_elf};
+ghost use Rattle.core_files.specs.SegmentViews.{loaded_by, noted_by, parts_seen};
 
 use crate::error::CoreError;
 use crate::lists::push;
 use crate::memory_range::MemoryRange;
-use elf_files::{ElfFile, Note, Notes, SegmentKind};
+use crate::segment_bytes::SegmentBytes;
+use elf_files::{ElfError, ElfFile, Note, Notes, Segment, SegmentKind};
 use std::alloc::Global;
+
+// The bytes of a loaded segment, by those that were read of it: how many zeros there are first, and the others.
+fn loaded_apart<'a>(
+    parts: &'a [SegmentBytes],
+    index: u32,
+    segment: &Segment,
+) -> Result<(u64, &'a [u8]), ElfError>
+    ensures ok { IfOk result (λ found. loaded_apart (parts_seen parts.now) index segment.now
+        ≡ Ok (after_zeros found.0 found.1.now)) }
+    ensures err { IfErr result (λ e. loaded_apart (parts_seen parts.now) index segment.now ≡ Err e) }
+{
+    match parts.get(index as usize) {
+        Some(part) if part.is_of(segment) => Ok((part.zeros, part.bytes.as_slice())),
+        _ => Err(ElfError::Truncated {
+            offset: segment.offset,
+        }),
+    }
+}
+
+// The bytes of a segment of notes, by those that were read of it.
+fn noted_apart<'a>(
+    parts: &'a [SegmentBytes],
+    index: u32,
+    segment: &Segment,
+) -> Result<&'a [u8], ElfError>
+    ensures ok { IfOk result (λ found. noted_apart (parts_seen parts.now) index segment.now ≡ Ok found.now) }
+    ensures err { IfErr result (λ e. noted_apart (parts_seen parts.now) index segment.now ≡ Err e) }
+    ensures within { IfOk result (λ found. segment.now.offset + length found.now < 2 ^ 64) }
+{
+    match parts.get(index as usize) {
+        Some(part) if part.is_of(segment) && part.zeros == 0 => Ok(part.bytes.as_slice()),
+        _ => Err(ElfError::Truncated {
+            offset: segment.offset,
+        }),
+    }
+}
+
+// The bytes of the loaded segment with a number: how many zeros there are first, and the others.
+fn loaded_bytes<'a>(
+    elf: &ElfFile<'a>,
+    parts: Option<&'a [SegmentBytes]>,
+    index: u32,
+    segment: &Segment,
+) -> Result<(u64, &'a [u8]), ElfError>
+    ensures ok { IfOk result (λ found. loaded_by (option_copied parts.entry) elf.now.bytes.now index segment.now
+        ≡ Ok (after_zeros found.0 found.1.now)) }
+    ensures err { IfErr result
+        (λ e. loaded_by (option_copied parts.entry) elf.now.bytes.now index segment.now ≡ Err e) }
+{
+    match parts {
+        Some(parts) => loaded_apart(parts, index, segment),
+        None => {
+            let bytes = elf.segment_bytes(segment)?;
+            Ok((0, bytes))
+        }
+    }
+}
+
+// The bytes of the segment of notes with a number.
+fn noted_bytes<'a>(
+    elf: &ElfFile<'a>,
+    parts: Option<&'a [SegmentBytes]>,
+    index: u32,
+    segment: &Segment,
+) -> Result<&'a [u8], ElfError>
+    ensures ok { IfOk result
+        (λ found. noted_by (option_copied parts.entry) elf.now.bytes.now index segment.now ≡ Ok found.now) }
+    ensures err { IfErr result
+        (λ e. noted_by (option_copied parts.entry) elf.now.bytes.now index segment.now ≡ Err e) }
+    ensures within { IfOk result (λ found. segment.now.offset + length found.now < 2 ^ 64) }
+{
+    match parts {
+        Some(parts) => noted_apart(parts, index, segment),
+        None => elf.segment_bytes(segment),
+    }
+}
 
 // Adds what a loaded segment has in memory.
 fn push_loaded<'a>(
     ranges: &mut Vec<MemoryRange<'a>>,
     elf: &ElfFile<'a>,
+    parts: Option<&'a [SegmentBytes]>,
     index: u32,
 ) -> Result<(), CoreError>
     requires { index < elf.now.header.segment_count }
     ensures { Appends (ranges_seen ranges.old.items) (ranges_seen ranges.new.items) result
-        (by_elf (in_segment (loaded_in elf.now.bytes.now) elf.now.bytes.now elf.now.header index)) }
+        (by_elf (in_segment (loaded_in (loaded_by (option_copied parts.entry) elf.now.bytes.now index))
+        elf.now.bytes.now elf.now.header index)) }
 {
     let segment = elf.segment(index)?;
     let SegmentKind::Load = segment.kind else {
         return Ok(());
     };
-    let bytes = elf.segment_bytes(&segment)?;
+    let (zeros, bytes) = loaded_bytes(elf, parts, index, &segment)?;
     push(
         ranges,
         MemoryRange {
             address: segment.address,
             size: segment.memory_size,
+            zeros,
             bytes,
         },
     )?;
     Ok(())
 }
 
-/// The loaded segments.
+/// The loaded segments, whose bytes were read apart or are in the file's.
 pub(crate) fn loaded_ranges<'a>(
     alloc: Global,
     elf: &ElfFile<'a>,
+    parts: Option<&'a [SegmentBytes]>,
 ) -> Result<Vec<MemoryRange<'a>>, CoreError>
     ensures { Gives (λ ranges. ranges_seen ranges.items) result
-        (by_elf (loaded_ranges elf.now.bytes.now elf.now.header)) }
+        (by_elf (loaded_ranges (loaded_by (option_copied parts.entry) elf.now.bytes.now)
+        elf.now.bytes.now elf.now.header)) }
 {
     let mut ranges = Vec::new(alloc);
     for index in 0..elf.segment_count() {
-        push_loaded(&mut ranges, elf, index)?;
+        push_loaded(&mut ranges, elf, parts, index)?;
     }
     Ok(ranges)
 }
@@ -67,27 +152,41 @@ fn push_all<'a>(notes: &mut Vec<Note<'a>>, all: Notes<'a>) -> Result<(), CoreErr
 }
 
 // Adds the notes of a segment of notes.
-fn push_notes<'a>(notes: &mut Vec<Note<'a>>, elf: &ElfFile<'a>, index: u32) -> Result<(), CoreError>
+fn push_notes<'a>(
+    notes: &mut Vec<Note<'a>>,
+    elf: &ElfFile<'a>,
+    parts: Option<&'a [SegmentBytes]>,
+    index: u32,
+) -> Result<(), CoreError>
     requires { index < elf.now.header.segment_count }
     ensures { Appends (notes_seen notes.old.items) (notes_seen notes.new.items) result
-        (by_elf (in_segment (notes_in elf.now.bytes.now) elf.now.bytes.now elf.now.header index)) }
+        (by_elf (in_segment (notes_in (noted_by (option_copied parts.entry) elf.now.bytes.now index))
+        elf.now.bytes.now elf.now.header index)) }
 {
     let segment = elf.segment(index)?;
     let SegmentKind::Note = segment.kind else {
         return Ok(());
     };
-    let all = elf.segment_notes(&segment)?;
-    push_all(notes, all)
+    let bytes = noted_bytes(elf, parts, index, &segment)?;
+    push_all(
+        notes,
+        Notes::new_at(bytes, segment.alignment, segment.offset),
+    )
 }
 
-/// The notes.
-pub(crate) fn core_notes<'a>(alloc: Global, elf: &ElfFile<'a>) -> Result<Vec<Note<'a>>, CoreError>
+/// The notes, whose bytes were read apart or are in the file's.
+pub(crate) fn core_notes<'a>(
+    alloc: Global,
+    elf: &ElfFile<'a>,
+    parts: Option<&'a [SegmentBytes]>,
+) -> Result<Vec<Note<'a>>, CoreError>
     ensures { Gives (λ notes. notes_seen notes.items) result
-        (by_elf (core_notes elf.now.bytes.now elf.now.header)) }
+        (by_elf (core_notes (noted_by (option_copied parts.entry) elf.now.bytes.now)
+        elf.now.bytes.now elf.now.header)) }
 {
     let mut notes = Vec::new(alloc);
     for index in 0..elf.segment_count() {
-        push_notes(&mut notes, elf, index)?;
+        push_notes(&mut notes, elf, parts, index)?;
     }
     Ok(notes)
 }

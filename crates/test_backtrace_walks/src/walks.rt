@@ -159,6 +159,7 @@ fn over_the_memory_of_a_process(rt: HostRuntime) -> Result<(), Fail> {
     let segments = [MemoryRange {
         address: STACK,
         size: 48,
+        zeros: 0,
         bytes: &bytes,
     }];
     let memory = Memory::new(&segments, &[]);

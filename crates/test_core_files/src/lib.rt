@@ -10,6 +10,8 @@ mod memory;
 #[cfg(test)]
 mod notes;
 #[cfg(test)]
+mod parts;
+#[cfg(test)]
 mod real;
 #[cfg(test)]
 mod real_cores;

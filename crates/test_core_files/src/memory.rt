@@ -11,6 +11,7 @@ fn range<'a>(address: u64, size: u64, bytes: &'a [u8]) -> MemoryRange<'a> {
     MemoryRange {
         address,
         size,
+        zeros: 0,
         bytes,
     }
 }

@@ -1,4 +1,4 @@
-use Rattle.std.proofs.Common.{◌≡◌, true, false, sym, ap, ◌∙◌, arith}
+use Rattle.std.proofs.Common.{◌≡◌, false, sym, ap, ◌∙◌, arith}
 use Rattle.core_files.specs.FileViews.{mapping_of}
 use Rattle.elf_files.specs.Segments.{segment_of}
 use Rattle.backtrace_files.specs.Files.{has_code_of}

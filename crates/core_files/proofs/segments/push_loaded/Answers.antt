@@ -1,24 +1,28 @@
 use Rattle.std.proofs.Common.{[], sym, ap, ◌∙◌}
+use Rattle.std.specs.Option.{option_copied}
 use Rattle.std.proofs.lemmas.List.{append-nil, map-append}
 use Rattle.core_files.specs.CoreFiles.{loaded_in}
 use Rattle.core_files.specs.RangeViews.{range_seen, ranges_seen}
 use Rattle.core_files.specs.Refusals.{by_elf}
+use Rattle.core_files.specs.SegmentViews.{loaded_by}
 use Rattle.core_files.proofs.SegmentLaws.{segment-gives, loaded-other, loaded-here}
 use Rattle.core_files.proofs.segments.push_loaded.Goals as goal
 
 pub returns-in_default : goal.returns-in_default
 returns-in_default c =
-    let elf = c.args.elf.now in (
+    let elf = c.args.elf.now in
+    let read = loaded_by (option_copied c.args.parts) elf.bytes.now c.args.index in (
       [],
-      ap by_elf (segment-gives (loaded_in elf.bytes.now) elf.bytes.now elf.header c.args.index c.in_ok-segment.segment c.in_ok-segment.ensures ∙ loaded-other elf.bytes.now c.in_ok-segment.segment c.in_default.not-Load),
+      ap by_elf (segment-gives (loaded_in read) elf.bytes.now elf.header c.args.index c.in_ok-segment.segment c.in_ok-segment.ensures ∙ loaded-other read c.in_ok-segment.segment c.in_default.not-Load),
       sym (append-nil (ranges_seen c.args.ranges.now.items)),
     )
 
 pub returns : goal.returns
 returns c =
-    let elf = c.args.elf.now in (
+    let elf = c.args.elf.now in
+    let read = loaded_by (option_copied c.args.parts) elf.bytes.now c.args.index in (
       _,
-      ap by_elf (segment-gives (loaded_in elf.bytes.now) elf.bytes.now elf.header c.args.index c.in_ok-segment.segment c.in_ok-segment.ensures
-          ∙ loaded-here elf.bytes.now c.in_ok-segment.segment c.in_ok-bytes.bytes.now c.in-Load.is c.in_ok-bytes.ensures.ok),
+      ap by_elf (segment-gives (loaded_in read) elf.bytes.now elf.header c.args.index c.in_ok-segment.segment c.in_ok-segment.ensures
+          ∙ loaded-here read c.in_ok-segment.segment _ c.in-Load.is c.in_ok-zeros.ensures.ok),
       ap ranges_seen c.in_ok-push.ensures.ok ∙ map-append range_seen c.args.ranges.now.items _,
     )

@@ -1,0 +1,62 @@
+//! The bytes of a segment that is read in blocks.
+
+ghost use Rattle.std.specs.Prelude.{◌≡◌, ◌↔◌, ◌+◌, ◌^◌, ◌<◌, ◌++◌, [], length, IsTrue, OnOk, OnErr};
+ghost use Rattle.core_files.specs.SegmentViews.{all_zero};
+
+use elf_files::Segment;
+use std::alloc::{AllocError, Global};
+
+/// The bytes of a segment. Of the zeros that it begins with only the number is kept, since most of a stack is never used.
+#[derive(Debug, Drop)]
+pub struct SegmentBytes {
+    pub(crate) zeros: u64,
+    pub(crate) bytes: Vec<u8>,
+}
+
+// Whether all bytes are 0. No branch is taken for one of them, so that many are looked at at once.
+fn all_zero(block: &[u8]) -> bool
+    ensures { result ≡ all_zero block.now }
+{
+    let mut any = 0;
+    for byte in block {
+        any |= *byte;
+    }
+    any == 0
+}
+
+impl SegmentBytes {
+    ghost use Rattle.core_files.specs.SegmentViews.{bytes_kept};
+
+    /// No bytes yet.
+    pub fn new(alloc: Global) -> Self
+        ensures { bytes_kept result ≡ [] }
+    {
+        SegmentBytes {
+            zeros: 0,
+            bytes: Vec::new(alloc),
+        }
+    }
+
+    /// Adds the bytes of the block that comes next. Fails if memory is refused, and then changes nothing.
+    pub fn push(&mut self, block: &[u8]) -> Result<(), AllocError>
+        ensures ok { OnOk result (bytes_kept self.new ≡ bytes_kept self.old ++ block.now) }
+        ensures err { OnErr result (bytes_kept self.new ≡ bytes_kept self.old) }
+    {
+        if self.bytes.as_slice().is_empty() && all_zero(block) {
+            if let Some(zeros) = self.zeros.checked_add(block.len() as u64) {
+                self.zeros = zeros;
+                return Ok(());
+            }
+        }
+        self.bytes.extend_from_slice(block)
+    }
+
+    // Whether there are as many bytes as a segment has.
+    pub(crate) fn is_of(&self, segment: &Segment) -> bool
+        ensures { IsTrue result ↔ (segment.now.offset + segment.now.file_size < 2 ^ 64)
+            × (length (bytes_kept self.now) ≡ segment.now.file_size) }
+    {
+        segment.offset.checked_add(segment.file_size).is_some()
+            && self.zeros.checked_add(self.bytes.len() as u64) == Some(segment.file_size)
+    }
+}
