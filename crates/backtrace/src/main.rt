@@ -6,6 +6,7 @@
 #![tactic(auto)]
 
 mod arguments;
+mod core_parts;
 mod files;
 mod lint;
 
@@ -15,6 +16,7 @@ use backtrace_files::has_other_build_id;
 use backtrace_text::push_name;
 use backtrace_walks::write_stacks;
 use core_files::{CoreError, CoreFile, Thread};
+use core_parts::read_parts;
 use files::{NamedFile, contents_of, read_files};
 use json_program::Streamed;
 use lint::lint_files;
@@ -84,8 +86,8 @@ fn print_stacks(
     Ok(ExitCode::SUCCESS)
 }
 
-// Reads a core, and prints its stacks.
-fn run(rt: &HostRuntime, request: &CoreRequest<'_>) -> Result<ExitCode> {
+// Reads a core whole, and prints its stacks, or says what fault it has.
+fn run_whole(rt: &HostRuntime, request: &CoreRequest<'_>) -> Result<ExitCode> {
     let path = request.core;
     let bytes = fs::read(rt, path).context(format_args!("{path}"))?;
     match CoreFile::parse(rt.alloc(), bytes.as_slice()) {
@@ -96,6 +98,23 @@ fn run(rt: &HostRuntime, request: &CoreRequest<'_>) -> Result<ExitCode> {
             Ok(ExitCode::from(FAULTY))
         }
     }
+}
+
+// Reads a core, and prints its stacks. What can't be read in parts, or has a fault, is read whole.
+fn run(rt: &HostRuntime, request: &CoreRequest<'_>) -> Result<ExitCode> {
+    let path = request.core;
+    if let Some(parts) = read_parts(rt, path).context(format_args!("{path}"))? {
+        match CoreFile::parse_in_parts(
+            rt.alloc(),
+            parts.head.as_slice(),
+            parts.segments.as_slice(),
+        ) {
+            Ok(core) => return print_stacks(rt, &core, request),
+            Err(CoreError::OutOfMemory) => bail!("out of memory"),
+            Err(_) => {}
+        }
+    }
+    run_whole(rt, request)
 }
 
 fn main(rt: HostRuntime) -> Result<ExitCode> {

@@ -1,0 +1,123 @@
+//! A core, as the system gives it: in parts, so that the pages of stacks that were never used take no memory. They are most of a
+//! core of many threads.
+
+use anyhow::Result;
+use core_files::SegmentBytes;
+use elf_files::{ElfError, ElfFile, FileKind, Segment, SegmentKind};
+use std::fs::File;
+use std::os::unix::fs::FileExt;
+
+/// A core that was read in parts.
+#[derive(Debug, Drop)]
+pub(crate) struct CoreParts {
+    /// The first bytes, in which the program headers are.
+    pub(crate) head: Vec<u8>,
+    /// For each program header the bytes of its segment, if that is loaded or has notes, and else none.
+    pub(crate) segments: Vec<SegmentBytes>,
+}
+
+// How many bytes are read at once.
+const BLOCK_SIZE: u64 = 1 << 16;
+
+// The size of an ELF header, and that of a program header.
+const ELF_HEADER_SIZE: u64 = 64;
+
+const PROGRAM_HEADER_SIZE: u64 = 56;
+
+// So many bytes of a file from its start on.
+fn first_bytes(rt: &HostRuntime, file: &File, size: u64) -> Result<Vec<u8>> {
+    let mut bytes = Vec::new(rt.alloc());
+    bytes.resize(size as usize, 0)?;
+    file.read_exact_at(&mut bytes, 0)?;
+    Ok(bytes)
+}
+
+// Where the program headers of a core end; none if it isn't one, or if its header needs more than is there.
+fn headers_end(start: &[u8]) -> Option<u64> {
+    let Ok(elf) = ElfFile::parse(start) else {
+        return None;
+    };
+    let FileKind::Core = elf.kind() else {
+        return None;
+    };
+    let size = PROGRAM_HEADER_SIZE * u64::from(elf.segment_count());
+    elf.header.segment_table.checked_add(size)
+}
+
+// Whether the bytes of a segment are read.
+fn is_read(segment: &Segment) -> bool {
+    matches!(segment.kind, SegmentKind::Load | SegmentKind::Note)
+}
+
+// How many bytes the segments have that are read; none if one of them isn't all in the file of this size.
+fn segments_size(elf: &ElfFile<'_>, size: u64) -> Result<Option<u64>, ElfError> {
+    let mut all = 0u64;
+    for index in 0..elf.segment_count() {
+        let segment = elf.segment(index)?;
+        if is_read(&segment) {
+            if segment.offset.saturating_add(segment.file_size) > size {
+                return Ok(None);
+            }
+            all = all.saturating_add(segment.file_size);
+        }
+    }
+    Ok(Some(all))
+}
+
+// The bytes of a segment, block by block.
+fn read_segment(rt: &HostRuntime, file: &File, segment: &Segment) -> Result<SegmentBytes> {
+    let mut bytes = SegmentBytes::new(rt.alloc());
+    let mut block = Vec::new(rt.alloc());
+    block.resize(segment.file_size.min(BLOCK_SIZE) as usize, 0)?;
+    for number in 0..segment.file_size.div_ceil(BLOCK_SIZE) {
+        let before = number.saturating_mul(BLOCK_SIZE);
+        let size = segment.file_size.saturating_sub(before).min(BLOCK_SIZE);
+        let part = &mut block[..size as usize];
+        file.read_exact_at(part, segment.offset.saturating_add(before))?;
+        bytes.push(part)?;
+    }
+    Ok(bytes)
+}
+
+// The bytes of the segments that are read, at the index of each.
+fn read_segments(rt: &HostRuntime, file: &File, elf: &ElfFile<'_>) -> Result<Vec<SegmentBytes>> {
+    let mut segments = Vec::new(rt.alloc());
+    for index in 0..elf.segment_count() {
+        let segment = elf.segment(index)?;
+        segments.push(if is_read(&segment) {
+            read_segment(rt, file, &segment)?
+        } else {
+            SegmentBytes::new(rt.alloc())
+        })?;
+    }
+    Ok(segments)
+}
+
+/// Reads a core in parts; none if it has to be read whole: if it isn't a regular file or not a core, if its headers or segments
+/// aren't all there, or if that would be to read more than the file, some of it twice.
+pub(crate) fn read_parts(rt: &HostRuntime, path: &str) -> Result<Option<CoreParts>> {
+    let file = File::open(rt, path)?;
+    let metadata = file.metadata()?;
+    let size = metadata.len();
+    if !metadata.is_file() || size < ELF_HEADER_SIZE {
+        return Ok(None);
+    }
+    let start = first_bytes(rt, &file, size.min(BLOCK_SIZE))?;
+    let Some(end) = headers_end(&start) else {
+        return Ok(None);
+    };
+    if end > size {
+        return Ok(None);
+    }
+    let head = first_bytes(rt, &file, end.max(ELF_HEADER_SIZE))?;
+    let Ok(elf) = ElfFile::parse(&head) else {
+        return Ok(None);
+    };
+    match segments_size(&elf, size) {
+        Ok(Some(all)) if end.saturating_add(all) <= size => {
+            let segments = read_segments(rt, &file, &elf)?;
+            Ok(Some(CoreParts { head, segments }))
+        }
+        _ => Ok(None),
+    }
+}
