@@ -96,7 +96,11 @@ pub record KnownPart : Type 0 where
 abbrev pub part_bytes : KnownPart → List ℕ
 part_bytes part = after_zeros part.zeros part.bytes
 
--- What comes next if a part has the bytes of a segment, as many as its program header says.
+-- A part has the bytes of a segment, as many as its program header says.
+abbrev pub IsPartOf : KnownPart → Segment → Type 0
+IsPartOf part segment = (segment.offset + segment.file_size < 2 ^ 64) × (length (part_bytes part) ≡ segment.file_size)
+
+-- What comes next if that is so.
 abbrev pub if_part : {A : Type 0} → KnownPart → Segment → ElfResult A → ElfResult A
 if_part part segment next =
     unless (nat_lt (segment.offset + segment.file_size) (2 ^ 64)) (Truncated segment.offset) (

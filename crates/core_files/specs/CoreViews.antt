@@ -1,6 +1,7 @@
 -- What contracts see of a core file.
+use Rattle.std.specs.Prelude.{◌≡◌, ℕ, List, Ok}
 use Rattle.core_files.specs.declared.core_file.CoreFile.{CoreFile}
-use Rattle.core_files.specs.CoreFiles.{CoreContents}
+use Rattle.core_files.specs.CoreFiles.{CoreContents, HasParts, KnownPart, core_of}
 use Rattle.core_files.specs.NoteViews.{mappings_of}
 use Rattle.core_files.specs.RangeViews.{ranges_seen}
 
@@ -13,3 +14,7 @@ contents_of core = record {
   files = mappings_of core.mapped_files.items;
   auxv = core.auxv.now;
 }
+
+-- A core is what each file with these parts says.
+abbrev pub IsOfEachWith : List ℕ → List KnownPart → CoreFile → Type 0
+IsOfEachWith head parts core = (bytes : List ℕ) → HasParts bytes head parts → core_of bytes ≡ Ok (contents_of core)

@@ -1,8 +1,16 @@
 -- What contracts see of the bytes of segments.
 use Rattle.std.specs.Prelude.{ℕ, ◌==◌, ◌&&◌, Bool, true, List, [], ◌∷◌, map, Option, Some, None}
+use Rattle.elf_files.specs.Notes.{NoteParts}
 use Rattle.elf_files.specs.Segments.{segment_bytes}
+use Rattle.elf_files.specs.declared.file.ElfFile.{ElfFile}
+use Rattle.elf_files.specs.declared.note.Note.{Note}
+use Rattle.core_files.specs.declared.memory_range.MemoryRange.{MemoryRange}
 use Rattle.core_files.specs.declared.segment_bytes.SegmentBytes.{SegmentBytes}
-use Rattle.core_files.specs.CoreFiles.{KnownPart, SegmentReader, loaded_apart, noted_apart, part_bytes}
+use Rattle.core_files.specs.CoreFiles.{CoreContents, KnownPart, SegmentReader, core_by, core_notes, in_segment, loaded_apart, loaded_in, loaded_ranges, noted_apart, notes_in, part_bytes}
+use Rattle.core_files.specs.Ranges.{KnownRange}
+use Rattle.core_files.specs.NoteViews.{notes_seen}
+use Rattle.core_files.specs.RangeViews.{ranges_seen}
+use Rattle.core_files.specs.Refusals.{CoreResult, Appends, by_elf}
 
 -- All bytes are 0.
 unfoldable pub all_zero : List ℕ → Bool
@@ -29,3 +37,35 @@ loaded_by (Some parts) bytes index = loaded_apart (parts_seen parts) index
 abbrev pub noted_by : Option (List SegmentBytes) → List ℕ → SegmentReader
 noted_by None bytes index = segment_bytes bytes
 noted_by (Some parts) bytes index = noted_apart (parts_seen parts) index
+
+-- The same of a file.
+abbrev pub loaded_of : Option (List SegmentBytes) → ElfFile → SegmentReader
+loaded_of parts file = loaded_by parts file.bytes.now
+
+abbrev pub noted_of : Option (List SegmentBytes) → ElfFile → SegmentReader
+noted_of parts file = noted_by parts file.bytes.now
+
+-- The loaded ranges, and those of a segment.
+abbrev pub ranges_by : Option (List SegmentBytes) → ElfFile → CoreResult (List KnownRange)
+ranges_by parts file = by_elf (loaded_ranges (loaded_of parts file) file.bytes.now file.header)
+
+abbrev pub ranges_at : Option (List SegmentBytes) → ElfFile → ℕ → CoreResult (List KnownRange)
+ranges_at parts file index = by_elf (in_segment (loaded_in (loaded_of parts file index)) file.bytes.now file.header index)
+
+-- The notes, and those of a segment.
+abbrev pub notes_by : Option (List SegmentBytes) → ElfFile → CoreResult (List NoteParts)
+notes_by parts file = by_elf (core_notes (noted_of parts file) file.bytes.now file.header)
+
+abbrev pub notes_at : Option (List SegmentBytes) → ElfFile → ℕ → CoreResult (List NoteParts)
+notes_at parts file index = by_elf (in_segment (notes_in (noted_of parts file index)) file.bytes.now file.header index)
+
+-- What a core says, whose segments were read apart or are in the file.
+abbrev pub core_read : Option (List SegmentBytes) → List ℕ → CoreResult CoreContents
+core_read parts bytes = core_by (loaded_by parts bytes) (noted_by parts bytes) bytes
+
+-- A call made a list of ranges longer by what is said, or one of notes.
+abbrev pub AppendsRanges : {U : Type 0} → List MemoryRange → List MemoryRange → CoreResult U → CoreResult (List KnownRange) → Type 0
+AppendsRanges old new result said = Appends (ranges_seen old) (ranges_seen new) result said
+
+abbrev pub AppendsNotes : {U : Type 0} → List Note → List Note → CoreResult U → CoreResult (List NoteParts) → Type 0
+AppendsNotes old new result said = Appends (notes_seen old) (notes_seen new) result said

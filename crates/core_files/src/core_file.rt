@@ -1,14 +1,14 @@
 //! A core file.
 
-ghost use Rattle.std.specs.Prelude.{◌≡◌, List, ℕ, Ok, IfOk};
+ghost use Rattle.std.specs.Prelude.{◌≡◌, IfOk};
 ghost use Rattle.core_files.specs.Auxv.{auxiliary_value};
 ghost use Rattle.std.specs.Option.{option_copied};
-ghost use Rattle.core_files.specs.CoreFiles.{HasParts, core_by, core_in_parts, core_of};
+ghost use Rattle.core_files.specs.CoreFiles.{core_in_parts, core_of};
 ghost use Rattle.core_files.specs.HeaderViews.{IsCore};
 ghost use Rattle.core_files.specs.NoteViews.{mappings_of};
 ghost use Rattle.core_files.specs.RangeViews.{ranges_seen};
 ghost use Rattle.core_files.specs.Refusals.{Gives};
-ghost use Rattle.core_files.specs.SegmentViews.{loaded_by, noted_by, parts_seen};
+ghost use Rattle.core_files.specs.SegmentViews.{core_read, parts_seen};
 
 use crate::auxv::read_auxiliary;
 use crate::error::CoreError;
@@ -44,7 +44,7 @@ fn core_header<'a>(bytes: &'a [u8]) -> Result<ElfFile<'a>, CoreError>
 }
 
 impl<'a> CoreFile<'a> {
-    ghost use Rattle.core_files.specs.CoreViews.{contents_of};
+    ghost use Rattle.core_files.specs.CoreViews.{IsOfEachWith, contents_of};
     ghost use Rattle.core_files.specs.MemoryViews.{segments_of, files_of};
 
     // The core file that begins with these bytes, and whose segments were read apart or are in them too.
@@ -53,8 +53,7 @@ impl<'a> CoreFile<'a> {
         bytes: &'a [u8],
         parts: Option<&'a [SegmentBytes]>,
     ) -> Result<Self, CoreError>
-        ensures { Gives contents_of result (core_by (loaded_by (option_copied parts.entry) bytes.now)
-            (noted_by (option_copied parts.entry) bytes.now) bytes.now) }
+        ensures { Gives contents_of result (core_read (option_copied parts.entry) bytes.now) }
     {
         let elf = core_header(bytes)?;
         let segments = loaded_ranges(alloc, &elf, parts)?;
@@ -88,8 +87,7 @@ impl<'a> CoreFile<'a> {
         parts: &'a [SegmentBytes],
     ) -> Result<Self, CoreError>
         ensures parts { Gives contents_of result (core_in_parts head.now (parts_seen parts.now)) }
-        ensures whole { IfOk result (λ core. (bytes : List ℕ) → HasParts bytes head.now (parts_seen parts.now)
-            → core_of bytes ≡ Ok (contents_of core)) }
+        ensures whole { IfOk result (IsOfEachWith head.now (parts_seen parts.now)) }
     {
         CoreFile::read(alloc, head, Some(parts))
     }

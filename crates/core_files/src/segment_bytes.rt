@@ -1,6 +1,7 @@
 //! The bytes of a segment that is read in blocks.
 
-ghost use Rattle.std.specs.Prelude.{◌≡◌, ◌↔◌, ◌+◌, ◌^◌, ◌<◌, ◌++◌, [], length, IsTrue, OnOk, OnErr};
+ghost use Rattle.std.specs.Prelude.{◌≡◌, ◌↔◌, ◌++◌, [], IsTrue, OnOk, OnErr};
+ghost use Rattle.core_files.specs.CoreFiles.{IsPartOf};
 ghost use Rattle.core_files.specs.SegmentViews.{all_zero};
 
 use elf_files::Segment;
@@ -25,7 +26,7 @@ fn all_zero(block: &[u8]) -> bool
 }
 
 impl SegmentBytes {
-    ghost use Rattle.core_files.specs.SegmentViews.{bytes_kept};
+    ghost use Rattle.core_files.specs.SegmentViews.{bytes_kept, part_seen};
 
     /// No bytes yet.
     pub fn new(alloc: Global) -> Self
@@ -53,8 +54,7 @@ impl SegmentBytes {
 
     // Whether there are as many bytes as a segment has.
     pub(crate) fn is_of(&self, segment: &Segment) -> bool
-        ensures { IsTrue result ↔ (segment.now.offset + segment.now.file_size < 2 ^ 64)
-            × (length (bytes_kept self.now) ≡ segment.now.file_size) }
+        ensures { IsTrue result ↔ IsPartOf (part_seen self.now) segment.now }
     {
         segment.offset.checked_add(segment.file_size).is_some()
             && self.zeros.checked_add(self.bytes.len() as u64) == Some(segment.file_size)

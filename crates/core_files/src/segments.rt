@@ -2,12 +2,12 @@
 
 ghost use Rattle.std.specs.Prelude.{◌≡◌, ◌<◌, ◌+◌, ◌^◌, length, Ok, Err, IfOk, IfErr};
 ghost use Rattle.std.specs.Option.{option_copied};
-ghost use Rattle.core_files.specs.CoreFiles.{all_ok, core_notes, in_segment, loaded_apart, loaded_in, loaded_ranges, noted_apart, notes_in};
+ghost use Rattle.core_files.specs.CoreFiles.{all_ok, loaded_apart, noted_apart};
 ghost use Rattle.core_files.specs.NoteViews.{notes_seen};
 ghost use Rattle.core_files.specs.RangeViews.{ranges_seen};
 ghost use Rattle.core_files.specs.Ranges.{after_zeros};
 ghost use Rattle.core_files.specs.Refusals.{Appends, Gives, by_elf};
-ghost use Rattle.core_files.specs.SegmentViews.{loaded_by, noted_by, parts_seen};
+ghost use Rattle.core_files.specs.SegmentViews.{AppendsNotes, AppendsRanges, loaded_of, noted_of, notes_at, notes_by, parts_seen, ranges_at, ranges_by};
 
 use crate::error::CoreError;
 use crate::lists::push;
@@ -59,10 +59,10 @@ fn loaded_bytes<'a>(
     index: u32,
     segment: &Segment,
 ) -> Result<(u64, &'a [u8]), ElfError>
-    ensures ok { IfOk result (λ found. loaded_by (option_copied parts.entry) elf.now.bytes.now index segment.now
+    ensures ok { IfOk result (λ found. loaded_of (option_copied parts.entry) elf.now index segment.now
         ≡ Ok (after_zeros found.0 found.1.now)) }
     ensures err { IfErr result
-        (λ e. loaded_by (option_copied parts.entry) elf.now.bytes.now index segment.now ≡ Err e) }
+        (λ e. loaded_of (option_copied parts.entry) elf.now index segment.now ≡ Err e) }
 {
     match parts {
         Some(parts) => loaded_apart(parts, index, segment),
@@ -81,9 +81,9 @@ fn noted_bytes<'a>(
     segment: &Segment,
 ) -> Result<&'a [u8], ElfError>
     ensures ok { IfOk result
-        (λ found. noted_by (option_copied parts.entry) elf.now.bytes.now index segment.now ≡ Ok found.now) }
+        (λ found. noted_of (option_copied parts.entry) elf.now index segment.now ≡ Ok found.now) }
     ensures err { IfErr result
-        (λ e. noted_by (option_copied parts.entry) elf.now.bytes.now index segment.now ≡ Err e) }
+        (λ e. noted_of (option_copied parts.entry) elf.now index segment.now ≡ Err e) }
     ensures within { IfOk result (λ found. segment.now.offset + length found.now < 2 ^ 64) }
 {
     match parts {
@@ -94,15 +94,14 @@ fn noted_bytes<'a>(
 
 // Adds what a loaded segment has in memory.
 fn push_loaded<'a>(
-    ranges: &mut Vec<MemoryRange<'a>>,
+    all: &mut Vec<MemoryRange<'a>>,
     elf: &ElfFile<'a>,
     parts: Option<&'a [SegmentBytes]>,
     index: u32,
 ) -> Result<(), CoreError>
     requires { index < elf.now.header.segment_count }
-    ensures { Appends (ranges_seen ranges.old.items) (ranges_seen ranges.new.items) result
-        (by_elf (in_segment (loaded_in (loaded_by (option_copied parts.entry) elf.now.bytes.now index))
-        elf.now.bytes.now elf.now.header index)) }
+    ensures { AppendsRanges all.old.items all.new.items result
+        (ranges_at (option_copied parts.entry) elf.now index) }
 {
     let segment = elf.segment(index)?;
     let SegmentKind::Load = segment.kind else {
@@ -110,7 +109,7 @@ fn push_loaded<'a>(
     };
     let (zeros, bytes) = loaded_bytes(elf, parts, index, &segment)?;
     push(
-        ranges,
+        all,
         MemoryRange {
             address: segment.address,
             size: segment.memory_size,
@@ -128,8 +127,7 @@ pub(crate) fn loaded_ranges<'a>(
     parts: Option<&'a [SegmentBytes]>,
 ) -> Result<Vec<MemoryRange<'a>>, CoreError>
     ensures { Gives (λ ranges. ranges_seen ranges.items) result
-        (by_elf (loaded_ranges (loaded_by (option_copied parts.entry) elf.now.bytes.now)
-        elf.now.bytes.now elf.now.header)) }
+        (ranges_by (option_copied parts.entry) elf.now) }
 {
     let mut ranges = Vec::new(alloc);
     for index in 0..elf.segment_count() {
@@ -153,25 +151,21 @@ fn push_all<'a>(notes: &mut Vec<Note<'a>>, all: Notes<'a>) -> Result<(), CoreErr
 
 // Adds the notes of a segment of notes.
 fn push_notes<'a>(
-    notes: &mut Vec<Note<'a>>,
+    all: &mut Vec<Note<'a>>,
     elf: &ElfFile<'a>,
     parts: Option<&'a [SegmentBytes]>,
     index: u32,
 ) -> Result<(), CoreError>
     requires { index < elf.now.header.segment_count }
-    ensures { Appends (notes_seen notes.old.items) (notes_seen notes.new.items) result
-        (by_elf (in_segment (notes_in (noted_by (option_copied parts.entry) elf.now.bytes.now index))
-        elf.now.bytes.now elf.now.header index)) }
+    ensures { AppendsNotes all.old.items all.new.items result
+        (notes_at (option_copied parts.entry) elf.now index) }
 {
     let segment = elf.segment(index)?;
     let SegmentKind::Note = segment.kind else {
         return Ok(());
     };
     let bytes = noted_bytes(elf, parts, index, &segment)?;
-    push_all(
-        notes,
-        Notes::new_at(bytes, segment.alignment, segment.offset),
-    )
+    push_all(all, Notes::new_at(bytes, segment.alignment, segment.offset))
 }
 
 /// The notes, whose bytes were read apart or are in the file's.
@@ -181,8 +175,7 @@ pub(crate) fn core_notes<'a>(
     parts: Option<&'a [SegmentBytes]>,
 ) -> Result<Vec<Note<'a>>, CoreError>
     ensures { Gives (λ notes. notes_seen notes.items) result
-        (by_elf (core_notes (noted_by (option_copied parts.entry) elf.now.bytes.now)
-        elf.now.bytes.now elf.now.header)) }
+        (notes_by (option_copied parts.entry) elf.now) }
 {
     let mut notes = Vec::new(alloc);
     for index in 0..elf.segment_count() {

@@ -10,7 +10,7 @@ ghost use Rattle.elf_files.specs.declared.segment.Segment.{Segment};
 pub fn first_bytes_say()
     ensures header { (bytes rest : List ℕ) (header : Header) → header_of bytes ≡ Ok header
         → header_of (bytes ++ rest) ≡ Ok header }
-    ensures segment { (bytes rest : List ℕ) (header : Header) (index : ℕ) (segment : Segment)
-        → index < header.segment_count → segment_at bytes header index ≡ Ok segment
-        → segment_at (bytes ++ rest) header index ≡ Ok segment }
+    ensures segment { (bytes rest : List ℕ) (header : Header) (i : ℕ) (segment : Segment)
+        → i < header.segment_count → segment_at bytes header i ≡ Ok segment
+        → segment_at (bytes ++ rest) header i ≡ Ok segment }
 {}

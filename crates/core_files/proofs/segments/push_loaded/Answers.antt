@@ -14,7 +14,7 @@ returns-in_default c =
     let read = loaded_by (option_copied c.args.parts) elf.bytes.now c.args.index in (
       [],
       ap by_elf (segment-gives (loaded_in read) elf.bytes.now elf.header c.args.index c.in_ok-segment.segment c.in_ok-segment.ensures ∙ loaded-other read c.in_ok-segment.segment c.in_default.not-Load),
-      sym (append-nil (ranges_seen c.args.ranges.now.items)),
+      sym (append-nil (ranges_seen c.args.all.now.items)),
     )
 
 pub returns : goal.returns
@@ -24,5 +24,5 @@ returns c =
       _,
       ap by_elf (segment-gives (loaded_in read) elf.bytes.now elf.header c.args.index c.in_ok-segment.segment c.in_ok-segment.ensures
           ∙ loaded-here read c.in_ok-segment.segment _ c.in-Load.is c.in_ok-zeros.ensures.ok),
-      ap ranges_seen c.in_ok-push.ensures.ok ∙ map-append range_seen c.args.ranges.now.items _,
+      ap ranges_seen c.in_ok-push.ensures.ok ∙ map-append range_seen c.args.all.now.items _,
     )

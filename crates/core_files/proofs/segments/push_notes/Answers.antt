@@ -15,14 +15,14 @@ returns-in_default c =
     let read = noted_by (option_copied c.args.parts) elf.bytes.now c.args.index in (
       [],
       ap by_elf (segment-gives (notes_in read) elf.bytes.now elf.header c.args.index c.in_ok-segment.segment c.in_ok-segment.ensures ∙ noted-other read c.in_ok-segment.segment c.in_default.not-Note),
-      sym (append-nil (notes_seen c.args.notes.now.items)),
+      sym (append-nil (notes_seen c.args.all.now.items)),
     )
 
 pub returns : goal.returns
 returns c =
     let elf = c.args.elf.now in
     let read = noted_by (option_copied c.args.parts) elf.bytes.now c.args.index in
-    subst (λ (said : CoreResult (List NoteParts)). Appends (notes_seen c.args.notes.now.items) (notes_seen c.push_all.new.notes.items) c.push_all.result said)
+    subst (λ (said : CoreResult (List NoteParts)). Appends (notes_seen c.args.all.now.items) (notes_seen c.push_all.new.notes.items) c.push_all.result said)
     (sym (ap by_elf (segment-gives (notes_in read) elf.bytes.now elf.header c.args.index c.in_ok-segment.segment c.in_ok-segment.ensures
     ∙ noted-here read c.in_ok-segment.segment c.in_ok-bytes.bytes.now c.new_at.result c.in-Note.is c.in_ok-bytes.ensures.ok c.new_at.ensures)))
     c.push_all.ensures
