@@ -60,7 +60,7 @@ static FILES: &[u64] = &[
 ];
 
 /// The bytes of the virtual shared object.
-pub const SHARED_OBJECT: [u8; 16] = [0x5a; 16];
+pub const SHARED_OBJECT: [u8; 16] = [0x7f; 16];
 
 /// The bytes of the core, which has the first 0x300 bytes of `/a`.
 pub fn core_with(alloc: Global, file: &[u8]) -> Result<Vec<u8>, AllocError> {
