@@ -19,10 +19,8 @@ pub(crate) struct CoreParts {
 // How many bytes are read at once.
 const BLOCK_SIZE: u64 = 1 << 16;
 
-// The size of an ELF header, and that of a program header.
+// The size of an ELF header.
 const ELF_HEADER_SIZE: u64 = 64;
-
-const PROGRAM_HEADER_SIZE: u64 = 56;
 
 // So many bytes of a file from its start on.
 fn first_bytes(rt: &HostRuntime, file: &File, size: u64) -> Result<Vec<u8>> {
@@ -40,8 +38,7 @@ fn headers_end(start: &[u8]) -> Option<u64> {
     let FileKind::Core = elf.kind() else {
         return None;
     };
-    let size = PROGRAM_HEADER_SIZE * u64::from(elf.segment_count());
-    elf.header.segment_table.checked_add(size)
+    elf.segment_table_end()
 }
 
 // Whether the bytes of a segment are read.

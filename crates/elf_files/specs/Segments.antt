@@ -35,6 +35,10 @@ segment_from bytes at = record {
 abbrev pub segment_of : List ℕ → Header → ℕ → Segment
 segment_of bytes header index = segment_from bytes (header.segment_table + 56 * index)
 
+-- Where the table of segments ends.
+abbrev pub segment_table_end : Header → ℕ
+segment_table_end header = header.segment_table + 56 * header.segment_count
+
 -- What comes next if the table of segments is whole.
 abbrev pub if_segments : {A : Type 0} → List ℕ → Header → ElfResult A → ElfResult A
 if_segments bytes header next = unless (is_within bytes header.segment_table (56 * header.segment_count)) (Truncated header.segment_table) next

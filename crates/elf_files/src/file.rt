@@ -1,9 +1,9 @@
 //! A file.
 
-ghost use Rattle.std.specs.Prelude.{◌≡◌, ◌<◌, ◌≤◌, ◌+◌, length, Ok, Err, IfOk, IfErr};
+ghost use Rattle.std.specs.Prelude.{◌≡◌, ◌<◌, ◌≤◌, ◌+◌, ◌^◌, length, Ok, Err, IfOk, IfErr, SomeIff};
 ghost use Rattle.elf_files.specs.Notes.{segment_notes};
 ghost use Rattle.elf_files.specs.Header.{header_of};
-ghost use Rattle.elf_files.specs.Segments.{segment_at, segment_bytes};
+ghost use Rattle.elf_files.specs.Segments.{segment_at, segment_bytes, segment_table_end};
 ghost use Rattle.elf_files.specs.SegmentViews.{IsSegmentTableCut, IsSegmentTableOf};
 
 use crate::bytes::{bytes_at, has_table};
@@ -59,6 +59,15 @@ impl<'a> ElfFile<'a> {
         ensures { result ≡ self.now.header.segment_count }
     {
         self.header.segment_count
+    }
+
+    /// Where the program headers end: the bytes of a file up to here say its segments, whatever follows. None if that is no
+    /// number of 64 bits.
+    pub fn segment_table_end(&self) -> Option<u64>
+        ensures { SomeIff result (segment_table_end self.now.header < 2 ^ 64) (segment_table_end self.now.header) }
+    {
+        let size = 56 * u64::from(self.header.segment_count);
+        self.header.segment_table.checked_add(size)
     }
 
     // The table of segments.

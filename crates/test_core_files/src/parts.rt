@@ -89,10 +89,7 @@ fn parts_of(
 }
 
 fn headers_of<'a>(elf: &ElfFile<'a>) -> &'a [u8] {
-    let end = elf
-        .header
-        .segment_table
-        .saturating_add(56 * u64::from(elf.segment_count()));
+    let end = elf.segment_table_end().unwrap_or(u64::MAX);
     &elf.bytes[..elf.bytes.len().min(end as usize)]
 }
 
