@@ -62,11 +62,13 @@ impl<V: SameValue> RangeTable<V> {
     {
         let Ranges {
             before,
-            entries,
+            mut entries,
             done: _,
         } = ranges;
+        entries.shrink_to_fit();
         let shift = shift_for(&entries);
-        let blocks = blocks_of(alloc, &entries, shift)?;
+        let mut blocks = blocks_of(alloc, &entries, shift)?;
+        blocks.shrink_to_fit();
         Ok(RangeTable {
             before,
             entries,

@@ -37,7 +37,6 @@ fn covered_by_row<
 
 // Adds a row: what it says, from where the ranges end up to the row's end.
 #[inline(always)]
-#[inline(always)]
 fn add_row<A: RowRules, T: ReaderOffset, Rules: ArrayLike<Item = RuledRegister<RegisterRule<T>>>>(
     ranges: &mut Ranges<Entry<A::UnwindRule>>,
     row: &UnwindTableRow<T, Rules>,
