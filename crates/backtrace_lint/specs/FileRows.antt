@@ -21,10 +21,11 @@ use Rattle.backtrace_lint.specs.RowFindings.{failed_fdes, unsaid_rows}
 abbrev pub row_limits : Limits
 row_limits = limits_of (Some 192) (Some 4)
 
--- the rule that says a row exactly, if one does
+-- the rule of x86_64 that says a row exactly, if one does
 abbrev pub rule_x86_64 : Row ℕ → Option UnwindRuleX86_64
 rule_x86_64 row = scaled_x86.scaled_rule (parts_of RBP RA row)
 
+-- .. the rule of aarch64
 abbrev pub rule_aarch64 : Row ℕ → Option UnwindRuleAarch64
 rule_aarch64 row = scaled_arm.scaled_rule (parts_of X29 X30 row)
 

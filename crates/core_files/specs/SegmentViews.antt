@@ -17,10 +17,11 @@ unfoldable pub all_zero : List ℕ → Bool
 all_zero [] = true
 all_zero (byte ∷ bytes) = (byte == 0) && all_zero bytes
 
--- A segment, and all its bytes.
+-- A segment: how many zeros it begins with, and its bytes after them.
 abbrev pub part_seen : SegmentBytes → KnownPart
 part_seen segment = record { zeros = segment.zeros; bytes = segment.bytes.items }
 
+-- All bytes of a segment.
 abbrev pub bytes_kept : SegmentBytes → List ℕ
 bytes_kept segment = part_bytes (part_seen segment)
 
@@ -33,29 +34,32 @@ abbrev pub loaded_by : Option (List SegmentBytes) → List ℕ → SegmentReader
 loaded_by None bytes index = segment_bytes bytes
 loaded_by (Some parts) bytes index = loaded_apart (parts_seen parts) index
 
--- Where those of notes are.
+-- Where the bytes of segments with notes are, likewise.
 abbrev pub noted_by : Option (List SegmentBytes) → List ℕ → SegmentReader
 noted_by None bytes index = segment_bytes bytes
 noted_by (Some parts) bytes index = noted_apart (parts_seen parts) index
 
--- The same of a file.
+-- Where the bytes of a file's loaded segments are.
 abbrev pub loaded_of : Option (List SegmentBytes) → ElfFile → SegmentReader
 loaded_of parts file = loaded_by parts file.bytes.now
 
+-- Where those of its segments with notes are.
 abbrev pub noted_of : Option (List SegmentBytes) → ElfFile → SegmentReader
 noted_of parts file = noted_by parts file.bytes.now
 
--- The loaded ranges, and those of a segment.
+-- The loaded ranges of a file.
 abbrev pub ranges_by : Option (List SegmentBytes) → ElfFile → CoreResult (List KnownRange)
 ranges_by parts file = by_elf (loaded_ranges (loaded_of parts file) file.bytes.now file.header)
 
+-- The loaded ranges of the segment with an index.
 abbrev pub ranges_at : Option (List SegmentBytes) → ElfFile → ℕ → CoreResult (List KnownRange)
 ranges_at parts file index = by_elf (in_segment (loaded_in (loaded_of parts file index)) file.bytes.now file.header index)
 
--- The notes, and those of a segment.
+-- The notes of a file.
 abbrev pub notes_by : Option (List SegmentBytes) → ElfFile → CoreResult (List NoteParts)
 notes_by parts file = by_elf (core_notes (noted_of parts file) file.bytes.now file.header)
 
+-- The notes of the segment with an index.
 abbrev pub notes_at : Option (List SegmentBytes) → ElfFile → ℕ → CoreResult (List NoteParts)
 notes_at parts file index = by_elf (in_segment (notes_in (noted_of parts file index)) file.bytes.now file.header index)
 
@@ -63,9 +67,10 @@ notes_at parts file index = by_elf (in_segment (notes_in (noted_of parts file in
 abbrev pub core_read : Option (List SegmentBytes) → List ℕ → CoreResult CoreContents
 core_read parts bytes = core_by (loaded_by parts bytes) (noted_by parts bytes) bytes
 
--- A call made a list of ranges longer by what is said, or one of notes.
+-- A call made a list of ranges longer by what is said.
 abbrev pub AppendsRanges : {U : Type 0} → List MemoryRange → List MemoryRange → CoreResult U → CoreResult (List KnownRange) → Type 0
 AppendsRanges old new result said = Appends (ranges_seen old) (ranges_seen new) result said
 
+-- A call made a list of notes longer by what is said.
 abbrev pub AppendsNotes : {U : Type 0} → List Note → List Note → CoreResult U → CoreResult (List NoteParts) → Type 0
 AppendsNotes old new result said = Appends (notes_seen old) (notes_seen new) result said
