@@ -1,20 +1,17 @@
 //! Findings in the rows of a section's FDEs.
 
 ghost use Rattle.std.specs.Prelude.{◌≡◌, ◌++◌, IfOk, OnOk};
-ghost use Rattle.dwarf_frame_entries.specs.EntryPrograms.{factors_of, fde_program};
-ghost use Rattle.dwarf_frame_entries.specs.EntryViews.{cie_view};
 ghost use Rattle.dwarf_frame_instructions.specs.Execution.{row_in};
-ghost use Rattle.dwarf_frame_instructions.specs.ProgramRows.{program_of};
 ghost use Rattle.backtrace_lint.specs.RowFindings.{failed_at, unsaid_start};
 ghost use Rattle.backtrace_lint.specs.RowViews.{Adds, AddsFde, AddsOf, AddsPart, FindsRows, with_failed};
 
 use backtrace_findings::FailedFde;
 use dwarf_constants::Error;
 use dwarf_frame_entries::{
-    BaseAddresses, CommonInformationEntry, Entry, FrameDescriptionEntry,
-    PartialFrameDescriptionEntry, UnwindContext, UnwindContextStorage, UnwindSection,
+    BaseAddresses, Entry, FrameDescriptionEntry, PartialFrameDescriptionEntry, UnwindContext,
+    UnwindContextStorage, UnwindSection,
 };
-use dwarf_frame_instructions::{Factors, FrameProgram, ProgramRows};
+use dwarf_frame_instructions::ProgramRows;
 use dwarf_frame_rows::{RegisterRule, RuledRegister, UnwindTableRow};
 use dwarf_readers::{Reader, ReaderOffset};
 use dwarf_storage::ArrayLike;
@@ -66,37 +63,6 @@ fn add_rows<A: RowRules, R: Reader, S: UnwindContextStorage<R::Offset>>(
     }
 }
 
-// What operands are multiplied by, and the size of an address, in the programs of a CIE.
-fn factors_of<R: Reader>(cie: &CommonInformationEntry<R>) -> Factors
-    ensures { result ≡ factors_of (cie_view R.stretch R.Offset.value cie.now) }
-{
-    Factors {
-        code_alignment_factor: cie.code_alignment_factor(),
-        data_alignment_factor: cie.data_alignment_factor(),
-        address_size: cie.address_size(),
-    }
-}
-
-// The program of an FDE.
-fn program_of_fde<'a, R: Reader, Section: UnwindSection<R>>(
-    section: &'a Section,
-    bases: &'a BaseAddresses,
-    fde: &FrameDescriptionEntry<R>,
-) -> FrameProgram<'a, R>
-where
-    R: 'a,
-    ensures { program_of result ≡ fde_program (Section.frame section.now bases.now)
-        (Section.extensions section.now) fde.now }
-{
-    FrameProgram {
-        factors: factors_of(fde.cie()),
-        initial_address: fde.initial_address(),
-        end_address: fde.end_address(),
-        initial_instructions: fde.cie().instructions(section, bases),
-        instructions: fde.instructions(section, bases),
-    }
-}
-
 // Adds where the rows of an FDE start that no rule says, and returns the error that ends them, if one does.
 fn add_rows_of<
     A: RowRules,
@@ -115,7 +81,7 @@ fn add_rows_of<
     ensures { IfOk result (AddsOf S.limits A.rows.vendor A.rule_of
         (Section.frame section.now bases.now) fde.now found.old found.new) }
 {
-    match ProgramRows::new(context, program_of_fde(section, bases, fde)) {
+    match ProgramRows::new(context, fde.program(section, bases)) {
         Ok(mut rows) => add_rows::<A, R, S>(found, &mut rows),
         Err(error) => Ok(Some(error)),
     }

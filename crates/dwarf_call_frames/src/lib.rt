@@ -29,8 +29,8 @@ pub use dwarf_frame_entries::{
     sections_have_no_more_entries_than_bytes,
 };
 pub use dwarf_frame_instructions::{
-    CallFrameInstruction, CallFrameInstructionIter, each_address_has_one_row,
-    each_rule_is_seen_alike, expressions_have_their_bytes,
+    CallFrameInstruction, CallFrameInstructionIter, Factors, FrameProgram,
+    each_address_has_one_row, each_rule_is_seen_alike, expressions_have_their_bytes,
 };
 pub use dwarf_frame_rows::{
     _UnwindSectionPrivate, BaseAddresses, CfaRule, CieOffsetEncoding, Pointer, RegisterRule,

@@ -19,7 +19,9 @@ mod table;
 
 pub use augmentation::Augmentation;
 pub use cie::CommonInformationEntry;
-pub use dwarf_frame_instructions::{CallFrameInstruction, CallFrameInstructionIter};
+pub use dwarf_frame_instructions::{
+    CallFrameInstruction, CallFrameInstructionIter, Factors, FrameProgram,
+};
 pub use dwarf_frame_rows::{
     _UnwindSectionPrivate, BaseAddresses, CieOffsetEncoding, Pointer, SectionBaseAddresses,
     UnwindContext, UnwindContextStorage, UnwindOffset, UnwindTableRow,

@@ -63,8 +63,8 @@ impl<R: Reader> CommonInformationEntry<R> {
         )
     }
 
-    // The alignment factors of operands, and the size of an address.
-    fn factors(&self) -> Factors
+    /// What the operands of the entry's instructions are multiplied by, and the size of an address.
+    pub fn factors(&self) -> Factors
         ensures { result ≡ factors_of (cie_view R.stretch R.Offset.value self.now) }
     {
         Factors {
@@ -119,8 +119,9 @@ impl<R: Reader> FrameDescriptionEntry<R> {
         row_for_address(ctx, self.program(section, bases), address)
     }
 
-    // The entry's program.
-    pub(crate) fn program<'a, Section: UnwindSection<R>>(
+    /// The entry's program: the instructions of its CIE, then its own, and the addresses that they are for. `section` has to be
+    /// the one in which the entry was read.
+    pub fn program<'a, Section: UnwindSection<R>>(
         &self,
         section: &'a Section,
         bases: &'a BaseAddresses,

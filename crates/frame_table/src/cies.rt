@@ -11,7 +11,7 @@ ghost use Rattle.line_parts.specs.Parts.{Pushes};
 
 use crate::entry_prefix::{CiePrefix, augmentation_of, entry_prefix_at};
 use crate::listed::Listed;
-use crate::parts::{PartEnd, end_part, factors_of, push_fault, push_prefix, table_of};
+use crate::parts::{PartEnd, end_part, push_fault, push_prefix, table_of};
 use dwarf_frame_entries::{
     BaseAddresses, CallFrameInstructionIter, CommonInformationEntry, UnwindContext,
     UnwindContextStorage, UnwindSection,
@@ -55,7 +55,7 @@ where
         section.now bases.now R.stretch R.Offset.value cie.now }
 {
     FrameProgram {
-        factors: factors_of(cie),
+        factors: cie.factors(),
         initial_address: 0,
         end_address: 0,
         initial_instructions: cie.instructions(section, bases),

@@ -2,8 +2,6 @@
 
 ghost use Rattle.std.specs.Prelude.{◌≡◌, ◌++◌, OnOk};
 ghost use Rattle.dwarf_frame_entries.specs.Entries.{fde_of};
-ghost use Rattle.dwarf_frame_entries.specs.EntryPrograms.{fde_program};
-ghost use Rattle.dwarf_frame_instructions.specs.ProgramRows.{program_of};
 ghost use Rattle.dwarf_frame_rows.specs.Effects.{Limits};
 ghost use Rattle.frame_table.specs.Entries.{fde_line, fde_or_fault, fde_places, fde_table, whole_fde_part};
 ghost use Rattle.frame_table.specs.EntryWrites.{HasTable, ListsFde, WritesPart, setting_by};
@@ -11,36 +9,15 @@ ghost use Rattle.frame_table.specs.EntryPrefixViews.{prefix_view};
 
 use crate::entry_prefix::{EntryPrefix, entry_prefix_at};
 use crate::listed::Listed;
-use crate::parts::{PartEnd, end_part, factors_of, push_fault, push_prefix, table_of};
+use crate::parts::{PartEnd, end_part, push_fault, push_prefix, table_of};
 use dwarf_frame_entries::{
-    BaseAddresses, FrameDescriptionEntry, PartialFrameDescriptionEntry, UnwindContext,
-    UnwindContextStorage, UnwindOffset, UnwindSection,
+    FrameDescriptionEntry, PartialFrameDescriptionEntry, UnwindContext, UnwindContextStorage,
+    UnwindOffset, UnwindSection,
 };
-use dwarf_frame_instructions::FrameProgram;
 use dwarf_readers::{Reader, ReaderOffset};
 use frame_table_text::{Table, add_columns, push_bytes, push_hex};
 use std::alloc::{AllocError, Global};
 use std::collections::BTreeSet;
-
-// A program of an FDE: its CIE's instructions and its own.
-fn fde_program<'a, R: Reader, Section: UnwindSection<R>>(
-    section: &'a Section,
-    bases: &'a BaseAddresses,
-    fde: &FrameDescriptionEntry<R>,
-) -> FrameProgram<'a, R>
-where
-    R: 'a,
-    ensures { program_of result ≡ fde_program (Section.frame section.now bases.now)
-        (Section.extensions section.now) fde.now }
-{
-    FrameProgram {
-        factors: factors_of(fde.cie()),
-        initial_address: fde.initial_address(),
-        end_address: fde.end_address(),
-        initial_instructions: fde.cie().instructions(section, bases),
-        instructions: fde.instructions(section, bases),
-    }
-}
 
 // The table of an FDE.
 fn fde_table<R: Reader, Section: UnwindSection<R>>(
@@ -117,7 +94,7 @@ fn push_whole_fde<R: Reader, Section: UnwindSection<R>, S: UnwindContextStorage<
 {
     push_fde_line(alloc, cie_offset, fde, prefix, text)?;
     let table = fde_table(alloc, listed, fde)?;
-    let program = fde_program(listed.section, listed.bases, fde);
+    let program = fde.program(listed.section, listed.bases);
     let refusal = table.push(alloc, context, program, text)?;
     end_part(alloc, refusal, fde.offset().into_u64(), prefix.end, text)
 }

@@ -2,7 +2,6 @@
 
 ghost use Rattle.std.specs.Prelude.{◌≡◌, IfOk, string_bytes};
 ghost use Rattle.dwarf_frame_entries.specs.EntryViews.{cie_view};
-ghost use Rattle.dwarf_frame_entries.specs.EntryPrograms.{factors_of};
 ghost use Rattle.frame_table.specs.Entries.{entry_table, fault_part, fault_text, head_of, id_digits, prefix_text};
 ghost use Rattle.frame_table.specs.EntryWrites.{EndsPart, HasTable, WritesPart};
 ghost use Rattle.frame_table.specs.EntryPrefixViews.{prefix_view};
@@ -11,7 +10,6 @@ ghost use Rattle.line_parts.specs.Parts.{Pushes};
 use crate::entry_prefix::EntryPrefix;
 use dwarf_constants::Error;
 use dwarf_frame_entries::{CallFrameInstructionIter, CieOffsetEncoding, CommonInformationEntry};
-use dwarf_frame_instructions::Factors;
 use dwarf_readers::Reader;
 use frame_table_text::{Machine, Table, add_columns, push_bytes, push_hex};
 use std::alloc::{AllocError, Global};
@@ -118,15 +116,4 @@ pub(crate) fn table_of<'a, R: Reader>(
         columns: columns.into_iter().collect(alloc)?,
         is_shown: !nops,
     })
-}
-
-/// What the operands of a CIE's and its FDEs' instructions are multiplied by.
-pub(crate) fn factors_of<R: Reader>(cie: &CommonInformationEntry<R>) -> Factors
-    ensures { result ≡ factors_of (cie_view R.stretch R.Offset.value cie.now) }
-{
-    Factors {
-        code_alignment_factor: cie.code_alignment_factor(),
-        data_alignment_factor: cie.data_alignment_factor(),
-        address_size: cie.address_size(),
-    }
 }

@@ -2,9 +2,7 @@
 
 ghost use Rattle.std.specs.Prelude.{◌≡◌, ◌≤◌, ◌^◌, IfOk};
 ghost use Rattle.dwarf_frame_entries.specs.Entries.{fde_from_offset};
-ghost use Rattle.dwarf_frame_entries.specs.EntryPrograms.{factors_of, fde_program, fde_rows};
-ghost use Rattle.dwarf_frame_entries.specs.EntryViews.{cie_view};
-ghost use Rattle.dwarf_frame_instructions.specs.ProgramRows.{program_of};
+ghost use Rattle.dwarf_frame_entries.specs.EntryPrograms.{fde_rows};
 ghost use Rattle.framehop_index.specs.CfiIndexView.{IsIndexOf};
 ghost use Rattle.framehop_index.specs.LastCie.{IsLastCie};
 ghost use Rattle.framehop_ranges.specs.Ranges.{Sound};
@@ -17,46 +15,14 @@ use crate::rows::add_rows;
 use crate::same_rule::SameRule;
 use crate::spans::Span;
 use dwarf_frame_entries::{
-    BaseAddresses, CommonInformationEntry, FrameDescriptionEntry, UnwindContext,
-    UnwindContextStorage, UnwindSection,
+    BaseAddresses, FrameDescriptionEntry, UnwindContext, UnwindContextStorage, UnwindSection,
 };
-use dwarf_frame_instructions::{Factors, FrameProgram, ProgramRows};
+use dwarf_frame_instructions::ProgramRows;
 use dwarf_readers::Reader;
 use framehop_index::{DwarfCfiIndex, IndexedFde, LastCie, fde_at_by_last};
 use framehop_ranges::Ranges;
 use framehop_rows::RowRules;
 use std::alloc::{AllocError, Global};
-
-// What operands are multiplied by, and the size of an address, in the programs of a CIE.
-fn factors_of<R: Reader>(cie: &CommonInformationEntry<R>) -> Factors
-    ensures { result ≡ factors_of (cie_view R.stretch R.Offset.value cie.now) }
-{
-    Factors {
-        code_alignment_factor: cie.code_alignment_factor(),
-        data_alignment_factor: cie.data_alignment_factor(),
-        address_size: cie.address_size(),
-    }
-}
-
-// The program of an FDE.
-fn program_of_fde<'a, R: Reader, Section: UnwindSection<R>>(
-    section: &'a Section,
-    bases: &'a BaseAddresses,
-    fde: &FrameDescriptionEntry<R>,
-) -> FrameProgram<'a, R>
-where
-    R: 'a,
-    ensures { program_of result ≡ fde_program (Section.frame section.now bases.now)
-        (Section.extensions section.now) fde.now }
-{
-    FrameProgram {
-        factors: factors_of(fde.cie()),
-        initial_address: fde.initial_address(),
-        end_address: fde.end_address(),
-        initial_instructions: fde.cie().instructions(section, bases),
-        instructions: fde.instructions(section, bases),
-    }
-}
 
 // Adds what an FDE says up to the limit of a span.
 fn add_fde<A: RowRules, R: Reader, Section: UnwindSection<R>, S: UnwindContextStorage<R::Offset>>(
@@ -76,7 +42,7 @@ where
         let rows = fde_rows S.limits frame (Section.extensions section.now) fde.now in
         IfOk result (λ _. AddsRows (row_rules A.rows A.rule_of) span rows ranges.old ranges.new) }
 {
-    match ProgramRows::new(context, program_of_fde(section, bases, fde)) {
+    match ProgramRows::new(context, fde.program(section, bases)) {
         Ok(mut rows) => add_rows::<A, R, S>(ranges, &mut rows, span),
         Err(_) => {
             let uncovered = Covered::Says(A::rule_if_uncovered_by_fde());
