@@ -1,10 +1,11 @@
 -- A stable sort of FDEs by their starts gives them in the order of their starts.
-use Rattle.std.proofs.Common.{◌≡◌, ℕ, suc, ◌≤◌, Bool, true, false, List, [], ◌∷◌, nat_cmp, is_lt, refl, sym, ap, subst, ◌∙◌, arith}
+use Rattle.std.proofs.Common.{◌≡◌, ℕ, zero, suc, ◌≤◌, Bool, true, false, List, [], ◌∷◌, nat_cmp, is_lt, refl, sym, ap, subst, ◌∙◌, arith}
 use Rattle.std.specs.Prelude.{nat_le}
 use Rattle.std.specs.List.{All, filter}
-use Rattle.std.specs.List.Sorted.{IsNonDecreasingBy, IsStableByKey, ties}
+use Rattle.std.specs.List.Sorted.{IsNonDecreasingBy, IsPermutation, IsStableByKey, ties}
 use Rattle.std.proofs.lemmas.Bool.Decides.{nat_tests}
 use Rattle.std.proofs.lemmas.List.Elements.{All-nil, All-cons, All-head, All-tail, All-from_get_or}
+use Rattle.std.proofs.lemmas.List.Sorted.{IsPermutation-refl, IsPermutation-cons, IsPermutation-middle, IsPermutation-trans}
 use Rattle.list_laws.proofs.Laws.{by_case}
 use Rattle.backtrace_findings.specs.Overlaps.{among, in_order}
 use Rattle.backtrace_findings.specs.declared.overlaps.SpannedFde.{SpannedFde}
@@ -20,7 +21,7 @@ starts-alike : (x y : SpannedFde) → x.start ≡ y.start → alike x y ≡ true
 starts-alike x y h = grind (arith, nat_tests)
 
 -- each FDE starts at or below those after it
-abbrev Rises : List SpannedFde → Type 0
+abbrev pub Rises : List SpannedFde → Type 0
 Rises [] = Unit {0}
 Rises (x ∷ xs) = All (λ y. x.start ≤ y.start) xs × Rises xs
 
@@ -95,7 +96,7 @@ among-rises x (y ∷ ys) up =
     let le : y.start ≤ x.start = grind (arith, nat_tests) in
     rw is (among-all (λ u. y.start ≤ u.start) x ys le up.0, among-rises x ys up.1))
 
-in-order-rises : (xs : List SpannedFde) → Rises (in_order xs)
+pub in-order-rises : (xs : List SpannedFde) → Rises (in_order xs)
 in-order-rises [] = tt
 in-order-rises (x ∷ xs) = among-rises x (in_order xs) (in-order-rises xs)
 
@@ -115,7 +116,7 @@ among-keeps z x (y ∷ ys) =
     let others : filter (alike z) (among x ys) ≡ filter (alike z) ys = among-keeps z x ys ∙ (rw no refl) in
     rw (is, others, no) refl))
 
-in-order-keeps : (z : SpannedFde) (xs : List SpannedFde) → filter (alike z) (in_order xs) ≡ filter (alike z) xs
+pub in-order-keeps : (z : SpannedFde) (xs : List SpannedFde) → filter (alike z) (in_order xs) ≡ filter (alike z) xs
 in-order-keeps z [] = refl
 in-order-keeps z (x ∷ xs) =
     among-keeps z x (in_order xs)
@@ -125,3 +126,32 @@ in-order-keeps z (x ∷ xs) =
 pub sorted-in-order : (xs ys : List SpannedFde) → IsNonDecreasingBy (λ y. y.start) ys → IsStableByKey (λ y. y.start) nat_cmp xs ys → ys ≡ in_order xs
 sorted-in-order xs ys up stable =
     alike-lists ys (in_order xs) (rises ys up) (in-order-rises xs) (λ z. stable z ∙ sym (in-order-keeps z xs))
+
+-- ---- FDEs in the order of their starts are the same FDEs
+
+among-permutes : (x : SpannedFde) (xs : List SpannedFde) → IsPermutation (x ∷ xs) (among x xs)
+among-permutes x [] = IsPermutation-refl (x ∷ [])
+among-permutes x (y ∷ ys) =
+    by_case (nat_le x.start y.start)
+    (λ is. rw is (IsPermutation-refl (x ∷ y ∷ ys)))
+    (λ is.
+    rw is
+    (IsPermutation-trans (x ∷ y ∷ ys) (y ∷ x ∷ ys) (y ∷ among x ys) (IsPermutation-middle (x ∷ []) y ys)
+    (IsPermutation-cons y (x ∷ ys) (among x ys) (among-permutes x ys))))
+
+pub in-order-permutes : (xs : List SpannedFde) → IsPermutation xs (in_order xs)
+in-order-permutes [] = IsPermutation-refl []
+in-order-permutes (x ∷ xs) =
+    IsPermutation-trans (x ∷ xs) (x ∷ in_order xs) (among x (in_order xs)) (IsPermutation-cons x xs (in_order xs) (in-order-permutes xs))
+    (among-permutes x (in_order xs))
+
+-- none of FDEs that rise starts below one before it
+non-decreasing : (xs : List SpannedFde) → Rises xs → IsNonDecreasingBy (λ y. y.start) xs
+non-decreasing [] up i j d le within = absurd (omega arith)
+non-decreasing (x ∷ xs) up zero zero d le within = omega arith
+non-decreasing (x ∷ xs) up zero (suc j) d le within = up.0 j d (omega arith)
+non-decreasing (x ∷ xs) up (suc i) zero d le within = absurd (omega arith)
+non-decreasing (x ∷ xs) up (suc i) (suc j) d le within = non-decreasing xs up.1 i j d (omega arith) (omega arith)
+
+pub in-order-non-decreasing : (xs : List SpannedFde) → IsNonDecreasingBy (λ y. y.start) (in_order xs)
+in-order-non-decreasing xs = non-decreasing (in_order xs) (in-order-rises xs)

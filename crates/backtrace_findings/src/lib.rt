@@ -7,6 +7,7 @@ mod header_lines;
 mod headers;
 mod left_out;
 mod lines;
+mod overlap_laws;
 mod overlaps;
 mod rows;
 
@@ -18,5 +19,6 @@ pub use headers::{
 };
 pub use left_out::{LeftOut, LeftOutCause, left_outs};
 pub use lines::{Place, push_fault, push_left_outs, push_overlaps};
+pub use overlap_laws::{overlaps_share_addresses, starts_in_order};
 pub use overlaps::{Overlap, SpannedFde, overlaps_of};
 pub use rows::{FailedFde, push_failed, push_unsaid};
