@@ -25,7 +25,7 @@ then-ok (Err e) next y is = cc
 
 -- ---- a pointer of a size leaves what is behind so many bytes
 
-abbrev Leaves : {A : Type 0} → ℕ → Stretch → A × Stretch → Type 0
+abbrev pub Leaves : {A : Type 0} → ℕ → Stretch → A × Stretch → Type 0
 Leaves size s read = behind_at size s ≡ Ok read.1
 
 choose : {A : Type 0} (short : Bool) (e : Error) (value : A) (rest : Stretch) → Each (λ (read : A × Stretch). cond short (Err e) (Ok rest) ≡ Ok read.1) (cond short (Err e) (Ok (value, rest)))
@@ -71,7 +71,7 @@ value-leaves encoding address_size size format s =
     of-size : (n : ℕ) (read : Result (ℕ × Stretch) Error) → Each (Leaves n s) read → ◌≡◌ {A = Result ℕ Error} (Ok n) (Ok size) → Each (Leaves size s) read
     of-size n read leaves is = let same : n ≡ size = cc in subst (λ m. Each (Leaves m s) read) same leaves
 
-pointer-leaves : (origins : Origins) (encoding size : ℕ) (s : Stretch) → pointer_size encoding ≡ Ok size → Each (Leaves size s) (pointer_at origins encoding s)
+pub pointer-leaves : (origins : Origins) (encoding size : ℕ) (s : Stretch) → pointer_size encoding ≡ Ok size → Each (Leaves size s) (pointer_at origins encoding s)
 pointer-leaves origins encoding size s is =
     each-any (origin_of origins encoding s.offset) (λ base.
     each-then (value-leaves encoding origins.address_size size (format_of encoding) s is) (λ value leaves. each-ok leaves))

@@ -9,3 +9,4 @@ pub mod ReadRows
 pub mod Rising
 pub mod RowSteps
 pub mod TruthfulHeaders
+pub mod TruthfulLines

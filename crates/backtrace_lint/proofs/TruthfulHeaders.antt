@@ -22,7 +22,7 @@ use Rattle.backtrace_findings.specs.declared.headers.HeaderFault.{HeaderFault}
 use Rattle.backtrace_findings.specs.declared.headers.HeaderFault.TheVariants.{NoTable, OtherSection}
 use Rattle.backtrace_findings.specs.declared.headers.HeaderRow.{HeaderRow}
 use Rattle.backtrace_lint.specs.Headers.{header_rows, parsed_header, rows_if_read, rows_if_some, rows_if_there, rows_within, section_start}
-use Rattle.backtrace_lint.specs.TruthfulHeaders.{HasTruthfulHeader, HeadedSection, headed_bases, headed_frames, headed_lines}
+use Rattle.backtrace_lint.specs.TruthfulHeaders.{HasTruthfulRows, HeadedSection, headed_bases, headed_frames, headed_lines}
 use Rattle.backtrace_lint.proofs.HeaderLines.{AreClean, clean-header}
 use Rattle.backtrace_lint.proofs.HeaderTables.{has-size, rows-by-index}
 use Rattle.backtrace_lint.proofs.Members.{SameMembers, same-members}
@@ -30,7 +30,7 @@ use Rattle.backtrace_lint.proofs.NamedFdes.{Ascends, all-named, all-rows, all-st
 use Rattle.backtrace_lint.proofs.Rising.{whole-rise}
 
 -- two FDEs of a section at one offset are one
-same-fde : (section : FrameSection) (one other : Fde) → Contains (whole_fdes section) one → Contains (whole_fdes section) other → one.head.offset ≡ other.head.offset → one ≡ other
+pub same-fde : (section : FrameSection) (one other : Fde) → Contains (whole_fdes section) one → Contains (whole_fdes section) other → one.head.offset ≡ other.head.offset → one ≡ other
 same-fde section one other first second at =
     let there = fdes_there section in
     let here : fde_from_offset section one.head.offset ≡ Ok one = All-contains (StandsAtItsOffset section) (whole_fdes section) one there first in
@@ -97,19 +97,23 @@ truthful-table section bases header last rows sound limit there some are clean =
           (rows-by-index (2 ^ 64) size.0 t size.1 header.count 0 rows are (omega arith) ∙ all-rows start fdes rows named.0 named.1);
     }
 
--- a header without a line is truthful
-pub truthful-header : (h : HeadedSection) → IsSound (headed_frames h) → headed_lines h ≡ [] → HasTruthfulHeader h
-truthful-header h sound none =
+-- a header without a line is truthful, and its table has a row
+pub truthful-rows : (h : HeadedSection) → IsSound (headed_frames h) → headed_lines h ≡ [] → HasTruthfulRows h
+truthful-rows h sound none =
     let section = headed_frames h in
     let bases = headed_bases h in
     let read = header_rows bases h.header.bytes in
     let clean = clean-header _ (section_start bases) read _ none in
     let found = read-header bases (parsed_header bases h.header.bytes) clean.rows clean.is in
     let same = located-whole section in
+    let count = found.count in
     record {
-      says = found.header;
-      parses = found.is;
-      there = found.there;
-      truthful = truthful-table section bases found.header found.last clean.rows sound refl found.there found.count found.are
-          (subst (λ fdes. AreClean (section_start bases) clean.rows fdes) same clean.clean);
+      header = record {
+        says = found.header;
+        parses = found.is;
+        there = found.there;
+        truthful = truthful-table section bases found.header found.last clean.rows sound refl found.there found.count found.are
+            (subst (λ fdes. AreClean (section_start bases) clean.rows fdes) same clean.clean);
+      };
+      has_rows = omega (arith, count);
     }

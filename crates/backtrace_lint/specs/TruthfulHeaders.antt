@@ -1,5 +1,5 @@
 -- What is known of an `.eh_frame_hdr` for which no line is written.
-use Rattle.std.specs.Prelude.{◌≡◌, ℕ, List, Ok}
+use Rattle.std.specs.Prelude.{◌≡◌, ◌<◌, ℕ, List, Ok}
 use Rattle.dwarf_frame_rows.specs.FrameSection.{FrameSection}
 use Rattle.dwarf_frame_rows.specs.declared.base_addresses.BaseAddresses.{BaseAddresses}
 use Rattle.dwarf_frame_rows.specs.declared.pointer.Pointer.TheVariants.{Direct}
@@ -34,3 +34,8 @@ pub record HasTruthfulHeader (h : HeadedSection) : Type 0 where
   pub parses : parsed_header (headed_bases h) h.header.bytes ≡ Ok says
   pub there : says.eh_frame_ptr ≡ Direct (section_start h.section.bases)
   pub truthful : IsTruthful (headed_frames h) (headed_bases h) says
+
+-- .. and its table has a row
+pub record HasTruthfulRows (h : HeadedSection) : Type 0 where
+  pub header : HasTruthfulHeader h
+  pub has_rows : 0 < header.says.count
