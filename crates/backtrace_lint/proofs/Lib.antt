@@ -3,6 +3,7 @@ pub mod FoundRows
 pub mod Gathers
 pub mod HeaderLines
 pub mod HeaderTables
+pub mod IndexLaws
 pub mod Members
 pub mod NamedFdes
 pub mod ReadRows

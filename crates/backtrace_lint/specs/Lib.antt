@@ -3,6 +3,7 @@ pub mod FileRows
 pub mod GatheredViews
 pub mod HeaderViews
 pub mod Headers
+pub mod IndexLaws
 pub mod LintText
 pub mod LintViews
 pub mod ListedFdes

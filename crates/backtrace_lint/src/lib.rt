@@ -8,6 +8,7 @@ mod file;
 mod file_rows;
 mod gathered;
 mod headers;
+pub mod index_laws;
 mod rows;
 mod sections;
 pub mod truthful;
