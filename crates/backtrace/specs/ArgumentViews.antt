@@ -1,5 +1,5 @@
 -- Arguments as contracts see them.
-use Rattle.std.specs.Prelude.{map, option_map, string_bytes}
+use Rattle.std.specs.Prelude.{map, string_bytes}
 use Rattle.std.specs.Option.{option_copied}
 use Rattle.backtrace.specs.Arguments.{Parsed, Request, Stacks, help, lint, stacks}
 use Rattle.backtrace.specs.declared.arguments.CoreRequest.{CoreRequest}
