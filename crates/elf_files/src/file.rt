@@ -61,8 +61,7 @@ impl<'a> ElfFile<'a> {
         self.header.segment_count
     }
 
-    /// Where the program headers end: the bytes of a file up to here say its segments, whatever follows. None if that is no
-    /// number of 64 bits.
+    /// Where the program headers end, an offset in the file. None if that is no number of 64 bits.
     pub fn segment_table_end(&self) -> Option<u64>
         ensures { SomeIff result (segment_table_end self.now.header < 2 ^ 64) (segment_table_end self.now.header) }
     {
