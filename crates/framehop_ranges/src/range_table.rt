@@ -65,6 +65,7 @@ impl<V: SameValue> RangeTable<V> {
             mut entries,
             done: _,
         } = ranges;
+        // Room that the lists grew into and don't need is given back, or kept if memory is refused.
         entries.shrink_to_fit();
         let shift = shift_for(&entries);
         let mut blocks = blocks_of(alloc, &entries, shift)?;
