@@ -1,5 +1,5 @@
-pub mod DecidedAarch64
-pub mod DecidedX86_64
+mod DecidedAarch64
+mod DecidedX86_64
 mod Decisions
 mod DistinctWords
 mod EndWords
@@ -9,6 +9,7 @@ mod EpilogueReturns
 mod EpilogueReturnsAarch64
 mod Found
 mod FrameSetup
+pub mod Laws
 mod OneEpilogueAarch64
 mod OneRuleAarch64
 mod PairBits

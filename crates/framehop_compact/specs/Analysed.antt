@@ -2,7 +2,7 @@
 use Rattle.std.specs.Prelude.{ℕ, ◌≡◌, Bool, true, false, List, Option, Some, None, Ok}
 use Rattle.std.specs.Borrow.{Bor}
 use Rattle.std.specs.Option.{option_map}
-use Rattle.framehop_analysis.specs.Found.{IsFound, IsOfFirst}
+use Rattle.framehop_analysis.specs.Found.{HasAnswer, IsFound, IsOfFirst}
 use Rattle.framehop_compact.specs.CompactResults.{CuiResult}
 use Rattle.framehop_compact.specs.declared.cui_unwind_result.CuiUnwindResult.TheVariants.{ExecRule}
 
@@ -16,8 +16,7 @@ RulesAt Rule = List ℕ → ℕ → Rule → Type 0
 
 -- The rule of the prologue at each offset of each function, or else of the epilogue there, or that there is none.
 abbrev pub IsKnownAt : {Rule : Type 0} → RulesAt Rule → RulesAt Rule → Type 0
-IsKnownAt {Rule} IsPrologueRule IsEpilogueRule =
-    (text : List ℕ) (offset : ℕ) → (found : Option Rule) × IsFound (IsOfFirst (IsPrologueRule text offset) (IsEpilogueRule text offset)) found
+IsKnownAt IsPrologueRule IsEpilogueRule = (text : List ℕ) (offset : ℕ) → HasAnswer (IsPrologueRule text offset) (IsEpilogueRule text offset)
 
 -- The rule of the machine code. A later frame has none, nor has a function whose bytes aren't there.
 abbrev pub analysed : {Rule : Type 0} → (List ℕ → ℕ → Option Rule) → Bool → ℕ → Option (List ℕ) → Option Rule

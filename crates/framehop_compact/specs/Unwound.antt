@@ -7,7 +7,7 @@ use Rattle.framehop_rules.specs.declared.x86_64.unwind_rule.UnwindRuleX86_64.{Un
 use Rattle.framehop_rules.specs.declared.x86_64.unwind_rule.UnwindRuleX86_64.TheVariants.{JustReturn, OffsetSp, UseFramePointer}
 use Rattle.framehop_analysis.specs.Epilogue.{IsEpilogueRule}
 use Rattle.framehop_analysis.specs.Prologue.{IsPrologueRule}
-use Rattle.framehop_analysis.proofs.DecidedX86_64.{rule_at}
+use Rattle.framehop_analysis.proofs.Laws.{rule_at_x86_64}
 use Rattle.framehop_compact_tables.specs.declared.function.Function.{Function}
 use Rattle.framehop_compact.specs.Analysed.{IsKnownAt, analysed, found_or}
 use Rattle.framehop_compact.specs.CompactMeanings.{CompactMeanings}
@@ -42,9 +42,10 @@ abbrev pub function_rule : OpcodeX86_64 → Bool → Option (List ℕ) → CuiRe
 function_rule Null true text = Ok (ExecRule (uninformed_rule text))
 function_rule opcode is_first text = body_rule opcode text
 
--- The rule of the machine code at each offset of each function.
+-- The rule of the machine code at each offset of each function. Its type says which one it is: at most one is as wanted, and it is found
+-- by trying all instructions.
 pub rule_found : IsKnownAt IsPrologueRule IsEpilogueRule
-rule_found = rule_at
+rule_found = rule_at_x86_64
 
 -- The step: by the machine code, or else by the function's encoding.
 abbrev pub unwound : Function → Bool → ℕ → Option (List ℕ) → CuiResult UnwindRuleX86_64

@@ -5,7 +5,7 @@ use Rattle.framehop_rules.specs.declared.aarch64.unwind_rule.UnwindRuleAarch64.{
 use Rattle.framehop_rules.specs.declared.aarch64.unwind_rule.UnwindRuleAarch64.TheVariants.{NoOp, OffsetSp, UseFramePointer}
 use Rattle.framehop_analysis.specs.LookBackAarch64.{IsEpilogueRule}
 use Rattle.framehop_analysis.specs.PrologueAarch64.{IsPrologueRule}
-use Rattle.framehop_analysis.proofs.DecidedAarch64.{rule_at}
+use Rattle.framehop_analysis.proofs.Laws.{rule_at_aarch64}
 use Rattle.framehop_compact_tables.specs.declared.function.Function.{Function}
 use Rattle.framehop_compact.specs.Analysed.{IsKnownAt, analysed, found_or}
 use Rattle.framehop_compact.specs.CompactMeanings.{CompactMeanings}
@@ -28,13 +28,14 @@ body_rule (Dwarf offset) is_first = Ok (NeedDwarf offset)
 body_rule FrameBased is_first = Ok (ExecRule UseFramePointer)
 body_rule (UnrecognizedKind kind) is_first = Err (BadOpcodeKind kind)
 
--- The rules of prologues that stand at an offset of a function.
+-- The rules of prologues that are at an offset of a function.
 abbrev pub IsPrologueRuleAt : List ℕ → ℕ → UnwindRuleAarch64 → Type 0
 IsPrologueRuleAt text offset = IsPrologueRule (take offset text) (drop offset text)
 
--- The rule of the machine code at each offset of each function.
+-- The rule of the machine code at each offset of each function. Its type says which one it is: at most one is as wanted, and it is found
+-- by trying all instructions.
 pub rule_found : IsKnownAt IsPrologueRuleAt IsEpilogueRule
-rule_found = rule_at
+rule_found = rule_at_aarch64
 
 -- The step by the machine code, or else by what the encoding says. A function without info is a leaf in a first frame, whatever its
 -- code.

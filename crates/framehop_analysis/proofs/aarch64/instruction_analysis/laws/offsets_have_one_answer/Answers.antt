@@ -1,5 +1,5 @@
-use Rattle.framehop_analysis.proofs.DecidedAarch64.{rule_at}
+use Rattle.framehop_analysis.proofs.Laws.{rule_at_aarch64}
 use Rattle.framehop_analysis.proofs.aarch64.instruction_analysis.laws.offsets_have_one_answer.Goals as goal
 
 pub returns : goal.returns
-returns c = rule_at
+returns c = rule_at_aarch64
