@@ -171,6 +171,9 @@ __attribute__((constructor)) static void copy_maps(void) {
 }
 """
 
+# Call frames in `.debug_frame` alone, beside those that start files have in `.eh_frame`.
+DEBUG_FRAME = ["-g", "-O2", "-fomit-frame-pointer", "-fno-asynchronous-unwind-tables", "-fno-unwind-tables"]
+
 # Each built program: its source, compiler, options and arguments.
 BUILT = {
     "c": (DOWN, "gcc", ["-O1"], ["20"]),
@@ -184,6 +187,9 @@ BUILT = {
     "static-pie": (DOWN, "gcc", ["-O1", "-static-pie"], ["9"]),
     "stripped": (DOWN, "gcc", ["-O2", "-s"], ["30"]),
     "frame-pointers": (DOWN, "gcc", ["-O1", "-fno-omit-frame-pointer", "-fno-asynchronous-unwind-tables", "-fno-unwind-tables"], ["9"]),
+    "debug-frame": (DOWN, "gcc", DEBUG_FRAME, ["20"]),
+    "debug-frame-callback": (SORTS, "gcc", DEBUG_FRAME, []),
+    "debug-frame-clang": (DOWN, "clang", DEBUG_FRAME, ["20"]),
     "no-pie": (DOWN, "clang", ["-O1", "-no-pie"], ["9"]),
     "signals": (SIGNALS, "gcc", ["-O1"], []),
     "signals-clang": (SIGNALS, "clang", ["-O2"], []),
@@ -222,6 +228,7 @@ ARM_BUILT = {
     "aarch64-static": (THREADS, ARM_GCC, ["-O1", "-pthread", "-static"], []),
     "aarch64-stripped": (DOWN, ARM_GCC, ["-O2", "-s", SIGNED], ["30"]),
     "aarch64-frame-pointers": (DOWN, ARM_GCC, ["-O1", "-fno-asynchronous-unwind-tables", "-fno-unwind-tables", SIGNED], ["9"]),
+    "aarch64-debug-frame": (DOWN, ARM_GCC, [*DEBUG_FRAME, SIGNED], ["20"]),
     "aarch64-signals": (SIGNALS, ARM_GCC, ["-O1", SIGNED], []),
     "aarch64-signal-stack": (SIGNALS, ARM_GCC, ["-O1"], ["1"]),
     "aarch64-signals-static": (SIGNALS, ARM_GCC, ["-O1", "-static"], []),
