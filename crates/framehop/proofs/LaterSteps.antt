@@ -19,7 +19,7 @@ use Rattle.framehop.specs.Methods.{method_at}
 use Rattle.framehop.specs.declared.dwarf.UnwindSectionType.TheVariants as kinds
 use Rattle.framehop_compact.specs.CompactResults.{CuiResult}
 use Rattle.framehop_compact.specs.declared.cui_unwind_result.CuiUnwindResult.TheVariants.{ExecRule, NeedDwarf}
-use Rattle.framehop.specs.UnwindData.{UnwindData, ModuleFormat, CallFrames, Compact, NoFormat, Pe, method_by_compact, method_by_format}
+use Rattle.framehop.specs.UnwindData.{UnwindData, ModuleFormat, SectionFrames, BothFrames, CallFrames, Compact, NoFormat, Pe, frames_for, method_by_compact, method_by_format}
 use Rattle.framehop_registers.specs.Callback.{Words}
 use Rattle.framehop_registers.specs.RegistersAarch64.{lr_of, sp_of, fp_of}
 use Rattle.framehop_registers.specs.declared.aarch64.unwindregs.UnwindRegsAarch64.{UnwindRegsAarch64}
@@ -150,6 +150,9 @@ module _ (rules : RulesRaise) (limits : StepLimits) (registers : UnwindRegsAarch
   format-raised : (bases : BaseAddresses) (base relative : ℕ) (format : ModuleFormat)
       → by_attempt (meanings_aarch64 limits) false registers words (attempt_by_method rows limits base relative false (method_by_format formats_aarch64.tables bases base relative false format)) ≡ Answers caller → IsRaised (sp_of registers) (sp_of caller.registers)
   format-raised bases base relative (CallFrames section lookup) is = lookup-raised bases base relative (section_of_type bases section) lookup is
+  format-raised bases base relative (BothFrames main other) is =
+      let used : SectionFrames = frames_for bases base relative main other in
+      lookup-raised bases base relative (section_of_type bases used.section) used.lookup is
   format-raised bases base relative (Pe file) is = rules UseFramePointer registers words caller is
   format-raised bases base relative (Compact file eh_frame) is = compact-raised bases base relative eh_frame (formats_aarch64.tables.compact file relative false) is
   format-raised bases base relative NoFormat is = rules UseFramePointer registers words caller is

@@ -1,3 +1,4 @@
+pub mod BothSections
 pub mod CoverageAnswers
 pub mod CoveredSteps
 pub mod Coverages

@@ -1,6 +1,7 @@
 pub mod ArchMeanings
 pub mod ArchTables
 pub mod Attempts
+pub mod BothSections
 pub mod Coverage
 pub mod DwarfViews
 pub mod LookupMethods

@@ -1,5 +1,5 @@
 -- The unwind data of a module: its format, and the addresses that its numbers are relative to.
-use Rattle.std.specs.Prelude.{ℕ, ◌-◌, ◌^◌, ◌&&◌, nat_le, nat_lt, if◌then◌else◌, List, Bool, Option, Some, None, option_and_then, option_map, Ok, Err}
+use Rattle.std.specs.Prelude.{ℕ, ◌-◌, ◌^◌, ◌&&◌, not, codes, nat_le, nat_lt, if◌then◌else◌, List, Bool, Option, Some, None, option_and_then, option_map, Ok, Err}
 use Rattle.std.specs.declared.ops.Range.{Range}
 use Rattle.dwarf_frame_rows.specs.declared.base_addresses.BaseAddresses.{BaseAddresses}
 use Rattle.framehop_modules.specs.Sections.{Sections}
@@ -13,15 +13,22 @@ use Rattle.framehop_compact.specs.CompactResults.{CuiResult}
 use Rattle.framehop_compact.specs.declared.cui_unwind_result.CuiUnwindResult.TheVariants.{ExecRule, NeedDwarf}
 use Rattle.framehop_pe_codes.specs.Sections.{PeFile, PeSection}
 use Rattle.framehop.specs.SectionTypes.{section_of_type}
-use Rattle.framehop.specs.LookupMethods.{Lookup, ByIndex, ByHeader, ByScan, method_by}
+use Rattle.framehop.specs.LookupMethods.{Lookup, ByIndex, ByHeader, ByScan, is_contained_by, method_by}
 use Rattle.framehop.specs.Methods.{Method, UsesFde, UsesNothing, UsesRule}
 use Rattle.framehop.specs.declared.dwarf.UnwindSectionType.{UnwindSectionType}
 use Rattle.framehop.specs.declared.dwarf.UnwindSectionType.TheVariants as section
 
--- What a module is unwound by: a section of call frames with the lookup of its FDEs; the unwind data of a PE file; the compact unwind
--- info of a Mach-O file, with the bytes of `__eh_frame` if there are some; or nothing.
+-- A section of call frames with the lookup of its FDEs.
+pub record SectionFrames : Type 0 where
+  pub section : UnwindSectionType (List ℕ)
+  pub lookup : Lookup
+
+-- What a module is unwound by: a section of call frames with the lookup of its FDEs; one such section, and another for addresses that
+-- are in its FDEs alone; the unwind data of a PE file; the compact unwind info of a Mach-O file, with the bytes of `__eh_frame` if there
+-- are some; or nothing.
 pub data ModuleFormat : Type 0 where
   CallFrames : UnwindSectionType (List ℕ) → Lookup → ModuleFormat
+  BothFrames : (main other : SectionFrames) → ModuleFormat
   Pe : PeFile → ModuleFormat
   Compact : CompactFile → (eh_frame : Option (List ℕ)) → ModuleFormat
   NoFormat : ModuleFormat
@@ -102,6 +109,7 @@ format_of base NoSections = NoFormat
 -- the format if FDEs are found by reading the section at each step
 abbrev pub scanned : ModuleFormat → ModuleFormat
 scanned (CallFrames section lookup) = CallFrames section ByScan
+scanned (BothFrames main other) = BothFrames (record main { lookup = ByScan }) (record other { lookup = ByScan })
 scanned (Pe file) = Pe file
 scanned (Compact file eh_frame) = Compact file eh_frame
 scanned NoFormat = NoFormat
@@ -109,14 +117,31 @@ scanned NoFormat = NoFormat
 -- the format if FDEs are found by an index, also if there is a header
 abbrev pub indexed : ModuleFormat → ModuleFormat
 indexed (CallFrames section lookup) = CallFrames section ByIndex
+indexed (BothFrames main other) = BothFrames (record main { lookup = ByIndex }) (record other { lookup = ByIndex })
 indexed (Pe file) = Pe file
 indexed (Compact file eh_frame) = Compact file eh_frame
 indexed NoFormat = NoFormat
 
--- FDEs are found by a header in `.eh_frame` alone.
+-- `.debug_frame`, whose FDEs are found by an index
+abbrev pub debug_frames : List ℕ → SectionFrames
+debug_frames bytes = record { section = section.DebugFrame bytes; lookup = ByIndex }
+
+-- the format of a module that is unwound by `.debug_frame` too, if it has that section beside `.eh_frame`
+abbrev pub with_debug_frame : Option (List ℕ) → ModuleFormat → ModuleFormat
+with_debug_frame (Some debug_frame) (CallFrames (section.EhFrame eh_frame) lookup) =
+    BothFrames (record { section = section.EhFrame eh_frame; lookup = lookup }) (debug_frames debug_frame)
+with_debug_frame debug_frame format = format
+
+-- FDEs of a section are found by a header in `.eh_frame` alone.
+abbrev pub IsHeaderOfEhFrame : UnwindSectionType (List ℕ) → Lookup → Type 0
+IsHeaderOfEhFrame (section.DebugFrame bytes) (ByHeader header) = ⊥
+IsHeaderOfEhFrame section lookup = Unit {0}
+
+-- And so they are in a module's format.
 abbrev pub HasHeaderOfEhFrame : ModuleFormat → Type 0
-HasHeaderOfEhFrame (CallFrames (section.DebugFrame bytes) (ByHeader header)) = ⊥
-HasHeaderOfEhFrame other = Unit {0}
+HasHeaderOfEhFrame (CallFrames section lookup) = IsHeaderOfEhFrame section lookup
+HasHeaderOfEhFrame (BothFrames main other) = IsHeaderOfEhFrame main.section main.lookup × IsHeaderOfEhFrame other.section other.lookup
+HasHeaderOfEhFrame others = Unit {0}
 
 -- the unwind data of a module with these sections
 abbrev pub unwind_data_of : Sections → UnwindData
@@ -133,6 +158,25 @@ by_index given = record given { format = indexed given.format }
 -- the unwind data of a module with these sections, whose section of call frames is read by an index
 abbrev pub indexed_data_of : Sections → UnwindData
 indexed_data_of s = by_index (unwind_data_of s)
+
+-- the unwind data of a module with these sections, which is unwound by `.debug_frame` too, if it has that section beside `.eh_frame`
+abbrev pub both_data_of : Sections → UnwindData
+both_data_of s = record (unwind_data_of s) { format = with_debug_frame (s.section_data (codes ".debug_frame")) (unwind_data_of s).format }
+
+-- a relative address is in the FDE that is found for it in a section
+abbrev pub is_in_frames : BaseAddresses → (base relative : ℕ) → SectionFrames → Bool
+is_in_frames bases base relative frames = is_contained_by frames.lookup bases (section_of_type bases frames.section) base relative
+
+-- of two sections the one that is used at a relative address: the other if the address is in its FDE, and not in that of the main one
+abbrev pub frames_for : BaseAddresses → (base relative : ℕ) → (main other : SectionFrames) → SectionFrames
+frames_for bases base relative main other =
+    if not (is_in_frames bases base relative main) && is_in_frames bases base relative other then other else main
+
+-- the section of call frames that a format uses at a relative address, if it uses one
+abbrev pub frames_of : BaseAddresses → (base relative : ℕ) → ModuleFormat → Option SectionFrames
+frames_of bases base relative (CallFrames section lookup) = Some (record { section = section; lookup = lookup })
+frames_of bases base relative (BothFrames main other) = Some (frames_for bases base relative main other)
+frames_of bases base relative others = None
 
 -- How the unwind data of a PE file say to unwind a frame at a relative address, a first or a later one.
 abbrev pub PeMethods : Type 0 → Type 0 → Type 0
@@ -154,10 +198,16 @@ method_by_compact bases eh_frame (Ok (ExecRule rule)) = UsesRule rule
 method_by_compact bases eh_frame (Ok (NeedDwarf offset)) = method_in bases eh_frame offset
 method_by_compact bases eh_frame (Err refusal) = UsesNothing
 
+-- by the lookup of a section
+abbrev pub method_by_frames : {Rule Registers : Type 0} → BaseAddresses → (base relative : ℕ) → SectionFrames → Method Rule Registers
+method_by_frames bases base relative frames = method_by frames.lookup bases (section_of_type bases frames.section) base relative
+
 -- how a format says to unwind a frame at a relative address
 abbrev pub method_by_format : {Rule Registers : Type 0} → TableMethods Rule Registers → BaseAddresses → (base relative : ℕ) → Bool → ModuleFormat
     → Method Rule Registers
 method_by_format tables bases base relative first (CallFrames section lookup) = method_by lookup bases (section_of_type bases section) base relative
+method_by_format tables bases base relative first (BothFrames main other) =
+    method_by_frames bases base relative (frames_for bases base relative main other)
 method_by_format tables bases base relative first (Pe file) = tables.pe file relative first
 method_by_format tables bases base relative first (Compact file eh_frame) = method_by_compact bases eh_frame (tables.compact file relative first)
 method_by_format tables bases base relative first NoFormat = UsesNothing

@@ -1,12 +1,15 @@
 -- The unwind data of a module as contracts see it.
-use Rattle.std.specs.Prelude.{◌≡◌, ℕ, List, Option, Some, None, option_map, Result, IfOk, IsTrue, false}
+use Rattle.std.specs.Prelude.{◌≡◌, ℕ, List, Option, Some, None, option_map, Result, IfOk, IfSome, IsTrue, codes, false}
 use Rattle.std.specs.Borrow.{Bor}
 use Rattle.std.specs.declared.ops.Range.{Range}
 use Rattle.dwarf_frame_rows.specs.declared.base_addresses.BaseAddresses.{BaseAddresses}
 use Rattle.dwarf_frame_rows.specs.FrameSection.{FrameSection}
 use Rattle.framehop_compact.specs.CompactFiles.{Code, CompactFile}
 use Rattle.framehop_compact_tables.specs.Increasing as compact
-use Rattle.framehop_modules.specs.ChosenViews.{section_bytes}
+use Rattle.framehop_modules.specs.Chosen.{chosen_sections}
+use Rattle.framehop_modules.specs.ChosenViews.{section_bytes, sections_bytes}
+use Rattle.framehop_modules.specs.Sections.{Sections}
+use Rattle.framehop_modules.specs.declared.module_sections.ModuleSections.{ModuleSections}
 use Rattle.framehop_modules.specs.declared.module_sections.SectionData.{SectionData}
 use Rattle.framehop_pe_codes.specs.Sections.{PeFile, PeSection}
 use Rattle.framehop_pe.specs.Rows.{IsIncreasing}
@@ -26,6 +29,7 @@ use Rattle.framehop.specs.declared.unwind_data.Lookup.{Lookup}
 use Rattle.framehop.specs.declared.unwind_data.Lookup.TheVariants as which
 use Rattle.framehop.specs.declared.unwind_data.ModuleFormat.{ModuleFormat}
 use Rattle.framehop.specs.declared.unwind_data.ModuleFormat.TheVariants as format
+use Rattle.framehop.specs.declared.unwind_data.SectionFrames.{SectionFrames}
 use Rattle.framehop.specs.declared.unwind_data.TabulatedIndex.{TabulatedIndex}
 use Rattle.framehop.specs.declared.tabulation.ArchRuleTable.{ArchRuleTable}
 use Rattle.framehop.specs.declared.compact.CodeAt.{CodeAt}
@@ -91,10 +95,18 @@ compact_file_taken content base unwind_info stubs stub_helper text =
 abbrev pub TablesIncrease : {D : Type 0} → (D → List ℕ) → CompactModule D → Type 0
 TablesIncrease content file = IsTrue file.increasing → compact.IsIncreasing (content file.unwind_info)
 
+-- a section with the lookup of its FDEs, by its bytes
+abbrev pub frames_view : {D : Type 0} → (D → List ℕ) → SectionFrames D → data_.SectionFrames
+frames_view content frames = record {
+  section = frame_section_bytes content frames.section;
+  lookup = entries_view content frames.entries;
+}
+
 -- the format of a module, by the bytes of its sections
 abbrev pub format_view : {D : Type 0} → (D → List ℕ) → ModuleFormat D → data_.ModuleFormat
 format_view content (format.CallFrames section entries) =
     data_.CallFrames (frame_section_bytes content section) (entries_view content entries)
+format_view content (format.BothFrames main other) = data_.BothFrames (frames_view content main) (frames_view content other)
 format_view content (format.Pe file) = data_.Pe (file_view content file)
 format_view content (format.Compact file) = data_.Compact (compact_view content file) (option_map content file.eh_frame)
 format_view content format.NoFormat = data_.NoFormat
@@ -112,13 +124,27 @@ AreFoundBy base section (by.Table tabulated) = IsTabulatedIndexOf tabulated.valu
 AreFoundBy base section by.Unindexed = has_index section ≡ false
 AreFoundBy base section by.Scan = Unit {0}
 
+-- and so it is for a section, which a module has
+abbrev pub AreFramesFoundBy : {D : Type 0} → (D → List ℕ) → BaseAddresses → (base : ℕ) → SectionFrames D → Type 0
+AreFramesFoundBy content bases base frames =
+    AreFoundBy base (section_of_type bases (frame_section_bytes content frames.section)) frames.entries
+
 -- and so it is in a module's format; and rows of a PE file, and tables of a Mach-O file, that are said to increase do
 abbrev pub IsIndexedBy : {D : Type 0} → (D → List ℕ) → BaseAddresses → (base : ℕ) → ModuleFormat D → Type 0
 IsIndexedBy content bases base (format.CallFrames section entries) =
     AreFoundBy base (section_of_type bases (frame_section_bytes content section)) entries
+IsIndexedBy content bases base (format.BothFrames main other) =
+    AreFramesFoundBy content bases base main × AreFramesFoundBy content bases base other
 IsIndexedBy content bases base (format.Pe file) = IncreasesAsSaid content file
 IsIndexedBy content bases base (format.Compact file) = TablesIncrease content file
 IsIndexedBy content bases base format.NoFormat = Unit {0}
+
+-- Sections that were taken, and `.debug_frame`, if it is beside them, make the format of a module with these sections that is unwound by
+-- both.
+abbrev pub AreChosenBeside : {D : Type 0} → (D → List ℕ) → Sections → ModuleSections D → Option D → Type 0
+AreChosenBeside content s taken debug_frame =
+    (base : ℕ) → data_.with_debug_frame (option_map content debug_frame) (data_.format_of base (sections_bytes content taken))
+    ≡ data_.with_debug_frame (s.section_data (codes ".debug_frame")) (data_.format_of base (chosen_sections s))
 
 -- the lookup that is lent
 abbrev pub lookup_view : Lookup → said.Lookup
@@ -157,6 +183,15 @@ MakesEntries index result =
 abbrev pub IsLentBy : data_.UnwindData → UnwindSectionType (Bor (List ℕ)) → Lookup → Type 0
 IsLentBy given section lookup = LeadsInto given.base_svma (section_of_type given.bases (frame_section_bytes (λ b. b.now) section)) lookup
 
+-- the section and the lookup that are lent, by their bytes
+abbrev pub frames_lent : UnwindSectionType (Bor (List ℕ)) → Lookup → data_.SectionFrames
+frames_lent section lookup = record { section = frame_section_bytes (λ b. b.now) section; lookup = lookup_view lookup }
+
+-- They are those that unwind data uses at a relative address.
+abbrev pub IsUsedAt : data_.UnwindData → (relative : ℕ) → UnwindSectionType (Bor (List ℕ)) → Lookup → Type 0
+IsUsedAt given relative section lookup =
+    data_.frames_of given.bases given.base_svma relative given.format ≡ Some (frames_lent section lookup)
+
 -- The section and the table that unwind data lends: the table is that of the section.
 abbrev pub IsTabulatedFor : data_.UnwindData → UnwindSectionType (Bor (List ℕ)) → ArchRuleTable → Type 0
 IsTabulatedFor given section table = IsArchTableOf table given.base_svma (section_of_type given.bases (frame_section_bytes (λ b. b.now) section))
@@ -164,6 +199,7 @@ IsTabulatedFor given section table = IsArchTableOf table given.base_svma (sectio
 -- the format isn't that of a PE file
 abbrev pub IsNotPe : data_.ModuleFormat → Type 0
 IsNotPe (data_.CallFrames section lookup) = Unit {0}
+IsNotPe (data_.BothFrames main other) = Unit {0}
 IsNotPe (data_.Pe file) = ⊥
 IsNotPe (data_.Compact file eh_frame) = Unit {0}
 IsNotPe data_.NoFormat = Unit {0}
@@ -171,16 +207,16 @@ IsNotPe data_.NoFormat = Unit {0}
 -- the format isn't that of a Mach-O file with compact unwind info
 abbrev pub IsNotCompact : data_.ModuleFormat → Type 0
 IsNotCompact (data_.CallFrames section lookup) = Unit {0}
+IsNotCompact (data_.BothFrames main other) = Unit {0}
 IsNotCompact (data_.Pe file) = Unit {0}
 IsNotCompact (data_.Compact file eh_frame) = ⊥
 IsNotCompact data_.NoFormat = Unit {0}
 
--- the module isn't unwound by call frames
-abbrev pub IsUnused : BaseAddresses → (base : ℕ) → data_.ModuleFormat → Type 0
-IsUnused bases base (data_.CallFrames section lookup) = IsUnindexed base (section_of_type bases section) lookup
-IsUnused bases base (data_.Pe file) = Unit {0}
-IsUnused bases base (data_.Compact file eh_frame) = Unit {0}
-IsUnused bases base data_.NoFormat = Unit {0}
+-- the module isn't unwound by call frames at a relative address
+abbrev pub IsUnused : data_.UnwindData → (relative : ℕ) → Type 0
+IsUnused given relative =
+    IfSome (data_.frames_of given.bases given.base_svma relative given.format)
+    (λ frames. IsUnindexed given.base_svma (section_of_type given.bases frames.section) frames.lookup)
 
 -- the bytes of the header that FDEs are found by
 abbrev pub header_bytes : said.Lookup → Option (List ℕ)

@@ -111,7 +111,7 @@ impl<A: Unwinding, D: SectionBytes + Drop, P: AllocationPolicy> ModuleUnwinding
                 );
             }
         }
-        let Some((section, lookup)) = unwind_data.call_frames() else {
+        let Some((section, lookup)) = unwind_data.call_frames(relative_address) else {
             return Err(failure_of(UnwinderError::NoModuleUnwindData));
         };
         unwind_frame_by_call_frames::<A, P, F>(

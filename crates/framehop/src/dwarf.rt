@@ -34,7 +34,10 @@ pub enum UnwindSectionType<D> {
 }
 
 // The address that a section has for a relative address. Fails if it doesn't fit 64 bits.
-fn lookup_address(base_svma: u64, relative_address: u32) -> Result<u64, DwarfUnwinderError>
+pub(crate) fn lookup_address(
+    base_svma: u64,
+    relative_address: u32,
+) -> Result<u64, DwarfUnwinderError>
     ensures some { IfOk result (λ address. address ≡ base_svma + relative_address) }
     ensures fits { IfOk result (λ address. address < 2 ^ 64) }
     ensures none { IfErr result (λ error. (error ≡ DwarfUnwinderError.LookupAddressOverflow)

@@ -9,6 +9,7 @@ mod arch;
 mod cache;
 mod call_frames;
 mod compact;
+mod contained;
 mod context;
 mod dwarf;
 pub mod histories;
@@ -60,6 +61,6 @@ pub use framehop_unwinder::{
     AddUnwinderError, Cache, ModuleUnwinding, Session, StackWalk, UnwindFailure, UnwindIterator,
     Unwinder, UnwinderInternal, laws,
 };
-pub use module::{Module, load_module, load_module_tabulated};
+pub use module::{Module, load_module, load_module_tabulated, load_module_with_debug_frame};
 pub use tabulation::{ArchRuleTable, Tabulating};
 pub use unwind_data::ModuleUnwindData;

@@ -1,15 +1,16 @@
 //! Laws of the lookups of FDEs, if the header of a section is truthful. The functions do nothing when the program
 //! runs.
 
-ghost use Rattle.std.specs.Prelude.{◌<◌, ◌+◌, ◌^◌};
+ghost use Rattle.std.specs.Prelude.{◌≡◌, ◌<◌, ◌+◌, ◌^◌, Bool, ℕ};
 ghost use Rattle.framehop_modules.specs.Sections.{Sections};
 ghost use Rattle.framehop_unwinder.specs.Attempt.{Meanings};
-ghost use Rattle.framehop.specs.Attempts.{StepLimits};
+ghost use Rattle.framehop.specs.Attempts.{FormatMeanings, StepLimits};
+ghost use Rattle.framehop.specs.BothSections.{AttemptsByOne, HasBoth, HasOne};
 ghost use Rattle.framehop.specs.SameSteps.{StepsFollowAttempts};
 ghost use Rattle.framehop.specs.StepMeanings.{meanings_aarch64, meanings_x86_64};
 ghost use Rattle.framehop.specs.LookupsAlike.{AddressBelow, AddressFrom, AddressWithin, AllLeadTo, AllStepAlike, AttemptsBelow, AttemptsFrom, LookupsBelowAll};
 ghost use Rattle.framehop.specs.TruthfulLookups.{AllAttemptAlike};
-ghost use Rattle.framehop.specs.UnwindData.{HasHeaderOfEhFrame, UnwindData, scanned_data_of, unwind_data_of};
+ghost use Rattle.framehop.specs.UnwindData.{HasHeaderOfEhFrame, UnwindData, both_data_of, scanned_data_of, unwind_data_of};
 
 use framehop_rows::DwarfUnwinding;
 use framehop_rules::Arch;
@@ -19,6 +20,7 @@ pub use framehop_tables::table_laws::tables_attempt_as_indexes;
 pub fn headers_are_of_eh_frame()
     ensures made { (s : Sections) → HasHeaderOfEhFrame (unwind_data_of s).format }
     ensures scanning { (s : Sections) → HasHeaderOfEhFrame (scanned_data_of s).format }
+    ensures both { (s : Sections) → HasHeaderOfEhFrame (both_data_of s).format }
 {}
 
 /// If an FDE contains an address of 64 bits, each lookup leads to it.
@@ -66,4 +68,13 @@ pub fn truthful_lookups_step_alike()
         → AllStepAlike (meanings_x86_64 limits) a }
     ensures aarch64 { (limits : StepLimits) (a : AddressWithin)
         → AllStepAlike (meanings_aarch64 limits) a }
+{}
+
+/// A module that is loaded with `.debug_frame` beside `.eh_frame` is unwound by `.debug_frame` at an address that the FDE found there
+/// contains and that of `.eh_frame` doesn't, and at all others by `.eh_frame`, as without the other; and one that hasn't both is the
+/// module that it was.
+pub fn debug_frame_is_used_beside_eh_frame<A: Arch>()
+    ensures both { (m : FormatMeanings A.UnwindRule A.UnwindRegs) (limits : StepLimits) (s : Sections) (has : HasBoth s)
+        (relative : ℕ) (first : Bool) → AttemptsByOne m limits has relative first }
+    ensures one { (s : Sections) → HasOne s → both_data_of s ≡ unwind_data_of s }
 {}

@@ -2,7 +2,7 @@
 
 ghost use Rattle.std.specs.Prelude.{◌≡◌, IfOk};
 ghost use Rattle.std.specs.String.{string_bytes};
-ghost use Rattle.framehop.specs.UnwindData.{indexed_data_of, unwind_data_of};
+ghost use Rattle.framehop.specs.UnwindData.{both_data_of, indexed_data_of, unwind_data_of};
 
 use crate::tabulation::Tabulating;
 use crate::unwind_data::ModuleUnwindData;
@@ -53,5 +53,26 @@ pub fn load_module_tabulated<A: Tabulating, D: SectionBytes + Drop, I: ModuleSec
         module_.unwind_data ≡ indexed_data_of (I.sections info.old)) }
 {
     let unwind_data = ModuleUnwindData::tabulated::<A, I>(alloc, info)?;
+    Module::new(alloc, name, avma_range, base_avma, unwind_data)
+}
+
+/// As [`load_module`], but a module that is unwound by `.eh_frame` and has a `.debug_frame` too, as a program has that is compiled
+/// without asynchronous unwind tables and linked with start files that have them, is unwound by both: by `.debug_frame` at an address
+/// that its FDE contains and that of `.eh_frame` doesn't. Fails if it fails to allocate.
+pub fn load_module_with_debug_frame<D: SectionBytes + Drop, I: ModuleSectionInfo<D>>(
+    alloc: Global,
+    name: String,
+    avma_range: Range<u64>,
+    base_avma: u64,
+    info: &mut I,
+) -> Result<Module<D>, AllocError>
+    ensures name { IfOk result (λ module_. module_.name ≡ string_bytes name) }
+    ensures start { IfOk result (λ module_. module_.start ≡ avma_range.start) }
+    ensures end { IfOk result (λ module_. module_.end ≡ avma_range.end) }
+    ensures base { IfOk result (λ module_. module_.base ≡ base_avma) }
+    ensures unwind_data { IfOk result (λ module_.
+        module_.unwind_data ≡ both_data_of (I.sections info.old)) }
+{
+    let unwind_data = ModuleUnwindData::with_debug_frame(alloc, info)?;
     Module::new(alloc, name, avma_range, base_avma, unwind_data)
 }

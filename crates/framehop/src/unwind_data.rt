@@ -5,10 +5,11 @@ ghost use Rattle.framehop_modules.specs.ChosenViews.{sections_bytes};
 ghost use Rattle.framehop.specs.DwarfViews.{frame_section_bytes, frame_section_lent};
 ghost use Rattle.dwarf_frame_rows.specs.declared.base_addresses.BaseAddresses.{BaseAddresses};
 ghost use Rattle.framehop.specs.LookupMethods.{ByIndex};
-ghost use Rattle.framehop.specs.UnwindData.{CallFrames, Compact, Pe, bases_of, format_of, indexed, indexed_data_of, scanned, scanned_data_of, unwind_data_of};
-ghost use Rattle.framehop.specs.UnwindDataViews.{AreFoundBy, IncreasesAsSaid, IsIndexedBy, IsLentBy, IsNotCompact, IsNotPe, IsTabulatedFor, IsUnused, LendsLookup, MakesEntries, TablesIncrease, compact_view, entries_view, file_view, format_view, lookup_view};
+ghost use Rattle.framehop.specs.UnwindData.{CallFrames, Compact, Pe, bases_of, both_data_of, debug_frames, format_of, frames_for, indexed, indexed_data_of, is_in_frames, scanned, scanned_data_of, unwind_data_of, with_debug_frame};
+ghost use Rattle.framehop.specs.UnwindDataViews.{AreChosenBeside, AreFoundBy, AreFramesFoundBy, IncreasesAsSaid, IsIndexedBy, IsLentBy, IsNotCompact, IsNotPe, IsTabulatedFor, IsUnused, IsUsedAt, LendsLookup, MakesEntries, TablesIncrease, compact_view, entries_view, file_view, format_view, frames_view, lookup_view};
 
 use crate::compact::CompactModule;
+use crate::contained::is_contained_by;
 use crate::dwarf::UnwindSectionType;
 use crate::pe::PeModule;
 use crate::tabulation::{ArchRuleTable, Tabulating};
@@ -41,11 +42,20 @@ enum Entries<D> {
     Scan,
 }
 
+// A section of call frames, with how its FDEs are found.
+#[derive(Drop)]
+struct SectionFrames<D> {
+    section: UnwindSectionType<D>,
+    entries: Entries<D>,
+}
+
 // What a module is unwound by.
 #[derive(Drop)]
 enum ModuleFormat<D> {
     // A section of call frames.
     CallFrames(UnwindSectionType<D>, Entries<D>),
+    // The same, and another one for addresses that are in its FDEs alone.
+    BothFrames(SectionFrames<D>, SectionFrames<D>),
     // The unwind data of a PE file.
     Pe(PeModule<D>),
     // The compact unwind info of a Mach-O file.
@@ -232,6 +242,80 @@ fn tabulated_format<A: Tabulating, D: SectionBytes + Drop>(
     }
 }
 
+// The sections of a module to unwind by, and `.debug_frame`, which may be beside them. That one is taken first: what is chosen after it
+// may name it no more.
+fn choose_beside_debug_frame<D: SectionBytes + Drop, I: ModuleSectionInfo<D>>(
+    info: &mut I,
+) -> (ModuleSections<D>, Option<D>)
+    ensures { AreChosenBeside D.content (I.sections info.old) result.0 result.1 }
+{
+    let Some(debug_frame) = info.section_data(b".debug_frame") else {
+        return (ModuleSections::choose(info), None);
+    };
+    match ModuleSections::choose(info) {
+        ModuleSections::DebugFrame { .. } | ModuleSections::NoSections => (
+            ModuleSections::DebugFrame { debug_frame },
+            None,
+        ),
+        others => (others, Some(debug_frame)),
+    }
+}
+
+// `.debug_frame`, with an index if it has one. Fails if it fails to allocate the index.
+fn debug_frames<D: SectionBytes + Drop>(
+    alloc: Global,
+    debug_frame: D,
+    bases: &BaseAddresses,
+    base_svma: u64,
+) -> Result<SectionFrames<D>, AllocError>
+    ensures view { IfOk result (λ frames. frames_view D.content frames
+        ≡ debug_frames (D.content debug_frame)) }
+    ensures found { IfOk result (AreFramesFoundBy D.content bases.now base_svma) }
+{
+    let bytes = debug_frame.bytes();
+    let made = DwarfCfiIndex::try_new_debug_frame(alloc, bytes, bases, base_svma);
+    let entries = index_made(made)?;
+    Ok(SectionFrames {
+        section: UnwindSectionType::DebugFrame(debug_frame),
+        entries,
+    })
+}
+
+// A format with `.debug_frame` beside `.eh_frame`, if the module has both. Makes an index of `.debug_frame`; fails if it fails to
+// allocate it.
+fn format_with_debug_frame<D: SectionBytes + Drop>(
+    alloc: Global,
+    format: ModuleFormat<D>,
+    debug_frame: Option<D>,
+    bases: &BaseAddresses,
+    base_svma: u64,
+) -> Result<ModuleFormat<D>, AllocError>
+    requires { IsIndexedBy D.content bases.now base_svma format }
+    ensures view { IfOk result (λ made. format_view D.content made
+        ≡ with_debug_frame (option_map D.content debug_frame) (format_view D.content format)) }
+    ensures indexed { IfOk result (IsIndexedBy D.content bases.now base_svma) }
+{
+    let Some(debug_frame) = debug_frame else {
+        return Ok(format);
+    };
+    match format {
+        ModuleFormat::CallFrames(section, entries) => match section {
+            UnwindSectionType::EhFrame(eh_frame) => {
+                let main = SectionFrames {
+                    section: UnwindSectionType::EhFrame(eh_frame),
+                    entries,
+                };
+                let other = debug_frames(alloc, debug_frame, bases, base_svma)?;
+                Ok(ModuleFormat::BothFrames(main, other))
+            }
+            UnwindSectionType::DebugFrame(only) => {
+                Ok(ModuleFormat::CallFrames(UnwindSectionType::DebugFrame(only), entries))
+            }
+        },
+        other => Ok(other),
+    }
+}
+
 // The format of a module with these sections, if its section of call frames is read at each step.
 fn scanned_format<D: SectionBytes + Drop>(
     sections: ModuleSections<D>,
@@ -311,6 +395,27 @@ impl<D: SectionBytes + Drop> ModuleUnwindData<D> {
         })
     }
 
+    /// As `new`, but a module that is unwound by `.eh_frame` and has a `.debug_frame` too is unwound by both: at an address that the FDE
+    /// found in `.eh_frame` doesn't contain, and that found by an index of `.debug_frame` does, by the latter. Fails if it fails to
+    /// allocate an index.
+    pub fn with_debug_frame<I: ModuleSectionInfo<D>>(
+        alloc: Global,
+        info: &mut I,
+    ) -> Result<Self, AllocError>
+        ensures { IfOk result (λ given. given ≡ both_data_of (I.sections info.old)) }
+    {
+        let bases = base_addresses(&BaseSvmas::of(info));
+        let base_svma = info.base_svma();
+        let (sections, debug_frame) = choose_beside_debug_frame(info);
+        let format = format_with(alloc, sections, &bases, base_svma)?;
+        let format = format_with_debug_frame(alloc, format, debug_frame, &bases, base_svma)?;
+        Ok(ModuleUnwindData {
+            format,
+            bases,
+            base_svma,
+        })
+    }
+
     /// As `new`, but with neither index nor header: each step reads the call frame information from its
     /// first entry to the first FDE that contains the address.
     pub fn scanning<I: ModuleSectionInfo<D>>(info: &mut I) -> Self
@@ -352,6 +457,48 @@ fn lookup_by<D: SectionBytes>(entries: &Entries<D>) -> Option<Lookup<'_>>
     }
 }
 
+// Whether a relative address is in the FDE that is found for it in a section.
+fn is_in_frames<D: SectionBytes>(
+    frames: &SectionFrames<D>,
+    bases: &BaseAddresses,
+    base_svma: u64,
+    relative_address: u32,
+) -> bool
+    requires { AreFramesFoundBy D.content bases.now base_svma frames.now }
+    ensures { result ≡ is_in_frames bases.now base_svma relative_address (frames_view D.content frames.now) }
+{
+    match lookup_by(&frames.entries) {
+        Some(lookup) => {
+            let section = bytes_of(&frames.section);
+            is_contained_by(section, lookup, bases, base_svma, relative_address)
+        }
+        None => false,
+    }
+}
+
+// Of two sections the one that is used at a relative address.
+fn frames_for<'a, D: SectionBytes>(
+    main: &'a SectionFrames<D>,
+    other: &'a SectionFrames<D>,
+    bases: &BaseAddresses,
+    base_svma: u64,
+    relative_address: u32,
+) -> &'a SectionFrames<D>
+    requires main { AreFramesFoundBy D.content bases.now base_svma main.now }
+    requires other { AreFramesFoundBy D.content bases.now base_svma other.now }
+    ensures view { frames_view D.content result.now ≡ frames_for bases.now base_svma relative_address
+        (frames_view D.content main.now) (frames_view D.content other.now) }
+    ensures found { AreFramesFoundBy D.content bases.now base_svma result.now }
+{
+    if !is_in_frames(main, bases, base_svma, relative_address)
+        && is_in_frames(other, bases, base_svma, relative_address)
+    {
+        other
+    } else {
+        main
+    }
+}
+
 impl<D: SectionBytes> ModuleUnwindData<D> {
     // The addresses that pointers are relative to.
     pub(crate) fn bases(&self) -> &BaseAddresses
@@ -375,8 +522,10 @@ impl<D: SectionBytes> ModuleUnwindData<D> {
     {
         match &self.format {
             ModuleFormat::Pe(file) => Some(file),
-            ModuleFormat::CallFrames(..) | ModuleFormat::Compact(_) | ModuleFormat::NoFormat =>
-                None,
+            ModuleFormat::CallFrames(..)
+            | ModuleFormat::BothFrames(..)
+            | ModuleFormat::Compact(_)
+            | ModuleFormat::NoFormat => None,
         }
     }
 
@@ -389,7 +538,10 @@ impl<D: SectionBytes> ModuleUnwindData<D> {
     {
         match &self.format {
             ModuleFormat::Compact(file) => Some(file),
-            ModuleFormat::CallFrames(..) | ModuleFormat::Pe(_) | ModuleFormat::NoFormat => None,
+            ModuleFormat::CallFrames(..)
+            | ModuleFormat::BothFrames(..)
+            | ModuleFormat::Pe(_)
+            | ModuleFormat::NoFormat => None,
         }
     }
 
@@ -408,17 +560,25 @@ impl<D: SectionBytes> ModuleUnwindData<D> {
         }
     }
 
-    // The section of call frames that the module is unwound by, and how its FDEs are found.
-    pub(crate) fn call_frames(&self) -> Option<(UnwindSectionType<&[u8]>, Lookup<'_>)>
-        ensures format { IfSome result (λ found. self.now.format
-            ≡ CallFrames (frame_section_bytes (λ b. b.now) found.0) (lookup_view found.1)) }
+    // The section of call frames that the module is unwound by at a relative address, and how its FDEs are found.
+    pub(crate) fn call_frames(
+        &self,
+        relative_address: u32,
+    ) -> Option<(UnwindSectionType<&[u8]>, Lookup<'_>)>
+        ensures used { IfSome result (λ found. IsUsedAt self.now relative_address found.0 found.1) }
         ensures into { IfSome result (λ found. IsLentBy self.now found.0 found.1) }
-        ensures unused { IfNone result (IsUnused self.now.bases self.now.base_svma self.now.format) }
+        ensures unused { IfNone result (IsUnused self.now relative_address) }
     {
         match &self.format {
             ModuleFormat::CallFrames(section, entries) => {
                 let lookup = lookup_by(entries)?;
                 Some((bytes_of(section), lookup))
+            }
+            ModuleFormat::BothFrames(main, other) => {
+                let bases = &self.bases;
+                let frames = frames_for(main, other, bases, self.base_svma, relative_address);
+                let lookup = lookup_by(&frames.entries)?;
+                Some((bytes_of(&frames.section), lookup))
             }
             ModuleFormat::Pe(_) | ModuleFormat::Compact(_) | ModuleFormat::NoFormat => None,
         }

@@ -57,4 +57,4 @@ returns-in_default-call_frames-clause-answers g c =
     let tables = table_methods g.A.PeUnwinding.pe_attempt g.A.CompactUnwindInfoUnwinding.compact in
     nothing-answered _ c.args.regs.now c.failure_of.result _ c.failure_of.ensures
     (ap (attempt_by_method g.A.DwarfUnwinding.rows limits given.base_svma c.args.relative_address c.args.is_first_frame)
-    (unused-says_nothing tables given.bases given.base_svma c.args.relative_address c.args.is_first_frame given.format c.in_default.ensures.none c.in_default-compact.ensures.none c.in_default-call_frames.ensures.unused))
+    (unused-says_nothing tables given c.args.relative_address c.args.is_first_frame c.in_default.ensures.none c.in_default-compact.ensures.none c.in_default-call_frames.ensures.unused))

@@ -1,0 +1,41 @@
+-- Modules that are unwound by `.eh_frame` and `.debug_frame`, beside those that are unwound by one of the two.
+use Rattle.std.specs.Prelude.{◌≡◌, ◌⊎◌, ℕ, Bool, true, false, List, Option, Some, codes}
+use Rattle.framehop_modules.specs.Chosen.{chosen_sections}
+use Rattle.framehop_modules.specs.Sections.{Sections}
+use Rattle.framehop_modules.specs.declared.module_sections.ModuleSections.TheVariants.{EhFrame}
+use Rattle.framehop.specs.Attempts.{FormatMeanings, StepLimits, attempt_by_format}
+use Rattle.framehop.specs.UnwindData.{SectionFrames, UnwindData, CallFrames, both_data_of, debug_frames, is_in_frames, lookup_with, unwind_data_of}
+use Rattle.framehop.specs.declared.dwarf.UnwindSectionType.TheVariants as section
+
+-- A module is unwound by `.eh_frame`, and has a `.debug_frame` too.
+pub record HasBoth (s : Sections) : Type 0 where
+  pub eh_frame : List ℕ
+  pub eh_frame_hdr : Option (List ℕ)
+  pub debug_frame : List ℕ
+  pub chosen : chosen_sections s ≡ EhFrame eh_frame eh_frame_hdr
+  pub beside : s.section_data (codes ".debug_frame") ≡ Some debug_frame
+
+-- the module isn't unwound by `.eh_frame`, or has no `.debug_frame` beside it
+abbrev pub HasOne : Sections → Type 0
+HasOne s = (HasBoth s → ⊥)
+
+-- its `.eh_frame`, with the lookup of FDEs
+abbrev pub eh_frames : {s : Sections} → HasBoth s → SectionFrames
+eh_frames has = record { section = section.EhFrame has.eh_frame; lookup = lookup_with has.eh_frame_hdr }
+
+-- the unwind data of the module if it is unwound by a section alone
+abbrev pub data_by : Sections → SectionFrames → UnwindData
+data_by s frames = record (unwind_data_of s) { format = CallFrames frames.section frames.lookup }
+
+-- a relative address is in the FDE that is found for it in a section
+abbrev pub is_in : Sections → (relative : ℕ) → SectionFrames → Bool
+is_in s relative frames = is_in_frames (unwind_data_of s).bases s.base_svma relative frames
+
+-- The attempt by both sections at a relative address is that by `.debug_frame` alone, if the address is in the FDE found there, and not in
+-- that of `.eh_frame`. Else it is that of the module by `.eh_frame` alone.
+pub record AttemptsByOne {Rule Registers : Type 0} (m : FormatMeanings Rule Registers) (limits : StepLimits) {s : Sections} (has : HasBoth s)
+    (relative : ℕ) (first : Bool) : Type 0 where
+  pub by_debug_frame : is_in s relative (eh_frames has) ≡ false → is_in s relative (debug_frames has.debug_frame) ≡ true
+      → attempt_by_format m limits (both_data_of s) relative first ≡ attempt_by_format m limits (data_by s (debug_frames has.debug_frame)) relative first
+  pub by_eh_frame : (is_in s relative (eh_frames has) ≡ true) ⊎ (is_in s relative (debug_frames has.debug_frame) ≡ false)
+      → attempt_by_format m limits (both_data_of s) relative first ≡ attempt_by_format m limits (unwind_data_of s) relative first
