@@ -4,7 +4,7 @@ use crate::worked::word_at;
 use framehop::x86_64::{ArchX86_64, UnwindRegsX86_64};
 use framehop::{
     AllocationPolicy, BySections, DwarfUnwindContext, FrameAddress, MayAllocateDuringUnwind,
-    MustNotAllocateDuringUnwind,
+    Module, MustNotAllocateDuringUnwind, load_module_with_debug_frame,
 };
 use std::alloc::Global;
 use std::test::Fail;
@@ -17,17 +17,25 @@ pub static NARROW: [u8; 40] = [
     0, 0, 0, 0, 0, 0, 0, 0x10, 0, 0, 0x10, 0, 0, 0, 0x0f, 2, 0x77, 8,
 ];
 
+/// A section `.debug_frame` of two FDEs, each of sixteen bytes of code: the first at 0x1000, with the CFA at RSP + 24; the second at
+/// 0x1010, with the CFA at RSP + 16 and RBP at CFA - 16. Both have the return address at CFA - 8.
+static BESIDE: [u8; 76] = [
+    0x10, 0, 0, 0, 0xff, 0xff, 0xff, 0xff, 1, 0, 1, 0x78, 0x10, 0x0c, 7, 8, 0x90, 1, 0, 0, 0x18, 0,
+    0, 0, 0, 0, 0, 0, 0, 0x10, 0, 0, 0, 0, 0, 0, 0x10, 0, 0, 0, 0, 0, 0, 0, 0x0e, 0x18, 0, 0, 0x18,
+    0, 0, 0, 0, 0, 0, 0, 0x10, 0x10, 0, 0, 0, 0, 0, 0, 0x10, 0, 0, 0, 0, 0, 0, 0, 0x0e, 0x10, 0x86,
+    2,
+];
+
 /// The registers ip, sp and bp.
 type Registers = (u64, u64, u64);
 
-/// What two equal steps in a module with these sections give, the registers that the last of them
-/// leaves, and whether it found its rule in the cache.
-fn step_in<'a, P: AllocationPolicy>(
+/// What two equal steps in a module give, the registers that the last of them leaves, and whether it
+/// found its rule in the cache.
+fn step_in_module<'a, P: AllocationPolicy>(
     alloc: Global,
-    sections: Sections<'a>,
+    module: Module<&'a [u8]>,
     (ip, sp, bp): Registers,
 ) -> Result<Stepped<Registers>, Fail> {
-    let module = module_of(alloc, sections, 0x100000..0x102000)?;
     let context = DwarfUnwindContext::new(alloc)?;
     let address = FrameAddress::from_instruction_pointer(ip);
     let regs = UnwindRegsX86_64::new(ip, sp, bp);
@@ -35,6 +43,16 @@ fn step_in<'a, P: AllocationPolicy>(
         alloc, module, context, address, regs, word_at,
     )?;
     Ok((return_address, (regs.ip(), regs.sp(), regs.bp()), is_hit))
+}
+
+/// The same in a module with these sections.
+fn step_in<'a, P: AllocationPolicy>(
+    alloc: Global,
+    sections: Sections<'a>,
+    frame: Registers,
+) -> Result<Stepped<Registers>, Fail> {
+    let module = module_of(alloc, sections, 0x100000..0x102000)?;
+    step_in_module::<P>(alloc, module, frame)
 }
 
 /// A module with this `.eh_frame`.
@@ -100,5 +118,28 @@ fn eh_frame_goes_before_debug_frame(rt: HostRuntime) -> Result<(), Fail> {
     let frame = (0x101000, 0x10, 0x20);
     let answer = step_in::<MayAllocateDuringUnwind>(rt.alloc(), sections, frame)?;
     assert!(rt; answer == (Some(0x100300), (0x100300, 0x18, 0x20), true));
+    Ok(())
+}
+
+/// Of a module that is loaded with both, `.debug_frame` is used only at addresses that its FDE contains and that of `.eh_frame` doesn't.
+#[test]
+fn debug_frame_is_used_beside_eh_frame(rt: HostRuntime) -> Result<(), Fail> {
+    let alloc = rt.alloc();
+    for (frame, caller) in [
+        // in FDEs of both: by `.eh_frame`
+        ((0x101000, 0x10, 0x20), (0x100300, 0x18, 0x20)),
+        // in one of `.debug_frame` alone
+        ((0x101012, 0x40, 0x20), (0x100100, 0x50, 0x70)),
+        // in none: the rule for code that no row of `.eh_frame` covers
+        ((0x101025, 0x10, 0x20), (0x100300, 0x18, 0x20)),
+    ] {
+        let mut sections = eh_frame(&WORKED);
+        sections.debug_frame = Some(BESIDE.as_slice());
+        let name = String::from_str(alloc, "m")?;
+        let range = 0x100000..0x102000;
+        let module = load_module_with_debug_frame(alloc, name, range, 0x100000, &mut sections)?;
+        let answer = step_in_module::<MayAllocateDuringUnwind>(alloc, module, frame)?;
+        assert!(rt; answer == (Some(caller.0), caller, true));
+    }
     Ok(())
 }
