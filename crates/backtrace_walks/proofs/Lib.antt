@@ -1,3 +1,4 @@
+pub mod FilesLoaded
 pub mod Lists
 pub mod MoveLaws
 pub mod ProcessLaws

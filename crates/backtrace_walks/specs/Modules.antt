@@ -4,12 +4,12 @@ use Rattle.std.specs.Option.{option_map}
 use Rattle.backtrace_files.specs.Files.{CodeOfFile, ProcessFile, loaded_code}
 use Rattle.backtrace_files.specs.Sections.{sections_of}
 use Rattle.core_files.specs.MappedFiles.{FileMapping}
-use Rattle.framehop.specs.UnwindData.{UnwindData, unwind_data_of}
+use Rattle.framehop.specs.UnwindData.{UnwindData, both_data_of}
 use Rattle.framehop_unwinder.specs.Modules.{Loaded, with_loaded}
 
--- the unwind data of a file's code: that of its sections
+-- the unwind data of a file's code: that of its sections, with `.debug_frame` beside `.eh_frame`
 abbrev pub data_of_code : CodeOfFile → UnwindData
-data_of_code code = unwind_data_of (sections_of code.bytes code.header)
+data_of_code code = both_data_of (sections_of code.bytes code.header)
 
 -- the module of a mapping with code: its addresses are those of the mapping, and relative ones are the file's
 abbrev pub module_with : FileMapping → CodeOfFile → Loaded UnwindData

@@ -10,7 +10,9 @@ ghost use Rattle.backtrace_walks.specs.SessionViews.{HasModules, IsReady};
 use crate::arch::FileModules;
 use backtrace_files::{FileSections, LoadedCode, LoadedFile, loaded_code};
 use core_files::MappedFile;
-use framehop::{DwarfUnwindContext, Generations, Module, Session, Unwinding, load_module};
+use framehop::{
+    DwarfUnwindContext, Generations, Module, Session, Unwinding, load_module_with_debug_frame,
+};
 use std::alloc::{AllocError, Global};
 
 // The module of a mapping with code.
@@ -25,7 +27,7 @@ fn module_with<'a>(
     let mut sections = FileSections::new(code.file);
     let range = mapping.start..mapping.end;
     let name = String::new(alloc);
-    let module = load_module(alloc, name, range, code.bias, &mut sections)?;
+    let module = load_module_with_debug_frame(alloc, name, range, code.bias, &mut sections)?;
     Ok(module)
 }
 
