@@ -1,7 +1,8 @@
 -- The parts of a row that a step asks for, on any architecture.
-use Rattle.std.specs.Prelude.{Option, option_map}
+use Rattle.std.specs.Prelude.{◌≡◌, false, Option, option_map, ◌==◌}
 use Rattle.std.specs.FinMap.{get}
 use Rattle.dwarf_constants.specs.declared.common.Register.{Register}
+use Rattle.dwarf_frame_instructions.specs.Parts.{sign_state}
 use Rattle.dwarf_frame_instructions.specs.StateViews.{cfa_as, rule_as}
 use Rattle.dwarf_frame_rows.specs.Row.{Row}
 use Rattle.dwarf_frame_rows.specs.declared.rules.RegisterRule.{RegisterRule}
@@ -22,3 +23,7 @@ parts_as number parts = record {
   fp = column_as number parts.fp;
   ra = column_as number parts.ra;
 }
+
+-- A register isn't that of the sign state of AArch64.
+abbrev pub IsApart : Register → Type 0
+IsApart register = (register.0 == sign_state) ≡ false

@@ -13,4 +13,5 @@ pub mod x86_64;
 
 pub use dwarf::DwarfUnwinding;
 pub use evaluation::{DwarfUnwindRegs, eval_cfa_rule, eval_register_rule};
+pub use parts::Parts;
 pub use row_rules::RowRules;

@@ -9,15 +9,15 @@ use dwarf_frame_rows::{CfaRule, RegisterRule, RuledRegister, UnwindTableRow};
 use dwarf_readers::ReaderOffset;
 use dwarf_storage::ArrayLike;
 
-// The parts of a row that a step asks for.
+/// The parts of a row that a step asks for.
 #[derive(Clone, Copy)]
-pub(crate) struct Parts<T> {
-    // The rule of the canonical frame address.
-    pub(crate) cfa: CfaRule<T>,
-    // The rule of the frame pointer, if it has one.
-    pub(crate) fp: Option<RegisterRule<T>>,
-    // The rule of the return address, if it has one.
-    pub(crate) ra: Option<RegisterRule<T>>,
+pub struct Parts<T> {
+    /// The rule of the canonical frame address.
+    pub cfa: CfaRule<T>,
+    /// The rule of the frame pointer, if it has one.
+    pub fp: Option<RegisterRule<T>>,
+    /// The rule of the return address, if it has one.
+    pub ra: Option<RegisterRule<T>>,
 }
 
 // The parts of a row, by the registers of the frame pointer and of the return address.
