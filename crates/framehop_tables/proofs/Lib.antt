@@ -1,4 +1,7 @@
 pub mod AttemptLaws
 pub mod IndexLaws
+pub mod PartsLaws
+pub mod PartsRowLaws
+pub mod PartsSteps
 pub mod RoomLaws
 pub mod RowLaws

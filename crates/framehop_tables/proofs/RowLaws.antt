@@ -1,5 +1,5 @@
 -- What a row, and the rows that are left, add to ranges.
-use Rattle.std.proofs.Common.{◌≡◌, inl, ℕ, ◌+◌, ◌-◌, ◌<◌, ◌≤◌, Bool, true, false, List, [], ◌∷◌, length, Option, Some, None, Result, Ok, Err, refl, sym, ap, subst, ◌∙◌, arith}
+use Rattle.std.proofs.Common.{◌≡◌, inl, ℕ, suc, ◌+◌, ◌-◌, ◌<◌, ◌≤◌, Bool, true, false, List, [], ◌∷◌, length, Option, Some, None, Result, Ok, Err, refl, sym, ap, subst, ◌∙◌, arith}
 use Rattle.std.specs.Prelude.{nat_le, nat_lt, max, min, ◌&&◌, if◌then◌else◌}
 use Rattle.std.proofs.lemmas.Bool.Decides.{nat_tests}
 use Rattle.dwarf_constants.specs.declared.error.Error.{Error}
@@ -17,7 +17,7 @@ use Rattle.framehop_tables.specs.declared.covered.Covered.{Covered}
 use Rattle.framehop_tables.specs.declared.covered.Covered.TheVariants.{Says}
 use Rattle.framehop_tables.specs.declared.spans.Span.{Span}
 use Rattle.framehop_tables.specs.Covered.{RowRules, by_row, by_rows, by_rule}
-use Rattle.framehop_tables.specs.Tabulations.{AddsRows, GoOn}
+use Rattle.framehop_tables.specs.Tabulations.{AddsRow, AddsRows, Begins, GoOn, rows_past}
 
 -- rows that go on from an address go on from a later one
 pub go-on-later : (early late : ℕ) (rows : List (Row ℕ)) → early ≤ late → GoOn early rows → GoOn late rows
@@ -53,6 +53,25 @@ none-left : {Rule : Type 0} (rules : RowRules Rule) (offset : ℕ) (refusal : Op
 none-left rules offset None address = refl
 none-left rules offset (Some e) address = refl
 
+-- fewer rows end past a later address
+past-later : (early late : ℕ) (rows : List (Row ℕ)) → early ≤ late → rows_past late rows ≤ rows_past early rows
+past-later early late [] le = omega arith
+past-later early late (row ∷ rows) le =
+    let others = past-later early late rows le in
+    by_case (nat_lt late row.end)
+    (λ is. let before : nat_lt early row.end ≡ true = grind (arith, nat_tests) in rw (is, before) (omega (arith, others)))
+    (λ is. by_case (nat_lt early row.end) (λ before. rw (is, before) (omega (arith, others))) (λ before. rw (is, before) others))
+
+past-all : (address : ℕ) (rows : List (Row ℕ)) → rows_past address rows ≤ length rows
+past-all address [] = omega arith
+past-all address (row ∷ rows) = let others = past-all address rows in by_case (nat_lt address row.end) (λ is. rw is (omega (arith, others))) (λ is. rw is (omega (arith, others)))
+
+past-here : (address : ℕ) (row : Row ℕ) (rows : List (Row ℕ)) → address < row.end → rows_past address (row ∷ rows) ≡ suc (rows_past address rows)
+past-here address row rows over = let is : nat_lt address row.end ≡ true = grind (arith, nat_tests) in rw is refl
+
+past-others : (address : ℕ) (row : Row ℕ) (rows : List (Row ℕ)) → row.end ≤ address → rows_past address (row ∷ rows) ≡ rows_past address rows
+past-others address row rows under = let is : nat_lt address row.end ≡ false = grind (arith, nat_tests) in rw is refl
+
 module _ {Rule : Type 0} (rules : RowRules Rule) (span : Span) (old : Ranges (Covered Rule)) (all : RowList ℕ) where
   -- What is reached if these rows are left: the ranges are the old ones below their end, and from there on as all the rows say; from
   -- their own end on the rows that are left say the same as all.
@@ -60,7 +79,8 @@ module _ {Rule : Type 0} (rules : RowRules Rule) (span : Span) (old : Ranges (Co
     pub same : ranges.before ≡ old.before
     pub least : old.done ≤ ranges.done
     pub most : ranges.done ≤ max old.done span.limit
-    pub few : length ranges.entries.items + length left.rows ≤ length old.entries.items + length all.rows
+    pub few : length ranges.entries.items + rows_past (span.base_svma + ranges.done) left.rows ≤ length old.entries.items + length all.rows
+    pub passed : ranges.done < span.limit → (address : ℕ) → span.base_svma + ranges.done ≤ address → rows_past address all.rows ≤ rows_past address left.rows
     pub below : (relative : ℕ) → relative < old.done → range_at ranges relative ≡ range_at old relative
     pub goes : GoOn (span.base_svma + old.done) all.rows → ranges.done < span.limit → GoOn (span.base_svma + ranges.done) left.rows
     pub from : GoOn (span.base_svma + old.done) all.rows → (relative : ℕ) → old.done ≤ relative → relative < ranges.done
@@ -69,28 +89,64 @@ module _ {Rule : Type 0} (rules : RowRules Rule) (span : Span) (old : Ranges (Co
         → row_among (span.base_svma + relative) all ≡ row_among (span.base_svma + relative) left
 
   -- nothing was added yet
-  pub reached-none : Reaches old all
-  reached-none = record {
+  pub begins-none : Begins rules span all old old
+  begins-none = record {
     same = refl;
     least = omega arith;
     most = omega arith;
-    few = omega arith;
+    few = omega (arith, past-all (span.base_svma + old.done) all.rows);
     below = λ relative below. refl;
-    goes = λ go below. go;
     from = λ go relative high below. absurd (omega arith);
+  }
+
+  -- some rows were added, and all are left
+  pub reached-begun : (ranges : Ranges (Covered Rule)) → Begins rules span all old ranges → Reaches ranges all
+  reached-begun ranges begins = record {
+    same = begins.same;
+    least = begins.least;
+    most = begins.most;
+    few = begins.few;
+    passed = λ more address le. omega arith;
+    below = begins.below;
+    goes = λ go below. go-on-later (span.base_svma + old.done) (span.base_svma + ranges.done) all.rows (omega (arith, begins.least)) go;
+    from = begins.from;
     rest = λ go relative high below. refl;
+  }
+
+  pub reached-none : Reaches old all
+  reached-none = reached-begun old begins-none
+
+  -- some rows are left
+  pub reached-begins : (ranges : Ranges (Covered Rule)) (left : RowList ℕ) → ranges.done < span.limit → Reaches ranges left → Begins rules span all old ranges
+  reached-begins ranges left more reached = record {
+    same = reached.same;
+    least = reached.least;
+    most = reached.most;
+    few = omega (arith, reached.few, reached.passed more (span.base_svma + ranges.done) (omega arith));
+    below = reached.below;
+    from = reached.from;
   }
 
   module _ (ranges new : Ranges (Covered Rule)) where
     -- a row more
-    reached-row : (row : Row ℕ) (others : List (Row ℕ)) (refusal : Option Error) → ranges.done < span.limit
-        → Extends ranges (min (row.end - span.base_svma) span.limit) (by_rule span.offset (rules.rule_of row)) new
+    pub reached-row : (row : Row ℕ) (others : List (Row ℕ)) (refusal : Option Error) → ranges.done < span.limit
+        → AddsRow ranges (min (row.end - span.base_svma) span.limit) (by_rule span.offset (rules.rule_of row)) new
         → Reaches ranges (row_and row others refusal) → Reaches new (rows_and others refusal)
-    reached-row row others refusal more extends reached = record {
+    reached-row row others refusal more adds reached = let extends = adds.extends in record {
       same = extends.same ∙ reached.same;
       least = omega (arith, reached.least, extends.done);
       most = omega (arith, reached.most, extends.done);
-      few = omega (arith, reached.few, extends.few);
+      few =
+          let less = past-later (span.base_svma + ranges.done) (span.base_svma + new.done) others (omega (arith, extends.done)) in
+          by_case (nat_lt ranges.done (min (row.end - span.base_svma) span.limit))
+          (λ is.
+          let over : ranges.done < min (row.end - span.base_svma) span.limit = grind (arith, nat_tests) in
+          omega (arith, past-here (span.base_svma + ranges.done) row others (omega (arith, over)), less, extends.few, reached.few))
+          (λ is.
+          let under : min (row.end - span.base_svma) span.limit ≤ ranges.done = grind (arith, nat_tests) in
+          omega (arith, past-others (span.base_svma + ranges.done) row others (omega (arith, under, more)), less, adds.none under, reached.few));
+      passed = λ below address le.
+          omega (arith, past-others address row others (omega (arith, below, le, extends.done)), reached.passed more address (omega (arith, le, extends.done)));
       below = λ relative below. extends.below relative (omega (arith, reached.least)) ∙ reached.below relative below;
       goes = λ go below. let goes = reached.goes go more in go-on-later row.end (span.base_svma + new.done) others (omega (arith, extends.done)) goes.1;
       from = λ go relative high below.
@@ -107,19 +163,19 @@ module _ {Rule : Type 0} (rules : RowRules Rule) (span : Span) (old : Ranges (Co
 
     -- .. which is the first of those that are left
     pub reached-more : (rows : List (Row ℕ)) (refusal : Option Error) (row : Row ℕ) (rest : RowList ℕ) → ranges.done < span.limit → first_of (rows_and rows refusal) ≡ Ok (Some row)
-        → rest ≡ after_first (rows_and rows refusal) → Extends ranges (min (row.end - span.base_svma) span.limit) (by_rule span.offset (rules.rule_of row)) new
+        → rest ≡ after_first (rows_and rows refusal) → AddsRow ranges (min (row.end - span.base_svma) span.limit) (by_rule span.offset (rules.rule_of row)) new
         → Reaches ranges (rows_and rows refusal) → Reaches new rest
-    reached-more [] None row rest more first after extends reached = let none : ◌≡◌ {A = Option (Row ℕ)} None (Some row) = cc in cc
-    reached-more [] (Some e) row rest more first after extends reached = cc
-    reached-more (head ∷ others) refusal row rest more first after extends reached =
+    reached-more [] None row rest more first after adds reached = let none : ◌≡◌ {A = Option (Row ℕ)} None (Some row) = cc in cc
+    reached-more [] (Some e) row rest more first after adds reached = cc
+    reached-more (head ∷ others) refusal row rest more first after adds reached =
         let same : head ≡ row = cc in
-        let extends_head : Extends ranges (min (head.end - span.base_svma) span.limit) (by_rule span.offset (rules.rule_of head)) new =
-        subst (λ (r : Row ℕ). Extends ranges (min (r.end - span.base_svma) span.limit) (by_rule span.offset (rules.rule_of r)) new) (sym same) extends in
-        subst (Reaches new) (sym after) (reached-row head others refusal more extends_head reached)
+        let adds_head : AddsRow ranges (min (head.end - span.base_svma) span.limit) (by_rule span.offset (rules.rule_of head)) new =
+        subst (λ (r : Row ℕ). AddsRow ranges (min (r.end - span.base_svma) span.limit) (by_rule span.offset (rules.rule_of r)) new) (sym same) adds in
+        subst (Reaches new) (sym after) (reached-row head others refusal more adds_head reached)
 
     -- no row is left
-    pub reached-end : (refusal : Option Error) → ranges.done < span.limit → Extends ranges span.limit (Says rules.uncovered) new → Reaches ranges (rows_and [] refusal) → AddsRows rules span all old new
-    reached-end refusal more extends reached = record {
+    pub reached-end : (refusal : Option Error) → Extends ranges span.limit (Says rules.uncovered) new → Reaches ranges (rows_and [] refusal) → AddsRows rules span all old new
+    reached-end refusal extends reached = record {
       sound = extends.sound;
       same = extends.same ∙ reached.same;
       done = omega (arith, reached.least, reached.most, extends.done);
@@ -130,12 +186,12 @@ module _ {Rule : Type 0} (rules : RowRules Rule) (span : Span) (old : Ranges (Co
           (λ is. let low : relative < ranges.done = grind (arith, nat_tests) in extends.below relative low ∙ reached.from go relative high low)
           (λ is.
           let from : ranges.done ≤ relative = grind (arith, nat_tests) in
-          extends.from relative from below ∙ sym (ap (by_row rules span.offset) (reached.rest go relative from (omega (arith, extends.done, more))) ∙ none-left rules span.offset refusal (span.base_svma + relative)));
+          extends.from relative from below ∙ sym (ap (by_row rules span.offset) (reached.rest go relative from (omega (arith, extends.done))) ∙ none-left rules span.offset refusal (span.base_svma + relative)));
     }
 
-    pub reached-last : (rows : List (Row ℕ)) (refusal : Option Error) → rows ≡ [] → ranges.done < span.limit → Extends ranges span.limit (Says rules.uncovered) new → Reaches ranges (rows_and rows refusal)
+    pub reached-last : (rows : List (Row ℕ)) (refusal : Option Error) → rows ≡ [] → Extends ranges span.limit (Says rules.uncovered) new → Reaches ranges (rows_and rows refusal)
         → AddsRows rules span all old new
-    reached-last rows refusal none more extends reached = reached-end refusal more extends (subst (λ (l : List (Row ℕ)). Reaches ranges (rows_and l refusal)) none reached)
+    reached-last rows refusal none extends reached = reached-end refusal extends (subst (λ (l : List (Row ℕ)). Reaches ranges (rows_and l refusal)) none reached)
 
   -- the limit is reached
   pub reached-limit : (ranges : Ranges (Covered Rule)) (left : RowList ℕ) → Sound ranges → span.limit ≤ ranges.done → Reaches ranges left → AddsRows rules span all old ranges
@@ -148,17 +204,9 @@ module _ {Rule : Type 0} (rules : RowRules Rule) (span : Span) (old : Ranges (Co
     from = reached.from;
   }
 
--- a program without rows
-pub refused-adds : {Rule : Type 0} (rules : RowRules Rule) (span : Span) (old new : Ranges (Covered Rule)) (all : RowList ℕ) (e : Error) → all ≡ rows_and [] (Some e) → Extends old span.limit (Says rules.uncovered) new
-    → AddsRows rules span all old new
-refused-adds rules span old new all e is extends = subst (λ (l : RowList ℕ). AddsRows rules span l old new) (sym is) (record {
-  sound = extends.sound;
-  same = extends.same;
-  done = extends.done;
-  few = omega (arith, extends.few);
-  below = extends.below;
-  from = λ go relative high below. extends.from relative high below;
-})
+-- what is reached, whatever the ranges were before some rows were added
+abbrev pub ReachesFrom : {Rule : Type 0} → RowRules Rule → Span → (all : RowList ℕ) → (begun ranges : Ranges (Covered Rule)) → (left : RowList ℕ) → Type 0
+ReachesFrom {Rule} rules span all begun ranges left = (old : Ranges (Covered Rule)) → Begins rules span all old begun → Reaches rules span old all ranges left
 
 -- ---- what a call gave
 

@@ -1,5 +1,6 @@
 pub mod Covered
 pub mod IndexAttempts
 pub mod Kept
+pub mod PartsStates
 pub mod RuleTables
 pub mod Tabulations

@@ -3,9 +3,9 @@
 ghost use Rattle.std.specs.Prelude.{◌≡◌, ◌≤◌, ◌-◌, ◌^◌, IfOk, min};
 ghost use Rattle.dwarf_frame_instructions.specs.Execution.{row_in};
 ghost use Rattle.dwarf_frame_instructions.specs.ProgramRows.{rows_left};
-ghost use Rattle.framehop_ranges.specs.Ranges.{Sound, Extends};
+ghost use Rattle.framehop_ranges.specs.Ranges.{Sound};
 ghost use Rattle.framehop_tables.specs.Covered.{SaysValid, by_rule, row_rules};
-ghost use Rattle.framehop_tables.specs.Tabulations.{AddsRows};
+ghost use Rattle.framehop_tables.specs.Tabulations.{AddsOthers, AddsRow, SaysRow};
 
 use crate::covered::Covered;
 use crate::entry::{Entry, extend};
@@ -35,6 +35,26 @@ fn covered_by_row<
     }
 }
 
+// Adds what a row says, from where the ranges end up to the row's end.
+#[inline(always)]
+pub(crate) fn add_covered<Rule: SameRule>(
+    ranges: &mut Ranges<Entry<Rule>>,
+    end: u64,
+    span: Span,
+    covered: Covered<Rule>,
+) -> Result<(), AllocError>
+    requires sound { Sound ranges.old }
+    requires fits { span.limit ≤ 2 ^ 32 }
+    requires valid { SaysValid Rule.is_valid covered }
+    ensures { IfOk result (λ _. AddsRow ranges.old (min (end - span.base_svma) span.limit) covered ranges.new) }
+{
+    let end = end.saturating_sub(span.base_svma).min(span.limit);
+    if end <= ranges.done() {
+        return Ok(());
+    }
+    extend(ranges, end, covered)
+}
+
 // Adds a row: what it says, from where the ranges end up to the row's end.
 #[inline(always)]
 fn add_row<A: RowRules, T: ReaderOffset, Rules: ArrayLike<Item = RuledRegister<RegisterRule<T>>>>(
@@ -46,16 +66,14 @@ where
     A::UnwindRule: SameRule,
     requires sound { Sound ranges.old }
     requires fits { span.limit ≤ 2 ^ 32 }
-    ensures { let row = row_in T.value row.now in
-        IfOk result (λ _. Extends ranges.old (min (row.end - span.base_svma) span.limit)
-        (by_rule span.offset (A.rule_of row)) ranges.new) }
+    ensures { IfOk result (λ _. SaysRow (row_rules A.rows A.rule_of) span
+        (row_in T.value row.now) ranges.old ranges.new) }
 {
-    let end = row.end_address().saturating_sub(span.base_svma);
     let covered = covered_by_row::<A, T, Rules>(row, span.offset);
-    extend(ranges, end.min(span.limit), covered)
+    add_covered(ranges, row.end_address(), span, covered)
 }
 
-// Adds the rows that are left, and up to the limit the rule for code that no row covers.
+// Adds the rows that are left, and up to the limit the rule for code that no row covers. Some of the rows may be there already.
 pub(crate) fn add_rows<A: RowRules, R: Reader, S: UnwindContextStorage<R::Offset>>(
     ranges: &mut Ranges<Entry<A::UnwindRule>>,
     rows: &mut ProgramRows<'_, '_, R, S>,
@@ -67,7 +85,7 @@ where
     requires sound { Sound ranges.old }
     requires fits { span.limit ≤ 2 ^ 32 }
     ensures { let left = rows_left R.stretch R.Offset.limit R.Offset.value S.Stack.items S.limits rows.old in
-        IfOk result (λ _. AddsRows (row_rules A.rows A.rule_of) span left ranges.old ranges.new) }
+        IfOk result (λ _. AddsOthers (row_rules A.rows A.rule_of) span left ranges.old ranges.new) }
 {
     'rows: loop {
         if span.limit <= ranges.done() {

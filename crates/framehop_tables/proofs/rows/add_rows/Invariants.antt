@@ -1,7 +1,7 @@
 use Rattle.dwarf_frame_instructions.specs.ProgramRows.{rows_left, steps_left}
 use Rattle.framehop_ranges.specs.Ranges.{Sound}
 use Rattle.framehop_tables.specs.Covered.{row_rules}
-use Rattle.framehop_tables.proofs.RowLaws.{Reaches}
+use Rattle.framehop_tables.proofs.RowLaws.{ReachesFrom}
 use Rattle.framehop_tables.proofs.rows.add_rows.Given as goal
 
 abbrev pub invariant-rows : goal.invariant-rows
@@ -11,7 +11,7 @@ invariant-rows g l =
     let left = rows_left g.R.Reader.stretch g.R.Offset.ReaderOffset.limit g.R.Offset.ReaderOffset.value g.S-Stack-ArrayLike.items limits l.rows in
     record {
       sound : Sound l.ranges;
-      reached : Reaches (row_rules g.A.DwarfUnwinding.rows g.A.RowRules.rule_of) l.span l.fn.ranges all l.ranges left;
+      reached : ReachesFrom (row_rules g.A.DwarfUnwinding.rows g.A.RowRules.rule_of) l.span all l.fn.ranges l.ranges left;
     }
 
 abbrev pub decreases-rows : goal.decreases-rows
