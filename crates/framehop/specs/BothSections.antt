@@ -39,3 +39,8 @@ pub record AttemptsByOne {Rule Registers : Type 0} (m : FormatMeanings Rule Regi
       → attempt_by_format m limits (both_data_of s) relative first ≡ attempt_by_format m limits (data_by s (debug_frames has.debug_frame)) relative first
   pub by_eh_frame : (is_in s relative (eh_frames has) ≡ true) ⊎ (is_in s relative (debug_frames has.debug_frame) ≡ false)
       → attempt_by_format m limits (both_data_of s) relative first ≡ attempt_by_format m limits (unwind_data_of s) relative first
+
+-- So it is for each module that has both, at all addresses, in first and in later frames.
+abbrev pub AllAttemptByOne : {Rule Registers : Type 0} → FormatMeanings Rule Registers → Type 0
+AllAttemptByOne m =
+    (limits : StepLimits) (s : Sections) (has : HasBoth s) (relative : ℕ) (first : Bool) → AttemptsByOne m limits has relative first

@@ -1,5 +1,5 @@
 -- The unwind data of a module as contracts see it.
-use Rattle.std.specs.Prelude.{◌≡◌, ℕ, List, Option, Some, None, option_map, Result, IfOk, IfSome, IsTrue, codes, false}
+use Rattle.std.specs.Prelude.{◌≡◌, ℕ, Bool, List, Option, Some, None, option_map, Result, IfOk, IfSome, IsTrue, codes, false}
 use Rattle.std.specs.Borrow.{Bor}
 use Rattle.std.specs.declared.ops.Range.{Range}
 use Rattle.dwarf_frame_rows.specs.declared.base_addresses.BaseAddresses.{BaseAddresses}
@@ -139,6 +139,16 @@ IsIndexedBy content bases base (format.Pe file) = IncreasesAsSaid content file
 IsIndexedBy content bases base (format.Compact file) = TablesIncrease content file
 IsIndexedBy content bases base format.NoFormat = Unit {0}
 
+-- of two sections, by their bytes, the one that is used at a relative address
+abbrev pub frames_used : {D : Type 0} → (D → List ℕ) → BaseAddresses → (base relative : ℕ) → (main other : SectionFrames D) → data_.SectionFrames
+frames_used content bases base relative main other =
+    data_.frames_for bases base relative (frames_view content main) (frames_view content other)
+
+-- A format was made of another with `.debug_frame` beside it, if there is some.
+abbrev pub IsWithDebugFrame : {D : Type 0} → (D → List ℕ) → Option D → ModuleFormat D → ModuleFormat D → Type 0
+IsWithDebugFrame content debug_frame format made =
+    format_view content made ≡ data_.with_debug_frame (option_map content debug_frame) (format_view content format)
+
 -- Sections that were taken, and `.debug_frame`, if it is beside them, make the format of a module with these sections that is unwound by
 -- both.
 abbrev pub AreChosenBeside : {D : Type 0} → (D → List ℕ) → Sections → ModuleSections D → Option D → Type 0
@@ -186,6 +196,10 @@ IsLentBy given section lookup = LeadsInto given.base_svma (section_of_type given
 -- the section and the lookup that are lent, by their bytes
 abbrev pub frames_lent : UnwindSectionType (Bor (List ℕ)) → Lookup → data_.SectionFrames
 frames_lent section lookup = record { section = frame_section_bytes (λ b. b.now) section; lookup = lookup_view lookup }
+
+-- the FDE that a lookup that is lent finds for an address that is relative to a base can be read and contains it
+abbrev pub is_in_fde_lent : Lookup → BaseAddresses → FrameSection → (base relative : ℕ) → Bool
+is_in_fde_lent lookup = said.is_in_fde_by (lookup_view lookup)
 
 -- They are those that unwind data uses at a relative address.
 abbrev pub IsUsedAt : data_.UnwindData → (relative : ℕ) → UnwindSectionType (Bor (List ℕ)) → Lookup → Type 0

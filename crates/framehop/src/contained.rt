@@ -2,8 +2,9 @@
 
 ghost use Rattle.std.specs.Prelude.{◌≡◌, ◌+◌, Some};
 ghost use Rattle.framehop.specs.DwarfViews.{frame_section_lent};
-ghost use Rattle.framehop.specs.LookupMethods.{is_contained_by, is_in_fde_by, is_in_found};
-ghost use Rattle.framehop.specs.UnwindDataViews.{LeadsInto, lookup_view};
+ghost use Rattle.framehop.specs.LookupMethods.{is_in_found};
+ghost use Rattle.framehop.specs.UnwindData.{is_in_frames};
+ghost use Rattle.framehop.specs.UnwindDataViews.{LeadsInto, frames_lent, is_in_fde_lent};
 ghost use Rattle.framehop_index.specs.Lookups.{found_by_header, parsed_header};
 
 use crate::dwarf::{UnwindSectionType, lookup_address};
@@ -67,7 +68,7 @@ fn is_in_fde_by<R: Reader<Offset = usize>, Section: UnwindSection<R>>(
 ) -> bool
     requires lookup { LeadsInto base_svma (Section.frame section.now bases.now) lookup }
     requires address { address ≡ base_svma + relative_address }
-    ensures { result ≡ is_in_fde_by (lookup_view lookup.entry) bases.now (Section.frame section.now bases.now)
+    ensures { result ≡ is_in_fde_lent lookup.entry bases.now (Section.frame section.now bases.now)
         base_svma relative_address }
 {
     match lookup {
@@ -95,8 +96,8 @@ pub(crate) fn is_contained_by(
     relative_address: u32,
 ) -> bool
     requires { LeadsInto base_svma (frame_section_lent bases section) lookup }
-    ensures { result ≡ is_contained_by (lookup_view lookup.entry) bases.now
-        (frame_section_lent bases.entry section.entry) base_svma relative_address }
+    ensures { result ≡ is_in_frames bases.now base_svma relative_address
+        (frames_lent section.entry lookup.entry) }
 {
     let Ok(address) = lookup_address(base_svma, relative_address) else {
         return false;

@@ -1,11 +1,11 @@
 //! Laws of the lookups of FDEs, if the header of a section is truthful. The functions do nothing when the program
 //! runs.
 
-ghost use Rattle.std.specs.Prelude.{◌≡◌, ◌<◌, ◌+◌, ◌^◌, Bool, ℕ};
+ghost use Rattle.std.specs.Prelude.{◌≡◌, ◌<◌, ◌+◌, ◌^◌};
 ghost use Rattle.framehop_modules.specs.Sections.{Sections};
 ghost use Rattle.framehop_unwinder.specs.Attempt.{Meanings};
 ghost use Rattle.framehop.specs.Attempts.{FormatMeanings, StepLimits};
-ghost use Rattle.framehop.specs.BothSections.{AttemptsByOne, HasBoth, HasOne};
+ghost use Rattle.framehop.specs.BothSections.{AllAttemptByOne, HasOne};
 ghost use Rattle.framehop.specs.SameSteps.{StepsFollowAttempts};
 ghost use Rattle.framehop.specs.StepMeanings.{meanings_aarch64, meanings_x86_64};
 ghost use Rattle.framehop.specs.LookupsAlike.{AddressBelow, AddressFrom, AddressWithin, AllLeadTo, AllStepAlike, AttemptsBelow, AttemptsFrom, LookupsBelowAll};
@@ -74,7 +74,6 @@ pub fn truthful_lookups_step_alike()
 /// contains and that of `.eh_frame` doesn't, and at all others by `.eh_frame`, as without the other; and one that hasn't both is the
 /// module that it was.
 pub fn debug_frame_is_used_beside_eh_frame<A: Arch>()
-    ensures both { (m : FormatMeanings A.UnwindRule A.UnwindRegs) (limits : StepLimits) (s : Sections) (has : HasBoth s)
-        (relative : ℕ) (first : Bool) → AttemptsByOne m limits has relative first }
+    ensures both { (m : FormatMeanings A.UnwindRule A.UnwindRegs) → AllAttemptByOne m }
     ensures one { (s : Sections) → HasOne s → both_data_of s ≡ unwind_data_of s }
 {}

@@ -5,8 +5,8 @@ ghost use Rattle.framehop_modules.specs.ChosenViews.{sections_bytes};
 ghost use Rattle.framehop.specs.DwarfViews.{frame_section_bytes, frame_section_lent};
 ghost use Rattle.dwarf_frame_rows.specs.declared.base_addresses.BaseAddresses.{BaseAddresses};
 ghost use Rattle.framehop.specs.LookupMethods.{ByIndex};
-ghost use Rattle.framehop.specs.UnwindData.{CallFrames, Compact, Pe, bases_of, both_data_of, debug_frames, format_of, frames_for, indexed, indexed_data_of, is_in_frames, scanned, scanned_data_of, unwind_data_of, with_debug_frame};
-ghost use Rattle.framehop.specs.UnwindDataViews.{AreChosenBeside, AreFoundBy, AreFramesFoundBy, IncreasesAsSaid, IsIndexedBy, IsLentBy, IsNotCompact, IsNotPe, IsTabulatedFor, IsUnused, IsUsedAt, LendsLookup, MakesEntries, TablesIncrease, compact_view, entries_view, file_view, format_view, frames_view, lookup_view};
+ghost use Rattle.framehop.specs.UnwindData.{CallFrames, Compact, Pe, bases_of, both_data_of, debug_frames, format_of, indexed, indexed_data_of, is_in_frames, scanned, scanned_data_of, unwind_data_of};
+ghost use Rattle.framehop.specs.UnwindDataViews.{AreChosenBeside, AreFoundBy, AreFramesFoundBy, IncreasesAsSaid, IsIndexedBy, IsLentBy, IsNotCompact, IsNotPe, IsTabulatedFor, IsUnused, IsUsedAt, IsWithDebugFrame, LendsLookup, MakesEntries, TablesIncrease, compact_view, entries_view, file_view, format_view, frames_used, frames_view, lookup_view};
 
 use crate::compact::CompactModule;
 use crate::contained::is_contained_by;
@@ -291,8 +291,7 @@ fn format_with_debug_frame<D: SectionBytes + Drop>(
     base_svma: u64,
 ) -> Result<ModuleFormat<D>, AllocError>
     requires { IsIndexedBy D.content bases.now base_svma format }
-    ensures view { IfOk result (λ made. format_view D.content made
-        ≡ with_debug_frame (option_map D.content debug_frame) (format_view D.content format)) }
+    ensures view { IfOk result (IsWithDebugFrame D.content debug_frame format) }
     ensures indexed { IfOk result (IsIndexedBy D.content bases.now base_svma) }
 {
     let Some(debug_frame) = debug_frame else {
@@ -486,8 +485,8 @@ fn frames_for<'a, D: SectionBytes>(
 ) -> &'a SectionFrames<D>
     requires main { AreFramesFoundBy D.content bases.now base_svma main.now }
     requires other { AreFramesFoundBy D.content bases.now base_svma other.now }
-    ensures view { frames_view D.content result.now ≡ frames_for bases.now base_svma relative_address
-        (frames_view D.content main.now) (frames_view D.content other.now) }
+    ensures view { frames_view D.content result.now
+        ≡ frames_used D.content bases.now base_svma relative_address main.now other.now }
     ensures found { AreFramesFoundBy D.content bases.now base_svma result.now }
 {
     if !is_in_frames(main, bases, base_svma, relative_address)
