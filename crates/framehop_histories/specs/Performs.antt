@@ -1,11 +1,17 @@
 -- What commands do to a session.
-use Rattle.std.specs.Prelude.{ℕ, ◌≡◌, List, [], length, map, Bool, Option, Result}
-use Rattle.std.specs.List.{All}
+use Rattle.std.specs.Prelude.{ℕ, ◌≡◌, List, [], length, map, slice_set, Bool, Option, Result, Err}
+use Rattle.std.specs.List.{All, slice_index_or}
 use Rattle.framehop_registers.specs.Callback.{Words, AnswersBy, OverWords}
+use Rattle.framehop_registers.specs.declared.code_address.FrameAddress.{FrameAddress}
+use Rattle.framehop_registers.specs.declared.error.Error.{Error}
+use Rattle.framehop_registers.specs.declared.error.Error.TheVariants as error
 use Rattle.framehop_unwinder.specs.Attempt.{Meanings}
 use Rattle.framehop_unwinder.specs.History.{HaveHistories}
+use Rattle.framehop_unwinder.specs.Moves.{MovesOn}
 use Rattle.framehop_unwinder.specs.State.{SessionState}
+use Rattle.framehop_unwinder.specs.Trials.{StaysUnlessStepped}
 use Rattle.framehop_unwinder.specs.Walk.{Walk}
+use Rattle.framehop_unwinder.specs.WalkViews.{walk_of}
 use Rattle.framehop_unwinder.specs.declared.iterator.StackWalk.{StackWalk}
 use Rattle.framehop_histories.specs.Commands.{Act, CommandState, Reply}
 use Rattle.framehop_histories.specs.StateAfter.{state_after}
@@ -67,6 +73,33 @@ pub record LoadsStay {Data Rule : Type 0} (old new : SessionState Data Rule) : T
   pub unwinders : new.unwinders ≡ old.unwinders
   pub next : new.next ≡ old.next
   pub caches : length new.caches ≡ length old.caches
+
+-- A step from a frame with these registers was answered so, for every callback: if there is no caller, they are left as they were.
+abbrev pub StepsOn : {Registers : Type 0} → Registers → Answer Registers → Type 0
+StepsOn old Added = ⊥
+StepsOn old Removed = ⊥
+StepsOn old Unknown = Unit {0}
+StepsOn old GenerationsExhausted = ⊥
+StepsOn old OutOfMemory = Unit {0}
+StepsOn old (Stepped answer regs) = StaysUnlessStepped answer old regs
+StepsOn old (Moved answer regs) = ⊥
+
+-- One of some walks has moved on with this answer, and no other has changed.
+pub record OneMovesOn {Registers : Type 0} (number : ℕ) (old : List (StackWalk Registers)) (answer : Result (Option FrameAddress) Error)
+    (moved : StackWalk Registers) (new : List (StackWalk Registers)) : Type 0 where
+  pub moves : (d : StackWalk Registers) → MovesOn (walk_of (slice_index_or old number d)) answer (walk_of moved)
+  pub others : new ≡ slice_set old number moved
+
+-- A move of one of some walks was answered so, for every callback; nothing has changed if there is no such walk, unwinder or cache.
+abbrev pub WalksMoveOn : {Registers : Type 0} → ℕ → List (StackWalk Registers) → Answer Registers → List (StackWalk Registers) → Type 0
+WalksMoveOn number old Added new = ⊥
+WalksMoveOn number old Removed new = ⊥
+WalksMoveOn number old Unknown new = new ≡ old
+WalksMoveOn number old GenerationsExhausted new = ⊥
+WalksMoveOn {Registers} number old OutOfMemory new = (moved : StackWalk Registers) × OneMovesOn number old (Err error.OutOfMemory) moved new
+WalksMoveOn number old (Stepped answer regs) new = ⊥
+WalksMoveOn {Registers} number old (Moved answer regs) new =
+    (moved : StackWalk Registers) × ((walk_of moved).registers ≡ regs) × OneMovesOn number old answer moved new
 
 -- the callback of a command, if it has one, answers by these words
 abbrev pub IsAnsweredBy : {Data Context Registers Callback : Type 0} → (Callback → ℕ → Result ℕ (Unit {0}) → Callback → Type 0) → (Callback → Words)

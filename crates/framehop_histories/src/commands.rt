@@ -1,15 +1,16 @@
 //! Commands to a session, one by one and in lists, with their answers.
 
-ghost use Rattle.std.specs.Prelude.{◌≡◌, ◌∷◌, ◌++◌, true, false, Some, None, [], List, length, map, IfOk, OnOk, OnErr};
+ghost use Rattle.std.specs.Prelude.{◌≡◌, ℕ, ◌∷◌, ◌++◌, true, false, Some, None, [], List, length, map, IfOk, OnOk, OnErr};
 ghost use Rattle.std.specs.List.{All};
 ghost use Rattle.framehop_registers.specs.Callback.{OverWords};
 ghost use Rattle.framehop_histories.specs.Commands.{NewUnwinder, NewCache, Load, Unload, Clone, Step, NewWalk, NextFrame, Stepped, Moved};
 ghost use Rattle.framehop_histories.specs.CommandViews.{OfCallback, reply_of};
-ghost use Rattle.framehop_histories.specs.Performs.{LoadsStay, Obeys, ObeysByWords, ObeysInSession, ObeysOverWords, Performs, StaysUnlessDone};
+ghost use Rattle.framehop_histories.specs.Performs.{LoadsStay, Obeys, ObeysByWords, ObeysInSession, ObeysOverWords, OneMovesOn, Performs, StaysUnlessDone, StepsOn, WalksMoveOn};
 ghost use Rattle.framehop_unwinder.specs.Frames.{frame_of};
 ghost use Rattle.framehop_unwinder.specs.State.{SessionState};
-ghost use Rattle.framehop_unwinder.specs.Trials.{wants_memory};
-ghost use Rattle.framehop_unwinder.specs.WalkViews.{frame_answer};
+ghost use Rattle.framehop_unwinder.specs.Trials.{StaysUnlessStepped, wants_memory};
+ghost use Rattle.framehop_unwinder.specs.WalkViews.{frame_answer, walk_of};
+ghost use Rattle.framehop_unwinder.specs.declared.iterator.StackWalk.{StackWalk};
 
 use framehop_modules::LoadError;
 use framehop_rules::{Error, FrameAddress};
@@ -64,6 +65,7 @@ impl<R: Copy> Answer<R> {
         ensures wanted { wants_memory answer ≡ true → reply_of result ≡ None }
         ensures answered { wants_memory answer ≡ false
             → reply_of result ≡ Some (Stepped answer regs) }
+        ensures steps { (old : R) → StaysUnlessStepped answer old regs → StepsOn old result }
     {
         match answer {
             Err(Error::OutOfMemory) => Answer::OutOfMemory,
@@ -76,6 +78,9 @@ impl<R: Copy> Answer<R> {
         ensures wanted { wants_memory answer ≡ true → reply_of result ≡ None }
         ensures answered { wants_memory answer ≡ false
             → reply_of result ≡ Some (Moved (frame_answer answer) regs) }
+        ensures moves { (number : ℕ) (old new : List (StackWalk R)) (moved : StackWalk R)
+            → (walk_of moved).registers ≡ regs → OneMovesOn number old answer moved new
+            → WalksMoveOn number old result new }
     {
         match answer {
             Err(Error::OutOfMemory) => Answer::OutOfMemory,
@@ -189,6 +194,7 @@ pub fn step<A: ModuleUnwinding, F: FnMut(u64) -> Result<u64, ()>>(
         ObeysInSession A.takes_memory A.asks_memory A.meanings
         (Step unwinder cache (frame_of address) regs words)
         session.old result session.new) }
+    ensures stays { StepsOn regs result }
     ensures loads { LoadsStay session.old session.new }
     ensures unknown { result ≡ Answer.Unknown → session.new ≡ session.old }
 {
@@ -231,6 +237,7 @@ pub fn next_frame<A: ModuleUnwinding, F: FnMut(u64) -> Result<u64, ()>>(
     ensures obeys { ObeysOverWords F.step read_stack.old read_stack.new
         A.takes_memory A.asks_memory A.meanings (NextFrame unwinder cache walk)
         session.old walks.old.items result session.new walks.new.items }
+    ensures walk { WalksMoveOn walk walks.old.items result walks.new.items }
     ensures loads { LoadsStay session.old session.new }
     ensures unknown { result ≡ Answer.Unknown → session.new ≡ session.old }
 {
