@@ -1,6 +1,6 @@
 //! `NT_FILE`: the files that are mapped into a process.
 
-ghost use Rattle.std.specs.Prelude.{◌≡◌, ◌≤◌, ◌<◌, ◌+◌, length, position, take, drop, IfOk, IfErr, OnSome, Ok, Err};
+ghost use Rattle.std.specs.Prelude.{◌≡◌, ◌≤◌, ◌<◌, ◌+◌, length, position, take, drop, IfOk, IfErr, OnErr, OnSome, Ok, Err};
 ghost use Rattle.core_files.specs.MappedFiles.{file_count, page_size, row_at, file_named, name_length, mapped_files};
 ghost use Rattle.core_files.specs.Refusals.{result_and_then};
 
@@ -105,11 +105,12 @@ impl<'a> MappedFiles<'a> {
         })
     }
 
-    /// The next file, or `None` after the last one. After an error nothing is said of what is left. Fails with
-    /// `FileNameUnterminated` or `FileOffsetTooLarge` and the file's number.
+    /// The next file, or `None` after the last one. Fails with `FileNameUnterminated` or `FileOffsetTooLarge` and the file's
+    /// number, and then changes nothing, so that the next call fails likewise.
     pub fn next(&mut self) -> Result<Option<MappedFile<'a>>, DescriptorError>
         ensures ok { IfOk result (λ next. files_left self.old ≡ next_and_left next (files_left self.new)) }
         ensures err { IfErr result (λ e. files_left self.old ≡ Err e) }
+        ensures stays { OnErr result (self.new ≡ self.old) }
         ensures less { IfOk result (λ next. OnSome next (count_left self.new < count_left self.old)) }
     {
         if self.number == self.count {
