@@ -12,6 +12,9 @@ use crate::cache::{AllocationPolicy, MayAllocateDuringUnwind};
 use crate::context::DwarfUnwindContext;
 use crate::histories::{self, Answer, Command};
 use crate::unwind_data::ModuleUnwindData;
+pub use framehop_analysis::aarch64::{
+    unwind_rule_from_detected_epilogue, unwind_rule_from_detected_prologue,
+};
 use framehop_modules::SectionBytes;
 pub use framehop_rows::aarch64::rule_answers_as_its_row;
 use framehop_rules::CacheStats;
