@@ -11,10 +11,11 @@ use std::{error, fmt};
 /// Why call frame information gives no rule and no caller (DWARF 5, 6.4).
 #[derive(Debug, Clone, Copy, PartialEq, Eq)]
 pub enum DwarfUnwinderError {
-    /// At the offset that the lookup gave there is no FDE that parses, or a scan of the section meets an entry that
-    /// doesn't parse.
+    /// At the offset that the lookup gave there is no FDE that parses; or a scan finds no FDE before the error that ends the
+    /// list of the section's entries.
     FdeFromOffsetFailed(Error),
-    /// No row of the FDE covers the address, or an instruction before that row is refused.
+    /// No row of the FDE covers the address, or an instruction before that row fails. Not returned: the step is by the rule
+    /// for code that no row covers.
     UnwindInfoForAddressFailed(Error),
     /// The module's base plus the relative address doesn't fit 64 bits.
     LookupAddressOverflow,
