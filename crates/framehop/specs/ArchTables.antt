@@ -1,5 +1,5 @@
 -- Tables of the rules that a module's call frames say, as contracts see them.
-use Rattle.std.specs.Prelude.{◌≡◌, ℕ, Option}
+use Rattle.std.specs.Prelude.{◌≡◌, ℕ, Bool, true, false, Option}
 use Rattle.dwarf_frame_rows.specs.FrameSection.{FrameSection}
 use Rattle.dwarf_frame_rows.specs.Row.{Row}
 use Rattle.framehop_rows.specs.RowAttemptAarch64 as aarch64_rows
@@ -14,6 +14,16 @@ use Rattle.framehop_tables.specs.declared.covered.Covered.{Covered}
 use Rattle.framehop.specs.StepMeanings.{row_limits}
 use Rattle.framehop.specs.declared.tabulation.ArchRuleTable.{ArchRuleTable}
 use Rattle.framehop.specs.declared.tabulation.ArchRuleTable.TheVariants.{X86_64, Aarch64}
+
+-- a table on x86_64
+abbrev pub is_on_x86_64 : ArchRuleTable → Bool
+is_on_x86_64 (X86_64 table) = true
+is_on_x86_64 (Aarch64 table) = false
+
+-- a table on aarch64
+abbrev pub is_on_aarch64 : ArchRuleTable → Bool
+is_on_aarch64 (X86_64 table) = false
+is_on_aarch64 (Aarch64 table) = true
 
 -- The table says of each relative address what the index of this section says on the table's architecture, with the room for rows that
 -- policies set.

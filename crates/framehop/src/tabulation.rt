@@ -1,10 +1,10 @@
 //! Tables of the rules that a module's call frames say.
 
-ghost use Rattle.std.specs.Prelude.{◌≡◌, IfOk, IfSome};
+ghost use Rattle.std.specs.Prelude.{◌≡◌, ◌↔◌, Bool, IfOk, IfSome, IsSome, IsTrue};
 ghost use Rattle.framehop_index.specs.CfiIndexView.{IsIndexOf};
 ghost use Rattle.framehop_tables.specs.Covered.{SaysValid, tabulated};
 ghost use Rattle.framehop_tables.specs.RuleTables.{IsTableOf};
-ghost use Rattle.framehop.specs.ArchTables.{IsArchTableOf, SaysAsIndexOn};
+ghost use Rattle.framehop.specs.ArchTables.{IsArchTableOf, SaysAsIndexOn, is_on_aarch64, is_on_x86_64};
 ghost use Rattle.framehop.specs.DwarfViews.{frame_section_lent};
 ghost use Rattle.framehop.specs.StepMeanings.{row_limits};
 
@@ -69,6 +69,11 @@ where
 
 /// An architecture that tables of rules are made for.
 pub trait Tabulating: RowRules {
+    ghost use Rattle.framehop.specs.declared.tabulation.ArchRuleTable.{ArchRuleTable};
+
+    /// A table is one on this architecture.
+    ghost is_own: { ArchRuleTable → Bool };
+
     /// The table of a section of call frames, by an index of the section, which has the same base. The section's pointers are
     /// relative to `bases`. Fails if it fails to allocate.
     fn tabulate(
@@ -79,16 +84,20 @@ pub trait Tabulating: RowRules {
         index: &DwarfCfiIndex,
     ) -> Result<ArchRuleTable, AllocError>
         requires { IsIndexOf index.now base_svma (frame_section_lent bases section) }
-        ensures { IfOk result (λ table.
-            IsArchTableOf table base_svma (frame_section_lent bases.entry section.entry)) };
+        ensures table { IfOk result (λ table.
+            IsArchTableOf table base_svma (frame_section_lent bases.entry section.entry)) }
+        ensures own { IfOk result (λ table. IsTrue (is_own table)) };
 
     /// What a table says of a relative address, if it is a table on this architecture: a rule can be executed.
     fn look_up(table: &ArchRuleTable, relative_address: u32) -> Option<Covered<Self::UnwindRule>>
+        ensures own { IsSome result ↔ IsTrue (is_own table.now) }
         ensures covered { IfSome result (SaysAsIndexOn Self.rows Self.rule_of table.now relative_address) }
         ensures valid { IfSome result (SaysValid Self.UnwindRule.is_valid) };
 }
 
 impl Tabulating for ArchX86_64 {
+    ghost is_own = { is_on_x86_64 };
+
     fn tabulate(
         alloc: Global,
         section: UnwindSectionType<&[u8]>,
@@ -110,6 +119,8 @@ impl Tabulating for ArchX86_64 {
 }
 
 impl Tabulating for ArchAarch64 {
+    ghost is_own = { is_on_aarch64 };
+
     fn tabulate(
         alloc: Global,
         section: UnwindSectionType<&[u8]>,
