@@ -1,9 +1,11 @@
 //! A core, as the system gives it: in parts, so that the pages of stacks that were never used take no memory. They are most of a
 //! core of many threads.
 
+use crate::files::first_bytes;
 use anyhow::Result;
 use core_files::SegmentBytes;
 use elf_files::{ElfError, ElfFile, FileKind, Segment, SegmentKind};
+use std::alloc::AllocError;
 use std::fs::File;
 use std::os::unix::fs::FileExt;
 
@@ -19,16 +21,11 @@ pub(crate) struct CoreParts {
 // How many bytes are read at once.
 const BLOCK_SIZE: u64 = 1 << 16;
 
+// How many bytes of a block are kept, or counted as zeros, at once: those of a page.
+const PAGE_SIZE: usize = 1 << 12;
+
 // The size of an ELF header.
 const ELF_HEADER_SIZE: u64 = 64;
-
-// So many bytes of a file from its start on.
-fn first_bytes(rt: &HostRuntime, file: &File, size: u64) -> Result<Vec<u8>> {
-    let mut bytes = Vec::new(rt.alloc());
-    bytes.resize(size as usize, 0)?;
-    file.read_exact_at(&mut bytes, 0)?;
-    Ok(bytes)
-}
 
 // Where the program headers of a core end; none if it isn't one, or if its header needs more than is there.
 fn headers_end(start: &[u8]) -> Option<u64> {
@@ -61,6 +58,14 @@ fn segments_size(elf: &ElfFile<'_>, size: u64) -> Result<Option<u64>, ElfError> 
     Ok(Some(all))
 }
 
+// Adds the bytes of a block, page by page, so that of a stack only the pages that were used take memory.
+fn push_pages(bytes: &mut SegmentBytes, block: &[u8]) -> Result<(), AllocError> {
+    for page in block.chunks(PAGE_SIZE) {
+        bytes.push(page)?;
+    }
+    Ok(())
+}
+
 // The bytes of a segment, block by block.
 fn read_segment(rt: &HostRuntime, file: &File, segment: &Segment) -> Result<SegmentBytes> {
     let mut bytes = SegmentBytes::new(rt.alloc());
@@ -71,7 +76,7 @@ fn read_segment(rt: &HostRuntime, file: &File, segment: &Segment) -> Result<Segm
         let size = segment.file_size.saturating_sub(before).min(BLOCK_SIZE);
         let part = &mut block[..size as usize];
         file.read_exact_at(part, segment.offset.saturating_add(before))?;
-        bytes.push(part)?;
+        push_pages(&mut bytes, part)?;
     }
     Ok(bytes)
 }

@@ -4,6 +4,8 @@ use anyhow::Result;
 use backtrace_text::push_name;
 use core_files::{CoreFile, MappedFile};
 use std::alloc::{AllocError, Global};
+use std::fs::File;
+use std::os::unix::fs::FileExt;
 use std::{fs, io, str};
 
 /// A file that a core names, with its bytes if they could be read.
@@ -25,12 +27,21 @@ fn file_named<'f, 'a>(files: &'f [NamedFile<'a>], name: &[u8]) -> Option<&'f Nam
     None
 }
 
+/// So many bytes of a file from its start on, in as much memory.
+pub(crate) fn first_bytes(rt: &HostRuntime, file: &File, size: u64) -> io::Result<Vec<u8>> {
+    let mut bytes = Vec::new(rt.alloc());
+    bytes.resize(size as usize, 0)?;
+    file.read_exact_at(&mut bytes, 0)?;
+    Ok(bytes)
+}
+
 // The bytes of a regular file. Any other, as a device, isn't opened.
 fn read_regular(rt: &HostRuntime, path: &str) -> io::Result<Vec<u8>> {
-    if !fs::metadata(rt, path)?.is_file() {
+    let metadata = fs::metadata(rt, path)?;
+    if !metadata.is_file() {
         return Err(io::Error::from(io::ErrorKind::InvalidInput));
     }
-    fs::read(rt, path)
+    first_bytes(rt, &File::open(rt, path)?, metadata.len())
 }
 
 // The bytes of a file that a core names, below a folder.
