@@ -6,6 +6,7 @@ use anyhow::Result;
 use core_files::SegmentBytes;
 use elf_files::{ElfError, ElfFile, FileKind, Segment, SegmentKind};
 use std::alloc::AllocError;
+use std::fs;
 use std::fs::File;
 use std::os::unix::fs::FileExt;
 
@@ -96,14 +97,15 @@ fn read_segments(rt: &HostRuntime, file: &File, elf: &ElfFile<'_>) -> Result<Vec
 }
 
 /// Reads a core in parts; none if it has to be read whole: if it isn't a regular file or not a core, if its headers or segments
-/// aren't all there, or if that would be to read more than the file, some of it twice.
+/// aren't all there, or if that would be to read more than the file, some of it twice. A file that isn't a regular one isn't opened,
+/// since a pipe can be read only once.
 pub(crate) fn read_parts(rt: &HostRuntime, path: &str) -> Result<Option<CoreParts>> {
-    let file = File::open(rt, path)?;
-    let metadata = file.metadata()?;
+    let metadata = fs::metadata(rt, path)?;
     let size = metadata.len();
     if !metadata.is_file() || size < ELF_HEADER_SIZE {
         return Ok(None);
     }
+    let file = File::open(rt, path)?;
     let start = first_bytes(rt, &file, size.min(BLOCK_SIZE))?;
     let Some(end) = headers_end(&start) else {
         return Ok(None);
