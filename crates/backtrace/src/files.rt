@@ -35,13 +35,26 @@ pub(crate) fn first_bytes(rt: &HostRuntime, file: &File, size: u64) -> io::Resul
     Ok(bytes)
 }
 
-// The bytes of a regular file. Any other, as a device, isn't opened.
+// Whether a file of this size begins as ELF files do.
+fn begins_as_elf(rt: &HostRuntime, file: &File, size: u64) -> io::Result<bool> {
+    let start = first_bytes(rt, file, size.min(4))?;
+    Ok(start.as_slice() == b"\x7fELF".as_slice())
+}
+
+// The bytes of a regular file, or no bytes if it isn't an ELF file, since such a file may be large and has no code. Any other, as a
+// device, isn't opened.
 fn read_regular(rt: &HostRuntime, path: &str) -> io::Result<Vec<u8>> {
     let metadata = fs::metadata(rt, path)?;
     if !metadata.is_file() {
         return Err(io::Error::from(io::ErrorKind::InvalidInput));
     }
-    first_bytes(rt, &File::open(rt, path)?, metadata.len())
+    let size = metadata.len();
+    let file = File::open(rt, path)?;
+    if begins_as_elf(rt, &file, size)? {
+        first_bytes(rt, &file, size)
+    } else {
+        Ok(Vec::new(rt.alloc()))
+    }
 }
 
 // The bytes of a file that a core names, below a folder.
