@@ -121,9 +121,10 @@ stacks_request words = option_and_then request_by (parsed_words nothing_said wor
 abbrev pub option_among : List (List ℕ) → Bool
 option_among words = list_any begins_with_dash words
 
--- the findings of files
+-- the findings of files, one at least
 abbrev pub lint_request : List (List ℕ) → Option Request
-lint_request words = if option_among words then None else Some (lint words)
+lint_request [] = None
+lint_request (word ∷ words) = if option_among (word ∷ words) then None else Some (lint (word ∷ words))
 
 -- what arguments ask for, without the program's name
 abbrev pub request_of : List (List ℕ) → Option Request

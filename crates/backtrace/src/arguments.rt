@@ -269,18 +269,18 @@ fn option_among(words: &[String]) -> bool
     false
 }
 
-// The findings that the words after `--lint` ask for.
+// The findings that the words after `--lint` ask for, if they name a file.
 fn lint_request(words: &[String]) -> Option<Request<'_>>
     ensures { option_map request_seen result ≡ lint_request (map string_bytes words.now) }
 {
-    if option_among(words) {
+    if words.is_empty() || option_among(words) {
         return None;
     }
     Some(Request::Lint(words))
 }
 
 /// What the arguments ask for, after the program's name: `None` if they name an option that there isn't, if a value is missing or no
-/// number of 64 bits, or if they have no core or two. After `--lint` there are names of files alone.
+/// number of 64 bits, or if they have no core or two. After `--lint` there are names of files alone, one at least.
 pub(crate) fn request_of(words: &[String]) -> Option<Request<'_>>
     ensures { option_map request_seen result ≡ request_of (map string_bytes words.now) }
 {
