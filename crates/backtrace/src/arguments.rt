@@ -16,8 +16,9 @@ Prints the stacks of the threads of a core file.
   --limit N      prints at most N frames of a stack, 1048576 without it
   --registers    prints the registers of each frame too
 With --lint prints what an unwinder meets in the call frames of ELF files: the error that ends the entries of .eh_frame, or of
-.debug_frame if a file has no .eh_frame, the FDEs that an index leaves out, and the FDEs that overlap. The exit status is 1 if it
-prints something, 2 if a file can't be read.";
+.debug_frame if a file has no .eh_frame, the FDEs that an index leaves out and those that overlap, the rows that no unwind rule
+expresses or that fail, and why an .eh_frame_hdr isn't truthful. The exit status is 1 if it prints something, 2 if a file can't
+be read.";
 
 // The most frames of a stack, if no limit is said.
 const DEFAULT_LIMIT: u64 = 1 << 20;
