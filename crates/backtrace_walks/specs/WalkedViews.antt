@@ -1,5 +1,5 @@
 -- What contracts see of walks and their frames.
-use Rattle.std.specs.Prelude.{◌≡◌, ℕ, Result, IfOk}
+use Rattle.std.specs.Prelude.{◌≡◌, ℕ, Result}
 use Rattle.framehop_registers.specs.Callback.{OverWords, Words}
 use Rattle.framehop_unwinder.specs.Frames.{frame_of}
 use Rattle.framehop_unwinder.specs.WalkViews.{walk_of}
@@ -18,11 +18,11 @@ abbrev pub next_seen : {Registers : Type 0} → NextFrame Registers → Next Reg
 next_seen (next.Frame frame) = Reaches (frame_seen frame)
 next_seen (next.End end) = Ends end
 
--- A call that succeeds returns what is next, and leaves the walk where it goes on.
-abbrev pub IsAdvance : {Registers E : Type 0} → Result (NextFrame Registers) E → StackWalk Registers → Advance Registers → Type 0
-IsAdvance result walk expected = IfOk result (λ given. record { next = next_seen given; walk = walk_of walk } ≡ expected)
+-- A call returns what is next, and leaves the walk where it goes on.
+abbrev pub IsAdvance : {Registers : Type 0} → NextFrame Registers → StackWalk Registers → Advance Registers → Type 0
+IsAdvance next walk expected = record { next = next_seen next; walk = walk_of walk } ≡ expected
 
 -- A call took the callback from one state to another. It advances a walk so, over all words that the callback answered by.
-abbrev pub AdvancesAs : {S Registers E : Type 0} → (S → ℕ → Result ℕ (Unit {0}) → S → Type 0) → S → S → Result (NextFrame Registers) E
+abbrev pub AdvancesAs : {S Registers : Type 0} → (S → ℕ → Result ℕ (Unit {0}) → S → Type 0) → S → S → NextFrame Registers
     → StackWalk Registers → (Words → Advance Registers) → Type 0
-AdvancesAs step old new result walk expected = OverWords step old new (λ words. IsAdvance result walk (expected words))
+AdvancesAs step old new next walk expected = OverWords step old new (λ words. IsAdvance next walk (expected words))

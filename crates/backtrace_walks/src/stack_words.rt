@@ -1,9 +1,8 @@
 //! The walk over a thread's stack, in the memory of a process.
 
-ghost use Rattle.std.specs.Prelude.{◌≡◌, OnErr};
+ghost use Rattle.std.specs.Prelude.{◌≡◌};
 ghost use Rattle.core_files.specs.MemoryViews.{word_of};
 ghost use Rattle.framehop_registers.specs.Callback.{read_answer};
-ghost use Rattle.framehop_unwinder.specs.WalkViews.{walk_of};
 ghost use Rattle.backtrace_walks.specs.SessionViews.{IsReady, KeepsModules, advance_in};
 ghost use Rattle.backtrace_walks.specs.WalkedViews.{IsAdvance};
 
@@ -11,7 +10,6 @@ use crate::arch::{FileModules, ThreadArch};
 use crate::walks::{NextFrame, next_frame};
 use core_files::Memory;
 use framehop::{Session, StackWalk};
-use std::alloc::AllocError;
 
 // The word at an address.
 fn word_at(memory: &Memory<'_, '_>, address: u64) -> Result<u64, ()>
@@ -25,11 +23,10 @@ pub fn next_in_memory<'a, A: ThreadArch>(
     session: &mut Session<FileModules<'a, A>>,
     memory: &Memory<'_, 'a>,
     walk: &mut StackWalk<A::UnwindRegs>,
-) -> Result<NextFrame<A::UnwindRegs>, AllocError>
+) -> NextFrame<A::UnwindRegs>
     requires { IsReady session.old }
     ensures next { IsAdvance result walk.new
         (advance_in A.stacks session.old memory.now walk.old (word_of memory.now)) }
-    ensures stays { OnErr result (walk_of walk.new ≡ walk_of walk.old) }
     ensures session { KeepsModules session.old session.new }
 {
     let mut read_stack = |at: u64| -> Result<u64, ()>

@@ -18,14 +18,14 @@ use backtrace_text::{WalkEnd, write_end, write_frame, write_thread};
 use core_files::Thread;
 use framehop::{Session, StackWalk};
 use json_program::{RunError, Sink};
-use std::alloc::{AllocError, Global};
+use std::alloc::Global;
 
 // Makes the next move of a walk over a stack of a process.
 fn next_in<'a, A: ThreadArch>(
     session: &mut Session<FileModules<'a, A>>,
     process: &CoreProcess<'_, '_, 'a>,
     walk: &mut StackWalk<A::UnwindRegs>,
-) -> Result<NextFrame<A::UnwindRegs>, AllocError>
+) -> NextFrame<A::UnwindRegs>
     requires { IsSessionOf process.now session.old }
     ensures next { IsAdvance result walk.new
         (advance_of_thread A.stacks (process_seen process.now) (walk_of walk.old)) }
@@ -52,7 +52,7 @@ fn write_walk<'a, A: ThreadArch, W: Sink>(
 {
     let mut walk = StackWalk::new(start.pc, start.registers);
     for number in 0..options.limit {
-        match next_in::<A>(session, process, &mut walk)? {
+        match next_in::<A>(session, process, &mut walk) {
             NextFrame::Frame(frame) => {
                 let shown = shown_frame::<A>(alloc, process, options.registers, &frame)?;
                 write_frame(alloc, number, &shown, sink)?;

@@ -1,9 +1,8 @@
 //! The moves of a walk over a stack.
 
-ghost use Rattle.std.specs.Prelude.{◌≡◌, IfOk, OnErr, is_err};
+ghost use Rattle.std.specs.Prelude.{◌≡◌};
 ghost use Rattle.core_files.specs.MemoryViews.{word_of};
 ghost use Rattle.framehop_unwinder.specs.Frames.{frame_of, lookup_address};
-ghost use Rattle.framehop_unwinder.specs.Trials.{wants_memory};
 ghost use Rattle.framehop_unwinder.specs.WalkViews.{frame_answer, walk_of};
 ghost use Rattle.backtrace_walks.specs.SessionViews.{IsReady, KeepsModules, advance_in};
 ghost use Rattle.backtrace_walks.specs.WalkedViews.{AdvancesAs, next_seen};
@@ -14,7 +13,6 @@ use backtrace_text::WalkEnd;
 use core_files::Memory;
 use framehop::{Session, StackWalk};
 use framehop_registers::{Error, FrameAddress};
-use std::alloc::AllocError;
 
 /// A frame of a walk.
 #[derive(Clone, Copy, Debug)]
@@ -34,19 +32,14 @@ pub enum NextFrame<R> {
     End(WalkEnd),
 }
 
-// What is next if a move returned this, with these registers. A move that is out of memory is taken by no walk: this call fails too.
-fn next_by<R: Copy>(
-    answer: Result<Option<FrameAddress>, Error>,
-    registers: R,
-) -> Result<NextFrame<R>, AllocError>
-    ensures next { IfOk result (λ next. next_seen next ≡ next_by (frame_answer answer) registers) }
-    ensures memory { wants_memory answer ≡ is_err result }
+// What is next if a move returned this, with these registers.
+fn next_by<R: Copy>(answer: Result<Option<FrameAddress>, Error>, registers: R) -> NextFrame<R>
+    ensures { next_seen result ≡ next_by (frame_answer answer) registers }
 {
     match answer {
-        Ok(Some(address)) => Ok(NextFrame::Frame(WalkedFrame { address, registers })),
-        Ok(None) => Ok(NextFrame::End(WalkEnd::EndOfStack)),
-        Err(Error::OutOfMemory) => Err(AllocError),
-        Err(error) => Ok(NextFrame::End(WalkEnd::Stopped(error))),
+        Ok(Some(address)) => NextFrame::Frame(WalkedFrame { address, registers }),
+        Ok(None) => NextFrame::End(WalkEnd::EndOfStack),
+        Err(error) => NextFrame::End(WalkEnd::Stopped(error)),
     }
 }
 
@@ -93,23 +86,22 @@ fn resumed<A: ThreadArch>(
 
 /// Makes the next move of a walk over the frames of the first unwinder of a session, through its first cache. The walk is then where
 /// it goes on: at the frame, or where a signal interrupted the thread, if a handler returns to the frame. The session goes on having
-/// these modules. Fails only if a step is out of memory.
+/// these modules. No step is out of memory, since none allocates.
 pub fn next_frame<'a, A: ThreadArch, F: FnMut(u64) -> Result<u64, ()>>(
     session: &mut Session<FileModules<'a, A>>,
     memory: &Memory<'_, 'a>,
     walk: &mut StackWalk<A::UnwindRegs>,
     read_stack: &mut F,
-) -> Result<NextFrame<A::UnwindRegs>, AllocError>
+) -> NextFrame<A::UnwindRegs>
     requires callable { F.IsAlwaysCallable read_stack.old }
     requires session { IsReady session.old }
     ensures callable { F.IsAlwaysCallable read_stack.new }
     ensures next { AdvancesAs F.step read_stack.old read_stack.new result walk.new
         (advance_in A.stacks session.old memory.now walk.old) }
-    ensures stays { OnErr result (walk_of walk.new ≡ walk_of walk.old) }
     ensures session { KeepsModules session.old session.new }
 {
     let answer = session.next_frame(0, 0, walk, read_stack);
-    let next = next_by(answer, walk.regs())?;
+    let next = next_by(answer, walk.regs());
     *walk = resumed::<A>(memory, *walk, answer);
-    Ok(next)
+    next
 }

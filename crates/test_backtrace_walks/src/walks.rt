@@ -84,7 +84,7 @@ fn walked_through<'a, A: ThreadArch>(
     let mut frames = Vec::new(alloc);
     let mut walk = StackWalk::new(start.pc, start.registers);
     for _ in 0..8 {
-        match next_in_memory::<A>(session, memory, &mut walk)? {
+        match next_in_memory::<A>(session, memory, &mut walk) {
             NextFrame::Frame(frame) => frames.push(frame)?,
             NextFrame::End(end) => return Ok((frames, end)),
         }
@@ -131,7 +131,7 @@ fn walked_over<'a, A: ThreadArch, F: FnMut(u64) -> Result<u64, ()>>(
     let mut frames = Vec::new(alloc);
     let mut walk = StackWalk::new(start.pc, start.registers);
     for _ in 0..8 {
-        match next_frame::<A, F>(session, &memory, &mut walk, read_stack)? {
+        match next_frame::<A, F>(session, &memory, &mut walk, read_stack) {
             NextFrame::Frame(frame) => frames.push(frame)?,
             NextFrame::End(end) => return Ok((frames, end)),
         }

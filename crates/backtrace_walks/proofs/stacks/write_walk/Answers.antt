@@ -36,13 +36,9 @@ loop-number-init g c =
           (written_none old all);
     }
 
-pub returns-in_err-frame-clause-text : goal.returns-in_err-frame-clause-text
-returns-in_err-frame-clause-text g c =
-    fails_after c.from_residual.result _ _ _ c.from_residual.ensures.0 (written_prefix _ _ _ _ c.loop-number.invariant.stands)
-
 pub returns-in_err-shown-in-Frame-clause-text : goal.returns-in_err-shown-in-Frame-clause-text
 returns-in_err-shown-in-Frame-clause-text g c =
-    fails_after c.from_residual-in_err-shown-in-Frame.result _ _ _ c.from_residual-in_err-shown-in-Frame.ensures.0 (written_prefix _ _ _ _ c.loop-number.invariant.stands)
+    fails_after c.from_residual.result _ _ _ c.from_residual.ensures.0 (written_prefix _ _ _ _ c.loop-number.invariant.stands)
 
 pub returns-in_err-write_frame-in-Frame-clause-text : goal.returns-in_err-write_frame-in-Frame-clause-text
 returns-in_err-write_frame-in-Frame-clause-text g c =
@@ -60,7 +56,7 @@ returns-in_err-write_frame-in-Frame-clause-text g c =
     let later = walk_of c.next_in.new.walk in
     let seen = frame_seen c.in-Frame.frame in
     let made : record { next = Reaches seen; walk = later } ≡ advance judgment interrupted process.words walk =
-    ap (λ (n : NextFrame g.row.A-UnwindRegs.Denot). record { next = next_seen n; walk = later }) (sym c.in-Frame.is) ∙ c.in_ok-frame.ensures.next in
+    ap (λ (n : NextFrame g.row.A-UnwindRegs.Denot). record { next = next_seen n; walk = later }) (sym c.in-Frame.is) ∙ c.next_in.ensures.next in
     let view = frame_view c.in_ok-shown-in-Frame.shown in
     let is = goes_on judgment interrupted process.words shown l.number now left walk later seen view one_more made c.in_ok-shown-in-Frame.ensures in
     fails_in c.from_residual-in_err-write_frame-in-Frame.result (g.W.Sink.contents c.args.sink.now) (g.W.Sink.contents l.sink) (g.W.Sink.contents c.write_frame.new.sink)
@@ -82,7 +78,7 @@ returns-in-End-clause-text g c =
     let walk = walk_of l.walk in
     let later = walk_of c.next_in.new.walk in
     let made : record { next = Ends c.in-End.end; walk = later } ≡ advance judgment interrupted process.words walk =
-    ap (λ (n : NextFrame g.row.A-UnwindRegs.Denot). record { next = next_seen n; walk = later }) (sym c.in-End.is) ∙ c.in_ok-frame.ensures.next in
+    ap (λ (n : NextFrame g.row.A-UnwindRegs.Denot). record { next = next_seen n; walk = later }) (sym c.in-End.is) ∙ c.next_in.ensures.next in
     writes_last c.write_end.result (g.W.Sink.contents c.args.sink.now) (g.W.Sink.contents l.sink) (g.W.Sink.contents c.write_end.new.sink)
     (lines_left judgment interrupted process.words shown l.number now walk) (end_text c.in-End.end) (walk_text stacks process options c.args.start.now) l.invariant.stands
     (ends judgment interrupted process.words shown l.number now left walk later c.in-End.end one_more made) c.write_end.ensures.text
@@ -103,7 +99,7 @@ loop-number-preserved g c =
     let later = walk_of c.next_in.new.walk in
     let seen = frame_seen c.in-Frame.frame in
     let made : record { next = Reaches seen; walk = later } ≡ advance judgment interrupted process.words walk =
-    ap (λ (n : NextFrame g.row.A-UnwindRegs.Denot). record { next = next_seen n; walk = later }) (sym c.in-Frame.is) ∙ c.in_ok-frame.ensures.next in
+    ap (λ (n : NextFrame g.row.A-UnwindRegs.Denot). record { next = next_seen n; walk = later }) (sym c.in-Frame.is) ∙ c.next_in.ensures.next in
     let view = frame_view c.in_ok-shown-in-Frame.shown in
     let is = goes_on judgment interrupted process.words shown l.number now left walk later seen view one_more made c.in_ok-shown-in-Frame.ensures in
     record {

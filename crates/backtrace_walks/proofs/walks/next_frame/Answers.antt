@@ -1,3 +1,4 @@
+use Rattle.std.proofs.Common.{refl}
 use Rattle.core_files.specs.MemoryViews.{word_of}
 use Rattle.framehop_unwinder.specs.State.{modules_at}
 use Rattle.framehop_unwinder.specs.WalkViews.{frame_answer, walk_of}
@@ -11,7 +12,7 @@ returns-clause-next g c =
     record {
       said = λ words said.
           advances g.A.ThreadArch.stacks.steps (modules_at c.args.session.now 0) (g.A.ThreadArch.stacks.interrupted (word_of c.args.memory.now)) words g.met.A.ThreadArch.steps_are
-          (frame_answer moved.result) (walk_of c.args.walk.now) (walk_of moved.new.walk) (walk_of c.resumed.result) c.regs.result (next_seen c.in_ok-next.next)
-          (moved.ensures.moved.said words said c.in_ok-next.ensures.memory) c.regs.ensures c.in_ok-next.ensures.next c.resumed.ensures;
+          (frame_answer moved.result) (walk_of c.args.walk.now) (walk_of moved.new.walk) (walk_of c.resumed.result) c.regs.result (next_seen c.next_by-next.result)
+          (moved.ensures.moved.said words said (moved.ensures.memory.never refl)) c.regs.ensures c.next_by-next.ensures c.resumed.ensures;
       still = moved.ensures.moved.still;
     }
