@@ -121,7 +121,7 @@ fn write_chosen<'a, A: ThreadArch, W: Sink>(
 }
 
 /// Writes the stacks of threads, in their order, of those that are asked for and have registers of the architecture, by a session with
-/// the modules of their process.
+/// the modules of their process, which it goes on having.
 pub fn write_threads<'a, A: ThreadArch, W: Sink>(
     alloc: Global,
     session: &mut Session<FileModules<'a, A>>,
@@ -135,6 +135,7 @@ pub fn write_threads<'a, A: ThreadArch, W: Sink>(
     ensures text { Writes W.contents sink.old sink.new result
         (threads_text A.stacks (process_seen process.now) options.now threads.now) }
     ensures errors { ReportsFailures result false (W.has_failed sink.new) }
+    ensures session { IsSessionOf process.now session.new }
 {
     for thread in threads {
         write_chosen::<A, W>(alloc, session, process, options, thread, sink)?;
