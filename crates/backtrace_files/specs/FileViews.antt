@@ -19,6 +19,11 @@ files_seen files = map file_seen files
 abbrev pub range_seen : LoadedFile → List KnownRange
 range_seen file = option_to_list (range_of (file_seen file))
 
--- The code of a file as it is loaded: its bytes, its header, and by how much its addresses are moved.
+-- The code of a file as it is loaded: its bytes, its header, and where the segment with the code begins.
 abbrev pub code_seen : LoadedCode → CodeOfFile
-code_seen code = record { bytes = code.file.bytes.now; header = code.file.header; bias = code.bias }
+code_seen code = record {
+  bytes = code.file.bytes.now;
+  header = code.file.header;
+  base_svma = code.base_svma;
+  base_avma = code.base_avma;
+}

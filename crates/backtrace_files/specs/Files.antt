@@ -27,11 +27,13 @@ range_of file = option_map (mapped_range file.mapping) file.bytes
 abbrev pub ranges_of : List ProcessFile → List KnownRange
 ranges_of files = filter_map range_of files
 
--- A file whose code is mapped: its bytes, its header, and the address in memory of the file's address 0.
+-- A file whose code is mapped: its bytes, its header, and where the segment with the code begins, by its address in the file and in
+-- memory.
 pub record CodeOfFile : Type 0 where
   pub bytes : List ℕ
   pub header : Header
-  pub bias : ℕ
+  pub base_svma : ℕ
+  pub base_avma : ℕ
 
 -- a segment is loaded (PT_LOAD)
 abbrev pub is_load : SegmentKind → Bool
@@ -55,19 +57,20 @@ code_segment bytes header mapping =
     if is_within bytes header.segment_table (56 * header.segment_count)
     then find (has_code_of mapping) (all_segments bytes header) else None
 
--- The address in memory of the file's address 0. What is at p_offset in the file has the address p_vaddr there, and start +
--- (p_offset - offset) in memory. All sums are in 64 bits.
-abbrev pub bias_by : FileMapping → Segment → Option ℕ
-bias_by mapping segment =
+-- Where a segment begins in memory: what is at p_offset in the file is at start + (p_offset - offset). All sums are in 64 bits.
+abbrev pub base_by : FileMapping → Segment → Option ℕ
+base_by mapping segment =
     let memory = mapping.start + segment.offset in
-    let file = mapping.offset + segment.address in
-    if nat_lt memory (2 ^ 64) && nat_lt file (2 ^ 64) && nat_le file memory then Some (memory - file) else None
+    if nat_lt memory (2 ^ 64) && nat_le mapping.offset memory then Some (memory - mapping.offset) else None
+
+-- the code of a mapping, of a file with these bytes and this header, in this segment
+abbrev pub code_in : FileMapping → List ℕ → Header → Segment → Option CodeOfFile
+code_in mapping bytes header segment =
+    option_map (λ base. record { bytes = bytes; header = header; base_svma = segment.address; base_avma = base }) (base_by mapping segment)
 
 -- the code of a mapping, of a file with these bytes and this header
 abbrev pub code_of : FileMapping → List ℕ → Header → Option CodeOfFile
-code_of mapping bytes header =
-    option_map (λ bias. record { bytes = bytes; header = header; bias = bias })
-    (option_and_then (bias_by mapping) (code_segment bytes header mapping))
+code_of mapping bytes header = option_and_then (code_in mapping bytes header) (code_segment bytes header mapping)
 
 -- the code of a mapped file, if its bytes are there
 abbrev pub loaded_code : ProcessFile → Option CodeOfFile

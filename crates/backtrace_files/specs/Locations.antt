@@ -20,14 +20,21 @@ file_at files address = find (λ file. is_mapped address file.mapping) files
 abbrev pub symbol_at : CodeOfFile → ℕ → Option NamedSymbol
 symbol_at code address = option_and_then (λ symbol. symbol) (result_ok (symbol_for_address code.bytes code.header address))
 
--- an address, from the start of a function on
-abbrev pub from_start : CodeOfFile → ℕ → NamedSymbol → seen.Offset
-from_start code address symbol = record { name = symbol.name; offset = address - code.bias - symbol.value }
+-- the address in the file of an address in memory, from where the segment with the code begins, in 64 bits
+abbrev pub stated_address : CodeOfFile → ℕ → Option ℕ
+stated_address code address =
+    let stated = code.base_svma + (address - code.base_avma) in
+    if nat_le code.base_avma address && nat_lt stated (2 ^ 64) then Some stated else None
+
+-- an address of a file, from the start of a function on
+abbrev pub from_start : ℕ → NamedSymbol → seen.Offset
+from_start stated symbol = record { name = symbol.name; offset = stated - symbol.value }
 
 -- the function of a file at an address, looked up by another
 abbrev pub function_in : CodeOfFile → ℕ → ℕ → Option seen.Offset
 function_in code address lookup =
-    if nat_le code.bias lookup then option_map (from_start code address) (symbol_at code (lookup - code.bias)) else None
+    option_and_then (λ stated. option_map (from_start stated) (option_and_then (symbol_at code) (stated_address code lookup)))
+    (stated_address code address)
 
 -- the same of a mapped file
 abbrev pub function_at : ProcessFile → ℕ → ℕ → Option seen.Offset

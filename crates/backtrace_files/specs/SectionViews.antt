@@ -5,4 +5,4 @@ use Rattle.backtrace_files.specs.declared.sections.FileSections.{FileSections}
 
 -- a file's sections by their names
 abbrev pub sections_seen : FileSections → Sections
-sections_seen sections = sections_of sections.file.bytes.now sections.file.header
+sections_seen sections = sections_of sections.file.bytes.now sections.file.header sections.base_svma

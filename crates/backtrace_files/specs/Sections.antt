@@ -31,10 +31,10 @@ data_named bytes header name =
     if is_call_frames name
     then option_and_then (λ section. result_ok (section_bytes bytes section)) (readable_section bytes header name) else None
 
--- the sections of a file by their names, whose addresses are the file's
-abbrev pub sections_of : List ℕ → Header → Sections
-sections_of bytes header = record {
-  base_svma = 0;
+-- the sections of a file by their names, whose addresses are the file's, with the one that relative addresses count from
+abbrev pub sections_of : List ℕ → Header → ℕ → Sections
+sections_of bytes header base = record {
+  base_svma = base;
   section_range = λ name. range_named bytes header name;
   section_data = λ name. data_named bytes header name;
   segment_range = λ name. None;

@@ -2,7 +2,7 @@
 
 ghost use Rattle.std.specs.Prelude.{◌≡◌, option_map};
 ghost use Rattle.core_files.specs.FileViews.{mapping_of};
-ghost use Rattle.backtrace_files.specs.Files.{bias_by, code_segment, has_code_of, is_code, loaded_code};
+ghost use Rattle.backtrace_files.specs.Files.{base_by, code_in, code_segment, has_code_of, is_code, loaded_code};
 ghost use Rattle.backtrace_files.specs.FileViews.{code_seen, file_seen};
 
 use crate::loaded_file::LoadedFile;
@@ -14,8 +14,10 @@ use elf_files::{ElfFile, Segment, SegmentKind};
 pub struct LoadedCode<'a> {
     /// The file.
     pub file: ElfFile<'a>,
-    /// The address in memory of what has address 0 in the file.
-    pub bias: u64,
+    /// Where the segment with the code begins, as the file states it.
+    pub base_svma: u64,
+    /// Where it begins in memory.
+    pub base_avma: u64,
 }
 
 // Whether a segment has code that is loaded.
@@ -50,17 +52,35 @@ fn code_segment(file: &ElfFile<'_>, mapping: &MappedFile<'_>) -> Option<Segment>
     None
 }
 
-// The address in memory of the file's address 0, if a mapping has bytes of this segment.
-fn bias_by(mapping: &MappedFile<'_>, segment: &Segment) -> Option<u64>
-    ensures { result ≡ bias_by (mapping_of mapping.now) segment.now }
+// Where a segment begins in memory, if a mapping has bytes of it.
+fn base_by(mapping: &MappedFile<'_>, segment: &Segment) -> Option<u64>
+    ensures { result ≡ base_by (mapping_of mapping.now) segment.now }
 {
     let memory = mapping.start.checked_add(segment.offset)?;
-    let file = mapping.offset.checked_add(segment.address)?;
-    memory.checked_sub(file)
+    memory.checked_sub(mapping.offset)
+}
+
+// The code of a mapping of a file, in this segment.
+fn code_in<'a>(
+    file: ElfFile<'a>,
+    mapping: &MappedFile<'_>,
+    segment: &Segment,
+) -> Option<LoadedCode<'a>>
+    ensures { option_map code_seen result
+        ≡ code_in (mapping_of mapping.now) file.entry.bytes.now file.entry.header segment.now }
+{
+    match base_by(mapping, segment) {
+        Some(base_avma) => Some(LoadedCode {
+            file,
+            base_svma: segment.address,
+            base_avma,
+        }),
+        None => None,
+    }
 }
 
 /// The code that a mapping has, by the first executable segment of which it has bytes: none if it has none, if the bytes of the
-/// file aren't there or no ELF file's, or if the file's address 0 would lie outside of 64 bits.
+/// file aren't there or no ELF file's, or if the segment would begin outside of 64 bits.
 pub fn loaded_code<'a>(file: &LoadedFile<'a>) -> Option<LoadedCode<'a>>
     ensures { option_map code_seen result ≡ loaded_code (file_seen file.now) }
 {
@@ -70,11 +90,8 @@ pub fn loaded_code<'a>(file: &LoadedFile<'a>) -> Option<LoadedCode<'a>>
     let Ok(elf) = ElfFile::parse(bytes) else {
         return None;
     };
-    let Some(segment) = code_segment(&elf, &file.mapping) else {
-        return None;
-    };
-    match bias_by(&file.mapping, &segment) {
-        Some(bias) => Some(LoadedCode { file: elf, bias }),
+    match code_segment(&elf, &file.mapping) {
+        Some(segment) => code_in(elf, &file.mapping, &segment),
         None => None,
     }
 }

@@ -5,7 +5,7 @@ ghost use Rattle.core_files.specs.FileViews.{mapping_of};
 ghost use Rattle.elf_files.specs.SymbolViews.{symbol_seen};
 ghost use Rattle.backtrace_text.specs.FrameViews.{location_view, offset_view};
 ghost use Rattle.backtrace_files.specs.FileViews.{code_seen, file_seen, files_seen};
-ghost use Rattle.backtrace_files.specs.Locations.{file_at, function_at, function_in, is_mapped, location_of, place_in, symbol_at};
+ghost use Rattle.backtrace_files.specs.Locations.{file_at, function_at, function_in, is_mapped, location_of, place_in, stated_address, symbol_at};
 
 use crate::code::{LoadedCode, loaded_code};
 use crate::loaded_file::LoadedFile;
@@ -42,22 +42,24 @@ fn symbol_at<'a>(code: &LoadedCode<'a>, address: u64) -> Option<Symbol<'a>>
     }
 }
 
+// The address in a file of an address in memory, from where the segment with the code begins.
+fn stated_address(code: &LoadedCode<'_>, address: u64) -> Option<u64>
+    ensures { result ≡ stated_address (code_seen code.now) address }
+{
+    let relative = address.checked_sub(code.base_avma)?;
+    code.base_svma.checked_add(relative)
+}
+
 // The function of a file at an address, looked up by another, with the distance from its start.
 fn function_in<'a>(code: &LoadedCode<'a>, address: u64, lookup: u64) -> Option<NamedOffset<'a>>
     ensures { option_map offset_view result ≡ function_in (code_seen code.now) address lookup }
 {
-    let Some(relative) = lookup.checked_sub(code.bias) else {
-        return None;
-    };
-    match symbol_at(code, relative) {
-        Some(symbol) => Some(NamedOffset {
-            name: symbol.name,
-            offset: address
-                .saturating_sub(code.bias)
-                .saturating_sub(symbol.value),
-        }),
-        None => None,
-    }
+    let stated = stated_address(code, address)?;
+    let symbol = symbol_at(code, stated_address(code, lookup)?)?;
+    Some(NamedOffset {
+        name: symbol.name,
+        offset: stated.saturating_sub(symbol.value),
+    })
 }
 
 // The same of a mapped file.

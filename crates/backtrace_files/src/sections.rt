@@ -12,17 +12,18 @@ use std::ops::Range;
 #[derive(Clone, Copy, Debug)]
 pub struct FileSections<'a> {
     file: ElfFile<'a>,
+    base_svma: u64,
 }
 
 impl<'a> FileSections<'a> {
     ghost use Rattle.backtrace_files.specs.SectionViews.{sections_seen};
     ghost use Rattle.backtrace_files.specs.Sections.{sections_of};
 
-    /// The sections of this file.
-    pub fn new(file: ElfFile<'a>) -> Self
-        ensures { sections_seen result ≡ sections_of file.entry.bytes.now file.entry.header }
+    /// The sections of this file, with the stated address that relative ones count from.
+    pub fn new(file: ElfFile<'a>, base_svma: u64) -> Self
+        ensures { sections_seen result ≡ sections_of file.entry.bytes.now file.entry.header base_svma }
     {
-        FileSections { file }
+        FileSections { file, base_svma }
     }
 }
 
@@ -67,7 +68,7 @@ impl<'a> ModuleSectionInfo<&'a [u8]> for FileSections<'a> {
     ghost sections = { sections_seen };
 
     fn base_svma(&self) -> u64 {
-        0
+        self.base_svma
     }
 
     fn section_svma_range(&mut self, name: &[u8]) -> Option<Range<u64>> {

@@ -25,11 +25,11 @@ abbrev pub module_by : List ℕ → ℕ → ℕ → ℕ → UnwindData → Loade
 module_by name start end base given = record { name = name; start = start; end = end; base = base; unwind_data = given }
 
 pub module_is : (module_ : Loaded UnwindData) (mapping : FileMapping) (code : CodeOfFile)
-    → module_.name ≡ [] → module_.start ≡ mapping.start → module_.end ≡ mapping.end → module_.base ≡ code.bias
+    → module_.name ≡ [] → module_.start ≡ mapping.start → module_.end ≡ mapping.end → module_.base ≡ code.base_avma
     → module_.unwind_data ≡ data_of_code code → module_ ≡ module_with mapping code
 module_is module_ mapping code named starts ends based given =
     ap (λ (n : List ℕ). module_by n module_.start module_.end module_.base module_.unwind_data) named
     ∙ ap (λ (n : ℕ). module_by [] n module_.end module_.base module_.unwind_data) starts
     ∙ ap (λ (n : ℕ). module_by [] mapping.start n module_.base module_.unwind_data) ends
     ∙ ap (λ (n : ℕ). module_by [] mapping.start mapping.end n module_.unwind_data) based
-    ∙ ap (λ (d : UnwindData). module_by [] mapping.start mapping.end code.bias d) given
+    ∙ ap (λ (d : UnwindData). module_by [] mapping.start mapping.end code.base_avma d) given

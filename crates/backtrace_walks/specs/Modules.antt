@@ -9,15 +9,16 @@ use Rattle.framehop_unwinder.specs.Modules.{Loaded, with_loaded}
 
 -- the unwind data of a file's code: that of its sections, with `.debug_frame` beside `.eh_frame`
 abbrev pub data_of_code : CodeOfFile → UnwindData
-data_of_code code = both_data_of (sections_of code.bytes code.header)
+data_of_code code = both_data_of (sections_of code.bytes code.header code.base_svma)
 
--- the module of a mapping with code: its addresses are those of the mapping, and relative ones are the file's
+-- the module of a mapping with code: its addresses are those of the mapping, and relative ones count from where the segment with the
+-- code begins
 abbrev pub module_with : FileMapping → CodeOfFile → Loaded UnwindData
 module_with mapping code = record {
   name = [];
   start = mapping.start;
   end = mapping.end;
-  base = code.bias;
+  base = code.base_avma;
   unwind_data = data_of_code code;
 }
 

@@ -24,10 +24,10 @@ fn module_with<'a>(
     ensures { IfOk result (λ module_.
         module_ ≡ module_with (mapping_of mapping.now) (code_seen code.now)) }
 {
-    let mut sections = FileSections::new(code.file);
+    let mut sections = FileSections::new(code.file, code.base_svma);
     let range = mapping.start..mapping.end;
     let name = String::new(alloc);
-    let module = load_module_with_debug_frame(alloc, name, range, code.bias, &mut sections)?;
+    let module = load_module_with_debug_frame(alloc, name, range, code.base_avma, &mut sections)?;
     Ok(module)
 }
 

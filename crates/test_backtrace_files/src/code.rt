@@ -18,10 +18,10 @@ fn mapped<'a>(start: u64, end: u64, offset: u64, bytes: &'a [u8]) -> LoadedFile<
     }
 }
 
-// Where the file's address 0 is, if the mapping has code.
-fn bias(file: &LoadedFile<'_>) -> Option<u64> {
+// Where the segment with the code begins, in the file and in memory, if the mapping has code.
+fn bases(file: &LoadedFile<'_>) -> Option<(u64, u64)> {
     match loaded_code(file) {
-        Some(code) => Some(code.bias),
+        Some(code) => Some((code.base_svma, code.base_avma)),
         None => None,
     }
 }
@@ -30,24 +30,33 @@ fn bias(file: &LoadedFile<'_>) -> Option<u64> {
 fn by_the_segment_with_code(rt: HostRuntime) -> Result<(), Fail> {
     let bytes = object(rt.alloc())?;
     // the code has offset 0x308 and address 0x1308
-    assert!(rt; bias(&mapped(0x7000_0300, 0x7000_0348, 0x300, &bytes)) == Some(0x6fff_f000));
-    assert!(rt; bias(&mapped(0x7000_0000, 0x7000_0309, 0, &bytes)) == Some(0x6fff_f000));
-    assert!(rt; bias(&mapped(0x7000_0347, 0x7000_0400, 0x347, &bytes)) == Some(0x6fff_f000));
-    assert!(rt; bias(&mapped(0x1300, 0x1348, 0x300, &bytes)) == Some(0));
+    let loaded = Some((0x1308, 0x7000_0308));
+    assert!(rt; bases(&mapped(0x7000_0300, 0x7000_0348, 0x300, &bytes)) == loaded);
+    assert!(rt; bases(&mapped(0x7000_0000, 0x7000_0309, 0, &bytes)) == loaded);
+    assert!(rt; bases(&mapped(0x7000_0347, 0x7000_0400, 0x347, &bytes)) == loaded);
+    Ok(())
+}
+
+#[test]
+fn below_its_stated_address(rt: HostRuntime) -> Result<(), Fail> {
+    let bytes = object(rt.alloc())?;
+    assert!(rt; bases(&mapped(0x1300, 0x1348, 0x300, &bytes)) == Some((0x1308, 0x1308)));
+    assert!(rt; bases(&mapped(0x12ff, 0x1347, 0x300, &bytes)) == Some((0x1308, 0x1307)));
+    assert!(rt; bases(&mapped(0x3f, 0x40, 0x347, &bytes)) == Some((0x1308, 0)));
     Ok(())
 }
 
 #[test]
 fn mappings_without_code(rt: HostRuntime) -> Result<(), Fail> {
     let bytes = object(rt.alloc())?;
-    assert!(rt; bias(&mapped(0x7000_0000, 0x7000_0308, 0, &bytes)).is_none());
-    assert!(rt; bias(&mapped(0x7000_0348, 0x7000_0400, 0x348, &bytes)).is_none());
-    // the file's address 0 would be below 0, or past the last address
-    assert!(rt; bias(&mapped(0x12ff, 0x1347, 0x300, &bytes)).is_none());
-    assert!(rt; bias(&mapped(u64::MAX - 0x100, u64::MAX, 0x300, &bytes)).is_none());
-    assert!(rt; bias(&mapped(0x7000_0300, 0x7000_0348, 0x300, b"text")).is_none());
+    assert!(rt; bases(&mapped(0x7000_0000, 0x7000_0308, 0, &bytes)).is_none());
+    assert!(rt; bases(&mapped(0x7000_0348, 0x7000_0400, 0x348, &bytes)).is_none());
+    // the segment would begin below 0, or past the last address
+    assert!(rt; bases(&mapped(0x3e, 0x3f, 0x347, &bytes)).is_none());
+    assert!(rt; bases(&mapped(u64::MAX - 0x100, u64::MAX, 0x300, &bytes)).is_none());
+    assert!(rt; bases(&mapped(0x7000_0300, 0x7000_0348, 0x300, b"text")).is_none());
     let mut file = mapped(0x7000_0300, 0x7000_0348, 0x300, &bytes);
     file.bytes = None;
-    assert!(rt; bias(&file).is_none());
+    assert!(rt; bases(&file).is_none());
     Ok(())
 }

@@ -106,3 +106,23 @@ fn places_without_a_function(rt: HostRuntime) -> Result<(), Fail> {
     expect_code(&rt, &files, (0x7000_0310, 0x7000_030f), None, file(0x310));
     Ok(())
 }
+
+#[test]
+fn a_function_below_its_stated_address(rt: HostRuntime) -> Result<(), Fail> {
+    let bytes = object(rt.alloc())?;
+    let file = LoadedFile {
+        mapping: MappedFile {
+            start: 0x300,
+            end: 0x348,
+            offset: 0x300,
+            name: b"/a",
+        },
+        bytes: Some(&bytes),
+    };
+    let run = Some((b"run".as_slice(), 8));
+    let place = Some((b"/a".as_slice(), 0x310));
+    expect_code(&rt, &[file], (0x310, 0x30f), run, place);
+    // what is mapped before the segment with the code has no function
+    expect_code(&rt, &[file], (0x307, 0x307), None, Some((b"/a", 0x307)));
+    Ok(())
+}

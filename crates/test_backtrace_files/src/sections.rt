@@ -9,8 +9,8 @@ use std::test::Fail;
 #[test]
 fn call_frames_and_ranges(rt: HostRuntime) -> Result<(), Fail> {
     let bytes = object(rt.alloc())?;
-    let mut sections = FileSections::new(ElfFile::parse(&bytes)?);
-    assert!(rt; sections.base_svma() == 0);
+    let mut sections = FileSections::new(ElfFile::parse(&bytes)?, 0x1308);
+    assert!(rt; sections.base_svma() == 0x1308);
     assert!(rt;
         sections.section_data(b".eh_frame") == Some(b"\x11\x12\x13\x14\x15\x16\x17\x18".as_slice())
     );
