@@ -1,1 +1,1 @@
-pub mod CodeLaws
+pub mod FirstSegment

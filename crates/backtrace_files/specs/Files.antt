@@ -1,7 +1,7 @@
 -- Files that are mapped into a process, and where their code is.
 use Rattle.std.specs.Prelude.{ℕ, ◌+◌, ◌-◌, ◌*◌, ◌^◌, ◌%◌, ◌==◌, ◌&&◌, Bool, true, false, nat_lt, nat_le, if◌then◌else◌, List, Option, Some, None, option_and_then}
 use Rattle.std.specs.List.{find, filter_map}
-use Rattle.std.specs.Option.{option_map}
+use Rattle.std.specs.Option.{option_map, option_or}
 use Rattle.std.specs.Result.{result_ok}
 use Rattle.core_files.specs.FileViews.{mapped_range}
 use Rattle.core_files.specs.MappedFiles.{FileMapping}
@@ -51,11 +51,19 @@ has_code_of mapping segment =
     is_code segment && nat_lt (segment.offset - mapping.offset) (mapping.end - mapping.start)
     && nat_lt (mapping.offset - segment.offset) segment.file_size
 
--- the first segment with code of which a mapping has bytes
+-- a mapping begins where the page of the file begins in which a segment with code does; a page has 4096 bytes
+abbrev pub begins_with : FileMapping → Segment → Bool
+begins_with mapping segment = has_code_of mapping segment && (segment.offset == mapping.offset + segment.offset % 4096)
+
+-- the first segment of a file for which a test holds, if their table is there
+abbrev pub first_segment : (Segment → Bool) → List ℕ → Header → Option Segment
+first_segment test bytes header =
+    if is_within bytes header.segment_table (56 * header.segment_count) then find test (all_segments bytes header) else None
+
+-- the segment with code that a mapping begins with, or else the first of which it has bytes
 abbrev pub code_segment : List ℕ → Header → FileMapping → Option Segment
 code_segment bytes header mapping =
-    if is_within bytes header.segment_table (56 * header.segment_count)
-    then find (has_code_of mapping) (all_segments bytes header) else None
+    option_or (first_segment (begins_with mapping) bytes header) (first_segment (has_code_of mapping) bytes header)
 
 -- Where a segment begins in memory: what is at p_offset in the file is at start + (p_offset - offset). All sums are in 64 bits.
 abbrev pub base_by : FileMapping → Segment → Option ℕ

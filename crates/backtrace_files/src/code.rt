@@ -2,7 +2,7 @@
 
 ghost use Rattle.std.specs.Prelude.{◌≡◌, option_map};
 ghost use Rattle.core_files.specs.FileViews.{mapping_of};
-ghost use Rattle.backtrace_files.specs.Files.{base_by, code_in, code_segment, has_code_of, is_code, loaded_code};
+ghost use Rattle.backtrace_files.specs.Files.{base_by, begins_with, code_in, code_segment, first_segment, has_code_of, is_code, loaded_code};
 ghost use Rattle.backtrace_files.specs.FileViews.{code_seen, file_seen};
 
 use crate::loaded_file::LoadedFile;
@@ -19,6 +19,9 @@ pub struct LoadedCode<'a> {
     /// Where it begins in memory.
     pub base_avma: u64,
 }
+
+// How many bytes a page has, or a part of it if pages are larger.
+const PAGE_SIZE: u64 = 1 << 12;
 
 // Whether a segment has code that is loaded.
 fn is_code(segment: &Segment) -> bool
@@ -37,9 +40,33 @@ fn has_code_of(mapping: &MappedFile<'_>, segment: &Segment) -> bool
         && mapping.offset.saturating_sub(segment.offset) < segment.file_size
 }
 
+// Whether a mapping begins where the page of the file begins in which a segment with code does.
+fn begins_with(mapping: &MappedFile<'_>, segment: &Segment) -> bool
+    ensures { result ≡ begins_with (mapping_of mapping.now) segment.now }
+{
+    has_code_of(mapping, segment) && segment.offset - segment.offset % PAGE_SIZE == mapping.offset
+}
+
+// The first segment with code that a mapping begins with.
+fn first_begun(file: &ElfFile<'_>, mapping: &MappedFile<'_>) -> Option<Segment>
+    ensures { result
+        ≡ first_segment (begins_with (mapping_of mapping.now)) file.now.bytes.now file.now.header }
+{
+    for index in 0..file.segment_count() {
+        let Ok(segment) = file.segment(index) else {
+            return None;
+        };
+        if begins_with(mapping, &segment) {
+            return Some(segment);
+        }
+    }
+    None
+}
+
 // The first segment with code of which a mapping has bytes.
-fn code_segment(file: &ElfFile<'_>, mapping: &MappedFile<'_>) -> Option<Segment>
-    ensures { result ≡ code_segment file.now.bytes.now file.now.header (mapping_of mapping.now) }
+fn first_shared(file: &ElfFile<'_>, mapping: &MappedFile<'_>) -> Option<Segment>
+    ensures { result
+        ≡ first_segment (has_code_of (mapping_of mapping.now)) file.now.bytes.now file.now.header }
 {
     for index in 0..file.segment_count() {
         let Ok(segment) = file.segment(index) else {
@@ -50,6 +77,16 @@ fn code_segment(file: &ElfFile<'_>, mapping: &MappedFile<'_>) -> Option<Segment>
         }
     }
     None
+}
+
+// The segment with code that a mapping begins with, or else the first of which it has bytes.
+fn code_segment(file: &ElfFile<'_>, mapping: &MappedFile<'_>) -> Option<Segment>
+    ensures { result ≡ code_segment file.now.bytes.now file.now.header (mapping_of mapping.now) }
+{
+    match first_begun(file, mapping) {
+        Some(segment) => Some(segment),
+        None => first_shared(file, mapping),
+    }
 }
 
 // Where a segment begins in memory, if a mapping has bytes of it.
@@ -79,8 +116,8 @@ fn code_in<'a>(
     }
 }
 
-/// The code that a mapping has, by the first executable segment of which it has bytes: none if it has none, if the bytes of the
-/// file aren't there or no ELF file's, or if the segment would begin outside of 64 bits.
+/// The code that a mapping has, by the executable segment in whose first page the mapping begins, or else by the first of which it has
+/// bytes: none if it has none, if the bytes of the file aren't there or no ELF file's, or if the segment would begin outside of 64 bits.
 pub fn loaded_code<'a>(file: &LoadedFile<'a>) -> Option<LoadedCode<'a>>
     ensures { option_map code_seen result ≡ loaded_code (file_seen file.now) }
 {

@@ -46,6 +46,32 @@ fn below_its_stated_address(rt: HostRuntime) -> Result<(), Fail> {
     Ok(())
 }
 
+// Writes some bytes over those from a place on.
+fn overwrite(bytes: &mut Vec<u8>, at: usize, values: &[u8]) {
+    for (place, value) in values.iter().enumerate() {
+        if let Some(byte) = bytes.get_mut(at.saturating_add(place)) {
+            *byte = *value;
+        }
+    }
+}
+
+#[test]
+fn two_segments_with_code_in_a_page(rt: HostRuntime) -> Result<(), Fail> {
+    let mut bytes = object(rt.alloc())?;
+    // the first 0x1010 bytes are code too, and the other code has offset 0x1000 and address 0x2000
+    overwrite(&mut bytes, 0x44, b"\x05");
+    overwrite(&mut bytes, 0x60, b"\x10\x10");
+    overwrite(&mut bytes, 0x80, b"\x00\x10");
+    overwrite(&mut bytes, 0x88, b"\x00\x20");
+    let first = Some((0, 0x7000_0000));
+    let second = Some((0x2000, 0x7000_1000));
+    assert!(rt; bases(&mapped(0x7000_0000, 0x7000_2000, 0, &bytes)) == first);
+    assert!(rt; bases(&mapped(0x7000_1000, 0x7000_2000, 0x1000, &bytes)) == second);
+    // neither begins in a page that begins here
+    assert!(rt; bases(&mapped(0x7000_1008, 0x7000_2000, 0x1008, &bytes)) == first);
+    Ok(())
+}
+
 #[test]
 fn mappings_without_code(rt: HostRuntime) -> Result<(), Fail> {
     let bytes = object(rt.alloc())?;

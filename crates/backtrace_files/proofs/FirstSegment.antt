@@ -1,18 +1,17 @@
--- The segment with the code of a mapping.
+-- The first segment of a file for which a test holds.
 use Rattle.std.proofs.Common.{◌≡◌, ℕ, suc, ◌+◌, ◌-◌, ◌*◌, ◌<◌, ◌≤◌, Bool, true, false, cond, List, [], ◌∷◌, refl, sym, ap, ◌∙◌, arith}
 use Rattle.std.specs.Prelude.{Some, None, Ok, Err}
 use Rattle.std.specs.List.{find}
-use Rattle.core_files.specs.MappedFiles.{FileMapping}
 use Rattle.elf_files.specs.Bytes.{is_within}
 use Rattle.elf_files.specs.Segments.{all_segments, segment_at, segment_of}
 use Rattle.elf_files.specs.Tables.{entries}
 use Rattle.elf_files.specs.declared.error.ElfError.{ElfError}
 use Rattle.elf_files.specs.declared.header.Header.{Header}
 use Rattle.elf_files.specs.declared.segment.Segment.{Segment}
-use Rattle.backtrace_files.specs.Files.{code_segment, has_code_of}
+use Rattle.backtrace_files.specs.Files.{first_segment}
 
 -- the entries of a table from an index on, and those past its end
-pub entries-more : {A : Type 0} (entry : ℕ → A) (index count : ℕ) → index < count → entries entry index (count - index) ≡ entry index ∷ entries entry (index + 1) (count - (index + 1))
+entries-more : {A : Type 0} (entry : ℕ → A) (index count : ℕ) → index < count → entries entry index (count - index) ≡ entry index ∷ entries entry (index + 1) (count - (index + 1))
 entries-more entry index count below = let more : count - index ≡ suc (count - (index + 1)) = omega arith in rw more refl
 
 entries-end : {A : Type 0} (entry : ℕ → A) (index count : ℕ) → count ≤ index → entries entry index (count - index) ≡ []
@@ -39,23 +38,32 @@ module _ (bytes : List ℕ) (header : Header) (index : ℕ) where
   pub is-cut : (error : ElfError) → Err error ≡ segment_at bytes header index → is_within bytes header.segment_table (56 * header.segment_count) ≡ false
   is-cut error is = when-cut (is_within bytes header.segment_table (56 * header.segment_count)) (segment_of bytes header index) error _ is
 
-module _ (bytes : List ℕ) (header : Header) (mapping : FileMapping) where
-  pub code-cut : is_within bytes header.segment_table (56 * header.segment_count) ≡ false → None ≡ code_segment bytes header mapping
-  code-cut cut = rw cut refl
+module _ (bytes : List ℕ) (header : Header) (test : Segment → Bool) where
+  pub first-cut : is_within bytes header.segment_table (56 * header.segment_count) ≡ false → None ≡ first_segment test bytes header
+  first-cut cut = rw cut refl
 
   module _ (index : ℕ) where
-    pub code-here : (segment : Segment) → index < header.segment_count → is_within bytes header.segment_table (56 * header.segment_count) ≡ true → segment ≡ segment_of bytes header index
-        → find (has_code_of mapping) (entries (segment_of bytes header) index (header.segment_count - index)) ≡ find (has_code_of mapping) (all_segments bytes header)
-        → true ≡ has_code_of mapping segment → Some segment ≡ code_segment bytes header mapping
-    code-here segment below whole is so_far here =
-        let now : has_code_of mapping (segment_of bytes header index) ≡ true = ap (has_code_of mapping) (sym is) ∙ sym here in
+    pub first-here : (segment : Segment) → index < header.segment_count → is_within bytes header.segment_table (56 * header.segment_count) ≡ true → segment ≡ segment_of bytes header index
+        → find test (entries (segment_of bytes header) index (header.segment_count - index)) ≡ find test (all_segments bytes header)
+        → true ≡ test segment → Some segment ≡ first_segment test bytes header
+    first-here segment below whole is so_far here =
+        let now : test (segment_of bytes header index) ≡ true = ap test (sym is) ∙ sym here in
         let left = rw (entries-more (segment_of bytes header) index header.segment_count below) at so_far in
-        let first : Some (segment_of bytes header index) ≡ find (has_code_of mapping) (all_segments bytes header) = rw now at left in
+        let first : Some (segment_of bytes header index) ≡ find test (all_segments bytes header) = rw now at left in
         rw whole (ap Some is ∙ first)
 
-    pub code-none : header.segment_count ≤ index
-        → find (has_code_of mapping) (entries (segment_of bytes header) index (header.segment_count - index)) ≡ find (has_code_of mapping) (all_segments bytes header)
-        → None ≡ code_segment bytes header mapping
-    code-none end so_far =
-        let none : None ≡ find (has_code_of mapping) (all_segments bytes header) = rw (entries-end (segment_of bytes header) index header.segment_count end) at so_far in
+    pub first-later : (segment : Segment) → index < header.segment_count → segment ≡ segment_of bytes header index
+        → find test (entries (segment_of bytes header) index (header.segment_count - index)) ≡ find test (all_segments bytes header)
+        → false ≡ test segment
+        → find test (entries (segment_of bytes header) (index + 1) (header.segment_count - (index + 1))) ≡ find test (all_segments bytes header)
+    first-later segment below is so_far missed =
+        let now : test (segment_of bytes header index) ≡ false = ap test (sym is) ∙ sym missed in
+        let left = rw (entries-more (segment_of bytes header) index header.segment_count below) at so_far in
+        rw now at left
+
+    pub first-none : header.segment_count ≤ index
+        → find test (entries (segment_of bytes header) index (header.segment_count - index)) ≡ find test (all_segments bytes header)
+        → None ≡ first_segment test bytes header
+    first-none end so_far =
+        let none : None ≡ find test (all_segments bytes header) = rw (entries-end (segment_of bytes header) index header.segment_count end) at so_far in
         either (is_within bytes header.segment_table (56 * header.segment_count)) None ∙ ap (λ found. cond (is_within bytes header.segment_table (56 * header.segment_count)) found None) none
