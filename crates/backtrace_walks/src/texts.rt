@@ -8,7 +8,6 @@ ghost use Rattle.backtrace_text.specs.Writes.{Writes};
 ghost use Rattle.core_files.specs.CoreViews.{contents_of};
 ghost use Rattle.core_files.specs.RangeViews.{ranges_seen};
 ghost use Rattle.json_program.specs.Errors.{ReportsFailures};
-ghost use Rattle.json_program.specs.Stream.{WritesText};
 ghost use Rattle.backtrace_walks.specs.Backtraces.{core_text, process_with};
 ghost use Rattle.backtrace_walks.specs.ProcessViews.{process_seen};
 ghost use Rattle.backtrace_walks.specs.StackTexts.{text_by, text_with};
@@ -79,21 +78,21 @@ fn write_with<'a, W: Sink>(
     }
 }
 
-/// Writes the text of a core's stacks, in the order of the core, of those that are asked for. `contents` has the bytes of the mapped
+/// Writes the text of a core's stacks, in the order of the core, of those that are asked for. `files` has the bytes of the mapped
 /// files by their numbers. Each frame is written before the next step is made, so that no more than one is kept. A call that fails has
 /// written a prefix of the text.
 pub fn write_stacks<W: Sink>(
     alloc: Global,
     core: &CoreFile<'_>,
-    contents: &[Option<&[u8]>],
+    files: &[Option<&[u8]>],
     options: &BacktraceOptions,
-    writer: &mut W,
+    sink: &mut W,
 ) -> Result<(), RunError>
-    requires { W.has_failed writer.old ≡ false }
-    ensures text { WritesText result (W.contents writer.old) (W.contents writer.new)
-        (core_text (contents_of core.now) (map option_copied contents.now) options.now) }
-    ensures errors { ReportsFailures result false (W.has_failed writer.new) }
+    requires { W.has_failed sink.old ≡ false }
+    ensures text { Writes W.contents sink.old sink.new result
+        (core_text (contents_of core.now) (map option_copied files.now) options.now) }
+    ensures errors { ReportsFailures result false (W.has_failed sink.new) }
 {
-    let files = process_files(alloc, core, contents)?;
-    write_with(alloc, core, files.as_slice(), options, writer)
+    let loaded = process_files(alloc, core, files)?;
+    write_with(alloc, core, loaded.as_slice(), options, sink)
 }

@@ -8,6 +8,6 @@ use Rattle.backtrace_walks.proofs.texts.write_stacks.Goals as goal
 
 pub returns-clause-text : goal.returns-clause-text
 returns-clause-text g c =
-    let old = g.W.Sink.contents c.args.writer.now in
+    let old = g.W.Sink.contents c.args.sink.now in
     let new = g.W.Sink.contents c.write_with.new.sink in
-    subst (λ (fs : List ProcessFile). WritesText c.write_with.result old new (text_with (contents_of c.args.core.now) fs c.args.options.now)) (ap files_seen c.as_slice.ensures.value ∙ c.in_ok-files.ensures) c.write_with.ensures.text
+    subst (λ (fs : List ProcessFile). WritesText c.write_with.result old new (text_with (contents_of c.args.core.now) fs c.args.options.now)) (ap files_seen c.as_slice.ensures.value ∙ c.in_ok-loaded.ensures) c.write_with.ensures.text
