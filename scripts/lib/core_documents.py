@@ -60,14 +60,13 @@ def loads_of(core, root):
     return loads
 
 
-def bias(mapping, elf):
-    """The address in memory of what has address 0 in a file, by the first segment with code of which a mapping has bytes, or None."""
-    for segment in elf.loaded():
-        size = mapping.end - mapping.start
-        if segment.flags & EXECUTABLE and max(segment.offset - mapping.offset, 0) < size and max(mapping.offset - segment.offset, 0) < segment.size:
-            found = mapping.start + segment.offset - mapping.offset - segment.address
-            return found if 0 <= found <= LAST else None
-    return None
+def code_segment(mapping, elf):
+    """The segment with code in whose first page a mapping begins, or else the first of which it has bytes, or None."""
+    size = mapping.end - mapping.start
+    found = [segment for segment in elf.loaded()
+             if segment.flags & EXECUTABLE and max(segment.offset - mapping.offset, 0) < size and max(mapping.offset - segment.offset, 0) < segment.size]
+    begun = [segment for segment in found if segment.offset - segment.offset % 4096 == mapping.offset]
+    return next(iter(begun + found), None)
 
 
 def sections_of(elf):
@@ -85,10 +84,12 @@ def sections_of(elf):
 
 def load(mapping, elf):
     """The load of a mapping, if it has code."""
-    base = bias(mapping, elf)
-    return [] if base is None else [
+    segment = code_segment(mapping, elf)
+    if segment is None or not 0 <= mapping.start + segment.offset - mapping.offset <= LAST:
+        return []
+    return [
         {"do": "load", "unwinder": 0, "name": mapping.name.decode("ascii", "replace"), "start": hex(mapping.start), "end": hex(mapping.end),
-         "base": hex(base), "base_svma": "0x0", "sections": sections_of(elf)}]
+         "base": hex(mapping.start + segment.offset - mapping.offset), "base_svma": hex(segment.address), "sections": sections_of(elf)}]
 
 
 def walk(core, thread, limit):
