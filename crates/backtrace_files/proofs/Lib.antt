@@ -1,1 +1,1 @@
-pub mod FirstSegment
+pub mod Entries

@@ -1,5 +1,6 @@
 -- Files that are mapped into a process, and where their code is.
-use Rattle.std.specs.Prelude.{ℕ, ◌+◌, ◌-◌, ◌*◌, ◌^◌, ◌%◌, ◌==◌, ◌&&◌, Bool, true, false, nat_lt, nat_le, if◌then◌else◌, List, Option, Some, None, option_and_then}
+use Rattle.std.specs.Prelude.{◌≡◌, ℕ, ◌+◌, ◌-◌, ◌*◌, ◌^◌, ◌%◌, ◌==◌, ◌&&◌, Bool, true, false, nat_lt, nat_le, if◌then◌else◌, List, Option, Some, None, option_and_then}
+use Rattle.std.specs.Borrow.{Bor}
 use Rattle.std.specs.List.{find, filter_map}
 use Rattle.std.specs.Option.{option_map, option_or}
 use Rattle.std.specs.Result.{result_ok}
@@ -54,6 +55,10 @@ has_code_of mapping segment =
 -- a mapping begins where the page of the file begins in which a segment with code does; a page has 4096 bytes
 abbrev pub begins_with : FileMapping → Segment → Bool
 begins_with mapping segment = has_code_of mapping segment && (segment.offset == mapping.offset + segment.offset % 4096)
+
+-- each call of a test answers what holds says of its segment
+abbrev pub Computes : (Bor Segment → Bool → Type 0) → (Segment → Bool) → Type 0
+Computes post holds = (segment : Bor Segment) (answer : Bool) → post segment answer → answer ≡ holds segment.now
 
 -- the first segment of a file for which a test holds, if their table is there
 abbrev pub first_segment : (Segment → Bool) → List ℕ → Header → Option Segment

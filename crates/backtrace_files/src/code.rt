@@ -1,8 +1,9 @@
 //! Where the code of a file is loaded.
 
-ghost use Rattle.std.specs.Prelude.{◌≡◌, option_map};
+ghost use Rattle.std.specs.Prelude.{◌≡◌, Bool, option_map};
 ghost use Rattle.core_files.specs.FileViews.{mapping_of};
-ghost use Rattle.backtrace_files.specs.Files.{base_by, begins_with, code_in, code_segment, first_segment, has_code_of, is_code, loaded_code};
+ghost use Rattle.elf_files.specs.declared.segment.Segment.{Segment};
+ghost use Rattle.backtrace_files.specs.Files.{Computes, base_by, begins_with, code_in, code_segment, first_segment, has_code_of, is_code, loaded_code};
 ghost use Rattle.backtrace_files.specs.FileViews.{code_seen, file_seen};
 
 use crate::loaded_file::LoadedFile;
@@ -47,32 +48,18 @@ fn begins_with(mapping: &MappedFile<'_>, segment: &Segment) -> bool
     has_code_of(mapping, segment) && segment.offset - segment.offset % PAGE_SIZE == mapping.offset
 }
 
-// The first segment with code that a mapping begins with.
-fn first_begun(file: &ElfFile<'_>, mapping: &MappedFile<'_>) -> Option<Segment>
-    ensures { result
-        ≡ first_segment (begins_with (mapping_of mapping.now)) file.now.bytes.now file.now.header }
+// The first segment of a file for which a test holds.
+#[tactic(auto, using(crate::proofs::Entries::entries_more))]
+fn first_segment<F: Fn(&Segment) -> bool>(file: &ElfFile<'_>, test: F) -> Option<Segment>
+    requires { F.IsAlwaysCallable test }
+    ensures { (says : Segment → Bool) → Computes (F.post test) says
+        → result ≡ first_segment says file.now.bytes.now file.now.header }
 {
     for index in 0..file.segment_count() {
         let Ok(segment) = file.segment(index) else {
             return None;
         };
-        if begins_with(mapping, &segment) {
-            return Some(segment);
-        }
-    }
-    None
-}
-
-// The first segment with code of which a mapping has bytes.
-fn first_shared(file: &ElfFile<'_>, mapping: &MappedFile<'_>) -> Option<Segment>
-    ensures { result
-        ≡ first_segment (has_code_of (mapping_of mapping.now)) file.now.bytes.now file.now.header }
-{
-    for index in 0..file.segment_count() {
-        let Ok(segment) = file.segment(index) else {
-            return None;
-        };
-        if has_code_of(mapping, &segment) {
+        if test(&segment) {
             return Some(segment);
         }
     }
@@ -83,9 +70,9 @@ fn first_shared(file: &ElfFile<'_>, mapping: &MappedFile<'_>) -> Option<Segment>
 fn code_segment(file: &ElfFile<'_>, mapping: &MappedFile<'_>) -> Option<Segment>
     ensures { result ≡ code_segment file.now.bytes.now file.now.header (mapping_of mapping.now) }
 {
-    match first_begun(file, mapping) {
+    match first_segment(file, |segment| begins_with(mapping, segment)) {
         Some(segment) => Some(segment),
-        None => first_shared(file, mapping),
+        None => first_segment(file, |segment| has_code_of(mapping, segment)),
     }
 }
 
