@@ -1,5 +1,5 @@
 -- No instruction, and no effect of one, says that memory ran out.
-use Rattle.std.proofs.Common.{◌≡◌, ℕ, ◌-◌, ◌%◌, ◌^◌, List, [], ◌∷◌, ◌++◌, Option, Some, None}
+use Rattle.std.proofs.Common.{ℕ, ◌-◌, ◌%◌, ◌^◌, List, [], ◌∷◌, ◌++◌, Option, Some, None}
 use Rattle.std.specs.Prelude.{◌==◌}
 use Rattle.list_laws.proofs.Laws.{by_case}
 use Rattle.dwarf_constants.specs.declared.common.Vendor.{Vendor}

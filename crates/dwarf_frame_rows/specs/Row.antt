@@ -1,5 +1,5 @@
 -- A row of the table that call frame instructions describe (DWARF 5, 6.4.1).
-use Rattle.std.specs.Prelude.{◌≡◌, ℕ, ◌+◌, Bool, ◌&&◌, List, [], ◌∷◌, ◌++◌, map, nat_le, nat_lt, take}
+use Rattle.std.specs.Prelude.{◌≡◌, ℕ, ◌+◌, Bool, ◌&&◌, List, [], ◌∷◌, ◌++◌, drop, map, nat_le, nat_lt, take}
 use Rattle.std.specs.FinMap.{empty}
 use Rattle.dwarf_frame_rows.specs.declared.row.UnwindTableRow.{UnwindTableRow}
 use Rattle.dwarf_frame_rows.specs.declared.rules.CfaRule.{CfaRule}
@@ -33,6 +33,16 @@ first_rows n rows = map row_of (take n rows)
 -- A list has the rows before an index that it had, and at the index this row.
 abbrev pub FollowsRows : {T L : Type 0} → ℕ → List (UnwindTableRow T L) → List (UnwindTableRow T L) → Row T → Type 0
 FollowsRows index old new row = first_rows (index + 1) new ≡ first_rows index old ++ row ∷ []
+
+-- A list has the items before an index and behind it that it had.
+pub record SameAround {X : Type 0} (index : ℕ) (old new : List X) : Type 0 where
+  pub before : take index new ≡ take index old
+  pub behind : drop (index + 1) new ≡ drop (index + 1) old
+
+-- the rules of the first of some rows, or none
+abbrev pub rules_of_first : {T L : Type 0} → List (UnwindTableRow T L) → RuleMap (RegisterRule T)
+rules_of_first [] = empty
+rules_of_first (first ∷ rows) = first.registers
 
 -- the row before any instruction
 abbrev pub first_row : {T : Type 0} → Row T

@@ -15,6 +15,11 @@ abbrev pub map_of : {V : Type 0} → List (RuledRegister V) → RuleMap V
 map_of [] = empty
 map_of (pair ∷ pairs) = insert (map_of pairs) pair.register.0 pair.rule
 
+-- the map of one pair, or of none
+abbrev pub rules_of_one : {V : Type 0} → Option (RuledRegister V) → RuleMap V
+rules_of_one None = empty
+rules_of_one (Some pair) = map_of (pair ∷ [])
+
 -- the first rule of a register
 abbrev pub rule_in : {V : Type 0} → ℕ → List (RuledRegister V) → Option V
 rule_in register [] = None

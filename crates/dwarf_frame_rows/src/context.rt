@@ -1,8 +1,10 @@
 //! The context in which call frame instructions are executed (DWARF 5, 6.4.2).
 
-ghost use Rattle.std.specs.Prelude.{◌≡◌, ◌≤◌, ◌<◌, ◌+◌, ◌↔◌, IfErr, IfOk, IsOk, IsSome, IsTrue, Some, true, OnOk, length, take, slice_index_or};
+ghost use Rattle.std.specs.Prelude.{◌≡◌, ◌≤◌, ◌<◌, ◌+◌, ◌↔◌, IfErr, IfOk, IfSome, IsOk, IsSome, IsTrue, None, Some, true, OnErr, OnOk, drop, length, take, slice_index_or};
+ghost use Rattle.std.specs.FinMap.{get};
 ghost use Rattle.dwarf_storage.specs.Capacity.{HasRoom, IsWithin};
-ghost use Rattle.dwarf_frame_rows.specs.Row.{FollowsRows, row_of, with_parts_of};
+ghost use Rattle.dwarf_frame_rows.specs.Row.{FollowsRows, SameAround, row_of, rules_of_first, with_parts_of};
+ghost use Rattle.dwarf_frame_rows.specs.RuleMap.{rules_of_one};
 ghost use Rattle.dwarf_frame_rows.specs.Effects.{Limits, TakesNoMemory, initial_rows, limits_of, negated_rule};
 
 use crate::rule_map::RegisterRuleMap;
@@ -74,18 +76,29 @@ pub fn store_on_heap_has_room<T: ReaderOffset>()
     ensures never { ⟦<StoreOnHeap as UnwindContextStorage<T>>⟧.never_allocates }
 {}
 
+// The rules that the CIE's own instructions left.
+#[derive(Clone, Copy)]
+enum InitialRules<T> {
+    // The CIE's own instructions aren't executed.
+    Unknown,
+    // At most one, as most CIEs leave.
+    AtMostOne(Option<RuledRegister<RegisterRule<T>>>),
+    // Those of the first row of the list.
+    OfFirstRow,
+}
+
 /// The current row of a program, the rows on its stack, and the rules that its CIE's instructions left.
 /// A context can be used for one program after another.
 #[derive(Drop)]
 pub struct UnwindContext<T: ReaderOffset, S: UnwindContextStorage<T>> {
     row: UnwindTableRow<T, S::Rules>,
-    // The rows that are remembered, the latest last, and after them some to be written over.
+    // First a row for the initial rules, if they are two or more. Behind it those that are remembered,
+    // the latest last, and after them some to be written over. The current row isn't in the list, so it
+    // has room for the first whenever there is room for those that are remembered.
     saved: S::Stack,
-    // How many of its rows are remembered; if it has fewer, all are.
+    // How many of the rows behind the first are remembered; if there are fewer, all are.
     depth: usize,
-    initial_rules: RegisterRuleMap<RegisterRule<T>, S::Rules>,
-    // The CIE's own instructions are executed.
-    is_initialized: bool,
+    initial_rules: InitialRules<T>,
     alloc: Global,
 }
 
@@ -105,7 +118,7 @@ impl<T: ReaderOffset> UnwindContext<T, StoreOnHeap> {
 }
 
 impl<T: ReaderOffset, S: UnwindContextStorage<T>> UnwindContext<T, S> {
-    ghost use Rattle.dwarf_frame_rows.specs.Contexts.{Acts, NeedsNoMemory, SavesInitialRules, state_of};
+    ghost use Rattle.dwarf_frame_rows.specs.Contexts.{Acts, NeedsNoMemory, SavesInitialRules, rule_by, state_of, with_initial_rules, with_row_remembered};
     ghost use Rattle.dwarf_frame_rows.specs.Effects.{first_state, negated_state, popped_state, pushed_state, ruled_state, state_after, state_by_initial_rules, with_bounds};
 
     /// A context before any instruction. Allocates only for lists that aren't made in place, and fails
@@ -119,8 +132,7 @@ impl<T: ReaderOffset, S: UnwindContextStorage<T>> UnwindContext<T, S> {
             row: UnwindTableRow::new_in(alloc)?,
             saved: S::Stack::new_in(alloc)?,
             depth: 0,
-            initial_rules: RegisterRuleMap::new_in(alloc)?,
-            is_initialized: false,
+            initial_rules: InitialRules::Unknown,
             alloc,
         })
     }
@@ -146,24 +158,48 @@ impl<T: ReaderOffset, S: UnwindContextStorage<T>> UnwindContext<T, S> {
     {
         self.row.clear();
         self.depth = 0;
-        self.is_initialized = false;
+        self.initial_rules = InitialRules::Unknown;
     }
 
     /// Keeps the current row's rules as those that the CIE's own instructions left, in place of any that
     /// were kept before. Two rules or more count as a row. Fails with `StackFull` if there is no room for
-    /// that row, and with `OutOfMemory` only if the rules of a row have no limit. After an `Err` none are
-    /// kept.
+    /// that row, and with `OutOfMemory` only if there are two rules or more, in a storage that allocates.
+    /// After an `Err` none are kept.
     pub fn save_initial_rules(&mut self) -> Result<()>
         ensures acts { SavesInitialRules S.limits (state_of S.Stack.items self.old)
             (state_of S.Stack.items self.new) result }
-        ensures memory { IsSome S.Rules.capacity → NeedsNoMemory result }
+        ensures few { initial_rows (Some (state_of S.Stack.items self.old).row.rules) ≡ 0
+            → NeedsNoMemory result }
+        ensures memory { S.never_allocates → NeedsNoMemory result }
     {
-        self.is_initialized = false;
+        self.initial_rules = InitialRules::Unknown;
         if !self.has_room(1 + counted_rows(self.row.rules())) {
             return Err(Error::StackFull);
         }
-        self.initial_rules.copy_from(self.row.rules())?;
-        self.is_initialized = true;
+        match at_most_one(self.row.rules()) {
+            Some(rule) => {
+                self.initial_rules = InitialRules::AtMostOne(rule);
+                Ok(())
+            }
+            None => self.save_in_first_row(),
+        }
+    }
+
+    // Keeps the current row's rules as the initial ones, in the first row of the list. An `Err` changes
+    // nothing.
+    fn save_in_first_row(&mut self) -> Result<()>
+        requires { self.old.initial_rules ≡ InitialRules.Unknown }
+        ensures ok { OnOk result (state_of S.Stack.items self.new
+            ≡ with_initial_rules (state_of S.Stack.items self.old)) }
+        ensures err { OnErr result (state_of S.Stack.items self.new
+            ≡ state_of S.Stack.items self.old) }
+        ensures error { IfErr result (λ e. e ≡ Error.OutOfMemory) }
+        ensures memory { IsTrue S.Rules.is_made_in_place → IsSome S.Rules.capacity
+            → IsSome S.Stack.capacity → IsOk result }
+    {
+        make_room(&mut self.saved, 0, self.alloc)?;
+        save(&mut self.saved, 0, &self.row)?;
+        self.initial_rules = InitialRules::OfFirstRow;
         Ok(())
     }
 
@@ -224,15 +260,24 @@ impl<T: ReaderOffset, S: UnwindContextStorage<T>> UnwindContext<T, S> {
             (state_of S.Stack.items self.old) (state_of S.Stack.items self.new) result }
         ensures memory { IsSome S.Rules.capacity → NeedsNoMemory result }
     {
-        if !self.is_initialized {
-            return Err(Error::CfiInstructionInInvalidContext);
-        }
-        match self.initial_rules.get(register) {
+        match self.initial_rule(register)? {
             Some(rule) => self.set_rule(register, rule),
             None => {
                 self.row.remove_rule(register);
                 Ok(())
             }
+        }
+    }
+
+    // The rule that the CIE's own instructions left the register, if any; once they are executed.
+    fn initial_rule(&self, register: Register) -> Result<Option<RegisterRule<T>>>
+        ensures { result ≡ rule_by register.0
+            (state_of S.Stack.items self.now).initial_rules }
+    {
+        match self.initial_rules {
+            InitialRules::Unknown => Err(Error::CfiInstructionInInvalidContext),
+            InitialRules::AtMostOne(pair) => Ok(rule_of_one(pair, register)),
+            InitialRules::OfFirstRow => Ok(rule_of_first(self.saved.as_slice(), register)),
         }
     }
 
@@ -257,11 +302,27 @@ impl<T: ReaderOffset, S: UnwindContextStorage<T>> UnwindContext<T, S> {
         if !self.has_room(2 + self.initial_rows()) {
             return Err(Error::StackFull);
         }
-        let index = self.remembered_rows();
-        self.depth = index;
-        let depth = make_room(&mut self.saved, index, self.alloc)?;
-        save(&mut self.saved, index, &self.row)?;
-        self.depth = depth;
+        self.push_row()
+    }
+
+    // Pushes the current row on the stack, for which there is room.
+    fn push_row(&mut self) -> Result<()>
+        requires { HasRoom S.Stack.capacity
+            (length (state_of S.Stack.items self.old).remembered_rows + 1) }
+        ensures ok { OnOk result (state_of S.Stack.items self.new
+            ≡ with_row_remembered (state_of S.Stack.items self.old)) }
+        ensures err { OnErr result (state_of S.Stack.items self.new
+            ≡ state_of S.Stack.items self.old) }
+        ensures error { IfErr result (λ e. e ≡ Error.OutOfMemory) }
+        ensures memory { IsTrue S.Rules.is_made_in_place → IsSome S.Rules.capacity
+            → IsSome S.Stack.capacity → IsOk result }
+    {
+        let rows = self.remembered_rows();
+        self.depth = rows;
+        make_room(&mut self.saved, 0, self.alloc)?;
+        make_room(&mut self.saved, rows + 1, self.alloc)?;
+        save(&mut self.saved, rows + 1, &self.row)?;
+        self.depth = rows + 1;
         Ok(())
     }
 
@@ -275,7 +336,7 @@ impl<T: ReaderOffset, S: UnwindContextStorage<T>> UnwindContext<T, S> {
         if rows == 0 {
             return Err(Error::PopWithEmptyStack);
         }
-        take_back(&mut self.saved, rows - 1, &mut self.row);
+        take_back(&mut self.saved, rows, &mut self.row);
         self.depth = rows - 1;
         Ok(())
     }
@@ -283,21 +344,22 @@ impl<T: ReaderOffset, S: UnwindContextStorage<T>> UnwindContext<T, S> {
     // How many rows are remembered.
     fn remembered_rows(&self) -> usize
         ensures rows { result ≡ length (state_of S.Stack.items self.now).remembered_rows }
-        ensures within { result ≤ length (S.Stack.items self.now.saved) }
-        ensures all { take result (S.Stack.items self.now.saved)
-            ≡ take self.now.depth (S.Stack.items self.now.saved) }
+        ensures within { result ≤ length (drop 1 (S.Stack.items self.now.saved)) }
+        ensures all { take result (drop 1 (S.Stack.items self.now.saved))
+            ≡ take self.now.depth (drop 1 (S.Stack.items self.now.saved)) }
+        ensures below_max { result < usize.MAX }
     {
-        self.depth.min(self.saved.as_slice().len())
+        self.depth
+            .min(self.saved.as_slice().len().saturating_sub(1))
     }
 
     // How many rows the CIE's rules count as.
     fn initial_rows(&self) -> usize
         ensures { result ≡ initial_rows (state_of S.Stack.items self.now).initial_rules }
     {
-        if self.is_initialized {
-            counted_rows(&self.initial_rules)
-        } else {
-            0
+        match self.initial_rules {
+            InitialRules::Unknown | InitialRules::AtMostOne(_) => 0,
+            InitialRules::OfFirstRow => counted_rows_of_first(self.saved.as_slice()),
         }
     }
 
@@ -321,6 +383,55 @@ fn counted_rows<V: Copy, Rules: ArrayLike<Item = RuledRegister<V>>>(
     if rules.len() >= 2 { 1 } else { 0 }
 }
 
+// How many rows the rules of the first of these rows count as.
+fn counted_rows_of_first<T: ReaderOffset, Rules: ArrayLike<Item = RuledRegister<RegisterRule<T>>>>(
+    rows: &[UnwindTableRow<T, Rules>],
+) -> usize
+    ensures { result ≡ initial_rows (Some (rules_of_first rows.now)) }
+{
+    match rows {
+        [first, ..] => counted_rows(first.rules()),
+        [] => 0,
+    }
+}
+
+// The rule that the first of these rows has for the register, if there is one.
+fn rule_of_first<T: ReaderOffset, Rules: ArrayLike<Item = RuledRegister<RegisterRule<T>>>>(
+    rows: &[UnwindTableRow<T, Rules>],
+    register: Register,
+) -> Option<RegisterRule<T>>
+    ensures { result ≡ get (rules_of_first rows.now) register.0 }
+{
+    match rows {
+        [first, ..] => first.rules().get(register),
+        [] => None,
+    }
+}
+
+// The only rule or none, unless the rules are two or more.
+fn at_most_one<V: Copy, Rules: ArrayLike<Item = RuledRegister<V>>>(
+    rules: &RegisterRuleMap<V, Rules>,
+) -> Option<Option<RuledRegister<V>>>
+    ensures few { IfSome result (λ pair. rules_of_one pair ≡ rules.now) }
+    ensures more { result ≡ None → initial_rows (Some rules.now) ≡ 1 }
+{
+    match rules.pairs() {
+        [] => Some(None),
+        [only] => Some(Some(*only)),
+        _ => None,
+    }
+}
+
+// The register's rule, if it is the only one that there is.
+fn rule_of_one<V: Copy>(pair: Option<RuledRegister<V>>, register: Register) -> Option<V>
+    ensures { result ≡ get (rules_of_one pair) register.0 }
+{
+    match pair {
+        Some(only) if only.register == register => Some(only.rule),
+        _ => None,
+    }
+}
+
 // The rule of the sign state after it is negated, by its rule before, if it has one.
 fn negated<T: Copy>(rule: Option<RegisterRule<T>>) -> Result<RegisterRule<T>>
     ensures { result ≡ negated_rule rule }
@@ -332,31 +443,31 @@ fn negated<T: Copy>(rule: Option<RegisterRule<T>>) -> Result<RegisterRule<T>>
     }
 }
 
-// Makes sure that there is a row at this index to be written over, and returns how many rows there are
-// with it. A call of its own, so that a function that executes instructions has no room for a row on
-// its stack.
+// Makes sure that there is a row at this index to be written over. A call of its own, so that a function
+// that executes instructions has no room for a row on its stack.
 #[inline(never)]
 fn make_room<
     T: ReaderOffset,
     Rules: ArrayLike<Item = RuledRegister<RegisterRule<T>>>,
     Stack: ArrayLike<Item = UnwindTableRow<T, Rules>>,
->(saved: &mut Stack, index: usize, alloc: Global) -> Result<usize>
+>(saved: &mut Stack, index: usize, alloc: Global) -> Result<()>
     requires index { index ≤ length (Stack.items saved.old) }
     requires room { HasRoom Stack.capacity index }
     ensures there { OnOk result (index < length (Stack.items saved.new)) }
-    ensures count { IfOk result (λ count. count ≡ index + 1) }
-    ensures before { take index (Stack.items saved.new) ≡ take index (Stack.items saved.old) }
+    ensures others { SameAround index (Stack.items saved.old) (Stack.items saved.new) }
+    ensures first { rules_of_first (Stack.items saved.new)
+        ≡ rules_of_first (Stack.items saved.old) }
     ensures error { IfErr result (λ e. e ≡ Error.OutOfMemory) }
     ensures memory { IsTrue Rules.is_made_in_place → IsSome Stack.capacity → IsOk result }
 {
     if index < saved.as_slice().len() {
-        return Ok(index + 1);
+        return Ok(());
     }
     let Ok(row) = UnwindTableRow::new_in(alloc) else {
         return Err(Error::OutOfMemory);
     };
     match saved.try_push(row) {
-        Ok(()) => Ok(saved.as_slice().len()),
+        Ok(()) => Ok(()),
         Err(_) => Err(Error::OutOfMemory),
     }
 }
@@ -370,7 +481,7 @@ fn save<
     requires { index < length (Stack.items saved.old) }
     ensures there { OnOk result (FollowsRows index (Stack.items saved.old) (Stack.items saved.new)
         (row_of row.now)) }
-    ensures before { take index (Stack.items saved.new) ≡ take index (Stack.items saved.old) }
+    ensures others { SameAround index (Stack.items saved.old) (Stack.items saved.new) }
     ensures error { IfErr result (λ e. e ≡ Error.OutOfMemory) }
     ensures memory { IsSome Rules.capacity → IsOk result }
 {

@@ -298,6 +298,50 @@ fn a_cleared_context_is_a_new_one(rt: HostRuntime) -> Result<(), Fail> {
     follow::<StoreOnHeap>(&rt, rt.alloc(), &CLEARED)
 }
 
+// Rules are saved while rows are remembered: two, two others, and one.
+static SAVED_BETWEEN: [Row; 20] = [
+    (Step::By(Effect::Remember), "0..0 r0,0"),
+    (Step::Rules(2), "0..0 r0,0 0=c8 1=c8"),
+    (Step::Save, "0..0 r0,0 0=c8 1=c8"),
+    (Step::By(Effect::ArgsSize(7)), "0..0 r0,0 0=c8 1=c8 args=7"),
+    (Step::By(Effect::Remember), "0..0 r0,0 0=c8 1=c8 args=7"),
+    (Step::By(Effect::Remember), "StackFull"),
+    (
+        Step::By(Effect::Rule(Register(1), RegisterRule::SameValue)),
+        "0..0 r0,0 0=c8 1=s args=7",
+    ),
+    (
+        Step::By(Effect::RestoreRule(Register(1))),
+        "0..0 r0,0 0=c8 1=c8 args=7",
+    ),
+    (
+        Step::By(Effect::Rule(Register(1), RegisterRule::SameValue)),
+        "0..0 r0,0 0=c8 1=s args=7",
+    ),
+    (Step::Save, "0..0 r0,0 0=c8 1=s args=7"),
+    (Step::By(Effect::Restore), "0..0 r0,0 0=c8 1=c8 args=7"),
+    (
+        Step::By(Effect::RestoreRule(Register(1))),
+        "0..0 r0,0 0=c8 1=s args=7",
+    ),
+    (Step::By(Effect::Restore), "0..0 r0,0"),
+    (Step::By(Effect::Restore), "PopWithEmptyStack"),
+    (Step::By(Effect::RestoreRule(Register(1))), "0..0 r0,0 1=s"),
+    (Step::Save, "0..0 r0,0 1=s"),
+    (Step::By(Effect::Remember), "0..0 r0,0 1=s"),
+    (
+        Step::By(Effect::Rule(Register(1), RegisterRule::Undefined)),
+        "0..0 r0,0 1=u",
+    ),
+    (Step::By(Effect::RestoreRule(Register(1))), "0..0 r0,0 1=s"),
+    (Step::By(Effect::RestoreRule(Register(0))), "0..0 r0,0 1=s"),
+];
+
+#[test]
+fn rules_saved_beside_remembered_rows(rt: HostRuntime) -> Result<(), Fail> {
+    follow::<StoreOnHeap>(&rt, rt.alloc(), &SAVED_BETWEEN)
+}
+
 // A program that fails, and one of another CIE, which restores a register with a rule there and one without.
 static TWO_CIES: [Row; 14] = [
     (Step::Rules(3), "0..0 r0,0 0=c8 1=c8 2=c8"),

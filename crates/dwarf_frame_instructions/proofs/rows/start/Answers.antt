@@ -44,17 +44,12 @@ returns g c =
     let items = g.S-Stack-ArrayLike.items in
     let limits = g.S.UnwindContextStorage.limits in
     let conventions = conventions_by g.R.Reader.stretch g.R.Offset.ReaderOffset.limit c.args.coding.now in
-    let law = g.met.S.UnwindContextStorage in
     let s = c.loop-next.invariant in
     let ended = started_ended g.S.UnwindContextStorage.never_allocates limits c.args.factors.now c.loop-next.location (state_in number items c.loop-next.context) (state_in number items c.run.new.context)
     (instructions_of conventions (g.R.Reader.stretch c.args.input)) (instructions_of conventions (g.R.Reader.stretch c.loop-next.rest)) (instructions_of conventions (g.R.Reader.stretch c.run.new.input)) s
     (rw c.in_default.is at c.in_ok-next.ensures.prefix) in
     record {
       started = starts_by number g.S.UnwindContextStorage.never_allocates limits c.args.factors.now (instructions_of conventions (g.R.Reader.stretch c.args.input)) ended.0 (state_of items c.run.new.context)
-          ended.1 ended.2 ended.3 (state_of items c.save_initial_rules.new.self) c.save_initial_rules.result c.save_initial_rules.ensures.acts (λ never.
-          let fixed = rw law.limited at (law.allocates_never.0 never) in
-          c.save_initial_rules.ensures.memory fixed.rules);
-      memory = λ never.
-          let fixed = rw law.limited at (law.allocates_never.0 never) in
-          c.save_initial_rules.ensures.memory fixed.rules;
+          ended.1 ended.2 ended.3 (state_of items c.save_initial_rules.new.self) c.save_initial_rules.result c.save_initial_rules.ensures.acts c.save_initial_rules.ensures.memory;
+      memory = c.save_initial_rules.ensures.memory;
     }
