@@ -1,12 +1,11 @@
 -- How many entries a section has.
-use Rattle.std.proofs.Common.{◌≡◌, ℕ, zero, suc, ◌≤◌, ◌<◌, ◌+◌, List, [], ◌∷◌, length, Option, Some, None, Result, Ok, Err, refl, sym, ◌∙◌, arith}
-use Rattle.std.specs.Prelude.{◌==◌}
+use Rattle.std.proofs.Common.{◌≡◌, ℕ, zero, suc, ◌≤◌, ◌<◌, List, [], ◌∷◌, length, Option, Some, None, Ok, Err, refl, sym, ◌∙◌, arith}
 use Rattle.std.specs.List.{cons_option, filter_map}
 use Rattle.list_laws.specs.Items.{Answer, Shrinks, items_from, items_of, items_within}
 use Rattle.dwarf_readers.specs.Stretch.{Stretch}
 use Rattle.dwarf_readers.specs.Remainder.{size_of}
 use Rattle.dwarf_frame_rows.specs.FrameSection.{FrameSection}
-use Rattle.dwarf_frame_entries.specs.EntryLists.{HasNoMoreThanBytes, entries_from, entries_of, entry_there, next_length}
+use Rattle.dwarf_frame_entries.specs.EntryLists.{HasNoMoreThanBytes, entries_from, entry_there, next_length}
 use Rattle.dwarf_frame_entries.proofs.EntryLists.{entries_shrink}
 
 module _ {S A E : Type 0} (size : S → ℕ) (step : S → Answer S A E) (shrinks : Shrinks size step) (ends : (s : S) → size s ≡ 0 → step s ≡ Ok None) where

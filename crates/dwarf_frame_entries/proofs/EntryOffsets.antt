@@ -1,5 +1,5 @@
 -- Each entry of a section is what stands at its offset.
-use Rattle.std.proofs.Common.{◌≡◌, ℕ, zero, suc, ◌-◌, ◌+◌, Bool, true, false, cond, List, [], ◌∷◌, length, Option, Some, None, Result, Ok, Err, refl, sym, ap, ◌∙◌, arith}
+use Rattle.std.proofs.Common.{◌≡◌, ℕ, zero, suc, ◌-◌, ◌+◌, Bool, true, false, cond, List, [], ◌∷◌, length, Option, Some, None, Result, Ok, Err, refl, sym, ap, subst, ◌∙◌, arith}
 use Rattle.std.specs.Prelude.{◌==◌, nat_lt}
 use Rattle.std.specs.List.{All, filter_map}
 use Rattle.std.specs.Result.{result_ok}
@@ -13,12 +13,12 @@ use Rattle.dwarf_readers.specs.InitialLength.{initial_length_at}
 use Rattle.dwarf_readers.specs.Leb128.{signed_at, unsigned_at}
 use Rattle.dwarf_endianity.specs.Offset.{offset_below}
 use Rattle.dwarf_frame_rows.specs.SectionKind.{FrameSectionKind}
-use Rattle.dwarf_frame_rows.specs.FrameSection.{FrameSection, origins_in}
+use Rattle.dwarf_frame_rows.specs.FrameSection.{FrameSection, SectionContents, origins_in}
 use Rattle.dwarf_frame_entries.specs.declared.entries.Entry.TheVariants as which
 use Rattle.dwarf_frame_entries.specs.Augmentations.{augmentation_at}
 use Rattle.dwarf_frame_entries.specs.Entries.{AnyEntry, Cie, Fde, Head, PartialFde, address_encoding, code_range_at, cie_among, cie_at, cie_from_offset, entry_at, entry_within, fde_from_offset, fde_of, id_at, lsda_at, offset_in, partial_among, partial_at, partial_fde_from_offset, return_register_at, sizes_at}
 use Rattle.dwarf_frame_entries.specs.EntryLists.{entries_from, entries_of, entry_there, next_length, unless_ended}
-use Rattle.dwarf_frame_entries.specs.SectionFdes.{IsOfSection, StandsAtItsOffset, StandsThere, fde_in, whole_fdes}
+use Rattle.dwarf_frame_entries.specs.SectionFdes.{CiesStandAtTheirOffsets, IsOfSection, StandsAtItsOffset, StandsThere, fde_in, whole_fdes}
 use Rattle.dwarf_frame_entries.proofs.Behind.{IsBehind, behind-both, behind-none, entry-left, left-known}
 use Rattle.dwarf_frame_entries.proofs.Each.{Each, each_err, each_if, each_known, each_ok, each_then, each_value}
 
@@ -227,3 +227,39 @@ whole-there section (Ok (which.Fde partial) ∷ entries) all =
 pub fdes_there : (section : FrameSection) → All (StandsAtItsOffset section) (whole_fdes section)
 unfolding whole_fdes
 fdes_there section = whole-there section (entries_of section) (entries_there section)
+
+-- ---- the CIEs of FDEs
+
+behind-place : (bytes : Stretch) (offset : ℕ) → Each (λ (rest : Stretch). rest.offset - bytes.offset ≡ offset) (behind_at offset bytes)
+behind-place bytes offset = each_if (nat_lt (length bytes.bytes) offset) each_err (each_ok (omega arith))
+
+cie-among-at : (offset place : ℕ) (read : Option AnyEntry) → MayStandAt place read → place ≡ offset → Each (λ (cie : Cie). cie.head.offset ≡ offset) (cie_among offset read)
+cie-among-at offset place None at is = each_err
+cie-among-at offset place (Some (which.Cie cie)) at is = each_ok (at ∙ is)
+cie-among-at offset place (Some (which.Fde partial)) at is = each_err
+
+cie-place : (section : FrameSection) (offset : ℕ) → Each (λ (cie : Cie). cie.head.offset ≡ offset) (cie_from_offset section offset)
+cie-place section offset =
+    each_then (behind-place section.within.bytes offset) (λ rest is.
+    each_then (entry-offset section rest) (λ read at. cie-among-at offset (offset_in section rest) read.0 at is))
+
+-- a CIE that stands at its own offset
+abbrev StandsAsCie : FrameSection → Cie → Type 0
+StandsAsCie section cie = cie_from_offset section cie.head.offset ≡ Ok cie
+
+cie-there : (section : FrameSection) (offset : ℕ) (read : Result Cie Error) → cie_from_offset section offset ≡ read → Each (StandsAsCie section) read
+cie-there section offset (Ok cie) is = each_ok (ap (cie_from_offset section) (each_known _ (cie_from_offset section offset) cie (cie-place section offset) is) ∙ is)
+cie-there section offset (Err e) is = each_err
+
+fde-cie-there : (section : FrameSection) (offset : ℕ) → Each (λ (fde : Fde). StandsAsCie section fde.cie) (fde_from_offset section offset)
+fde-cie-there section offset =
+    each_then (there-is-of section offset) (λ partial within.
+    let named = cie-there section partial.cie_offset (cie_from_offset section partial.cie_offset) refl in
+    each_then (subst (λ (w : SectionContents). Each (StandsAsCie section) (cie_from_offset (record { limit = section.limit; kind = section.kind; within = w }) partial.cie_offset)) (sym within) named) (λ cie is.
+    each_value (code_range_at (origins_in partial.within cie.address_size None) (address_encoding cie) partial.rest) (λ addresses.
+    each_value (lsda_at section.limit (origins_in partial.within cie.address_size (Some addresses.0.0)) cie.augmentation addresses.1) (λ lsda.
+    each_ok is))))
+
+-- the CIE of an FDE of a section is what stands at its own offset
+pub fde_cie_there : (section : FrameSection) → CiesStandAtTheirOffsets section
+fde_cie_there section offset fde is = each_known _ (fde_from_offset section offset) fde (fde-cie-there section offset) is

@@ -6,7 +6,7 @@ use Rattle.dwarf_readers.specs.Memory.{NeverWantsMemory}
 use Rattle.dwarf_frame_rows.specs.FrameSection.{FrameSection}
 use Rattle.dwarf_frame_entries.specs.Entries.{fde_from_offset}
 use Rattle.dwarf_frame_entries.specs.EntryLists.{HasNoMoreThanBytes, entries_of}
-use Rattle.dwarf_frame_entries.specs.SectionFdes.{IsOfSection, StandsAtItsOffset, StandsThere, whole_fdes}
+use Rattle.dwarf_frame_entries.specs.SectionFdes.{CiesStandAtTheirOffsets, IsOfSection, StandsAtItsOffset, StandsThere, whole_fdes}
 use Rattle.dwarf_frame_entries.proofs.EntryCounts as counts
 use Rattle.dwarf_frame_entries.proofs.EntryOffsets as offsets
 use Rattle.dwarf_frame_entries.proofs.LookupMemory as lookups
@@ -23,6 +23,10 @@ fdes_of_section = offsets.fdes_of_section
 -- each FDE of a section is what stands at its offset
 pub fdes_there : (section : FrameSection) → All (StandsAtItsOffset section) (whole_fdes section)
 fdes_there = offsets.fdes_there
+
+-- the CIE of an FDE of a section is what stands at its own offset
+pub fde_cie_there : (section : FrameSection) → CiesStandAtTheirOffsets section
+fde_cie_there = offsets.fde_cie_there
 
 -- a section has no more entries than bytes
 pub entries_within_bytes : (section : FrameSection) → HasNoMoreThanBytes section

@@ -1,20 +1,18 @@
 -- The lookups of an address agree if each FDE can be read.
-use Rattle.std.proofs.Common.{◌≡◌, ◌⊎◌, inl, inr, ℕ, zero, suc, ◌<◌, Bool, true, false, cond, List, [], ◌∷◌, length, Option, Some, None, Result, Ok, Err, refl, sym, ap, subst, ◌∙◌, arith}
+use Rattle.std.proofs.Common.{◌≡◌, ◌⊎◌, inl, inr, ℕ, zero, suc, ◌<◌, Bool, true, false, List, [], ◌∷◌, length, Option, Some, None, Result, Ok, Err, refl, ◌∙◌, arith}
 use Rattle.std.specs.Prelude.{IsOk, unwrap_or}
 use Rattle.std.specs.List.{All, filter_map, find}
 use Rattle.std.specs.Option.{ok_or}
-use Rattle.std.specs.Result.{result_ok}
 use Rattle.std.proofs.lemmas.List.Elements.{All-head, All-tail}
 use Rattle.list_laws.specs.Items.{Answer}
 use Rattle.dwarf_constants.specs.declared.error.Error.{Error}
 use Rattle.dwarf_constants.specs.declared.error.Error.TheVariants.{NoUnwindInfoForAddress}
 use Rattle.dwarf_readers.specs.Stretch.{Stretch}
-use Rattle.dwarf_readers.specs.Remainder.{size_of}
 use Rattle.dwarf_frame_rows.specs.FrameSection.{FrameSection}
 use Rattle.dwarf_frame_entries.specs.declared.entries.Entry.TheVariants as which
 use Rattle.dwarf_frame_entries.specs.AddressLookups.{decides, fde_for, fde_or_error}
 use Rattle.dwarf_frame_entries.specs.Entries.{AnyEntry, Fde, contains, fde_of}
-use Rattle.dwarf_frame_entries.specs.EntryLists.{ListEnd, SectionEnd, Terminator, Failed, end_error, entries_from, list_end_from, next_length}
+use Rattle.dwarf_frame_entries.specs.EntryLists.{ListEnd, SectionEnd, Terminator, end_error, entries_from, list_end_from, next_length}
 use Rattle.dwarf_frame_entries.specs.LookupLaws.{AllFdesAreRead, LookupsAgree}
 use Rattle.dwarf_frame_entries.specs.SectionFdes.{fde_in}
 use Rattle.dwarf_frame_entries.proofs.EntryLists.{end-ended, end-passed, end-refused, entries-ended, entries-passed, entries-read, entries-refused, entries_shrink}

@@ -9,10 +9,10 @@ use Rattle.dwarf_constants.specs.declared.error.Error.{Error}
 use Rattle.dwarf_constants.specs.declared.error.Error.TheVariants.{NoUnwindInfoForAddress, OutOfMemory}
 use Rattle.dwarf_readers.specs.Memory.{NeverWantsMemory}
 use Rattle.dwarf_readers.specs.Remainder.{size_of}
-use Rattle.dwarf_readers.specs.Stretch.{Stretch, ◌>>=◌}
+use Rattle.dwarf_readers.specs.Stretch.{Stretch}
 use Rattle.dwarf_readers.proofs.Laws.{address_memory, address_size_memory, behind_memory, byte_memory, initial_length_memory, memory_err, memory_if, memory_ok, memory_test, memory_then, memory_there, number_memory, offset_memory, signed_memory, split_memory, string_memory, unsigned_16_memory, unsigned_memory}
 use Rattle.dwarf_frame_rows.specs.EncodedPointer.{Origins}
-use Rattle.dwarf_frame_rows.specs.FrameSection.{FrameSection, SectionContents, origins_in}
+use Rattle.dwarf_frame_rows.specs.FrameSection.{FrameSection, origins_in}
 use Rattle.dwarf_frame_rows.specs.SectionKind.{FrameSectionKind}
 use Rattle.dwarf_frame_rows.specs.declared.section.CieOffsetEncoding.{CieOffsetEncoding}
 use Rattle.dwarf_frame_rows.specs.declared.section.CieOffsetEncoding.TheVariants.{U32, U64}
@@ -20,7 +20,7 @@ use Rattle.dwarf_frame_rows.proofs.Laws.{encoding_memory, plain_value_memory, po
 use Rattle.dwarf_frame_entries.specs.AddressLookups.{decides, fde_for, fde_for_address, fde_for_address_skipping, fde_or_error, first_deciding}
 use Rattle.dwarf_frame_entries.specs.Augmentations.{Letters, augmentation_at, augmentation_by_letters, data_at, letter_B, letter_L, letter_P, letter_R, letter_S, letter_with_data, letter_z, no_letters, pointer_unless_omitted, with_letter, with_letters}
 use Rattle.dwarf_frame_entries.specs.Entries.{AnyEntry, Cie, Fde, Head, PartialFde, address_encoding, cie_among, cie_at, cie_from_offset, code_range_at, entry_at, entry_within, fde_from_offset, fde_of, fde_with, id_at, lsda_at, lsda_within, offset_in, partial_among, partial_at, partial_fde_from_offset, return_register_at, sizes_at}
-use Rattle.dwarf_frame_entries.specs.EntryLists.{ListEnd, SectionEnd, Terminator, end_by, end_error, entries_from, entry_there, list_end_from, next_length, unless_ended}
+use Rattle.dwarf_frame_entries.specs.EntryLists.{SectionEnd, Terminator, end_by, end_error, entries_from, entry_there, list_end_from, next_length, unless_ended}
 use Rattle.dwarf_frame_entries.specs.declared.augmentation.Augmentation.{Augmentation}
 use Rattle.dwarf_frame_entries.specs.declared.entries.Entry.TheVariants as which
 

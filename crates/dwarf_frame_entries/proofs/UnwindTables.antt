@@ -1,6 +1,6 @@
 -- A call that gave a row took a step.
-use Rattle.std.proofs.Common.{◌≡◌, ℕ, Bool, true, false, cond, Option, Some, None, option_map, sym, ap, ◌∙◌}
-use Rattle.std.specs.Prelude.{◌<◌, OnSome}
+use Rattle.std.proofs.Common.{◌≡◌, ℕ, Bool, true, false, cond, Option, Some, None, option_map, ap, ◌∙◌}
+use Rattle.std.specs.Prelude.{OnSome}
 use Rattle.std.specs.Bool.{OnTrue}
 use Rattle.std.specs.Borrow.{Bor}
 use Rattle.dwarf_frame_rows.specs.declared.row.UnwindTableRow.{UnwindTableRow}

@@ -41,3 +41,8 @@ IsOfSection section (Err e) = Unit {0}
 -- The FDE is what is at its offset in the section.
 abbrev pub StandsAtItsOffset : FrameSection → Fde → Type 0
 StandsAtItsOffset section fde = fde_from_offset section fde.head.offset ≡ Ok fde
+
+-- The CIE of each FDE that is read at an offset is what is at its own offset.
+abbrev pub CiesStandAtTheirOffsets : FrameSection → Type 0
+CiesStandAtTheirOffsets section = (offset : ℕ) (fde : Fde) → fde_from_offset section offset ≡ Ok fde
+    → cie_from_offset section fde.cie.head.offset ≡ Ok fde.cie

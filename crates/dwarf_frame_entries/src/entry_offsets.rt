@@ -3,7 +3,7 @@
 ghost use Rattle.std.specs.List.{All};
 ghost use Rattle.dwarf_frame_rows.specs.FrameSection.{FrameSection};
 ghost use Rattle.dwarf_frame_entries.specs.EntryLists.{HasNoMoreThanBytes, entries_of};
-ghost use Rattle.dwarf_frame_entries.specs.SectionFdes.{IsOfSection, StandsAtItsOffset, StandsThere, whole_fdes};
+ghost use Rattle.dwarf_frame_entries.specs.SectionFdes.{CiesStandAtTheirOffsets, IsOfSection, StandsAtItsOffset, StandsThere, whole_fdes};
 
 /// Each entry in the list of a section is what [`UnwindSection::cie_from_offset`] or
 /// [`UnwindSection::partial_fde_from_offset`] returns at its offset. It does nothing when the
@@ -30,6 +30,15 @@ pub fn listed_fdes_are_of_their_section()
 #[tactic(auto, using(crate::proofs::Laws::fdes_there))]
 pub fn listed_fdes_stand_at_their_offsets()
     ensures { (section : FrameSection) → All (StandsAtItsOffset section) (whole_fdes section) }
+{}
+
+/// The CIE of an FDE at an offset of a section is what [`UnwindSection::cie_from_offset`] returns at the
+/// offset that the CIE says. It does nothing when the program runs.
+///
+/// [`UnwindSection::cie_from_offset`]: crate::UnwindSection::cie_from_offset
+#[tactic(auto, using(crate::proofs::Laws::fde_cie_there))]
+pub fn cies_of_fdes_stand_at_their_offsets()
+    ensures { (section : FrameSection) → CiesStandAtTheirOffsets section }
 {}
 
 /// A section has no more entries than bytes, so that a count of them fits where its size does. It does

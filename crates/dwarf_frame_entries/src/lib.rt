@@ -29,8 +29,9 @@ pub use dwarf_frame_rows::{
 pub use dwarf_frame_sections::{DebugFrame, EhFrame};
 pub use entries::{CfiEntriesIter, CieOrFde, Entry};
 pub use entry_offsets::{
-    listed_entries_stand_at_their_offsets, listed_fdes_are_of_their_section,
-    listed_fdes_stand_at_their_offsets, sections_have_no_more_entries_than_bytes,
+    cies_of_fdes_stand_at_their_offsets, listed_entries_stand_at_their_offsets,
+    listed_fdes_are_of_their_section, listed_fdes_stand_at_their_offsets,
+    sections_have_no_more_entries_than_bytes,
 };
 pub use fde::{FrameDescriptionEntry, PartialFrameDescriptionEntry};
 pub use lookup_laws::lookups_agree_if_fdes_are_read;

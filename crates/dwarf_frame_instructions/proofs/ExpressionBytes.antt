@@ -14,7 +14,7 @@ use Rattle.dwarf_readers.proofs.Laws.{unsigned_rest}
 use Rattle.dwarf_frame_rows.specs.declared.expression.UnwindExpression.{UnwindExpression}
 use Rattle.dwarf_frame_rows.specs.Expressions.{expression_in}
 use Rattle.dwarf_frame_instructions.specs.ExpressionBytes.{HasItsBytes, IsPiece, ReadsItsBytes}
-use Rattle.dwarf_frame_instructions.specs.Instructions.{Conventions, expression_at}
+use Rattle.dwarf_frame_instructions.specs.Instructions.{Conventions}
 
 -- ---- what an instruction names
 

@@ -1,5 +1,5 @@
 -- Instructions of the code as those of the definitions: offsets and lengths are numbers.
-use Rattle.std.specs.Prelude.{ℕ, ◌<◌, List, length, Option, option_map, Result, Ok, Err}
+use Rattle.std.specs.Prelude.{ℕ, ◌<◌, List, length, Option, option_map, Result, Ok, Err, IfSome}
 use Rattle.list_laws.specs.Items.{GivesNext}
 use Rattle.dwarf_constants.specs.declared.constants.DwCfa.{DwCfa}
 use Rattle.dwarf_constants.specs.declared.constants.DwEhPe.{DwEhPe}
@@ -83,6 +83,18 @@ abbrev pub ReadsOperands : {R O : Type 0} → (R → Stretch) → ℕ → (O →
     → R → Result (CallFrameInstruction O) Error → R → Type 0
 ReadsOperands stretch limit number coding table opcode old result new =
     ReadsBy stretch limit (instruction_as number) coding (λ conventions. listed_at (table conventions) opcode.0) old result new
+
+-- If the code returned something, it read an instruction as a definition reads it.
+abbrev pub MayRead : {R O : Type 0} → (R → Stretch) → ℕ → (O → ℕ) → Coding R → (Conventions → Parse (CallFrameInstruction ℕ)) → R
+    → Option (CallFrameInstruction O) → R → Type 0
+MayRead stretch limit number coding parse old result new =
+    IfSome result (λ i. ReadsBy stretch limit (instruction_as number) coding parse old (Ok i) new)
+
+-- .. the operands of an opcode as a table lists them
+abbrev pub MayReadOperands : {R O : Type 0} → (R → Stretch) → ℕ → (O → ℕ) → Coding R → (Conventions → List (DwCfa × Operands)) → DwCfa
+    → R → Option (CallFrameInstruction O) → R → Type 0
+MayReadOperands stretch limit number coding table opcode old result new =
+    IfSome result (λ i. ReadsOperands stretch limit number coding table opcode old (Ok i) new)
 
 -- The code read the next instruction, or found that none is left, or failed as the list of them does; the others are left.
 abbrev pub GivesNextBy : {R O : Type 0} → (R → Stretch) → ℕ → (O → ℕ) → Coding R → Result (Option (CallFrameInstruction O)) Error

@@ -1,5 +1,5 @@
 -- The rows that a program of the code has left, and the one that it gave last.
-use Rattle.std.specs.Prelude.{◌≡◌, ℕ, suc, zero, List, [], ◌∷◌, length, Bool, true, false, Option, Some, None, option_map, Result, Ok, Err, IfErr, IfOk, if◌then◌else◌}
+use Rattle.std.specs.Prelude.{◌≡◌, ℕ, suc, zero, List, [], ◌∷◌, length, Bool, false, Option, Some, None, option_map, Result, Ok, Err, IfErr, IfOk, if◌then◌else◌}
 use Rattle.std.specs.Borrow.{Bor}
 use Rattle.dwarf_constants.specs.declared.error.Error.{Error}
 use Rattle.dwarf_readers.specs.Stretch.{Stretch}

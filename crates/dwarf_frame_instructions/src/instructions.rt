@@ -1,12 +1,12 @@
 //! Call frame instructions (DWARF 5, 6.4.2 and 7.24).
 
-ghost use Rattle.std.specs.Prelude.{◌≡◌, ◌≢◌, IfErr};
+ghost use Rattle.std.specs.Prelude.{◌≡◌, ◌≢◌, IfErr, IfSome, None, Ok, Some};
 ghost use Rattle.list_laws.specs.Items.{GivesNext};
 ghost use Rattle.dwarf_constants.specs.declared.error.Error.TheVariants.{OutOfMemory};
 ghost use Rattle.dwarf_readers.specs.Stretch.{Reads};
 ghost use Rattle.dwarf_frame_instructions.specs.Instructions.{expression_at, extended_opcodes, instruction_at, instructions_of, location_at, register_at};
 ghost use Rattle.dwarf_frame_instructions.specs.OpcodeTables.{from_cfa_definition, from_offset_rules, from_other_rules, from_row_state};
-ghost use Rattle.dwarf_frame_instructions.specs.InstructionViews.{GivesNextBy, ReadsBy, ReadsOperands, conventions_of, expression_as, instruction_as, instructions_by};
+ghost use Rattle.dwarf_frame_instructions.specs.InstructionViews.{GivesNextBy, MayRead, MayReadOperands, ReadsBy, ReadsOperands, conventions_of, expression_as, instruction_as, instructions_by};
 
 use dwarf_constants::constants::{
     DW_CFA_AARCH64_negate_ra_state, DW_CFA_GNU_args_size, DW_CFA_advance_loc, DW_CFA_advance_loc1,
@@ -187,6 +187,25 @@ impl<'a, R: Reader> CallFrameInstructionIter<'a, R> {
         self.coding.next(&mut self.input)
     }
 
+    /// The next instruction, if it is one of those that most programs have most of: `DW_CFA_advance_loc`,
+    /// `DW_CFA_advance_loc1`, `DW_CFA_offset`, `DW_CFA_restore`, `DW_CFA_def_cfa_offset`,
+    /// `DW_CFA_remember_state`, `DW_CFA_restore_state` or `DW_CFA_nop`. Otherwise, and if it can't be read or
+    /// none is left, `None`; then nothing is read, and [`CallFrameInstructionIter::next`] says which it is.
+    #[inline(always)]
+    pub fn next_if_frequent(&mut self) -> Option<CallFrameInstruction<R::Offset>>
+        ensures some { IfSome result (λ instruction. GivesNext (instruction_as R.Offset.value)
+            (Ok (Some instruction)) self.old self.new) }
+        ensures none { result ≡ None → self.new ≡ self.old }
+    {
+        if self.input.is_empty() {
+            return None;
+        }
+        let mut rest = self.input;
+        let instruction = self.coding.parse_frequent(&mut rest)?;
+        self.input = rest;
+        Some(instruction)
+    }
+
     // How the instructions that are left are read, and their bytes.
     pub(crate) fn into_parts(self) -> (Coding<'a, R>, R)
         ensures { self.entry ≡ instructions_by R.stretch R.Offset.limit result.0 result.1 }
@@ -256,6 +275,55 @@ impl<'a, R: Reader> Coding<'a, R> {
                 register: Register(u16::from(low)),
             }),
             _ => self.parse_operands(DwCfa(opcode), input),
+        }
+    }
+
+    // Reads an instruction, if it is a frequent one.
+    #[inline(always)]
+    fn parse_frequent(&self, input: &mut R) -> Option<CallFrameInstruction<R::Offset>>
+        ensures { MayRead R.stretch R.Offset.limit R.Offset.value self.now instruction_at input.old result
+            input.new }
+    {
+        let Ok(opcode) = input.read_u8() else {
+            return None;
+        };
+        let low = opcode % LOW_VALUES;
+        match DwCfa(opcode - low) {
+            DW_CFA_advance_loc => Some(CallFrameInstruction::AdvanceLoc {
+                delta: u32::from(low),
+            }),
+            DW_CFA_offset => Some(CallFrameInstruction::Offset {
+                register: Register(u16::from(low)),
+                factored_offset: input.read_uleb128().ok()?,
+            }),
+            DW_CFA_restore => Some(CallFrameInstruction::Restore {
+                register: Register(u16::from(low)),
+            }),
+            _ => self.parse_frequent_operands(DwCfa(opcode), input),
+        }
+    }
+
+    // Reads the operands of an opcode in all eight bits, if it is a frequent one.
+    #[inline(always)]
+    fn parse_frequent_operands(
+        &self,
+        opcode: DwCfa,
+        input: &mut R,
+    ) -> Option<CallFrameInstruction<R::Offset>>
+        ensures { MayReadOperands R.stretch R.Offset.limit R.Offset.value self.now extended_opcodes opcode
+            input.old result input.new }
+    {
+        match opcode {
+            DW_CFA_def_cfa_offset => Some(CallFrameInstruction::DefCfaOffset {
+                offset: input.read_uleb128().ok()?,
+            }),
+            DW_CFA_nop => Some(CallFrameInstruction::Nop),
+            DW_CFA_advance_loc1 => Some(CallFrameInstruction::AdvanceLoc {
+                delta: u32::from(input.read_u8().ok()?),
+            }),
+            DW_CFA_remember_state => Some(CallFrameInstruction::RememberState),
+            DW_CFA_restore_state => Some(CallFrameInstruction::RestoreState),
+            _ => None,
         }
     }
 

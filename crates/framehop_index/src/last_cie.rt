@@ -58,27 +58,6 @@ fn read_cie<R: Reader, Section: UnwindSection<R>>(
     Ok(cie)
 }
 
-// The CIE at an offset of a section, which is read only if it isn't the one that was read last.
-#[inline(always)]
-fn cie_by_last<R: Reader, Section: UnwindSection<R>>(
-    section: &Section,
-    bases: &BaseAddresses,
-    offset: Section::Offset,
-    last: &mut Option<LastCie<R>>,
-) -> dwarf_read_core::Result<CommonInformationEntry<R>>
-    requires { IsLastCie R.stretch R.Offset.value (Section.frame section.now bases.now) last.old }
-    ensures cie { GivesCieFrom R.stretch R.Offset.value result (Section.frame section.now bases.now)
-        (Section.Offset.number offset) }
-    ensures last { IsLastCie R.stretch R.Offset.value (Section.frame section.now bases.now) last.new }
-{
-    if let Some(last) = last
-        && last.offset == UnwindOffset::into(offset).into_u64()
-    {
-        return Ok(last.cie.clone()?);
-    }
-    read_cie(section, bases, offset, last)
-}
-
 // An FDE of a section with its CIE, which is read only if it isn't the one that was read last.
 #[inline(always)]
 pub(crate) fn fde_by_last<R: Reader, Section: UnwindSection<R>>(
@@ -92,6 +71,12 @@ pub(crate) fn fde_by_last<R: Reader, Section: UnwindSection<R>>(
     ensures fde { Gives (λ fde. fde) result (fde_of R.Offset.limit Section.kind partial.now) }
     ensures last { IsLastCie R.stretch R.Offset.value (Section.frame section.now bases.now) last.new }
 {
-    let cie = cie_by_last(section, bases, partial.cie_offset(), last)?;
+    let offset = partial.cie_offset();
+    if let Some(last) = last
+        && last.offset == UnwindOffset::into(offset).into_u64()
+    {
+        return fde_with(partial, &last.cie);
+    }
+    let cie = read_cie(section, bases, offset, last)?;
     fde_with(partial, &cie)
 }

@@ -5,6 +5,7 @@ ghost use Rattle.std.specs.Prelude.{◌≡◌, ◌+ℤ◌};
 ghost use Rattle.framehop_rows.specs.RuleFields.{eighth_of, sixteenth_of, as_words, as_signed_words, pairs_of};
 
 // The eighth of a multiple of 8.
+#[inline(always)]
 fn exact_eighth(offset: i64) -> Option<i64>
     ensures { result ≡ eighth_of offset }
 {
@@ -16,6 +17,7 @@ fn exact_eighth(offset: i64) -> Option<i64>
 }
 
 // The sixteenth of a multiple of 16.
+#[inline(always)]
 fn exact_sixteenth(offset: i64) -> Option<i64>
     ensures { result ≡ sixteenth_of offset }
 {
@@ -27,6 +29,7 @@ fn exact_sixteenth(offset: i64) -> Option<i64>
 }
 
 // An offset in bytes as an unsigned number of words of 8 bytes.
+#[inline(always)]
 pub(crate) fn unsigned_words(offset: i64) -> Option<u16>
     ensures { result ≡ as_words offset }
 {
@@ -34,6 +37,7 @@ pub(crate) fn unsigned_words(offset: i64) -> Option<u16>
 }
 
 // An offset in bytes as a signed number of words of 8 bytes.
+#[inline(always)]
 fn signed_words(offset: i64) -> Option<i16>
     ensures { result ≡ as_signed_words offset }
 {
@@ -41,6 +45,7 @@ fn signed_words(offset: i64) -> Option<i16>
 }
 
 // An offset in bytes as an unsigned number of pairs of words.
+#[inline(always)]
 pub(crate) fn unsigned_pairs(offset: i64) -> Option<u16>
     ensures { result ≡ pairs_of offset }
 {
@@ -49,6 +54,7 @@ pub(crate) fn unsigned_pairs(offset: i64) -> Option<u16>
 
 // The offset of what is stored at an offset from the CFA, from the register that the CFA is itself at an
 // offset from, as a signed number of words.
+#[inline(always)]
 pub(crate) fn words_from_base(offset: i64, stored: i64) -> Option<i16>
     ensures { result ≡ as_signed_words (offset +ℤ stored) }
 {

@@ -1,4 +1,5 @@
 pub mod AttemptLaws
+pub mod ByPartsLaws
 pub mod IndexLaws
 pub mod PartsLaws
 pub mod PartsRowLaws

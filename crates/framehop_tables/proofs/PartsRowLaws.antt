@@ -13,13 +13,14 @@ use Rattle.framehop_rows.specs.declared.parts.Parts.{Parts}
 use Rattle.framehop_rows.specs.RowParts.{parts_as, parts_of}
 use Rattle.framehop_tables.specs.declared.covered.Covered.{Covered}
 use Rattle.framehop_tables.specs.declared.covered.Covered.TheVariants.{Says}
+use Rattle.framehop_tables.specs.declared.parts_rows.Action.{Action}
 use Rattle.framehop_tables.specs.declared.parts_rows.Action.TheVariants as action
 use Rattle.framehop_tables.specs.declared.parts_state.Columns.{Columns}
 use Rattle.framehop_tables.specs.declared.parts_state.CountedParts.{CountedParts}
 use Rattle.framehop_tables.specs.declared.parts_state.PartsState.{PartsState}
 use Rattle.framehop_tables.specs.declared.spans.Span.{Span}
 use Rattle.framehop_tables.specs.Covered.{RowRules, by_rule}
-use Rattle.framehop_tables.specs.PartsStates.{AreApart, AreLeft, Effects, Executes, Follows, HasRoomForParts, Rules}
+use Rattle.framehop_tables.specs.PartsStates.{AreApart, AreLeft, Effects, Executes, ExecutesFirst, ExecutesNext, Follows, HasRoomForParts, Rules}
 use Rattle.framehop_tables.specs.Tabulations.{AddsRow, AddsRows, Begins}
 use Rattle.framehop_tables.proofs.PartsSteps.{parts-kept}
 use Rattle.framehop_tables.proofs.RowLaws.{Reaches, reached-begins, reached-end, reached-limit, reached-none, reached-row}
@@ -150,3 +151,12 @@ module _ {Rule T : Type 0} (number : T → ℕ) (columns : Columns) (rules : Row
           -- .. past the limit
           pub moved-past : span.limit ≤ new.done → AddsRows rules span All old new
           moved-past past = reached-limit rules span old All new (From known.initial end known.executed rest) adds.extends.sound past reaches
+
+-- ---- the next instruction
+
+-- what was done with the first of some instructions was done with the next one
+pub executes-next : {T : Type 0} (number : T → ℕ) (columns : Columns) (factors : Factors) (location : ℕ) (before after : Instructions ℕ) (old new : PartsState T) (done : Action)
+    → ExecutesFirst number columns factors location before after old new done → ExecutesNext number columns factors location before after old new (Some done)
+executes-next number columns factors location before after old new (action.Moves to) first = first
+executes-next number columns factors location before after old new action.Writes first = first
+executes-next number columns factors location before after old new action.GivesUp first = tt

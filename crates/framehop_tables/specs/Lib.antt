@@ -1,3 +1,4 @@
+pub mod ByParts
 pub mod Covered
 pub mod IndexAttempts
 pub mod Kept

@@ -1,5 +1,5 @@
 -- The parts of rows that rules are made of, while instructions are executed without a context.
-use Rattle.std.specs.Prelude.{◌≡◌, ℕ, ◌+◌, ◌<◌, ◌≤◌, List, ◌∷◌, length, Bool, true, IsTrue, Option, Some, None, Ok}
+use Rattle.std.specs.Prelude.{◌≡◌, ℕ, ◌+◌, ◌<◌, ◌≤◌, List, [], ◌∷◌, length, Bool, true, IsTrue, Option, Some, None, Ok}
 use Rattle.std.specs.FinMap.{get}
 use Rattle.std.specs.List.{filter_map}
 use Rattle.dwarf_constants.specs.declared.common.Register.{Register}
@@ -12,7 +12,7 @@ use Rattle.dwarf_frame_instructions.specs.declared.effects.Factors.{Factors}
 use Rattle.dwarf_frame_instructions.specs.declared.instructions.CallFrameInstruction.{CallFrameInstruction}
 use Rattle.dwarf_frame_instructions.specs.InstructionViews.{instruction_as}
 use Rattle.dwarf_frame_instructions.specs.Parts.{cfa_of, ruled_register, sign_state, written_rule}
-use Rattle.dwarf_frame_instructions.specs.Programs.{EntryProgram, InstructionStep, Moves, Writes, effects_of_cie, rules_left, step_of}
+use Rattle.dwarf_frame_instructions.specs.Programs.{EntryProgram, InstructionStep, Instructions, Moves, Writes, effects_of_cie, rules_left, step_of}
 use Rattle.dwarf_frame_instructions.specs.Refusals.{needs}
 use Rattle.dwarf_frame_instructions.specs.StateViews.{cfa_as, effect_as}
 use Rattle.dwarf_frame_instructions.specs.Survivors.{open_states, survivors}
@@ -109,6 +109,19 @@ module _ {T : Type 0} (number : T → ℕ) (columns : Columns) where
       → HasRoomForParts limits → Follows initial old executed
       → ActsAs initial (step_of (record { factors = factors; limits = limits; initial_rules = Some initial }) location executed (instruction_as number i))
       executed new action
+
+  -- The first of some instructions was executed, and the others are left.
+  pub record ExecutesFirst (factors : Factors) (location : ℕ) (before after : Instructions ℕ) (old new : PartsState T) (done : Action) : Type 0 where
+    pub instruction : CallFrameInstruction T
+    pub first : before ≡ Ok (instruction_as number instruction) ∷ after
+    pub executes : Executes factors location instruction old new done
+
+  -- .. or none was left, and nothing done; or one was given up
+  abbrev pub ExecutesNext : Factors → (location : ℕ) → (before after : Instructions ℕ) → PartsState T → PartsState T → Option Action → Type 0
+  ExecutesNext factors location before after old new None = (before ≡ []) × (new ≡ old)
+  ExecutesNext factors location before after old new (Some action.GivesUp) = Unit {0}
+  ExecutesNext factors location before after old new (Some (action.Moves to)) = ExecutesFirst factors location before after old new (action.Moves to)
+  ExecutesNext factors location before after old new (Some action.Writes) = ExecutesFirst factors location before after old new action.Writes
 
   -- One of a CIE's own instructions was executed as in any context.
   abbrev pub Sets : Factors → CallFrameInstruction T → CountedParts T → CountedParts T → Type 0

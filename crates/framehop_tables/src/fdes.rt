@@ -1,63 +1,53 @@
 //! What the FDEs of an index say of relative addresses.
 
-ghost use Rattle.std.specs.Prelude.{◌≡◌, ◌≤◌, ◌^◌, IfOk, IsTrue};
-ghost use Rattle.dwarf_frame_entries.specs.Entries.{fde_from_offset};
+ghost use Rattle.std.specs.Prelude.{◌≡◌, ◌≤◌, ◌^◌, Ok, IfOk, IfSome};
+ghost use Rattle.dwarf_endianity.specs.Answers.{Gives};
+ghost use Rattle.dwarf_frame_instructions.specs.ProgramRows.{program_of};
+ghost use Rattle.dwarf_frame_entries.specs.Entries.{cie_from_offset, fde_from_offset};
 ghost use Rattle.dwarf_frame_entries.specs.EntryPrograms.{fde_rows};
 ghost use Rattle.framehop_index.specs.CfiIndexView.{IsIndexOf};
-ghost use Rattle.framehop_index.specs.LastCie.{IsLastCie};
 ghost use Rattle.framehop_ranges.specs.Ranges.{Sound};
+ghost use Rattle.framehop_tables.specs.ByParts.{HasRoomFor, Holds};
 ghost use Rattle.framehop_tables.specs.Covered.{row_rules, tabulated};
-ghost use Rattle.framehop_tables.specs.PartsStates.{HasRoomForParts};
-ghost use Rattle.framehop_tables.specs.Tabulations.{AddsEntry, AddsOrBegins, AddsRows, AreOf, CanAdd, end_of, start_at};
+ghost use Rattle.framehop_tables.specs.Tabulations.{AddsEntry, AddsProgram, AddsRows, AreOf, CanAdd, end_of, start_at};
 
+use crate::by_parts::{ByParts, left_by_cie};
 use crate::covered::Covered;
 use crate::entry::{Entry, extend, nothing_up_to};
-use crate::parts_rows::{add_rows_by_parts, columns_of, has_room, parts_left};
+use crate::parts_rows::{add_rows_by_parts, columns_of, has_room};
+use crate::parts_state::CountedParts;
 use crate::rows::add_rows;
 use crate::same_rule::SameRule;
 use crate::spans::Span;
 use dwarf_frame_entries::{
     BaseAddresses, FrameDescriptionEntry, UnwindContext, UnwindContextStorage, UnwindSection,
 };
-use dwarf_frame_instructions::ProgramRows;
+use dwarf_frame_instructions::{FrameProgram, ProgramRows};
 use dwarf_readers::Reader;
-use framehop_index::{DwarfCfiIndex, IndexedFde, LastCie, fde_at_by_last};
+use framehop_index::{DwarfCfiIndex, IndexedFde, fde_at_by_last};
 use framehop_ranges::Ranges;
 use framehop_rows::RowRules;
 use std::alloc::{AllocError, Global};
 
-// Adds what an FDE says up to the limit of a span without a context, if there `has_room` for its rows. Returns whether all is added; if not,
-// some may be.
+// Adds the rows of a program up to the limit of a span, if it is known what its CIE's own instructions leave. Returns whether all are added;
+// if not, some may be.
 #[inline(always)]
-fn add_by_parts<
-    A: RowRules,
-    R: Reader,
-    Section: UnwindSection<R>,
-    S: UnwindContextStorage<R::Offset>,
->(
+fn add_by_parts<A: RowRules, R: Reader, S: UnwindContextStorage<R::Offset>>(
     ranges: &mut Ranges<Entry<A::UnwindRule>>,
-    section: &Section,
-    bases: &BaseAddresses,
-    fde: &FrameDescriptionEntry<R>,
-    has_room: bool,
+    program: FrameProgram<'_, R>,
+    left: Option<CountedParts<R::Offset>>,
     span: Span,
 ) -> Result<bool, AllocError>
 where
     A::UnwindRule: SameRule,
-    requires sound { Sound ranges.old }
-    requires fits { span.limit ≤ 2 ^ 32 }
-    requires room { IsTrue has_room → HasRoomForParts S.limits }
-    ensures { let frame = Section.frame section.now bases.now in
-        let rows = fde_rows S.limits frame (Section.extensions section.now) fde.now in
-        IfOk result (AddsOrBegins (row_rules A.rows A.rule_of) span rows ranges.old ranges.new) }
+    requires span { CanAdd ranges.old span }
+    requires left { IfSome left (HasRoomFor R.Offset.value (record { fp = A.fp; ra = A.ra }) S.limits
+        (program_of program)) }
+    ensures { IfOk result (AddsProgram (row_rules A.rows A.rule_of) span S.limits
+        (program_of program.entry) ranges.old ranges.new) }
 {
-    if !has_room {
-        return Ok(false);
-    }
-    match parts_left(columns_of::<A>(), fde.program(section, bases)) {
-        Some(left) => {
-            add_rows_by_parts::<A, R, S>(ranges, fde.program(section, bases), left, span)
-        }
+    match left {
+        Some(left) => add_rows_by_parts::<A, R, S>(ranges, program, left, span),
         None => Ok(false),
     }
 }
@@ -69,20 +59,24 @@ fn add_fde<A: RowRules, R: Reader, Section: UnwindSection<R>, S: UnwindContextSt
     bases: &BaseAddresses,
     context: &mut UnwindContext<R::Offset, S>,
     fde: &FrameDescriptionEntry<R>,
-    has_room: bool,
+    known: &mut ByParts<R::Offset>,
     span: Span,
 ) -> Result<(), AllocError>
 where
     A::UnwindRule: SameRule,
     requires fixed { S.never_allocates }
-    requires sound { Sound ranges.old }
-    requires fits { span.limit ≤ 2 ^ 32 }
-    requires room { IsTrue has_room → HasRoomForParts S.limits }
-    ensures { let frame = Section.frame section.now bases.now in
+    requires span { CanAdd ranges.old span }
+    requires there { cie_from_offset (Section.frame section.now bases.now) fde.now.cie.head.offset ≡ Ok fde.now.cie }
+    requires known { Holds R.Offset.value A.fp A.ra (Section.frame section.now bases.now)
+        (Section.extensions section.now) S.limits known.old }
+    ensures known { Holds R.Offset.value A.fp A.ra (Section.frame section.now bases.now)
+        (Section.extensions section.now) S.limits known.new }
+    ensures adds { let frame = Section.frame section.now bases.now in
         let rows = fde_rows S.limits frame (Section.extensions section.now) fde.now in
         IfOk result (λ _. AddsRows (row_rules A.rows A.rule_of) span rows ranges.old ranges.new) }
 {
-    if add_by_parts::<A, R, Section, S>(&mut *ranges, section, bases, fde, has_room, span)? {
+    let left = left_by_cie::<R, Section, S>(columns_of::<A>(), section, bases, fde, known);
+    if add_by_parts::<A, R, S>(&mut *ranges, fde.program(section, bases), left, span)? {
         return Ok(());
     }
     match ProgramRows::new(context, fde.program(section, bases)) {
@@ -94,32 +88,31 @@ where
     }
 }
 
-// Adds what is at the offset of a span: what an FDE says there, or nothing if none can be read. The FDE's CIE is read only if it
-// isn't the one that was read last.
+// Adds what was read at the offset of a span: what an FDE says there, or nothing if none could be read.
 fn add_entry<A: RowRules, R: Reader, Section: UnwindSection<R>, S: UnwindContextStorage<R::Offset>>(
     ranges: &mut Ranges<Entry<A::UnwindRule>>,
     section: &Section,
     bases: &BaseAddresses,
     context: &mut UnwindContext<R::Offset, S>,
-    last: &mut Option<LastCie<R>>,
-    has_room: bool,
+    read: dwarf_constants::Result<FrameDescriptionEntry<R>>,
+    known: &mut ByParts<R::Offset>,
     span: Span,
 ) -> Result<(), AllocError>
 where
     A::UnwindRule: SameRule,
     requires fixed { S.never_allocates }
     requires span { CanAdd ranges.old span }
-    requires room { IsTrue has_room → HasRoomForParts S.limits }
-    requires last { IsLastCie R.stretch R.Offset.value (Section.frame section.now bases.now) last.old }
-    ensures last { IsLastCie R.stretch R.Offset.value (Section.frame section.now bases.now) last.new }
+    requires read { Gives (λ fde. fde) read (fde_from_offset (Section.frame section.now bases.now) span.offset) }
+    requires known { Holds R.Offset.value A.fp A.ra (Section.frame section.now bases.now)
+        (Section.extensions section.now) S.limits known.old }
+    ensures known { Holds R.Offset.value A.fp A.ra (Section.frame section.now bases.now)
+        (Section.extensions section.now) S.limits known.new }
     ensures adds { let frame = Section.frame section.now bases.now in
         let t = tabulated A.rows A.rule_of S.limits (Section.extensions section.now) span.base_svma in
         IfOk result (λ _. AddsEntry (t frame) span (fde_from_offset frame span.offset) ranges.old ranges.new) }
 {
-    match fde_at_by_last(section, bases, span.offset, last) {
-        Ok(fde) => add_fde::<A, R, Section, S>(
-            ranges, section, bases, context, &fde, has_room, span,
-        ),
+    match read {
+        Ok(fde) => add_fde::<A, R, Section, S>(ranges, section, bases, context, &fde, known, span),
         Err(_) => extend::<A::UnwindRule>(ranges, span.limit, Covered::Nothing),
     }
 }
@@ -166,8 +159,8 @@ where
     let end = end_of(base_svma);
     let fdes = index.fdes();
     let mut ranges = nothing_up_to::<A::UnwindRule>(alloc, start_at(end, fdes, 0));
-    let has_room = has_room::<R::Offset, S>(alloc)?;
     let mut last = None;
+    let mut known = ByParts::new(has_room::<R::Offset, S>(alloc)?);
     for place in 0..fdes.len() {
         let span = Span {
             base_svma,
@@ -179,8 +172,8 @@ where
             section,
             bases,
             &mut *context,
-            &mut last,
-            has_room,
+            fde_at_by_last(section, bases, span.offset, &mut last),
+            &mut known,
             span,
         )?;
     }

@@ -1,6 +1,7 @@
 //! Tables of the unwind rules that the rows of a section of call frames are, by relative address: a look-up parses nothing.
 #![tactic(auto)]
 
+mod by_parts;
 mod covered;
 mod entry;
 mod fdes;

@@ -7,7 +7,7 @@ ghost use Rattle.dwarf_frame_instructions.specs.ProgramRows.{program_of};
 ghost use Rattle.framehop_ranges.specs.Ranges.{Sound};
 ghost use Rattle.framehop_rows.specs.RowParts.{parts_as, parts_of};
 ghost use Rattle.framehop_tables.specs.Covered.{SaysValid, by_rule, row_rules};
-ghost use Rattle.framehop_tables.specs.PartsStates.{AreApart, AreLeft, AreLeftBy, Executes, HasRoomForParts, Sets};
+ghost use Rattle.framehop_tables.specs.PartsStates.{AreApart, AreLeft, AreLeftBy, Executes, ExecutesNext, HasRoomForParts, Sets};
 ghost use Rattle.framehop_tables.specs.Tabulations.{AddsProgram};
 
 use crate::covered::Covered;
@@ -16,7 +16,9 @@ use crate::parts_state::{Columns, CountedParts, MAX_RULES, PartsState};
 use crate::rows::add_covered;
 use crate::same_rule::SameRule;
 use crate::spans::Span;
-use dwarf_frame_instructions::{CallFrameInstruction, Factors, FrameProgram};
+use dwarf_frame_instructions::{
+    CallFrameInstruction, CallFrameInstructionIter, Factors, FrameProgram,
+};
 use dwarf_frame_rows::{Effect, UnwindContextStorage};
 use dwarf_readers::{Reader, ReaderOffset};
 use dwarf_storage::ArrayLike;
@@ -131,6 +133,93 @@ fn execute<T: ReaderOffset>(
     }
 }
 
+// The same, with code of its own for each of the instructions that most programs have most of.
+#[inline(always)]
+fn execute_frequent<T: ReaderOffset>(
+    state: &mut PartsState<T>,
+    columns: Columns,
+    factors: &Factors,
+    location: u64,
+    instruction: CallFrameInstruction<T>,
+) -> Action
+    ensures { Executes T.value columns factors.now location instruction state.old state.new result }
+{
+    match instruction {
+        CallFrameInstruction::AdvanceLoc { delta } => {
+            let instruction = CallFrameInstruction::AdvanceLoc { delta };
+            execute(state, columns, factors, location, instruction)
+        }
+        CallFrameInstruction::DefCfaOffset { offset } => {
+            let instruction = CallFrameInstruction::DefCfaOffset { offset };
+            execute(state, columns, factors, location, instruction)
+        }
+        CallFrameInstruction::Offset {
+            register,
+            factored_offset,
+        } => {
+            let instruction = CallFrameInstruction::Offset {
+                register,
+                factored_offset,
+            };
+            execute(state, columns, factors, location, instruction)
+        }
+        CallFrameInstruction::Restore { register } => {
+            let instruction = CallFrameInstruction::Restore { register };
+            execute(state, columns, factors, location, instruction)
+        }
+        CallFrameInstruction::RememberState => {
+            let instruction = CallFrameInstruction::RememberState;
+            execute(state, columns, factors, location, instruction)
+        }
+        CallFrameInstruction::RestoreState => {
+            let instruction = CallFrameInstruction::RestoreState;
+            execute(state, columns, factors, location, instruction)
+        }
+        CallFrameInstruction::Nop => {
+            let instruction = CallFrameInstruction::Nop;
+            execute(state, columns, factors, location, instruction)
+        }
+        other => execute(state, columns, factors, location, other),
+    }
+}
+
+// Executes the next instruction without a context, if one is left. One that can't be read is given up.
+#[inline(always)]
+fn execute_next<R: Reader>(
+    state: &mut PartsState<R::Offset>,
+    columns: Columns,
+    factors: &Factors,
+    location: u64,
+    instructions: &mut CallFrameInstructionIter<'_, R>,
+) -> Option<Action>
+    ensures { ExecutesNext R.Offset.value columns factors.now location instructions.old instructions.new
+        state.old state.new result }
+{
+    match instructions.next_if_frequent() {
+        Some(instruction) => Some(execute_frequent(state, columns, factors, location, instruction)),
+        None => execute_rare_next(state, columns, factors, location, instructions),
+    }
+}
+
+// The same for instructions that aren't frequent. It isn't inlined, so that the code for those that are is short.
+#[inline(never)]
+fn execute_rare_next<R: Reader>(
+    state: &mut PartsState<R::Offset>,
+    columns: Columns,
+    factors: &Factors,
+    location: u64,
+    instructions: &mut CallFrameInstructionIter<'_, R>,
+) -> Option<Action>
+    ensures { ExecutesNext R.Offset.value columns factors.now location instructions.old instructions.new
+        state.old state.new result }
+{
+    let Ok(next) = instructions.next() else {
+        return Some(Action::GivesUp);
+    };
+    let instruction = next?;
+    Some(execute(state, columns, factors, location, instruction))
+}
+
 // What parts of a row say: the rule that says them exactly, or else the row itself.
 #[inline(always)]
 fn covered_by_parts<A: RowRules, T: ReaderOffset>(
@@ -172,17 +261,15 @@ where
     let mut location = program.initial_address;
     let mut state = PartsState::new(left);
     'rows: loop {
-        let Ok(next) = instructions.next() else {
-            return Ok(false);
-        };
-        let Some(instruction) = next else {
+        let Some(action) = execute_next(&mut state, columns, &factors, location, &mut instructions)
+        else {
             let covered = covered_by_parts::<A, R::Offset>(&state.current.parts, span.offset);
             add_covered(&mut *ranges, end, span, covered)?;
             let uncovered = Covered::Says(A::rule_if_uncovered_by_fde());
             extend(ranges, span.limit, uncovered)?;
             return Ok(true);
         };
-        match execute(&mut state, columns, &factors, location, instruction) {
+        match action {
             Action::Moves(next) => {
                 let covered = covered_by_parts::<A, R::Offset>(&state.current.parts, span.offset);
                 add_covered(&mut *ranges, next, span, covered)?;

@@ -59,6 +59,56 @@ fn each_first_byte(rt: HostRuntime) -> Result<(), Fail> {
     Ok(())
 }
 
+// Whether an instruction with this opcode is given by `next_if_frequent`.
+fn is_frequent(opcode: u8) -> bool {
+    matches!(opcode, 0x00 | 0x02 | 0x0a | 0x0b | 0x0e | 0x40..=0xff)
+}
+
+#[test]
+fn each_first_byte_if_frequent(rt: HostRuntime) -> Result<(), Fail> {
+    let mut bytes = vec![in rt.alloc(); 0]?;
+    bytes.extend_from_slice(&OPERANDS)?;
+    for opcode in 0u8..=255 {
+        bytes[0] = opcode;
+        if let Some((instruction, count)) = TOLD[opcode as usize] {
+            let mut section = EndianSlice::new(&bytes, LittleEndian);
+            section.truncate(count)?;
+            let mut iter = instructions(&section, &NO_BASES, None, Vendor::AArch64);
+            if is_frequent(opcode) {
+                assert!(rt; iter.next_if_frequent() == Some(instruction));
+            } else {
+                assert!(rt; iter.next_if_frequent() == None);
+                assert!(rt; iter.next() == Ok(Some(instruction)));
+            }
+            assert!(rt; iter.next_if_frequent() == None);
+            assert!(rt; iter.next() == Ok(None));
+        }
+    }
+    Ok(())
+}
+
+#[test]
+fn frequent_ones_cut_short(rt: HostRuntime) -> Result<(), Fail> {
+    let mut bytes = vec![in rt.alloc(); 0]?;
+    bytes.extend_from_slice(&OPERANDS)?;
+    for opcode in 0u8..=255 {
+        bytes[0] = opcode;
+        if let Some((_, count)) = TOLD[opcode as usize] {
+            for short in 0..count {
+                let mut section = EndianSlice::new(&bytes, LittleEndian);
+                section.truncate(short)?;
+                let mut iter = instructions(&section, &NO_BASES, None, Vendor::AArch64);
+                assert!(rt; iter.next_if_frequent() == None);
+                match short {
+                    0 => assert!(rt; iter.next() == Ok(None)),
+                    _ => assert!(rt; matches!(iter.next(), Err(Error::UnexpectedEof(_)))),
+                }
+            }
+        }
+    }
+    Ok(())
+}
+
 #[test]
 fn each_first_byte_cut_short(rt: HostRuntime) -> Result<(), Fail> {
     let mut bytes = vec![in rt.alloc(); 0]?;

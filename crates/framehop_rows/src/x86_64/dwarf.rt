@@ -46,6 +46,7 @@ impl DwarfUnwindRegs for UnwindRegsX86_64 {
 }
 
 // The rule for a CFA that is RSP plus an offset, if RBP stays.
+#[inline(always)]
 fn rule_that_raises(offset: i64) -> Option<UnwindRuleX86_64>
     ensures rule { result ≡ raised_sp offset }
     ensures valid { IfSome result IsValid }
@@ -55,6 +56,7 @@ fn rule_that_raises(offset: i64) -> Option<UnwindRuleX86_64>
 }
 
 // The rule for a CFA that is RSP plus an offset, if RBP is stored at another offset from the CFA.
+#[inline(always)]
 fn rule_that_restores(offset: i64, stored: i64) -> Option<UnwindRuleX86_64>
     ensures rule { result ≡ restored_bp offset stored }
     ensures valid { IfSome result IsValid }
@@ -68,6 +70,7 @@ fn rule_that_restores(offset: i64, stored: i64) -> Option<UnwindRuleX86_64>
 }
 
 // The rule for a CFA that is RSP plus an offset.
+#[inline(always)]
 fn rule_from_sp<T: Copy>(offset: i64, bp: Option<RegisterRule<T>>) -> Option<UnwindRuleX86_64>
     ensures rule { result ≡ from_sp offset bp }
     ensures valid { IfSome result IsValid }
@@ -81,6 +84,7 @@ fn rule_from_sp<T: Copy>(offset: i64, bp: Option<RegisterRule<T>>) -> Option<Unw
 
 // The rule for a CFA that is RBP plus an offset. Only the frame of `push rbp; mov rbp, rsp` has one; rows with
 // other offsets from RBP are evaluated.
+#[inline(always)]
 fn rule_from_bp<T: Copy>(offset: i64, bp: Option<RegisterRule<T>>) -> Option<UnwindRuleX86_64>
     ensures rule { result ≡ from_bp offset bp }
     ensures valid { IfSome result IsValid }
@@ -92,6 +96,7 @@ fn rule_from_bp<T: Copy>(offset: i64, bp: Option<RegisterRule<T>>) -> Option<Unw
 }
 
 // The rule that says parts of a row exactly, if one does.
+#[inline(always)]
 fn translate_into_unwind_rule<T: Copy>(parts: &Parts<T>) -> Option<UnwindRuleX86_64>
     ensures rule { result ≡ scaled_rule parts.now }
     ensures valid { IfSome result IsValid }

@@ -1,4 +1,4 @@
-use Rattle.std.proofs.Common.{Ok, Some, None, cond, refl, sym, ap, ◌∙◌}
+use Rattle.std.proofs.Common.{Ok, Some, None, cond, sym, ap, ◌∙◌}
 use Rattle.std.proofs.lemmas.Result.{err_from_is_err_and}
 use Rattle.dwarf_frame_instructions.specs.ProgramRows.{program_of, rows_left, rows_state}
 use Rattle.dwarf_frame_instructions.specs.Programs.{row_among, rows_after_cie}

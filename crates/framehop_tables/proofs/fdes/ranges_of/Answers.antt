@@ -16,6 +16,7 @@ loop-place-init g c =
     record {
       sound = c.nothing_up_to-ranges.ensures.sound;
       last = tt;
+      known = record { room = λ has. c.in_ok-has_room.ensures (rw c.new-known.ensures.room at has); last = rw c.new-known.ensures.none tt };
       done = c.nothing_up_to-ranges.ensures.done ∙ c.start_at.ensures.start;
       few = omega (arith, c.nothing_up_to-ranges.ensures.none);
       says = λ relative below.
@@ -29,19 +30,20 @@ loop-place-preserved g c =
     let kept = c.fdes-fdes.result.now in
     let up = c.fdes-fdes.ensures.ordered in
     let spans = c.fdes-fdes.ensures.found c.args.base_svma frame c.requires.index in
-    let known = c.loop-place.invariant in
+    let so_far = c.loop-place.invariant in
     let d : IndexedFde = record { start = 0; offset = 0 } in
     let span : Span = record { base_svma = c.args.base_svma; offset = (get_or kept c.loop-place.place d).offset; limit = c.start_at-in-loop-place.result } in
     let within : c.loop-place.place < length kept = omega (arith, c.loop-place-test.true) in
     let limit = rw c.end_of-end.ensures at c.start_at-in-loop-place.ensures.start in
-    let done = rw c.end_of-end.ensures at known.done in
+    let done = rw c.end_of-end.ensures at so_far.done in
     let adds = c.in_ok-add_entry.ensures.adds in
     record {
       sound = adds.sound;
-      last = c.add_entry.ensures.last;
+      last = c.fde_at_by_last.ensures.last;
+      known = c.add_entry.ensures.known;
       done = rw c.end_of-end.ensures (next-done t kept spans up c.loop-place.place d within span c.loop-place.ranges c.add_entry.new.ranges refl refl limit done adds);
-      few = next-few t kept spans up c.loop-place.place d within span c.loop-place.ranges c.add_entry.new.ranges refl refl limit done adds known.few;
-      says = next-says t kept spans up c.loop-place.place d within span c.loop-place.ranges c.add_entry.new.ranges refl refl limit done adds known.says;
+      few = next-few t kept spans up c.loop-place.place d within span c.loop-place.ranges c.add_entry.new.ranges refl refl limit done adds so_far.few;
+      says = next-says t kept spans up c.loop-place.place d within span c.loop-place.ranges c.add_entry.new.ranges refl refl limit done adds so_far.says;
     }
 
 pub returns : goal.returns
@@ -49,7 +51,7 @@ returns g c =
     let frame = g.Section._UnwindSectionPrivate.frame c.args.section.now c.args.bases.now in
     let t = tabulated g.A.DwarfUnwinding.rows g.A.RowRules.rule_of g.S.UnwindContextStorage.limits (g.Section._UnwindSectionPrivate.extensions c.args.section.now) c.args.base_svma frame in
     let spans = c.fdes-fdes.ensures.found c.args.base_svma frame c.requires.index in
-    let known = c.loop-place.invariant in
-    let done = rw c.end_of-end.ensures at known.done in
+    let so_far = c.loop-place.invariant in
+    let done = rw c.end_of-end.ensures at so_far.done in
     subst (λ (kept : List IndexedFde). AreOf t kept c.extend.new.ranges) c.fdes-fdes.ensures.fdes
-    (all-said t c.fdes-fdes.result.now spans c.fdes-fdes.ensures.ordered c.loop-place.place c.loop-place.ranges c.extend.new.ranges (omega arith) c.in_ok-extend.ensures done known.few known.says)
+    (all-said t c.fdes-fdes.result.now spans c.fdes-fdes.ensures.ordered c.loop-place.place c.loop-place.ranges c.extend.new.ranges (omega arith) c.in_ok-extend.ensures done so_far.few so_far.says)

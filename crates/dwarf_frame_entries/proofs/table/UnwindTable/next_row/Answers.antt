@@ -1,5 +1,4 @@
 use Rattle.std.proofs.Common.{Ok, sym, ap, refl, ◌∙◌}
-use Rattle.dwarf_frame_instructions.specs.ProgramRows.{current_row}
 use Rattle.dwarf_frame_entries.proofs.UnwindTables.{gave_one}
 use Rattle.dwarf_frame_entries.proofs.table.UnwindTable.next_row.Goals as goal
 

@@ -3,7 +3,7 @@ use Rattle.dwarf_frame_instructions.specs.Execution.{state_in}
 use Rattle.dwarf_frame_instructions.specs.InstructionViews.{conventions_by}
 use Rattle.dwarf_frame_instructions.specs.Instructions.{instructions_of}
 use Rattle.dwarf_frame_instructions.specs.ProgramRows.{instructions_left}
-use Rattle.dwarf_frame_instructions.proofs.Execution.{end_in, ended_before, ended_in, ended_last, factors_in, given_in, moved_on, next_in, refused_here}
+use Rattle.dwarf_frame_instructions.proofs.Execution.{end_in, ended_in, ended_last, factors_in, given_in, moved_on, next_in, refused_here}
 use Rattle.dwarf_frame_instructions.proofs.rows.ProgramRows.advance.Goals as goal
 
 pub returns-in-Ok-Some-clause-row : goal.returns-in-Ok-Some-clause-row

@@ -1,0 +1,76 @@
+//! Which programs are executed without a context. What a CIE's own instructions leave is kept for the FDEs after it: most have the CIE of
+//! the FDE before.
+
+ghost use Rattle.std.specs.Prelude.{◌≡◌, None, Ok, IfSome};
+ghost use Rattle.dwarf_frame_entries.specs.Entries.{cie_from_offset};
+ghost use Rattle.dwarf_frame_entries.specs.EntryPrograms.{fde_program};
+ghost use Rattle.framehop_tables.specs.ByParts.{HasRoomFor, HoldsBy};
+
+use crate::parts_rows::parts_left;
+use crate::parts_state::{Columns, CountedParts};
+use dwarf_frame_entries::{
+    BaseAddresses, FrameDescriptionEntry, UnwindContextStorage, UnwindSection,
+};
+use dwarf_readers::{Reader, ReaderOffset};
+
+// What the own instructions of a CIE leave, if that is known without a context.
+#[derive(Clone, Copy)]
+pub(crate) struct LeftByCie<T> {
+    // The CIE's offset in its section, in bytes.
+    pub(crate) offset: u64,
+    pub(crate) left: Option<CountedParts<T>>,
+}
+
+// What is known for executing programs without a context.
+#[derive(Clone, Copy)]
+pub(crate) struct ByParts<T> {
+    // A context has room for all of their rows.
+    pub(crate) has_room: bool,
+    // What is left by the CIE whose own instructions were executed last.
+    pub(crate) last: Option<LeftByCie<T>>,
+}
+
+impl<T: ReaderOffset> ByParts<T> {
+    // Before any CIE.
+    pub(crate) fn new(has_room: bool) -> Self
+        ensures room { result.has_room ≡ has_room }
+        ensures none { result.last ≡ None }
+    {
+        ByParts {
+            has_room,
+            last: None,
+        }
+    }
+}
+
+// What the own instructions of an FDE's CIE leave, if that is known without a context and there is room. They are executed only if that
+// CIE's weren't the last that were.
+#[inline(always)]
+pub(crate) fn left_by_cie<R: Reader, Section: UnwindSection<R>, S: UnwindContextStorage<R::Offset>>(
+    columns: Columns,
+    section: &Section,
+    bases: &BaseAddresses,
+    fde: &FrameDescriptionEntry<R>,
+    known: &mut ByParts<R::Offset>,
+) -> Option<CountedParts<R::Offset>>
+    requires there { cie_from_offset (Section.frame section.now bases.now) fde.now.cie.head.offset ≡ Ok fde.now.cie }
+    requires known { HoldsBy R.Offset.value columns (Section.frame section.now bases.now)
+        (Section.extensions section.now) S.limits known.old }
+    ensures known { HoldsBy R.Offset.value columns (Section.frame section.now bases.now)
+        (Section.extensions section.now) S.limits known.new }
+    ensures left { IfSome result (HasRoomFor R.Offset.value columns S.limits
+        (fde_program (Section.frame section.now bases.now) (Section.extensions section.now) fde.now)) }
+{
+    if !known.has_room {
+        return None;
+    }
+    let offset = fde.cie().offset().into_u64();
+    if let Some(last) = known.last
+        && last.offset == offset
+    {
+        return last.left;
+    }
+    let left = parts_left(columns, fde.program(section, bases));
+    known.last = Some(LeftByCie { offset, left });
+    left
+}
