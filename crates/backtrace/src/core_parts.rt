@@ -44,19 +44,21 @@ fn is_read(segment: &Segment) -> bool {
     matches!(segment.kind, SegmentKind::Load | SegmentKind::Note)
 }
 
-// How many bytes the segments have that are read; none if one of them isn't all in the file of this size.
-fn segments_size(elf: &ElfFile<'_>, size: u64) -> Result<Option<u64>, ElfError> {
+// How many bytes of a segment are in the file of this size: fewer than the segment has, if the file was cut off.
+fn size_left(segment: &Segment, size: u64) -> u64 {
+    segment.file_size.min(size.saturating_sub(segment.offset))
+}
+
+// How many bytes of the segments that are read are in the file of this size.
+fn segments_size(elf: &ElfFile<'_>, size: u64) -> Result<u64, ElfError> {
     let mut all = 0u64;
     for index in 0..elf.segment_count() {
         let segment = elf.segment(index)?;
         if is_read(&segment) {
-            if segment.offset.saturating_add(segment.file_size) > size {
-                return Ok(None);
-            }
-            all = all.saturating_add(segment.file_size);
+            all = all.saturating_add(size_left(&segment, size));
         }
     }
-    Ok(Some(all))
+    Ok(all)
 }
 
 // Adds the bytes of a block, page by page, so that of a stack only the pages that were used take memory.
@@ -67,28 +69,32 @@ fn push_pages(bytes: &mut SegmentBytes, block: &[u8]) -> Result<(), AllocError> 
     Ok(())
 }
 
-// The bytes of a segment, block by block.
-fn read_segment(rt: &HostRuntime, file: &File, segment: &Segment) -> Result<SegmentBytes> {
+// So many bytes from an offset of a file on, block by block.
+fn read_segment(rt: &HostRuntime, file: &File, offset: u64, size: u64) -> Result<SegmentBytes> {
     let mut bytes = SegmentBytes::new(rt.alloc());
     let mut block = Vec::new(rt.alloc());
-    block.resize(segment.file_size.min(BLOCK_SIZE) as usize, 0)?;
-    for number in 0..segment.file_size.div_ceil(BLOCK_SIZE) {
+    block.resize(size.min(BLOCK_SIZE) as usize, 0)?;
+    for number in 0..size.div_ceil(BLOCK_SIZE) {
         let before = number.saturating_mul(BLOCK_SIZE);
-        let size = segment.file_size.saturating_sub(before).min(BLOCK_SIZE);
-        let part = &mut block[..size as usize];
-        file.read_exact_at(part, segment.offset.saturating_add(before))?;
+        let part = &mut block[..size.saturating_sub(before).min(BLOCK_SIZE) as usize];
+        file.read_exact_at(part, offset.saturating_add(before))?;
         push_pages(&mut bytes, part)?;
     }
     Ok(bytes)
 }
 
-// The bytes of the segments that are read, at the index of each.
-fn read_segments(rt: &HostRuntime, file: &File, elf: &ElfFile<'_>) -> Result<Vec<SegmentBytes>> {
+// The bytes of the segments that are read, at the index of each, as far as the file of this size has them.
+fn read_segments(
+    rt: &HostRuntime,
+    file: &File,
+    elf: &ElfFile<'_>,
+    size: u64,
+) -> Result<Vec<SegmentBytes>> {
     let mut segments = Vec::new(rt.alloc());
     for index in 0..elf.segment_count() {
         let segment = elf.segment(index)?;
         segments.push(if is_read(&segment) {
-            read_segment(rt, file, &segment)?
+            read_segment(rt, file, segment.offset, size_left(&segment, size))?
         } else {
             SegmentBytes::new(rt.alloc())
         })?;
@@ -96,9 +102,9 @@ fn read_segments(rt: &HostRuntime, file: &File, elf: &ElfFile<'_>) -> Result<Vec
     Ok(segments)
 }
 
-/// Reads a core in parts; none if it has to be read whole: if it isn't a regular file or not a core, if its headers or segments
-/// aren't all there, or if that would be to read more than the file, some of it twice. A file that isn't a regular one isn't opened,
-/// since a pipe can be read only once.
+/// Reads a core in parts; none if it has to be read whole: if it isn't a regular file or not a core, if its headers aren't all there,
+/// or if that would be to read more than the file, some of it twice. A file that isn't a regular one isn't opened, since a pipe can be
+/// read only once.
 pub(crate) fn read_parts(rt: &HostRuntime, path: &str) -> Result<Option<CoreParts>> {
     let metadata = fs::metadata(rt, path)?;
     let size = metadata.len();
@@ -118,8 +124,8 @@ pub(crate) fn read_parts(rt: &HostRuntime, path: &str) -> Result<Option<CorePart
         return Ok(None);
     };
     match segments_size(&elf, size) {
-        Ok(Some(all)) if end.saturating_add(all) <= size => {
-            let segments = read_segments(rt, &file, &elf)?;
+        Ok(all) if end.saturating_add(all) <= size => {
+            let segments = read_segments(rt, &file, &elf, size)?;
             Ok(Some(CoreParts { head, segments }))
         }
         _ => Ok(None),

@@ -69,6 +69,10 @@ fn print_stacks(
             return Ok(ExitCode::from(FAULTY));
         }
     }
+    if core.is_cut_off() {
+        let path = request.core;
+        eprintln!(rt; "backtrace: {path}: cut off: a part of the memory is lost")?;
+    }
     let files = read_files(rt, request.root, core.mapped_files())?;
     for file in &files {
         say_if_missing(rt, core, file)?;

@@ -1,11 +1,14 @@
 -- The range that contains an address, among ranges in memory.
-use Rattle.std.proofs.Common.{◌≡◌, ℕ, ◌+◌, ◌-◌, ◌<◌, ◌≤◌, true, false, List, length, get_or, subst, ap, sym, ◌∙◌, arith}
-use Rattle.std.specs.Prelude.{nat_le, Some, None}
+use Rattle.std.proofs.Common.{◌≡◌, ℕ, ◌+◌, ◌-◌, ◌<◌, ◌≤◌, true, false, List, [], length, get_or, subst, ap, sym, ◌∙◌, arith}
+use Rattle.std.specs.Prelude.{nat_le, nat_lt, Some, None}
 use Rattle.std.specs.List.{AllWithin, AllAdjacentBelow}
 use Rattle.std.specs.List.Sorted.{IsPartitionedBy, IsPartitionPoint}
+use Rattle.std.proofs.lemmas.Bool.Decides.{nat_tests}
 use Rattle.std.proofs.lemmas.List.{get_or-map, length-map}
+use Rattle.std.proofs.lemmas.List.Elements.{All-from_get_or}
+use Rattle.std.proofs.lemmas.List.Folds.{list_any_at, list_any_none}
 use Rattle.core_files.specs.declared.memory_range.MemoryRange.{MemoryRange}
-use Rattle.core_files.specs.Ranges.{KnownRange, contains, range_at, BeginAtOrBelow, IsBefore, IsIncreasing}
+use Rattle.core_files.specs.Ranges.{KnownRange, any_loses, contains, range_at, BeginAtOrBelow, IsBefore, IsIncreasing}
 use Rattle.core_files.specs.RangeViews.{range_seen, ranges_seen}
 use Rattle.core_files.proofs.Mapped.{mapped-all, mapped-adjacent, mapped-back}
 use Rattle.core_files.proofs.RangeLaws.{pass-here, pass-end, starts-in-order, halves-none, halves-here, halves-missed}
@@ -26,6 +29,19 @@ module _ (ranges : List MemoryRange) where
       let before = mapped-back range_seen IsBefore ranges (length ranges) (next - 1) d (omega arith) (λ k e h. up k e (omega (arith, count))) (omega arith) in
       let same : (get_or ranges (next - 1 + 1) d).address ≡ (get_or ranges next d).address = ap (λ (k : ℕ). (get_or ranges k d).address) (omega arith) in
       not (omega (arith, before, same))
+
+  -- whether bytes were lost
+  pub seen-loses : (i : ℕ) (d : MemoryRange) → i < length ranges → 0 < (get_or ranges i d).lost → true ≡ any_loses (ranges_seen ranges)
+  seen-loses i d within some =
+      let here : nat_lt 0 (get_or ranges i d).lost ≡ true = grind (arith, nat_tests) in
+      sym (list_any_at (λ (range : KnownRange). nat_lt 0 range.lost) (ranges_seen ranges) i (range_seen d) (omega (arith, count)) (ap (λ (range : KnownRange). nat_lt 0 range.lost) (at i d within) ∙ here))
+
+  pub seen-loses-none : (high : ℕ) → length ranges ≤ high → AllWithin (λ range. nat_lt 0 range.lost ≡ false) ranges 0 high → false ≡ any_loses (ranges_seen ranges)
+  seen-loses-none high le none =
+      let nothing : KnownRange = record { address = 0; size = 0; bytes = []; lost = 0 } in
+      let all = mapped-all range_seen (λ (range : KnownRange). nat_lt 0 range.lost ≡ false) ranges 0 (length ranges) (omega arith) (λ k e a b. none k e a (omega arith)) in
+      sym (list_any_none (λ (range : KnownRange). nat_lt 0 range.lost) (ranges_seen ranges)
+      (All-from_get_or (λ (range : KnownRange). nat_lt 0 range.lost ≡ false) (ranges_seen ranges) nothing (λ i h. all i nothing (omega arith) (omega (arith, count)))))
 
   module _ (address : ℕ) where
     -- by a pass

@@ -1,5 +1,5 @@
 -- What segments have, one by one.
-use Rattle.std.proofs.Common.{◌≡◌, ℕ, suc, ◌+◌, ◌-◌, ◌<◌, List, [], ◌∷◌, ◌++◌, refl, ap, ◌∙◌, append_assoc, arith}
+use Rattle.std.proofs.Common.{◌≡◌, ℕ, suc, ◌+◌, ◌-◌, ◌<◌, List, [], ◌∷◌, ◌++◌, length, refl, ap, ◌∙◌, append_assoc, arith}
 use Rattle.std.proofs.lemmas.List.{map-append}
 use Rattle.std.specs.Prelude.{Result, Ok, Err}
 use Rattle.elf_files.specs.Bytes.{ElfResult}
@@ -76,12 +76,12 @@ module _ {A : Type 0} (part : Segment → ElfResult (List A)) (bytes : List ℕ)
 
 module _ (read : Segment → ElfResult (List ℕ)) (segment : Segment) where
   abbrev loaded : ElfResult (List KnownRange)
-  loaded = result_and_then (read segment) (λ found. Ok (record { address = segment.address; size = segment.memory_size; bytes = found } ∷ []))
+  loaded = result_and_then (read segment) (λ found. Ok (record { address = segment.address; size = segment.memory_size; bytes = found; lost = segment.file_size - length found } ∷ []))
 
   pub loaded-other : (segment.kind ≡ Load → ⊥) → loaded_in read segment ≡ Ok []
   loaded-other differs = load-other loaded (Ok []) segment.kind differs
 
-  pub loaded-here : (found : List ℕ) → segment.kind ≡ Load → read segment ≡ Ok found → loaded_in read segment ≡ Ok (record { address = segment.address; size = segment.memory_size; bytes = found } ∷ [])
+  pub loaded-here : (found : List ℕ) → segment.kind ≡ Load → read segment ≡ Ok found → loaded_in read segment ≡ Ok (record { address = segment.address; size = segment.memory_size; bytes = found; lost = segment.file_size - length found } ∷ [])
   loaded-here found is at = load-is loaded (Ok []) segment.kind is ∙ rw at refl
 
   abbrev noted : ElfResult (List NoteParts)

@@ -9,8 +9,8 @@ use Rattle.std.proofs.lemmas.Option.{slice_get-get_or}
 use Rattle.dwarf_endianity.specs.ByteOrder.{little_endian}
 use Rattle.elf_files.specs.Bytes.{number_at}
 use Rattle.core_files.specs.Bytes.{u64_at}
-use Rattle.core_files.specs.Memory.{byte_among, byte_at, bytes_from, word_at}
-use Rattle.core_files.specs.Ranges.{KnownRange, after_zeros, byte_in, contains, file_in, range_at, IsIncreasing}
+use Rattle.core_files.specs.Memory.{byte_among, byte_at, byte_left_out, bytes_from, is_lost, word_at}
+use Rattle.core_files.specs.Ranges.{KnownRange, after_zeros, byte_in, contains, file_in, loses, range_at, IsIncreasing}
 use Rattle.core_files.proofs.RangeLaws.{found-again}
 
 -- ---- bytes after zeros
@@ -58,7 +58,13 @@ pub byte-here : (segments files : List KnownRange) (address byte : ℕ) → Some
 unfolding byte_at
 byte-here segments files address byte here = rw (← here) refl
 
-pub byte-left-out : (segments files : List KnownRange) (address : ℕ) → None ≡ byte_among segments address → byte_among files address ≡ byte_at segments files address
+pub lost-none : (ranges : List KnownRange) (address : ℕ) → None ≡ range_at ranges address → false ≡ is_lost ranges address
+lost-none ranges address none = rw (← none, is_lost) refl
+
+pub lost-here : (ranges : List KnownRange) (address : ℕ) (range : KnownRange) → Some range ≡ range_at ranges address → loses address range ≡ is_lost ranges address
+lost-here ranges address range at = rw (← at, is_lost) refl
+
+pub byte-left-out : (segments files : List KnownRange) (address : ℕ) → None ≡ byte_among segments address → byte_left_out segments files address ≡ byte_at segments files address
 unfolding byte_at
 byte-left-out segments files address none = rw (← none) refl
 

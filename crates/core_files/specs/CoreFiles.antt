@@ -1,5 +1,5 @@
 -- Core files (System V gABI, "ELF Header", ET_CORE; "Program Header"): loaded segments, and notes.
-use Rattle.std.specs.Prelude.{◌≡◌, ℕ, zero, suc, ◌+◌, ◌^◌, ◌<◌, ◌==◌, nat_lt, List, [], ◌∷◌, ◌++◌, length, slice_get, Some, None, Result, Ok, Err}
+use Rattle.std.specs.Prelude.{◌≡◌, ℕ, zero, suc, ◌+◌, ◌-◌, ◌^◌, ◌<◌, ◌≤◌, ◌==◌, nat_le, nat_lt, Bool, List, [], ◌∷◌, ◌++◌, length, drop, take, slice_get, Some, None, Result, Ok, Err}
 use Rattle.elf_files.specs.Bytes.{ElfResult, unless}
 use Rattle.elf_files.specs.Header.{header_of}
 use Rattle.elf_files.specs.Notes.{NoteParts, notes_with}
@@ -14,7 +14,7 @@ use Rattle.core_files.specs.declared.error.CoreError.TheVariants.{NotCore}
 use Rattle.core_files.specs.declared.thread.Thread.{Thread}
 use Rattle.core_files.specs.MappedFiles.{FileMapping}
 use Rattle.core_files.specs.Notes.{threads_of, files_of, auxv_of}
-use Rattle.core_files.specs.Ranges.{KnownRange, after_zeros}
+use Rattle.core_files.specs.Ranges.{KnownRange, after_zeros, any_loses}
 use Rattle.core_files.specs.Refusals.{CoreResult, result_and_then, then_more, one, by_elf}
 
 -- All values, or the first error.
@@ -31,11 +31,15 @@ gather give first (suc count) = then_more (give first) (gather give (first + 1) 
 abbrev pub SegmentReader : Type 0
 SegmentReader = ℕ → Segment → ElfResult (List ℕ)
 
+-- The bytes that a file has of a segment: of a file that was cut off, fewer than the program header says.
+abbrev pub bytes_left : List ℕ → Segment → List ℕ
+bytes_left bytes segment = take segment.file_size (drop segment.offset bytes)
+
 -- What a loaded segment has in memory, by its bytes.
 abbrev pub loaded_in : (Segment → ElfResult (List ℕ)) → Segment → ElfResult (List KnownRange)
 loaded_in read segment = elim segment.kind [
   | Load ↦ result_and_then (read segment) (λ found.
-      Ok (record { address = segment.address; size = segment.memory_size; bytes = found } ∷ []))
+      Ok (record { address = segment.address; size = segment.memory_size; bytes = found; lost = segment.file_size - length found } ∷ []))
   | _ ↦ Ok []
 ]
 
@@ -81,9 +85,13 @@ core_by loaded noted bytes =
     result_and_then (files_of 0 notes) (λ files.
     Ok (record { machine = header.machine; segments = segments; threads = threads; files = files; auxv = auxv_of notes }))))))
 
--- The same of a whole file.
+-- The same of a file, of which the end of the loaded segments may be missing.
 abbrev pub core_of : List ℕ → CoreResult CoreContents
-core_of bytes = core_by (λ index. segment_bytes bytes) (λ index. segment_bytes bytes) bytes
+core_of bytes = core_by (λ index segment. Ok (bytes_left bytes segment)) (λ index. segment_bytes bytes) bytes
+
+-- A core was cut off: some bytes of its loaded segments were lost.
+abbrev pub is_cut_off : CoreContents → Bool
+is_cut_off core = any_loses core.segments
 
 -- ---- a file that is read in parts: its program headers, and the bytes of each segment
 
@@ -96,37 +104,45 @@ pub record KnownPart : Type 0 where
 abbrev pub part_bytes : KnownPart → List ℕ
 part_bytes part = after_zeros part.zeros part.bytes
 
--- A part has the bytes of a segment, as many as its program header says.
+-- A part has bytes of a segment: no more than its program header says.
 abbrev pub IsPartOf : KnownPart → Segment → Type 0
-IsPartOf part segment = (segment.offset + segment.file_size < 2 ^ 64) × (length (part_bytes part) ≡ segment.file_size)
+IsPartOf part segment = (segment.offset + segment.file_size < 2 ^ 64) × (length (part_bytes part) ≤ segment.file_size)
 
 -- What comes next if that is so.
 abbrev pub if_part : {A : Type 0} → KnownPart → Segment → ElfResult A → ElfResult A
 if_part part segment next =
     unless (nat_lt (segment.offset + segment.file_size) (2 ^ 64)) (Truncated segment.offset) (
-    unless (length (part_bytes part) == segment.file_size) (Truncated segment.offset) next)
+    unless (nat_le (length (part_bytes part)) segment.file_size) (Truncated segment.offset) next)
 
--- The bytes of the segment with a number.
+-- The bytes of the loaded segment with a number: of a core that was cut off, fewer than the program header says.
 abbrev pub loaded_apart : List KnownPart → SegmentReader
 loaded_apart parts index segment = elim (slice_get parts index) [
   | None ↦ Err (Truncated segment.offset)
   | Some part ↦ if_part part segment (Ok (part_bytes part))
 ]
 
--- The same, if none of them are kept as a number of zeros.
+-- Those of the segment of notes with a number, if they are all there, and none of them are kept as a number of zeros.
 abbrev pub noted_apart : List KnownPart → SegmentReader
 noted_apart parts index segment = elim (slice_get parts index) [
   | None ↦ Err (Truncated segment.offset)
-  | Some part ↦ if_part part segment (unless (part.zeros == 0) (Truncated segment.offset) (Ok part.bytes))
+  | Some part ↦ if_part part segment (
+      unless (part.zeros == 0) (Truncated segment.offset) (
+      unless (length part.bytes == segment.file_size) (Truncated segment.offset) (Ok part.bytes)))
 ]
 
 -- What the parts say.
 abbrev pub core_in_parts : List ℕ → List KnownPart → CoreResult CoreContents
 core_in_parts head parts = core_by (loaded_apart parts) (noted_apart parts) head
 
--- A file has these parts: it begins with these bytes, and has those of each segment where its program header says.
-abbrev pub HasParts : List ℕ → List ℕ → List KnownPart → Type 0
-HasParts bytes head parts =
-    ((rest : List ℕ) × (bytes ≡ head ++ rest))
-    × ((header : Header) (index : ℕ) (segment : Segment) (found : List ℕ) → header_of head ≡ Ok header → index < header.segment_count
-    → segment_at head header index ≡ Ok segment → loaded_apart parts index segment ≡ Ok found → segment_bytes bytes segment ≡ Ok found)
+-- This is the segment with an index.
+abbrev pub IsSegment : List ℕ → ℕ → Segment → Type 0
+IsSegment head index segment =
+    (header : Header) × (header_of head ≡ Ok header) × (index < header.segment_count) × (segment_at head header index ≡ Ok segment)
+
+-- A file has these parts: it begins with these bytes, and has those of each loaded segment and of each segment of notes.
+pub record HasParts (bytes head : List ℕ) (parts : List KnownPart) : Type 0 where
+  pub begins : (rest : List ℕ) × (bytes ≡ head ++ rest)
+  pub loaded : (index : ℕ) (segment : Segment) (found : List ℕ) → IsSegment head index segment → segment.kind ≡ Load
+      → loaded_apart parts index segment ≡ Ok found → bytes_left bytes segment ≡ found
+  pub noted : (index : ℕ) (segment : Segment) (found : List ℕ) → IsSegment head index segment → segment.kind ≡ Note
+      → noted_apart parts index segment ≡ Ok found → segment_bytes bytes segment ≡ Ok found

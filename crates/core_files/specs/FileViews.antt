@@ -12,7 +12,7 @@ mapping_of file = record { start = file.start; end = file.end; offset = file.off
 
 -- The addresses of a mapping, with the bytes of the file that are mapped there.
 abbrev pub mapped_range : FileMapping → List ℕ → KnownRange
-mapped_range file bytes = record { address = file.start; size = file.end - file.start; bytes = drop file.offset bytes }
+mapped_range file bytes = record { address = file.start; size = file.end - file.start; bytes = drop file.offset bytes; lost = 0 }
 
 -- How many files are left.
 abbrev pub count_left : MappedFiles → ℕ

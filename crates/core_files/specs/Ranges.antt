@@ -1,17 +1,18 @@
 -- Ranges of addresses, each with the bytes of its first addresses, as far as they are known.
 use Rattle.std.specs.Prelude.{ℕ, ◌≡◌, ◌+◌, ◌-◌, ◌≤◌, ◌==◌, ◌&&◌, Bool, true, false, nat_le, nat_lt, if◌then◌else◌, List, ◌++◌, length, drop, replicate, slice_get, slice_index_or, Option, Some, None}
-use Rattle.std.specs.List.{find, AllAdjacentBelow}
+use Rattle.std.specs.List.{find, list_any, AllAdjacentBelow}
 use Rattle.std.specs.List.Sorted.{IsPartitionPoint}
 
 -- So many zeros, and then other bytes.
 abbrev pub after_zeros : ℕ → List ℕ → List ℕ
 after_zeros zeros bytes = replicate zeros 0 ++ bytes
 
--- A range: its first address, how many addresses it has, and the bytes of the first ones.
+-- A range: its first address, how many addresses it has, the bytes of the first ones, and how many after these were lost.
 pub record KnownRange : Type 0 where
   pub address : ℕ
   pub size : ℕ
   pub bytes : List ℕ
+  pub lost : ℕ
 
 -- An address is in a range.
 abbrev pub contains : ℕ → KnownRange → Bool
@@ -24,6 +25,16 @@ range_at ranges address = find (contains address) ranges
 -- The byte at an address that a range contains, if it is known.
 abbrev pub byte_in : ℕ → KnownRange → Option ℕ
 byte_in address range = slice_get range.bytes (address - range.address)
+
+-- The byte at an address that a range contains was lost.
+abbrev pub loses : ℕ → KnownRange → Bool
+loses address range =
+    let offset = address - range.address in
+    nat_le (length range.bytes) offset && nat_lt offset (length range.bytes + range.lost)
+
+-- Some bytes of one of the ranges were lost.
+abbrev pub any_loses : List KnownRange → Bool
+any_loses ranges = list_any (λ range. nat_lt 0 range.lost) ranges
 
 -- The bytes of a range from an address on, if it has that one, and an ELF file can begin there (gABI, "ELF Identification": EI_MAG0).
 abbrev pub file_in : ℕ → KnownRange → Option (List ℕ)

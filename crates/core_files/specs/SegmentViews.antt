@@ -1,12 +1,12 @@
 -- What contracts see of the bytes of segments.
-use Rattle.std.specs.Prelude.{ℕ, ◌==◌, ◌&&◌, Bool, true, List, [], ◌∷◌, map, Option, Some, None}
+use Rattle.std.specs.Prelude.{ℕ, ◌==◌, ◌&&◌, Bool, true, List, [], ◌∷◌, map, Option, Some, None, Ok}
 use Rattle.elf_files.specs.Notes.{NoteParts}
 use Rattle.elf_files.specs.Segments.{segment_bytes}
 use Rattle.elf_files.specs.declared.file.ElfFile.{ElfFile}
 use Rattle.elf_files.specs.declared.note.Note.{Note}
 use Rattle.core_files.specs.declared.memory_range.MemoryRange.{MemoryRange}
 use Rattle.core_files.specs.declared.segment_bytes.SegmentBytes.{SegmentBytes}
-use Rattle.core_files.specs.CoreFiles.{CoreContents, KnownPart, SegmentReader, core_by, core_notes, in_segment, loaded_apart, loaded_in, loaded_ranges, noted_apart, notes_in, part_bytes}
+use Rattle.core_files.specs.CoreFiles.{CoreContents, KnownPart, SegmentReader, bytes_left, core_by, core_notes, in_segment, loaded_apart, loaded_in, loaded_ranges, noted_apart, notes_in, part_bytes}
 use Rattle.core_files.specs.Ranges.{KnownRange}
 use Rattle.core_files.specs.NoteViews.{notes_seen}
 use Rattle.core_files.specs.RangeViews.{ranges_seen}
@@ -31,8 +31,8 @@ parts_seen parts = map part_seen parts
 
 -- Where the bytes of loaded segments are: among those that were read apart, or else in the file.
 abbrev pub loaded_by : Option (List SegmentBytes) → List ℕ → SegmentReader
-loaded_by None bytes index = segment_bytes bytes
-loaded_by (Some parts) bytes index = loaded_apart (parts_seen parts) index
+loaded_by None bytes index segment = Ok (bytes_left bytes segment)
+loaded_by (Some parts) bytes index segment = loaded_apart (parts_seen parts) index segment
 
 -- Where the bytes of segments with notes are, likewise.
 abbrev pub noted_by : Option (List SegmentBytes) → List ℕ → SegmentReader

@@ -3,7 +3,7 @@
 ghost use Rattle.std.specs.Prelude.{◌≡◌, IfOk};
 ghost use Rattle.core_files.specs.Auxv.{auxiliary_value};
 ghost use Rattle.std.specs.Option.{option_copied};
-ghost use Rattle.core_files.specs.CoreFiles.{core_in_parts, core_of};
+ghost use Rattle.core_files.specs.CoreFiles.{core_in_parts, core_of, is_cut_off};
 ghost use Rattle.core_files.specs.HeaderViews.{IsCore};
 ghost use Rattle.core_files.specs.NoteViews.{mappings_of};
 ghost use Rattle.core_files.specs.RangeViews.{ranges_seen};
@@ -16,6 +16,7 @@ use crate::mapped_files::MappedFile;
 use crate::memory::Memory;
 use crate::memory_range::MemoryRange;
 use crate::notes::{auxv_of, files_of, threads_of};
+use crate::ranges::any_loses;
 use crate::segment_bytes::SegmentBytes;
 use crate::segments::{core_notes, loaded_ranges};
 use crate::thread::Thread;
@@ -69,8 +70,8 @@ impl<'a> CoreFile<'a> {
         })
     }
 
-    /// The core file with these bytes, which are read in place. Fails with the first refusal of the header, the loaded segments,
-    /// the notes, the threads and the mapped files, or if memory is refused.
+    /// The core file with these bytes, which are read in place. Fails with the first refusal of the header, the program headers, the
+    /// notes, the threads and the mapped files, or if memory is refused. Loaded segments may be cut off.
     pub fn parse(alloc: Global, bytes: &'a [u8]) -> Result<Self, CoreError>
         ensures { Gives contents_of result (core_of bytes.now) }
     {
@@ -97,6 +98,14 @@ impl<'a> CoreFile<'a> {
         ensures { result ≡ (contents_of self.now).machine }
     {
         self.machine
+    }
+
+    /// Whether the core was cut off: it doesn't have all bytes of its loaded segments, as where a limit of its size was met. What it lost is
+    /// no part of the memory.
+    pub fn is_cut_off(&self) -> bool
+        ensures { result ≡ is_cut_off (contents_of self.now) }
+    {
+        any_loses(self.segments.as_slice())
     }
 
     /// The loaded segments, in the order of the program headers.

@@ -35,6 +35,7 @@ impl MappedFile<'_> {
             size: self.end.saturating_sub(self.start),
             zeros: 0,
             bytes: bytes_after(file, offset),
+            lost: 0,
         }
     }
 }

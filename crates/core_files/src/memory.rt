@@ -1,6 +1,7 @@
 //! The memory of a process.
 
 ghost use Rattle.std.specs.Prelude.{◌≡◌, ◌≤◌, ◌+◌, ◌^◌, Some, IsTrue, IfSome};
+ghost use Rattle.core_files.specs.Memory.{byte_left_out};
 ghost use Rattle.core_files.specs.RangeViews.{ranges_seen};
 ghost use Rattle.core_files.specs.Ranges.{IsIncreasing};
 
@@ -34,14 +35,24 @@ impl<'m, 'a> Memory<'m, 'a> {
         }
     }
 
-    /// The byte at an address, if it is known: that of the first segment that contains it, or if the core left it out, that of
-    /// the first mapped file that contains it.
+    // The byte that a mapped file has at an address, if the core didn't lose it.
+    fn byte_left_out(&self, address: u64) -> Option<u8>
+        ensures { result ≡ byte_left_out (segments_of self.now) (files_of self.now) address }
+    {
+        if self.segments.loses(address) {
+            return None;
+        }
+        self.files.byte(address)
+    }
+
+    /// The byte at an address, if it is known: that of the first segment that contains it, or if the core left it out and didn't
+    /// lose it, that of the first mapped file that contains it.
     pub fn byte(&self, address: u64) -> Option<u8>
         ensures { result ≡ byte_of self.now address }
     {
         match self.segments.byte(address) {
             Some(byte) => Some(byte),
-            None => self.files.byte(address),
+            None => self.byte_left_out(address),
         }
     }
 

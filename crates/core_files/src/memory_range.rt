@@ -2,13 +2,13 @@
 
 ghost use Rattle.std.specs.Prelude.{◌≡◌, ◌≤◌, ◌↔◌, ◌+◌, IsTrue};
 ghost use Rattle.std.specs.Option.{option_copied};
-ghost use Rattle.core_files.specs.Ranges.{contains, byte_in, file_in, IsBefore};
+ghost use Rattle.core_files.specs.Ranges.{contains, byte_in, file_in, loses, IsBefore};
 ghost use Rattle.core_files.specs.RangeViews.{range_seen};
 
 use crate::bytes::bytes_after;
 
 /// A range of addresses, and the bytes at its first addresses, as far as they are known: so many zeros, and then those of a
-/// slice. Bytes beyond the range's size are none of its.
+/// slice. Bytes beyond the range's size are none of its. Of a core that was cut off the bytes after them are lost.
 #[derive(Clone, Copy, Debug)]
 pub struct MemoryRange<'a> {
     /// The first address.
@@ -19,6 +19,8 @@ pub struct MemoryRange<'a> {
     pub zeros: u64,
     /// The bytes after these zeros.
     pub bytes: &'a [u8],
+    /// How many bytes after these the core lost.
+    pub lost: u64,
 }
 
 // What an ELF file begins with (EI_MAG0).
@@ -53,6 +55,18 @@ impl<'a> MemoryRange<'a> {
         ensures { IsTrue result ↔ IsBefore (range_seen self.now) (range_seen next.now) }
     {
         self.address <= next.address && self.size <= next.address - self.address
+    }
+
+    // Whether the byte at an address was lost.
+    pub(crate) fn loses(&self, address: u64) -> bool
+        requires { self.now.address ≤ address }
+        ensures { result ≡ loses address (range_seen self.now) }
+    {
+        let known = self.bytes.len() as u64;
+        match (address - self.address).checked_sub(self.zeros) {
+            Some(at) => known <= at && at - known < self.lost,
+            None => false,
+        }
     }
 
     // The byte at an address, if it is known.

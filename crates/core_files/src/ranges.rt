@@ -2,8 +2,8 @@
 
 ghost use Rattle.std.specs.Prelude.{◌≡◌, ◌↔◌, ◌≤◌, length, nat_le, IsTrue, IfSome};
 ghost use Rattle.std.specs.Option.{option_map};
-ghost use Rattle.core_files.specs.Memory.{byte_among};
-ghost use Rattle.core_files.specs.Ranges.{range_at, BeginAtOrBelow, IsIncreasing};
+ghost use Rattle.core_files.specs.Memory.{byte_among, is_lost};
+ghost use Rattle.core_files.specs.Ranges.{any_loses, range_at, BeginAtOrBelow, IsIncreasing};
 ghost use Rattle.core_files.specs.RangeViews.{range_seen, ranges_seen};
 
 use crate::memory_range::MemoryRange;
@@ -26,6 +26,18 @@ fn is_increasing(ranges: &[MemoryRange<'_>]) -> bool
         }
     }
     true
+}
+
+// Whether some bytes of one of the ranges were lost.
+pub(crate) fn any_loses(ranges: &[MemoryRange<'_>]) -> bool
+    ensures { result ≡ any_loses (ranges_seen ranges.now) }
+{
+    for range in ranges {
+        if range.lost > 0 {
+            return true;
+        }
+    }
+    false
 }
 
 // The first range that contains an address, by a pass over all.
@@ -111,5 +123,15 @@ impl<'m, 'a> Ranges<'m, 'a> {
             return None;
         };
         range.byte(address)
+    }
+
+    // Whether the byte at an address was lost, of the first range that contains it.
+    pub(crate) fn loses(&self, address: u64) -> bool
+        ensures { result ≡ is_lost (ranges_seen self.now.ranges.now) address }
+    {
+        match self.range_at(address) {
+            Some(range) => range.loses(address),
+            None => false,
+        }
     }
 }

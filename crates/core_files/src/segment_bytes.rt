@@ -1,6 +1,6 @@
 //! The bytes of a segment that is read in blocks.
 
-ghost use Rattle.std.specs.Prelude.{◌≡◌, ◌↔◌, ◌++◌, [], IsTrue, OnOk, OnErr};
+ghost use Rattle.std.specs.Prelude.{◌≡◌, ◌↔◌, ◌++◌, ◌==◌, ◌&&◌, [], length, IsTrue, OnOk, OnErr};
 ghost use Rattle.core_files.specs.CoreFiles.{IsPartOf};
 ghost use Rattle.core_files.specs.SegmentViews.{all_zero};
 
@@ -52,11 +52,21 @@ impl SegmentBytes {
         self.bytes.extend_from_slice(block)
     }
 
-    // Whether there are as many bytes as a segment has.
+    // Whether there are as many bytes as a segment has, and none of them are kept as a number of zeros.
+    pub(crate) fn has_all_of(&self, segment: &Segment) -> bool
+        ensures { result ≡ ((self.now.zeros == 0) && (length self.now.bytes.items == segment.now.file_size)) }
+    {
+        self.zeros == 0 && self.bytes.len() as u64 == segment.file_size
+    }
+
+    // Whether there are no more bytes than a segment has.
     pub(crate) fn is_of(&self, segment: &Segment) -> bool
         ensures { IsTrue result ↔ IsPartOf (part_seen self.now) segment.now }
     {
         segment.offset.checked_add(segment.file_size).is_some()
-            && self.zeros.checked_add(self.bytes.len() as u64) == Some(segment.file_size)
+            && match self.zeros.checked_add(self.bytes.len() as u64) {
+                Some(size) => size <= segment.file_size,
+                None => false,
+            }
     }
 }

@@ -1,14 +1,15 @@
 //! What the segments of a core have.
 
-ghost use Rattle.std.specs.Prelude.{◌≡◌, ◌<◌, ◌+◌, ◌^◌, length, Ok, Err, IfOk, IfErr};
+ghost use Rattle.std.specs.Prelude.{◌≡◌, ◌<◌, ◌+◌, ◌-◌, ◌^◌, length, Ok, Err, IfOk, IfErr};
 ghost use Rattle.std.specs.Option.{option_copied};
-ghost use Rattle.core_files.specs.CoreFiles.{all_ok, loaded_apart, noted_apart};
+ghost use Rattle.core_files.specs.CoreFiles.{all_ok, bytes_left, loaded_apart, noted_apart};
 ghost use Rattle.core_files.specs.NoteViews.{notes_seen};
 ghost use Rattle.core_files.specs.RangeViews.{ranges_seen};
 ghost use Rattle.core_files.specs.Ranges.{after_zeros};
 ghost use Rattle.core_files.specs.Refusals.{Appends, Gives, by_elf};
 ghost use Rattle.core_files.specs.SegmentViews.{AppendsNotes, AppendsRanges, loaded_of, noted_of, notes_at, notes_by, parts_seen, ranges_at, ranges_by};
 
+use crate::bytes::{bytes_after, first_bytes};
 use crate::error::CoreError;
 use crate::lists::push;
 use crate::memory_range::MemoryRange;
@@ -45,11 +46,28 @@ fn noted_apart<'a>(
     ensures within { IfOk result (λ found. segment.now.offset + length found.now < 2 ^ 64) }
 {
     match parts.get(index as usize) {
-        Some(part) if part.is_of(segment) && part.zeros == 0 => Ok(part.bytes.as_slice()),
+        Some(part) if part.is_of(segment) && part.has_all_of(segment) => Ok(part.bytes.as_slice()),
         _ => Err(ElfError::Truncated {
             offset: segment.offset,
         }),
     }
+}
+
+// The bytes that a file has of a segment.
+fn bytes_left<'a>(bytes: &'a [u8], segment: &Segment) -> &'a [u8]
+    ensures { result.now ≡ bytes_left bytes.now segment.now }
+{
+    let offset = segment.offset.min(bytes.len() as u64) as usize;
+    let rest = bytes_after(bytes, offset);
+    first_bytes(rest, segment.file_size.min(rest.len() as u64) as usize)
+}
+
+// How many bytes of a segment were lost, if these are left: so many zeros, and then others.
+fn lost_bytes(segment: &Segment, zeros: u64, bytes: &[u8]) -> u64
+    ensures { result ≡ segment.now.file_size - length (after_zeros zeros bytes.now) }
+{
+    let after = segment.file_size.saturating_sub(zeros);
+    after.saturating_sub(bytes.len() as u64)
 }
 
 // The bytes of the loaded segment with a number: how many zeros there are first, and the others.
@@ -66,10 +84,7 @@ fn loaded_bytes<'a>(
 {
     match parts {
         Some(parts) => loaded_apart(parts, index, segment),
-        None => {
-            let bytes = elf.segment_bytes(segment)?;
-            Ok((0, bytes))
-        }
+        None => Ok((0, bytes_left(elf.bytes, segment))),
     }
 }
 
@@ -115,6 +130,7 @@ fn push_loaded<'a>(
             size: segment.memory_size,
             zeros,
             bytes,
+            lost: lost_bytes(&segment, zeros, bytes),
         },
     )?;
     Ok(())

@@ -13,6 +13,7 @@ fn range<'a>(address: u64, size: u64, bytes: &'a [u8]) -> MemoryRange<'a> {
         size,
         zeros: 0,
         bytes,
+        lost: 0,
     }
 }
 
@@ -61,6 +62,33 @@ fn left_out_bytes_are_those_of_the_file(rt: HostRuntime) {
     assert!(rt; memory.word(0x1001).is_none());
     let without = Memory::new(&segments, &[]);
     assert!(rt; without.word(0x1000).is_none());
+}
+
+#[test]
+fn lost_bytes_are_none_of_the_file(rt: HostRuntime) {
+    let mapped = MappedFile {
+        start: 0x1000,
+        end: 0x1010,
+        offset: 0,
+        name: b"/a",
+    };
+    let mut segment = range(0x1000, 16, &HIGH[..2]);
+    segment.lost = 3;
+    let segments = [segment];
+    let files = [mapped.range(LOW)];
+    let memory = Memory::new(&segments, &files);
+    assert!(rt; memory.byte(0x1001) == Some(22));
+    assert!(rt; memory.byte(0x1002).is_none());
+    assert!(rt; memory.byte(0x1004).is_none());
+    assert!(rt; memory.byte(0x1005) == Some(6));
+    assert!(rt; memory.word(0x1004).is_none());
+    segment.zeros = 1;
+    let segments = [segment];
+    let memory = Memory::new(&segments, &files);
+    assert!(rt; memory.byte(0x1002) == Some(22));
+    assert!(rt; memory.byte(0x1003).is_none());
+    assert!(rt; memory.byte(0x1005).is_none());
+    assert!(rt; memory.byte(0x1006) == Some(7));
 }
 
 #[test]

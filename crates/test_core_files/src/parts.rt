@@ -19,6 +19,7 @@ fn after_zeros<'a>(zeros: u64, bytes: &'a [u8]) -> MemoryRange<'a> {
         size: 12,
         zeros,
         bytes,
+        lost: 0,
     }
 }
 
@@ -104,6 +105,7 @@ fn expect_same(
     let whole = CoreFile::parse(alloc, listed.bytes)?;
     let parts = parts_of(alloc, &elf, block_size)?;
     let core = CoreFile::parse_in_parts(alloc, headers_of(&elf), &parts)?;
+    assert!(rt; !core.is_cut_off() && !whole.is_cut_off());
     assert!(rt; core.machine() == whole.machine());
     assert!(rt; core.threads() == whole.threads());
     assert!(rt; core.mapped_files() == whole.mapped_files());
@@ -138,6 +140,40 @@ fn refusal(alloc: Global, head: &[u8], parts: &[SegmentBytes]) -> Option<CoreErr
         Ok(_) => None,
         Err(error) => Some(error),
     }
+}
+
+// The bytes of the segments of a core, without the last one of the segment with an index.
+fn parts_cut(alloc: Global, elf: &ElfFile<'_>, shorter: u32) -> Result<Vec<SegmentBytes>, Fail> {
+    let mut parts = Vec::new(alloc);
+    for index in 0..elf.segment_count() {
+        let segment = elf.segment(index)?;
+        let bytes = elf.segment_bytes(&segment)?;
+        let lost = usize::from(index == shorter);
+        parts.push(segment_of(alloc, &bytes[..bytes.len().saturating_sub(lost)], 8)?)?;
+    }
+    Ok(parts)
+}
+
+#[test]
+fn parts_that_are_cut_off(rt: HostRuntime) -> Result<(), Fail> {
+    let elf = ElfFile::parse(X86_64.bytes)?;
+    let head = headers_of(&elf);
+    for shorter in 1..elf.segment_count() {
+        let parts = parts_cut(rt.alloc(), &elf, shorter)?;
+        let core = CoreFile::parse_in_parts(rt.alloc(), head, &parts)?;
+        assert!(rt; core.is_cut_off());
+        for (number, segment) in core.segments().iter().enumerate() {
+            assert!(rt; segment.lost == u64::from(number as u32 + 1 == shorter));
+        }
+    }
+    // Notes have to be whole.
+    let notes = elf.segment(0)?;
+    let truncated = ElfError::Truncated {
+        offset: notes.offset,
+    };
+    let parts = parts_cut(rt.alloc(), &elf, 0)?;
+    assert!(rt; refusal(rt.alloc(), head, &parts) == Some(CoreError::Elf(truncated)));
+    Ok(())
 }
 
 // The offset of the first loaded segment.

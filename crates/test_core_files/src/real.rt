@@ -3,7 +3,7 @@
 use crate::listed::Listed;
 use crate::real_cores::{AARCH64, X86_64};
 use core_files::{CoreError, CoreFile, DescriptorError, ThreadRegisters, UserRegsX86_64};
-use elf_files::{ElfError, Machine};
+use elf_files::{ElfError, ElfFile, Machine};
 use std::alloc::Global;
 use std::process::Abort;
 use std::test::Fail;
@@ -115,14 +115,60 @@ fn refusal(alloc: Global, bytes: &[u8]) -> Option<CoreError> {
     }
 }
 
+// Where the notes end, which come before all loaded segments.
+fn notes_end(bytes: &[u8]) -> Result<u64, Fail> {
+    let elf = ElfFile::parse(bytes)?;
+    let notes = elf.segment(0)?;
+    Ok(notes.offset.saturating_add(notes.file_size))
+}
+
+// A core that was cut off says what it says as a whole, but for the memory that it lost.
+fn expect_cut_off(
+    rt: &impl Abort,
+    alloc: Global,
+    listed: &Listed,
+    size: usize,
+) -> Result<(), Fail> {
+    let bytes = &listed.bytes[..size.min(listed.bytes.len())];
+    let whole = CoreFile::parse(alloc, listed.bytes)?;
+    let core = CoreFile::parse(alloc, bytes)?;
+    assert!(rt; core.is_cut_off());
+    expect_threads(rt, &core, listed);
+    expect_files(rt, &core, listed);
+    assert!(rt; core.segments().len() == whole.segments().len());
+    let memory = core.memory(&[]);
+    for (segment, there) in whole.segments().iter().zip(core.segments()) {
+        let left = there.bytes.len();
+        assert!(rt; there.lost == (segment.bytes.len() - left) as u64);
+        for offset in 0..segment.bytes.len() {
+            let found = memory.byte(segment.address.wrapping_add(offset as u64));
+            assert!(rt; found == there.bytes.get(offset).copied());
+            assert!(rt; found.is_none() || found == Some(segment.bytes[offset]));
+        }
+    }
+    Ok(())
+}
+
+#[test]
+fn cut_off(rt: HostRuntime) -> Result<(), Fail> {
+    let size = X86_64.bytes.len();
+    let end = notes_end(X86_64.bytes)? as usize;
+    assert!(rt; end < size && size > 100);
+    for lost in [1, 9, 100] {
+        expect_cut_off(&rt, rt.alloc(), &X86_64, size - lost)?;
+    }
+    expect_cut_off(&rt, rt.alloc(), &X86_64, end)?;
+    // Notes have to be whole.
+    let cut = refusal(rt.alloc(), &X86_64.bytes[..end - 1]);
+    assert!(rt; matches!(cut, Some(CoreError::Elf(ElfError::Truncated { .. }))));
+    Ok(())
+}
+
 #[test]
 fn refused(rt: HostRuntime) -> Result<(), Fail> {
     let mut bytes = Vec::new(rt.alloc());
     bytes.extend_from_slice(X86_64.bytes)?;
     assert!(rt; bytes.len() > 100);
-    // Without the last byte a segment isn't whole.
-    let cut = refusal(rt.alloc(), &bytes[..bytes.len() - 1]);
-    assert!(rt; matches!(cut, Some(CoreError::Elf(ElfError::Truncated { .. }))));
     // e_machine EM_AARCH64: note 0 is an NT_PRPSINFO, and note 1 an NT_PRSTATUS of the size of x86_64.
     bytes[18] = 0xb7;
     let other = refusal(rt.alloc(), &bytes);

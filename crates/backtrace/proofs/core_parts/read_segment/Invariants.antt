@@ -3,4 +3,4 @@ use Rattle.std.specs.Prelude.{min}
 use Rattle.backtrace.proofs.core_parts.read_segment.Given as goal
 
 abbrev pub invariant-loop-number : goal.invariant-loop-number
-invariant-loop-number l = length l.block.items ≡ min l.segment.file_size 65536
+invariant-loop-number l = length l.block.items ≡ min l.size 65536

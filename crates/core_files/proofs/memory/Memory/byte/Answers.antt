@@ -7,4 +7,4 @@ pub returns-in-Some : goal.returns-in-Some
 returns-in-Some c = byte-here (segments_of c.args.self.now) (files_of c.args.self.now) c.args.address c.in-Some.byte c.in-Some.ensures
 
 pub returns-in-None : goal.returns-in-None
-returns-in-None c = c.byte-in-None.ensures ∙ byte-left-out (segments_of c.args.self.now) (files_of c.args.self.now) c.args.address c.in-None.ensures
+returns-in-None c = c.byte_left_out.ensures ∙ byte-left-out (segments_of c.args.self.now) (files_of c.args.self.now) c.args.address c.in-None.ensures
