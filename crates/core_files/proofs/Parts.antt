@@ -1,20 +1,18 @@
 -- What a core says that is read in parts is what the whole says.
-use Rattle.std.proofs.Common.{◌≡◌, ℕ, zero, suc, ◌+◌, ◌-◌, ◌<◌, List, [], ◌∷◌, ◌++◌, length, refl, ap, sym, subst, arith}
-use Rattle.std.specs.Prelude.{Result, Ok, Err, IfOk}
+use Rattle.std.proofs.Common.{◌≡◌, ℕ, zero, suc, ◌+◌, ◌<◌, Bool, true, false, List, [], ◌∷◌, ◌++◌, refl, ap, sym, subst, arith}
+use Rattle.std.specs.Prelude.{if◌then◌else◌, Result, Ok, Err, IfOk}
 use Rattle.elf_files.specs.Bytes.{ElfResult}
 use Rattle.elf_files.specs.Header.{header_of}
 use Rattle.elf_files.specs.Notes.{NoteParts}
-use Rattle.elf_files.specs.Segments.{segment_at, segment_bytes}
+use Rattle.elf_files.specs.Segments.{is_note_segment, segment_at, segment_bytes}
 use Rattle.elf_files.specs.declared.header.FileKind.{FileKind}
 use Rattle.elf_files.specs.declared.header.FileKind.TheVariants.{Relocatable, Executable, SharedObject, Core, Other as OtherKind}
 use Rattle.elf_files.specs.declared.header.Header.{Header}
 use Rattle.elf_files.specs.declared.segment.Segment.{Segment}
-use Rattle.elf_files.specs.declared.segment.SegmentKind.{SegmentKind}
-use Rattle.elf_files.specs.declared.segment.SegmentKind.TheVariants.{Null, Load, Dynamic, Interpreter, Note, EhFrameHeader, Other}
 use Rattle.elf_files.proofs.Laws.{header-of-prefix, segment-of-prefix}
 use Rattle.core_files.specs.declared.core_file.CoreFile.{CoreFile}
 use Rattle.core_files.specs.declared.error.CoreError.TheVariants.{NotCore}
-use Rattle.core_files.specs.CoreFiles.{CoreContents, HasParts, KnownPart, bytes_left, core_by, core_header, core_in_parts, core_notes, core_of, gather, loaded_apart, loaded_in, loaded_ranges, noted_apart, notes_in}
+use Rattle.core_files.specs.CoreFiles.{CoreContents, HasParts, KnownPart, bytes_left, core_by, core_header, core_in_parts, core_notes, core_of, gather, is_loaded, loaded_apart, loaded_in, loaded_range, loaded_ranges, noted_apart, notes_in}
 use Rattle.core_files.specs.CoreViews.{contents_of}
 use Rattle.core_files.specs.Ranges.{KnownRange}
 use Rattle.core_files.specs.Refusals.{CoreResult, Gives, result_and_then, by_elf}
@@ -58,39 +56,15 @@ core-kind Executable header found is = cc
 core-kind SharedObject header found is = cc
 core-kind (OtherKind _) header found is = cc
 
-module _ {A : Type 0} where
-  abbrev if-load : SegmentKind → ElfResult A → ElfResult A → ElfResult A
-  if-load kind one other = elim kind [ Load ↦ one | _ ↦ other ]
-
-  abbrev if-note : SegmentKind → ElfResult A → ElfResult A → ElfResult A
-  if-note kind one other = elim kind [ Note ↦ one | _ ↦ other ]
-
-module _ {A : Type 0} (one other none : ElfResult A) (value : A) where
-  load-again : (kind : SegmentKind) → (kind ≡ Load → one ≡ Ok value → other ≡ Ok value) → if-load kind one none ≡ Ok value → if-load kind other none ≡ Ok value
-  load-again Load again is = again refl is
-  load-again Null again is = is
-  load-again Dynamic again is = is
-  load-again Interpreter again is = is
-  load-again Note again is = is
-  load-again EhFrameHeader again is = is
-  load-again (Other _) again is = is
-
-  note-again : (kind : SegmentKind) → (kind ≡ Note → one ≡ Ok value → other ≡ Ok value) → if-note kind one none ≡ Ok value → if-note kind other none ≡ Ok value
-  note-again Note again is = again refl is
-  note-again Load again is = is
-  note-again Null again is = is
-  note-again Dynamic again is = is
-  note-again Interpreter again is = is
-  note-again EhFrameHeader again is = is
-  note-again (Other _) again is = is
+-- what a segment of the kind has, if it has it by another reader too
+kind-again : {A : Type 0} (test : Bool) (one other none : ElfResult A) (value : A) → (test ≡ true → one ≡ Ok value → other ≡ Ok value)
+    → (if test then one else none) ≡ Ok value → (if test then other else none) ≡ Ok value
+kind-again true one other none value again is = again refl is
+kind-again false one other none value again is = is
 
 -- what a file has of a segment
 abbrev read-left : List ℕ → Segment → ElfResult (List ℕ)
 read-left bytes segment = Ok (bytes_left bytes segment)
-
--- what a loaded segment with these bytes has
-abbrev range-with : Segment → List ℕ → ElfResult (List KnownRange)
-range-with segment found = Ok (record { address = segment.address; size = segment.memory_size; bytes = found; lost = segment.file_size - length found } ∷ [])
 
 -- ---- a core by its parts
 
@@ -113,17 +87,17 @@ module _ (head rest : List ℕ) (parts : List KnownPart) where
         gathered-again _ _ 0 header.segment_count ranges (λ index some below given.
         let (segment, at, kind) = then-ok (segment_at head header index) (loaded_in (loaded_apart parts index)) some given in
         then-is (segment_at all header index) (loaded_in (read-left all)) segment some (segment-of-prefix head rest header index segment (omega arith) at)
-        (load-again _ _ (Ok []) some segment.kind (λ is read.
+        (kind-again (is_loaded segment.kind) _ _ (Ok []) some (λ is read.
         let (found, here, one) = then-ok (loaded_apart parts index segment) _ some read in
         let left : read-left all segment ≡ Ok found = ap (λ (l : List ℕ). Ok l) (has.loaded index segment found (header, first, omega arith, at) is here) in
-        then-is (read-left all segment) (range-with segment) found some left one) kind))
+        then-is (read-left all segment) (λ (l : List ℕ). Ok (loaded_range segment l ∷ [])) found some left one) kind))
 
     notes-again : (notes : List NoteParts) → core_notes (noted_apart parts) head header ≡ Ok notes → core_notes (λ (index : ℕ). segment_bytes all) all header ≡ Ok notes
     notes-again notes =
         gathered-again _ _ 0 header.segment_count notes (λ index some below given.
         let (segment, at, kind) = then-ok (segment_at head header index) (notes_in (noted_apart parts index)) some given in
         then-is (segment_at all header index) (notes_in (segment_bytes all)) segment some (segment-of-prefix head rest header index segment (omega arith) at)
-        (note-again _ _ (Ok []) some segment.kind (λ is read.
+        (kind-again (is_note_segment segment.kind) _ _ (Ok []) some (λ is read.
         let (found, here, noted) = then-ok (noted_apart parts index segment) _ some read in
         then-is (segment_bytes all segment) _ found some (has.noted index segment found (header, first, omega arith, at) is here) noted) kind))
 

@@ -1,22 +1,19 @@
 -- What segments have, one by one.
-use Rattle.std.proofs.Common.{◌≡◌, ℕ, suc, ◌+◌, ◌-◌, ◌<◌, List, [], ◌∷◌, ◌++◌, length, refl, ap, ◌∙◌, append_assoc, arith}
+use Rattle.std.proofs.Common.{◌≡◌, ℕ, true, false, suc, ◌+◌, ◌-◌, ◌<◌, List, [], ◌∷◌, ◌++◌, refl, ap, ◌∙◌, append_assoc, arith}
 use Rattle.std.proofs.lemmas.List.{map-append}
 use Rattle.std.specs.Prelude.{Result, Ok, Err}
 use Rattle.elf_files.specs.Bytes.{ElfResult}
 use Rattle.elf_files.specs.Notes.{NoteParts, notes_with}
-use Rattle.elf_files.specs.Segments.{segment_at}
+use Rattle.elf_files.specs.Segments.{is_note_segment, segment_at}
 use Rattle.elf_files.specs.declared.error.ElfError.{ElfError}
 use Rattle.elf_files.specs.declared.header.Header.{Header}
 use Rattle.elf_files.specs.declared.segment.Segment.{Segment}
-use Rattle.elf_files.specs.declared.segment.SegmentKind.{SegmentKind}
-use Rattle.elf_files.specs.declared.segment.SegmentKind.TheVariants.{Null, Load, Dynamic, Interpreter, Note, EhFrameHeader, Other}
-use Rattle.core_files.specs.CoreFiles.{all_ok, gather, in_segment, loaded_in, notes_in}
+use Rattle.core_files.specs.CoreFiles.{all_ok, gather, in_segment, is_loaded, loaded_in, loaded_range, notes_in}
 use Rattle.elf_files.specs.declared.note.Note.{Note as NoteRead}
 use Rattle.elf_files.specs.NoteViews.{note_seen}
 use Rattle.core_files.specs.declared.error.CoreError.TheVariants.{Elf}
 use Rattle.core_files.specs.NoteViews.{notes_seen}
-use Rattle.core_files.specs.Ranges.{KnownRange}
-use Rattle.core_files.specs.Refusals.{CoreResult, result_and_then, then_more, one, by_elf}
+use Rattle.core_files.specs.Refusals.{CoreResult, then_more, one, by_elf}
 use Rattle.core_files.proofs.Growing.{after, after-end, after-step, elf-more}
 
 module _ {A E : Type 0} where
@@ -45,53 +42,22 @@ gathered {A} give whole done i n within is =
 
 -- ---- the segment with an index
 
-module _ {X : Type 0} (x y : X) where
-  load-is : (kind : SegmentKind) → kind ≡ Load → (elim kind [ Load ↦ x | _ ↦ y ]) ≡ x
-  load-is kind is = rw is refl
-
-  load-other : (kind : SegmentKind) → (kind ≡ Load → ⊥) → (elim kind [ Load ↦ x | _ ↦ y ]) ≡ y
-  load-other Load differs = absurd (differs refl)
-  load-other Null _ = refl
-  load-other Dynamic _ = refl
-  load-other Interpreter _ = refl
-  load-other Note _ = refl
-  load-other EhFrameHeader _ = refl
-  load-other (Other _) _ = refl
-
-  note-is : (kind : SegmentKind) → kind ≡ Note → (elim kind [ Note ↦ x | _ ↦ y ]) ≡ x
-  note-is kind is = rw is refl
-
-  note-other : (kind : SegmentKind) → (kind ≡ Note → ⊥) → (elim kind [ Note ↦ x | _ ↦ y ]) ≡ y
-  note-other Note differs = absurd (differs refl)
-  note-other Load _ = refl
-  note-other Null _ = refl
-  note-other Dynamic _ = refl
-  note-other Interpreter _ = refl
-  note-other EhFrameHeader _ = refl
-  note-other (Other _) _ = refl
-
 module _ {A : Type 0} (part : Segment → ElfResult (List A)) (bytes : List ℕ) (header : Header) (index : ℕ) where
   pub segment-gives : (segment : Segment) → Ok segment ≡ segment_at bytes header index → in_segment part bytes header index ≡ part segment
   segment-gives segment at = rw (← at) refl
 
 module _ (read : Segment → ElfResult (List ℕ)) (segment : Segment) where
-  abbrev loaded : ElfResult (List KnownRange)
-  loaded = result_and_then (read segment) (λ found. Ok (record { address = segment.address; size = segment.memory_size; bytes = found; lost = segment.file_size - length found } ∷ []))
+  pub loaded-other : is_loaded segment.kind ≡ false → loaded_in read segment ≡ Ok []
+  loaded-other is = rw is refl
 
-  pub loaded-other : (segment.kind ≡ Load → ⊥) → loaded_in read segment ≡ Ok []
-  loaded-other differs = load-other loaded (Ok []) segment.kind differs
+  pub loaded-here : (found : List ℕ) → is_loaded segment.kind ≡ true → read segment ≡ Ok found → loaded_in read segment ≡ Ok (loaded_range segment found ∷ [])
+  loaded-here found is at = rw (is, at) refl
 
-  pub loaded-here : (found : List ℕ) → segment.kind ≡ Load → read segment ≡ Ok found → loaded_in read segment ≡ Ok (record { address = segment.address; size = segment.memory_size; bytes = found; lost = segment.file_size - length found } ∷ [])
-  loaded-here found is at = load-is loaded (Ok []) segment.kind is ∙ rw at refl
+  pub noted-other : is_note_segment segment.kind ≡ false → notes_in read segment ≡ Ok []
+  noted-other is = rw is refl
 
-  abbrev noted : ElfResult (List NoteParts)
-  noted = result_and_then (read segment) (λ found. all_ok (notes_with found segment))
-
-  pub noted-other : (segment.kind ≡ Note → ⊥) → notes_in read segment ≡ Ok []
-  noted-other differs = note-other noted (Ok []) segment.kind differs
-
-  pub noted-here : (found : List ℕ) (left : List (Result NoteParts ElfError)) → segment.kind ≡ Note → read segment ≡ Ok found → left ≡ notes_with found segment → notes_in read segment ≡ all_ok left
-  noted-here found left is at same = note-is noted (Ok []) segment.kind is ∙ rw (at, same) refl
+  pub noted-here : (found : List ℕ) (left : List (Result NoteParts ElfError)) → is_note_segment segment.kind ≡ true → read segment ≡ Ok found → left ≡ notes_with found segment → notes_in read segment ≡ all_ok left
+  noted-here found left is at same = rw (is, at, same) refl
 
 -- ---- the notes of a segment one by one
 

@@ -1,15 +1,16 @@
 -- Core files (System V gABI, "ELF Header", ET_CORE; "Program Header"): loaded segments, and notes.
-use Rattle.std.specs.Prelude.{◌≡◌, ℕ, zero, suc, ◌+◌, ◌-◌, ◌^◌, ◌<◌, ◌≤◌, ◌==◌, nat_le, nat_lt, Bool, List, [], ◌∷◌, ◌++◌, length, drop, take, slice_get, Some, None, Result, Ok, Err}
+use Rattle.std.specs.Prelude.{◌≡◌, ℕ, zero, suc, ◌+◌, ◌-◌, ◌^◌, ◌<◌, ◌≤◌, ◌==◌, nat_le, nat_lt, Bool, true, false, if◌then◌else◌, List, [], ◌∷◌, ◌++◌, length, drop, take, slice_get, Some, None, Result, Ok, Err}
 use Rattle.elf_files.specs.Bytes.{ElfResult, unless}
 use Rattle.elf_files.specs.Header.{header_of}
 use Rattle.elf_files.specs.Notes.{NoteParts, notes_with}
-use Rattle.elf_files.specs.Segments.{segment_at, segment_bytes}
+use Rattle.elf_files.specs.Segments.{is_note_segment, segment_at, segment_bytes}
 use Rattle.elf_files.specs.declared.error.ElfError.TheVariants.{Truncated}
 use Rattle.elf_files.specs.declared.header.FileKind.TheVariants.{Core}
 use Rattle.elf_files.specs.declared.header.Header.{Header}
 use Rattle.elf_files.specs.declared.header.Machine.{Machine}
 use Rattle.elf_files.specs.declared.segment.Segment.{Segment}
-use Rattle.elf_files.specs.declared.segment.SegmentKind.TheVariants.{Load, Note}
+use Rattle.elf_files.specs.declared.segment.SegmentKind.{SegmentKind}
+use Rattle.elf_files.specs.declared.segment.SegmentKind.TheVariants.{Load}
 use Rattle.core_files.specs.declared.error.CoreError.TheVariants.{NotCore}
 use Rattle.core_files.specs.declared.thread.Thread.{Thread}
 use Rattle.core_files.specs.MappedFiles.{FileMapping}
@@ -35,20 +36,25 @@ SegmentReader = ℕ → Segment → ElfResult (List ℕ)
 abbrev pub bytes_left : List ℕ → Segment → List ℕ
 bytes_left bytes segment = take segment.file_size (drop segment.offset bytes)
 
--- What a loaded segment has in memory, by its bytes.
+-- What a loaded segment with these bytes has in memory.
+abbrev pub loaded_range : Segment → List ℕ → KnownRange
+loaded_range segment found =
+    record { address = segment.address; size = segment.memory_size; bytes = found; lost = segment.file_size - length found }
+
+-- A segment is loaded (PT_LOAD).
+abbrev pub is_loaded : SegmentKind → Bool
+is_loaded Load = true
+is_loaded _ = false
+
+-- What a loaded segment has in memory, by what gives its bytes.
 abbrev pub loaded_in : (Segment → ElfResult (List ℕ)) → Segment → ElfResult (List KnownRange)
-loaded_in read segment = elim segment.kind [
-  | Load ↦ result_and_then (read segment) (λ found.
-      Ok (record { address = segment.address; size = segment.memory_size; bytes = found; lost = segment.file_size - length found } ∷ []))
-  | _ ↦ Ok []
-]
+loaded_in read segment =
+    if is_loaded segment.kind then result_and_then (read segment) (λ found. Ok (loaded_range segment found ∷ [])) else Ok []
 
 -- The notes of a segment of notes, by its bytes.
 abbrev pub notes_in : (Segment → ElfResult (List ℕ)) → Segment → ElfResult (List NoteParts)
-notes_in read segment = elim segment.kind [
-  | Note ↦ result_and_then (read segment) (λ found. all_ok (notes_with found segment))
-  | _ ↦ Ok []
-]
+notes_in read segment =
+    if is_note_segment segment.kind then result_and_then (read segment) (λ found. all_ok (notes_with found segment)) else Ok []
 
 -- What the segment with an index has.
 abbrev pub in_segment : {A : Type 0} → (Segment → ElfResult (List A)) → List ℕ → Header → ℕ → ElfResult (List A)
@@ -142,7 +148,7 @@ IsSegment head index segment =
 -- A file has these parts: it begins with these bytes, and has those of each loaded segment and of each segment of notes.
 pub record HasParts (bytes head : List ℕ) (parts : List KnownPart) : Type 0 where
   pub begins : (rest : List ℕ) × (bytes ≡ head ++ rest)
-  pub loaded : (index : ℕ) (segment : Segment) (found : List ℕ) → IsSegment head index segment → segment.kind ≡ Load
+  pub loaded : (index : ℕ) (segment : Segment) (found : List ℕ) → IsSegment head index segment → is_loaded segment.kind ≡ true
       → loaded_apart parts index segment ≡ Ok found → bytes_left bytes segment ≡ found
-  pub noted : (index : ℕ) (segment : Segment) (found : List ℕ) → IsSegment head index segment → segment.kind ≡ Note
+  pub noted : (index : ℕ) (segment : Segment) (found : List ℕ) → IsSegment head index segment → is_note_segment segment.kind ≡ true
       → noted_apart parts index segment ≡ Ok found → segment_bytes bytes segment ≡ Ok found

@@ -2,7 +2,8 @@
 
 ghost use Rattle.std.specs.Prelude.{◌≡◌, ◌<◌, ◌+◌, ◌-◌, ◌^◌, length, Ok, Err, IfOk, IfErr};
 ghost use Rattle.std.specs.Option.{option_copied};
-ghost use Rattle.core_files.specs.CoreFiles.{all_ok, bytes_left, loaded_apart, noted_apart};
+ghost use Rattle.elf_files.specs.Segments.{is_note_segment};
+ghost use Rattle.core_files.specs.CoreFiles.{all_ok, bytes_left, is_loaded, loaded_apart, noted_apart};
 ghost use Rattle.core_files.specs.NoteViews.{notes_seen};
 ghost use Rattle.core_files.specs.RangeViews.{ranges_seen};
 ghost use Rattle.core_files.specs.Ranges.{after_zeros};
@@ -107,6 +108,13 @@ fn noted_bytes<'a>(
     }
 }
 
+// Whether a segment is loaded.
+fn is_loaded(segment: &Segment) -> bool
+    ensures { result ≡ is_loaded segment.now.kind }
+{
+    matches!(segment.kind, SegmentKind::Load)
+}
+
 // Adds what a loaded segment has in memory.
 fn push_loaded<'a>(
     all: &mut Vec<MemoryRange<'a>>,
@@ -119,9 +127,9 @@ fn push_loaded<'a>(
         (ranges_at (option_copied parts.entry) elf.now index) }
 {
     let segment = elf.segment(index)?;
-    let SegmentKind::Load = segment.kind else {
+    if !is_loaded(&segment) {
         return Ok(());
-    };
+    }
     let (zeros, bytes) = loaded_bytes(elf, parts, index, &segment)?;
     push(
         all,
@@ -152,6 +160,13 @@ pub(crate) fn loaded_ranges<'a>(
     Ok(ranges)
 }
 
+// Whether a segment has notes.
+fn is_note(segment: &Segment) -> bool
+    ensures { result ≡ is_note_segment segment.now.kind }
+{
+    matches!(segment.kind, SegmentKind::Note)
+}
+
 // Adds all notes of a segment.
 fn push_all<'a>(notes: &mut Vec<Note<'a>>, all: Notes<'a>) -> Result<(), CoreError>
     ensures { Appends (notes_seen notes.old.items) (notes_seen notes.new.items) result (by_elf (all_ok all.entry)) }
@@ -177,9 +192,9 @@ fn push_notes<'a>(
         (notes_at (option_copied parts.entry) elf.now index) }
 {
     let segment = elf.segment(index)?;
-    let SegmentKind::Note = segment.kind else {
+    if !is_note(&segment) {
         return Ok(());
-    };
+    }
     let bytes = noted_bytes(elf, parts, index, &segment)?;
     push_all(all, Notes::new_at(bytes, segment.alignment, segment.offset))
 }

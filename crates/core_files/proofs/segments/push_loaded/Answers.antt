@@ -8,12 +8,12 @@ use Rattle.core_files.specs.SegmentViews.{loaded_by}
 use Rattle.core_files.proofs.SegmentLaws.{segment-gives, loaded-other, loaded-here}
 use Rattle.core_files.proofs.segments.push_loaded.Goals as goal
 
-pub returns-in_default : goal.returns-in_default
-returns-in_default c =
+pub returns-then-not-is_loaded : goal.returns-then-not-is_loaded
+returns-then-not-is_loaded c =
     let elf = c.args.elf.now in
     let read = loaded_by (option_copied c.args.parts) elf.bytes.now c.args.index in (
       [],
-      ap by_elf (segment-gives (loaded_in read) elf.bytes.now elf.header c.args.index c.in_ok-segment.segment c.in_ok-segment.ensures ∙ loaded-other read c.in_ok-segment.segment c.in_default.not-Load),
+      ap by_elf (segment-gives (loaded_in read) elf.bytes.now elf.header c.args.index c.in_ok-segment.segment c.in_ok-segment.ensures ∙ loaded-other read c.in_ok-segment.segment (sym c.is_loaded.ensures ∙ c.if-not-is_loaded.true)),
       sym (append-nil (ranges_seen c.args.all.now.items)),
     )
 
@@ -23,6 +23,6 @@ returns c =
     let read = loaded_by (option_copied c.args.parts) elf.bytes.now c.args.index in (
       _,
       ap by_elf (segment-gives (loaded_in read) elf.bytes.now elf.header c.args.index c.in_ok-segment.segment c.in_ok-segment.ensures
-          ∙ loaded-here read c.in_ok-segment.segment _ c.in-Load.is c.in_ok-zeros.ensures.ok),
+          ∙ loaded-here read c.in_ok-segment.segment _ (sym c.is_loaded.ensures ∙ c.if-not-is_loaded.false) c.in_ok-zeros.ensures.ok),
       rw (← c.lost_bytes.ensures) (ap ranges_seen c.in_ok-push.ensures.ok ∙ map-append range_seen c.args.all.now.items _),
     )

@@ -9,12 +9,12 @@ use Rattle.core_files.specs.SegmentViews.{noted_by}
 use Rattle.core_files.proofs.SegmentLaws.{segment-gives, noted-other, noted-here}
 use Rattle.core_files.proofs.segments.push_notes.Goals as goal
 
-pub returns-in_default : goal.returns-in_default
-returns-in_default c =
+pub returns-then-not-is_note : goal.returns-then-not-is_note
+returns-then-not-is_note c =
     let elf = c.args.elf.now in
     let read = noted_by (option_copied c.args.parts) elf.bytes.now c.args.index in (
       [],
-      ap by_elf (segment-gives (notes_in read) elf.bytes.now elf.header c.args.index c.in_ok-segment.segment c.in_ok-segment.ensures ∙ noted-other read c.in_ok-segment.segment c.in_default.not-Note),
+      ap by_elf (segment-gives (notes_in read) elf.bytes.now elf.header c.args.index c.in_ok-segment.segment c.in_ok-segment.ensures ∙ noted-other read c.in_ok-segment.segment (sym c.is_note.ensures ∙ c.if-not-is_note.true)),
       sym (append-nil (notes_seen c.args.all.now.items)),
     )
 
@@ -24,5 +24,5 @@ returns c =
     let read = noted_by (option_copied c.args.parts) elf.bytes.now c.args.index in
     subst (λ (said : CoreResult (List NoteParts)). Appends (notes_seen c.args.all.now.items) (notes_seen c.push_all.new.notes.items) c.push_all.result said)
     (sym (ap by_elf (segment-gives (notes_in read) elf.bytes.now elf.header c.args.index c.in_ok-segment.segment c.in_ok-segment.ensures
-    ∙ noted-here read c.in_ok-segment.segment c.in_ok-bytes.bytes.now c.new_at.result c.in-Note.is c.in_ok-bytes.ensures.ok c.new_at.ensures)))
+    ∙ noted-here read c.in_ok-segment.segment c.in_ok-bytes.bytes.now c.new_at.result (sym c.is_note.ensures ∙ c.if-not-is_note.false) c.in_ok-bytes.ensures.ok c.new_at.ensures)))
     c.push_all.ensures
