@@ -80,8 +80,8 @@ impl<'a> CoreFile<'a> {
 
     /// The core file that begins with the bytes of `head`, which its program headers are in. `parts` has the bytes of each loaded
     /// segment and of each segment of notes at the index of its program header. Fails as `parse` does, and with `Truncated` if a
-    /// program header isn't in `head`, if the bytes of a segment are not as many as it has in the file, or if notes begin with
-    /// zeros that aren't kept.
+    /// program header isn't in `head`, if there are more bytes of a segment than its program header says or fewer of notes, or if
+    /// notes begin with zeros that aren't kept.
     pub fn parse_in_parts(
         alloc: Global,
         head: &'a [u8],
@@ -100,8 +100,8 @@ impl<'a> CoreFile<'a> {
         self.machine
     }
 
-    /// Whether the core was cut off: it doesn't have all bytes of its loaded segments, as where a limit of its size was met. What it lost is
-    /// no part of the memory.
+    /// Whether the core was cut off, as where a limit of its size was met: some bytes of its loaded segments are lost, and none of
+    /// these is a part of the memory.
     pub fn is_cut_off(&self) -> bool
         ensures { result ≡ is_cut_off (contents_of self.now) }
     {

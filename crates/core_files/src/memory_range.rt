@@ -8,7 +8,7 @@ ghost use Rattle.core_files.specs.RangeViews.{range_seen};
 use crate::bytes::bytes_after;
 
 /// A range of addresses, and the bytes at its first addresses, as far as they are known: so many zeros, and then those of a
-/// slice. Bytes beyond the range's size are none of its. Of a core that was cut off the bytes after them are lost.
+/// slice. Bytes beyond the range's size are none of its. If the core was cut off, those after them may be lost.
 #[derive(Clone, Copy, Debug)]
 pub struct MemoryRange<'a> {
     /// The first address.
