@@ -3,7 +3,7 @@
 use crate::listed::Listed;
 use crate::real_cores::{AARCH64, X86_64};
 use core_files::{CoreError, CoreFile, DescriptorError, ThreadRegisters, UserRegsX86_64};
-use elf_files::{ElfError, ElfFile, Machine};
+use elf_files::{ElfError, ElfFile, Machine, SegmentKind};
 use std::alloc::Global;
 use std::process::Abort;
 use std::test::Fail;
@@ -118,8 +118,13 @@ fn refusal(alloc: Global, bytes: &[u8]) -> Option<CoreError> {
 // Where the notes end, which come before all loaded segments.
 fn notes_end(bytes: &[u8]) -> Result<u64, Fail> {
     let elf = ElfFile::parse(bytes)?;
-    let notes = elf.segment(0)?;
-    Ok(notes.offset.saturating_add(notes.file_size))
+    for index in 0..elf.segment_count() {
+        let segment = elf.segment(index)?;
+        if segment.kind == SegmentKind::Note {
+            return Ok(segment.offset.saturating_add(segment.file_size));
+        }
+    }
+    Ok(0)
 }
 
 // A core that was cut off says what it says as a whole, but for the memory that it lost.
@@ -139,7 +144,7 @@ fn expect_cut_off(
     let memory = core.memory(&[]);
     for (segment, there) in whole.segments().iter().zip(core.segments()) {
         let left = there.bytes.len();
-        assert!(rt; there.lost == (segment.bytes.len() - left) as u64);
+        assert!(rt; there.lost == segment.bytes.len().saturating_sub(left) as u64);
         for offset in 0..segment.bytes.len() {
             let found = memory.byte(segment.address.wrapping_add(offset as u64));
             assert!(rt; found == there.bytes.get(offset).copied());
@@ -153,7 +158,7 @@ fn expect_cut_off(
 fn cut_off(rt: HostRuntime) -> Result<(), Fail> {
     let size = X86_64.bytes.len();
     let end = notes_end(X86_64.bytes)? as usize;
-    assert!(rt; end < size && size > 100);
+    assert!(rt; 0 < end && end < size && size > 100);
     for lost in [1, 9, 100] {
         expect_cut_off(&rt, rt.alloc(), &X86_64, size - lost)?;
     }
