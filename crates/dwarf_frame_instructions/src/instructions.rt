@@ -3,6 +3,7 @@
 ghost use Rattle.std.specs.Prelude.{◌≡◌, ◌≢◌, IfErr, IfSome, None, Ok, Some};
 ghost use Rattle.list_laws.specs.Items.{GivesNext};
 ghost use Rattle.dwarf_constants.specs.declared.error.Error.TheVariants.{OutOfMemory};
+ghost use Rattle.dwarf_readers.specs.Leb128.{unsigned_at};
 ghost use Rattle.dwarf_readers.specs.Stretch.{Reads};
 ghost use Rattle.dwarf_frame_instructions.specs.Instructions.{expression_at, extended_opcodes, instruction_at, instructions_of, location_at, register_at};
 ghost use Rattle.dwarf_frame_instructions.specs.OpcodeTables.{from_cfa_definition, from_offset_rules, from_other_rules, from_row_state};
@@ -188,9 +189,9 @@ impl<'a, R: Reader> CallFrameInstructionIter<'a, R> {
     }
 
     /// The next instruction, if it is one of those that most programs have most of: `DW_CFA_advance_loc`,
-    /// `DW_CFA_advance_loc1`, `DW_CFA_offset`, `DW_CFA_restore`, `DW_CFA_def_cfa_offset`,
-    /// `DW_CFA_remember_state`, `DW_CFA_restore_state` or `DW_CFA_nop`. Otherwise, and if it can't be read or
-    /// none is left, `None`; then nothing is read, and [`CallFrameInstructionIter::next`] says which it is.
+    /// `DW_CFA_advance_loc1`, `DW_CFA_restore`, `DW_CFA_remember_state`, `DW_CFA_restore_state`, `DW_CFA_nop`, or
+    /// with an offset of one byte `DW_CFA_offset` or `DW_CFA_def_cfa_offset`. Otherwise, and if it can't be read
+    /// or none is left, `None`; then nothing is read, and [`CallFrameInstructionIter::next`] says which it is.
     #[inline(always)]
     pub fn next_if_frequent(&mut self) -> Option<CallFrameInstruction<R::Offset>>
         ensures some { IfSome result (λ instruction. GivesNext (instruction_as R.Offset.value)
@@ -294,7 +295,7 @@ impl<'a, R: Reader> Coding<'a, R> {
             }),
             DW_CFA_offset => Some(CallFrameInstruction::Offset {
                 register: Register(u16::from(low)),
-                factored_offset: input.read_uleb128().ok()?,
+                factored_offset: read_short(input)?,
             }),
             DW_CFA_restore => Some(CallFrameInstruction::Restore {
                 register: Register(u16::from(low)),
@@ -315,7 +316,7 @@ impl<'a, R: Reader> Coding<'a, R> {
     {
         match opcode {
             DW_CFA_def_cfa_offset => Some(CallFrameInstruction::DefCfaOffset {
-                offset: input.read_uleb128().ok()?,
+                offset: read_short(input)?,
             }),
             DW_CFA_nop => Some(CallFrameInstruction::Nop),
             DW_CFA_advance_loc1 => Some(CallFrameInstruction::AdvanceLoc {
@@ -515,4 +516,17 @@ fn parse_register<R: Reader>(input: &mut R) -> Result<Register>
     ensures { Reads result (register_at (R.stretch input.old)) (R.stretch input.new) }
 {
     Ok(Register(input.read_uleb128_u16()?))
+}
+
+// Reads an unsigned number of variable length (DWARF 5, 7.6), if it has one byte.
+#[inline(always)]
+fn read_short<R: Reader>(input: &mut R) -> Option<u64>
+    ensures { IfSome result (λ value. Reads (Ok value) (unsigned_at (R.stretch input.old)) (R.stretch input.new)) }
+{
+    let byte = input.read_u8().ok()?;
+    if byte < 128 {
+        Some(u64::from(byte))
+    } else {
+        None
+    }
 }

@@ -87,6 +87,45 @@ fn each_first_byte_if_frequent(rt: HostRuntime) -> Result<(), Fail> {
     Ok(())
 }
 
+// Offsets of one byte and of more, and whether the instruction with one is given by `next_if_frequent`.
+const OFFSETS: [(&[u8], u64, bool); 4] = [
+    (&[0x7f], 127, true),
+    (&[0x80, 0x01], 128, false),
+    (&[0xff, 0x7f], 16383, false),
+    (&[0x80, 0x00], 0, false),
+];
+
+#[test]
+fn frequent_ones_have_offsets_of_one_byte(rt: HostRuntime) -> Result<(), Fail> {
+    for (spelling, offset, is_given) in OFFSETS {
+        let told = [
+            (0x0e, CallFrameInstruction::DefCfaOffset { offset }),
+            (
+                0x86,
+                CallFrameInstruction::Offset {
+                    register: Register(6),
+                    factored_offset: offset,
+                },
+            ),
+        ];
+        for (opcode, instruction) in told {
+            let mut bytes = vec![in rt.alloc(); opcode]?;
+            bytes.extend_from_slice(spelling)?;
+            let section = EndianSlice::new(&bytes, LittleEndian);
+            let mut iter = instructions(&section, &NO_BASES, None, Vendor::Default);
+            let given = iter.next_if_frequent();
+            if is_given {
+                assert!(rt; given == Some(instruction));
+            } else {
+                assert!(rt; given == None);
+                assert!(rt; iter.next() == Ok(Some(instruction)));
+            }
+            assert!(rt; iter.next() == Ok(None));
+        }
+    }
+    Ok(())
+}
+
 #[test]
 fn frequent_ones_cut_short(rt: HostRuntime) -> Result<(), Fail> {
     let mut bytes = vec![in rt.alloc(); 0]?;
