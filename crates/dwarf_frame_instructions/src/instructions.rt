@@ -190,21 +190,16 @@ impl<'a, R: Reader> CallFrameInstructionIter<'a, R> {
 
     /// The next instruction, if it is one of those that most programs have most of: `DW_CFA_advance_loc`,
     /// `DW_CFA_advance_loc1`, `DW_CFA_restore`, `DW_CFA_remember_state`, `DW_CFA_restore_state`, `DW_CFA_nop`, or
-    /// with an offset of one byte `DW_CFA_offset` or `DW_CFA_def_cfa_offset`. Otherwise, and if it can't be read
-    /// or none is left, `None`; then nothing is read, and [`CallFrameInstructionIter::next`] says which it is.
+    /// with operands of one byte `DW_CFA_offset`, `DW_CFA_def_cfa`, `DW_CFA_def_cfa_register` or
+    /// `DW_CFA_def_cfa_offset`. Otherwise, and if it can't be read or none is left, `None`; then nothing is read, and
+    /// [`CallFrameInstructionIter::next`] says which it is.
     #[inline(always)]
     pub fn next_if_frequent(&mut self) -> Option<CallFrameInstruction<R::Offset>>
         ensures some { IfSome result (λ instruction. GivesNext (instruction_as R.Offset.value)
             (Ok (Some instruction)) self.old self.new) }
         ensures none { result ≡ None → self.new ≡ self.old }
     {
-        if self.input.is_empty() {
-            return None;
-        }
-        let mut rest = self.input;
-        let instruction = self.coding.parse_frequent(&mut rest)?;
-        self.input = rest;
-        Some(instruction)
+        self.coding.next_if_frequent(&mut self.input)
     }
 
     // How the instructions that are left are read, and their bytes.
@@ -254,6 +249,49 @@ impl<'a, R: Reader> Coding<'a, R> {
                 Err(error)
             }
         }
+    }
+
+    // The same by a call, so that its code is there once. The reader is passed as a copy, and so it needn't be kept in
+    // memory.
+    #[inline(always)]
+    pub(crate) fn next_by_call(
+        &self,
+        input: &mut R,
+    ) -> Result<Option<CallFrameInstruction<R::Offset>>>
+        ensures given { GivesNextBy R.stretch R.Offset.limit R.Offset.value self.now
+            result input.old input.new }
+        ensures memory { IfErr result (λ e. e ≢ OutOfMemory) }
+    {
+        let mut rest = *input;
+        let next = self.next_apart(&mut rest);
+        *input = rest;
+        next
+    }
+
+    // The call.
+    #[inline(never)]
+    fn next_apart(&self, input: &mut R) -> Result<Option<CallFrameInstruction<R::Offset>>>
+        ensures given { GivesNextBy R.stretch R.Offset.limit R.Offset.value self.now
+            result input.old input.new }
+        ensures memory { IfErr result (λ e. e ≢ OutOfMemory) }
+    {
+        self.next(input)
+    }
+
+    // Reads the next instruction, if it is a frequent one, and nothing else.
+    #[inline(always)]
+    pub(crate) fn next_if_frequent(&self, input: &mut R) -> Option<CallFrameInstruction<R::Offset>>
+        ensures some { IfSome result (λ instruction. GivesNextBy R.stretch R.Offset.limit R.Offset.value
+            self.now (Ok (Some instruction)) input.old input.new) }
+        ensures none { result ≡ None → input.new ≡ input.old }
+    {
+        if input.is_empty() {
+            return None;
+        }
+        let mut rest = *input;
+        let instruction = self.parse_frequent(&mut rest)?;
+        *input = rest;
+        Some(instruction)
     }
 
     // Reads an instruction, whose opcode is in the high two bits or in all eight.
@@ -317,6 +355,13 @@ impl<'a, R: Reader> Coding<'a, R> {
         match opcode {
             DW_CFA_def_cfa_offset => Some(CallFrameInstruction::DefCfaOffset {
                 offset: read_short(input)?,
+            }),
+            DW_CFA_def_cfa => Some(CallFrameInstruction::DefCfa {
+                register: read_short_register(input)?,
+                offset: read_short(input)?,
+            }),
+            DW_CFA_def_cfa_register => Some(CallFrameInstruction::DefCfaRegister {
+                register: read_short_register(input)?,
             }),
             DW_CFA_nop => Some(CallFrameInstruction::Nop),
             DW_CFA_advance_loc1 => Some(CallFrameInstruction::AdvanceLoc {
@@ -526,6 +571,19 @@ fn read_short<R: Reader>(input: &mut R) -> Option<u64>
     let byte = input.read_u8().ok()?;
     if byte < 128 {
         Some(u64::from(byte))
+    } else {
+        None
+    }
+}
+
+// Reads a register's number, if it has one byte.
+#[inline(always)]
+fn read_short_register<R: Reader>(input: &mut R) -> Option<Register>
+    ensures { IfSome result (λ register. Reads (Ok register) (register_at (R.stretch input.old)) (R.stretch input.new)) }
+{
+    let byte = input.read_u8().ok()?;
+    if byte < 128 {
+        Some(Register(u16::from(byte)))
     } else {
         None
     }

@@ -37,6 +37,21 @@ fn execute<T: ReaderOffset, S: UnwindContextStorage<T>>(
     }
 }
 
+// The same by a call.
+#[inline(never)]
+fn execute_rare<T: ReaderOffset, S: UnwindContextStorage<T>>(
+    context: &mut UnwindContext<T, S>,
+    factors: &Factors,
+    location: u64,
+    instruction: CallFrameInstruction<T>,
+) -> Result<Option<u64>>
+    ensures executed { StepsIn T.value S.Stack.items S.limits S.never_allocates
+        factors.now location instruction context.old context.new result }
+    ensures memory { S.never_allocates → IfErr result (λ e. e ≢ OutOfMemory) }
+{
+    execute(context, factors, location, instruction)
+}
+
 // The same, with code of its own for the instructions that most programs have most of.
 #[inline(always)]
 fn execute_frequent<T: ReaderOffset, S: UnwindContextStorage<T>>(
@@ -78,6 +93,7 @@ fn destination<T: Copy>(effect: Effect<T>) -> Option<u64>
 
 // Executes instructions up to the first that moves the location, and returns that location; or all of
 // them, and returns `None`.
+#[inline(always)]
 fn run<R: Reader, S: UnwindContextStorage<R::Offset>>(
     context: &mut UnwindContext<R::Offset, S>,
     factors: &Factors,
@@ -92,12 +108,27 @@ fn run<R: Reader, S: UnwindContextStorage<R::Offset>>(
         (HasFewerBy R.stretch R.Offset.limit coding.now input.old input.new)) }
     ensures memory { S.never_allocates → IfErr result (λ e. e ≢ OutOfMemory) }
 {
-    while let Some(instruction) = coding.next(input)? {
-        if let Some(next) = execute_frequent(context, factors, location, instruction)? {
-            return Ok(Some(next));
+    let mut rest = *input;
+    'instructions: loop {
+        if rest.is_empty() {
+            *input = rest;
+            return Ok(None);
+        }
+        let next = match coding.next_if_frequent(&mut rest) {
+            Some(instruction) => execute_frequent(context, factors, location, instruction)?,
+            None => {
+                let Some(instruction) = coding.next_by_call(&mut rest)? else {
+                    *input = rest;
+                    return Ok(None);
+                };
+                execute_rare(context, factors, location, instruction)?
+            }
+        };
+        if next.is_some() {
+            *input = rest;
+            return Ok(next);
         }
     }
-    Ok(None)
 }
 
 // Clears a context, executes the CIE's own instructions in it, and keeps the rules that they leave.
@@ -194,6 +225,7 @@ impl<'a, 'ctx, R: Reader, S: UnwindContextStorage<R::Offset>> ProgramRows<'a, 'c
     /// Goes on to the next row, which is then the current one, and returns whether there is one. Fails
     /// if an instruction before the end of that row fails, and with `OutOfMemory` only in a storage that
     /// allocates. After an error no row is left.
+    #[inline(always)]
     pub fn advance(&mut self) -> Result<bool>
         ensures row { Advances R.stretch R.Offset.limit R.Offset.value S.Stack.items S.limits
             S.never_allocates self.old result self.new }
