@@ -61,7 +61,7 @@ fn each_first_byte(rt: HostRuntime) -> Result<(), Fail> {
 
 // Whether an instruction with this opcode is given by `next_if_frequent`.
 fn is_frequent(opcode: u8) -> bool {
-    matches!(opcode, 0x00 | 0x02 | 0x0a | 0x0b | 0x0e | 0x40..=0xff)
+    matches!(opcode, 0x00 | 0x02 | 0x0a..=0x0e | 0x40..=0xff)
 }
 
 #[test]
@@ -87,8 +87,8 @@ fn each_first_byte_if_frequent(rt: HostRuntime) -> Result<(), Fail> {
     Ok(())
 }
 
-// Offsets of one byte and of more, and whether the instruction with one is given by `next_if_frequent`.
-const OFFSETS: [(&[u8], u64, bool); 4] = [
+// Operands of one byte and of more, and whether the instruction with one is given by `next_if_frequent`.
+const SPELLED: [(&[u8], u16, bool); 4] = [
     (&[0x7f], 127, true),
     (&[0x80, 0x01], 128, false),
     (&[0xff, 0x7f], 16383, false),
@@ -96,21 +96,47 @@ const OFFSETS: [(&[u8], u64, bool); 4] = [
 ];
 
 #[test]
-fn frequent_ones_have_offsets_of_one_byte(rt: HostRuntime) -> Result<(), Fail> {
-    for (spelling, offset, is_given) in OFFSETS {
-        let told = [
-            (0x0e, CallFrameInstruction::DefCfaOffset { offset }),
+fn frequent_ones_have_operands_of_one_byte(rt: HostRuntime) -> Result<(), Fail> {
+    for (spelling, number, is_given) in SPELLED {
+        let offset = u64::from(number);
+        let register = Register(number);
+        // What is before the operand and after it, and the instruction.
+        let told: [(&[u8], &[u8], CallFrameInstruction<usize>); 5] = [
+            (&[0x0e], &[], CallFrameInstruction::DefCfaOffset { offset }),
             (
-                0x86,
+                &[0x86],
+                &[],
                 CallFrameInstruction::Offset {
                     register: Register(6),
                     factored_offset: offset,
                 },
             ),
+            (
+                &[0x0c, 7],
+                &[],
+                CallFrameInstruction::DefCfa {
+                    register: Register(7),
+                    offset,
+                },
+            ),
+            (
+                &[0x0c],
+                &[8],
+                CallFrameInstruction::DefCfa {
+                    register,
+                    offset: 8,
+                },
+            ),
+            (
+                &[0x0d],
+                &[],
+                CallFrameInstruction::DefCfaRegister { register },
+            ),
         ];
-        for (opcode, instruction) in told {
-            let mut bytes = vec![in rt.alloc(); opcode]?;
+        for (before, after, instruction) in told {
+            let mut bytes = before.to_vec(rt.alloc())?;
             bytes.extend_from_slice(spelling)?;
+            bytes.extend_from_slice(after)?;
             let section = EndianSlice::new(&bytes, LittleEndian);
             let mut iter = instructions(&section, &NO_BASES, None, Vendor::Default);
             let given = iter.next_if_frequent();
