@@ -3,7 +3,7 @@
 ghost use Rattle.std.specs.Prelude.{◌≡◌, ◌≢◌, IfErr, IfSome, None, Ok, Some};
 ghost use Rattle.list_laws.specs.Items.{GivesNext};
 ghost use Rattle.dwarf_constants.specs.declared.error.Error.TheVariants.{OutOfMemory};
-ghost use Rattle.dwarf_readers.specs.Leb128.{unsigned_at};
+ghost use Rattle.dwarf_readers.specs.Leb128.{unsigned_16_at, unsigned_at};
 ghost use Rattle.dwarf_readers.specs.Stretch.{Reads};
 ghost use Rattle.dwarf_frame_instructions.specs.Instructions.{expression_at, extended_opcodes, instruction_at, instructions_of, location_at, register_at};
 ghost use Rattle.dwarf_frame_instructions.specs.OpcodeTables.{from_cfa_definition, from_offset_rules, from_other_rules, from_row_state};
@@ -333,7 +333,7 @@ impl<'a, R: Reader> Coding<'a, R> {
             }),
             DW_CFA_offset => Some(CallFrameInstruction::Offset {
                 register: Register(u16::from(low)),
-                factored_offset: read_short(input)?,
+                factored_offset: u64::from(read_short(input)?),
             }),
             DW_CFA_restore => Some(CallFrameInstruction::Restore {
                 register: Register(u16::from(low)),
@@ -354,14 +354,14 @@ impl<'a, R: Reader> Coding<'a, R> {
     {
         match opcode {
             DW_CFA_def_cfa_offset => Some(CallFrameInstruction::DefCfaOffset {
-                offset: read_short(input)?,
+                offset: u64::from(read_short(input)?),
             }),
             DW_CFA_def_cfa => Some(CallFrameInstruction::DefCfa {
-                register: read_short_register(input)?,
-                offset: read_short(input)?,
+                register: Register(u16::from(read_short(input)?)),
+                offset: u64::from(read_short(input)?),
             }),
             DW_CFA_def_cfa_register => Some(CallFrameInstruction::DefCfaRegister {
-                register: read_short_register(input)?,
+                register: Register(u16::from(read_short(input)?)),
             }),
             DW_CFA_nop => Some(CallFrameInstruction::Nop),
             DW_CFA_advance_loc1 => Some(CallFrameInstruction::AdvanceLoc {
@@ -565,26 +565,10 @@ fn parse_register<R: Reader>(input: &mut R) -> Result<Register>
 
 // Reads an unsigned number of variable length (DWARF 5, 7.6), if it has one byte.
 #[inline(always)]
-fn read_short<R: Reader>(input: &mut R) -> Option<u64>
-    ensures { IfSome result (λ value. Reads (Ok value) (unsigned_at (R.stretch input.old)) (R.stretch input.new)) }
+fn read_short<R: Reader>(input: &mut R) -> Option<u8>
+    ensures number { IfSome result (λ n. Reads (Ok n) (unsigned_at (R.stretch input.old)) (R.stretch input.new)) }
+    ensures of_16_bits { IfSome result (λ n. Reads (Ok n) (unsigned_16_at (R.stretch input.old)) (R.stretch input.new)) }
 {
     let byte = input.read_u8().ok()?;
-    if byte < 128 {
-        Some(u64::from(byte))
-    } else {
-        None
-    }
-}
-
-// Reads a register's number, if it has one byte.
-#[inline(always)]
-fn read_short_register<R: Reader>(input: &mut R) -> Option<Register>
-    ensures { IfSome result (λ register. Reads (Ok register) (register_at (R.stretch input.old)) (R.stretch input.new)) }
-{
-    let byte = input.read_u8().ok()?;
-    if byte < 128 {
-        Some(Register(u16::from(byte)))
-    } else {
-        None
-    }
+    if byte < 128 { Some(byte) } else { None }
 }
