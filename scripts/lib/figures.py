@@ -86,7 +86,8 @@ class Group:
 def label_of(cell, before):
     """What a row measured, without explanations. In it 'the same' means the subject of the row before."""
     label = re.split(r"; |, (?:which|here) ", cell)[0].replace("`", "")
-    return before.partition(",")[0] + label.removeprefix("the same") if label.startswith("the same") else label
+    subject = re.split(r",(?!\d)", before)[0]
+    return subject + label.removeprefix("the same") if label.startswith("the same") else label
 
 
 def groups_of(text):

@@ -12,6 +12,8 @@ LIBC = "/lib/x86_64-linux-gnu/libc.so.6"
 LIBSTDCXX = "/usr/lib/x86_64-linux-gnu/libstdc++.so.6"
 ARM_LIBC = "/usr/aarch64-linux-gnu/lib/libc.so.6"
 ARM_LIBSTDCXX = "/usr/aarch64-linux-gnu/lib/libstdc++.so.6"
+# The tools that this run called.
+CALLED = set()
 
 
 def give_up(reason):
@@ -22,6 +24,7 @@ def give_up(reason):
 
 def run(*command, folder=None, statuses=(0,), **options):
     """Runs a tool in a folder to its end. Gives up if there is no such tool, or if it ends with another status."""
+    CALLED.add(str(command[0]))
     try:
         done = subprocess.run(command, cwd=folder, capture_output=True, text=True, **options)
     except FileNotFoundError:

@@ -1,0 +1,316 @@
+"""The generated parts of documents: tables and figures that come from the records of evidence, and counts of the files.
+
+A part is between lines `<!-- NAME: begin -->` and `<!-- NAME: end -->`, and a figure in a line is between `<!-- count: KEY -->` and
+`<!-- end -->`. A key is the name of a count of the files, as `wrong-edits`, or has the name of a record before it: `fuzz: commands` for a
+count, and `bench: HEADING: ROW: COLUMN` for a cell of a table, of which heading and row may be the beginnings.
+"""
+
+import functools
+import re
+
+from lib import contracts, figures, records
+from lib.tools import TOP, crates
+
+EVIDENCE, GATE, BENCHMARKS = (TOP / "docs" / f"{name}.md" for name in ("EVIDENCE", "GATE", "BENCHMARKS"))
+CHART, ROADS = TOP / "docs/speed.svg", TOP / "docs/tables.svg"
+ROADS_TITLE = "A fresh step, as a multiple of the original's time by the same or, for tables, by an index; less is faster"
+# Documents in which no figure with a comma is written by hand.
+COUNTED = ("README.md", "CONTRIBUTING.md", "docs/STATUS.md", "docs/GATE.md")
+INLINE = re.compile(r"<!-- count: (.+?) -->(.*?)<!-- end -->", re.S)
+FIGURE = re.compile(r"(?<![\w.,])\d{1,3}(?:,\d{3})+(?![\w,])")
+CODE_AND_MARKERS = re.compile(
+    r"^```.*?^```|<!-- ([\w -]+): begin -->.*?<!-- \1: end -->|<!-- count: .+? -->.*?<!-- end -->|`[^`\n]+`|^(?: {4}|\t)[^\n]*", re.M | re.S)
+LIBRARIES_ONLY = ("test_", "cases_", "bench_", "example_")
+
+
+class Missing(Exception):
+    """Nothing has the figure or the part that a document asks for."""
+
+
+def missing(text):
+    raise Missing(text)
+
+
+def number_text(value):
+    """A number as documents have it."""
+    return f"{value:,}" if isinstance(value, int) else f"{value:,.1f}" if value >= 10 else f"{value:g}"
+
+
+# ---- counts of the files
+
+@functools.cache
+def wrong_edits():
+    """How many wrong edits each crate has in must-fail, which each gate tries, and in wrong."""
+    folders = {name: TOP / "crates" / name for name in crates()}
+    found = {name: [len(list(folder.glob(f"{kind}/*.edit"))) for kind in ("must-fail", "wrong")] for name, folder in folders.items()}
+    return {name: counts for name, counts in found.items() if any(counts)}
+
+
+def lines_of(crate):
+    """How many lines of code a crate has."""
+    return sum(len(path.read_text().splitlines()) for path in (TOP / "crates" / crate / "src").rglob("*.rt"))
+
+
+def largest_crates():
+    """The libraries with more than 1,500 lines of code, the largest first."""
+    sizes = {name: lines_of(name) for name in crates() if not name.startswith(LIBRARIES_ONLY)}
+    return ", ".join(f"`{name}` {size:,}" for name, size in sorted(sizes.items(), key=lambda it: -it[1]) if size > 1500)
+
+
+def most_operations():
+    """How many operations an expression may execute."""
+    found = [match[1] for path in records.sources_of("dwarf_expressions")
+             for match in re.finditer(r"const MAX_OPERATIONS\w*: \w+ = ([\d_]+);", path.read_text())]
+    return int(found[0]) if len(set(found)) == 1 else missing("dwarf_expressions has no constant MAX_OPERATIONS")
+
+
+def headline_lines(beginning):
+    """The lines of definitions that a headline needs, as the reading plan has them, in words of fifties."""
+    for path in sorted((TOP / "docs").rglob("*.md")):
+        if "<!-- plan of headlines: begin -->" in (text := path.read_text()):
+            for row in text.partition("<!-- plan of headlines: begin -->")[2].splitlines():
+                cells = [cell.strip() for cell in row.strip("|").split("|")]
+                if cells[0].startswith(beginning):
+                    return round(int(re.sub(r"\D", "", cells[2])) / 50) * 50
+    missing(f"no headline of the reading plan begins with '{beginning}'")
+
+
+COUNTS = {
+    "wrong-edits": lambda: sum(map(sum, wrong_edits().values())),
+    "wrong-edits of the gate": lambda: sum(gate for gate, _ in wrong_edits().values()),
+    "wrong-edits of wrong": lambda: sum(other for _, other in wrong_edits().values()),
+    "crates with edits in the gate": lambda: sum(gate > 0 for gate, _ in wrong_edits().values()),
+    "crates": lambda: len(crates()),
+    "lines": lambda: sum(map(lines_of, crates())),
+    "largest crates": largest_crates,
+    "most operations": most_operations,
+    "long clauses": lambda: len(contracts.counts()[1].lines),
+    "clauses": lambda: contracts.clause_count(),
+}
+
+
+def value_of(key):
+    """The text of a figure in a line."""
+    head, _, rest = key.partition(": ")
+    if not rest:
+        value = COUNTS[key]() if key in COUNTS else missing(f"nothing is counted as '{key}'")
+    elif head == "plan":
+        value = headline_lines(rest)
+    else:
+        record = records.named(head)
+        value = record.counts[rest] if rest in record.counts else cell_of(record, rest)
+    return value if isinstance(value, str) else number_text(value)
+
+
+def cell_of(record, key):
+    """A cell of a record's tables, by its heading, its row and its column."""
+    heading, row, column = (key.split(": ") + ["", ""])[:3]
+    for table in record.tables:
+        columns, *rows = table["rows"]
+        if table.get("heading", "").startswith(heading) and column in columns:
+            for cells in rows:
+                if cells[0].startswith(row):
+                    return cells[columns.index(column)]
+    missing(f"{record.name} has no figure '{key}'")
+
+
+# ---- evidence
+
+def cell(text):
+    return text.replace("|", "\\|").replace("\n", " ")
+
+
+def is_measured(record):
+    """Whether a record is of times alone, which other documents show."""
+    return record.name == "gate" or record.name.startswith("bench")
+
+
+def size_of(record):
+    """What was counted, without differences if there was none."""
+    shown = {what: count for what, count in record.counts.items() if what in record.shown} if record.shown else record.counts
+    return ", ".join(f"{number_text(count)} {what}" for what, count in shown.items() if what != "differences" or count)
+
+
+def state_of(record, reasons):
+    """Whether a record is fresh, by the proved programs."""
+    number = list(reasons).index(record.stale_because) + 1 if record.stale_because in reasons else None
+    state = f"stale {number}" if number else "stale" if record.is_stale() else "fresh"
+    return state if record.proved else f"{state}, unproved"
+
+
+def evidence():
+    """The table of all records, and why those that are stale weren't run again."""
+    shown = [record for record in records.all() if not is_measured(record)]
+    reasons = dict.fromkeys(record.stale_because for record in shown if record.is_stale() and record.stale_because)
+    rows = [["Claim", "Against", "Size", "Exceptions", "Command", "Run", "State"]]
+    for record in shown:
+        command = record.command.removeprefix("scripts/")
+        rows.append([record.claim, record.against, size_of(record), "; ".join(record.exceptions), f"`{command}`", f"{record.date} {record.commit}",
+                     state_of(record, reasons)])
+    return "\n" + figures.markdown_table([list(map(cell, row)) for row in rows]) + "\n\nStale are:\n\n" + "".join(
+        f"{number}. {reason}\n" for number, reason in enumerate(reasons, 1))
+
+
+def causes():
+    """The tables of records that say what the exceptions are."""
+    parts = []
+    for record in records.all():
+        if not is_measured(record) and record.tables:
+            parts.append(f"\n## {record.claim}\n")
+            parts += ["\n" + figures.markdown_table(table["rows"]) + "\n" for table in record.tables]
+    return "".join(parts)
+
+
+# ---- the gate
+
+def run_of(record):
+    """When and where a record was made, and whether it is fresh."""
+    state = f"Stale: {record.stale_because}" if record.is_stale() else "The files are the same."
+    return f"Run on {record.date} at {record.commit}, on {record.machine}. {state}\n"
+
+
+def thousand(minutes, lines):
+    return "–" if not lines else f"{minutes * 1000 / lines:.1f}"
+
+
+def gate_sums():
+    """What the gate took in all."""
+    record = records.named("gate")
+    names = {"proof": "proofs", "tests": "proofs of tests", "edits": "wrong edits, with the proofs that they begin with", "all": "all"}
+    rows = [["Sum", "Processor minutes", "A thousand lines"]]
+    lines = record.counts["lines"]
+    rows += [[text, number_text(record.counts[name]), thousand(record.counts[name], lines)] for name, text in names.items()]
+    more = f"{lines:,} lines; {number_text(record.counts['minutes by the clock'])} minutes by the clock on {record.counts['processors']} processors. "
+    return "\n" + figures.markdown_table(rows) + "\n\n" + more + run_of(record)
+
+
+def gate_crates():
+    """The gate's minutes by crate."""
+    record = records.named("gate")
+    rows = [["Crate", "Lines", "Proof", "Tests", "Edits", "A thousand lines"]]
+    for name, row in record.crates.items():
+        spent = [f"{row[kind]:.1f}" if row.get(kind) else "–" for kind in ("proof", "tests", "edits")]
+        rows.append([f"`{name}`", f"{row['lines']:,}", *spent, thousand(row["proof"] + row.get("tests", 0), row["lines"])])
+    return "\n" + figures.markdown_table(rows) + "\n"
+
+
+def edit_table():
+    """The wrong edits of each crate, and how many of those in `wrong` were seen refused over the files as they are."""
+    record = records.named("edits-refused")
+    rows = [["Crate", "In each gate", "In `wrong`", "Seen refused"]]
+    for name, (gate, other) in wrong_edits().items():
+        seen = record.crates.get(name)
+        state = "–" if not other or not seen else str(seen["refused"]) if seen["hash"] == records.edits_hash(name) else "before the last change"
+        rows.append([f"`{name}`", str(gate or "–"), str(other or "–"), state])
+    return "\n" + figures.markdown_table(rows) + "\n"
+
+
+# ---- benchmarks
+
+def benchmarks():
+    """The tables of the last whole run, with the ratios of other runs beside them."""
+    record = records.named("bench")
+    others = [it for it in records.all() if it.name.startswith("bench-")]
+    parts = [f"\n{run_of(record)}"]
+    if others:
+        parts.append("\n" + figures.markdown_table([["Column", "Run"], *([it.name.removeprefix("bench-"), run_of(it).strip()] for it in others)]) + "\n")
+    for table in record.tables:
+        heading = f"\n## {table['heading']}\n\n{table['note']}\n" if "heading" in table else ""
+        parts.append(heading + "\n" + figures.markdown_table(beside(table, others)) + "\n")
+    return "".join(parts) + "\n"
+
+
+def beside(table, others):
+    """The rows of a table, with a column for each other run that has a ratio of one of them."""
+    columns, *rows = table["rows"]
+    found = {it.name.removeprefix("bench-"): ratios(it, table) for it in others}
+    found = {name: those for name, those in found.items() if those}
+    return [[*columns, *found], *([*row, *(those.get(row[0], "–") for those in found.values())] for row in rows)]
+
+
+def ratios(record, table):
+    """The ratios of a run by the rows of a table: of the same heading and the same first column."""
+    labels = {row[0] for row in table["rows"]}
+    return {row[0]: row[-1] for other in record.tables if other.get("of") in (table.get("heading"), table.get("name"))
+            for row in other["rows"] if row[0] in labels}
+
+
+def charts():
+    """The charts of the ratios to the original, by the tables of the last whole run."""
+    record, parts = records.named("bench"), []
+    for table in record.tables:
+        parts += ([f"## {table['heading']}", ""] if "heading" in table else []) + [figures.markdown_table(table["rows"]), ""]
+    groups = figures.groups_of("\n".join(parts))
+    roads = figures.groups_of_roads(groups)
+    return {CHART: figures.chart(groups)} | ({ROADS: figures.chart(roads, ROADS_TITLE)} if roads else {})
+
+
+# ---- writing
+
+PARTS = [
+    (EVIDENCE, "evidence", evidence), (EVIDENCE, "causes", causes), (GATE, "sums", gate_sums), (GATE, "times", gate_crates),
+    (GATE, "contracts", lambda: contracts.table()), (GATE, "edits", edit_table), (BENCHMARKS, "figures", benchmarks),
+]
+
+
+def documents():
+    """The documents that may have figures in their lines."""
+    return [TOP / name for name in ("README.md", "CONTRIBUTING.md", "CHANGELOG.md")] + sorted((TOP / "docs").rglob("*.md"))
+
+
+def made():
+    """The text of each document, of which parts are generated, as it should be."""
+    texts = {path: path.read_text() for path in documents()}
+    for path, name, part in PARTS:
+        texts[path] = with_part(path, texts[path], name, part())
+    return {path: with_figures(path, text) for path, text in texts.items()} | charts()
+
+
+def with_part(path, text, name, part):
+    """A document's text with another part."""
+    begin, end = f"<!-- {name}: begin -->\n", f"<!-- {name}: end -->"
+    before, found, rest = text.partition(begin)
+    _, closed, after = rest.partition(end)
+    if not found or not closed:
+        missing(f"{path.relative_to(TOP)} has no lines `{begin.strip()}` and `{end}`")
+    return before + begin + part + end + after
+
+
+def with_figures(path, text):
+    """A document's text with the figures of its lines as they are."""
+    def written(match):
+        try:
+            return f"<!-- count: {match[1]} -->{value_of(match[1])}<!-- end -->"
+        except Missing as error:
+            missing(f"{path.relative_to(TOP)}: {error}")
+
+    return INLINE.sub(written, text)
+
+
+def differing():
+    """The files that aren't as they should be, with the text that they should have."""
+    return {path: text for path, text in made().items() if not path.is_file() or path.read_text() != text}
+
+
+def by_hand(text):
+    """The figures with a comma outside of markers and of code, with the number of their line."""
+    text = CODE_AND_MARKERS.sub(lambda match: re.sub(r"[^\n]", " ", match[0]), text)
+    return [(text.count("\n", 0, match.start()) + 1, match[0]) for match in FIGURE.finditer(text)]
+
+
+def first_difference(path, text):
+    """The first line in which a file differs."""
+    lines = path.read_text().splitlines() if path.is_file() else []
+    return next((at for at, (one, other) in enumerate(zip(lines, text.splitlines()), 1) if one != other), min(len(lines), text.count("\n")) + 1)
+
+
+def problems():
+    """What is wrong in the documents: a line for each."""
+    try:
+        found = [f"{path.relative_to(TOP)}:{first_difference(path, text)} isn't what the records and files give: scripts/evidence write"
+                 for path, text in differing().items()]
+    except Missing as error:
+        found = [str(error)]
+    for name in COUNTED:
+        found += [f"{name}:{line}: {figure} is written by hand: put it between markers" for line, figure in by_hand((TOP / name).read_text())]
+    return found
