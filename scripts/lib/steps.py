@@ -1,4 +1,4 @@
-"""Steps on x86_64 by rows of call frames, as docs/DECISIONS.md, docs/DIFFERENCES.md and docs/PROGRAMS.md say: a rule where one holds the
+"""Steps on x86_64 by rows of call frames, as docs/decisions, docs/DIFFERENCES.md and docs/PROGRAMS.md say: a rule where one holds the
 row exactly, else the row computed directly, and the frame pointer where nothing is known. Rows are those of `lib.frame_rows`."""
 
 from lib import expressions
