@@ -1,7 +1,8 @@
 # Debian 12 with the tools that scripts/README.md lists, in the versions that the evidence was made with.
 #
 #     podman build -t yingalod .
-#     podman run --rm -it --cap-add SYS_PTRACE -v KIT:/opt/rattle:ro -v "$PWD":/yingalod yingalod scripts/elf-files
+#     podman run --rm -it --cap-add SYS_PTRACE --security-opt seccomp=unconfined \
+#         -v KIT:/opt/rattle:ro -v "$PWD":/yingalod yingalod scripts/elf-files
 #
 # Rattle's kit comes from outside, as the folder KIT with bin/rt. What isn't Debian's: rustc 1.95.0, for programs in Rust of
 # scripts/real-stacks and scripts/backtraces, and cargo, for benches with --original.
