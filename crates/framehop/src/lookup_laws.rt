@@ -70,9 +70,8 @@ pub fn truthful_lookups_step_alike()
         → AllStepAlike (meanings_aarch64 limits) a }
 {}
 
-/// A module that is loaded with `.debug_frame` beside `.eh_frame` is unwound by `.debug_frame` at an address that the FDE found there
-/// contains and that of `.eh_frame` doesn't, and at all others by `.eh_frame`, as without the other; and one that hasn't both is the
-/// module that it was.
+/// `.debug_frame` is used exactly at addresses that its FDE covers and that of `.eh_frame` doesn't. A module without both sections
+/// behaves as if loaded by `load_module`.
 pub fn debug_frame_is_used_beside_eh_frame<A: Arch>()
     ensures both { (m : FormatMeanings A.UnwindRule A.UnwindRegs) → AllAttemptByOne m }
     ensures one { (s : Sections) → HasOne s → both_data_of s ≡ unwind_data_of s }

@@ -16,7 +16,8 @@ pub type Module<D> = framehop_unwinder::Module<ModuleUnwindData<D>>;
 /// A module with this name that is loaded at `avma_range`, a range of addresses in the memory of the
 /// process. It is unwound by the sections that `info` gives, whose addresses are those of the file:
 /// [`ModuleSectionInfo::base_svma`] is the file's address of what is loaded at `base_avma`. Makes an index
-/// of the call frame information, if there is some without a header; fails if it fails to allocate.
+/// of the call frame information, if there is some without a header; fails if it fails to allocate. What
+/// it took of `info` is gone then: make `info` anew before another try.
 pub fn load_module<D: SectionBytes + Drop, I: ModuleSectionInfo<D>>(
     alloc: Global,
     name: String,
@@ -37,7 +38,7 @@ pub fn load_module<D: SectionBytes + Drop, I: ModuleSectionInfo<D>>(
 
 /// As [`load_module`], with a table of the rules that its call frames say on the architecture `A`: there a step by a rule parses
 /// nothing, and on another one steps are by an index. An `.eh_frame_hdr` isn't used: steps are those of a module by an index. Fails
-/// if it fails to allocate.
+/// if it fails to allocate, and `info` has to be made anew then.
 pub fn load_module_tabulated<A: Tabulating, D: SectionBytes + Drop, I: ModuleSectionInfo<D>>(
     alloc: Global,
     name: String,
@@ -58,7 +59,7 @@ pub fn load_module_tabulated<A: Tabulating, D: SectionBytes + Drop, I: ModuleSec
 
 /// As [`load_module`], but a module that is unwound by `.eh_frame` and has a `.debug_frame` too, as a program has that is compiled
 /// without asynchronous unwind tables and linked with start files that have them, is unwound by both: by `.debug_frame` at an address
-/// that its FDE contains and that of `.eh_frame` doesn't. Fails if it fails to allocate.
+/// that its FDE contains and that of `.eh_frame` doesn't. Fails if it fails to allocate, and `info` has to be made anew then.
 pub fn load_module_with_debug_frame<D: SectionBytes + Drop, I: ModuleSectionInfo<D>>(
     alloc: Global,
     name: String,

@@ -119,8 +119,8 @@ fn starts_rise(fdes: &[IndexedFde]) -> bool
     true
 }
 
-// FDEs in the order of their starts, and of equal starts the last before the first. Most sections have them in
-// that order already, each start above the one before.
+// FDEs in the order of their starts, and of equal starts the last before the first. Many small sections have
+// them in that order already, each start above the one before; most large ones don't.
 fn in_order(mut fdes: Vec<IndexedFde>) -> Result<Vec<IndexedFde>, AllocError>
     ensures { IfOk result (λ sorted. IsSortedFromBack fdes.items sorted.items) }
 {
@@ -285,8 +285,7 @@ impl DwarfCfiIndex {
     }
 
     /// The offset in the section, in bytes, of the FDE for an address relative to the base: of those with
-    /// the greatest start at or below it, the first in the section. `None` if each starts above. Reads at
-    /// most ceil(log2(n)) + 1 of the n starts.
+    /// the greatest start at or below it, the first in the section. `None` if each starts above.
     pub fn fde_offset_for_relative_address(&self, rel_lookup_address: u32) -> Option<u32>
         ensures { IsOffsetByIndex self.now rel_lookup_address result }
     {

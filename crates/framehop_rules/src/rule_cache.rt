@@ -100,7 +100,7 @@ impl CacheStats {
     }
 }
 
-/// What a look-up that found no rule was for.
+/// The key of a failed look-up: pass it to `insert` with the rule to keep.
 #[derive(Drop)]
 pub struct CacheHandle {
     slot: u16,

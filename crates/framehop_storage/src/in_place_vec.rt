@@ -10,8 +10,8 @@ use std::marker::Model;
 
 /// A vector of at most `N` items, in place.
 ///
-/// It is made of copies of one blank item. If that is of zero bytes, as a rule is that undefines register 0, the compiler makes
-/// one fill of memory of it, wherever the vector goes from there; an `ArrayVec` writes its blanks one by one, and is copied.
+/// It is made of copies of one blank item. If that is all zero bytes, as `Undefined` for register 0 is, the compiler fills the
+/// vector with one memset at its final place; an `ArrayVec` writes its blanks one by one, and is copied.
 #[derive(Drop)]
 pub struct InPlaceVec<T, const N: usize> {
     // N items, of which the first `len` are the list's

@@ -17,7 +17,7 @@ pub(crate) struct KeptEntry<K: KeptRule> {
     kept: K,
 }
 
-// .. by the rule.
+// The entry type of a rule type.
 pub(crate) type Entry<Rule> = KeptEntry<<Rule as SameRule>::Kept>;
 
 impl<K: KeptRule> Model for KeptEntry<K> {

@@ -33,8 +33,8 @@ pub trait KeptRule: Copy {
         ensures { IsTrue result ↔ self ≡ other };
 }
 
-/// An unwind rule that tables keep, by what can be told from others.
+/// An unwind rule with a compact form that a table stores.
 pub trait SameRule: UnwindRule {
-    /// What is kept.
+    /// The compact form.
     type Kept: KeptRule<Rule = Self>;
 }

@@ -113,7 +113,8 @@ impl<'u, 'c, 'r, U: Unwinder, F: FnMut(u64) -> Result<u64, ()>> UnwindIterator<'
     }
 
     /// The next frame, `None` at the end of the stack and from then on. The first is the instruction
-    /// pointer. After an error the walk is where it was, and the next call makes the step again.
+    /// pointer. After an error the walk is where it was, and the next call makes the step again; but
+    /// after `ReturnAddressIsNull` it has the caller's registers there, and must not be continued.
     ///
     /// Through a cache that fits the unwinder the frames are those without a cache. The cache goes on
     /// fitting all unwinders that it fitted, if those of the generation of this one have its modules.

@@ -207,7 +207,8 @@ impl<A: ModuleUnwinding> Session<A> {
 
     /// Makes the next move of a walk over an unwinder's frames, with any of the caches: returns the
     /// next frame, or `None` at the end of the stack and from then on. The first frame is the
-    /// instruction pointer. After an error the walk is where it was.
+    /// instruction pointer. After an error the walk is where it was, but after `ReturnAddressIsNull` it
+    /// has the caller's registers there, and must not be continued.
     pub fn next_frame<F: FnMut(u64) -> Result<u64, ()>>(
         &mut self,
         unwinder: usize,
