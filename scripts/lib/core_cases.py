@@ -257,8 +257,8 @@ def build(folder, source, compiler, options):
 def make_by_gdb(folder, source, compiler, options, arguments):
     """Builds a program, runs it up to its signal, and makes its core."""
     program, core = build(folder, source, compiler, options), folder / "core"
-    run("bash", "-c", 'ulimit -s unlimited; MALLOC_ARENA_MAX=1 exec "$@"', "bash", "gdb", "-nx", "-batch", *MAKE, "-ex", "run", "-ex", f"generate-core-file {core}",
-        "--args", program, *arguments)
+    run("bash", "-c", 'ulimit -s unlimited; MALLOC_ARENA_MAX=1 exec "$@"', "bash", "gdb", "-nx", "-batch", *MAKE, "-ex", "run", "-ex",
+        f"generate-core-file {core}", "--args", program, *arguments)
     return Made(program, core, ["gdb", "-nx", "-batch"], True)
 
 

@@ -2,7 +2,7 @@
 
 A record has these fields: `claim`, a sentence; `against`, what it was compared with; `command`; `exceptions`, sentences on what was not
 as claimed, each with its cause; `proved`, whether the programs that ran were the proved ones; `commit`, with a `+` if files that the
-record rests on had been changed since; `date`; `minutes` that a run takes; `machine`; `inputs`, the crates that it rests on; `hash`, of
+record rests on had been changed since; `date`; `minutes` that a run takes; `machine`; `inputs`, the crates that it rests on, or `*`; `hash`, of
 the sources and definitions of these crates and of all below them, and of the script; `stale_because`, why it wasn't run again over
 other files; the tables `counts`, numbers by their names, of which `shown` are those that documents have if not all, and `tools`,
 versions. Figures by crate are in `[crates]`, and tables of a bench or of causes in `[[tables]]`.
@@ -148,8 +148,8 @@ def below():
 
 
 def with_below(names):
-    """Crates and those below them, in the order of crates.txt. A name of no crate is a KeyError."""
-    needed = set()
+    """Crates and those below them, in the order of crates.txt; `*` is all. A name of no crate is a KeyError."""
+    needed = set(below()) if "*" in names else set()
 
     def add(name):
         if name not in needed:
@@ -158,7 +158,7 @@ def with_below(names):
                 if other in below():
                     add(other)
 
-    for name in names:
+    for name in set(names) - {"*"}:
         add(name)
     return [name for name in below() if name in needed]
 
@@ -235,10 +235,14 @@ def newer_source(name):
     return next((path for crate in with_below([name]) for path in sources_of(crate) if path.stat().st_mtime > built), None)
 
 
+def is_program(name):
+    return (TOP / "crates" / name / "src/main.rt").is_file()
+
+
 def is_proved(given, inputs):
     """Whether a run is of the proved programs: of those that `rt run` built over the files as they are, and of no others."""
     others = [getattr(given, option, None) for option in ("program", "lister", "unwind")]
-    built = [TOP / "crates" / name / "out" / name for name in inputs]
+    built = [TOP / "crates" / name / "out" / name for name in inputs if is_program(name)]
     chosen = {pathlib.Path(other).resolve() for other in others if other} - {TOP / "unwind", *built}
     return not chosen and builtins.all(path.is_file() for path in built) and not any(map(newer_source, inputs))
 
@@ -293,7 +297,7 @@ def problems():
         where = record.path.relative_to(TOP)
         if record.script and not record.script.is_file():
             found.append(f"{where}: there is no {record.script.relative_to(TOP)}")
-        found += [f"{where}: there is no crate {name}" for name in record.inputs if name not in below()]
+        found += [f"{where}: there is no crate {name}" for name in record.inputs if name not in [*below(), "*"]]
         if record.is_stale() and not record.stale_because:
             found.append(f"{where} is stale: run scripts/evidence run {record.name}, or say why by scripts/evidence because")
         if not record.is_stale() and record.stale_because:

@@ -7,6 +7,7 @@ count, and `bench: HEADING: ROW: COLUMN` for a cell of a table, of which heading
 
 import functools
 import re
+import textwrap
 
 from lib import contracts, figures, records
 from lib.tools import TOP, crates
@@ -20,7 +21,8 @@ INLINE = re.compile(r"<!-- count: (.+?) -->(.*?)<!-- end -->", re.S)
 FIGURE = re.compile(r"(?<![\w.,])\d{1,3}(?:,\d{3})+(?![\w,])")
 CODE_AND_MARKERS = re.compile(
     r"^```.*?^```|<!-- ([\w -]+): begin -->.*?<!-- \1: end -->|<!-- count: .+? -->.*?<!-- end -->|`[^`\n]+`|^(?: {4}|\t)[^\n]*", re.M | re.S)
-LIBRARIES_ONLY = ("test_", "cases_", "bench_", "example_")
+WIDTH = 130
+OTHER_CRATES = ("test_", "cases_", "bench_", "example_")
 
 
 class Missing(Exception):
@@ -52,27 +54,28 @@ def lines_of(crate):
 
 
 def largest_crates():
-    """The libraries with more than 1,500 lines of code, the largest first."""
-    sizes = {name: lines_of(name) for name in crates() if not name.startswith(LIBRARIES_ONLY)}
-    return ", ".join(f"`{name}` {size:,}" for name, size in sorted(sizes.items(), key=lambda it: -it[1]) if size > 1500)
+    """The largest library by lines of code, and how many others have more than 1,500."""
+    sizes = sorted(((lines_of(name), name) for name in crates() if not name.startswith(OTHER_CRATES)), reverse=True)
+    (most, largest), *others = [it for it in sizes if it[0] > 1500]
+    return f"`{largest}` with {most:,}" + (f", and {len(others)} others with up to {others[0][0]:,}" if others else "")
 
 
 def most_operations():
     """How many operations an expression may execute."""
     found = [match[1] for path in records.sources_of("dwarf_expressions")
-             for match in re.finditer(r"const MAX_OPERATIONS\w*: \w+ = ([\d_]+);", path.read_text())]
-    return int(found[0]) if len(set(found)) == 1 else missing("dwarf_expressions has no constant MAX_OPERATIONS")
+             for match in re.finditer(r"const OPERATION_LIMIT: \w+ = (\d+);", path.read_text())]
+    return int(found[0]) if len(found) == 1 else missing("dwarf_expressions has no constant OPERATION_LIMIT")
 
 
-def headline_lines(beginning):
-    """The lines of definitions that a headline needs, as the reading plan has them, in words of fifties."""
+def headline_lines(code):
+    """The lines of definitions that the headline of a code needs, as the reading plan has them, to the next fifty."""
     for path in sorted((TOP / "docs").rglob("*.md")):
         if "<!-- plan of headlines: begin -->" in (text := path.read_text()):
             for row in text.partition("<!-- plan of headlines: begin -->")[2].splitlines():
                 cells = [cell.strip() for cell in row.strip("|").split("|")]
-                if cells[0].startswith(beginning):
+                if cells[0].startswith(f"**{code}**"):
                     return round(int(re.sub(r"\D", "", cells[2])) / 50) * 50
-    missing(f"no headline of the reading plan begins with '{beginning}'")
+    missing(f"the reading plan has no headline **{code}**")
 
 
 COUNTS = {
@@ -89,8 +92,33 @@ COUNTS = {
 }
 
 
+# What README tells of costs: in other words, the heading of the table, and the beginning of the row.
+COSTS = {
+    "a step through one cache, in long walks": ("x86_64, by an index", "32 walks of 128 frames, through one"),
+    "a step without a cached rule, by an index": ("x86_64, by an index", "32 walks of 128 frames, each through a new"),
+    "a step without a cached rule, by a table of rules": ("Tables of rules", "libc, a fresh step by a table"),
+    "the execution of a cached rule": ("Cached rules", "a step by an offset, one"),
+    "a step by compact unwind info, aarch64": ("Compact", "a step among 10,000 functions from a later frame, aarch64"),
+    "making an index, an FDE": ("x86_64, by an index", "making a module"),
+}
+# Ratios to the original's time: the record, the heading of its table, and the beginning of the row.
+RATIOS = {
+    "ratio of a row": "bench: Entries and rows: a row, of: Ratio",
+    "ratio of an index": "bench: x86_64, by an index: making a module: Ratio",
+    "ratio of a long walk": "bench: x86_64, by an index: 32 walks of 128 frames, through one: Ratio",
+    "ratio of a long walk, second": "bench-second: x86_64, by an index: 32 walks of 128 frames, through one: Ratio",
+    "ratio of a long walk, third": "bench-third: x86_64, by an index: 32 walks of 128 frames, through one: Ratio",
+    "ratio of a new cache": "bench: x86_64, by an index: 32 walks of 128 frames, each through: Ratio",
+    "ratio by a table": "bench: Tables of rules: libc, a fresh step by a table: Ratio",
+    "ratio by a cached rule": "bench: Cached rules: a step by an offset, one: Ratio",
+    "ratio by compact info": "bench: Compact: a step among 10,000 functions from a later frame, x86_64: Ratio",
+    "ratio by compact info of aarch64": "bench: Compact: a step among 10,000 functions from a later frame, aarch64: Ratio",
+}
+
+
 def value_of(key):
     """The text of a figure in a line."""
+    key = RATIOS.get(key, key)
     head, _, rest = key.partition(": ")
     if not rest:
         value = COUNTS[key]() if key in COUNTS else missing(f"nothing is counted as '{key}'")
@@ -107,7 +135,7 @@ def cell_of(record, key):
     heading, row, column = (key.split(": ") + ["", ""])[:3]
     for table in record.tables:
         columns, *rows = table["rows"]
-        if table.get("heading", "").startswith(heading) and column in columns:
+        if table.get("heading", table.get("of", "")).startswith(heading) and column in columns:
             for cells in rows:
                 if cells[0].startswith(row):
                     return cells[columns.index(column)]
@@ -127,8 +155,13 @@ def is_measured(record):
 
 def size_of(record):
     """What was counted, without differences if there was none."""
-    shown = {what: count for what, count in record.counts.items() if what in record.shown} if record.shown else record.counts
-    return ", ".join(f"{number_text(count)} {what}" for what, count in shown.items() if what != "differences" or count)
+    shown = {what: record.counts[what] for what in record.shown or record.counts if what in record.counts}
+    groups = {}
+    for what, count in shown.items():
+        if what != "differences" or count:
+            head, _, rest = what.rpartition(": ")
+            groups.setdefault(head, []).append(f"{number_text(count)} {rest.removesuffix('s') if count == 1 else rest}")
+    return "; ".join((f"{head}: " if head else "") + ", ".join(texts) for head, texts in groups.items())
 
 
 def state_of(record, reasons):
@@ -163,10 +196,14 @@ def causes():
 
 # ---- the gate
 
+def wrapped(text):
+    return "\n".join(textwrap.wrap(text, WIDTH, break_on_hyphens=False, break_long_words=False)) + "\n"
+
+
 def run_of(record):
     """When and where a record was made, and whether it is fresh."""
     state = f"Stale: {record.stale_because}" if record.is_stale() else "The files are the same."
-    return f"Run on {record.date} at {record.commit}, on {record.machine}. {state}\n"
+    return wrapped(f"Run on {record.date} at {record.commit}, on {record.machine}. {state}")
 
 
 def thousand(minutes, lines):
@@ -180,8 +217,8 @@ def gate_sums():
     rows = [["Sum", "Processor minutes", "A thousand lines"]]
     lines = record.counts["lines"]
     rows += [[text, number_text(record.counts[name]), thousand(record.counts[name], lines)] for name, text in names.items()]
-    more = f"{lines:,} lines; {number_text(record.counts['minutes by the clock'])} minutes by the clock on {record.counts['processors']} processors. "
-    return "\n" + figures.markdown_table(rows) + "\n\n" + more + run_of(record)
+    clock, processors = number_text(record.counts["minutes by the clock"]), record.counts["processors"]
+    return "\n" + figures.markdown_table(rows) + f"\n\n{lines:,} lines; {clock} minutes by the clock on {processors} processors.\n" + run_of(record)
 
 
 def gate_crates():
@@ -213,26 +250,45 @@ def benchmarks():
     others = [it for it in records.all() if it.name.startswith("bench-")]
     parts = [f"\n{run_of(record)}"]
     if others:
-        parts.append("\n" + figures.markdown_table([["Column", "Run"], *([it.name.removeprefix("bench-"), run_of(it).strip()] for it in others)]) + "\n")
+        rows = [[it.name.removeprefix("bench-"), f"{it.date} {it.commit}", it.machine, it.claim] for it in others]
+        parts.append("\n" + figures.markdown_table([["Column", "Run", "Machine", "Measured"], *rows]) + "\n")
+    under = None
     for table in record.tables:
-        heading = f"\n## {table['heading']}\n\n{table['note']}\n" if "heading" in table else ""
-        parts.append(heading + "\n" + figures.markdown_table(beside(table, others)) + "\n")
+        under = table.get("heading", under)
+        heading = f"\n## {table['heading']}\n\n{wrapped(table['note'])}" if "heading" in table else ""
+        parts.append(heading + "\n" + figures.markdown_table(beside(table["rows"], under, others)) + "\n")
     return "".join(parts) + "\n"
 
 
-def beside(table, others):
-    """The rows of a table, with a column for each other run that has a ratio of one of them."""
-    columns, *rows = table["rows"]
-    found = {it.name.removeprefix("bench-"): ratios(it, table) for it in others}
+def beside(table, heading, others):
+    """The rows of a table under a heading, with a column for each other run that has a ratio of one of them."""
+    columns, *rows = table
+    found = {it.name.removeprefix("bench-"): ratios(it, heading, {row[0] for row in rows}) for it in others if "Ratio" in columns or "Wanted" in columns}
     found = {name: those for name, those in found.items() if those}
     return [[*columns, *found], *([*row, *(those.get(row[0], "–") for those in found.values())] for row in rows)]
 
 
-def ratios(record, table):
-    """The ratios of a run by the rows of a table: of the same heading and the same first column."""
-    labels = {row[0] for row in table["rows"]}
-    return {row[0]: row[-1] for other in record.tables if other.get("of") in (table.get("heading"), table.get("name"))
-            for row in other["rows"] if row[0] in labels}
+def ratios(record, heading, labels):
+    """The ratios of a run under a heading, by these labels of rows."""
+    return {row[0]: row[-1] for table in record.tables if table.get("of") == heading for row in table["rows"][1:] if row[0] in labels}
+
+
+def costs():
+    """What README tells of costs."""
+    others = [it for it in records.all() if it.name.startswith("bench-")]
+    rows = [["Time on x86_64", "Here", "framehop", "Ratio", "On other machines"]]
+    for text, (heading, label) in COSTS.items():
+        table, row = next((it["rows"], row) for it in records.named("bench").tables if it.get("heading", "").startswith(heading)
+                          for row in it["rows"] if row[0].startswith(label))
+        cells = dict(zip(table[0], row))
+        elsewhere = [those[row[0]] for it in others if (those := ratios(it, heading_of(heading), {row[0]}))]
+        rows.append([text, *(re.sub(" an? .*", "", cells[column]) for column in ("Proved", "Original")), cells["Ratio"], ", ".join(elsewhere) or "–"])
+    return figures.markdown_table(rows) + "\n"
+
+
+def heading_of(beginning):
+    """The heading of the last whole run that begins so."""
+    return next(it["heading"] for it in records.named("bench").tables if it.get("heading", "").startswith(beginning))
 
 
 def charts():
@@ -248,6 +304,7 @@ def charts():
 # ---- writing
 
 PARTS = [
+    (TOP / "README.md", "costs", costs),
     (EVIDENCE, "evidence", evidence), (EVIDENCE, "causes", causes), (GATE, "sums", gate_sums), (GATE, "times", gate_crates),
     (GATE, "contracts", lambda: contracts.table()), (GATE, "edits", edit_table), (BENCHMARKS, "figures", benchmarks),
 ]
@@ -311,6 +368,10 @@ def problems():
                  for path, text in differing().items()]
     except Missing as error:
         found = [str(error)]
+    for path in documents():
+        text = path.read_text()
+        found += [f"{path.relative_to(TOP)}:{text.count(chr(10), 0, match.start()) + 1} begins with a figure's marker, which ends the paragraph"
+                  for match in re.finditer(r"^[ \t]*<!-- count: ", text, re.M)]
     for name in COUNTED:
         found += [f"{name}:{line}: {figure} is written by hand: put it between markers" for line, figure in by_hand((TOP / name).read_text())]
     return found
