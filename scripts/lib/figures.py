@@ -127,31 +127,31 @@ def chart(groups, title="Time as a multiple of the original's; less is faster"):
     """A chart of the ratios as SVG: a bar for each, and a line at 1.0, the original's time."""
     top = max(ratio for group in groups for _, ratio in group.bars)
     scale = BARS / max(1.25, top)
-    at, parts = MARGIN, []
+    first = MARGIN + 36
+    texts, labels, bars, at = [], [], {"less": [], "more": []}, first
 
     def text(x, y, content, more=""):
-        parts.append(f'<text x="{x:.0f}" y="{y:.0f}"{more}>{html.escape(content)}</text>')
+        return f'<text x="{x:.0f}" y="{y:.0f}"{more}>{html.escape(content, quote=False)}</text>'
 
-    text(MARGIN, at + 12, title, ' class="title"')
-    text(LABELS + scale, at + 30, "1.0", ' class="axis" text-anchor="middle"')
-    at += 36
-    first = at
     for group in groups:
-        text(MARGIN, at + 15, group.heading, ' class="heading"')
+        texts.append(text(MARGIN, at + 15, group.heading, ' class="heading"'))
         at += ROW + 2
         for label, ratio in group.bars:
-            text(LABELS - 8, at + 14, label, ' text-anchor="end"')
-            kind = "less" if ratio <= 1 else "more"
-            parts.append(f'<rect class="{kind}" x="{LABELS}" y="{at + 3}" width="{ratio * scale:.1f}" height="{ROW - 6}"/>')
-            text(LABELS + max(ratio, 1) * scale + 6, at + 14, f"{ratio:.2f}")
+            labels.append(text(LABELS - 8, at + 14, label))
+            width = round(ratio * scale)
+            bars["less" if ratio <= 1 else "more"].append(f"M{LABELS} {at + 3}h{width}v{ROW - 6}h-{width}z")
+            texts.append(text(LABELS + max(ratio, 1) * scale + 6, at + 14, f"{ratio:.2f}"))
             at += ROW
         at += 6
-    line = f'<line x1="{LABELS + scale:.1f}" y1="{first}" x2="{LABELS + scale:.1f}" y2="{at}"/>'
     height = at + MARGIN
     return "\n".join([
         f'<svg xmlns="http://www.w3.org/2000/svg" width="{WIDTH}" height="{height}" viewBox="0 0 {WIDTH} {height}">',
         "<style>text{font:12px sans-serif;fill:#222}.title{font-weight:bold;font-size:14px}.heading{font-weight:bold}.axis{fill:#555}"
-        ".less{fill:#4878a8}.more{fill:#c8843c}line{stroke:#555;stroke-dasharray:4 3}</style>",
+        ".less{fill:#4878a8}.more{fill:#c8843c}.one{stroke:#555;stroke-dasharray:4 3}</style>",
         '<rect width="100%" height="100%" fill="#fff"/>',
-        *parts, line, "</svg>", "",
+        text(MARGIN, MARGIN + 12, title, ' class="title"'),
+        text(LABELS + scale, MARGIN + 30, "1.0", ' class="axis" text-anchor="middle"'),
+        *(f'<path class="{kind}" d="{"".join(those)}"/>' for kind, those in bars.items() if those),
+        *texts, '<g text-anchor="end">', *labels, "</g>",
+        f'<path class="one" d="M{LABELS + scale:.1f} {first}V{at}"/>', "</svg>", "",
     ])
