@@ -20,6 +20,7 @@ import json
 import os
 import pathlib
 import re
+import shlex
 import shutil
 import subprocess
 import sys
@@ -259,7 +260,7 @@ def command_line():
                 next(words, None)
         elif option not in OPTIONS_ALONE:
             found.append(word)
-    return " ".join([str(path.relative_to(TOP)) if path.is_relative_to(TOP) else path.name, *found])
+    return shlex.join([str(path.relative_to(TOP)) if path.is_relative_to(TOP) else path.name, *found])
 
 
 def begin(given):
@@ -280,7 +281,7 @@ def write(name, counts, proved, **more):
     paths = [TOP / "crates" / crate / part for crate in with_below(record.inputs) for part in ("src", "specs")]
     script = [record.script] if record.script else []
     found = {"commit": commit([*paths, *script]), "date": str(datetime.date.today()), "hash": hash_of(record.inputs, record.script),
-             "machine": machine(), "minutes": round((time.monotonic() - BEGUN) / 60, 1), "tools": versions(), "stale_because": ""}
+             "machine": machine(), "minutes": round((time.monotonic() - BEGUN) / 60, 1), "tools": versions(), "stale_because": "", "tables": [], "crates": {}}
     record = dataclasses.replace(record, counts=counts, proved=proved, **(found | more))
     record.path.write_text(record.text())
     print(f"written: {record.path.relative_to(TOP)}")
