@@ -33,7 +33,7 @@ from lib.tools import TOP, crates, give_up
 FOLDER = TOP / "evidence"
 BEGUN = time.monotonic()
 # Options that change nothing of what is compared.
-PASSED_OVER = ("--record", "--program", "--lister", "--unwind", "--jobs", "--workers", "--save", "--keep", "--wine", "--show", "--original", "--peer")
+PASSED_OVER = ("--record", "--program", "--lister", "--jobs", "--workers", "--save", "--keep", "--wine", "--show", "--original", "--peer")
 OPTIONS_ALONE = ("--markdown", "--no-build", "--unlimited")
 
 
@@ -227,9 +227,9 @@ def versions():
     return found
 
 
-def newer_source(name):
-    """A source of a built program that is newer than it, or None. A program that isn't built has none."""
-    program = TOP / "crates" / name / "out" / name
+def newer_source(name, tests=False):
+    """A source of a built program, or of a crate's tests, that is newer than it, or None. What isn't built has none."""
+    program = TOP / "crates" / name / "out" / (f"{name}_tests" if tests else name)
     if not program.is_file():
         return None
     built = program.stat().st_mtime
@@ -271,8 +271,9 @@ def begin(given):
         give_up(f"the record {record.name} is of `{record.command}`, not of `{line}`")
     if not getattr(given, "program", None):
         for name in record.inputs:
-            if path := newer_source(name):
-                give_up(f"{path.relative_to(TOP)} is newer than the program: rt run {name}")
+            tests = name == getattr(given, "tests", None)
+            if path := newer_source(name, tests):
+                give_up(f"{path.relative_to(TOP)} is newer than the program: rt {'test' if tests else 'run'} {name}")
 
 
 def write(name, counts, proved, **more):

@@ -78,6 +78,12 @@ def headline_lines(code):
     missing(f"the reading plan has no headline **{code}**")
 
 
+def proof_minutes(crate):
+    """The minutes of processor that the proofs of a crate and of those below it take."""
+    rows = records.named("gate").crates
+    return round(sum(rows[name]["proof"] for name in records.with_below([crate]) if name in rows))
+
+
 COUNTS = {
     "wrong-edits": lambda: sum(map(sum, wrong_edits().values())),
     "wrong-edits of the gate": lambda: sum(gate for gate, _ in wrong_edits().values()),
@@ -87,6 +93,7 @@ COUNTS = {
     "lines": lambda: sum(map(lines_of, crates())),
     "largest crates": largest_crates,
     "most operations": most_operations,
+    "proof minutes of backtrace": lambda: proof_minutes("backtrace"),
     "long clauses": lambda: len(contracts.counts()[1].lines),
     "clauses": lambda: contracts.clause_count(),
 }
@@ -225,7 +232,7 @@ def gate_crates():
     """The gate's minutes by crate."""
     record = records.named("gate")
     rows = [["Crate", "Lines", "Proof", "Tests", "Edits", "A thousand lines"]]
-    for name, row in record.crates.items():
+    for name, row in ((name, row) for name, row in record.crates.items() if name in crates()):
         spent = [f"{row[kind]:.1f}" if row.get(kind) else "–" for kind in ("proof", "tests", "edits")]
         rows.append([f"`{name}`", f"{row['lines']:,}", *spent, thousand(row["proof"] + row.get("tests", 0), row["lines"])])
     return "\n" + figures.markdown_table(rows) + "\n"
