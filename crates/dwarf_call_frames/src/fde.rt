@@ -1,6 +1,6 @@
 //! The FDE for an address, by the table.
 
-ghost use Rattle.dwarf_call_frames.specs.EhFrameCies.{NamesFdeFor, NamesRowFor};
+ghost use Rattle.dwarf_call_frames.specs.EhFrameCies.{NamesFdeFor, NamesRowFor, eh_cies};
 
 use crate::table::EhHdrTable;
 use dwarf_constants::{Error, Result};
@@ -30,7 +30,7 @@ impl<'a, R: Reader> EhHdrTable<'a, R> {
         get_cie: F,
     ) -> Result<FrameDescriptionEntry<R>>
         requires { F.IsAlwaysCallable get_cie }
-        ensures { NamesFdeFor F.step R.stretch R.Offset.value R.Offset.limit self.now
+        ensures { NamesFdeFor (eh_cies F.step R.stretch R.Offset.value R.Offset.limit) self.now
             frame.now bases.now address get_cie result }
     {
         let pointer = self.lookup(address, bases)?;
@@ -62,8 +62,8 @@ impl<'a, R: Reader> EhHdrTable<'a, R> {
         get_cie: F,
     ) -> Result<&'ctx UnwindTableRow<R::Offset, S::Rules>>
         requires { F.IsAlwaysCallable get_cie }
-        ensures { NamesRowFor F.step R.stretch R.Offset.value R.Offset.limit S.never_allocates
-            S.limits self.now frame.now bases.now address get_cie result }
+        ensures { NamesRowFor (eh_cies F.step R.stretch R.Offset.value R.Offset.limit)
+            S.never_allocates S.limits self.now frame.now bases.now address get_cie result }
     {
         let fde = self.fde_for_address(frame, bases, address, get_cie)?;
         fde.unwind_info_for_address(frame, bases, ctx, address)

@@ -21,6 +21,20 @@ use Rattle.dwarf_frame_entries.specs.Memory.{MayGive}
 abbrev pub CieResult : (R E O : Type 0) → Type 0
 CieResult R E O = Result (CommonInformationEntry R E O) Error
 
+-- How contracts see a function that reads CIEs: its steps, what the reader of a CIE and its offsets stand for, and the section and the
+-- offset that it is asked for.
+pub record CieCalls (F S N R E O : Type 0) : Type 1 where
+  pub step : F → Bor S → Bor BaseAddresses → N → CieResult R E O → F → Type 0
+  pub stretch : R → Stretch
+  pub value : O → ℕ
+  pub frame : S → BaseAddresses → FrameSection
+  pub number : N → ℕ
+
+abbrev pub cies : {F S N R E O : Type 0} → (F → Bor S → Bor BaseAddresses → N → CieResult R E O → F → Type 0) → (R → Stretch) → (O → ℕ)
+    → (S → BaseAddresses → FrameSection) → (N → ℕ) → CieCalls F S N R E O
+cies step stretch value frame number =
+    record { step = step; stretch = stretch; value = value; frame = frame; number = number }
+
 -- If a function reads CIEs so, a lookup returned this FDE, or this error; or OutOfMemory, if the function may allocate.
 abbrev pub GivesByCies : ((may_allocate : Bool) → Type 0) → Result Fde Error → Result Fde Error → Type 0
 GivesByCies reads result answer = (may_allocate : Bool) → reads may_allocate → MayGive may_allocate (λ fde. fde) result answer
@@ -71,24 +85,11 @@ module _ {F S N R E O : Type 0} (step : F → Bor S → Bor BaseAddresses → N 
   ReadsFde given bases get_cie result answer =
       let section = frame given bases in GivesByCies (ReadsCie section get_cie) result (answer section)
 
-  -- .. the FDE at this offset
-  abbrev pub ReadsFdeAt : S → BaseAddresses → N → F → Result Fde Error → Type 0
-  ReadsFdeAt given bases offset get_cie result = ReadsFde given bases get_cie result (λ section. fde_from_offset section (number offset))
-
   -- If the function reads CIEs of the section, a lookup returned this FDE, or this error; or OutOfMemory, if the function may
   -- allocate.
-  abbrev pub FindsFde : S → BaseAddresses → F → Result Fde Error → (FrameSection → Result Fde Error) → Type 0
-  FindsFde given bases get_cie result answer =
+  abbrev pub FindsFdeBy : S → BaseAddresses → F → Result Fde Error → (FrameSection → Result Fde Error) → Type 0
+  FindsFdeBy given bases get_cie result answer =
       let section = frame given bases in GivesByCies (ReadsCies section get_cie) result (answer section)
-
-  -- .. the FDE for this address
-  abbrev pub FindsFdeFor : S → BaseAddresses → (address : ℕ) → F → Result Fde Error → Type 0
-  FindsFdeFor given bases address get_cie result = FindsFde given bases get_cie result (λ section. fde_for_address section address)
-
-  -- .. the FDE for this address, if FDEs that can't be read are passed over
-  abbrev pub FindsFdeSkipping : S → BaseAddresses → (address : ℕ) → F → Result Fde Error → Type 0
-  FindsFdeSkipping given bases address get_cie result =
-      FindsFde given bases get_cie result (λ section. fde_for_address_skipping section address)
 
   module _ {L : Type 0} (Fixed : Type 0) where
     -- If the function reads a CIE of the section, as it is called once, a lookup returned this row, or this error; or OutOfMemory,
@@ -105,7 +106,24 @@ module _ {F S N R E O : Type 0} (step : F → Bor S → Bor BaseAddresses → N 
     FindsRow given bases get_cie result answer =
         let section = frame given bases in IsRowByCies value Fixed (ReadsCies section get_cie) (answer section) result
 
-    -- .. the row for this address
-    abbrev pub FindsRowFor : Limits → Vendor → S → BaseAddresses → (address : ℕ) → F → Result (Bor (UnwindTableRow O L)) Error → Type 0
-    FindsRowFor limits vendor given bases address get_cie result =
-        FindsRow given bases get_cie result (λ section. section_row limits section vendor address)
+module _ {F S N R E O : Type 0} (c : CieCalls F S N R E O) where
+  -- `ReadsFde` of the FDE at this offset
+  abbrev pub ReadsFdeAt : S → BaseAddresses → N → F → Result Fde Error → Type 0
+  ReadsFdeAt given bases offset get_cie result =
+      ReadsFde c.step c.stretch c.value c.frame c.number given bases get_cie result (λ section. fde_from_offset section (c.number offset))
+
+  -- `FindsFdeBy` of the FDE for this address
+  abbrev pub FindsFde : S → BaseAddresses → (address : ℕ) → F → Result Fde Error → Type 0
+  FindsFde given bases address get_cie result =
+      FindsFdeBy c.step c.stretch c.value c.frame c.number given bases get_cie result (λ section. fde_for_address section address)
+
+  -- .. if FDEs that can't be read are passed over
+  abbrev pub ScansFde : S → BaseAddresses → (address : ℕ) → F → Result Fde Error → Type 0
+  ScansFde given bases address get_cie result =
+      FindsFdeBy c.step c.stretch c.value c.frame c.number given bases get_cie result (λ section. fde_for_address_skipping section address)
+
+  -- `FindsRow` of the row for this address
+  abbrev pub FindsRowFor : {L : Type 0} → (Fixed : Type 0) → Limits → Vendor → S → BaseAddresses → (address : ℕ) → F
+      → Result (Bor (UnwindTableRow O L)) Error → Type 0
+  FindsRowFor Fixed limits vendor given bases address get_cie result =
+      FindsRow c.step c.stretch c.value c.frame c.number Fixed given bases get_cie result (λ section. section_row limits section vendor address)

@@ -2,7 +2,7 @@
 
 ghost use Rattle.std.specs.Prelude.{◌≡◌};
 ghost use Rattle.dwarf_endianity.specs.Answers.{Gives};
-ghost use Rattle.dwarf_frame_entries.specs.CieReaders.{FindsFdeFor, FindsFdeSkipping, FindsRowFor, ReadsFdeAt};
+ghost use Rattle.dwarf_frame_entries.specs.CieReaders.{FindsFde, FindsRowFor, ReadsFdeAt, ScansFde, cies};
 ghost use Rattle.dwarf_frame_entries.specs.Entries.{cie_from_offset, partial_fde_from_offset};
 ghost use Rattle.dwarf_frame_entries.specs.EntryLists.{entry_list_of};
 ghost use Rattle.dwarf_frame_entries.specs.EntryViews.{GivesCie};
@@ -100,7 +100,7 @@ pub trait UnwindSection<R: Reader>: Copy + Debug + _UnwindSectionPrivate<R> {
     where
         Self: Sized,
         requires { F.IsAlwaysCallable get_cie }
-        ensures { ReadsFdeAt F.step R.stretch R.Offset.value Self.frame Self.Offset.number
+        ensures { ReadsFdeAt (cies F.step R.stretch R.Offset.value Self.frame Self.Offset.number)
             self.now bases.now offset get_cie result }
     {
         let partial = self.partial_fde_from_offset(bases, offset)?;
@@ -121,7 +121,7 @@ pub trait UnwindSection<R: Reader>: Copy + Debug + _UnwindSectionPrivate<R> {
     where
         Self: Sized,
         requires { F.IsAlwaysCallable get_cie }
-        ensures { FindsFdeFor F.step R.stretch R.Offset.value Self.frame Self.Offset.number
+        ensures { FindsFde (cies F.step R.stretch R.Offset.value Self.frame Self.Offset.number)
             self.now bases.now address get_cie result }
     {
         let mut entries = self.entries(bases);
@@ -152,7 +152,7 @@ pub trait UnwindSection<R: Reader>: Copy + Debug + _UnwindSectionPrivate<R> {
     where
         Self: Sized,
         requires { F.IsAlwaysCallable get_cie }
-        ensures { FindsFdeSkipping F.step R.stretch R.Offset.value Self.frame Self.Offset.number
+        ensures { ScansFde (cies F.step R.stretch R.Offset.value Self.frame Self.Offset.number)
             self.now bases.now address get_cie result }
     {
         let mut entries = self.entries(bases);
@@ -193,7 +193,7 @@ pub trait UnwindSection<R: Reader>: Copy + Debug + _UnwindSectionPrivate<R> {
     where
         Self: Sized,
         requires { F.IsAlwaysCallable get_cie }
-        ensures { FindsRowFor F.step R.stretch R.Offset.value Self.frame Self.Offset.number
+        ensures { FindsRowFor (cies F.step R.stretch R.Offset.value Self.frame Self.Offset.number)
             S.never_allocates S.limits (Self.extensions self.now) self.now bases.now address
             get_cie result }
     {

@@ -4,7 +4,7 @@ ghost use Rattle.std.specs.Prelude.{◌≡◌, ◌≢◌, IfErr, option_map};
 ghost use Rattle.dwarf_constants.specs.declared.error.Error.TheVariants.{OutOfMemory};
 ghost use Rattle.dwarf_frame_instructions.specs.Execution.{row_in};
 ghost use Rattle.dwarf_frame_entries.specs.EntryPrograms.{fde_program};
-ghost use Rattle.dwarf_frame_entries.specs.UnwindTables.{GivesTableRow, MakesTable, table_row};
+ghost use Rattle.dwarf_frame_entries.specs.UnwindTables.{GivesTableRow, MakesTable, NextLeaves, table_row};
 
 use crate::fde::FrameDescriptionEntry;
 use crate::section::UnwindSection;
@@ -21,7 +21,7 @@ pub struct UnwindTable<'a, 'ctx, R: Reader, S: UnwindContextStorage<R::Offset>> 
 
 impl<'a, 'ctx, R: Reader, S: UnwindContextStorage<R::Offset>> UnwindTable<'a, 'ctx, R, S> {
     ghost use Rattle.std.specs.Borrow.{sem};
-    ghost use Rattle.dwarf_frame_entries.specs.UnwindTableLends.{LeavesTable};
+    ghost use Rattle.dwarf_frame_entries.specs.UnwindTableLends.{LendsRow};
 
     /// The rows of an FDE; `section` has to be the one in which it was read. What the context held
     /// before doesn't matter. Fails with the error of one of the CIE's instructions, with
@@ -46,9 +46,9 @@ impl<'a, 'ctx, R: Reader, S: UnwindContextStorage<R::Offset>> UnwindTable<'a, 'c
     /// The next row, or `None` after the last. Fails with the error of an instruction, and with
     /// `OutOfMemory` only if the storage allocates; after that no row is left.
     pub fn next_row(&mut self) -> Result<Option<&UnwindTableRow<R::Offset, S::Rules>>>
-        ensures* leaves { sem 𝓛 (LeavesTable R.row S.row R.Endian.row R.Offset.row S.Rules.row
-            S.Stack.row S.Rules.ArrayLike R.stretch R.Offset.limit R.Offset.value S.Stack.items
-            S.limits self.entry result) }
+        ensures* leaves { sem 𝓛 (LendsRow R.row S.row R.Endian.row R.Offset.row S.Rules.row
+            S.Stack.row S.Rules.ArrayLike self.entry (NextLeaves R.stretch R.Offset.limit
+            R.Offset.value S.Stack.items S.limits self.old result)) }
         ensures row { GivesTableRow R.stretch R.Offset.limit R.Offset.value S.Stack.items S.limits
             S.never_allocates self.old result }
         ensures memory { S.never_allocates → IfErr result (λ e. e ≢ OutOfMemory) }

@@ -44,17 +44,31 @@ abbrev pub scan_failure : {Rule : Type 0} → Rule → Error → Result (UnwindR
 scan_failure uncovered NoUnwindInfoForAddress = Ok (ExecRule uncovered)
 scan_failure uncovered e = Err (FdeFromOffsetFailed e)
 
-module _ {Rule Registers S A C L K : Type 0} (step : S → ℕ → Result ℕ (Unit {0}) → S → Type 0) (old new : S) (before after : Registers)
-    (result : Result (UnwindResult Rule) DwarfUnwinderError) (m : RowMeanings Rule Registers) (meets : Row ℕ → Type 0) (limits : Limits)
-    (values : Option ℕ) (unwinder : DwarfUnwinder A C L K) (first : Bool) (relative : ℕ) where
+-- A call of a step by call frames: how its callback answers, the callback before and after it, likewise the registers, and what it
+-- returned.
+pub record StepCall (Rule Registers S : Type 0) : Type 1 where
+  pub step : S → ℕ → Result ℕ (Unit {0}) → S → Type 0
+  pub old : S
+  pub new : S
+  pub before : Registers
+  pub after : Registers
+  pub result : Result (UnwindResult Rule) DwarfUnwinderError
+
+abbrev pub did : {Rule Registers S : Type 0} → (S → ℕ → Result ℕ (Unit {0}) → S → Type 0) → S → S → Registers → Registers
+    → Result (UnwindResult Rule) DwarfUnwinderError → StepCall Rule Registers S
+did step old new before after result =
+    record { step = step; old = old; new = new; before = before; after = after; result = result }
+
+module _ {Rule Registers S A C L K : Type 0} (call : StepCall Rule Registers S) (m : RowMeanings Rule Registers) (meets : Row ℕ → Type 0)
+    (limits : Limits) (values : Option ℕ) (unwinder : DwarfUnwinder A C L K) (first : Bool) (relative : ℕ) where
   -- A step of an unwinder by call frames, within these limits: by the FDE at an offset of its section.
   abbrev pub AnswersFde : (offset : ℕ) → Type 0
   AnswersFde offset =
-      AnswersCoverage step old new before after result m meets first values
+      AnswersCoverage call.step call.old call.new call.before call.after call.result m meets first values
       (covered_by_fde limits m.vendor (frame_section_lent unwinder.bases unwinder.section) unwinder.base_svma relative offset)
 
   -- By a scan of its section.
   abbrev pub AnswersScan : Type 0
   AnswersScan =
-      AnswersCoverage step old new before after result m meets first values
+      AnswersCoverage call.step call.old call.new call.before call.after call.result m meets first values
       (covered_by_scan limits m.vendor (frame_section_lent unwinder.bases unwinder.section) unwinder.base_svma relative)

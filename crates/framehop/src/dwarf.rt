@@ -6,7 +6,7 @@ ghost use Rattle.dwarf_frame_entries.specs.Entries.{fde_from_offset};
 ghost use Rattle.framehop_rules.specs.UnwindResults.{HasValidRule};
 ghost use Rattle.framehop_rows.specs.Memory.{TakesMemory};
 ghost use Rattle.framehop.specs.Coverage.{by_entry, by_fde, by_near, by_scanned};
-ghost use Rattle.framehop.specs.DwarfViews.{AnswersCoverage, AnswersFde, AnswersScan, scan_failure};
+ghost use Rattle.framehop.specs.DwarfViews.{AnswersCoverage, AnswersFde, AnswersScan, did, scan_failure};
 ghost use Rattle.framehop_index.specs.Lookups.{found_by_header, parsed_header};
 ghost use Rattle.framehop_errors.specs.declared.dwarf.DwarfUnwinderError.TheVariants.{OutOfMemory};
 
@@ -323,7 +323,8 @@ impl<'a, A: DwarfUnwinding, UCS: UnwindContextStorage<usize>> DwarfUnwinder<'a, 
         requires rows { UCS.never_allocates }
         requires callable { F.IsAlwaysCallable read_stack.old }
         ensures callable { F.IsAlwaysCallable read_stack.new }
-        ensures answers { AnswersFde F.step read_stack.old read_stack.new regs.old regs.new result
+        ensures answers { AnswersFde
+            (did F.step read_stack.old read_stack.new regs.old regs.new result)
             A.rows A.MeetsExpression UCS.limits ES.Stack.capacity self.old is_first_frame
             relative_address fde_offset }
         ensures valid { HasValidRule A.UnwindRule.is_valid result }
@@ -380,7 +381,8 @@ impl<'a, A: DwarfUnwinding, UCS: UnwindContextStorage<usize>> DwarfUnwinder<'a, 
         requires rows { UCS.never_allocates }
         requires callable { F.IsAlwaysCallable read_stack.old }
         ensures callable { F.IsAlwaysCallable read_stack.new }
-        ensures answers { AnswersScan F.step read_stack.old read_stack.new regs.old regs.new result
+        ensures answers { AnswersScan
+            (did F.step read_stack.old read_stack.new regs.old regs.new result)
             A.rows A.MeetsExpression UCS.limits ES.Stack.capacity self.old is_first_frame
             relative_address }
         ensures valid { HasValidRule A.UnwindRule.is_valid result }

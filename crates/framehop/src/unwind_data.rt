@@ -186,8 +186,8 @@ fn format_with<D: SectionBytes + Drop>(
 
 // The sections without a header of `.eh_frame`.
 fn without_header<D: SectionBytes + Drop>(sections: ModuleSections<D>) -> ModuleSections<D>
-    ensures { (base : ℕ) → format_of base (sections_bytes D.content result)
-        ≡ indexed (format_of base (sections_bytes D.content sections)) }
+    ensures { (b : ℕ) → format_of b (sections_bytes D.content result)
+        ≡ indexed (format_of b (sections_bytes D.content sections)) }
 {
     match sections {
         ModuleSections::EhFrame { eh_frame, .. } => ModuleSections::EhFrame {

@@ -1,7 +1,7 @@
 -- What commands do to a session.
 use Rattle.std.specs.Prelude.{ℕ, ◌≡◌, List, [], length, map, slice_set, Bool, Option, Result, Err}
 use Rattle.std.specs.List.{All, slice_index_or}
-use Rattle.framehop_registers.specs.Callback.{Words, AnswersBy, OverWords}
+use Rattle.framehop_registers.specs.Callback.{Words, AnswersBy}
 use Rattle.framehop_registers.specs.declared.code_address.FrameAddress.{FrameAddress}
 use Rattle.framehop_registers.specs.declared.error.Error.{Error}
 use Rattle.framehop_registers.specs.declared.error.Error.TheVariants as error
@@ -50,13 +50,6 @@ abbrev pub ObeysInSession : {Data Rule Registers : Type 0} → Bool → (Data �
     → SessionState Data Rule → Answer Registers → SessionState Data Rule → Type 0
 ObeysInSession {Data} {Rule} {Registers} takes_memory asks m act old answer new =
     (walks : List (StackWalk Registers)) → Obeys takes_memory asks m act old walks answer new walks
-
--- a command over the words by which a callback answers, that was answered so by a call that took the callback from old to new
-abbrev pub ObeysOverWords : {Data Rule Registers Callback : Type 0} → (Callback → ℕ → Result ℕ (Unit {0}) → Callback → Type 0) → Callback → Callback
-    → Bool → (Data → ℕ → Bool → Type 0) → Meanings Data Rule Registers → (Words → Act Data Registers) → SessionState Data Rule
-    → List (StackWalk Registers) → Answer Registers → SessionState Data Rule → List (StackWalk Registers) → Type 0
-ObeysOverWords step first last takes_memory asks m act old walks answer new walks_after =
-    OverWords step first last (λ words. Obeys takes_memory asks m (act words) old walks answer new walks_after)
 
 -- what is as it was if a command is out of memory, names what isn't there or finds no number left
 abbrev pub StaysUnlessDone : {X Registers : Type 0} → Answer Registers → X → X → Type 0

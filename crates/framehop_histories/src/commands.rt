@@ -5,7 +5,7 @@ ghost use Rattle.std.specs.List.{All};
 ghost use Rattle.framehop_registers.specs.Callback.{OverWords};
 ghost use Rattle.framehop_histories.specs.Commands.{NewUnwinder, NewCache, Load, Unload, Clone, Step, NewWalk, NextFrame, Stepped, Moved};
 ghost use Rattle.framehop_histories.specs.CommandViews.{OfCallback, reply_of};
-ghost use Rattle.framehop_histories.specs.Performs.{LoadsStay, Obeys, ObeysByWords, ObeysInSession, ObeysOverWords, OneMovesOn, Performs, StaysUnlessDone, StepsOn, WalksMoveOn};
+ghost use Rattle.framehop_histories.specs.Performs.{LoadsStay, Obeys, ObeysByWords, ObeysInSession, OneMovesOn, Performs, StaysUnlessDone, StepsOn, WalksMoveOn};
 ghost use Rattle.framehop_unwinder.specs.Frames.{frame_of};
 ghost use Rattle.framehop_unwinder.specs.State.{SessionState};
 ghost use Rattle.framehop_unwinder.specs.Trials.{StaysUnlessStepped, wants_memory};
@@ -234,9 +234,9 @@ pub fn next_frame<A: ModuleUnwinding, F: FnMut(u64) -> Result<u64, ()>>(
 ) -> Answer<A::UnwindRegs>
     requires { F.IsAlwaysCallable read_stack.old }
     ensures callable { F.IsAlwaysCallable read_stack.new }
-    ensures obeys { ObeysOverWords F.step read_stack.old read_stack.new
-        A.takes_memory A.asks_memory A.meanings (NextFrame unwinder cache walk)
-        session.old walks.old.items result session.new walks.new.items }
+    ensures obeys { OverWords F.step read_stack.old read_stack.new (λ w. Obeys A.takes_memory
+        A.asks_memory A.meanings (NextFrame unwinder cache walk w)
+        session.old walks.old.items result session.new walks.new.items) }
     ensures walk { WalksMoveOn walk walks.old.items result walks.new.items }
     ensures loads { LoadsStay session.old session.new }
     ensures unknown { result ≡ Answer.Unknown → session.new ≡ session.old }
