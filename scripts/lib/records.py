@@ -7,8 +7,8 @@ the sources and definitions of these crates and of all below them, and of the sc
 other files; the tables `counts`, numbers by their names, of which `shown` are those that documents have if not all, and `tools`,
 versions. Figures by crate are in `[crates]`, and tables of a bench or of causes in `[[tables]]`.
 
-A record is stale if its hash isn't that of the files, and one with a hash for each crate if one of these isn't. A command that ends with
-`[NAME..]` is that of runs with any names.
+A record is stale if its hash isn't that of the files; one with a hash for each crate if one of these isn't, or if another crate has wrong
+edits. A command that ends with `[NAME..]` is that of runs with any names.
 """
 
 import builtins
@@ -73,7 +73,8 @@ class Record:
     def is_stale(self):
         """Whether what the record rests on has changed since the run."""
         if any("hash" in row for row in self.crates.values()):
-            return any(row["hash"] != edits_hash(name) for name, row in self.crates.items())
+            with_edits = {path.parent.name for path in TOP.glob("crates/*/wrong")}
+            return with_edits != set(self.crates) or any(row["hash"] != edits_hash(name) for name, row in self.crates.items())
         try:
             return not self.hash or self.hash != hash_of(self.inputs, self.script)
         except (KeyError, OSError):
@@ -283,7 +284,10 @@ def write(name, counts, proved, **more):
     script = [record.script] if record.script else []
     found = {"commit": commit([*paths, *script]), "date": str(datetime.date.today()), "hash": hash_of(record.inputs, record.script),
              "machine": machine(), "minutes": round((time.monotonic() - BEGUN) / 60, 1), "tools": versions(), "stale_because": "", "tables": [], "crates": {}}
+    reason = record.stale_because
     record = dataclasses.replace(record, counts=counts, proved=proved, **(found | more))
+    if record.is_stale():
+        record.stale_because = reason
     record.path.write_text(record.text())
     print(f"written: {record.path.relative_to(TOP)}")
 
