@@ -5,12 +5,12 @@ use std::alloc::{AllocError, Global};
 use std::test::Fail;
 
 // A value of a range.
-#[derive(Debug, Clone, Copy, PartialEq, Eq)]
+#[derive(Clone, Copy)]
 struct Letter(u8);
 
 impl SameValue for Letter {
     fn is_same(self, other: Self) -> bool {
-        self == other
+        self.0 == other.0
     }
 }
 
@@ -51,19 +51,17 @@ static LETTERS: [(u32, u8); 10] = [
 fn addresses_have_the_letters_of_their_ranges(rt: HostRuntime) -> Result<(), Fail> {
     let table = table_of(rt.alloc(), &ENDS)?;
     for (address, letter) in &LETTERS {
-        let found = table.look_up(*address);
-        assert!(rt; found.value == Letter(*letter), "at {address:#x}");
+        assert!(rt;
+            table.look_up(*address).value.0 == *letter,
+            "at {address:#x}"
+        );
     }
     assert!(rt; table.look_up(0x1000).starts_read == 0);
-    Ok(())
-}
-
-#[test]
-fn a_table_without_ranges_has_one_letter(rt: HostRuntime) -> Result<(), Fail> {
-    let table = table_of(rt.alloc(), &[])?;
+    // a table without ranges has one letter
+    let empty = table_of(rt.alloc(), &[])?;
     for address in [0, 8, 0xffff_ffff] {
-        let found = table.look_up(address);
-        assert!(rt; found.value == Letter(b'-') && found.starts_read == 0);
+        let found = empty.look_up(address);
+        assert!(rt; found.value.0 == b'-' && found.starts_read == 0);
     }
     Ok(())
 }
@@ -79,7 +77,7 @@ fn few_starts_are_read_of_many(rt: HostRuntime) -> Result<(), Fail> {
         let (first, last) = (8 + 16 * i, 23 + 16 * i);
         for address in [first, last] {
             let found = table.look_up(address);
-            assert!(rt; found.value == Letter((i % 7) as u8), "at {address:#x}");
+            assert!(rt; found.value.0 == (i % 7) as u8, "at {address:#x}");
             assert!(rt; found.starts_read <= 5, "at {address:#x}");
         }
     }
