@@ -22,6 +22,8 @@ FIGURE = re.compile(r"(?<![\w.,])\d{1,3}(?:,\d{3})+(?![\w,])")
 CODE_AND_MARKERS = re.compile(
     r"^```.*?^```|<!-- ([\w -]+): begin -->.*?<!-- \1: end -->|<!-- count: .+? -->.*?<!-- end -->|`[^`\n]+`|^(?: {4}|\t)[^\n]*", re.M | re.S)
 WIDTH = 130
+# A table with more rows than this has those with smaller numbers in one.
+LONG_TABLE, SMALL = 12, 100
 OTHER_CRATES = ("test_", "cases_", "bench_", "example_")
 
 
@@ -197,8 +199,19 @@ def causes():
     for record in records.all():
         if not is_measured(record) and record.tables:
             parts.append(f"\n## {record.claim}\n")
-            parts += ["\n" + figures.markdown_table(table["rows"]) + "\n" for table in record.tables]
+            parts += ["\n" + figures.markdown_table(without_small(table["rows"])) + "\n" for table in record.tables]
     return "".join(parts)
+
+
+def without_small(rows):
+    """The rows of a long table, with those of small numbers summed in one."""
+    head, *rest = rows
+    numbers = {row[0]: [int(cell.replace(",", "")) for cell in row[1:] if cell.replace(",", "").isdigit()] for row in rest}
+    small = [row for row in rest if len(numbers[row[0]]) == len(head) - 1 and max(numbers[row[0]]) < SMALL]
+    if len(rest) <= LONG_TABLE or len(small) < 2:
+        return rows
+    sums = [f"{sum(column):,}" for column in zip(*(numbers[row[0]] for row in small))]
+    return [head, *(row for row in rest if row not in small), [f"{len(small)} other causes", *sums]]
 
 
 # ---- the gate
