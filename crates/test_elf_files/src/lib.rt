@@ -2,8 +2,6 @@
 #![tactic(auto)]
 
 #[cfg(test)]
-mod facts;
-#[cfg(test)]
 mod notes;
 #[cfg(test)]
 mod numbering;

@@ -1,9 +1,13 @@
-//! Small shared objects, as readelf reads them.
+//! Small shared objects, as readelf reads them, and the worked file.
 
 use crate::real_files::{AARCH64, FileSeen, STRIPPED, SectionSeen, X86_64};
-use elf_files::{ElfFile, Section};
+use crate::worked::{WORKED, WORKED_SEEN};
+use elf_files::{ElfFile, Section, SectionKind, Segment, SegmentKind};
 use std::process::Abort;
 use std::test::Fail;
+
+// Names that no section has.
+static ABSENT: [&[u8]; 4] = [b".none", b".sym", b"symtab", b".symtab\0"];
 
 // A section is as readelf prints it.
 fn is_seen(section: &Section, seen: &SectionSeen) -> bool {
@@ -31,7 +35,9 @@ fn check_sections(rt: &impl Abort, file: &ElfFile<'_>, seen: &FileSeen) -> Resul
             "{index}"
         );
     }
-    assert!(rt; file.section_named(b".none".as_slice())? == None);
+    for name in ABSENT {
+        assert!(rt; file.section_named(name)? == None);
+    }
     Ok(())
 }
 
@@ -68,16 +74,46 @@ fn check(rt: &impl Abort, seen: &FileSeen) -> Result<(), Fail> {
 }
 
 #[test]
-fn of_x86_64(rt: HostRuntime) -> Result<(), Fail> {
-    check(&rt, &X86_64)
+fn of_all_files(rt: HostRuntime) -> Result<(), Fail> {
+    for seen in [&WORKED_SEEN, &X86_64, &AARCH64, &STRIPPED] {
+        check(&rt, seen)?;
+    }
+    Ok(())
 }
 
-#[test]
-fn of_aarch64(rt: HostRuntime) -> Result<(), Fail> {
-    check(&rt, &AARCH64)
-}
+const NOTES: Segment = Segment {
+    kind: SegmentKind::Note,
+    flags: 4,
+    offset: 0x208,
+    address: 0x2208,
+    file_size: 20,
+    memory_size: 20,
+    alignment: 4,
+};
+
+const SYMBOLS: Section = Section {
+    name_offset: 15,
+    kind: SectionKind::SymbolTable,
+    flags: 0,
+    address: 0,
+    offset: 0x1d8,
+    size: 48,
+    link: 2,
+    info: 1,
+    alignment: 8,
+    entry_size: 24,
+};
 
 #[test]
-fn stripped(rt: HostRuntime) -> Result<(), Fail> {
-    check(&rt, &STRIPPED)
+fn bytes(rt: HostRuntime) -> Result<(), Fail> {
+    let file = ElfFile::parse(&WORKED)?;
+    assert!(rt; file.segment_bytes(&NOTES)? == &WORKED[0x208..0x21c]);
+    assert!(rt; file.section_named(b".symtab")? == Some(SYMBOLS));
+    assert!(rt; file.section_bytes(&SYMBOLS)? == &WORKED[0x1d8..0x208]);
+    let none = Section {
+        kind: SectionKind::NoBits,
+        ..SYMBOLS
+    };
+    assert!(rt; file.section_bytes(&none)?.is_empty());
+    Ok(())
 }

@@ -1,168 +1,197 @@
-//! Files that are refused, each for one reason.
+//! Files that are refused, each for one reason, and parts of files that can't be read.
 
-use crate::worked::WORKED;
+use crate::worked::worked_with;
 use elf_files::{ElfError, ElfFile};
+use std::process::Abort;
 use std::test::Fail;
 
-/// A byte of the worked file that is changed, and why `parse` refuses the file then.
-static HEADERS: [(usize, u8, ElfError); 10] = [
-    (0, 0x7e, ElfError::NotElf { offset: 0 }),
-    (3, 0x45, ElfError::NotElf { offset: 0 }),
-    (4, 1, ElfError::UnsupportedClass { offset: 4 }),
-    (5, 2, ElfError::UnsupportedByteOrder { offset: 5 }),
-    (6, 0, ElfError::UnsupportedVersion { offset: 6 }),
-    (20, 2, ElfError::UnsupportedVersion { offset: 20 }),
-    (18, 3, ElfError::UnsupportedMachine { offset: 18 }),
-    (19, 1, ElfError::UnsupportedMachine { offset: 18 }),
-    (54, 32, ElfError::BadEntrySize { offset: 54 }),
-    (58, 40, ElfError::BadEntrySize { offset: 58 }),
+// What is read of a file.
+#[derive(Clone, Copy)]
+enum Part {
+    Header,
+    Name,
+    Function,
+    BuildId,
+}
+
+// The worked file: how many of its bytes there are, from the first number to below the second; bytes that are changed; and why a part
+// can't be read then.
+type Refusal = (
+    Part,
+    (usize, usize),
+    &'static [(usize, u8)],
+    Option<ElfError>,
+);
+
+const WHOLE: (usize, usize) = (0x21c, 0x21d);
+
+static HEADERS: [Refusal; 14] = [
+    (Part::Header, WHOLE, &[(0, 0x7e)], NOT_ELF),
+    (Part::Header, WHOLE, &[(3, 0x45)], NOT_ELF),
+    (
+        Part::Header,
+        WHOLE,
+        &[(4, 1)],
+        Some(ElfError::UnsupportedClass { offset: 4 }),
+    ),
+    (
+        Part::Header,
+        WHOLE,
+        &[(5, 2)],
+        Some(ElfError::UnsupportedByteOrder { offset: 5 }),
+    ),
+    (
+        Part::Header,
+        WHOLE,
+        &[(6, 0)],
+        Some(ElfError::UnsupportedVersion { offset: 6 }),
+    ),
+    (
+        Part::Header,
+        WHOLE,
+        &[(20, 2)],
+        Some(ElfError::UnsupportedVersion { offset: 20 }),
+    ),
+    (Part::Header, WHOLE, &[(18, 3)], NO_MACHINE),
+    (Part::Header, WHOLE, &[(19, 1)], NO_MACHINE),
+    (
+        Part::Header,
+        WHOLE,
+        &[(54, 32)],
+        Some(ElfError::BadEntrySize { offset: 54 }),
+    ),
+    (
+        Part::Header,
+        WHOLE,
+        &[(58, 40)],
+        Some(ElfError::BadEntrySize { offset: 58 }),
+    ),
+    // The section header at index 0 has the count of segments, and isn't there, or is cut off.
+    (
+        Part::Header,
+        WHOLE,
+        &[(56, 0xff), (57, 0xff), (40, 0)],
+        Some(ElfError::NoInitialSection { offset: 56 }),
+    ),
+    (
+        Part::Header,
+        WHOLE,
+        &[(56, 0xff), (57, 0xff), (40, 0xdd), (41, 1)],
+        Some(ElfError::Truncated { offset: 0x1dd }),
+    ),
+    (Part::Header, (0, 4), &[], NOT_ELF),
+    (
+        Part::Header,
+        (4, 64),
+        &[],
+        Some(ElfError::Truncated { offset: 0 }),
+    ),
 ];
 
-#[test]
-fn headers(rt: HostRuntime) -> Result<(), Fail> {
-    for (at, byte, error) in &HEADERS {
-        let mut bytes = WORKED;
-        if let Some(place) = bytes.get_mut(*at) {
-            *place = *byte;
-        }
-        assert!(rt; ElfFile::parse(&bytes).err() == Some(*error), "{at}");
-    }
-    Ok(())
-}
+const NOT_ELF: Option<ElfError> = Some(ElfError::NotElf { offset: 0 });
 
-#[test]
-fn fronts_of_the_header(rt: HostRuntime) -> Result<(), Fail> {
-    for size in 0..4 {
-        let refused = ElfFile::parse(&WORKED[..size]).err();
-        assert!(rt; refused == Some(ElfError::NotElf { offset: 0 }), "{size}");
-    }
-    for size in 4..64 {
-        let refused = ElfFile::parse(&WORKED[..size]).err();
-        assert!(rt;
-            refused == Some(ElfError::Truncated { offset: 0 }),
-            "{size}"
-        );
-    }
-    Ok(())
-}
+const NO_MACHINE: Option<ElfError> = Some(ElfError::UnsupportedMachine { offset: 18 });
 
-#[test]
-fn fronts(rt: HostRuntime) -> Result<(), Fail> {
-    let sections = Some(ElfError::Truncated { offset: 0x78 });
-    for size in 64..0x1b8 {
-        let file = ElfFile::parse(&WORKED[..size])?;
-        assert!(rt;
-            file.section_named(b".note".as_slice()).err() == sections,
-            "{size}"
-        );
-        assert!(rt; file.symbol_for_address(0x1000).err() == sections, "{size}");
-        assert!(rt; file.build_id().err() == sections, "{size}");
-    }
-    for size in 0x1b8..0x1d7 {
-        let file = ElfFile::parse(&WORKED[..size])?;
-        let names = file.section_named(b".note".as_slice()).err();
-        assert!(rt;
-            names == Some(ElfError::Truncated { offset: 0x1b8 }),
-            "{size}"
-        );
-    }
-    for size in 0x1d8..0x208 {
-        let file = ElfFile::parse(&WORKED[..size])?;
-        let symbols = file.symbol_for_address(0x1000).err();
-        assert!(rt;
-            symbols == Some(ElfError::Truncated { offset: 0x1d8 }),
-            "{size}"
-        );
-        let notes = file.build_id().err();
-        assert!(rt;
-            notes == Some(ElfError::Truncated { offset: 0x208 }),
-            "{size}"
-        );
-    }
-    Ok(())
-}
+static FRONTS: [Refusal; 6] = [
+    (Part::Name, (64, 0x1b8), &[], NO_SECTIONS),
+    (Part::Function, (64, 0x1b8), &[], NO_SECTIONS),
+    (Part::BuildId, (64, 0x1b8), &[], NO_SECTIONS),
+    (
+        Part::Name,
+        (0x1b8, 0x1d7),
+        &[],
+        Some(ElfError::Truncated { offset: 0x1b8 }),
+    ),
+    (
+        Part::Function,
+        (0x1d8, 0x208),
+        &[],
+        Some(ElfError::Truncated { offset: 0x1d8 }),
+    ),
+    (Part::BuildId, (0x1d8, 0x208), &[], NO_NOTES),
+];
 
-/// A byte of the worked file that is changed, and why a name, the function at 0x1000 and the build id can't be read then.
-static PARTS: [(
-    usize,
-    u8,
-    Option<ElfError>,
-    Option<ElfError>,
-    Option<ElfError>,
-); 8] = [
+const NO_SECTIONS: Option<ElfError> = Some(ElfError::Truncated { offset: 0x78 });
+
+const NO_NOTES: Option<ElfError> = Some(ElfError::Truncated { offset: 0x208 });
+
+static NAMES: [Refusal; 9] = [
     // e_shstrndx.
-    (
-        62,
-        5,
-        Some(ElfError::NoSuchSection { offset: 62 }),
-        None,
-        None,
-    ),
-    (
-        62,
-        1,
-        Some(ElfError::NotStringTable { offset: 62 }),
-        None,
-        None,
-    ),
+    (Part::Name, WHOLE, &[(62, 5)], NO_SUCH_NAMES),
+    (Part::Function, WHOLE, &[(62, 5)], None),
+    (Part::BuildId, WHOLE, &[(62, 5)], None),
+    (Part::Name, WHOLE, &[(62, 1)], NO_NAMES),
+    (Part::Function, WHOLE, &[(62, 1)], None),
+    (Part::BuildId, WHOLE, &[(62, 1)], None),
     // sh_flags of .strtab.
-    (0x101, 8, COMPRESSED_STRINGS, COMPRESSED_STRINGS, None),
-    // sh_link and sh_entsize of .symtab.
-    (
-        0x160,
-        9,
-        None,
-        Some(ElfError::NoSuchSection { offset: 0x1d8 }),
-        None,
-    ),
-    (
-        0x160,
-        1,
-        None,
-        Some(ElfError::NotStringTable { offset: 0x1d8 }),
-        None,
-    ),
-    (
-        0x170,
-        16,
-        None,
-        Some(ElfError::BadEntrySize { offset: 0x1d8 }),
-        None,
-    ),
-    // The name of f.
-    (
-        0x1f0,
-        200,
-        None,
-        Some(ElfError::BadString { offset: 0x280 }),
-        None,
-    ),
-    // n_descsz.
-    (
-        0x20c,
-        5,
-        None,
-        None,
-        Some(ElfError::Truncated { offset: 0x208 }),
-    ),
+    (Part::Name, WHOLE, &[(0x101, 8)], COMPRESSED),
+    (Part::Function, WHOLE, &[(0x101, 8)], COMPRESSED),
+    (Part::BuildId, WHOLE, &[(0x101, 8)], None),
 ];
 
-const COMPRESSED_STRINGS: Option<ElfError> = Some(ElfError::CompressedSection { offset: 0x1b8 });
+const NO_SUCH_NAMES: Option<ElfError> = Some(ElfError::NoSuchSection { offset: 62 });
+
+const NO_NAMES: Option<ElfError> = Some(ElfError::NotStringTable { offset: 62 });
+
+const COMPRESSED: Option<ElfError> = Some(ElfError::CompressedSection { offset: 0x1b8 });
+
+static SYMBOLS: [Refusal; 15] = [
+    // sh_link and sh_entsize of .symtab.
+    (Part::Name, WHOLE, &[(0x160, 9)], None),
+    (Part::Function, WHOLE, &[(0x160, 9)], NO_SUCH_STRINGS),
+    (Part::BuildId, WHOLE, &[(0x160, 9)], None),
+    (Part::Name, WHOLE, &[(0x160, 1)], None),
+    (Part::Function, WHOLE, &[(0x160, 1)], NO_STRINGS),
+    (Part::BuildId, WHOLE, &[(0x160, 1)], None),
+    (Part::Name, WHOLE, &[(0x170, 16)], None),
+    (Part::Function, WHOLE, &[(0x170, 16)], NO_SYMBOLS),
+    (Part::BuildId, WHOLE, &[(0x170, 16)], None),
+    // The name of f.
+    (Part::Name, WHOLE, &[(0x1f0, 200)], None),
+    (Part::Function, WHOLE, &[(0x1f0, 200)], NO_STRING),
+    (Part::BuildId, WHOLE, &[(0x1f0, 200)], None),
+    // n_descsz.
+    (Part::Name, WHOLE, &[(0x20c, 5)], None),
+    (Part::Function, WHOLE, &[(0x20c, 5)], None),
+    (Part::BuildId, WHOLE, &[(0x20c, 5)], NO_NOTES),
+];
+
+const NO_SUCH_STRINGS: Option<ElfError> = Some(ElfError::NoSuchSection { offset: 0x1d8 });
+
+const NO_STRINGS: Option<ElfError> = Some(ElfError::NotStringTable { offset: 0x1d8 });
+
+const NO_SYMBOLS: Option<ElfError> = Some(ElfError::BadEntrySize { offset: 0x1d8 });
+
+const NO_STRING: Option<ElfError> = Some(ElfError::BadString { offset: 0x280 });
+
+// Why a part of a file can't be read.
+fn refusal(part: Part, bytes: &[u8]) -> Option<ElfError> {
+    let file = match ElfFile::parse(bytes) {
+        Ok(file) => file,
+        Err(error) => return Some(error),
+    };
+    match part {
+        Part::Header => None,
+        Part::Name => file.section_named(b".note").err(),
+        Part::Function => file.symbol_for_address(0x1000).err(),
+        Part::BuildId => file.build_id().err(),
+    }
+}
+
+fn expect_refusals(rt: &impl Abort, refusals: &[Refusal]) {
+    for (part, (first, end), changes, error) in refusals {
+        let bytes = worked_with(changes);
+        for size in *first..*end {
+            let front = &bytes[..size.min(bytes.len())];
+            assert!(rt; refusal(*part, front) == *error, "{changes:?} {size}");
+        }
+    }
+}
 
 #[test]
-fn parts(rt: HostRuntime) -> Result<(), Fail> {
-    for (at, byte, name, symbol, build_id) in &PARTS {
-        let mut bytes = WORKED;
-        if let Some(place) = bytes.get_mut(*at) {
-            *place = *byte;
-        }
-        let file = ElfFile::parse(&bytes)?;
-        assert!(rt;
-            file.section_named(b".note".as_slice()).err() == *name,
-            "{at}"
-        );
-        assert!(rt; file.symbol_for_address(0x1000).err() == *symbol, "{at}");
-        assert!(rt; file.build_id().err() == *build_id, "{at}");
-    }
-    Ok(())
+fn of_files_and_parts(rt: HostRuntime) {
+    expect_refusals(&rt, &HEADERS);
+    expect_refusals(&rt, &FRONTS);
+    expect_refusals(&rt, &NAMES);
+    expect_refusals(&rt, &SYMBOLS);
 }

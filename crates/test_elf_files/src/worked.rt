@@ -1,7 +1,10 @@
-//! A small file, byte by byte by the System V gABI.
+//! A small file, byte by byte by the System V gABI, and what it has.
+
+use crate::real_files::{FileSeen, SectionSeen};
+use elf_files::{FileKind, Machine, SectionKind, Segment, SegmentKind, Symbol, SymbolKind};
 
 /// A shared object of x86_64 with a function `f` from 0x1000 to 0x1020, and the build id aa bb cc.
-pub static WORKED: [u8; 0x21c] = [
+pub const WORKED: [u8; 0x21c] = [
     // 0x0: The ELF header.
     0x7f, 0x45, 0x4c, 0x46, 0x02, 0x01, 0x01, 0x00, 0x00, 0x00, 0x00, 0x00, 0x00, 0x00, 0x00, 0x00,
     0x03, 0x00, 0x3e, 0x00, 0x01, 0x00, 0x00, 0x00, 0x10, 0x10, 0x00, 0x00, 0x00, 0x00, 0x00, 0x00,
@@ -44,3 +47,103 @@ pub static WORKED: [u8; 0x21c] = [
     0x04, 0x00, 0x00, 0x00, 0x03, 0x00, 0x00, 0x00, 0x03, 0x00, 0x00, 0x00, 0x47, 0x4e, 0x55, 0x00,
     0xaa, 0xbb, 0xcc, 0x00,
 ];
+
+/// What the file has.
+pub static WORKED_SEEN: FileSeen = FileSeen {
+    bytes: &WORKED,
+    machine: Machine::X86_64,
+    kind: FileKind::SharedObject,
+    entry: 0x1010,
+    sections: &[
+        SectionSeen {
+            name: b"",
+            kind: SectionKind::Null,
+            flags: 0,
+            address: 0,
+            offset: 0,
+            size: 0,
+            link: 0,
+            info: 0,
+            alignment: 0,
+            entry_size: 0,
+        },
+        SectionSeen {
+            name: b".text",
+            kind: SectionKind::ProgramBits,
+            flags: 6,
+            address: 0x1000,
+            offset: 0x1b8,
+            size: 4,
+            link: 0,
+            info: 0,
+            alignment: 16,
+            entry_size: 0,
+        },
+        SectionSeen {
+            name: b".strtab",
+            kind: SectionKind::StringTable,
+            flags: 0,
+            address: 0,
+            offset: 0x1b8,
+            size: 0x1f,
+            link: 0,
+            info: 0,
+            alignment: 1,
+            entry_size: 0,
+        },
+        SectionSeen {
+            name: b".symtab",
+            kind: SectionKind::SymbolTable,
+            flags: 0,
+            address: 0,
+            offset: 0x1d8,
+            size: 48,
+            link: 2,
+            info: 1,
+            alignment: 8,
+            entry_size: 24,
+        },
+        SectionSeen {
+            name: b".note",
+            kind: SectionKind::Note,
+            flags: 2,
+            address: 0x2208,
+            offset: 0x208,
+            size: 20,
+            link: 0,
+            info: 0,
+            alignment: 4,
+            entry_size: 0,
+        },
+    ],
+    segments: &[Segment {
+        kind: SegmentKind::Note,
+        flags: 4,
+        offset: 0x208,
+        address: 0x2208,
+        file_size: 20,
+        memory_size: 20,
+        alignment: 4,
+    }],
+    build_id: b"\xaa\xbb\xcc",
+    functions: &[(0xfff, None), (0x1000, F), (0x101f, F), (0x1020, None)],
+};
+
+const F: Option<Symbol<'static>> = Some(Symbol {
+    name: b"f",
+    kind: SymbolKind::Function,
+    section_index: 1,
+    value: 0x1000,
+    size: 0x20,
+});
+
+/// The file with some bytes changed, each at a place.
+pub fn worked_with(changes: &[(usize, u8)]) -> [u8; 0x21c] {
+    let mut bytes = WORKED;
+    for (at, byte) in changes {
+        if let Some(place) = bytes.get_mut(*at) {
+            *place = *byte;
+        }
+    }
+    bytes
+}
