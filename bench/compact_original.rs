@@ -1,4 +1,4 @@
-//! Looks addresses up in a section `__unwind_info` by the crate `macho-unwind-info`, as crates/bench_compact does.
+//! Looks addresses up in a section `__unwind_info` by the crate `macho-unwind-info`, as crates/bench_parts does.
 
 use macho_unwind_info::opcodes::OpcodeX86_64;
 use macho_unwind_info::UnwindInfo;

@@ -3,7 +3,7 @@
 import os
 import subprocess
 
-from lib.tools import give_up
+from lib.tools import built_program, give_up
 
 RUNS = 5
 
@@ -13,9 +13,19 @@ def use_one_processor():
     os.sched_setaffinity(0, {min(os.sched_getaffinity(0))})
 
 
+def bench_part(name):
+    """The built program of bench_parts with the name of a part, as a command."""
+    return [built_program("bench_parts"), name]
+
+
+def words_of(program):
+    """The words of a command: a program, perhaps with its first arguments."""
+    return [str(word) for word in (program if isinstance(program, list) else [program])]
+
+
 def printed(program, *words, given=b""):
     """What a program prints on some input."""
-    run = subprocess.run([str(program), *words], input=given, stdout=subprocess.PIPE)
+    run = subprocess.run([*words_of(program), *words], input=given, stdout=subprocess.PIPE)
     if run.returncode != 0:
         give_up(f"{program} ended with status {run.returncode}")
     return run.stdout.decode()
@@ -27,7 +37,7 @@ def processor_time(program, path):
     least = None
     for _ in range(RUNS):
         with open(path, "rb") as source:
-            child = subprocess.Popen([str(program)], stdin=source, stdout=subprocess.PIPE)
+            child = subprocess.Popen(words_of(program), stdin=source, stdout=subprocess.PIPE)
             written = child.stdout.read()
             _, status, used = os.wait4(child.pid, 0)
             child.returncode = os.waitstatus_to_exitcode(status)
