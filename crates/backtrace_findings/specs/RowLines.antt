@@ -12,7 +12,7 @@ start_text start = line (codes "from " ++ hexadecimal start)
 -- how many rows no rule says, and where the first starts
 abbrev pub unsaids_text : Place → List ℕ → List ℕ
 unsaids_text place [] = []
-unsaids_text place (start ∷ starts) = count_text place (codes "rows that no rule says") (length starts + 1) ++ start_text start
+unsaids_text place (start ∷ starts) = count_text place (codes "rows without an unwind rule") (length starts + 1) ++ start_text start
 
 -- an FDE whose rows end with an error
 abbrev pub failed_text : FailedFde → List ℕ

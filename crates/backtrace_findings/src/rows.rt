@@ -28,7 +28,7 @@ fn push_start(alloc: Global, text: &mut Vec<u8>, start: u64) -> Result<(), Alloc
     push_bytes(text, b"\n")
 }
 
-// Appends the line of rows that no rule says.
+// Appends the line of rows without an unwind rule.
 fn push_some_unsaid(
     alloc: Global,
     text: &mut Vec<u8>,
@@ -40,7 +40,7 @@ fn push_some_unsaid(
         (unsaids_text (place_seen place.now) (first ∷ others.now)) }
 {
     let count = others.len() as u64 + 1;
-    push_count(alloc, text, place, b"rows that no rule says", count)?;
+    push_count(alloc, text, place, b"rows without an unwind rule", count)?;
     push_start(alloc, text, first)
 }
 
