@@ -241,3 +241,46 @@ class Section:
                 except ReadError as error:
                     found[i] = {**entry, "error": error}
         return found, end
+
+
+# ---- entries as tests and programs print them
+
+def optional(text):
+    return "None" if text is None else f"Some({text})"
+
+
+def pointer_text(pointer):
+    return None if pointer is None else f"{'Indirect' if pointer[1] else 'Direct'}({pointer[0]})"
+
+
+def encoding_text(byte):
+    return None if byte is None else f"DwEhPe({byte})"
+
+
+def augmentation_text(augmentation):
+    """An optional augmentation by `Debug`."""
+    if augmentation is None:
+        return "None"
+    personality = augmentation["personality"]
+    pair = None if personality is None else f"({encoding_text(personality[0])}, {pointer_text(personality[1:])})"
+    fields = {
+        "has_data": str(augmentation["data"]).lower(),
+        "lsda": optional(encoding_text(augmentation["lsda"])),
+        "personality": optional(pair),
+        "fde_address_encoding": optional(encoding_text(augmentation["encoding"])),
+        "is_signal_trampoline": str(augmentation["signal"]).lower(),
+    }
+    return "Some(Augmentation { " + ", ".join(f"{name}: {value}" for name, value in fields.items()) + " })"
+
+
+def cie_text(cie):
+    numbers = f"version {cie['version']} size {cie['size']} factors {cie['code']} {cie['data']} register {cie['register']}"
+    return f"cie {cie['offset']:x} length {cie['length']:x} {numbers} {augmentation_text(cie['augmentation'])}"
+
+
+def fde_text(fde):
+    """The head of an FDE, and its code and pointer to language-specific data or the error of reading it."""
+    head = f"fde {fde['offset']:x} length {fde['length']:x} cie {fde['cie']:x}"
+    if "error" in fde:
+        return f"{head} {fde['error'].debug()}"
+    return f"{head} code {fde['initial']:x} {fde['range']:x} {optional(pointer_text(fde['lsda']))}"

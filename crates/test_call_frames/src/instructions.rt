@@ -1,28 +1,31 @@
 //! Instructions in their bytes.
 
-use crate::opcodes::{OPERANDS, TOLD};
-use dwarf_constants::{DwCfa, DwEhPe, Error, ReaderOffsetId, Register, Vendor};
-use dwarf_frame_instructions::{CallFrameInstruction, CallFrameInstructionIter};
-use dwarf_frame_rows::{PointerEncodingParameters, SectionBaseAddresses, UnwindExpression};
-use dwarf_readers::{EndianSlice, LittleEndian, Reader, ReaderOffset, RunTimeEndian};
-use std::alloc::Global;
+use super::opcodes::INSTRUCTIONS;
+use dwarf_constants::{DwEhPe, Vendor};
+use dwarf_frame_instructions::CallFrameInstructionIter;
+use dwarf_frame_rows::{PointerEncodingParameters, SectionBaseAddresses};
+use dwarf_readers::{EndianSlice, LittleEndian, Reader, RunTimeEndian};
+use std::alloc::{AllocError, Global};
 use std::process::Abort;
 use std::test::Fail;
 use test_readers::{Outcome, ReaderTest, over_each_reader};
 
-/// No base address is known.
-const NO_BASES: SectionBaseAddresses = SectionBaseAddresses {
-    section: None,
-    text: None,
-    data_base: None,
-};
+// How many instructions and errors there are at most.
+const MOST: usize = 10;
+
+// How instructions are read: whose extensions, how addresses are encoded, and where the section starts.
+#[derive(Debug, Clone, Copy)]
+struct Reading {
+    vendor: Vendor,
+    encoding: Option<DwEhPe>,
+    start: Option<u64>,
+}
 
 // The instructions in all bytes of a section, with addresses of eight bytes.
 fn instructions<'a, R: Reader>(
     section: &'a R,
     bases: &'a SectionBaseAddresses,
-    encoding: Option<DwEhPe>,
-    vendor: Vendor,
+    reading: Reading,
 ) -> CallFrameInstructionIter<'a, R> {
     let parameters = PointerEncodingParameters {
         bases,
@@ -30,290 +33,238 @@ fn instructions<'a, R: Reader>(
         address_size: 8,
         section,
     };
-    CallFrameInstructionIter::new(*section, encoding, parameters, vendor)
+    CallFrameInstructionIter::new(*section, reading.encoding, parameters, reading.vendor)
 }
 
-#[test]
-fn each_first_byte(rt: HostRuntime) -> Result<(), Fail> {
-    let mut bytes = vec![in rt.alloc(); 0]?;
-    bytes.extend_from_slice(&OPERANDS)?;
-    for opcode in 0u8..=255 {
-        bytes[0] = opcode;
-        match TOLD[opcode as usize] {
-            Some((instruction, count)) => {
-                let mut section = EndianSlice::new(&bytes, LittleEndian);
-                section.truncate(count)?;
-                let mut iter = instructions(&section, &NO_BASES, None, Vendor::AArch64);
-                assert!(rt; iter.next() == Ok(Some(instruction)));
-                assert!(rt; iter.next() == Ok(None));
-            }
-            None => {
-                let section = EndianSlice::new(&bytes, LittleEndian);
-                let mut iter = instructions(&section, &NO_BASES, None, Vendor::AArch64);
-                let refusal = Error::UnknownCallFrameInstruction(DwCfa(opcode));
-                assert!(rt; iter.next() == Err(refusal));
-                assert!(rt; iter.next() == Ok(None));
-            }
+// The instructions, an error, and the end, by `next` alone.
+fn list<R: Reader>(
+    alloc: Global,
+    instructions: CallFrameInstructionIter<'_, R>,
+) -> Result<String, AllocError> {
+    let mut text = String::new(alloc);
+    for answer in instructions {
+        match answer {
+            Ok(instruction) => write!(text, "{instruction:?}; ")?,
+            Err(error) => write!(text, "{error:?}; ")?,
         }
     }
-    Ok(())
+    write!(text, "end")?;
+    Ok(text)
 }
 
-// Whether an instruction with this opcode is given by `next_if_frequent`.
-fn is_frequent(opcode: u8) -> bool {
-    matches!(opcode, 0x00 | 0x02 | 0x0a..=0x0e | 0x40..=0xff)
-}
-
-#[test]
-fn each_first_byte_if_frequent(rt: HostRuntime) -> Result<(), Fail> {
-    let mut bytes = vec![in rt.alloc(); 0]?;
-    bytes.extend_from_slice(&OPERANDS)?;
-    for opcode in 0u8..=255 {
-        bytes[0] = opcode;
-        if let Some((instruction, count)) = TOLD[opcode as usize] {
-            let mut section = EndianSlice::new(&bytes, LittleEndian);
-            section.truncate(count)?;
-            let mut iter = instructions(&section, &NO_BASES, None, Vendor::AArch64);
-            if is_frequent(opcode) {
-                assert!(rt; iter.next_if_frequent() == Some(instruction));
-            } else {
-                assert!(rt; iter.next_if_frequent() == None);
-                assert!(rt; iter.next() == Ok(Some(instruction)));
-            }
-            assert!(rt; iter.next_if_frequent() == None);
-            assert!(rt; iter.next() == Ok(None));
+// The same, with a mark before each instruction that `next_if_frequent` gives.
+fn list_marked<R: Reader>(
+    alloc: Global,
+    mut instructions: CallFrameInstructionIter<'_, R>,
+    mark: &str,
+) -> Result<String, AllocError> {
+    let mut text = String::new(alloc);
+    for _ in 0..MOST {
+        if let Some(instruction) = instructions.next_if_frequent() {
+            write!(text, "{mark}{instruction:?}; ")?;
+            continue;
+        }
+        match instructions.next() {
+            Ok(Some(instruction)) => write!(text, "{instruction:?}; ")?,
+            Err(error) => write!(text, "{error:?}; ")?,
+            Ok(None) => break,
         }
     }
-    Ok(())
+    write!(text, "end")?;
+    Ok(text)
 }
 
-// Operands of one byte and of more, and whether the instruction with one is given by `next_if_frequent`.
-const SPELLED: [(&[u8], u16, bool); 4] = [
-    (&[0x7f], 127, true),
-    (&[0x80, 0x01], 128, false),
-    (&[0xff, 0x7f], 16383, false),
-    (&[0x80, 0x00], 0, false),
-];
+// What is read in a section, with a star before each frequent instruction. It has to be the same without
+// the question for these.
+fn read<R: Reader>(
+    rt: &impl Abort,
+    alloc: Global,
+    section: R,
+    reading: Reading,
+) -> Result<String, Fail> {
+    let bases = SectionBaseAddresses {
+        section: reading.start,
+        text: None,
+        data_base: None,
+    };
+    let each = list(alloc, instructions(&section, &bases, reading))?;
+    let plain = list_marked(alloc, instructions(&section, &bases, reading), "")?;
+    assert!(rt; each.as_str() == plain.as_str());
+    Ok(list_marked(alloc, instructions(&section, &bases, reading), "*")?)
+}
 
-#[test]
-fn frequent_ones_have_operands_of_one_byte(rt: HostRuntime) -> Result<(), Fail> {
-    for (spelling, number, is_given) in SPELLED {
-        let offset = u64::from(number);
-        let register = Register(number);
-        // What is before the operand and after it, and the instruction.
-        let told: [(&[u8], &[u8], CallFrameInstruction<usize>); 5] = [
-            (&[0x0e], &[], CallFrameInstruction::DefCfaOffset { offset }),
-            (
-                &[0x86],
-                &[],
-                CallFrameInstruction::Offset {
-                    register: Register(6),
-                    factored_offset: offset,
-                },
-            ),
-            (
-                &[0x0c, 7],
-                &[],
-                CallFrameInstruction::DefCfa {
-                    register: Register(7),
-                    offset,
-                },
-            ),
-            (
-                &[0x0c],
-                &[8],
-                CallFrameInstruction::DefCfa {
-                    register,
-                    offset: 8,
-                },
-            ),
-            (
-                &[0x0d],
-                &[],
-                CallFrameInstruction::DefCfaRegister { register },
-            ),
-        ];
-        for (before, after, instruction) in told {
-            let mut bytes = before.to_vec(rt.alloc())?;
-            bytes.extend_from_slice(spelling)?;
-            bytes.extend_from_slice(after)?;
-            let section = EndianSlice::new(&bytes, LittleEndian);
-            let mut iter = instructions(&section, &NO_BASES, None, Vendor::Default);
-            let given = iter.next_if_frequent();
-            if is_given {
-                assert!(rt; given == Some(instruction));
-            } else {
-                assert!(rt; given == None);
-                assert!(rt; iter.next() == Ok(Some(instruction)));
-            }
-            assert!(rt; iter.next() == Ok(None));
-        }
+const AARCH64: Reading = Reading {
+    vendor: Vendor::AArch64,
+    encoding: None,
+    start: None,
+};
+
+// Whether bytes that end in an instruction are refused, unless there are none.
+fn is_refused(text: &str, count: usize) -> bool {
+    match text.split_once("; ") {
+        Some((error, rest)) => count != 0 && error.starts_with("UnexpectedEof(") && rest == "end",
+        None => count == 0 && text == "end",
+    }
+}
+
+// Compares an instruction, also cut short at each byte, or the error of bytes that are none.
+fn compare(rt: &impl Abort, alloc: Global, bytes: &[u8], wanted: &str) -> Outcome {
+    let text = read(rt, alloc, EndianSlice::new(bytes, LittleEndian), AARCH64)?;
+    assert!(rt; text.as_str() == wanted, "{text}");
+    if wanted.starts_with("Unknown") {
+        return Ok(());
+    }
+    for count in 0..bytes.len() {
+        let section = EndianSlice::new(&bytes[..count], LittleEndian);
+        let text = read(rt, alloc, section, AARCH64)?;
+        assert!(rt; is_refused(text.as_str(), count), "{wanted}: {text}");
     }
     Ok(())
 }
 
 #[test]
-fn frequent_ones_cut_short(rt: HostRuntime) -> Result<(), Fail> {
-    let mut bytes = vec![in rt.alloc(); 0]?;
-    bytes.extend_from_slice(&OPERANDS)?;
-    for opcode in 0u8..=255 {
-        bytes[0] = opcode;
-        if let Some((_, count)) = TOLD[opcode as usize] {
-            for short in 0..count {
-                let mut section = EndianSlice::new(&bytes, LittleEndian);
-                section.truncate(short)?;
-                let mut iter = instructions(&section, &NO_BASES, None, Vendor::AArch64);
-                assert!(rt; iter.next_if_frequent() == None);
-                match short {
-                    0 => assert!(rt; iter.next() == Ok(None)),
-                    _ => assert!(rt; matches!(iter.next(), Err(Error::UnexpectedEof(_)))),
-                }
-            }
-        }
+fn each_first_byte(rt: HostRuntime) -> Outcome {
+    let mut count = 0u32;
+    for line in INSTRUCTIONS.lines() {
+        let (bytes, wanted) = line.split_once(' ').expect(&rt, "an instruction");
+        let bytes = hex::decode(rt.alloc(), bytes.as_bytes())?;
+        compare(&rt, rt.alloc(), &bytes, wanted)?;
+        count = count.wrapping_add(1);
     }
+    assert!(rt; count == 256);
     Ok(())
 }
 
-#[test]
-fn each_first_byte_cut_short(rt: HostRuntime) -> Result<(), Fail> {
-    let mut bytes = vec![in rt.alloc(); 0]?;
-    bytes.extend_from_slice(&OPERANDS)?;
-    for opcode in 0u8..=255 {
-        bytes[0] = opcode;
-        if let Some((_, count)) = TOLD[opcode as usize] {
-            for short in 1..count {
-                let mut section = EndianSlice::new(&bytes, LittleEndian);
-                section.truncate(short)?;
-                let mut iter = instructions(&section, &NO_BASES, None, Vendor::AArch64);
-                assert!(rt; matches!(iter.next(), Err(Error::UnexpectedEof(_))));
-                assert!(rt; iter.next() == Ok(None));
-            }
-        }
-    }
-    Ok(())
+// A program, and how it is read.
+#[derive(Drop)]
+struct Program {
+    reading: Reading,
+    wanted: &'static str,
 }
 
-#[test]
-fn sign_states_of_another_vendor(rt: HostRuntime) -> Result<(), Fail> {
-    let section = EndianSlice::new(&[0x2d], LittleEndian);
-    let refusal = Error::UnknownCallFrameInstruction(DwCfa(0x2d));
-    let mut iter = instructions(&section, &NO_BASES, None, Vendor::Default);
-    assert!(rt; iter.next() == Err(refusal));
-    Ok(())
-}
-
-// An instruction, with the offsets of expressions as numbers of 64 bits.
-fn in_numbers<T: ReaderOffset>(
-    instruction: CallFrameInstruction<T>,
-) -> Option<(Register, UnwindExpression<u64>)> {
-    match instruction {
-        CallFrameInstruction::Expression {
-            register,
-            expression,
-        } => Some((
-            register,
-            UnwindExpression {
-                offset: expression.offset.into_u64(),
-                length: expression.length.into_u64(),
-            },
-        )),
-        _ => None,
-    }
-}
-
-struct Worked;
-
-impl<H: Abort> ReaderTest<H> for Worked {
-    fn run<R: Reader>(&self, rt: &H, _alloc: Global, section: R) -> Outcome {
-        let bases = SectionBaseAddresses {
-            section: Some(0x7000),
-            text: None,
-            data_base: None,
-        };
-        // DW_CFA_offset, an expression, an address that is relative to itself, and an opcode
-        // without its operand.
-        let mut iter = instructions(&section, &bases, Some(DwEhPe(0x1b)), Vendor::Default);
-        let offset = CallFrameInstruction::Offset {
-            register: Register(3),
-            factored_offset: 1997,
-        };
-        assert!(rt; matches!(iter.next(), Ok(Some(found)) if found == offset));
-        let expression = UnwindExpression {
-            offset: 6,
-            length: 2,
-        };
-        let found = iter.next()?;
-        assert!(rt; found.and_then(in_numbers) == Some((Register(6), expression)));
-        let set = CallFrameInstruction::SetLoc { address: 0x7019 };
-        assert!(rt; matches!(iter.next(), Ok(Some(found)) if found == set));
-        let cut = Error::UnexpectedEof(ReaderOffsetId(14));
-        assert!(rt; matches!(iter.next(), Err(error) if error == cut));
-        assert!(rt; matches!(iter.next(), Ok(None)));
+impl<H: Abort> ReaderTest<H> for Program {
+    fn run<R: Reader>(&self, rt: &H, alloc: Global, section: R) -> Outcome {
+        let text = read(rt, alloc, section, self.reading)?;
+        assert!(rt; text.as_str() == self.wanted, "{text}");
         Ok(())
     }
 }
 
-#[test]
-fn over_readers(rt: HostRuntime) -> Result<(), Fail> {
-    let bytes = [
-        0x83, 0xcd, 0x0f, 0x10, 6, 2, 0x91, 0, 1, 0x10, 0, 0, 0, 0x0e,
-    ];
-    over_each_reader(&rt, rt.alloc(), &Worked, &bytes, RunTimeEndian::Little)
-}
+// The encoding of addresses and the start of the section, if there are such, bytes, and what is read in them.
+type Row = (Option<u8>, Option<u64>, &'static [u8], &'static str);
 
-#[test]
-fn bytes_behind_an_instruction(rt: HostRuntime) -> Result<(), Fail> {
-    let bytes = [0x83, 0xcd, 0x0f, 1, 2, 3, 4];
-    let section = EndianSlice::new(&bytes, LittleEndian);
-    let mut iter = instructions(&section, &NO_BASES, None, Vendor::Default);
-    let offset = CallFrameInstruction::Offset {
-        register: Register(3),
-        factored_offset: 1997,
-    };
-    assert!(rt; iter.next() == Ok(Some(offset)));
-    // The four bytes that are left begin an address that isn't whole.
-    let cut = Error::UnexpectedEof(ReaderOffsetId(4));
-    assert!(rt; iter.next() == Err(cut));
-    Ok(())
-}
-
-#[test]
-fn std_iterator(rt: HostRuntime) -> Result<(), Fail> {
-    let section = EndianSlice::new(&[0x0a, 0x0b, 0x3f], LittleEndian);
-    let iter = instructions(&section, &NO_BASES, None, Vendor::Default);
-    let mut found = Vec::new(rt.alloc());
-    for instruction in iter {
-        found.push(instruction)?;
-    }
-    let wanted = [
-        Ok(CallFrameInstruction::RememberState),
-        Ok(CallFrameInstruction::RestoreState),
-        Err(Error::UnknownCallFrameInstruction(DwCfa(0x3f))),
-    ];
-    assert!(rt; found.as_slice() == &wanted[..]);
-    Ok(())
-}
-
-// Encodings in which no address is read unless the address to which it is relative is known.
-static REFUSALS: [(DwEhPe, Error); 4] = [
+// By the vendor that has no instructions of its own.
+static PROGRAMS: [Row; 12] = [
+    // An address that is relative to itself, and an opcode without its operand.
     (
-        DwEhPe(0x1b),
-        Error::PcRelativePointerButSectionBaseIsUndefined,
+        Some(0x1b),
+        Some(0x7000),
+        &[
+            0x83, 0xcd, 0x0f, 0x10, 6, 2, 0x91, 0, 1, 0x10, 0, 0, 0, 0x0e,
+        ],
+        "Offset { register: Register(3), factored_offset: 1997 }; \
+         Expression { register: Register(6), expression: UnwindExpression { offset: 6, length: 2 } }; \
+         SetLoc { address: 28697 }; UnexpectedEof(ReaderOffsetId(14)); end",
+    ),
+    // An address that isn't whole.
+    (
+        None,
+        None,
+        &[0x83, 0xcd, 0x0f, 1, 2, 3, 4],
+        "Offset { register: Register(3), factored_offset: 1997 }; UnexpectedEof(ReaderOffsetId(4)); end",
     ),
     (
-        DwEhPe(0x9b),
-        Error::PcRelativePointerButSectionBaseIsUndefined,
+        None,
+        None,
+        &[0x0a, 0x0b, 0x3f],
+        "*RememberState; *RestoreState; UnknownCallFrameInstruction(DwCfa(63)); end",
     ),
-    (DwEhPe(0x8b), Error::UnsupportedPointerEncoding),
-    (DwEhPe(0xff), Error::CannotParseOmitPointerEncoding),
+    (
+        None,
+        None,
+        &[0x2d],
+        "UnknownCallFrameInstruction(DwCfa(45)); end",
+    ),
+    // Encodings in which no address is read unless the address to which it is relative is known.
+    (
+        Some(0x1b),
+        None,
+        &[1, 0x10, 0, 0, 0],
+        "PcRelativePointerButSectionBaseIsUndefined; end",
+    ),
+    (
+        Some(0x9b),
+        None,
+        &[1, 0x10, 0, 0, 0],
+        "PcRelativePointerButSectionBaseIsUndefined; end",
+    ),
+    (
+        Some(0x8b),
+        None,
+        &[1, 0x10, 0, 0, 0],
+        "UnsupportedPointerEncoding; end",
+    ),
+    (
+        Some(0xff),
+        None,
+        &[1, 0x10, 0, 0, 0],
+        "CannotParseOmitPointerEncoding; end",
+    ),
+    // Operands of one byte and of more: of `DefCfaOffset`, `Offset`, `DefCfa` as offset and as register, and
+    // `DefCfaRegister`.
+    (
+        None,
+        None,
+        &[
+            0x0e, 0x7f, 0x86, 0x7f, 0x0c, 7, 0x7f, 0x0c, 0x7f, 8, 0x0d, 0x7f,
+        ],
+        "*DefCfaOffset { offset: 127 }; *Offset { register: Register(6), factored_offset: 127 }; \
+         *DefCfa { register: Register(7), offset: 127 }; *DefCfa { register: Register(127), offset: 8 }; \
+         *DefCfaRegister { register: Register(127) }; end",
+    ),
+    (
+        None,
+        None,
+        &[
+            0x0e, 0x80, 1, 0x86, 0x80, 1, 0x0c, 7, 0x80, 1, 0x0c, 0x80, 1, 8, 0x0d, 0x80, 1,
+        ],
+        "DefCfaOffset { offset: 128 }; Offset { register: Register(6), factored_offset: 128 }; \
+         DefCfa { register: Register(7), offset: 128 }; DefCfa { register: Register(128), offset: 8 }; \
+         DefCfaRegister { register: Register(128) }; end",
+    ),
+    (
+        None,
+        None,
+        &[
+            0x0e, 0xff, 0x7f, 0x86, 0xff, 0x7f, 0x0c, 7, 0xff, 0x7f, 0x0c, 0xff, 0x7f, 8, 0x0d,
+            0xff, 0x7f,
+        ],
+        "DefCfaOffset { offset: 16383 }; Offset { register: Register(6), factored_offset: 16383 }; \
+         DefCfa { register: Register(7), offset: 16383 }; DefCfa { register: Register(16383), offset: 8 }; \
+         DefCfaRegister { register: Register(16383) }; end",
+    ),
+    (
+        None,
+        None,
+        &[
+            0x0e, 0x80, 0, 0x86, 0x80, 0, 0x0c, 7, 0x80, 0, 0x0c, 0x80, 0, 8, 0x0d, 0x80, 0,
+        ],
+        "DefCfaOffset { offset: 0 }; Offset { register: Register(6), factored_offset: 0 }; \
+         DefCfa { register: Register(7), offset: 0 }; DefCfa { register: Register(0), offset: 8 }; \
+         DefCfaRegister { register: Register(0) }; end",
+    ),
 ];
 
 #[test]
-fn addresses(rt: HostRuntime) -> Result<(), Fail> {
-    let section = EndianSlice::new(&[1, 0x10, 0, 0, 0], LittleEndian);
-    for (encoding, refusal) in &REFUSALS {
-        let mut iter = instructions(&section, &NO_BASES, Some(*encoding), Vendor::Default);
-        assert!(rt; iter.next() == Err(*refusal));
+fn programs(rt: HostRuntime) -> Outcome {
+    for (encoding, start, bytes, wanted) in &PROGRAMS {
+        let reading = Reading {
+            vendor: Vendor::Default,
+            encoding: encoding.map(DwEhPe),
+            start: *start,
+        };
+        let program = Program { reading, wanted };
+        over_each_reader(&rt, rt.alloc(), &program, bytes, RunTimeEndian::Little)?;
     }
     Ok(())
 }

@@ -16,6 +16,10 @@ mod listed;
 #[cfg(test)]
 mod opcodes;
 #[cfg(test)]
+mod places;
+#[cfg(test)]
 mod real_sections;
 #[cfg(test)]
 mod skipping;
+#[cfg(test)]
+mod worked;

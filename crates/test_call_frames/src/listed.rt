@@ -1,68 +1,46 @@
-//! Sections with the list of their entries.
+//! The entries of sections, as lines of text.
 
-use dwarf_constants::{Error, Result as Answer};
+use dwarf_constants::Result as Answer;
 use dwarf_frame_entries::{
-    _UnwindSectionPrivate, Augmentation, BaseAddresses, CfiEntriesIter, CieOrFde,
-    CommonInformationEntry, DebugFrame, EhFrame, Entry, FrameDescriptionEntry,
-    PartialFrameDescriptionEntry, Pointer, UnwindOffset, UnwindSection,
+    _UnwindSectionPrivate, BaseAddresses, CieOrFde, CommonInformationEntry, DebugFrame, EhFrame,
+    Entry, FrameDescriptionEntry, PartialFrameDescriptionEntry, UnwindOffset, UnwindSection,
 };
 use dwarf_readers::{Reader, ReaderOffset};
-use std::alloc::Global;
+use std::alloc::{AllocError, Global};
 use std::process::Abort;
 use test_readers::{Outcome, ReaderTest};
 
-/// Which section it is.
-#[derive(Debug, Clone, Copy)]
-pub enum Which {
-    EhFrame,
-    DebugFrame,
-}
+// How many entries and errors a section has at most.
+const MOST: usize = 100;
 
-/// A section, and the entries that it has to give.
-pub struct Listed {
-    pub which: Which,
+/// A section of call frames, and what it has to give.
+#[derive(Drop)]
+pub struct Listed<'a> {
+    pub is_eh_frame: bool,
     pub address_size: u8,
     /// The address at which the section starts.
     pub start: u64,
-    pub bytes: &'static [u8],
-    pub entries: &'static [Seen],
-    pub end: Option<Error>,
+    /// A line for each entry, for an error, and for the end.
+    pub wanted: &'a str,
 }
 
-/// Parts of an entry: first its offset and its length.
-#[derive(Debug, Clone, Copy, PartialEq, Eq)]
-pub enum Seen {
-    /// The version, the size of addresses, both alignment factors, the return address register, and
-    /// the augmentation.
-    Cie(u64, u64, u8, u8, u64, i64, u16, Option<Augmentation>),
-    /// The CIE's offset, the start of the code and its size in bytes, and the pointer to
-    /// language-specific data.
-    Fde(u64, u64, u64, u64, u64, Option<Pointer>),
-    /// The CIE's offset, and the error of reading the rest.
-    Refused(u64, u64, u64, Error),
-}
-
-fn seen_cie<R: Reader>(cie: &CommonInformationEntry<R>) -> Seen {
-    Seen::Cie(
-        cie.offset().into_u64(),
-        cie.entry_len().into_u64(),
-        cie.version(),
-        cie.address_size(),
-        cie.code_alignment_factor(),
-        cie.data_alignment_factor(),
-        cie.return_address_register().0,
-        cie.augmentation().copied(),
-    )
-}
-
-fn seen_fde<R: Reader>(cie_offset: u64, fde: &FrameDescriptionEntry<R>) -> Seen {
-    Seen::Fde(
-        fde.offset().into_u64(),
-        fde.entry_len().into_u64(),
-        cie_offset,
-        fde.initial_address(),
-        fde.len(),
-        fde.lsda(),
+// A line for a CIE.
+fn list_cie<R: Reader>(
+    cie: &CommonInformationEntry<R>,
+    text: &mut String,
+) -> Result<(), AllocError> {
+    let (offset, length) = (cie.offset().into_u64(), cie.entry_len().into_u64());
+    let (version, size) = (cie.version(), cie.address_size());
+    write!(
+        text,
+        "cie {offset:x} length {length:x} version {version} size {size}"
+    )?;
+    let (code, data) = (cie.code_alignment_factor(), cie.data_alignment_factor());
+    let register = cie.return_address_register().0;
+    let augmentation = cie.augmentation().copied();
+    write!(
+        text,
+        " factors {code} {data} register {register} {augmentation:?}\n"
     )
 }
 
@@ -87,80 +65,93 @@ pub fn fde_at<R: Reader, Section: UnwindSection<R>>(
     })
 }
 
-// The parts of an FDE, with its CIE in this section.
-fn fde_seen<R: Reader, Section: UnwindSection<R>>(
+// A line for an FDE, with its CIE in this section, or the error of reading it.
+fn list_fde<R: Reader, Section: UnwindSection<R>>(
     section: &Section,
     bases: &BaseAddresses,
     partial: &PartialFrameDescriptionEntry<'_, Section, R>,
-) -> Seen {
-    let offset = partial.offset();
+    text: &mut String,
+) -> Result<(), AllocError> {
+    let (offset, length) = (partial.offset(), partial.entry_len().into_u64());
     let cie = UnwindOffset::into(partial.cie_offset()).into_u64();
+    write!(
+        text,
+        "fde {:x} length {length:x} cie {cie:x}",
+        offset.into_u64()
+    )?;
     match fde_at(section, bases, Section::Offset::from(offset)) {
-        Ok(fde) => seen_fde(cie, &fde),
-        Err(e) => Seen::Refused(offset.into_u64(), partial.entry_len().into_u64(), cie, e),
+        Ok(fde) => {
+            let (code, length) = (fde.initial_address(), fde.len());
+            write!(text, " code {code:x} {length:x} {:?}\n", fde.lsda())
+        }
+        Err(error) => write!(text, " {error:?}\n"),
     }
 }
 
-// The parts of an entry of either kind.
-fn entry_seen<R: Reader, Section: UnwindSection<R>>(
+// A line for an entry of either kind.
+fn list_entry<R: Reader, Section: UnwindSection<R>>(
     section: &Section,
     bases: &BaseAddresses,
     entry: &CieOrFde<'_, Section, R>,
-) -> Seen {
+    text: &mut String,
+) -> Result<(), AllocError> {
     match entry {
-        Entry::Cie(cie) => seen_cie(cie),
-        Entry::Fde(partial) => fde_seen(section, bases, partial),
+        Entry::Cie(cie) => list_cie(cie, text),
+        Entry::Fde(partial) => list_fde(section, bases, partial, text),
     }
 }
 
-// The parts of the next entry, or the error, or the end.
-fn next_seen<R: Reader, Section: UnwindSection<R>>(
+// A line for each entry and for an error, and one for the end, after which no entry comes.
+fn list<R: Reader, Section: UnwindSection<R>>(
+    alloc: Global,
     section: &Section,
     bases: &BaseAddresses,
-    entries: &mut CfiEntriesIter<'_, Section, R>,
-) -> Answer<Option<Seen>> {
-    match entries.next()? {
-        Some(entry) => Ok(Some(entry_seen(section, bases, &entry))),
-        None => Ok(None),
-    }
-}
-
-// Compares the entries of a section, one after the other, and how they end.
-fn compare<R: Reader, Section: UnwindSection<R>>(
-    rt: &impl Abort,
-    section: &Section,
-    listed: &Listed,
-) {
-    let bases = BaseAddresses::default()
-        .set_eh_frame(listed.start)
-        .set_text(0x20000)
-        .set_got(0x30000);
-    let mut entries = section.entries(&bases);
-    for want in listed.entries {
-        let seen = next_seen(section, &bases, &mut entries);
-        assert!(rt; seen == Ok(Some(*want)));
-    }
-    let end = next_seen(section, &bases, &mut entries);
-    assert!(rt; end == listed.end.map_or(Ok(None), Err));
-    let behind = next_seen(section, &bases, &mut entries);
-    assert!(rt; behind == Ok(None));
-}
-
-impl<H: Abort> ReaderTest<H> for Listed {
-    fn run<R: Reader>(&self, rt: &H, _alloc: Global, reader: R) -> Outcome {
-        match self.which {
-            Which::EhFrame => {
-                let mut section = EhFrame::from(reader);
-                match self.address_size {
-                    1 => section.set_address_size(1),
-                    2 => section.set_address_size(2),
-                    4 => section.set_address_size(4),
-                    _ => {}
-                }
-                compare(rt, &section, self);
-            }
-            Which::DebugFrame => compare(rt, &DebugFrame::from(reader), self),
+) -> Result<String, AllocError> {
+    let mut text = String::new(alloc);
+    let mut entries = section.entries(bases);
+    for _ in 0..MOST {
+        match entries.next() {
+            Ok(Some(entry)) => list_entry(section, bases, &entry, &mut text)?,
+            Err(error) => write!(text, "{error:?}\n")?,
+            Ok(None) => break,
         }
+    }
+    if let Ok(None) = entries.next() {
+        write!(text, "end")?;
+    }
+    Ok(text)
+}
+
+impl Listed<'_> {
+    // Compares the entries of a section.
+    fn compare<R: Reader, Section: UnwindSection<R>>(
+        &self,
+        rt: &impl Abort,
+        alloc: Global,
+        section: &Section,
+    ) -> Outcome {
+        let bases = BaseAddresses::default()
+            .set_eh_frame(self.start)
+            .set_text(0x20000)
+            .set_got(0x30000);
+        let text = list(alloc, section, &bases)?;
+        assert!(rt; text.as_str() == self.wanted, "{text}");
         Ok(())
+    }
+}
+
+impl<H: Abort> ReaderTest<H> for Listed<'_> {
+    fn run<R: Reader>(&self, rt: &H, alloc: Global, reader: R) -> Outcome {
+        if !self.is_eh_frame {
+            return self.compare(rt, alloc, &DebugFrame::from(reader));
+        }
+        let mut section = EhFrame::from(reader);
+        match self.address_size {
+            1 => section.set_address_size(1),
+            2 => section.set_address_size(2),
+            4 => section.set_address_size(4),
+            _ => {}
+        }
+        self.compare(rt, alloc, &section)
     }
 }

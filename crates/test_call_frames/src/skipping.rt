@@ -65,11 +65,7 @@ fn fdes_that_cannot_be_read_are_passed_over(rt: HostRuntime) -> Result<(), Fail>
         };
         assert!(rt; found == (first, skipping), "at {address:x}");
     }
-    Ok(())
-}
-
-#[test]
-fn want_of_memory_is_passed_on(rt: HostRuntime) -> Result<(), Fail> {
+    // Want of memory is passed on.
     let section = EhFrame::new(&DAMAGED, LittleEndian);
     let bases = BaseAddresses::default();
     let found = section.fde_for_address_skipping(
