@@ -5,7 +5,8 @@ use crate::process::{SAMPLES, Sample, library};
 use anyhow::{Result, bail};
 use framehop::x86_64::{ArchX86_64, UnwindRegsX86_64};
 use framehop::{
-    BySections, DwarfUnwindContext, Generations, MayAllocateDuringUnwind, Session, StackWalk,
+    BySections, DwarfUnwindContext, Generations, MayAllocateDuringUnwind, ModuleUnwinding, Session,
+    StackWalk,
 };
 use std::alloc::Global;
 
@@ -26,8 +27,8 @@ fn session_of_process(alloc: Global) -> Result<ProcessSession> {
 }
 
 /// The code address of the next frame of a walk over a sample's stack, if there is one.
-fn next_address(
-    session: &mut ProcessSession,
+fn next_address<A: ModuleUnwinding<UnwindRegs = UnwindRegsX86_64>>(
+    session: &mut Session<A>,
     walk: &mut StackWalk<UnwindRegsX86_64>,
     sample: &Sample,
 ) -> Option<u64> {
@@ -42,9 +43,9 @@ fn next_address(
 }
 
 /// The code addresses of a sample's frames, so many at most.
-fn code_addresses(
+fn code_addresses<A: ModuleUnwinding<UnwindRegs = UnwindRegsX86_64>>(
     alloc: Global,
-    session: &mut ProcessSession,
+    session: &mut Session<A>,
     sample: &Sample,
     most: usize,
 ) -> Result<Vec<u64>> {

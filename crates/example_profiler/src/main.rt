@@ -10,7 +10,7 @@ mod process;
 
 use anyhow::{Result, bail};
 use framehop::x86_64::{CacheX86_64, UnwindRegsX86_64, UnwinderX86_64};
-use framehop::{CacheStats, Generations, Module, Unwinder};
+use framehop::{Generations, Unwinder};
 use process::{SAMPLES, Sample, library};
 use std::alloc::Global;
 
@@ -19,37 +19,28 @@ const MOST_FRAMES: usize = 128;
 
 // example: begin
 fn main(rt: HostRuntime) -> Result<()> {
-    let unwinder = unwinder_of_process(rt.alloc())?;
+    let mut generations = Generations::new();
+    let mut unwinder = UnwinderX86_64::new(rt.alloc(), &mut generations)?;
+    add(&mut unwinder, &mut generations, library(rt.alloc())?)?;
     let mut cache = CacheX86_64::new(rt.alloc())?;
     print_samples(&rt, &unwinder, &mut cache.0)?;
-    print_hits(&rt, cache.stats())?;
+    println!(rt; "{} rules found in the cache", cache.stats().hits())?;
     by_session::print_samples(&rt, MOST_FRAMES)
-}
-
-/// An unwinder that knows the modules of the process.
-fn unwinder_of_process(alloc: Global) -> Result<UnwinderX86_64<Vec<u8>>> {
-    let mut generations = Generations::new();
-    let mut unwinder = UnwinderX86_64::new(alloc, &mut generations)?;
-    load(&mut unwinder, &mut generations, library(alloc)?)?;
-    Ok(unwinder)
-}
-
-/// Adds a module to an unwinder.
-fn load(
-    unwinder: &mut UnwinderX86_64<Vec<u8>>,
-    generations: &mut Generations,
-    module: Module<Vec<u8>>,
-) -> Result<()> {
-    if unwinder.add_module(generations, module).is_err() {
-        bail!("the module can't be loaded");
-    }
-    Ok(())
 }
 // example: end
 
-/// Prints how many look-ups of a cache found a rule.
-fn print_hits(rt: &HostRuntime, stats: CacheStats) -> Result<()> {
-    println!(rt; "{} rules found in the cache", stats.hits())?;
+/// Adds a module to an unwinder.
+fn add<U: Unwinder>(
+    unwinder: &mut U,
+    generations: &mut Generations,
+    module: U::Module,
+) -> Result<()>
+where
+    U::Module: Drop,
+{
+    if unwinder.add_module(generations, module).is_err() {
+        bail!("the module can't be loaded");
+    }
     Ok(())
 }
 

@@ -51,7 +51,6 @@ static EH_FRAME: [u8; 56] = [
     0x0d, 6, 0, 0, 0, 0,
 ];
 
-// example: begin
 /// The library, which is loaded at 0x100000.
 pub fn library(alloc: Global) -> Result<Module<Vec<u8>>> {
     let mut sections = ExplicitModuleSectionInfo {
@@ -62,4 +61,3 @@ pub fn library(alloc: Global) -> Result<Module<Vec<u8>>> {
     let name = String::from_str(alloc, "library")?;
     Ok(load_module(alloc, name, 0x100000..0x102000, 0x100000, &mut sections)?)
 }
-// example: end
