@@ -1,4 +1,4 @@
-//! Tests of the operations and the values of expressions, by public calls.
+//! Tests of evaluations by the order of their calls. `cases_readers` has the operations and the values of expressions.
 #![tactic(auto)]
 
 #[cfg(test)]

@@ -1,5 +1,10 @@
-//! Tests of tables, strings and addresses of sections, by public calls.
+//! Tests of constants, readers, and tables, strings and addresses of sections, by public calls. `cases_readers` has those that are
+//! rows of bytes and answers.
 #![tactic(auto)]
 
 #[cfg(test)]
-mod read_core;
+mod constants;
+#[cfg(test)]
+mod readers;
+#[cfg(test)]
+mod sections;

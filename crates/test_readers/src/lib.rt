@@ -1,12 +1,8 @@
-//! Tests of the constants and of the readers, by their public calls, and what the tests of all crates that read DWARF share.
+//! What the tests of all crates that read DWARF share: readers of every kind over the same bytes, and a section.
 #![tactic(auto)]
 
 pub mod backward;
-#[cfg(test)]
-mod constants;
 pub mod over_readers;
-#[cfg(test)]
-mod readers;
 pub mod worked;
 
 pub use backward::Backward;

@@ -1,12 +1,11 @@
-//! PartTest of a section, and sections that are loaded.
+//! Parts of a section, and sections that are loaded.
 
-use super::run;
 use dwarf_constants::{Error, ReaderOffsetId, SectionId};
 use dwarf_read_core::{DebugStr, Section};
-use dwarf_readers::{Reader, ReaderOffset};
+use dwarf_readers::{Reader, ReaderOffset, RunTimeEndian};
 use std::alloc::Global;
 use std::process::Abort;
-use test_readers::{Outcome, ReaderTest};
+use test_readers::{Outcome, ReaderTest, over_each_reader};
 
 #[derive(Drop)]
 struct PartTest;
@@ -37,5 +36,6 @@ impl<H: Abort> ReaderTest<H> for PartTest {
 
 #[test]
 fn parts_of_a_section(rt: HostRuntime) -> Outcome {
-    run(&rt, rt.alloc(), &PartTest, &[0x61, 0x62, 0, 0x63, 0])
+    let bytes = [0x61, 0x62, 0, 0x63, 0];
+    over_each_reader(&rt, rt.alloc(), &PartTest, &bytes, RunTimeEndian::Little)
 }

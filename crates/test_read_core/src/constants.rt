@@ -1,5 +1,4 @@
 //! The tables against the standard's own order, and constants as they are printed.
-//! A row of names counts up from its first value, as the tables of the standard do; `-` is a gap.
 
 use dwarf_constants::constants::*;
 use dwarf_constants::{
@@ -7,190 +6,174 @@ use dwarf_constants::{
 };
 use dwarf_offsets::{DebugFrameOffset, EhFrameOffset};
 use std::alloc::{AllocError, Global};
-use std::fmt;
-use std::process::Abort;
 use std::test::Fail;
 
+/// A family of constants.
+#[derive(Clone, Copy)]
+enum Kind {
+    Instruction,
+    Children,
+    Form,
+    Operation,
+    Encoding,
+}
+
+// What a constant is named with its prefix, if it has a name.
+fn name_of(kind: Kind, value: u16) -> Option<&'static str> {
+    let byte = (value & 0xff) as u8;
+    match kind {
+        Kind::Form => DwForm(value).static_string(),
+        _ if value > 0xff => None,
+        Kind::Instruction => DwCfa(byte).static_string(),
+        Kind::Children => DwChildren(byte).static_string(),
+        Kind::Operation => DwOp(byte).static_string(),
+        Kind::Encoding => DwEhPe(byte).static_string(),
+    }
+}
+
+// A constant as it is printed.
+fn printed(alloc: Global, kind: Kind, value: u16) -> Result<String, AllocError> {
+    let byte = (value & 0xff) as u8;
+    match kind {
+        Kind::Form => DwForm(value).to_string(alloc),
+        Kind::Instruction => DwCfa(byte).to_string(alloc),
+        Kind::Children => DwChildren(byte).to_string(alloc),
+        Kind::Operation => DwOp(byte).to_string(alloc),
+        Kind::Encoding => DwEhPe(byte).to_string(alloc),
+    }
+}
+
 // Whether this is the name after its prefix, or `-` and there is none.
-fn is_name(text: Option<&str>, prefix: &str, name: &str) -> bool {
-    match text {
+fn is_named(kind: Kind, prefix: &str, value: u16, name: &str) -> bool {
+    match name_of(kind, value) {
         Some(text) => text.strip_prefix(prefix) == Some(name),
         None => name == "-",
     }
 }
 
-// Compares the names of the values from the first of each row on, and counts all values that have one.
-fn check_names<F: Fn(u16, &str) -> bool>(
-    rt: &impl Abort,
-    rows: &[(u16, &str)],
-    count: u32,
-    has_name: F,
-)
-    requires { F.IsAlwaysCallable has_name }
-{
-    for (first, names) in rows {
-        let mut value = *first;
-        for name in names.split_whitespace() {
-            assert!(rt; has_name(value, name), "{name} at {value:#x}");
-            value = value.wrapping_add(1);
-        }
-    }
-    let mut named = 0u32;
-    for value in 0..=u16::MAX {
-        if !has_name(value, "-") {
-            named = named.wrapping_add(1);
-        }
-    }
-    assert!(rt; named == count);
-}
-
-// Whether a constant of one byte has a name with this prefix.
-macro_rules! byte_has_name {
-    ($kind:ident, $prefix:literal) => {
-        |value, name| match u8::try_from(value) {
-            Ok(value) => is_name($kind(value).static_string(), $prefix, name),
-            Err(_) => name == "-",
-        }
-    };
-}
-
-// DWARF 5, table 7.29; 0x2d is of the ABI of AArch64 and 0x2e of GNU.
-#[test]
-fn instructions_are_numbered_as_in_the_standard(rt: HostRuntime) {
-    let rows = [
-        (
-            0x00,
-            "nop set_loc advance_loc1 advance_loc2 advance_loc4 offset_extended restore_extended
+// Names count up from the first value of a row, as the tables of the standard do; `-` is a gap. Instructions are in DWARF 5, table
+// 7.29, of which 0x2d is of the ABI of AArch64 and 0x2e of GNU, children in 7.4, forms in 7.6, of which those from 0x1f00 on are of
+// GNU, and operations in 7.9. Pointer encodings are in LSB 5.0, 10.5.1.
+static NAMES: [(Kind, &str, u16, &str); 21] = [
+    (
+        Kind::Instruction,
+        "DW_CFA_",
+        0x00,
+        "nop set_loc advance_loc1 advance_loc2 advance_loc4 offset_extended restore_extended
             undefined same_value register remember_state restore_state def_cfa def_cfa_register
             def_cfa_offset def_cfa_expression expression offset_extended_sf def_cfa_sf
             def_cfa_offset_sf val_offset val_offset_sf val_expression -",
-        ),
-        (0x2d, "AARCH64_negate_ra_state GNU_args_size -"),
-        (0x40, "advance_loc -"),
-        (0x80, "offset -"),
-        (0xc0, "restore -"),
-    ];
-    check_names(&rt, &rows, 28, byte_has_name!(DwCfa, "DW_CFA_"));
-}
-
-// DWARF 5, table 7.4.
-#[test]
-fn children_are_numbered_as_in_the_standard(rt: HostRuntime) {
-    let rows = [(0x00, "no yes -")];
-    check_names(&rt, &rows, 2, byte_has_name!(DwChildren, "DW_CHILDREN_"));
-}
-
-// DWARF 5, table 7.6; those from 0x1f00 on are of GNU.
-#[test]
-fn forms_are_numbered_as_in_the_standard(rt: HostRuntime) {
-    let rows = [
-        (
-            0x00,
-            "- addr - block2 block4 data2 data4 data8 string block block1 data1 flag sdata strp
+    ),
+    (
+        Kind::Instruction,
+        "DW_CFA_",
+        0x2d,
+        "AARCH64_negate_ra_state GNU_args_size -",
+    ),
+    (Kind::Instruction, "DW_CFA_", 0x40, "advance_loc -"),
+    (Kind::Instruction, "DW_CFA_", 0x80, "offset -"),
+    (Kind::Instruction, "DW_CFA_", 0xc0, "restore -"),
+    (Kind::Children, "DW_CHILDREN_", 0x00, "no yes -"),
+    (
+        Kind::Form,
+        "DW_FORM_",
+        0x00,
+        "- addr - block2 block4 data2 data4 data8 string block block1 data1 flag sdata strp
             udata ref_addr ref1 ref2 ref4 ref8 ref_udata indirect sec_offset exprloc flag_present
             strx addrx ref_sup4 strp_sup data16 line_strp ref_sig8 implicit_const loclistx
             rnglistx ref_sup8 strx1 strx2 strx3 strx4 addrx1 addrx2 addrx3 addrx4 -",
-        ),
-        (0x1f00, "- GNU_addr_index GNU_str_index -"),
-        (0x1f1f, "- GNU_ref_alt GNU_strp_alt -"),
-    ];
-    check_names(
-        &rt,
-        &rows,
-        47,
-        |value, name| is_name(DwForm(value).static_string(), "DW_FORM_", name),
-    );
-}
-
-// DWARF 5, table 7.9.
-#[test]
-fn operations_are_numbered_as_in_the_standard(rt: HostRuntime) {
-    let rows = [
-        (
-            0x00,
-            "- - - addr - - - - const1u const1s const2u const2s const4u const4s const8u const8s
+    ),
+    (
+        Kind::Form,
+        "DW_FORM_",
+        0x1f00,
+        "- GNU_addr_index GNU_str_index -",
+    ),
+    (
+        Kind::Form,
+        "DW_FORM_",
+        0x1f1f,
+        "- GNU_ref_alt GNU_strp_alt -",
+    ),
+    (
+        Kind::Operation,
+        "DW_OP_",
+        0x00,
+        "- - - addr - - - - const1u const1s const2u const2s const4u const4s const8u const8s
             constu consts dup drop over pick swap rot - abs and div minus mod mul neg
             not or plus plus_uconst shl shr shra xor bra eq ge gt le lt ne skip",
-        ),
-        (0x90, "- - bregx - - - nop -"),
-    ];
-    check_names(&rt, &rows, 106, byte_has_name!(DwOp, "DW_OP_"));
-}
+    ),
+    (
+        Kind::Operation,
+        "DW_OP_",
+        0x30,
+        "lit0 lit1 lit2 lit3 lit4 lit5 lit6 lit7 lit8 lit9 lit10 lit11 lit12 lit13 lit14 lit15
+            lit16 lit17 lit18 lit19 lit20 lit21 lit22 lit23 lit24 lit25 lit26 lit27 lit28 lit29
+            lit30 lit31",
+    ),
+    (
+        Kind::Operation,
+        "DW_OP_",
+        0x70,
+        "breg0 breg1 breg2 breg3 breg4 breg5 breg6 breg7 breg8 breg9 breg10 breg11 breg12 breg13
+            breg14 breg15 breg16 breg17 breg18 breg19 breg20 breg21 breg22 breg23 breg24 breg25
+            breg26 breg27 breg28 breg29 breg30 breg31",
+    ),
+    (Kind::Operation, "DW_OP_", 0x90, "- - bregx - - - nop -"),
+    (
+        Kind::Encoding,
+        "DW_EH_PE_",
+        0x00,
+        "absptr uleb128 udata2 udata4 udata8 - - - - sleb128 sdata2 sdata4 sdata8 -",
+    ),
+    (Kind::Encoding, "DW_EH_PE_", 0x10, "pcrel -"),
+    (Kind::Encoding, "DW_EH_PE_", 0x20, "textrel -"),
+    (Kind::Encoding, "DW_EH_PE_", 0x30, "datarel -"),
+    (Kind::Encoding, "DW_EH_PE_", 0x40, "funcrel -"),
+    (Kind::Encoding, "DW_EH_PE_", 0x50, "aligned -"),
+    (Kind::Encoding, "DW_EH_PE_", 0x80, "indirect -"),
+    (Kind::Encoding, "DW_EH_PE_", 0xfe, "- omit"),
+];
 
-// DWARF 5, table 7.9: a literal and a register for each number up to 31.
+// How many constants of a family have a name.
+static COUNTS: [(Kind, usize); 5] = [
+    (Kind::Instruction, 28),
+    (Kind::Children, 2),
+    (Kind::Form, 47),
+    (Kind::Operation, 106),
+    (Kind::Encoding, 16),
+];
+
 #[test]
-fn operations_of_literals_and_registers_are_numbered(rt: HostRuntime) -> Result<(), Fail> {
-    for n in 0..32u8 {
-        for (first, family) in [(0x30, "lit"), (0x70, "breg")] {
-            let name = format!(in rt.alloc(); "DW_OP_{family}{n}")?;
-            let found = DwOp(first + n).static_string();
-            assert!(rt; found.unwrap_or("-") == name.as_str());
+fn constants_are_numbered_as_in_the_standards(rt: HostRuntime) {
+    for (kind, prefix, first, names) in &NAMES {
+        let mut value = *first;
+        for name in names.split_whitespace() {
+            assert!(rt;
+                is_named(*kind, prefix, value, name),
+                "{name} at {value:#x}"
+            );
+            value = value.wrapping_add(1);
         }
     }
-    Ok(())
-}
-
-// LSB 5.0, 10.5.1.
-#[test]
-fn pointer_encodings_are_numbered_as_in_the_standard(rt: HostRuntime) {
-    let rows = [
-        (
-            0x00,
-            "absptr uleb128 udata2 udata4 udata8 - - - - sleb128 sdata2 sdata4 sdata8 -",
-        ),
-        (0x10, "pcrel -"),
-        (0x20, "textrel -"),
-        (0x30, "datarel -"),
-        (0x40, "funcrel -"),
-        (0x50, "aligned -"),
-        (0x80, "indirect -"),
-        (0xfe, "- omit"),
-    ];
-    check_names(&rt, &rows, 16, byte_has_name!(DwEhPe, "DW_EH_PE_"));
-}
-
-// The encoding that compilers write for shared libraries, 0x9b, is an indirect offset of 4 bytes.
-#[test]
-fn pointer_encodings_are_taken_apart(rt: HostRuntime) {
-    let encoding = DW_EH_PE_indirect | DW_EH_PE_pcrel | DW_EH_PE_sdata4;
-    assert!(rt; encoding == DwEhPe(0x9b));
-    assert!(rt; encoding.format() == DW_EH_PE_sdata4);
-    assert!(rt; encoding.application() == DW_EH_PE_pcrel);
-    assert!(rt; encoding.is_indirect());
-    assert!(rt; !DwEhPe(0x1b).is_indirect());
-    assert!(rt; DW_EH_PE_omit.is_absent());
-    assert!(rt; !encoding.is_absent());
-    let valid = (0..=255u8).filter(|value| DwEhPe(*value).is_valid_encoding());
-    assert!(rt; valid.count() == 9 * 6 * 2 + 1);
-    for refused in [0x05, 0x08, 0x0d, 0x0f, 0x60, 0x6b, 0x75, 0xe0, 0xef, 0xf0] {
-        assert!(rt; !DwEhPe(refused).is_valid_encoding(), "at {refused:#x}");
+    for (kind, count) in &COUNTS {
+        let named = (0..=u16::MAX).filter(|value| name_of(*kind, *value).is_some());
+        assert!(rt; named.count() == *count, "{count}");
     }
 }
 
-fn assert_shows<T: fmt::Display + Drop>(
-    rt: &impl Abort,
-    alloc: Global,
-    value: T,
-    text: &str,
-) -> Result<(), AllocError> {
-    assert!(rt; value.to_string(alloc)?.as_str() == text);
-    Ok(())
-}
-
-#[test]
-fn constants_are_printed(rt: HostRuntime) -> Result<(), Fail> {
-    assert_shows(&rt, rt.alloc(), DW_CFA_def_cfa, "DW_CFA_def_cfa")?;
-    assert_shows(&rt, rt.alloc(), DwCfa(0x3f), "Unknown DwCfa: 0x3f")?;
-    assert_shows(&rt, rt.alloc(), DW_CHILDREN_yes, "DW_CHILDREN_yes")?;
-    assert_shows(&rt, rt.alloc(), DwChildren(2), "Unknown DwChildren: 0x2")?;
-    assert_shows(&rt, rt.alloc(), DW_FORM_exprloc, "DW_FORM_exprloc")?;
-    assert_shows(&rt, rt.alloc(), DwForm(0xfffe), "Unknown DwForm: 0xfffe")?;
-    assert_shows(&rt, rt.alloc(), DW_OP_breg7, "DW_OP_breg7")?;
-    assert_shows(&rt, rt.alloc(), DwOp(0x00), "Unknown DwOp: 0x0")?;
-    assert_shows(&rt, rt.alloc(), DW_EH_PE_omit, "DW_EH_PE_omit")?;
-    assert_shows(&rt, rt.alloc(), DwEhPe(0x9b), "Unknown DwEhPe: 0x9b")?;
-    Ok(())
-}
+static PRINTED: [(Kind, u16, &str); 10] = [
+    (Kind::Instruction, DW_CFA_def_cfa.0 as u16, "DW_CFA_def_cfa"),
+    (Kind::Instruction, 0x3f, "Unknown DwCfa: 0x3f"),
+    (Kind::Children, DW_CHILDREN_yes.0 as u16, "DW_CHILDREN_yes"),
+    (Kind::Children, 2, "Unknown DwChildren: 0x2"),
+    (Kind::Form, DW_FORM_exprloc.0, "DW_FORM_exprloc"),
+    (Kind::Form, 0xfffe, "Unknown DwForm: 0xfffe"),
+    (Kind::Operation, DW_OP_breg7.0 as u16, "DW_OP_breg7"),
+    (Kind::Operation, 0x00, "Unknown DwOp: 0x0"),
+    (Kind::Encoding, DW_EH_PE_omit.0 as u16, "DW_EH_PE_omit"),
+    (Kind::Encoding, 0x9b, "Unknown DwEhPe: 0x9b"),
+];
 
 static ERRORS: [(Error, &str); 42] = [
     (Error::UnexpectedEof(ReaderOffsetId(3)), "UnexpectedEof"),
@@ -274,11 +257,35 @@ static ERRORS: [(Error, &str); 42] = [
 ];
 
 #[test]
-fn errors_are_printed_by_name(rt: HostRuntime) -> Result<(), Fail> {
+fn constants_and_errors_are_printed(rt: HostRuntime) -> Result<(), Fail> {
+    for (kind, value, text) in &PRINTED {
+        assert!(rt;
+            printed(rt.alloc(), *kind, *value)?.as_str() == *text,
+            "{text}"
+        );
+    }
     for (error, name) in &ERRORS {
-        assert_shows(&rt, rt.alloc(), *error, name)?;
+        assert!(rt; error.to_string(rt.alloc())?.as_str() == *name, "{name}");
     }
     Ok(())
+}
+
+// The encoding that compilers write for shared libraries, 0x9b, is an indirect offset of 4 bytes.
+#[test]
+fn pointer_encodings_are_taken_apart(rt: HostRuntime) {
+    let encoding = DW_EH_PE_indirect | DW_EH_PE_pcrel | DW_EH_PE_sdata4;
+    assert!(rt; encoding == DwEhPe(0x9b));
+    assert!(rt; encoding.format() == DW_EH_PE_sdata4);
+    assert!(rt; encoding.application() == DW_EH_PE_pcrel);
+    assert!(rt; encoding.is_indirect());
+    assert!(rt; !DwEhPe(0x1b).is_indirect());
+    assert!(rt; DW_EH_PE_omit.is_absent());
+    assert!(rt; !encoding.is_absent());
+    let valid = (0..=255u8).filter(|value| DwEhPe(*value).is_valid_encoding());
+    assert!(rt; valid.count() == 9 * 6 * 2 + 1);
+    for refused in [0x05, 0x08, 0x0d, 0x0f, 0x60, 0x6b, 0x75, 0xe0, 0xef, 0xf0] {
+        assert!(rt; !DwEhPe(refused).is_valid_encoding(), "at {refused:#x}");
+    }
 }
 
 static SECTIONS: [(SectionId, &str, &str); 25] = [
