@@ -2,6 +2,8 @@
 #![tactic(auto)]
 
 #[cfg(test)]
+mod expected;
+#[cfg(test)]
 mod listed;
 #[cfg(test)]
 mod masks;
@@ -15,3 +17,5 @@ mod parts;
 mod real;
 #[cfg(test)]
 mod real_cores;
+#[cfg(test)]
+mod registers;

@@ -28,6 +28,11 @@ const PAC_MASK: [u8; 36] = [
     0x7f, 0, 0, 0, 0, 0, 0, 0, 0xff, 0,
 ];
 
+const MASKS: PointerAuthenticationMasks = PointerAuthenticationMasks {
+    data_mask: 0x007f_0000_0000_0000,
+    instruction_mask: 0x00ff_0000_0000_0000,
+};
+
 #[test]
 fn of_the_first_thread(rt: HostRuntime) -> Result<(), Fail> {
     let mut bytes = Vec::new(rt.alloc());
@@ -36,17 +41,13 @@ fn of_the_first_thread(rt: HostRuntime) -> Result<(), Fail> {
     bytes.extend_from_slice(&PAC_MASK)?;
     push_prstatus(&mut bytes, 8)?;
     let core = CoreFile::parse(rt.alloc(), &bytes)?;
-    assert!(rt; core.threads().len() == 2);
-    assert!(rt; core.threads()[0].id == 7);
-    assert!(rt;
-        core.threads()[0].pointer_authentication_masks
-            == Some(PointerAuthenticationMasks {
-                data_mask: 0x007f_0000_0000_0000,
-                instruction_mask: 0x00ff_0000_0000_0000
-            })
-    );
-    assert!(rt; core.threads()[1].id == 8);
-    assert!(rt; core.threads()[1].pointer_authentication_masks.is_none());
+    let [first, second] = core.threads() else {
+        assert!(rt; false);
+        return Ok(());
+    };
+    assert!(rt; first.id == 7 && second.id == 8);
+    assert!(rt; first.pointer_authentication_masks == Some(MASKS));
+    assert!(rt; second.pointer_authentication_masks.is_none());
     assert!(rt; core.mapped_files().is_empty());
     assert!(rt; core.segments().is_empty());
     assert!(rt; core.auxiliary(6).is_none());

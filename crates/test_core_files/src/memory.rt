@@ -1,114 +1,215 @@
 //! Memory by segments and mapped files.
 
 use core_files::{MappedFile, Memory, MemoryRange};
+use std::alloc::Global;
+use std::process::Abort;
 use std::test::Fail;
 
 const LOW: &[u8] = &[1, 2, 3, 4, 5, 6, 7, 8, 9, 10, 11, 12];
 
 const HIGH: &[u8] = &[21, 22, 23, 24, 25, 26, 27, 28];
 
-fn range<'a>(address: u64, size: u64, bytes: &'a [u8]) -> MemoryRange<'a> {
-    MemoryRange {
-        address,
-        size,
-        zeros: 0,
-        bytes,
-        lost: 0,
+const ALONE: &[u8] = &[21, 22];
+
+const NINE: &[u8] = &[1, 2, 3, 4, 5, 6, 7, 8, 9];
+
+// A range of addresses, with zeros and bytes, and bytes that were lost.
+macro_rules! range {
+    ($address:expr, $size:expr, $zeros:expr, $bytes:expr, $lost:expr) => {
+        MemoryRange {
+            address: $address,
+            size: $size,
+            zeros: $zeros,
+            bytes: $bytes,
+            lost: $lost,
+        }
+    };
+}
+
+// Where `LOW` is mapped, from an offset on.
+macro_rules! mapped {
+    ($offset:expr) => {
+        MappedFile {
+            start: 0x1000,
+            end: 0x1010,
+            offset: $offset,
+            name: b"/a",
+        }
+    };
+}
+
+// Segments, mappings of `LOW`, and the bytes and the words at addresses.
+type Case = (
+    &'static [MemoryRange<'static>],
+    &'static [MappedFile<'static>],
+    &'static [(u64, Option<u8>)],
+    &'static [(u64, Option<u64>)],
+);
+
+static SEGMENTS: [Case; 4] = [
+    // words in one segment and over two
+    (
+        &[range!(0x1000, 12, 0, LOW, 0), range!(0x100c, 8, 0, HIGH, 0)],
+        &[],
+        &[(0x1013, Some(28)), (0x1014, None)],
+        &[
+            (0x1000, Some(0x0807_0605_0403_0201)),
+            (0x1004, Some(0x0c0b_0a09_0807_0605)),
+            (0x1008, Some(0x1817_1615_0c0b_0a09)),
+            (0x100c, Some(0x1c1b_1a19_1817_1615)),
+            (0x100d, None),
+            (0xfff, None),
+            (u64::MAX, None),
+        ],
+    ),
+    // out of order
+    (
+        &[range!(0x100c, 8, 0, HIGH, 0), range!(0x1000, 12, 0, LOW, 0)],
+        &[],
+        &[],
+        &[
+            (0x1000, Some(0x0807_0605_0403_0201)),
+            (0x1008, Some(0x1817_1615_0c0b_0a09)),
+        ],
+    ),
+    // the first of those that overlap
+    (
+        &[range!(0x1004, 8, 0, HIGH, 0), range!(0x1000, 12, 0, LOW, 0)],
+        &[],
+        &[],
+        &[(0x1000, Some(0x1817_1615_0403_0201))],
+    ),
+    // the last word of all
+    (
+        &[range!(0xffff_ffff_ffff_fff8, 8, 0, HIGH, 0)],
+        &[],
+        &[(u64::MAX, Some(28))],
+        &[
+            (0xffff_ffff_ffff_fff8, Some(0x1c1b_1a19_1817_1615)),
+            (0xffff_ffff_ffff_fff9, None),
+        ],
+    ),
+];
+
+static FILES: [Case; 4] = [
+    // bytes that are left out are those of the file
+    (
+        &[range!(0x1000, 16, 0, ALONE, 0)],
+        &[mapped!(4)],
+        &[],
+        &[(0x1000, Some(0x0c0b_0a09_0807_1615)), (0x1001, None)],
+    ),
+    (
+        &[range!(0x1000, 16, 0, ALONE, 0)],
+        &[],
+        &[],
+        &[(0x1000, None)],
+    ),
+    // bytes that were lost are none of the file
+    (
+        &[range!(0x1000, 16, 0, ALONE, 3)],
+        &[mapped!(0)],
+        &[
+            (0x1001, Some(22)),
+            (0x1002, None),
+            (0x1004, None),
+            (0x1005, Some(6)),
+        ],
+        &[(0x1004, None)],
+    ),
+    (
+        &[range!(0x1000, 16, 1, ALONE, 3)],
+        &[mapped!(0)],
+        &[
+            (0x1002, Some(22)),
+            (0x1003, None),
+            (0x1005, None),
+            (0x1006, Some(7)),
+        ],
+        &[],
+    ),
+];
+
+static ZEROS: [Case; 3] = [
+    (
+        &[range!(0x1000, 12, 3, NINE, 0)],
+        &[],
+        &[
+            (0x0fff, None),
+            (0x1000, Some(0)),
+            (0x1002, Some(0)),
+            (0x1003, Some(1)),
+            (0x100b, Some(9)),
+            (0x100c, None),
+        ],
+        &[
+            (0x1000, Some(0x0504_0302_0100_0000)),
+            (0x1003, Some(0x0807_0605_0403_0201)),
+            (0x1004, Some(0x0908_0706_0504_0302)),
+            (0x1005, None),
+        ],
+    ),
+    (
+        &[range!(0x1000, 12, 12, b"", 0)],
+        &[],
+        &[],
+        &[(0x1004, Some(0)), (0x1005, None)],
+    ),
+    // zeros past the size are none of the range's
+    (
+        &[range!(0x1000, 12, 20, NINE, 0)],
+        &[],
+        &[(0x100b, Some(0)), (0x100c, None)],
+        &[],
+    ),
+];
+
+fn expect_memory(rt: &impl Abort, alloc: Global, cases: &[Case]) -> Result<(), Fail> {
+    for (segments, mappings, bytes, words) in cases {
+        let mut files = Vec::new(alloc);
+        for mapping in *mappings {
+            files.push(mapping.range(LOW))?;
+        }
+        let memory = Memory::new(segments, &files);
+        for (address, byte) in *bytes {
+            assert!(rt; memory.byte(*address) == *byte, "{address:#x}");
+        }
+        for (address, word) in *words {
+            assert!(rt; memory.word(*address) == *word, "{address:#x}");
+        }
     }
-}
-
-#[test]
-fn words_in_one_segment_and_over_two(rt: HostRuntime) {
-    let segments = [range(0x1000, 12, LOW), range(0x100c, 8, HIGH)];
-    let memory = Memory::new(&segments, &[]);
-    assert!(rt; memory.word(0x1000) == Some(0x0807_0605_0403_0201));
-    assert!(rt; memory.word(0x1004) == Some(0x0c0b_0a09_0807_0605));
-    assert!(rt; memory.word(0x1008) == Some(0x1817_1615_0c0b_0a09));
-    assert!(rt; memory.word(0x100c) == Some(0x1c1b_1a19_1817_1615));
-    assert!(rt; memory.word(0x100d).is_none());
-    assert!(rt; memory.word(0xfff).is_none());
-    assert!(rt; memory.word(u64::MAX).is_none());
-    assert!(rt; memory.byte(0x1013) == Some(28));
-    assert!(rt; memory.byte(0x1014).is_none());
-}
-
-#[test]
-fn segments_out_of_order(rt: HostRuntime) {
-    let segments = [range(0x100c, 8, HIGH), range(0x1000, 12, LOW)];
-    let memory = Memory::new(&segments, &[]);
-    assert!(rt; memory.word(0x1000) == Some(0x0807_0605_0403_0201));
-    assert!(rt; memory.word(0x1008) == Some(0x1817_1615_0c0b_0a09));
-}
-
-#[test]
-fn the_first_of_segments_that_overlap(rt: HostRuntime) {
-    let segments = [range(0x1004, 8, HIGH), range(0x1000, 12, LOW)];
-    let memory = Memory::new(&segments, &[]);
-    assert!(rt; memory.word(0x1000) == Some(0x1817_1615_0403_0201));
-}
-
-#[test]
-fn left_out_bytes_are_those_of_the_file(rt: HostRuntime) {
-    let mapped = MappedFile {
-        start: 0x1000,
-        end: 0x1010,
-        offset: 4,
-        name: b"/a",
-    };
-    let segments = [range(0x1000, 16, &HIGH[..2])];
-    let files = [mapped.range(LOW)];
-    let memory = Memory::new(&segments, &files);
-    assert!(rt; memory.word(0x1000) == Some(0x0c0b_0a09_0807_1615));
-    assert!(rt; memory.word(0x1001).is_none());
-    let without = Memory::new(&segments, &[]);
-    assert!(rt; without.word(0x1000).is_none());
-}
-
-#[test]
-fn lost_bytes_are_none_of_the_file(rt: HostRuntime) {
-    let mapped = MappedFile {
-        start: 0x1000,
-        end: 0x1010,
-        offset: 0,
-        name: b"/a",
-    };
-    let mut segment = range(0x1000, 16, &HIGH[..2]);
-    segment.lost = 3;
-    let segments = [segment];
-    let files = [mapped.range(LOW)];
-    let memory = Memory::new(&segments, &files);
-    assert!(rt; memory.byte(0x1001) == Some(22));
-    assert!(rt; memory.byte(0x1002).is_none());
-    assert!(rt; memory.byte(0x1004).is_none());
-    assert!(rt; memory.byte(0x1005) == Some(6));
-    assert!(rt; memory.word(0x1004).is_none());
-    segment.zeros = 1;
-    let segments = [segment];
-    let memory = Memory::new(&segments, &files);
-    assert!(rt; memory.byte(0x1002) == Some(22));
-    assert!(rt; memory.byte(0x1003).is_none());
-    assert!(rt; memory.byte(0x1005).is_none());
-    assert!(rt; memory.byte(0x1006) == Some(7));
-}
-
-#[test]
-fn an_offset_past_the_file(rt: HostRuntime) -> Result<(), Fail> {
-    let mapped = MappedFile {
-        start: 0x1000,
-        end: 0x1010,
-        offset: 13,
-        name: b"/a",
-    };
-    assert!(rt; mapped.range(LOW).bytes.is_empty());
-    assert!(rt; mapped.range(LOW).size == 16);
     Ok(())
 }
 
 #[test]
-fn the_last_word_of_all(rt: HostRuntime) {
-    let segments = [range(u64::MAX - 7, 8, HIGH)];
-    let memory = Memory::new(&segments, &[]);
-    assert!(rt; memory.word(u64::MAX - 7) == Some(0x1c1b_1a19_1817_1615));
-    assert!(rt; memory.word(u64::MAX - 6).is_none());
-    assert!(rt; memory.byte(u64::MAX) == Some(28));
+fn bytes_and_words(rt: HostRuntime) -> Result<(), Fail> {
+    expect_memory(&rt, rt.alloc(), &SEGMENTS)?;
+    expect_memory(&rt, rt.alloc(), &FILES)?;
+    expect_memory(&rt, rt.alloc(), &ZEROS)
+}
+
+// A file with these bytes after some zeros.
+const FILE: &[u8] = &[0x7f, 2, 3];
+
+// How many zeros there are, and the file at an address.
+static FILES_AT: [(u64, u64, Option<&[u8]>); 6] = [
+    (3, 0x1003, Some(FILE)),
+    (3, 0x1002, None),
+    (3, 0x1004, None),
+    (3, 0x1006, None),
+    (3, 0xfff, None),
+    // one byte past the range
+    (12, 0x100c, None),
+];
+
+#[test]
+fn ranges(rt: HostRuntime) {
+    for (zeros, address, file) in &FILES_AT {
+        let range = range!(0x1000, 12, *zeros, FILE, 0);
+        assert!(rt; range.file_at(*address) == *file, "{address:#x}");
+    }
+    // an offset past the file
+    let range = mapped!(13).range(LOW);
+    assert!(rt; range.bytes.is_empty());
+    assert!(rt; range.size == 16);
 }

@@ -1,0 +1,71 @@
+//! What is expected of cores.
+
+use crate::listed::Listed;
+use crate::registers::in_order;
+use core_files::{CoreError, CoreFile, SegmentBytes};
+use elf_files::{ElfFile, SegmentKind};
+use std::alloc::Global;
+use std::process::Abort;
+use std::test::Fail;
+
+fn expect_threads(
+    rt: &impl Abort,
+    alloc: Global,
+    core: &CoreFile<'_>,
+    listed: &Listed,
+) -> Result<(), Fail> {
+    assert!(rt; core.threads().len() == listed.threads.len());
+    for (thread, (id, registers)) in core.threads().iter().zip(listed.threads) {
+        assert!(rt; thread.id == *id);
+        assert!(rt; thread.pointer_authentication_masks.is_none());
+        assert!(rt; in_order(alloc, &thread.registers)?.as_slice() == *registers);
+    }
+    Ok(())
+}
+
+fn expect_files(rt: &impl Abort, core: &CoreFile<'_>, listed: &Listed) {
+    assert!(rt; core.mapped_files().len() == listed.files.len());
+    for (file, (start, end, offset, name)) in core.mapped_files().iter().zip(listed.files) {
+        assert!(rt; (file.start, file.end, file.offset) == (*start, *end, *offset));
+        assert!(rt; file.name == *name);
+    }
+}
+
+/// The notes of the core say what is listed.
+pub fn expect_notes(
+    rt: &impl Abort,
+    alloc: Global,
+    core: &CoreFile<'_>,
+    listed: &Listed,
+) -> Result<(), Fail> {
+    expect_threads(rt, alloc, core, listed)?;
+    expect_files(rt, core, listed);
+    for (kind, value) in listed.auxiliary {
+        assert!(rt; core.auxiliary(*kind) == Some(*value));
+    }
+    assert!(rt; core.auxiliary(1000).is_none());
+    Ok(())
+}
+
+/// Why a core isn't read, as a whole or in parts.
+pub fn refusal(alloc: Global, bytes: &[u8], parts: Option<&[SegmentBytes]>) -> Option<CoreError> {
+    let core = match parts {
+        Some(parts) => CoreFile::parse_in_parts(alloc, bytes, parts),
+        None => CoreFile::parse(alloc, bytes),
+    };
+    match core {
+        Ok(_) => None,
+        Err(error) => Some(error),
+    }
+}
+
+/// Where the first loaded segment is, which comes after all notes.
+pub fn notes_end(elf: &ElfFile<'_>) -> Result<u64, Fail> {
+    for index in 0..elf.segment_count() {
+        let segment = elf.segment(index)?;
+        if segment.kind == SegmentKind::Load {
+            return Ok(segment.offset);
+        }
+    }
+    Ok(0)
+}
