@@ -10,8 +10,6 @@ mod sections;
 mod sessions;
 mod tables;
 #[cfg(test)]
-mod turns;
-#[cfg(test)]
 mod walks;
 #[cfg(test)]
 mod worked;
