@@ -4,6 +4,4 @@
 #[cfg(test)]
 mod limits;
 #[cfg(test)]
-mod runs;
-#[cfg(test)]
 mod streams;

@@ -5,6 +5,7 @@ ghost use Rattle.std.specs.Prelude.{◌≡◌, Some, false};
 use std::alloc::Global;
 use std::io;
 use std::io::{Read, Write};
+use std::process::Abort;
 use std::test::Fail;
 use unwind_run_program::{Program, RunError, Sink, Source, StreamError, Streamed, UnwindCommands};
 
@@ -149,69 +150,69 @@ fn sink_in_steps(alloc: Global, step: usize, calls_left: usize) -> Record
     }
 }
 
+// A run whose calls read and write at most so many bytes each, and fail after so many calls. It ends with this error or with none, leaves
+// so many bytes of the document, and writes so many of the text.
+fn expect_run(
+    rt: &impl Abort,
+    alloc: Global,
+    (read_size, reads): (usize, usize),
+    (write_size, writes): (usize, usize),
+    error: Option<RunError>,
+    (left, written): (usize, usize),
+) {
+    let mut source = source_in_steps(read_size, reads);
+    let mut sink = sink_in_steps(alloc, write_size, writes);
+    match UnwindCommands::run(alloc, &mut source, &mut sink) {
+        Ok(ending) => assert!(rt; error.is_none() && ending.status() == 0),
+        Err(found) => assert!(rt; error == Some(found)),
+    }
+    assert!(rt; source.failed() == (error == Some(RunError::Read)));
+    assert!(rt; sink.failed() == (error == Some(RunError::Write)));
+    assert!(rt; source.rest.len() == left, "{left} of {read_size}");
+    let text = ANSWERS.as_bytes();
+    assert!(rt;
+        sink.written.as_slice() == &text[..written.min(text.len())],
+        "{written} of {write_size}"
+    );
+}
+
 #[test]
-fn reads_in_pieces(rt: HostRuntime) -> Result<(), Fail> {
+fn in_pieces(rt: HostRuntime) {
     let length = DOCUMENT.len();
-    for step in [1, 3, 7, length - 1, length, length + 1] {
-        let mut source = source_in_steps(step, 2_000);
-        let mut sink = sink_in_steps(rt.alloc(), 1_000, 2);
-        assert!(rt; UnwindCommands::run(rt.alloc(), &mut source, &mut sink)?.status() == 0);
-        assert!(rt;
-            sink.written.as_slice() == ANSWERS.as_bytes(),
-            "in steps of {step}"
-        );
-        assert!(rt; !source.failed());
+    for size in [1, 3, 7, length - 1, length, length + 1] {
+        expect_run(&rt, rt.alloc(), (size, 2_000), (1_000, 2), None, (0, 84));
     }
-    Ok(())
+    for size in [1, 3, 7, 41, 42, 43] {
+        expect_run(&rt, rt.alloc(), (1_000, 10), (size, 100), None, (0, 84));
+    }
 }
 
-// Where a read fails nothing is written, though it be the one that would find the end.
+// Where a read fails nothing is written, though it be the one that would find the end. What was written before the write that fails is a
+// prefix of the text.
 #[test]
-fn each_read_fails_in_turn(rt: HostRuntime) -> Result<(), Fail> {
+fn each_call_fails_in_turn(rt: HostRuntime) {
     for calls in 0..=DOCUMENT.len().div_ceil(100) {
-        let mut source = source_in_steps(100, calls);
-        let mut sink = sink_in_steps(rt.alloc(), 1_000, 2);
-        let ending = UnwindCommands::run(rt.alloc(), &mut source, &mut sink);
-        assert!(rt; ending.err() == Some(RunError::Read), "after {calls} reads");
-        assert!(rt; source.failed());
-        assert!(rt; source.rest.len() == DOCUMENT.len().saturating_sub(100 * calls));
-        assert!(rt; sink.written.is_empty());
-        assert!(rt; !sink.failed());
-    }
-    Ok(())
-}
-
-#[test]
-fn writes_in_pieces(rt: HostRuntime) -> Result<(), Fail> {
-    for step in [1, 3, 7, 41, 42, 43] {
-        let mut source = source_in_steps(1_000, 10);
-        let mut sink = sink_in_steps(rt.alloc(), step, 100);
-        assert!(rt; UnwindCommands::run(rt.alloc(), &mut source, &mut sink)?.status() == 0);
-        assert!(rt;
-            sink.written.as_slice() == ANSWERS.as_bytes(),
-            "in steps of {step}"
+        let left = DOCUMENT.len().saturating_sub(100 * calls);
+        expect_run(
+            &rt,
+            rt.alloc(),
+            (100, calls),
+            (1_000, 2),
+            Some(RunError::Read),
+            (left, 0),
         );
-        assert!(rt; !sink.failed());
     }
-    Ok(())
-}
-
-// What was written before the call that fails is a prefix of the text.
-#[test]
-fn each_write_fails_in_turn(rt: HostRuntime) -> Result<(), Fail> {
     for calls in 0..12 {
-        let mut source = source_in_steps(1_000, 10);
-        let mut sink = sink_in_steps(rt.alloc(), 7, calls);
-        let ending = UnwindCommands::run(rt.alloc(), &mut source, &mut sink);
-        assert!(rt;
-            ending.err() == Some(RunError::Write),
-            "after {calls} writes"
+        let error = Some(RunError::Write);
+        expect_run(
+            &rt,
+            rt.alloc(),
+            (1_000, 10),
+            (7, calls),
+            error,
+            (0, 7 * calls),
         );
-        assert!(rt; sink.failed());
-        assert!(rt; sink.written.as_slice() == &ANSWERS.as_bytes()[..7 * calls]);
-        assert!(rt; !source.failed());
     }
-    Ok(())
 }
 
 /// A writer that takes nothing.
