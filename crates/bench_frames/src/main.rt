@@ -9,7 +9,8 @@ mod passes;
 
 use anyhow::Result;
 use dwarf_frame_entries::{
-    BaseAddresses, EhFrame, UnwindContext, UnwindContextStorage, UnwindSection,
+    BaseAddresses, EhFrame, FrameDescriptionEntry, UnwindContext, UnwindContextStorage,
+    UnwindSection,
 };
 use dwarf_frame_rows::StoreOnHeap;
 use dwarf_readers::{LittleEndian, Reader};
@@ -33,7 +34,41 @@ fn main(rt: HostRuntime) -> Result<()> {
     print_passes(&rt, &section, &mut context, rounds)
 }
 
-/// Makes each pass, again as often as asked for, and prints its result.
+/// What a pass came to, and the least time that it took.
+#[derive(Clone, Copy)]
+struct Pass {
+    tally: Tally,
+    least: Duration,
+}
+
+impl Pass {
+    fn new() -> Pass {
+        Pass {
+            tally: Tally::new(),
+            least: Duration::MAX,
+        }
+    }
+
+    /// Ends a pass that began at `start`.
+    fn end(&mut self, rt: &HostRuntime, start: Instant, tally: Tally) -> Result<()> {
+        self.least = self.least.min(start.elapsed(rt)?);
+        self.tally = tally;
+        Ok(())
+    }
+
+    /// Prints what it came to, and the time if it is asked for.
+    fn print(&self, rt: &HostRuntime, name: &str, is_timed: bool) -> Result<()> {
+        let Tally { count, sum } = self.tally;
+        if is_timed {
+            println!(rt; "{count} {name} {} ns, sum {sum:#x}", self.least.as_nanos())?;
+        } else {
+            println!(rt; "{count} {name}, sum {sum:#x}")?;
+        }
+        Ok(())
+    }
+}
+
+/// Makes the passes once, or in turn as often as asked for, and prints what they came to.
 fn print_passes<R: Reader, Section: UnwindSection<R>, S: UnwindContextStorage<R::Offset>>(
     rt: &HostRuntime,
     section: &Section,
@@ -42,43 +77,53 @@ fn print_passes<R: Reader, Section: UnwindSection<R>, S: UnwindContextStorage<R:
 ) -> Result<()> {
     let bases = BaseAddresses::default().set_eh_frame(START);
     let kept = keep_fdes(rt.alloc(), section, &bases)?;
-    let mut entries = list_entries(section, &bases)?;
-    let mut fdes = list_fdes(section, &bases)?;
-    let mut rows = list_rows(section, &bases, kept.as_slice(), context)?;
-    let mut least = [Duration::MAX; 3];
-    for _ in 0..rounds {
-        let start = Instant::now(rt)?;
-        entries = list_entries(section, &bases)?;
-        least[0] = least[0].min(start.elapsed(rt)?);
-        let start = Instant::now(rt)?;
-        fdes = list_fdes(section, &bases)?;
-        least[1] = least[1].min(start.elapsed(rt)?);
-        let start = Instant::now(rt)?;
-        rows = list_rows(section, &bases, kept.as_slice(), context)?;
-        least[2] = least[2].min(start.elapsed(rt)?);
+    let mut passes = [Pass::new(); 3];
+    for _ in 0..rounds.max(1) {
+        pass_entries(rt, section, &bases, &mut passes[0])?;
+        pass_fdes(rt, section, &bases, &mut passes[1])?;
+        pass_rows(rt, section, &bases, &kept, context, &mut passes[2])?;
     }
-    print_pass(rt, "entries", entries, least[0], rounds)?;
-    print_pass(rt, "FDEs", fdes, least[1], rounds)?;
-    print_pass(rt, "rows", rows, least[2], rounds)
+    print_all(rt, passes, rounds > 0)
 }
 
-/// Prints the result of a pass, and the time, if it was taken.
-fn print_pass(
+fn pass_entries<R: Reader, Section: UnwindSection<R>>(
     rt: &HostRuntime,
-    name: &str,
-    tally: Tally,
-    least: Duration,
-    rounds: u32,
+    section: &Section,
+    bases: &BaseAddresses,
+    pass: &mut Pass,
 ) -> Result<()> {
-    if rounds == 0 {
-        println!(rt; "{} {name}, sum {:#x}", tally.count, tally.sum)?;
-    } else {
-        println!(rt;
-            "{} {name} {} ns, sum {:#x}",
-            tally.count,
-            least.as_nanos(),
-            tally.sum
-        )?;
-    }
-    Ok(())
+    let start = Instant::now(rt)?;
+    let tally = list_entries(section, bases)?;
+    pass.end(rt, start, tally)
+}
+
+fn pass_fdes<R: Reader, Section: UnwindSection<R>>(
+    rt: &HostRuntime,
+    section: &Section,
+    bases: &BaseAddresses,
+    pass: &mut Pass,
+) -> Result<()> {
+    let start = Instant::now(rt)?;
+    let tally = list_fdes(section, bases)?;
+    pass.end(rt, start, tally)
+}
+
+fn pass_rows<R: Reader, Section: UnwindSection<R>, S: UnwindContextStorage<R::Offset>>(
+    rt: &HostRuntime,
+    section: &Section,
+    bases: &BaseAddresses,
+    fdes: &[FrameDescriptionEntry<R>],
+    context: &mut UnwindContext<R::Offset, S>,
+    pass: &mut Pass,
+) -> Result<()> {
+    let start = Instant::now(rt)?;
+    let tally = list_rows(section, bases, fdes, context)?;
+    pass.end(rt, start, tally)
+}
+
+fn print_all(rt: &HostRuntime, passes: [Pass; 3], is_timed: bool) -> Result<()> {
+    let [entries, fdes, rows] = passes;
+    entries.print(rt, "entries", is_timed)?;
+    fdes.print(rt, "FDEs", is_timed)?;
+    rows.print(rt, "rows", is_timed)
 }

@@ -21,7 +21,7 @@ pub struct Tally {
 }
 
 impl Tally {
-    fn new() -> Tally {
+    pub fn new() -> Tally {
         Tally { count: 0, sum: 0 }
     }
 
