@@ -40,19 +40,22 @@ fn run_file(rt: &HostRuntime, path: &str, section: Option<SectionName>) -> Resul
 }
 
 // Lists the section of a document.
-fn run_document(rt: &HostRuntime) -> ExitCode {
+fn run_document(rt: &HostRuntime) -> Result<ExitCode> {
     let mut source = Streamed::new(rt.reader());
     let mut sink = Streamed::new(io::writer(rt));
     match FrameTables::run(rt.alloc(), &mut source, &mut sink) {
-        Ok(ending) => ExitCode::from(ending.status()),
-        Err(_) => ExitCode::FAILURE,
+        Ok(ending) => Ok(ExitCode::from(ending.status())),
+        Err(error) => {
+            eprintln!(rt; "frame_table: {error}")?;
+            Ok(ExitCode::FAILURE)
+        }
     }
 }
 
 fn main(rt: HostRuntime) -> Result<ExitCode> {
     let words: Vec<String> = env::args(&rt)?.skip(1).collect(rt.alloc())?;
     match request_of(words.as_slice()) {
-        Some(Request::Document) => Ok(run_document(&rt)),
+        Some(Request::Document) => run_document(&rt),
         Some(Request::File(path, section)) => run_file(&rt, path, section),
         Some(Request::Help) => {
             println!(rt; "{USAGE}")?;
