@@ -5,7 +5,6 @@ ghost use Rattle.std.specs.List.{All};
 ghost use Rattle.framehop_histories.specs.CommandViews.{OfCallback};
 
 use crate::steps::module_with;
-use crate::worked::word_at;
 use framehop::aarch64::{self, ArchAarch64, UnwindRegsAarch64};
 use framehop::histories::{Answer, Command};
 use framehop::x86_64::{self, ArchX86_64, UnwindRegsX86_64};
@@ -17,6 +16,7 @@ use std::alloc::{AllocError, Global};
 use std::collections::VecDeque;
 use std::test::Fail;
 use test_readers::WORKED;
+use test_rules::word_at;
 
 /// A section of aarch64: a CIE, and an FDE of sixteen bytes of code at 0x1000, which pushes X29 and X30 by
 /// its first instruction.
@@ -130,7 +130,7 @@ fn holds_on_x86_64<P: AllocationPolicy>(alloc: Global) -> Result<bool, Fail> {
         alloc,
         Generations::new(),
     );
-    let mut commands = commands_of(alloc, module, context, regs, |at: u64| word_at(at))?;
+    let mut commands = commands_of(alloc, module, context, regs, word_at)?;
     let answers = x86_64::perform(alloc, &mut session, &mut commands)?;
     Ok(are_wanted(&answers))
 }
@@ -144,7 +144,7 @@ fn holds_on_aarch64<P: AllocationPolicy>(alloc: Global) -> Result<bool, Fail> {
         alloc,
         Generations::new(),
     );
-    let mut commands = commands_of(alloc, module, context, regs, |at: u64| word_at(at))?;
+    let mut commands = commands_of(alloc, module, context, regs, word_at)?;
     let answers = aarch64::perform(alloc, &mut session, &mut commands)?;
     Ok(are_wanted(&answers))
 }

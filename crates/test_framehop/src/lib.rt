@@ -1,14 +1,8 @@
-//! Tests of the unwind rules, the unwinder and its index, by public calls alone.
+//! Tests of the unwinder, its index and its tables, and of the list that rows keep rules in, by public calls alone.
 #![tactic(auto)]
 
 #[cfg(test)]
-mod arch;
-#[cfg(test)]
 mod cfi_index;
-#[cfg(test)]
-mod compact_steps;
-#[cfg(test)]
-mod expressions;
 #[cfg(test)]
 mod histories;
 #[cfg(test)]
@@ -17,17 +11,9 @@ mod in_place_vec;
 mod memory;
 mod pe_files;
 #[cfg(test)]
-mod pe_steps;
-#[cfg(test)]
-mod pop_lists;
+mod registers;
 #[cfg(test)]
 mod row_edges;
-#[cfg(test)]
-mod rule_cache;
-#[cfg(test)]
-mod rules;
-#[cfg(test)]
-mod rules_aarch64;
 #[cfg(test)]
 mod sections;
 #[cfg(test)]
@@ -36,7 +22,5 @@ mod sessions;
 mod steps;
 #[cfg(test)]
 mod tables;
-#[cfg(test)]
-mod worked;
 
-pub use pe_files::{PeFile, PeSection};
+pub use pe_files::PeFile;

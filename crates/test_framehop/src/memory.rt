@@ -2,11 +2,9 @@
 //!
 //! By themselves these tests are refused nothing. `scripts/refuse-allocations --tests test_framehop` runs each of them with each of its
 //! requests refused, alone and with all after it: what is refused is asked for again, and what takes no memory answers as it does with memory.
-use crate::sections::NARROW;
+use crate::pe_files::PeFile;
 use crate::sessions::{Sections, try_module_of};
 use crate::steps::{self, Registers, frame_at, try_step};
-use crate::worked::word_at;
-use crate::{compact_steps, pe_steps};
 use framehop::x86_64::{ArchX86_64, CacheX86_64, UnwindRegsX86_64, UnwinderX86_64};
 use framehop::{
     AllocationPolicy, BySections, CacheStats, DwarfUnwindContext, Error, FrameAddress, Generations,
@@ -17,6 +15,7 @@ use std::alloc::{AllocError, Global};
 use std::process::Abort;
 use std::test::Fail;
 use test_readers::WORKED;
+use test_rules::word_at;
 
 /// Where modules start that are unwound by an index, by a header, by `.debug_frame`, by compact unwind info and by `.pdata`, with a rule
 /// and code by code, and one without sections. Each has 0x10000 addresses.
@@ -31,6 +30,36 @@ const ONE_MORE: u64 = 0x800000;
 static HEADER: [u8; 20] = [
     1, 3, 3, 0x3b, 0, 2, 0, 0, 1, 0, 0, 0, 0, 0x0d, 0, 0, 0x14, 0xff, 0xff, 0xff,
 ];
+
+/// A section `.debug_frame`: a CIE of version 4, whose addresses have 4 bytes, and an FDE of sixteen
+/// bytes of code at 0x1000, whose CFA is the expression RSP + 8.
+static NARROW: [u8; 40] = [
+    0x10, 0, 0, 0, 0xff, 0xff, 0xff, 0xff, 4, 0, 4, 0, 1, 0x78, 0x10, 0x0c, 7, 8, 0x90, 1, 0x10, 0,
+    0, 0, 0, 0, 0, 0, 0, 0x10, 0, 0, 0x10, 0, 0, 0, 0x0f, 2, 0x77, 8,
+];
+
+/// `__unwind_info` of a library of x86_64 that lld linked: a function without a frame from 0x560, and from 0x570 one with a stack of
+/// six words.
+static COMPACT: [u8; 142] = [
+    0x01, 0x00, 0x00, 0x00, 0x1c, 0x00, 0x00, 0x00, 0x08, 0x00, 0x00, 0x00, 0x3c, 0x00, 0x00, 0x00,
+    0x00, 0x00, 0x00, 0x00, 0x3c, 0x00, 0x00, 0x00, 0x02, 0x00, 0x00, 0x00, 0x00, 0xf8, 0x0d, 0x03,
+    0x00, 0x44, 0x04, 0x03, 0x00, 0x18, 0x08, 0x02, 0x00, 0x14, 0x08, 0x02, 0x04, 0x10, 0x06, 0x02,
+    0x00, 0x00, 0x06, 0x02, 0x00, 0x04, 0x04, 0x02, 0x00, 0x00, 0x00, 0x00, 0x60, 0x05, 0x00, 0x00,
+    0x54, 0x00, 0x00, 0x00, 0x54, 0x00, 0x00, 0x00, 0xf8, 0x07, 0x00, 0x00, 0x00, 0x00, 0x00, 0x00,
+    0x54, 0x00, 0x00, 0x00, 0x03, 0x00, 0x00, 0x00, 0x0c, 0x00, 0x08, 0x00, 0x2c, 0x00, 0x00, 0x00,
+    0x00, 0x00, 0x00, 0x07, 0x10, 0x00, 0x00, 0x05, 0x70, 0x00, 0x00, 0x01, 0xd0, 0x00, 0x00, 0x06,
+    0xf0, 0x00, 0x00, 0x04, 0x30, 0x01, 0x00, 0x03, 0x90, 0x01, 0x00, 0x02, 0x00, 0x02, 0x00, 0x00,
+    0x00, 0x00, 0x00, 0x00, 0x00, 0x00, 0x00, 0x00, 0x00, 0x00, 0x00, 0x00, 0x00, 0x00,
+];
+
+/// The row of a function from 0x1000 to 0x1010, with its unwind info at 0x2000.
+static ROW: [u8; 12] = [0, 0x10, 0, 0, 0x10, 0x10, 0, 0, 0, 0x20, 0, 0];
+
+/// Its unwind info: RBX is pushed, and the stack pointer goes down by 0x20.
+static INFO: [u8; 8] = [0x01, 0x05, 0x02, 0x00, 0x05, 0x32, 0x01, 0x30];
+
+/// An unwind info whose codes have no rule: RBP is pushed after an allocation of 8.
+static UNDONE: [u8; 8] = [0x01, 0x02, 0x02, 0x00, 0x02, 0x50, 0x01, 0x02];
 
 /// Whether a frame is the first one, its registers, what a step gives and leaves of them, and whether its row has an expression.
 static FRAMES: [(bool, Registers, (u64, Registers), bool); 9] = [
@@ -121,7 +150,7 @@ fn sections_at(start: u64, both: &[u8]) -> Sections<'_> {
             sections.eh_frame_hdr_svma = Some(0x300..0x314);
         }
         0x300000 => sections.debug_frame = Some(NARROW.as_slice()),
-        0x400000 => sections.unwind_info = Some(compact_steps::X86_64.as_slice()),
+        0x400000 => sections.unwind_info = Some(COMPACT.as_slice()),
         _ => {}
     }
     sections
@@ -130,19 +159,13 @@ fn sections_at(start: u64, both: &[u8]) -> Sections<'_> {
 /// The module that starts there.
 fn module_at(alloc: Global, start: u64, both: &[u8]) -> Result<Module<&[u8]>, AllocError> {
     let range = start..start.saturating_add(0x10000);
-    match start {
-        0x500000 => try_module_of(
-            alloc,
-            pe_steps::file_of(&pe_steps::ROW, &pe_steps::INFO),
-            range,
-        ),
-        0x600000 => try_module_of(
-            alloc,
-            pe_steps::file_of(&pe_steps::ROW, &pe_steps::UNDONE),
-            range,
-        ),
-        _ => try_module_of(alloc, sections_at(start, both), range),
-    }
+    let xdata = match start {
+        0x500000 => INFO.as_slice(),
+        0x600000 => UNDONE.as_slice(),
+        _ => return try_module_of(alloc, sections_at(start, both), range),
+    };
+    let pdata = ROW.as_slice();
+    try_module_of(alloc, PeFile { pdata, xdata }, range)
 }
 
 /// Loads a module. If its list can't grow, the session is as it was, and the module is given back; then it is loaded again.
@@ -407,26 +430,6 @@ fn a_move_by_an_expression_is_made_again(rt: HostRuntime) -> Result<(), Fail> {
     check_moves(&rt, &unwinder, &mut cache.0)
 }
 
-/// Wants so many frames over the first words of the stack, and then the address that can't be read, each time.
-fn check_stop<U: Unwinder<UnwindRegs = UnwindRegsX86_64>>(
-    rt: &impl Abort,
-    unwinder: &U,
-    cache: &mut U::Cache,
-    words: u64,
-    frames: usize,
-    unread: u64,
-) {
-    let mut read_stack = |at: u64| if at / 8 < words { word_at(at) } else { Err(()) };
-    let regs = UnwindRegsX86_64::new(0x101000, 0x10, 0x20);
-    let mut walk = unwinder.iter_frames(0x101000, regs, cache, &mut read_stack);
-    for _ in 0..frames {
-        assert!(rt; matches!(walk.next(), Ok(Some(_))));
-    }
-    for _ in 0..2 {
-        assert!(rt; walk.next() == Err(Error::CouldNotReadStack(unread)));
-    }
-}
-
 /// How many words of the stack there are, how many frames they give, and the address that can't be read then.
 static STOPS: [(u64, usize, u64); 5] = [
     (2, 1, 0x10),
@@ -436,14 +439,22 @@ static STOPS: [(u64, usize, u64); 5] = [
     (15, 4, 0x78),
 ];
 
-/// Wants where all of these walks stop.
+/// Wants so many frames over the first words of the stack, and then the address that can't be read, each time.
 fn check_stops<U: Unwinder<UnwindRegs = UnwindRegsX86_64>>(
     rt: &impl Abort,
     unwinder: &U,
     cache: &mut U::Cache,
 ) {
     for (words, frames, unread) in STOPS {
-        check_stop(rt, unwinder, cache, words, frames, unread);
+        let mut read_stack = |at: u64| if at / 8 < words { word_at(at) } else { Err(()) };
+        let regs = UnwindRegsX86_64::new(0x101000, 0x10, 0x20);
+        let mut walk = unwinder.iter_frames(0x101000, regs, cache, &mut read_stack);
+        for _ in 0..frames {
+            assert!(rt; matches!(walk.next(), Ok(Some(_))));
+        }
+        for _ in 0..2 {
+            assert!(rt; walk.next() == Err(Error::CouldNotReadStack(unread)));
+        }
     }
 }
 

@@ -4,12 +4,12 @@
 mod section;
 
 use crate::sessions::{Sections, Stepped, module_of, step_twice};
+use crate::steps::frame_at;
 use framehop::aarch64::{ArchAarch64, PtrAuthMask, UnwindRegsAarch64};
-use framehop::{
-    AllocationPolicy, BySections, DwarfUnwindContext, FrameAddress, MustNotAllocateDuringUnwind,
-};
+use framehop::{BySections, DwarfUnwindContext, MustNotAllocateDuringUnwind};
 use section::{Base, Cfa, Column, Row, with_row};
 use std::alloc::Global;
+use std::process::Abort;
 use std::test::Fail;
 
 /// The stack pointer of each frame, far from 0 and from 2^63.
@@ -29,35 +29,18 @@ fn word_at(address: u64) -> Result<u64, ()> {
 /// Two equal steps in a module with a row, from a first or a later frame, by what the last gives.
 fn step(alloc: Global, row: &Row, is_first: bool) -> Result<Stepped<(u64, u64, u64)>, Fail> {
     let bytes = with_row(alloc, row)?;
-    step_in::<MustNotAllocateDuringUnwind>(alloc, bytes.as_slice(), is_first)
-}
-
-/// A first or a later frame, in the code that the section is about.
-fn frame(is_first: bool) -> Result<FrameAddress, Fail> {
-    if is_first {
-        return Ok(FrameAddress::from_instruction_pointer(0x1004));
-    }
-    match FrameAddress::from_return_address(0x1005) {
-        Some(later) => Ok(later),
-        None => Err(Fail::new("a return address of 0")),
-    }
-}
-
-/// Two equal steps in a module with this section.
-fn step_in<'a, P: AllocationPolicy>(
-    alloc: Global,
-    section: &'a [u8],
-    is_first: bool,
-) -> Result<Stepped<(u64, u64, u64)>, Fail> {
-    let mut sections = Sections::default();
-    sections.eh_frame = Some(section);
+    let sections = Sections {
+        eh_frame: Some(bytes.as_slice()),
+        ..Default::default()
+    };
     let module = module_of(alloc, sections, 0x0..0x2000)?;
     let context = DwarfUnwindContext::new(alloc)?;
-    let address = frame(is_first)?;
+    let address = frame_at(is_first, if is_first { 0x1004 } else { 0x1005 });
     let regs = UnwindRegsAarch64::new_with_ptr_auth_mask(PtrAuthMask::new_24_40(), 0x1234, SP, FP);
-    let (return_address, regs, is_hit) = step_twice::<BySections<ArchAarch64, &'a [u8], P>, _>(
-        alloc, module, context, address, regs, word_at,
-    )?;
+    let (return_address, regs, is_hit) = step_twice::<
+        BySections<ArchAarch64, &[u8], MustNotAllocateDuringUnwind>,
+        _,
+    >(alloc, module, context, address, regs, word_at)?;
     Ok((return_address, (regs.lr(), regs.sp(), regs.fp()), is_hit))
 }
 
@@ -95,19 +78,20 @@ fn has_rule(row: &Row) -> bool {
     }
 }
 
-/// Whether both forms of a row give one caller, and only the form that a rule says is kept.
-fn agree(alloc: Global, row: Row, is_first: bool) -> Result<bool, Fail> {
+/// Wants that both forms of a row give one caller, and that only the form that a rule says is kept.
+fn check(rt: &impl Abort, alloc: Global, row: Row, is_first: bool) -> Result<(), Fail> {
     let plain = step(alloc, &row, is_first)?;
-    let direct = step(
-        alloc,
-        &Row {
-            cfa: Cfa::Expression,
-            ..row
-        },
-        is_first,
-    )?;
-    let is_same = plain.0.is_some() && plain.0 == direct.0 && plain.1 == direct.1;
-    Ok(is_same && plain.2 == has_rule(&row) && !direct.2)
+    let expression = Row {
+        cfa: Cfa::Expression,
+        ..row
+    };
+    let direct = step(alloc, &expression, is_first)?;
+    assert!(rt;
+        plain.0.is_some() && plain.0 == direct.0 && plain.1 == direct.1,
+        "{row:?}"
+    );
+    assert!(rt; plain.2 == has_rule(&row) && !direct.2, "{row:?}");
+    Ok(())
 }
 
 /// Offsets of the CFA at the edges of what fields say, and beside them.
@@ -141,78 +125,48 @@ const DISTANCES: [i64; 9] = [
     -8 * 32_769,
 ];
 
-#[test]
-fn stored_columns_at_the_edges(rt: HostRuntime) -> Result<(), Fail> {
-    for base in [Base::Sp, Base::X29] {
-        for offset in OFFSETS {
-            for distance in DISTANCES {
-                let row = Row {
-                    cfa: Cfa::Register,
-                    base,
-                    offset,
-                    fp: Column::Stored(offset.wrapping_neg()),
-                    lr: Column::Stored(distance.wrapping_sub(offset)),
-                };
-                assert!(rt; agree(rt.alloc(), row, true)?, "{row:?}");
-                let row = Row {
-                    fp: Column::Stored(distance.wrapping_sub(offset)),
-                    lr: Column::Stored(offset.wrapping_neg()),
-                    ..row
-                };
-                assert!(rt; agree(rt.alloc(), row, true)?, "{row:?}");
-            }
+/// A row whose CFA is said by a register and an offset.
+fn row_of(base: Base, offset: i64, fp: Column, lr: Column) -> Row {
+    Row {
+        cfa: Cfa::Register,
+        base,
+        offset,
+        fp,
+        lr,
+    }
+}
+
+/// One register is stored where the CFA's register points to, and the other at each distance from there.
+fn check_stored(rt: &impl Abort, alloc: Global, base: Base, offset: i64) -> Result<(), Fail> {
+    let there = Column::Stored(offset.wrapping_neg());
+    for distance in DISTANCES {
+        let other = Column::Stored(distance.wrapping_sub(offset));
+        check(rt, alloc, row_of(base, offset, there, other), true)?;
+        check(rt, alloc, row_of(base, offset, other, there), true)?;
+    }
+    Ok(())
+}
+
+/// One register or both stay.
+fn check_that_stay(rt: &impl Abort, alloc: Global, base: Base, offset: i64) -> Result<(), Fail> {
+    let stored = Column::Stored(offset.wrapping_neg());
+    let stay = [Column::None, Column::Same, Column::Undefined];
+    for column in stay {
+        for other in stay {
+            check(rt, alloc, row_of(base, offset, column, other), true)?;
         }
+        check(rt, alloc, row_of(base, offset, column, stored), true)?;
+        check(rt, alloc, row_of(base, offset, stored, column), true)?;
     }
     Ok(())
 }
 
 #[test]
-fn columns_that_stay_at_the_edges(rt: HostRuntime) -> Result<(), Fail> {
-    let stay = [Column::None, Column::Same, Column::Undefined];
+fn first_frames_at_the_edges(rt: HostRuntime) -> Result<(), Fail> {
     for base in [Base::Sp, Base::X29] {
         for offset in OFFSETS {
-            for fp in stay {
-                for lr in stay {
-                    let row = Row {
-                        cfa: Cfa::Register,
-                        base,
-                        offset,
-                        fp,
-                        lr,
-                    };
-                    assert!(rt; agree(rt.alloc(), row, true)?, "{row:?}");
-                }
-                let lr = Column::Stored(offset.wrapping_neg());
-                assert!(rt;
-                    agree(
-                        rt.alloc(),
-                        Row {
-                            cfa: Cfa::Register,
-                            base,
-                            offset,
-                            fp,
-                            lr
-                        },
-                        true
-                    )?,
-                    "{offset} from {base:?}"
-                );
-                let (fp, lr) = (lr, fp);
-                assert!(rt;
-                    agree(
-                        rt.alloc(),
-                        Row {
-                            cfa: Cfa::Register,
-                            base,
-                            offset,
-                            fp,
-                            lr
-                        },
-                        true
-                    )?,
-                    "{offset} from {base:?}"
-                );
-            }
+            check_stored(&rt, rt.alloc(), base, offset)?;
+            check_that_stay(&rt, rt.alloc(), base, offset)?;
         }
     }
     Ok(())
@@ -220,25 +174,16 @@ fn columns_that_stay_at_the_edges(rt: HostRuntime) -> Result<(), Fail> {
 
 #[test]
 fn later_frames_at_the_edges(rt: HostRuntime) -> Result<(), Fail> {
+    let (fp, lr) = (Column::Stored(-16), Column::Stored(-8));
     for offset in [8, 16, 32, WORDS, WORDS + 8, PAIRS, PAIRS + 16] {
-        for base in [Base::Sp, Base::X29] {
-            let row = Row {
-                cfa: Cfa::Register,
-                base,
-                offset,
-                fp: Column::Stored(-16),
-                lr: Column::Stored(-8),
-            };
-            assert!(rt; agree(rt.alloc(), row, false)?, "{row:?}");
-        }
-        let row = Row {
-            cfa: Cfa::Register,
-            base: Base::Sp,
-            offset,
-            fp: Column::Same,
-            lr: Column::Stored(-8),
-        };
-        assert!(rt; agree(rt.alloc(), row, false)?, "{row:?}");
+        check(&rt, rt.alloc(), row_of(Base::Sp, offset, fp, lr), false)?;
+        check(&rt, rt.alloc(), row_of(Base::X29, offset, fp, lr), false)?;
+        check(
+            &rt,
+            rt.alloc(),
+            row_of(Base::Sp, offset, Column::Same, lr),
+            false,
+        )?;
     }
     Ok(())
 }

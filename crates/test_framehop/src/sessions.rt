@@ -52,13 +52,13 @@ fn session_of<A: ModuleUnwinding>(
     Ok(session)
 }
 
-/// Two steps through one cache, each from a frame and its registers, by what the last gives.
-pub fn step_after<A: ModuleUnwinding, F: FnMut(u64) -> Result<u64, ()>>(
+/// Two equal steps from a frame through one cache, by what the last gives.
+pub fn step_twice<A: ModuleUnwinding, F: FnMut(u64) -> Result<u64, ()>>(
     alloc: Global,
     module: framehop_unwinder::Module<A::UnwindData>,
     context: A::UnwindContext,
-    before: (FrameAddress, A::UnwindRegs),
-    frame: (FrameAddress, A::UnwindRegs),
+    address: FrameAddress,
+    regs: A::UnwindRegs,
     mut word_at: F,
 ) -> Result<Stepped<A::UnwindRegs>, Fail>
     requires { F.IsAlwaysCallable word_at }
@@ -67,31 +67,10 @@ pub fn step_after<A: ModuleUnwinding, F: FnMut(u64) -> Result<u64, ()>>(
     if session.unwinders() == 0 || session.caches() == 0 {
         return Err(Fail::new("nothing was made"));
     }
-    let (first_address, mut first) = before;
-    session.step(0, 0, first_address, &mut first, &mut word_at)?;
-    let (address, mut last) = frame;
+    let mut first = regs;
+    session.step(0, 0, address, &mut first, &mut word_at)?;
+    let mut last = regs;
     let return_address = session.step(0, 0, address, &mut last, &mut word_at)?;
     let is_hit = session.stats(0).hit_count == 1;
     Ok((return_address, last, is_hit))
-}
-
-/// Two equal steps from a frame, by what the last gives.
-pub fn step_twice<A: ModuleUnwinding, F: FnMut(u64) -> Result<u64, ()>>(
-    alloc: Global,
-    module: framehop_unwinder::Module<A::UnwindData>,
-    context: A::UnwindContext,
-    address: FrameAddress,
-    regs: A::UnwindRegs,
-    word_at: F,
-) -> Result<Stepped<A::UnwindRegs>, Fail>
-    requires { F.IsAlwaysCallable word_at }
-{
-    step_after::<A, F>(
-        alloc,
-        module,
-        context,
-        (address, regs),
-        (address, regs),
-        word_at,
-    )
 }

@@ -1,5 +1,4 @@
 //! Steps over one module by an unwinder and a cache of x86_64, on the worked stack.
-use crate::worked::word_at;
 use framehop::aarch64::CacheAarch64;
 use framehop::x86_64::{CacheX86_64, UnwindRegsX86_64, UnwinderX86_64};
 use framehop::{
@@ -9,6 +8,7 @@ use framehop::{
 use std::alloc::Global;
 use std::test::Fail;
 use test_readers::WORKED;
+use test_rules::word_at;
 
 /// An FDE that follows the worked section's: a function of sixteen bytes at 0x1010, whose CFA is the
 /// expression RSP + 8.
@@ -37,18 +37,25 @@ pub fn module_with(alloc: Global, section: &[u8]) -> Result<Module<Vec<u8>>, Fai
     Ok(load_module(alloc, name, 0x100000..0x102000, 0x100000, &mut sections)?)
 }
 
+/// An unwinder of one module.
+pub fn unwinder_in<P: AllocationPolicy>(
+    alloc: Global,
+    generations: &mut Generations,
+    module: Module<Vec<u8>>,
+) -> Result<UnwinderX86_64<Vec<u8>, P>, Fail> {
+    let mut unwinder = UnwinderX86_64::new(alloc, generations)?;
+    if unwinder.add_module(generations, module).is_err() {
+        return Err(Fail::new("OutOfMemory"));
+    }
+    Ok(unwinder)
+}
+
 /// An unwinder of one module, which has this section.
 pub fn unwinder_of<P: AllocationPolicy>(
     alloc: Global,
     section: &[u8],
 ) -> Result<UnwinderX86_64<Vec<u8>, P>, Fail> {
-    let mut generations = Generations::new();
-    let mut unwinder = UnwinderX86_64::new(alloc, &mut generations)?;
-    let module = module_with(alloc, section)?;
-    if unwinder.add_module(&mut generations, module).is_err() {
-        return Err(Fail::new("OutOfMemory"));
-    }
-    Ok(unwinder)
+    unwinder_in(alloc, &mut Generations::new(), module_with(alloc, section)?)
 }
 
 /// The frame of an instruction pointer, or of a return address other than 0.
@@ -72,42 +79,6 @@ pub fn try_step<U: Unwinder<UnwindRegs = UnwindRegsX86_64>>(
     (answer, (regs.ip(), regs.sp(), regs.bp()))
 }
 
-/// What a step gives in a module with this section, and the registers that it leaves.
-pub fn step<P: AllocationPolicy>(
-    rt: &HostRuntime,
-    section: &[u8],
-    frame: Registers,
-) -> Result<(Option<u64>, Registers), Fail> {
-    let unwinder = unwinder_of::<P>(rt.alloc(), section)?;
-    let mut cache = CacheX86_64::<P>::new_in(rt.alloc())?;
-    let (answer, left) = try_step(&unwinder, &mut cache.0, true, frame);
-    Ok((answer?, left))
-}
-
-/// Two equal steps through a new cache: the second finds the rule that the first kept.
-#[test]
-fn a_cache_counts_its_look_ups(rt: HostRuntime) -> Result<(), Fail> {
-    let alloc = rt.alloc();
-    let mut generations = Generations::new();
-    let mut unwinder = UnwinderX86_64::<Vec<u8>>::new(alloc, &mut generations)?;
-    if unwinder
-        .add_module(&mut generations, module_with(alloc, &WORKED)?)
-        .is_err()
-    {
-        return Err(Fail::new("OutOfMemory"));
-    }
-    let mut cache = CacheX86_64::new(alloc)?;
-    let address = FrameAddress::from_instruction_pointer(0x101004);
-    let mut read = word_at;
-    for _ in 0..2 {
-        let mut regs = UnwindRegsX86_64::new(0x101004, 0x18, 0x20);
-        unwinder.unwind_frame(address, &mut regs, &mut cache.0, &mut read)?;
-    }
-    let stats = cache.stats();
-    assert!(rt; (stats.total(), stats.hits(), stats.misses()) == (2, 1, 1));
-    Ok(())
-}
-
 /// A new cache of aarch64 has counted nothing, under either policy.
 #[test]
 fn new_caches_have_counted_nothing(rt: HostRuntime) -> Result<(), Fail> {
@@ -115,42 +86,6 @@ fn new_caches_have_counted_nothing(rt: HostRuntime) -> Result<(), Fail> {
     assert!(rt; may.stats().total() == 0);
     let must = CacheAarch64::<MustNotAllocateDuringUnwind>::new_in(rt.alloc())?;
     assert!(rt; must.stats().total() == 0);
-    Ok(())
-}
-
-#[test]
-fn a_row_gives_the_caller(rt: HostRuntime) -> Result<(), Fail> {
-    let both = with_expression(rt.alloc())?;
-    for (place, section, frame, caller) in [
-        (
-            "before the push RSP is raised",
-            WORKED.as_slice(),
-            (0x101000, 0x10, 0x20),
-            (0x100300, 0x18, 0x20),
-        ),
-        (
-            "after the push RBP is restored",
-            WORKED.as_slice(),
-            (0x101002, 0x20, 0x20),
-            (0x100200, 0x30, 0x40),
-        ),
-        (
-            "in the body the frame pointer is followed",
-            WORKED.as_slice(),
-            (0x101004, 0x18, 0x20),
-            (0x100200, 0x30, 0x40),
-        ),
-        (
-            "by an expression RSP is raised",
-            both.as_slice(),
-            (0x101010, 0x10, 0x20),
-            (0x100300, 0x18, 0x20),
-        ),
-    ] {
-        let (return_address, registers) = step::<MayAllocateDuringUnwind>(&rt, section, frame)?;
-        assert!(rt; return_address == Some(caller.0), "{place}");
-        assert!(rt; registers == caller, "{place}");
-    }
     Ok(())
 }
 

@@ -2,21 +2,21 @@
 use std::alloc::{AllocError, Global};
 
 /// The register that a CFA is relative to.
-#[derive(Clone, Copy, Debug, PartialEq, Eq)]
+#[derive(Clone, Copy, Debug)]
 pub(crate) enum Base {
     Sp,
     X29,
 }
 
 /// How the CFA is said: as a register and an offset, or as an expression.
-#[derive(Clone, Copy, Debug, PartialEq, Eq)]
+#[derive(Clone, Copy, Debug)]
 pub(crate) enum Cfa {
     Register,
     Expression,
 }
 
 /// A register rule: none, the same, undefined, or stored at an offset in bytes from the CFA.
-#[derive(Clone, Copy, Debug, PartialEq, Eq)]
+#[derive(Clone, Copy, Debug)]
 pub(crate) enum Column {
     None,
     Same,
@@ -25,7 +25,7 @@ pub(crate) enum Column {
 }
 
 /// A row.
-#[derive(Clone, Copy, Debug, PartialEq, Eq)]
+#[derive(Clone, Copy, Debug)]
 pub(crate) struct Row {
     pub(crate) cfa: Cfa,
     pub(crate) base: Base,
@@ -34,62 +34,51 @@ pub(crate) struct Row {
     pub(crate) lr: Column,
 }
 
-/// A CIE whose offsets are in bytes, whose return address is in X30.
-const CIE: [u8; 16] = [12, 0, 0, 0, 0, 0, 0, 0, 1, 0, 1, 1, 30, 0, 0, 0];
+/// A CIE whose offsets are in bytes and whose return address is in X30, and an FDE of 44 bytes for a function of sixteen bytes at
+/// 0x1000, up to its instructions.
+const HEAD: [u8; 40] = [
+    12, 0, 0, 0, 0, 0, 0, 0, 1, 0, 1, 1, 30, 0, 0, 0, 44, 0, 0, 0, 20, 0, 0, 0, 0, 0x10, 0, 0, 0,
+    0, 0, 0, 16, 0, 0, 0, 0, 0, 0, 0,
+];
 
 /// A signed LEB128 number of five bytes, which hold 35 bits.
-fn push_signed(bytes: &mut Vec<u8>, value: i64) -> Result<(), AllocError> {
-    let mut rest = value;
-    for _ in 0..4 {
-        bytes.push(0x80 | (rest & 0x7f) as u8)?;
-        rest >>= 7;
-    }
-    bytes.push((rest & 0x7f) as u8)?;
-    Ok(())
+fn signed(value: i64) -> [u8; 5] {
+    [
+        0x80 | (value & 0x7f) as u8,
+        0x80 | (value >> 7 & 0x7f) as u8,
+        0x80 | (value >> 14 & 0x7f) as u8,
+        0x80 | (value >> 21 & 0x7f) as u8,
+        (value >> 28 & 0x7f) as u8,
+    ]
 }
 
-/// The rule of a register.
+/// Adds the rule of a register, in seven bytes.
 fn push_column(bytes: &mut Vec<u8>, register: u8, column: Column) -> Result<(), AllocError> {
-    match column {
-        Column::None => Ok(()),
-        Column::Same => bytes.extend_from_slice(&[0x08, register]),
-        Column::Undefined => bytes.extend_from_slice(&[0x07, register]),
-        Column::Stored(offset) => {
-            bytes.extend_from_slice(&[0x11, register])?;
-            push_signed(bytes, offset)
-        }
-    }
-}
-
-/// The instructions of a row.
-fn instructions(alloc: Global, row: &Row) -> Result<Vec<u8>, AllocError> {
-    let register = match row.base {
-        Base::Sp => 31,
-        Base::X29 => 29,
+    let (opcode, offset) = match column {
+        Column::None => (0, [0; 5]),
+        Column::Same => (0x08, [0; 5]),
+        Column::Undefined => (0x07, [0; 5]),
+        Column::Stored(offset) => (0x11, signed(offset)),
     };
-    let mut bytes = Vec::new(alloc);
-    match row.cfa {
-        Cfa::Register => bytes.extend_from_slice(&[0x12, register])?,
-        Cfa::Expression => bytes.extend_from_slice(&[0x0f, 6, 0x70 + register])?,
-    }
-    push_signed(&mut bytes, row.offset)?;
-    push_column(&mut bytes, 29, row.fp)?;
-    push_column(&mut bytes, 30, row.lr)?;
-    let padding = 8 - bytes.len() % 8;
-    for _ in 0..padding {
-        bytes.push(0)?;
-    }
-    Ok(bytes)
+    let register = if opcode == 0 { 0 } else { register };
+    bytes.extend_from_slice(&[opcode, register])?;
+    bytes.extend_from_slice(&offset)
 }
 
 /// A section with a function of sixteen bytes at 0x1000, which has this row.
 pub(crate) fn with_row(alloc: Global, row: &Row) -> Result<Vec<u8>, AllocError> {
-    let instructions = instructions(alloc, row)?;
-    let mut bytes = CIE.to_vec(alloc)?;
-    let length = 20usize.saturating_add(instructions.len());
-    bytes.extend_from_slice(&[(length & 0xff) as u8, 0, 0, 0, 20, 0, 0, 0])?;
-    bytes.extend_from_slice(&[0, 0x10, 0, 0, 0, 0, 0, 0, 16, 0, 0, 0, 0, 0, 0, 0])?;
-    bytes.extend_from_slice(&instructions)?;
-    bytes.extend_from_slice(&[0; 4])?;
+    let register = match row.base {
+        Base::Sp => 31,
+        Base::X29 => 29,
+    };
+    let mut bytes = HEAD.to_vec(alloc)?;
+    match row.cfa {
+        Cfa::Register => bytes.extend_from_slice(&[0, 0x12, register])?,
+        Cfa::Expression => bytes.extend_from_slice(&[0x0f, 6, 0x70 + register])?,
+    }
+    bytes.extend_from_slice(&signed(row.offset))?;
+    push_column(&mut bytes, 29, row.fp)?;
+    push_column(&mut bytes, 30, row.lr)?;
+    bytes.extend_from_slice(&[0; 6])?;
     Ok(bytes)
 }
