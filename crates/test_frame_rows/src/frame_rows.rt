@@ -1,6 +1,5 @@
-//! Encoded pointers, contexts and their rows, and expressions by their offsets.
+//! Encoded pointers, and contexts and their rows.
 mod contexts;
 mod encodings;
-mod places;
 mod pointers;
 mod rules;

@@ -118,7 +118,7 @@ const EXPRESSION: UnwindExpression<u64> = UnwindExpression {
 };
 
 // A program that writes every part, remembers and restores.
-static PARTS: [Row; 22] = [
+static PARTS: &[Row] = &[
     (Step::Clear, "0..0 r0,0"),
     (Step::Rules(1), "0..0 r0,0 0=c8"),
     (Step::Save, "0..0 r0,0 0=c8"),
@@ -182,34 +182,8 @@ static PARTS: [Row; 22] = [
     ),
 ];
 
-#[test]
-fn parts_of_a_row(rt: HostRuntime) -> Result<(), Fail> {
-    follow::<StoreOnHeap>(&rt, rt.alloc(), &PARTS)?;
-    follow::<Growing>(&rt, rt.alloc(), &PARTS)
-}
-
-#[test]
-fn addresses_of_a_row(rt: HostRuntime) -> Result<(), Fail> {
-    let mut context: UnwindContext<u64, One> = UnwindContext::new_in(rt.alloc())?;
-    context.set_bounds(0x18, 0x30);
-    let row = context.row();
-    assert!(rt; row.contains(0x18) && row.contains(0x2f));
-    assert!(rt; !row.contains(0x17) && !row.contains(0x30));
-    Ok(())
-}
-
-#[test]
-fn room_for_192_rules(rt: HostRuntime) -> Result<(), Fail> {
-    let mut context: UnwindContext<u64, StoreOnHeap> = UnwindContext::new(rt.alloc())?;
-    rule(&mut context, 192)?;
-    let more = Effect::Rule(Register(192), RegisterRule::Undefined);
-    assert!(rt; context.apply(more) == Err(Error::TooManyRegisterRules));
-    assert!(rt; context.row().registers().count() == 192);
-    Ok(())
-}
-
 // Rows are remembered after no rules of a CIE, one, and two, which take room of their own.
-static REMEMBERED: [Row; 18] = [
+static REMEMBERED: &[Row] = &[
     (Step::Save, "0..0 r0,0"),
     (Step::By(Effect::Remember), "0..0 r0,0"),
     (Step::By(Effect::Remember), "0..0 r0,0"),
@@ -230,12 +204,7 @@ static REMEMBERED: [Row; 18] = [
     (Step::By(Effect::Remember), "StackFull"),
 ];
 
-#[test]
-fn room_for_4_rows(rt: HostRuntime) -> Result<(), Fail> {
-    follow::<StoreOnHeap>(&rt, rt.alloc(), &REMEMBERED)
-}
-
-static FULL: [Row; 7] = [
+static FULL: &[Row] = &[
     (Step::Rules(1), "0..0 r0,0 0=c8"),
     (
         Step::By(Effect::Rule(Register(0), RegisterRule::Undefined)),
@@ -248,13 +217,8 @@ static FULL: [Row; 7] = [
     (Step::By(Effect::Restore), "PopWithEmptyStack"),
 ];
 
-#[test]
-fn room_for_one_row_and_one_rule(rt: HostRuntime) -> Result<(), Fail> {
-    follow::<One>(&rt, rt.alloc(), &FULL)
-}
-
 // The sign state of a return address is the register 34.
-static SIGN_STATES: [Row; 6] = [
+static SIGN_STATES: &[Row] = &[
     (Step::By(Effect::NegateRaState), "0..0 r0,0 34=k1"),
     (Step::By(Effect::NegateRaState), "0..0 r0,0 34=k0"),
     (Step::By(Effect::NegateRaState), "0..0 r0,0 34=k1"),
@@ -272,13 +236,8 @@ static SIGN_STATES: [Row; 6] = [
     ),
 ];
 
-#[test]
-fn sign_states(rt: HostRuntime) -> Result<(), Fail> {
-    follow::<StoreOnHeap>(&rt, rt.alloc(), &SIGN_STATES)
-}
-
 // A context is as a new one once it is cleared, also after a program that filled it.
-static CLEARED: [Row; 9] = [
+static CLEARED: &[Row] = &[
     (Step::Rules(2), "0..0 r0,0 0=c8 1=c8"),
     (Step::Save, "0..0 r0,0 0=c8 1=c8"),
     (Step::By(Effect::Remember), "0..0 r0,0 0=c8 1=c8"),
@@ -293,13 +252,8 @@ static CLEARED: [Row; 9] = [
     ),
 ];
 
-#[test]
-fn a_cleared_context_is_a_new_one(rt: HostRuntime) -> Result<(), Fail> {
-    follow::<StoreOnHeap>(&rt, rt.alloc(), &CLEARED)
-}
-
 // Rules are saved while rows are remembered: two, two others, and one.
-static SAVED_BETWEEN: [Row; 20] = [
+static SAVED_BETWEEN: &[Row] = &[
     (Step::By(Effect::Remember), "0..0 r0,0"),
     (Step::Rules(2), "0..0 r0,0 0=c8 1=c8"),
     (Step::Save, "0..0 r0,0 0=c8 1=c8"),
@@ -337,13 +291,8 @@ static SAVED_BETWEEN: [Row; 20] = [
     (Step::By(Effect::RestoreRule(Register(0))), "0..0 r0,0 1=s"),
 ];
 
-#[test]
-fn rules_saved_beside_remembered_rows(rt: HostRuntime) -> Result<(), Fail> {
-    follow::<StoreOnHeap>(&rt, rt.alloc(), &SAVED_BETWEEN)
-}
-
 // A program that fails, and one of another CIE, which restores a register with a rule there and one without.
-static TWO_CIES: [Row; 14] = [
+static TWO_CIES: &[Row] = &[
     (Step::Rules(3), "0..0 r0,0 0=c8 1=c8 2=c8"),
     (Step::Save, "0..0 r0,0 0=c8 1=c8 2=c8"),
     (
@@ -379,15 +328,46 @@ static TWO_CIES: [Row; 14] = [
 ];
 
 #[test]
-fn a_program_behind_a_refused_one_of_another_cie(rt: HostRuntime) -> Result<(), Fail> {
-    follow::<StoreOnHeap>(&rt, rt.alloc(), &TWO_CIES)
+fn programs(rt: HostRuntime) -> Result<(), Fail> {
+    for rows in [
+        PARTS,
+        REMEMBERED,
+        SIGN_STATES,
+        CLEARED,
+        SAVED_BETWEEN,
+        TWO_CIES,
+    ] {
+        follow::<StoreOnHeap>(&rt, rt.alloc(), rows)?;
+    }
+    follow::<Growing>(&rt, rt.alloc(), PARTS)?;
+    follow::<One>(&rt, rt.alloc(), FULL)
+}
+
+// A row has the addresses from its first up to its end.
+fn has_addresses<S: UnwindContextStorage<u64>>(rt: &impl Abort, alloc: Global) -> Result<(), Fail> {
+    let mut context: UnwindContext<u64, S> = UnwindContext::new_in(alloc)?;
+    context.set_bounds(0x18, 0x30);
+    let row = context.row();
+    assert!(rt; row.contains(0x18) && row.contains(0x2f));
+    assert!(rt; !row.contains(0x17) && !row.contains(0x30));
+    Ok(())
+}
+
+// There is room for 192 rules.
+fn has_192_rules<S: UnwindContextStorage<u64>>(rt: &impl Abort, alloc: Global) -> Result<(), Fail> {
+    let mut context: UnwindContext<u64, S> = UnwindContext::new_in(alloc)?;
+    rule(&mut context, 192)?;
+    let more = Effect::Rule(Register(192), RegisterRule::Undefined);
+    assert!(rt; context.apply(more) == Err(Error::TooManyRegisterRules));
+    assert!(rt; context.row().registers().count() == 192);
+    Ok(())
 }
 
 // Rules for so many registers, and a row remembered behind each. Where memory is wanted, nothing is
 // changed; how many rules and rows there are then.
-fn rules_and_rows(
+fn rules_and_rows<S: UnwindContextStorage<u64>>(
     rt: &impl Abort,
-    context: &mut UnwindContext<u64, Growing>,
+    context: &mut UnwindContext<u64, S>,
     registers: u16,
 ) -> (u16, u16) {
     for register in 0..registers {
@@ -404,10 +384,10 @@ fn rules_and_rows(
     (registers, registers)
 }
 
-#[test]
-fn want_of_memory_changes_nothing(rt: HostRuntime) -> Result<(), Fail> {
-    let mut context: UnwindContext<u64, Growing> = UnwindContext::new_in(rt.alloc())?;
-    let (rules, rows) = rules_and_rows(&rt, &mut context, 20);
+// Want of memory changes nothing.
+fn wants_memory<S: UnwindContextStorage<u64>>(rt: &impl Abort, alloc: Global) -> Result<(), Fail> {
+    let mut context: UnwindContext<u64, S> = UnwindContext::new_in(alloc)?;
+    let (rules, rows) = rules_and_rows(rt, &mut context, 20);
     assert!(rt; context.row().registers().count() == usize::from(rules));
     assert!(rt; context.row().register(Register(rules)) == None);
     for _ in 0..rows {
@@ -417,11 +397,50 @@ fn want_of_memory_changes_nothing(rt: HostRuntime) -> Result<(), Fail> {
     Ok(())
 }
 
+// Rows are equal if they have the same rules, in any order.
+fn equals_as_map<S: UnwindContextStorage<u64>>(rt: &impl Abort, alloc: Global) -> Result<(), Fail> {
+    let mut one: UnwindContext<u64, S> = UnwindContext::new_in(alloc)?;
+    let mut other: UnwindContext<u64, S> = UnwindContext::new_in(alloc)?;
+    let first = Effect::Rule(Register(1), RegisterRule::Offset(8));
+    let second = Effect::Rule(Register(2), RegisterRule::SameValue);
+    one.apply(first)?;
+    one.apply(second)?;
+    other.apply(second)?;
+    other.apply(first)?;
+    assert!(rt; one.row() == other.row());
+    other.apply(Effect::Rule(Register(3), RegisterRule::Undefined))?;
+    assert!(rt; one.row() != other.row());
+    Ok(())
+}
+
 // Compares the text of a value.
 fn shows<T: Debug>(rt: &impl Abort, alloc: Global, value: &T, want: &str) -> Result<(), Fail> {
     let text = format!(in alloc; "{value:?}")?;
-    assert!(rt; text.as_str() == want);
+    assert!(rt; text.as_str() == want, "{text}");
     Ok(())
+}
+
+// The text of a row.
+fn shows_row(rt: &impl Abort, alloc: Global) -> Result<(), Fail> {
+    let mut context: UnwindContext<u64, One> = UnwindContext::new_in(alloc)?;
+    context.apply(Effect::Rule(Register(6), RegisterRule::Offset(-16)))?;
+    shows(
+        rt,
+        alloc,
+        context.row(),
+        "UnwindTableRow { start_address: 0, end_address: 0, saved_args_size: 0, \
+         cfa: RegisterAndOffset { register: Register(0), offset: 0 }, registers: \
+         RegisterRuleMap { rules: [RuledRegister { register: Register(6), rule: Offset(-16) }], .. } }",
+    )
+}
+
+#[test]
+fn rows_of_contexts(rt: HostRuntime) -> Result<(), Fail> {
+    has_addresses::<One>(&rt, rt.alloc())?;
+    has_192_rules::<StoreOnHeap>(&rt, rt.alloc())?;
+    wants_memory::<Growing>(&rt, rt.alloc())?;
+    equals_as_map::<StoreOnHeap>(&rt, rt.alloc())?;
+    shows_row(&rt, rt.alloc())
 }
 
 static RULES: [(RegisterRule<u64>, &str); 9] = [
@@ -443,7 +462,7 @@ static RULES: [(RegisterRule<u64>, &str); 9] = [
 ];
 
 #[test]
-fn texts_of_rules(rt: HostRuntime) -> Result<(), Fail> {
+fn texts(rt: HostRuntime) -> Result<(), Fail> {
     for (rule, want) in &RULES {
         shows(&rt, rt.alloc(), rule, want)?;
     }
@@ -459,25 +478,7 @@ fn texts_of_rules(rt: HostRuntime) -> Result<(), Fail> {
         rt.alloc(),
         &Effect::Rule(Register(2), RegisterRule::Expression(EXPRESSION)),
         "Rule(Register(2), Expression(UnwindExpression { offset: 5, length: 2 }))",
-    )
-}
-
-#[test]
-fn texts_of_rows(rt: HostRuntime) -> Result<(), Fail> {
-    let mut context: UnwindContext<u64, One> = UnwindContext::new_in(rt.alloc())?;
-    context.apply(Effect::Rule(Register(6), RegisterRule::Offset(-16)))?;
-    shows(
-        &rt,
-        rt.alloc(),
-        context.row(),
-        "UnwindTableRow { start_address: 0, end_address: 0, saved_args_size: 0, \
-         cfa: RegisterAndOffset { register: Register(0), offset: 0 }, registers: \
-         RegisterRuleMap { rules: [RuledRegister { register: Register(6), rule: Offset(-16) }], .. } }",
-    )
-}
-
-#[test]
-fn texts_of_bases_and_pointers(rt: HostRuntime) -> Result<(), Fail> {
+    )?;
     shows(&rt, rt.alloc(), &Pointer::Indirect(7), "Indirect(7)")?;
     shows(&rt, rt.alloc(), &CieOffsetEncoding::U64, "U64")?;
     shows(
@@ -488,20 +489,4 @@ fn texts_of_bases_and_pointers(rt: HostRuntime) -> Result<(), Fail> {
          { section: None, text: Some(16), data_base: None }, eh_frame: SectionBaseAddresses \
          { section: None, text: Some(16), data_base: Some(32) } }",
     )
-}
-
-#[test]
-fn rows_are_equal_as_maps(rt: HostRuntime) -> Result<(), Fail> {
-    let mut one: UnwindContext<u64, StoreOnHeap> = UnwindContext::new(rt.alloc())?;
-    let mut other: UnwindContext<u64, StoreOnHeap> = UnwindContext::new(rt.alloc())?;
-    let first = Effect::Rule(Register(1), RegisterRule::Offset(8));
-    let second = Effect::Rule(Register(2), RegisterRule::SameValue);
-    one.apply(first)?;
-    one.apply(second)?;
-    other.apply(second)?;
-    other.apply(first)?;
-    assert!(rt; one.row() == other.row());
-    other.apply(Effect::Rule(Register(3), RegisterRule::Undefined))?;
-    assert!(rt; one.row() != other.row());
-    Ok(())
 }

@@ -1,528 +1,523 @@
 //! What each byte says of a pointer as its encoding. Written by `scripts/pointer-encodings`.
 
-use super::pointers::Wanted::{
-    self, Aligned, BadSigned, Direct, Indirect, NoData, NoFunction, NoSection, NoText, Omitted,
-    Unknown,
-};
+/// With addresses of 8 bytes, over the bytes `fdffffffffffffffff01`: a line for each encoding, with what the
+/// pointer is relative to, what is read if that is known, and if it isn't.
+pub static OUTCOMES_64: &str = "\
+00 nothing Direct(18446744073709551613) -
+01 nothing Direct(18446744073709551613) -
+02 nothing Direct(65533) -
+03 nothing Direct(4294967293) -
+04 nothing Direct(18446744073709551613) -
+05 nothing UnknownPointerEncoding(DwEhPe(5)) -
+06 nothing UnknownPointerEncoding(DwEhPe(6)) -
+07 nothing UnknownPointerEncoding(DwEhPe(7)) -
+08 nothing UnknownPointerEncoding(DwEhPe(8)) -
+09 nothing BadSignedLeb128 -
+0a nothing Direct(18446744073709551613) -
+0b nothing Direct(18446744073709551613) -
+0c nothing Direct(18446744073709551613) -
+0d nothing UnknownPointerEncoding(DwEhPe(13)) -
+0e nothing UnknownPointerEncoding(DwEhPe(14)) -
+0f nothing UnknownPointerEncoding(DwEhPe(15)) -
+10 section Direct(18446744073709547521) PcRelativePointerButSectionBaseIsUndefined
+11 section Direct(18446744073709547521) PcRelativePointerButSectionBaseIsUndefined
+12 section Direct(61441) PcRelativePointerButSectionBaseIsUndefined
+13 section Direct(4294963201) PcRelativePointerButSectionBaseIsUndefined
+14 section Direct(18446744073709547521) PcRelativePointerButSectionBaseIsUndefined
+15 nothing UnknownPointerEncoding(DwEhPe(21)) -
+16 nothing UnknownPointerEncoding(DwEhPe(22)) -
+17 nothing UnknownPointerEncoding(DwEhPe(23)) -
+18 nothing UnknownPointerEncoding(DwEhPe(24)) -
+19 section BadSignedLeb128 PcRelativePointerButSectionBaseIsUndefined
+1a section Direct(18446744073709547521) PcRelativePointerButSectionBaseIsUndefined
+1b section Direct(18446744073709547521) PcRelativePointerButSectionBaseIsUndefined
+1c section Direct(18446744073709547521) PcRelativePointerButSectionBaseIsUndefined
+1d nothing UnknownPointerEncoding(DwEhPe(29)) -
+1e nothing UnknownPointerEncoding(DwEhPe(30)) -
+1f nothing UnknownPointerEncoding(DwEhPe(31)) -
+20 text Direct(4198397) TextRelativePointerButTextBaseIsUndefined
+21 text Direct(4198397) TextRelativePointerButTextBaseIsUndefined
+22 text Direct(4263933) TextRelativePointerButTextBaseIsUndefined
+23 text Direct(4299165693) TextRelativePointerButTextBaseIsUndefined
+24 text Direct(4198397) TextRelativePointerButTextBaseIsUndefined
+25 nothing UnknownPointerEncoding(DwEhPe(37)) -
+26 nothing UnknownPointerEncoding(DwEhPe(38)) -
+27 nothing UnknownPointerEncoding(DwEhPe(39)) -
+28 nothing UnknownPointerEncoding(DwEhPe(40)) -
+29 text BadSignedLeb128 TextRelativePointerButTextBaseIsUndefined
+2a text Direct(4198397) TextRelativePointerButTextBaseIsUndefined
+2b text Direct(4198397) TextRelativePointerButTextBaseIsUndefined
+2c text Direct(4198397) TextRelativePointerButTextBaseIsUndefined
+2d nothing UnknownPointerEncoding(DwEhPe(45)) -
+2e nothing UnknownPointerEncoding(DwEhPe(46)) -
+2f nothing UnknownPointerEncoding(DwEhPe(47)) -
+30 data Direct(4294967277) DataRelativePointerButDataBaseIsUndefined
+31 data Direct(4294967277) DataRelativePointerButDataBaseIsUndefined
+32 data Direct(4295032813) DataRelativePointerButDataBaseIsUndefined
+33 data Direct(8589934573) DataRelativePointerButDataBaseIsUndefined
+34 data Direct(4294967277) DataRelativePointerButDataBaseIsUndefined
+35 nothing UnknownPointerEncoding(DwEhPe(53)) -
+36 nothing UnknownPointerEncoding(DwEhPe(54)) -
+37 nothing UnknownPointerEncoding(DwEhPe(55)) -
+38 nothing UnknownPointerEncoding(DwEhPe(56)) -
+39 data BadSignedLeb128 DataRelativePointerButDataBaseIsUndefined
+3a data Direct(4294967277) DataRelativePointerButDataBaseIsUndefined
+3b data Direct(4294967277) DataRelativePointerButDataBaseIsUndefined
+3c data Direct(4294967277) DataRelativePointerButDataBaseIsUndefined
+3d nothing UnknownPointerEncoding(DwEhPe(61)) -
+3e nothing UnknownPointerEncoding(DwEhPe(62)) -
+3f nothing UnknownPointerEncoding(DwEhPe(63)) -
+40 function Direct(9223372036854775789) FuncRelativePointerInBadContext
+41 function Direct(9223372036854775789) FuncRelativePointerInBadContext
+42 function Direct(9223372036854841325) FuncRelativePointerInBadContext
+43 function Direct(9223372041149743085) FuncRelativePointerInBadContext
+44 function Direct(9223372036854775789) FuncRelativePointerInBadContext
+45 nothing UnknownPointerEncoding(DwEhPe(69)) -
+46 nothing UnknownPointerEncoding(DwEhPe(70)) -
+47 nothing UnknownPointerEncoding(DwEhPe(71)) -
+48 nothing UnknownPointerEncoding(DwEhPe(72)) -
+49 function BadSignedLeb128 FuncRelativePointerInBadContext
+4a function Direct(9223372036854775789) FuncRelativePointerInBadContext
+4b function Direct(9223372036854775789) FuncRelativePointerInBadContext
+4c function Direct(9223372036854775789) FuncRelativePointerInBadContext
+4d nothing UnknownPointerEncoding(DwEhPe(77)) -
+4e nothing UnknownPointerEncoding(DwEhPe(78)) -
+4f nothing UnknownPointerEncoding(DwEhPe(79)) -
+50 nothing UnsupportedPointerEncoding -
+51 nothing UnsupportedPointerEncoding -
+52 nothing UnsupportedPointerEncoding -
+53 nothing UnsupportedPointerEncoding -
+54 nothing UnsupportedPointerEncoding -
+55 nothing UnknownPointerEncoding(DwEhPe(85)) -
+56 nothing UnknownPointerEncoding(DwEhPe(86)) -
+57 nothing UnknownPointerEncoding(DwEhPe(87)) -
+58 nothing UnknownPointerEncoding(DwEhPe(88)) -
+59 nothing UnsupportedPointerEncoding -
+5a nothing UnsupportedPointerEncoding -
+5b nothing UnsupportedPointerEncoding -
+5c nothing UnsupportedPointerEncoding -
+5d nothing UnknownPointerEncoding(DwEhPe(93)) -
+5e nothing UnknownPointerEncoding(DwEhPe(94)) -
+5f nothing UnknownPointerEncoding(DwEhPe(95)) -
+60 nothing UnknownPointerEncoding(DwEhPe(96)) -
+61 nothing UnknownPointerEncoding(DwEhPe(97)) -
+62 nothing UnknownPointerEncoding(DwEhPe(98)) -
+63 nothing UnknownPointerEncoding(DwEhPe(99)) -
+64 nothing UnknownPointerEncoding(DwEhPe(100)) -
+65 nothing UnknownPointerEncoding(DwEhPe(101)) -
+66 nothing UnknownPointerEncoding(DwEhPe(102)) -
+67 nothing UnknownPointerEncoding(DwEhPe(103)) -
+68 nothing UnknownPointerEncoding(DwEhPe(104)) -
+69 nothing UnknownPointerEncoding(DwEhPe(105)) -
+6a nothing UnknownPointerEncoding(DwEhPe(106)) -
+6b nothing UnknownPointerEncoding(DwEhPe(107)) -
+6c nothing UnknownPointerEncoding(DwEhPe(108)) -
+6d nothing UnknownPointerEncoding(DwEhPe(109)) -
+6e nothing UnknownPointerEncoding(DwEhPe(110)) -
+6f nothing UnknownPointerEncoding(DwEhPe(111)) -
+70 nothing UnknownPointerEncoding(DwEhPe(112)) -
+71 nothing UnknownPointerEncoding(DwEhPe(113)) -
+72 nothing UnknownPointerEncoding(DwEhPe(114)) -
+73 nothing UnknownPointerEncoding(DwEhPe(115)) -
+74 nothing UnknownPointerEncoding(DwEhPe(116)) -
+75 nothing UnknownPointerEncoding(DwEhPe(117)) -
+76 nothing UnknownPointerEncoding(DwEhPe(118)) -
+77 nothing UnknownPointerEncoding(DwEhPe(119)) -
+78 nothing UnknownPointerEncoding(DwEhPe(120)) -
+79 nothing UnknownPointerEncoding(DwEhPe(121)) -
+7a nothing UnknownPointerEncoding(DwEhPe(122)) -
+7b nothing UnknownPointerEncoding(DwEhPe(123)) -
+7c nothing UnknownPointerEncoding(DwEhPe(124)) -
+7d nothing UnknownPointerEncoding(DwEhPe(125)) -
+7e nothing UnknownPointerEncoding(DwEhPe(126)) -
+7f nothing UnknownPointerEncoding(DwEhPe(127)) -
+80 nothing Indirect(18446744073709551613) -
+81 nothing Indirect(18446744073709551613) -
+82 nothing Indirect(65533) -
+83 nothing Indirect(4294967293) -
+84 nothing Indirect(18446744073709551613) -
+85 nothing UnknownPointerEncoding(DwEhPe(133)) -
+86 nothing UnknownPointerEncoding(DwEhPe(134)) -
+87 nothing UnknownPointerEncoding(DwEhPe(135)) -
+88 nothing UnknownPointerEncoding(DwEhPe(136)) -
+89 nothing BadSignedLeb128 -
+8a nothing Indirect(18446744073709551613) -
+8b nothing Indirect(18446744073709551613) -
+8c nothing Indirect(18446744073709551613) -
+8d nothing UnknownPointerEncoding(DwEhPe(141)) -
+8e nothing UnknownPointerEncoding(DwEhPe(142)) -
+8f nothing UnknownPointerEncoding(DwEhPe(143)) -
+90 section Indirect(18446744073709547521) PcRelativePointerButSectionBaseIsUndefined
+91 section Indirect(18446744073709547521) PcRelativePointerButSectionBaseIsUndefined
+92 section Indirect(61441) PcRelativePointerButSectionBaseIsUndefined
+93 section Indirect(4294963201) PcRelativePointerButSectionBaseIsUndefined
+94 section Indirect(18446744073709547521) PcRelativePointerButSectionBaseIsUndefined
+95 nothing UnknownPointerEncoding(DwEhPe(149)) -
+96 nothing UnknownPointerEncoding(DwEhPe(150)) -
+97 nothing UnknownPointerEncoding(DwEhPe(151)) -
+98 nothing UnknownPointerEncoding(DwEhPe(152)) -
+99 section BadSignedLeb128 PcRelativePointerButSectionBaseIsUndefined
+9a section Indirect(18446744073709547521) PcRelativePointerButSectionBaseIsUndefined
+9b section Indirect(18446744073709547521) PcRelativePointerButSectionBaseIsUndefined
+9c section Indirect(18446744073709547521) PcRelativePointerButSectionBaseIsUndefined
+9d nothing UnknownPointerEncoding(DwEhPe(157)) -
+9e nothing UnknownPointerEncoding(DwEhPe(158)) -
+9f nothing UnknownPointerEncoding(DwEhPe(159)) -
+a0 text Indirect(4198397) TextRelativePointerButTextBaseIsUndefined
+a1 text Indirect(4198397) TextRelativePointerButTextBaseIsUndefined
+a2 text Indirect(4263933) TextRelativePointerButTextBaseIsUndefined
+a3 text Indirect(4299165693) TextRelativePointerButTextBaseIsUndefined
+a4 text Indirect(4198397) TextRelativePointerButTextBaseIsUndefined
+a5 nothing UnknownPointerEncoding(DwEhPe(165)) -
+a6 nothing UnknownPointerEncoding(DwEhPe(166)) -
+a7 nothing UnknownPointerEncoding(DwEhPe(167)) -
+a8 nothing UnknownPointerEncoding(DwEhPe(168)) -
+a9 text BadSignedLeb128 TextRelativePointerButTextBaseIsUndefined
+aa text Indirect(4198397) TextRelativePointerButTextBaseIsUndefined
+ab text Indirect(4198397) TextRelativePointerButTextBaseIsUndefined
+ac text Indirect(4198397) TextRelativePointerButTextBaseIsUndefined
+ad nothing UnknownPointerEncoding(DwEhPe(173)) -
+ae nothing UnknownPointerEncoding(DwEhPe(174)) -
+af nothing UnknownPointerEncoding(DwEhPe(175)) -
+b0 data Indirect(4294967277) DataRelativePointerButDataBaseIsUndefined
+b1 data Indirect(4294967277) DataRelativePointerButDataBaseIsUndefined
+b2 data Indirect(4295032813) DataRelativePointerButDataBaseIsUndefined
+b3 data Indirect(8589934573) DataRelativePointerButDataBaseIsUndefined
+b4 data Indirect(4294967277) DataRelativePointerButDataBaseIsUndefined
+b5 nothing UnknownPointerEncoding(DwEhPe(181)) -
+b6 nothing UnknownPointerEncoding(DwEhPe(182)) -
+b7 nothing UnknownPointerEncoding(DwEhPe(183)) -
+b8 nothing UnknownPointerEncoding(DwEhPe(184)) -
+b9 data BadSignedLeb128 DataRelativePointerButDataBaseIsUndefined
+ba data Indirect(4294967277) DataRelativePointerButDataBaseIsUndefined
+bb data Indirect(4294967277) DataRelativePointerButDataBaseIsUndefined
+bc data Indirect(4294967277) DataRelativePointerButDataBaseIsUndefined
+bd nothing UnknownPointerEncoding(DwEhPe(189)) -
+be nothing UnknownPointerEncoding(DwEhPe(190)) -
+bf nothing UnknownPointerEncoding(DwEhPe(191)) -
+c0 function Indirect(9223372036854775789) FuncRelativePointerInBadContext
+c1 function Indirect(9223372036854775789) FuncRelativePointerInBadContext
+c2 function Indirect(9223372036854841325) FuncRelativePointerInBadContext
+c3 function Indirect(9223372041149743085) FuncRelativePointerInBadContext
+c4 function Indirect(9223372036854775789) FuncRelativePointerInBadContext
+c5 nothing UnknownPointerEncoding(DwEhPe(197)) -
+c6 nothing UnknownPointerEncoding(DwEhPe(198)) -
+c7 nothing UnknownPointerEncoding(DwEhPe(199)) -
+c8 nothing UnknownPointerEncoding(DwEhPe(200)) -
+c9 function BadSignedLeb128 FuncRelativePointerInBadContext
+ca function Indirect(9223372036854775789) FuncRelativePointerInBadContext
+cb function Indirect(9223372036854775789) FuncRelativePointerInBadContext
+cc function Indirect(9223372036854775789) FuncRelativePointerInBadContext
+cd nothing UnknownPointerEncoding(DwEhPe(205)) -
+ce nothing UnknownPointerEncoding(DwEhPe(206)) -
+cf nothing UnknownPointerEncoding(DwEhPe(207)) -
+d0 nothing UnsupportedPointerEncoding -
+d1 nothing UnsupportedPointerEncoding -
+d2 nothing UnsupportedPointerEncoding -
+d3 nothing UnsupportedPointerEncoding -
+d4 nothing UnsupportedPointerEncoding -
+d5 nothing UnknownPointerEncoding(DwEhPe(213)) -
+d6 nothing UnknownPointerEncoding(DwEhPe(214)) -
+d7 nothing UnknownPointerEncoding(DwEhPe(215)) -
+d8 nothing UnknownPointerEncoding(DwEhPe(216)) -
+d9 nothing UnsupportedPointerEncoding -
+da nothing UnsupportedPointerEncoding -
+db nothing UnsupportedPointerEncoding -
+dc nothing UnsupportedPointerEncoding -
+dd nothing UnknownPointerEncoding(DwEhPe(221)) -
+de nothing UnknownPointerEncoding(DwEhPe(222)) -
+df nothing UnknownPointerEncoding(DwEhPe(223)) -
+e0 nothing UnknownPointerEncoding(DwEhPe(224)) -
+e1 nothing UnknownPointerEncoding(DwEhPe(225)) -
+e2 nothing UnknownPointerEncoding(DwEhPe(226)) -
+e3 nothing UnknownPointerEncoding(DwEhPe(227)) -
+e4 nothing UnknownPointerEncoding(DwEhPe(228)) -
+e5 nothing UnknownPointerEncoding(DwEhPe(229)) -
+e6 nothing UnknownPointerEncoding(DwEhPe(230)) -
+e7 nothing UnknownPointerEncoding(DwEhPe(231)) -
+e8 nothing UnknownPointerEncoding(DwEhPe(232)) -
+e9 nothing UnknownPointerEncoding(DwEhPe(233)) -
+ea nothing UnknownPointerEncoding(DwEhPe(234)) -
+eb nothing UnknownPointerEncoding(DwEhPe(235)) -
+ec nothing UnknownPointerEncoding(DwEhPe(236)) -
+ed nothing UnknownPointerEncoding(DwEhPe(237)) -
+ee nothing UnknownPointerEncoding(DwEhPe(238)) -
+ef nothing UnknownPointerEncoding(DwEhPe(239)) -
+f0 nothing UnknownPointerEncoding(DwEhPe(240)) -
+f1 nothing UnknownPointerEncoding(DwEhPe(241)) -
+f2 nothing UnknownPointerEncoding(DwEhPe(242)) -
+f3 nothing UnknownPointerEncoding(DwEhPe(243)) -
+f4 nothing UnknownPointerEncoding(DwEhPe(244)) -
+f5 nothing UnknownPointerEncoding(DwEhPe(245)) -
+f6 nothing UnknownPointerEncoding(DwEhPe(246)) -
+f7 nothing UnknownPointerEncoding(DwEhPe(247)) -
+f8 nothing UnknownPointerEncoding(DwEhPe(248)) -
+f9 nothing UnknownPointerEncoding(DwEhPe(249)) -
+fa nothing UnknownPointerEncoding(DwEhPe(250)) -
+fb nothing UnknownPointerEncoding(DwEhPe(251)) -
+fc nothing UnknownPointerEncoding(DwEhPe(252)) -
+fd nothing UnknownPointerEncoding(DwEhPe(253)) -
+fe nothing UnknownPointerEncoding(DwEhPe(254)) -
+ff nothing CannotParseOmitPointerEncoding -
+";
 
-/// With addresses of 8 bytes, over the bytes `fdffffffffffffffff01`: a row for each encoding, where all that a
-/// pointer may count from is known, and where nothing is.
-pub static OUTCOMES_64: [[Wanted; 2]; 256] = [
-    [Direct(0xfffffffffffffffd), Direct(0xfffffffffffffffd)],
-    [Direct(0xfffffffffffffffd), Direct(0xfffffffffffffffd)],
-    [Direct(0xfffd), Direct(0xfffd)],
-    [Direct(0xfffffffd), Direct(0xfffffffd)],
-    [Direct(0xfffffffffffffffd), Direct(0xfffffffffffffffd)],
-    [Unknown, Unknown],
-    [Unknown, Unknown],
-    [Unknown, Unknown],
-    [Unknown, Unknown],
-    [BadSigned, BadSigned],
-    [Direct(0xfffffffffffffffd), Direct(0xfffffffffffffffd)],
-    [Direct(0xfffffffffffffffd), Direct(0xfffffffffffffffd)],
-    [Direct(0xfffffffffffffffd), Direct(0xfffffffffffffffd)],
-    [Unknown, Unknown],
-    [Unknown, Unknown],
-    [Unknown, Unknown],
-    [Direct(0xfffffffffffff001), NoSection],
-    [Direct(0xfffffffffffff001), NoSection],
-    [Direct(0xf001), NoSection],
-    [Direct(0xfffff001), NoSection],
-    [Direct(0xfffffffffffff001), NoSection],
-    [Unknown, Unknown],
-    [Unknown, Unknown],
-    [Unknown, Unknown],
-    [Unknown, Unknown],
-    [BadSigned, NoSection],
-    [Direct(0xfffffffffffff001), NoSection],
-    [Direct(0xfffffffffffff001), NoSection],
-    [Direct(0xfffffffffffff001), NoSection],
-    [Unknown, Unknown],
-    [Unknown, Unknown],
-    [Unknown, Unknown],
-    [Direct(0x400ffd), NoText],
-    [Direct(0x400ffd), NoText],
-    [Direct(0x410ffd), NoText],
-    [Direct(0x100400ffd), NoText],
-    [Direct(0x400ffd), NoText],
-    [Unknown, Unknown],
-    [Unknown, Unknown],
-    [Unknown, Unknown],
-    [Unknown, Unknown],
-    [BadSigned, NoText],
-    [Direct(0x400ffd), NoText],
-    [Direct(0x400ffd), NoText],
-    [Direct(0x400ffd), NoText],
-    [Unknown, Unknown],
-    [Unknown, Unknown],
-    [Unknown, Unknown],
-    [Direct(0xffffffed), NoData],
-    [Direct(0xffffffed), NoData],
-    [Direct(0x10000ffed), NoData],
-    [Direct(0x1ffffffed), NoData],
-    [Direct(0xffffffed), NoData],
-    [Unknown, Unknown],
-    [Unknown, Unknown],
-    [Unknown, Unknown],
-    [Unknown, Unknown],
-    [BadSigned, NoData],
-    [Direct(0xffffffed), NoData],
-    [Direct(0xffffffed), NoData],
-    [Direct(0xffffffed), NoData],
-    [Unknown, Unknown],
-    [Unknown, Unknown],
-    [Unknown, Unknown],
-    [Direct(0x7fffffffffffffed), NoFunction],
-    [Direct(0x7fffffffffffffed), NoFunction],
-    [Direct(0x800000000000ffed), NoFunction],
-    [Direct(0x80000000ffffffed), NoFunction],
-    [Direct(0x7fffffffffffffed), NoFunction],
-    [Unknown, Unknown],
-    [Unknown, Unknown],
-    [Unknown, Unknown],
-    [Unknown, Unknown],
-    [BadSigned, NoFunction],
-    [Direct(0x7fffffffffffffed), NoFunction],
-    [Direct(0x7fffffffffffffed), NoFunction],
-    [Direct(0x7fffffffffffffed), NoFunction],
-    [Unknown, Unknown],
-    [Unknown, Unknown],
-    [Unknown, Unknown],
-    [Aligned, Aligned],
-    [Aligned, Aligned],
-    [Aligned, Aligned],
-    [Aligned, Aligned],
-    [Aligned, Aligned],
-    [Unknown, Unknown],
-    [Unknown, Unknown],
-    [Unknown, Unknown],
-    [Unknown, Unknown],
-    [Aligned, Aligned],
-    [Aligned, Aligned],
-    [Aligned, Aligned],
-    [Aligned, Aligned],
-    [Unknown, Unknown],
-    [Unknown, Unknown],
-    [Unknown, Unknown],
-    [Unknown, Unknown],
-    [Unknown, Unknown],
-    [Unknown, Unknown],
-    [Unknown, Unknown],
-    [Unknown, Unknown],
-    [Unknown, Unknown],
-    [Unknown, Unknown],
-    [Unknown, Unknown],
-    [Unknown, Unknown],
-    [Unknown, Unknown],
-    [Unknown, Unknown],
-    [Unknown, Unknown],
-    [Unknown, Unknown],
-    [Unknown, Unknown],
-    [Unknown, Unknown],
-    [Unknown, Unknown],
-    [Unknown, Unknown],
-    [Unknown, Unknown],
-    [Unknown, Unknown],
-    [Unknown, Unknown],
-    [Unknown, Unknown],
-    [Unknown, Unknown],
-    [Unknown, Unknown],
-    [Unknown, Unknown],
-    [Unknown, Unknown],
-    [Unknown, Unknown],
-    [Unknown, Unknown],
-    [Unknown, Unknown],
-    [Unknown, Unknown],
-    [Unknown, Unknown],
-    [Unknown, Unknown],
-    [Unknown, Unknown],
-    [Indirect(0xfffffffffffffffd), Indirect(0xfffffffffffffffd)],
-    [Indirect(0xfffffffffffffffd), Indirect(0xfffffffffffffffd)],
-    [Indirect(0xfffd), Indirect(0xfffd)],
-    [Indirect(0xfffffffd), Indirect(0xfffffffd)],
-    [Indirect(0xfffffffffffffffd), Indirect(0xfffffffffffffffd)],
-    [Unknown, Unknown],
-    [Unknown, Unknown],
-    [Unknown, Unknown],
-    [Unknown, Unknown],
-    [BadSigned, BadSigned],
-    [Indirect(0xfffffffffffffffd), Indirect(0xfffffffffffffffd)],
-    [Indirect(0xfffffffffffffffd), Indirect(0xfffffffffffffffd)],
-    [Indirect(0xfffffffffffffffd), Indirect(0xfffffffffffffffd)],
-    [Unknown, Unknown],
-    [Unknown, Unknown],
-    [Unknown, Unknown],
-    [Indirect(0xfffffffffffff001), NoSection],
-    [Indirect(0xfffffffffffff001), NoSection],
-    [Indirect(0xf001), NoSection],
-    [Indirect(0xfffff001), NoSection],
-    [Indirect(0xfffffffffffff001), NoSection],
-    [Unknown, Unknown],
-    [Unknown, Unknown],
-    [Unknown, Unknown],
-    [Unknown, Unknown],
-    [BadSigned, NoSection],
-    [Indirect(0xfffffffffffff001), NoSection],
-    [Indirect(0xfffffffffffff001), NoSection],
-    [Indirect(0xfffffffffffff001), NoSection],
-    [Unknown, Unknown],
-    [Unknown, Unknown],
-    [Unknown, Unknown],
-    [Indirect(0x400ffd), NoText],
-    [Indirect(0x400ffd), NoText],
-    [Indirect(0x410ffd), NoText],
-    [Indirect(0x100400ffd), NoText],
-    [Indirect(0x400ffd), NoText],
-    [Unknown, Unknown],
-    [Unknown, Unknown],
-    [Unknown, Unknown],
-    [Unknown, Unknown],
-    [BadSigned, NoText],
-    [Indirect(0x400ffd), NoText],
-    [Indirect(0x400ffd), NoText],
-    [Indirect(0x400ffd), NoText],
-    [Unknown, Unknown],
-    [Unknown, Unknown],
-    [Unknown, Unknown],
-    [Indirect(0xffffffed), NoData],
-    [Indirect(0xffffffed), NoData],
-    [Indirect(0x10000ffed), NoData],
-    [Indirect(0x1ffffffed), NoData],
-    [Indirect(0xffffffed), NoData],
-    [Unknown, Unknown],
-    [Unknown, Unknown],
-    [Unknown, Unknown],
-    [Unknown, Unknown],
-    [BadSigned, NoData],
-    [Indirect(0xffffffed), NoData],
-    [Indirect(0xffffffed), NoData],
-    [Indirect(0xffffffed), NoData],
-    [Unknown, Unknown],
-    [Unknown, Unknown],
-    [Unknown, Unknown],
-    [Indirect(0x7fffffffffffffed), NoFunction],
-    [Indirect(0x7fffffffffffffed), NoFunction],
-    [Indirect(0x800000000000ffed), NoFunction],
-    [Indirect(0x80000000ffffffed), NoFunction],
-    [Indirect(0x7fffffffffffffed), NoFunction],
-    [Unknown, Unknown],
-    [Unknown, Unknown],
-    [Unknown, Unknown],
-    [Unknown, Unknown],
-    [BadSigned, NoFunction],
-    [Indirect(0x7fffffffffffffed), NoFunction],
-    [Indirect(0x7fffffffffffffed), NoFunction],
-    [Indirect(0x7fffffffffffffed), NoFunction],
-    [Unknown, Unknown],
-    [Unknown, Unknown],
-    [Unknown, Unknown],
-    [Aligned, Aligned],
-    [Aligned, Aligned],
-    [Aligned, Aligned],
-    [Aligned, Aligned],
-    [Aligned, Aligned],
-    [Unknown, Unknown],
-    [Unknown, Unknown],
-    [Unknown, Unknown],
-    [Unknown, Unknown],
-    [Aligned, Aligned],
-    [Aligned, Aligned],
-    [Aligned, Aligned],
-    [Aligned, Aligned],
-    [Unknown, Unknown],
-    [Unknown, Unknown],
-    [Unknown, Unknown],
-    [Unknown, Unknown],
-    [Unknown, Unknown],
-    [Unknown, Unknown],
-    [Unknown, Unknown],
-    [Unknown, Unknown],
-    [Unknown, Unknown],
-    [Unknown, Unknown],
-    [Unknown, Unknown],
-    [Unknown, Unknown],
-    [Unknown, Unknown],
-    [Unknown, Unknown],
-    [Unknown, Unknown],
-    [Unknown, Unknown],
-    [Unknown, Unknown],
-    [Unknown, Unknown],
-    [Unknown, Unknown],
-    [Unknown, Unknown],
-    [Unknown, Unknown],
-    [Unknown, Unknown],
-    [Unknown, Unknown],
-    [Unknown, Unknown],
-    [Unknown, Unknown],
-    [Unknown, Unknown],
-    [Unknown, Unknown],
-    [Unknown, Unknown],
-    [Unknown, Unknown],
-    [Unknown, Unknown],
-    [Unknown, Unknown],
-    [Unknown, Unknown],
-    [Unknown, Unknown],
-    [Unknown, Unknown],
-    [Omitted, Omitted],
-];
-
-/// With addresses of 4 bytes, over the bytes `9affff7f01020304`: a row for each encoding, where all that a
-/// pointer may count from is known, and where nothing is.
-pub static OUTCOMES_32: [[Wanted; 2]; 256] = [
-    [Direct(0x7fffff9a), Direct(0x7fffff9a)],
-    [Direct(0xfffff9a), Direct(0xfffff9a)],
-    [Direct(0xff9a), Direct(0xff9a)],
-    [Direct(0x7fffff9a), Direct(0x7fffff9a)],
-    [Direct(0x7fffff9a), Direct(0x7fffff9a)],
-    [Unknown, Unknown],
-    [Unknown, Unknown],
-    [Unknown, Unknown],
-    [Unknown, Unknown],
-    [Direct(0xffffff9a), Direct(0xffffff9a)],
-    [Direct(0xffffff9a), Direct(0xffffff9a)],
-    [Direct(0x7fffff9a), Direct(0x7fffff9a)],
-    [Direct(0x7fffff9a), Direct(0x7fffff9a)],
-    [Unknown, Unknown],
-    [Unknown, Unknown],
-    [Unknown, Unknown],
-    [Direct(0x7fffef9e), NoSection],
-    [Direct(0xfffef9e), NoSection],
-    [Direct(0xef9e), NoSection],
-    [Direct(0x7fffef9e), NoSection],
-    [Direct(0x7fffef9e), NoSection],
-    [Unknown, Unknown],
-    [Unknown, Unknown],
-    [Unknown, Unknown],
-    [Unknown, Unknown],
-    [Direct(0xffffef9e), NoSection],
-    [Direct(0xffffef9e), NoSection],
-    [Direct(0x7fffef9e), NoSection],
-    [Direct(0x7fffef9e), NoSection],
-    [Unknown, Unknown],
-    [Unknown, Unknown],
-    [Unknown, Unknown],
-    [Direct(0x80400f9a), NoText],
-    [Direct(0x10400f9a), NoText],
-    [Direct(0x410f9a), NoText],
-    [Direct(0x80400f9a), NoText],
-    [Direct(0x80400f9a), NoText],
-    [Unknown, Unknown],
-    [Unknown, Unknown],
-    [Unknown, Unknown],
-    [Unknown, Unknown],
-    [Direct(0x400f9a), NoText],
-    [Direct(0x400f9a), NoText],
-    [Direct(0x80400f9a), NoText],
-    [Direct(0x80400f9a), NoText],
-    [Unknown, Unknown],
-    [Unknown, Unknown],
-    [Unknown, Unknown],
-    [Direct(0x7fffff8a), NoData],
-    [Direct(0xfffff8a), NoData],
-    [Direct(0xff8a), NoData],
-    [Direct(0x7fffff8a), NoData],
-    [Direct(0x7fffff8a), NoData],
-    [Unknown, Unknown],
-    [Unknown, Unknown],
-    [Unknown, Unknown],
-    [Unknown, Unknown],
-    [Direct(0xffffff8a), NoData],
-    [Direct(0xffffff8a), NoData],
-    [Direct(0x7fffff8a), NoData],
-    [Direct(0x7fffff8a), NoData],
-    [Unknown, Unknown],
-    [Unknown, Unknown],
-    [Unknown, Unknown],
-    [Direct(0x7fffff8a), NoFunction],
-    [Direct(0xfffff8a), NoFunction],
-    [Direct(0xff8a), NoFunction],
-    [Direct(0x7fffff8a), NoFunction],
-    [Direct(0x7fffff8a), NoFunction],
-    [Unknown, Unknown],
-    [Unknown, Unknown],
-    [Unknown, Unknown],
-    [Unknown, Unknown],
-    [Direct(0xffffff8a), NoFunction],
-    [Direct(0xffffff8a), NoFunction],
-    [Direct(0x7fffff8a), NoFunction],
-    [Direct(0x7fffff8a), NoFunction],
-    [Unknown, Unknown],
-    [Unknown, Unknown],
-    [Unknown, Unknown],
-    [Aligned, Aligned],
-    [Aligned, Aligned],
-    [Aligned, Aligned],
-    [Aligned, Aligned],
-    [Aligned, Aligned],
-    [Unknown, Unknown],
-    [Unknown, Unknown],
-    [Unknown, Unknown],
-    [Unknown, Unknown],
-    [Aligned, Aligned],
-    [Aligned, Aligned],
-    [Aligned, Aligned],
-    [Aligned, Aligned],
-    [Unknown, Unknown],
-    [Unknown, Unknown],
-    [Unknown, Unknown],
-    [Unknown, Unknown],
-    [Unknown, Unknown],
-    [Unknown, Unknown],
-    [Unknown, Unknown],
-    [Unknown, Unknown],
-    [Unknown, Unknown],
-    [Unknown, Unknown],
-    [Unknown, Unknown],
-    [Unknown, Unknown],
-    [Unknown, Unknown],
-    [Unknown, Unknown],
-    [Unknown, Unknown],
-    [Unknown, Unknown],
-    [Unknown, Unknown],
-    [Unknown, Unknown],
-    [Unknown, Unknown],
-    [Unknown, Unknown],
-    [Unknown, Unknown],
-    [Unknown, Unknown],
-    [Unknown, Unknown],
-    [Unknown, Unknown],
-    [Unknown, Unknown],
-    [Unknown, Unknown],
-    [Unknown, Unknown],
-    [Unknown, Unknown],
-    [Unknown, Unknown],
-    [Unknown, Unknown],
-    [Unknown, Unknown],
-    [Unknown, Unknown],
-    [Unknown, Unknown],
-    [Unknown, Unknown],
-    [Unknown, Unknown],
-    [Indirect(0x7fffff9a), Indirect(0x7fffff9a)],
-    [Indirect(0xfffff9a), Indirect(0xfffff9a)],
-    [Indirect(0xff9a), Indirect(0xff9a)],
-    [Indirect(0x7fffff9a), Indirect(0x7fffff9a)],
-    [Indirect(0x7fffff9a), Indirect(0x7fffff9a)],
-    [Unknown, Unknown],
-    [Unknown, Unknown],
-    [Unknown, Unknown],
-    [Unknown, Unknown],
-    [Indirect(0xffffff9a), Indirect(0xffffff9a)],
-    [Indirect(0xffffff9a), Indirect(0xffffff9a)],
-    [Indirect(0x7fffff9a), Indirect(0x7fffff9a)],
-    [Indirect(0x7fffff9a), Indirect(0x7fffff9a)],
-    [Unknown, Unknown],
-    [Unknown, Unknown],
-    [Unknown, Unknown],
-    [Indirect(0x7fffef9e), NoSection],
-    [Indirect(0xfffef9e), NoSection],
-    [Indirect(0xef9e), NoSection],
-    [Indirect(0x7fffef9e), NoSection],
-    [Indirect(0x7fffef9e), NoSection],
-    [Unknown, Unknown],
-    [Unknown, Unknown],
-    [Unknown, Unknown],
-    [Unknown, Unknown],
-    [Indirect(0xffffef9e), NoSection],
-    [Indirect(0xffffef9e), NoSection],
-    [Indirect(0x7fffef9e), NoSection],
-    [Indirect(0x7fffef9e), NoSection],
-    [Unknown, Unknown],
-    [Unknown, Unknown],
-    [Unknown, Unknown],
-    [Indirect(0x80400f9a), NoText],
-    [Indirect(0x10400f9a), NoText],
-    [Indirect(0x410f9a), NoText],
-    [Indirect(0x80400f9a), NoText],
-    [Indirect(0x80400f9a), NoText],
-    [Unknown, Unknown],
-    [Unknown, Unknown],
-    [Unknown, Unknown],
-    [Unknown, Unknown],
-    [Indirect(0x400f9a), NoText],
-    [Indirect(0x400f9a), NoText],
-    [Indirect(0x80400f9a), NoText],
-    [Indirect(0x80400f9a), NoText],
-    [Unknown, Unknown],
-    [Unknown, Unknown],
-    [Unknown, Unknown],
-    [Indirect(0x7fffff8a), NoData],
-    [Indirect(0xfffff8a), NoData],
-    [Indirect(0xff8a), NoData],
-    [Indirect(0x7fffff8a), NoData],
-    [Indirect(0x7fffff8a), NoData],
-    [Unknown, Unknown],
-    [Unknown, Unknown],
-    [Unknown, Unknown],
-    [Unknown, Unknown],
-    [Indirect(0xffffff8a), NoData],
-    [Indirect(0xffffff8a), NoData],
-    [Indirect(0x7fffff8a), NoData],
-    [Indirect(0x7fffff8a), NoData],
-    [Unknown, Unknown],
-    [Unknown, Unknown],
-    [Unknown, Unknown],
-    [Indirect(0x7fffff8a), NoFunction],
-    [Indirect(0xfffff8a), NoFunction],
-    [Indirect(0xff8a), NoFunction],
-    [Indirect(0x7fffff8a), NoFunction],
-    [Indirect(0x7fffff8a), NoFunction],
-    [Unknown, Unknown],
-    [Unknown, Unknown],
-    [Unknown, Unknown],
-    [Unknown, Unknown],
-    [Indirect(0xffffff8a), NoFunction],
-    [Indirect(0xffffff8a), NoFunction],
-    [Indirect(0x7fffff8a), NoFunction],
-    [Indirect(0x7fffff8a), NoFunction],
-    [Unknown, Unknown],
-    [Unknown, Unknown],
-    [Unknown, Unknown],
-    [Aligned, Aligned],
-    [Aligned, Aligned],
-    [Aligned, Aligned],
-    [Aligned, Aligned],
-    [Aligned, Aligned],
-    [Unknown, Unknown],
-    [Unknown, Unknown],
-    [Unknown, Unknown],
-    [Unknown, Unknown],
-    [Aligned, Aligned],
-    [Aligned, Aligned],
-    [Aligned, Aligned],
-    [Aligned, Aligned],
-    [Unknown, Unknown],
-    [Unknown, Unknown],
-    [Unknown, Unknown],
-    [Unknown, Unknown],
-    [Unknown, Unknown],
-    [Unknown, Unknown],
-    [Unknown, Unknown],
-    [Unknown, Unknown],
-    [Unknown, Unknown],
-    [Unknown, Unknown],
-    [Unknown, Unknown],
-    [Unknown, Unknown],
-    [Unknown, Unknown],
-    [Unknown, Unknown],
-    [Unknown, Unknown],
-    [Unknown, Unknown],
-    [Unknown, Unknown],
-    [Unknown, Unknown],
-    [Unknown, Unknown],
-    [Unknown, Unknown],
-    [Unknown, Unknown],
-    [Unknown, Unknown],
-    [Unknown, Unknown],
-    [Unknown, Unknown],
-    [Unknown, Unknown],
-    [Unknown, Unknown],
-    [Unknown, Unknown],
-    [Unknown, Unknown],
-    [Unknown, Unknown],
-    [Unknown, Unknown],
-    [Unknown, Unknown],
-    [Unknown, Unknown],
-    [Unknown, Unknown],
-    [Unknown, Unknown],
-    [Omitted, Omitted],
-];
+/// With addresses of 4 bytes, over the bytes `9affff7f01020304`: a line for each encoding, with what the
+/// pointer is relative to, what is read if that is known, and if it isn't.
+pub static OUTCOMES_32: &str = "\
+00 nothing Direct(2147483546) -
+01 nothing Direct(268435354) -
+02 nothing Direct(65434) -
+03 nothing Direct(2147483546) -
+04 nothing Direct(2147483546) -
+05 nothing UnknownPointerEncoding(DwEhPe(5)) -
+06 nothing UnknownPointerEncoding(DwEhPe(6)) -
+07 nothing UnknownPointerEncoding(DwEhPe(7)) -
+08 nothing UnknownPointerEncoding(DwEhPe(8)) -
+09 nothing Direct(4294967194) -
+0a nothing Direct(4294967194) -
+0b nothing Direct(2147483546) -
+0c nothing Direct(2147483546) -
+0d nothing UnknownPointerEncoding(DwEhPe(13)) -
+0e nothing UnknownPointerEncoding(DwEhPe(14)) -
+0f nothing UnknownPointerEncoding(DwEhPe(15)) -
+10 section Direct(2147479454) PcRelativePointerButSectionBaseIsUndefined
+11 section Direct(268431262) PcRelativePointerButSectionBaseIsUndefined
+12 section Direct(61342) PcRelativePointerButSectionBaseIsUndefined
+13 section Direct(2147479454) PcRelativePointerButSectionBaseIsUndefined
+14 section Direct(2147479454) PcRelativePointerButSectionBaseIsUndefined
+15 nothing UnknownPointerEncoding(DwEhPe(21)) -
+16 nothing UnknownPointerEncoding(DwEhPe(22)) -
+17 nothing UnknownPointerEncoding(DwEhPe(23)) -
+18 nothing UnknownPointerEncoding(DwEhPe(24)) -
+19 section Direct(4294963102) PcRelativePointerButSectionBaseIsUndefined
+1a section Direct(4294963102) PcRelativePointerButSectionBaseIsUndefined
+1b section Direct(2147479454) PcRelativePointerButSectionBaseIsUndefined
+1c section Direct(2147479454) PcRelativePointerButSectionBaseIsUndefined
+1d nothing UnknownPointerEncoding(DwEhPe(29)) -
+1e nothing UnknownPointerEncoding(DwEhPe(30)) -
+1f nothing UnknownPointerEncoding(DwEhPe(31)) -
+20 text Direct(2151681946) TextRelativePointerButTextBaseIsUndefined
+21 text Direct(272633754) TextRelativePointerButTextBaseIsUndefined
+22 text Direct(4263834) TextRelativePointerButTextBaseIsUndefined
+23 text Direct(2151681946) TextRelativePointerButTextBaseIsUndefined
+24 text Direct(2151681946) TextRelativePointerButTextBaseIsUndefined
+25 nothing UnknownPointerEncoding(DwEhPe(37)) -
+26 nothing UnknownPointerEncoding(DwEhPe(38)) -
+27 nothing UnknownPointerEncoding(DwEhPe(39)) -
+28 nothing UnknownPointerEncoding(DwEhPe(40)) -
+29 text Direct(4198298) TextRelativePointerButTextBaseIsUndefined
+2a text Direct(4198298) TextRelativePointerButTextBaseIsUndefined
+2b text Direct(2151681946) TextRelativePointerButTextBaseIsUndefined
+2c text Direct(2151681946) TextRelativePointerButTextBaseIsUndefined
+2d nothing UnknownPointerEncoding(DwEhPe(45)) -
+2e nothing UnknownPointerEncoding(DwEhPe(46)) -
+2f nothing UnknownPointerEncoding(DwEhPe(47)) -
+30 data Direct(2147483530) DataRelativePointerButDataBaseIsUndefined
+31 data Direct(268435338) DataRelativePointerButDataBaseIsUndefined
+32 data Direct(65418) DataRelativePointerButDataBaseIsUndefined
+33 data Direct(2147483530) DataRelativePointerButDataBaseIsUndefined
+34 data Direct(2147483530) DataRelativePointerButDataBaseIsUndefined
+35 nothing UnknownPointerEncoding(DwEhPe(53)) -
+36 nothing UnknownPointerEncoding(DwEhPe(54)) -
+37 nothing UnknownPointerEncoding(DwEhPe(55)) -
+38 nothing UnknownPointerEncoding(DwEhPe(56)) -
+39 data Direct(4294967178) DataRelativePointerButDataBaseIsUndefined
+3a data Direct(4294967178) DataRelativePointerButDataBaseIsUndefined
+3b data Direct(2147483530) DataRelativePointerButDataBaseIsUndefined
+3c data Direct(2147483530) DataRelativePointerButDataBaseIsUndefined
+3d nothing UnknownPointerEncoding(DwEhPe(61)) -
+3e nothing UnknownPointerEncoding(DwEhPe(62)) -
+3f nothing UnknownPointerEncoding(DwEhPe(63)) -
+40 function Direct(2147483530) FuncRelativePointerInBadContext
+41 function Direct(268435338) FuncRelativePointerInBadContext
+42 function Direct(65418) FuncRelativePointerInBadContext
+43 function Direct(2147483530) FuncRelativePointerInBadContext
+44 function Direct(2147483530) FuncRelativePointerInBadContext
+45 nothing UnknownPointerEncoding(DwEhPe(69)) -
+46 nothing UnknownPointerEncoding(DwEhPe(70)) -
+47 nothing UnknownPointerEncoding(DwEhPe(71)) -
+48 nothing UnknownPointerEncoding(DwEhPe(72)) -
+49 function Direct(4294967178) FuncRelativePointerInBadContext
+4a function Direct(4294967178) FuncRelativePointerInBadContext
+4b function Direct(2147483530) FuncRelativePointerInBadContext
+4c function Direct(2147483530) FuncRelativePointerInBadContext
+4d nothing UnknownPointerEncoding(DwEhPe(77)) -
+4e nothing UnknownPointerEncoding(DwEhPe(78)) -
+4f nothing UnknownPointerEncoding(DwEhPe(79)) -
+50 nothing UnsupportedPointerEncoding -
+51 nothing UnsupportedPointerEncoding -
+52 nothing UnsupportedPointerEncoding -
+53 nothing UnsupportedPointerEncoding -
+54 nothing UnsupportedPointerEncoding -
+55 nothing UnknownPointerEncoding(DwEhPe(85)) -
+56 nothing UnknownPointerEncoding(DwEhPe(86)) -
+57 nothing UnknownPointerEncoding(DwEhPe(87)) -
+58 nothing UnknownPointerEncoding(DwEhPe(88)) -
+59 nothing UnsupportedPointerEncoding -
+5a nothing UnsupportedPointerEncoding -
+5b nothing UnsupportedPointerEncoding -
+5c nothing UnsupportedPointerEncoding -
+5d nothing UnknownPointerEncoding(DwEhPe(93)) -
+5e nothing UnknownPointerEncoding(DwEhPe(94)) -
+5f nothing UnknownPointerEncoding(DwEhPe(95)) -
+60 nothing UnknownPointerEncoding(DwEhPe(96)) -
+61 nothing UnknownPointerEncoding(DwEhPe(97)) -
+62 nothing UnknownPointerEncoding(DwEhPe(98)) -
+63 nothing UnknownPointerEncoding(DwEhPe(99)) -
+64 nothing UnknownPointerEncoding(DwEhPe(100)) -
+65 nothing UnknownPointerEncoding(DwEhPe(101)) -
+66 nothing UnknownPointerEncoding(DwEhPe(102)) -
+67 nothing UnknownPointerEncoding(DwEhPe(103)) -
+68 nothing UnknownPointerEncoding(DwEhPe(104)) -
+69 nothing UnknownPointerEncoding(DwEhPe(105)) -
+6a nothing UnknownPointerEncoding(DwEhPe(106)) -
+6b nothing UnknownPointerEncoding(DwEhPe(107)) -
+6c nothing UnknownPointerEncoding(DwEhPe(108)) -
+6d nothing UnknownPointerEncoding(DwEhPe(109)) -
+6e nothing UnknownPointerEncoding(DwEhPe(110)) -
+6f nothing UnknownPointerEncoding(DwEhPe(111)) -
+70 nothing UnknownPointerEncoding(DwEhPe(112)) -
+71 nothing UnknownPointerEncoding(DwEhPe(113)) -
+72 nothing UnknownPointerEncoding(DwEhPe(114)) -
+73 nothing UnknownPointerEncoding(DwEhPe(115)) -
+74 nothing UnknownPointerEncoding(DwEhPe(116)) -
+75 nothing UnknownPointerEncoding(DwEhPe(117)) -
+76 nothing UnknownPointerEncoding(DwEhPe(118)) -
+77 nothing UnknownPointerEncoding(DwEhPe(119)) -
+78 nothing UnknownPointerEncoding(DwEhPe(120)) -
+79 nothing UnknownPointerEncoding(DwEhPe(121)) -
+7a nothing UnknownPointerEncoding(DwEhPe(122)) -
+7b nothing UnknownPointerEncoding(DwEhPe(123)) -
+7c nothing UnknownPointerEncoding(DwEhPe(124)) -
+7d nothing UnknownPointerEncoding(DwEhPe(125)) -
+7e nothing UnknownPointerEncoding(DwEhPe(126)) -
+7f nothing UnknownPointerEncoding(DwEhPe(127)) -
+80 nothing Indirect(2147483546) -
+81 nothing Indirect(268435354) -
+82 nothing Indirect(65434) -
+83 nothing Indirect(2147483546) -
+84 nothing Indirect(2147483546) -
+85 nothing UnknownPointerEncoding(DwEhPe(133)) -
+86 nothing UnknownPointerEncoding(DwEhPe(134)) -
+87 nothing UnknownPointerEncoding(DwEhPe(135)) -
+88 nothing UnknownPointerEncoding(DwEhPe(136)) -
+89 nothing Indirect(4294967194) -
+8a nothing Indirect(4294967194) -
+8b nothing Indirect(2147483546) -
+8c nothing Indirect(2147483546) -
+8d nothing UnknownPointerEncoding(DwEhPe(141)) -
+8e nothing UnknownPointerEncoding(DwEhPe(142)) -
+8f nothing UnknownPointerEncoding(DwEhPe(143)) -
+90 section Indirect(2147479454) PcRelativePointerButSectionBaseIsUndefined
+91 section Indirect(268431262) PcRelativePointerButSectionBaseIsUndefined
+92 section Indirect(61342) PcRelativePointerButSectionBaseIsUndefined
+93 section Indirect(2147479454) PcRelativePointerButSectionBaseIsUndefined
+94 section Indirect(2147479454) PcRelativePointerButSectionBaseIsUndefined
+95 nothing UnknownPointerEncoding(DwEhPe(149)) -
+96 nothing UnknownPointerEncoding(DwEhPe(150)) -
+97 nothing UnknownPointerEncoding(DwEhPe(151)) -
+98 nothing UnknownPointerEncoding(DwEhPe(152)) -
+99 section Indirect(4294963102) PcRelativePointerButSectionBaseIsUndefined
+9a section Indirect(4294963102) PcRelativePointerButSectionBaseIsUndefined
+9b section Indirect(2147479454) PcRelativePointerButSectionBaseIsUndefined
+9c section Indirect(2147479454) PcRelativePointerButSectionBaseIsUndefined
+9d nothing UnknownPointerEncoding(DwEhPe(157)) -
+9e nothing UnknownPointerEncoding(DwEhPe(158)) -
+9f nothing UnknownPointerEncoding(DwEhPe(159)) -
+a0 text Indirect(2151681946) TextRelativePointerButTextBaseIsUndefined
+a1 text Indirect(272633754) TextRelativePointerButTextBaseIsUndefined
+a2 text Indirect(4263834) TextRelativePointerButTextBaseIsUndefined
+a3 text Indirect(2151681946) TextRelativePointerButTextBaseIsUndefined
+a4 text Indirect(2151681946) TextRelativePointerButTextBaseIsUndefined
+a5 nothing UnknownPointerEncoding(DwEhPe(165)) -
+a6 nothing UnknownPointerEncoding(DwEhPe(166)) -
+a7 nothing UnknownPointerEncoding(DwEhPe(167)) -
+a8 nothing UnknownPointerEncoding(DwEhPe(168)) -
+a9 text Indirect(4198298) TextRelativePointerButTextBaseIsUndefined
+aa text Indirect(4198298) TextRelativePointerButTextBaseIsUndefined
+ab text Indirect(2151681946) TextRelativePointerButTextBaseIsUndefined
+ac text Indirect(2151681946) TextRelativePointerButTextBaseIsUndefined
+ad nothing UnknownPointerEncoding(DwEhPe(173)) -
+ae nothing UnknownPointerEncoding(DwEhPe(174)) -
+af nothing UnknownPointerEncoding(DwEhPe(175)) -
+b0 data Indirect(2147483530) DataRelativePointerButDataBaseIsUndefined
+b1 data Indirect(268435338) DataRelativePointerButDataBaseIsUndefined
+b2 data Indirect(65418) DataRelativePointerButDataBaseIsUndefined
+b3 data Indirect(2147483530) DataRelativePointerButDataBaseIsUndefined
+b4 data Indirect(2147483530) DataRelativePointerButDataBaseIsUndefined
+b5 nothing UnknownPointerEncoding(DwEhPe(181)) -
+b6 nothing UnknownPointerEncoding(DwEhPe(182)) -
+b7 nothing UnknownPointerEncoding(DwEhPe(183)) -
+b8 nothing UnknownPointerEncoding(DwEhPe(184)) -
+b9 data Indirect(4294967178) DataRelativePointerButDataBaseIsUndefined
+ba data Indirect(4294967178) DataRelativePointerButDataBaseIsUndefined
+bb data Indirect(2147483530) DataRelativePointerButDataBaseIsUndefined
+bc data Indirect(2147483530) DataRelativePointerButDataBaseIsUndefined
+bd nothing UnknownPointerEncoding(DwEhPe(189)) -
+be nothing UnknownPointerEncoding(DwEhPe(190)) -
+bf nothing UnknownPointerEncoding(DwEhPe(191)) -
+c0 function Indirect(2147483530) FuncRelativePointerInBadContext
+c1 function Indirect(268435338) FuncRelativePointerInBadContext
+c2 function Indirect(65418) FuncRelativePointerInBadContext
+c3 function Indirect(2147483530) FuncRelativePointerInBadContext
+c4 function Indirect(2147483530) FuncRelativePointerInBadContext
+c5 nothing UnknownPointerEncoding(DwEhPe(197)) -
+c6 nothing UnknownPointerEncoding(DwEhPe(198)) -
+c7 nothing UnknownPointerEncoding(DwEhPe(199)) -
+c8 nothing UnknownPointerEncoding(DwEhPe(200)) -
+c9 function Indirect(4294967178) FuncRelativePointerInBadContext
+ca function Indirect(4294967178) FuncRelativePointerInBadContext
+cb function Indirect(2147483530) FuncRelativePointerInBadContext
+cc function Indirect(2147483530) FuncRelativePointerInBadContext
+cd nothing UnknownPointerEncoding(DwEhPe(205)) -
+ce nothing UnknownPointerEncoding(DwEhPe(206)) -
+cf nothing UnknownPointerEncoding(DwEhPe(207)) -
+d0 nothing UnsupportedPointerEncoding -
+d1 nothing UnsupportedPointerEncoding -
+d2 nothing UnsupportedPointerEncoding -
+d3 nothing UnsupportedPointerEncoding -
+d4 nothing UnsupportedPointerEncoding -
+d5 nothing UnknownPointerEncoding(DwEhPe(213)) -
+d6 nothing UnknownPointerEncoding(DwEhPe(214)) -
+d7 nothing UnknownPointerEncoding(DwEhPe(215)) -
+d8 nothing UnknownPointerEncoding(DwEhPe(216)) -
+d9 nothing UnsupportedPointerEncoding -
+da nothing UnsupportedPointerEncoding -
+db nothing UnsupportedPointerEncoding -
+dc nothing UnsupportedPointerEncoding -
+dd nothing UnknownPointerEncoding(DwEhPe(221)) -
+de nothing UnknownPointerEncoding(DwEhPe(222)) -
+df nothing UnknownPointerEncoding(DwEhPe(223)) -
+e0 nothing UnknownPointerEncoding(DwEhPe(224)) -
+e1 nothing UnknownPointerEncoding(DwEhPe(225)) -
+e2 nothing UnknownPointerEncoding(DwEhPe(226)) -
+e3 nothing UnknownPointerEncoding(DwEhPe(227)) -
+e4 nothing UnknownPointerEncoding(DwEhPe(228)) -
+e5 nothing UnknownPointerEncoding(DwEhPe(229)) -
+e6 nothing UnknownPointerEncoding(DwEhPe(230)) -
+e7 nothing UnknownPointerEncoding(DwEhPe(231)) -
+e8 nothing UnknownPointerEncoding(DwEhPe(232)) -
+e9 nothing UnknownPointerEncoding(DwEhPe(233)) -
+ea nothing UnknownPointerEncoding(DwEhPe(234)) -
+eb nothing UnknownPointerEncoding(DwEhPe(235)) -
+ec nothing UnknownPointerEncoding(DwEhPe(236)) -
+ed nothing UnknownPointerEncoding(DwEhPe(237)) -
+ee nothing UnknownPointerEncoding(DwEhPe(238)) -
+ef nothing UnknownPointerEncoding(DwEhPe(239)) -
+f0 nothing UnknownPointerEncoding(DwEhPe(240)) -
+f1 nothing UnknownPointerEncoding(DwEhPe(241)) -
+f2 nothing UnknownPointerEncoding(DwEhPe(242)) -
+f3 nothing UnknownPointerEncoding(DwEhPe(243)) -
+f4 nothing UnknownPointerEncoding(DwEhPe(244)) -
+f5 nothing UnknownPointerEncoding(DwEhPe(245)) -
+f6 nothing UnknownPointerEncoding(DwEhPe(246)) -
+f7 nothing UnknownPointerEncoding(DwEhPe(247)) -
+f8 nothing UnknownPointerEncoding(DwEhPe(248)) -
+f9 nothing UnknownPointerEncoding(DwEhPe(249)) -
+fa nothing UnknownPointerEncoding(DwEhPe(250)) -
+fb nothing UnknownPointerEncoding(DwEhPe(251)) -
+fc nothing UnknownPointerEncoding(DwEhPe(252)) -
+fd nothing UnknownPointerEncoding(DwEhPe(253)) -
+fe nothing UnknownPointerEncoding(DwEhPe(254)) -
+ff nothing CannotParseOmitPointerEncoding -
+";

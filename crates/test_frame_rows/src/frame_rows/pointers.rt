@@ -10,121 +10,124 @@ use dwarf_frame_rows::{
     parse_encoded_value, parse_pointer_encoding,
 };
 use dwarf_readers::{Reader, ReaderOffset, RunTimeEndian};
-use std::alloc::Global;
+use std::alloc::{AllocError, Global};
 use std::process::Abort;
 use test_readers::{Outcome, ReaderTest, over_each_reader};
-
-/// What an encoding says of a pointer.
-#[derive(Debug, Clone, Copy)]
-pub enum Wanted {
-    Direct(u64),
-    Indirect(u64),
-    Unknown,
-    Omitted,
-    Aligned,
-    NoSection,
-    NoText,
-    NoData,
-    NoFunction,
-    BadUnsigned,
-    BadSigned,
-    Ends,
-}
 
 /// The offset of the pointer in its section.
 const PLACE: u8 = 4;
 
-const SECTION: u64 = 0xffff_ffff_ffff_f000;
-
-const TEXT: u64 = 0x40_1000;
-
-const DATA: u64 = 0xffff_fff0;
-
-const FUNCTION: u64 = 0x7fff_ffff_ffff_fff0;
-
-// The result that an outcome says.
-fn answer(outcome: Wanted, encoding: DwEhPe) -> Result<Pointer, Error> {
-    match outcome {
-        Wanted::Direct(address) => Ok(Pointer::Direct(address)),
-        Wanted::Indirect(address) => Ok(Pointer::Indirect(address)),
-        Wanted::Unknown => Err(Error::UnknownPointerEncoding(encoding)),
-        Wanted::Omitted => Err(Error::CannotParseOmitPointerEncoding),
-        Wanted::Aligned => Err(Error::UnsupportedPointerEncoding),
-        Wanted::NoSection => Err(Error::PcRelativePointerButSectionBaseIsUndefined),
-        Wanted::NoText => Err(Error::TextRelativePointerButTextBaseIsUndefined),
-        Wanted::NoData => Err(Error::DataRelativePointerButDataBaseIsUndefined),
-        Wanted::NoFunction => Err(Error::FuncRelativePointerInBadContext),
-        Wanted::BadUnsigned => Err(Error::BadUnsignedLeb128),
-        Wanted::BadSigned => Err(Error::BadSignedLeb128),
-        Wanted::Ends => Err(Error::UnexpectedEof(ReaderOffsetId(u64::from(PLACE)))),
-    }
+// Which of the addresses are known that a pointer may be relative to.
+#[derive(Clone, Copy)]
+struct Known {
+    section: bool,
+    text: bool,
+    data: bool,
+    function: bool,
 }
 
-// Whether what the pointer is relative to is known, by which of these four are.
-fn is_based(unknown: Wanted, known: [bool; 4]) -> bool {
-    match unknown {
-        Wanted::NoSection => known[0],
-        Wanted::NoText => known[1],
-        Wanted::NoData => known[2],
-        Wanted::NoFunction => known[3],
-        _ => true,
+impl Known {
+    // One of the 16 ways.
+    fn new(subset: u8) -> Known {
+        Known {
+            section: subset & 1 != 0,
+            text: subset & 2 != 0,
+            data: subset & 4 != 0,
+            function: subset & 8 != 0,
+        }
     }
-}
 
-// Reads the pointer in each encoding and with each of the bases, and compares the results.
-fn compare<R: Reader>(
-    rt: &impl Abort,
-    section: R,
-    pointer: R,
-    address_size: u8,
-    outcomes: &[[Wanted; 2]],
-)
-    requires { (R.stretch section).offset ≤ (R.stretch pointer).offset }
-{
-    for (byte, [whole, bare]) in outcomes.iter().enumerate() {
-        let encoding = DwEhPe((byte % 256) as u8);
-        for subset in 0..16u8 {
-            let known = [
-                subset & 1 != 0,
-                subset & 2 != 0,
-                subset & 4 != 0,
-                subset & 8 != 0,
-            ];
-            let bases = SectionBaseAddresses {
-                section: known[0].then_some(SECTION),
-                text: known[1].then_some(TEXT),
-                data_base: known[2].then_some(DATA),
-            };
-            let parameters = PointerEncodingParameters {
-                bases: &bases,
-                func_base: known[3].then_some(FUNCTION),
-                address_size,
-                section: &section,
-            };
-            let wanted = if is_based(*bare, known) {
-                *whole
-            } else {
-                *bare
-            };
-            let mut input = pointer;
-            let found = parse_encoded_pointer(encoding, &parameters, &mut input);
-            assert!(rt; found == answer(wanted, encoding), "{byte} {subset}");
+    // Whether the address of this name is known.
+    fn has(self, name: &str) -> bool {
+        match name {
+            "section" => self.section,
+            "text" => self.text,
+            "data" => self.data,
+            "function" => self.function,
+            _ => true,
+        }
+    }
+
+    // The pointer in an encoding, or the error.
+    fn read<R: Reader>(
+        self,
+        alloc: Global,
+        encoding: DwEhPe,
+        address_size: u8,
+        section: &R,
+        pointer: R,
+    ) -> Result<String, AllocError>
+        requires { (R.stretch section.now).offset ≤ (R.stretch pointer).offset }
+    {
+        let bases = SectionBaseAddresses {
+            section: self.section.then_some(0xffff_ffff_ffff_f000),
+            text: self.text.then_some(0x40_1000),
+            data_base: self.data.then_some(0xffff_fff0),
+        };
+        let parameters = PointerEncodingParameters {
+            bases: &bases,
+            func_base: self.function.then_some(0x7fff_ffff_ffff_fff0),
+            address_size,
+            section,
+        };
+        let mut input = pointer;
+        match parse_encoded_pointer(encoding, &parameters, &mut input) {
+            Ok(pointer) => Ok(format!(in alloc; "{pointer:?}")?),
+            Err(error) => Ok(format!(in alloc; "{error:?}")?),
         }
     }
 }
 
-/// A pointer at its offset, in each encoding.
+/// A pointer at its offset, and what each encoding says of it.
 #[derive(Clone, Copy)]
-struct EncodingTest<'a> {
+struct EncodingTest {
     address_size: u8,
-    wanted: &'a [[Wanted; 2]],
+    outcomes: &'static str,
 }
 
-impl<H: Abort> ReaderTest<H> for EncodingTest<'_> {
-    fn run<R: Reader>(&self, rt: &H, _alloc: Global, reader: R) -> Outcome {
+impl EncodingTest {
+    // Compares the lines with what is read in one of the 16 ways.
+    fn compare<R: Reader>(
+        &self,
+        rt: &impl Abort,
+        alloc: Global,
+        subset: u8,
+        section: R,
+        pointer: R,
+    ) -> Outcome
+        requires { (R.stretch section).offset ≤ (R.stretch pointer).offset }
+    {
+        let known = Known::new(subset);
+        let mut count = 0u32;
+        for line in self.outcomes.lines() {
+            let mut words = line.split_whitespace();
+            let encoding = u8::from_str_radix(words.next().expect(rt, "an encoding"), 16)?;
+            let base = words.next().expect(rt, "a base");
+            let based = words.next().expect(rt, "what is read");
+            let unbased = words.next().expect(rt, "an error");
+            let wanted = if known.has(base) { based } else { unbased };
+            let found = known.read(
+                alloc,
+                DwEhPe(encoding),
+                self.address_size,
+                &section,
+                pointer,
+            )?;
+            assert!(rt; found.as_str() == wanted, "{line} {subset}: {found}");
+            count = count.wrapping_add(1);
+        }
+        assert!(rt; count == 256);
+        Ok(())
+    }
+}
+
+impl<H: Abort> ReaderTest<H> for EncodingTest {
+    fn run<R: Reader>(&self, rt: &H, alloc: Global, reader: R) -> Outcome {
         let mut pointer = reader;
         pointer.skip(R::Offset::from_u8(PLACE))?;
-        compare(rt, reader, pointer, self.address_size, self.wanted);
+        for subset in 0..16 {
+            self.compare(rt, alloc, subset, reader, pointer)?;
+        }
         Ok(())
     }
 }
@@ -133,7 +136,7 @@ impl<H: Abort> ReaderTest<H> for EncodingTest<'_> {
 fn each_encoding_of_pointers(rt: HostRuntime) -> Outcome {
     let wide = EncodingTest {
         address_size: 8,
-        wanted: &OUTCOMES_64,
+        outcomes: OUTCOMES_64,
     };
     let bytes = [
         0, 0, 0, 0, 0xfd, 0xff, 0xff, 0xff, 0xff, 0xff, 0xff, 0xff, 0xff, 0x01,
@@ -141,7 +144,7 @@ fn each_encoding_of_pointers(rt: HostRuntime) -> Outcome {
     over_each_reader(&rt, rt.alloc(), &wide, &bytes, RunTimeEndian::Little)?;
     let narrow = EncodingTest {
         address_size: 4,
-        wanted: &OUTCOMES_32,
+        outcomes: OUTCOMES_32,
     };
     let bytes = [0, 0, 0, 0, 0x9a, 0xff, 0xff, 0x7f, 0x01, 0x02, 0x03, 0x04];
     over_each_reader(&rt, rt.alloc(), &narrow, &bytes, RunTimeEndian::Little)

@@ -121,16 +121,9 @@ fn thirds_removed<S: UnwindContextStorage<u64>>(
     Ok(())
 }
 
-#[test]
-fn each_third_of_192_rules_removed(rt: HostRuntime) -> Result<(), Fail> {
-    thirds_removed::<StoreOnHeap>(&rt, rt.alloc())?;
-    thirds_removed::<Reserved>(&rt, rt.alloc())?;
-    thirds_removed::<Growing>(&rt, rt.alloc())
-}
-
-#[test]
-fn a_full_row_takes_rules_of_its_registers_alone(rt: HostRuntime) -> Result<(), Fail> {
-    let mut context: UnwindContext<u64, Reserved> = UnwindContext::new_in(rt.alloc())?;
+// A full row takes rules of its registers alone.
+fn full_row<S: UnwindContextStorage<u64>>(rt: &impl Abort, alloc: Global) -> Result<(), Fail> {
+    let mut context: UnwindContext<u64, S> = UnwindContext::new_in(alloc)?;
     set_downwards(&mut context)?;
     assert!(rt; set(&mut context, 192) == Err(Error::TooManyRegisterRules));
     assert!(rt; context.row().registers().count() == 192);
@@ -237,9 +230,16 @@ fn random_steps<S: UnwindContextStorage<u64>>(rt: &impl Abort, alloc: Global) ->
     Ok(())
 }
 
+// Each third of 192 rules is removed, and random steps are beside a map.
+fn many_rules<S: UnwindContextStorage<u64>>(rt: &impl Abort, alloc: Global) -> Result<(), Fail> {
+    thirds_removed::<S>(rt, alloc)?;
+    random_steps::<S>(rt, alloc)
+}
+
 #[test]
-fn random_rules_beside_a_map(rt: HostRuntime) -> Result<(), Fail> {
-    random_steps::<StoreOnHeap>(&rt, rt.alloc())?;
-    random_steps::<Reserved>(&rt, rt.alloc())?;
-    random_steps::<Growing>(&rt, rt.alloc())
+fn rules_of_many_registers(rt: HostRuntime) -> Result<(), Fail> {
+    many_rules::<StoreOnHeap>(&rt, rt.alloc())?;
+    many_rules::<Reserved>(&rt, rt.alloc())?;
+    many_rules::<Growing>(&rt, rt.alloc())?;
+    full_row::<Reserved>(&rt, rt.alloc())
 }
