@@ -2,11 +2,7 @@
 #![tactic(auto)]
 
 #[cfg(test)]
-mod chains;
-#[cfg(test)]
-mod codes;
-#[cfg(test)]
-mod epilogs;
+mod cases;
 #[cfg(test)]
 mod refusals;
 #[cfg(test)]

@@ -1,144 +1,88 @@
-//! Steps in the worked function, in its prolog, its body and its epilog.
+//! Steps in the prolog, the body and the epilog of functions, by each kind of code, and through chains of unwind infos.
 
-use crate::worked::{INFO, ROW, TEXT, assert_caller, assert_refused};
-use framehop_pe::PeUnwinderError;
+use crate::cases::CASES;
+use crate::worked::{Frame, ROW, caller};
+use std::alloc::Global;
+use std::process::Abort;
+use std::str::SplitWhitespace;
 use std::test::Fail;
 
-/// The worked row, and one before it in the order of addresses.
-const UNSORTED: [u8; 24] = [
-    0, 0x10, 0, 0, 0x10, 0x10, 0, 0, 0, 0x20, 0, 0, 0, 0x08, 0, 0, 0x10, 0x08, 0, 0, 0, 0x20, 0, 0,
-];
+/// The next word as a hexadecimal number.
+fn number(rt: &impl Abort, words: &mut SplitWhitespace<'_>) -> Result<u64, Fail> {
+    Ok(u64::from_str_radix(words.next().expect(rt, "a number"), 16)?)
+}
 
-/// An info whose codes are a push of RBP, and an allocation of 8 before it.
-const PUSH_AFTER_ALLOCATION: [u8; 8] = [0x01, 0x02, 0x02, 0x00, 0x02, 0x50, 0x01, 0x02];
+/// Asserts to what a step leads, by a line of the cases.
+fn assert_step<'x>(
+    rt: &impl Abort,
+    alloc: Global,
+    sections: (&'x [u8], &'x [u8], Option<&'x [u8]>),
+    line: &str,
+) -> Result<(), Fail> {
+    let (step, wanted) = line.split_once(" => ").expect(rt, "a step");
+    let mut words = step.split_whitespace();
+    let address = u32::try_from(number(rt, &mut words)?)?;
+    let frame = Frame {
+        address,
+        is_first: words.next() == Some("first"),
+        ip: number(rt, &mut words)?,
+        sp: number(rt, &mut words)?,
+        bp: number(rt, &mut words)?,
+        end: number(rt, &mut words)?,
+    };
+    let found = caller(rt, alloc, sections, frame)?;
+    assert!(rt; found.as_str() == wanted, "{line}: {found}");
+    Ok(())
+}
 
 #[test]
-fn later_frames_undo_the_prolog(rt: HostRuntime) -> Result<(), Fail> {
-    for pdata in [&ROW[..], &UNSORTED[..]] {
-        let sections = (pdata, &INFO[..], None);
-        let start = (0x101009, 0x20, 0x20);
-        assert_caller(
-            &rt,
-            sections,
-            (0x1008, false),
-            start,
-            0x100100,
-            (0x100100, 0x50, 0x20, 0x70),
-        );
+fn steps(rt: HostRuntime) -> Result<(), Fail> {
+    let mut pdata = Vec::new(rt.alloc());
+    let mut xdata = Vec::new(rt.alloc());
+    let mut text = Vec::new(rt.alloc());
+    let mut count = 0u32;
+    for line in CASES.lines() {
+        let (kind, rest) = line.split_once(' ').unwrap_or((line, ""));
+        match kind {
+            "pdata" => pdata = hex::decode(rt.alloc(), rest.as_bytes())?,
+            "xdata" => xdata = hex::decode(rt.alloc(), rest.as_bytes())?,
+            "text" => text = hex::decode(rt.alloc(), rest.as_bytes())?,
+            "step" => {
+                let code = if text.is_empty() {
+                    None
+                } else {
+                    Some(text.as_slice())
+                };
+                assert_step(&rt, rt.alloc(), (&pdata, &xdata, code), rest)?;
+                count = count.wrapping_add(1);
+            }
+            _ => {}
+        }
     }
+    assert!(rt; count == 47);
     Ok(())
 }
 
-#[test]
-fn first_frames_look_for_the_epilog(rt: HostRuntime) -> Result<(), Fail> {
-    let sections = (&ROW[..], &INFO[..], Some(&TEXT[..]));
-    for address in [0x1000, 0x100f] {
-        let start = (0x100000 + u64::from(address), 0x48, 0x20);
-        assert_caller(
-            &rt,
-            sections,
-            (address, true),
-            start,
-            0x100100,
-            (0x100100, 0x50, 0x20, 0),
-        );
+/// So many infos without codes, one after the other, each of which but the last leads to the next.
+fn chain_of(alloc: Global, count: u8) -> Result<Vec<u8>, Fail> {
+    let mut bytes = Vec::new(alloc);
+    for number in 1..count {
+        let next = 0x2000 + 16 * u32::from(number);
+        bytes.extend_from_slice(&[0x21, 0, 0, 0, 0, 0x10, 0, 0, 0x10, 0x10, 0, 0])?;
+        bytes.extend_from_slice(&next.to_le_bytes())?;
     }
-    for address in [0x1001, 0x100e] {
-        let start = (0x100000 + u64::from(address), 0x40, 0x20);
-        assert_caller(
-            &rt,
-            sections,
-            (address, true),
-            start,
-            0x100100,
-            (0x100100, 0x50, 0x20, 0x70),
-        );
+    bytes.extend_from_slice(&[0x01, 0, 0, 0])?;
+    Ok(bytes)
+}
+
+#[test]
+fn chains_have_at_most_32_infos(rt: HostRuntime) -> Result<(), Fail> {
+    let line = "1008 later 101009 10 20 80 => 100300 100300 18 20 0";
+    for count in [1, 31, 32] {
+        let chain = chain_of(rt.alloc(), count)?;
+        assert_step(&rt, rt.alloc(), (&ROW, chain.as_slice(), None), line)?;
     }
-    for address in [0x1005, 0x100a] {
-        let start = (0x100000 + u64::from(address), 0x20, 0x20);
-        assert_caller(
-            &rt,
-            sections,
-            (address, true),
-            start,
-            0x100100,
-            (0x100100, 0x50, 0x20, 0x70),
-        );
-    }
-    Ok(())
-}
-
-#[test]
-fn first_frames_want_the_code(rt: HostRuntime) -> Result<(), Fail> {
-    let start = (0x101001, 0x40, 0x20);
-    let missing = PeUnwinderError::MissingInstructionData(0x1001);
-    assert_refused(
-        &rt,
-        (&ROW[..], &INFO[..], None),
-        (0x1001, true),
-        start,
-        0x80,
-        missing,
-    );
-    let cut = (&ROW[..], &INFO[..], Some(&TEXT[..15]));
-    assert_refused(&rt, cut, (0x1001, true), start, 0x80, missing);
-    Ok(())
-}
-
-#[test]
-fn unwind_info_elsewhere_is_missing(rt: HostRuntime) -> Result<(), Fail> {
-    let row = [0, 0x10, 0, 0, 0x10, 0x10, 0, 0, 0, 0x30, 0, 0];
-    let start = (0x101009, 0x20, 0x20);
-    let missing = PeUnwinderError::MissingUnwindInfoData(0x3000);
-    let sections = (&row[..], &INFO[..], None);
-    assert_refused(&rt, sections, (0x1008, false), start, 0x80, missing);
-    Ok(())
-}
-
-#[test]
-fn codes_without_a_rule_are_undone(rt: HostRuntime) -> Result<(), Fail> {
-    let sections = (&ROW[..], &PUSH_AFTER_ALLOCATION[..], None);
-    let start = (0x101009, 0x38, 0x20);
-    assert_caller(
-        &rt,
-        sections,
-        (0x1008, false),
-        start,
-        0x100100,
-        (0x101009, 0x50, 0x6, 0),
-    );
-    let missing = PeUnwinderError::MissingStackData(Some(0x50));
-    assert_refused(
-        &rt,
-        sections,
-        (0x1008, false),
-        (0x101009, 0x40, 0x40),
-        0x50,
-        missing,
-    );
-    Ok(())
-}
-
-#[test]
-fn functions_without_a_row_are_leaves(rt: HostRuntime) -> Result<(), Fail> {
-    let start = (0x100500, 0x28, 0x20);
-    let sections = (&ROW[..], &INFO[..], None);
-    assert_caller(
-        &rt,
-        sections,
-        (0x1010, true),
-        start,
-        0x100200,
-        (0x100200, 0x30, 0x20, 0),
-    );
-    let cut = (&ROW[..11], &INFO[..], None);
-    assert_caller(
-        &rt,
-        cut,
-        (0x1008, false),
-        start,
-        0x100200,
-        (0x100200, 0x30, 0x20, 0),
-    );
-    Ok(())
+    let chain = chain_of(rt.alloc(), 33)?;
+    let line = "1008 later 101009 10 20 80 => UnwindInfoParseError";
+    assert_step(&rt, rt.alloc(), (&ROW, chain.as_slice(), None), line)
 }
