@@ -3,6 +3,7 @@
 use super::detectors::Detector;
 use anyhow::{Context, Result};
 use std::alloc::Global;
+use std::str::SplitWhitespace;
 
 /// Code, and where in it rules are looked for.
 #[derive(Drop)]
@@ -26,15 +27,24 @@ pub struct Tally {
 pub fn parse(alloc: Global, text: &str) -> Result<Vec<Code>> {
     let mut codes = Vec::new(alloc);
     for line in text.lines() {
-        let mut words = line.split_whitespace();
-        let bytes = hex::decode(alloc, words.next().context("code")?.as_bytes())?;
-        let mut offsets = Vec::new(alloc);
-        for word in words {
-            offsets.push(word.parse::<usize>()?)?;
-        }
-        codes.push(Code { bytes, offsets })?;
+        codes.push(parse_line(alloc, line)?)?;
     }
     Ok(codes)
+}
+
+fn parse_line(alloc: Global, line: &str) -> Result<Code> {
+    let mut words = line.split_whitespace();
+    let bytes = hex::decode(alloc, words.next().context("code")?.as_bytes())?;
+    let offsets = parse_offsets(alloc, words)?;
+    Ok(Code { bytes, offsets })
+}
+
+fn parse_offsets(alloc: Global, words: SplitWhitespace<'_>) -> Result<Vec<usize>> {
+    let mut offsets = Vec::new(alloc);
+    for word in words {
+        offsets.push(word.parse::<usize>()?)?;
+    }
+    Ok(offsets)
 }
 
 /// Looks at all places. An offset outside of its code counts as one without a rule.

@@ -5,7 +5,7 @@ ghost use Rattle.std.specs.Prelude.{◌≡◌};
 use arrayvec::ArrayVec;
 use dwarf_constants::{Encoding, Error, Format, Register, Result, X86_64};
 use dwarf_expressions::{Evaluation, EvaluationResult, EvaluationStorage, Expression, Value};
-use dwarf_readers::{EndianSlice, LittleEndian};
+use dwarf_readers::{EndianSlice, LittleEndian, Reader};
 use std::alloc::Global;
 
 const ENCODING: Encoding = Encoding {
@@ -49,11 +49,20 @@ pub fn value_of(
     expression: EndianSlice<'_, LittleEndian>,
     registers: Registers,
 ) -> Result<u64> {
-    let mut evaluation = Evaluation::<EndianSlice<'_, LittleEndian>, Fixed>::new_in(
-        alloc,
-        Expression(expression),
-        ENCODING,
-    )?;
+    let expression = Expression(expression);
+    let mut evaluation = Evaluation::<_, Fixed>::new_in(alloc, expression, ENCODING)?;
+    evaluate(&mut evaluation, registers)?;
+    evaluation
+        .value_result()
+        .ok_or(Error::UnsupportedEvaluation)
+}
+
+// Evaluates, and answers what is asked for.
+#[inline(always)]
+fn evaluate<R: Reader, S: EvaluationStorage>(
+    evaluation: &mut Evaluation<R, S>,
+    registers: Registers,
+) -> Result<()> {
     let mut answer = evaluation.evaluate()?;
     for _ in 0..8 {
         match answer {
@@ -64,9 +73,7 @@ pub fn value_of(
             }
         }
     }
-    evaluation
-        .value_result()
-        .ok_or(Error::UnsupportedEvaluation)
+    Ok(())
 }
 
 /// The sum of `count` values, in turn at each address of an entry of a PLT. An error counts as 0.

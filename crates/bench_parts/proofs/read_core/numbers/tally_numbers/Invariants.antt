@@ -1,4 +1,4 @@
-use Rattle.std.proofs.Common.{false, length}
+use Rattle.std.proofs.Common.{length}
 use Rattle.bench_parts.specs.Little.{little}
 use Rattle.bench_parts.proofs.Sums.{Tallied}
 use Rattle.bench_parts.proofs.read_core.numbers.tally_numbers.Given as goal

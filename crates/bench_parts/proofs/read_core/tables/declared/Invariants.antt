@@ -1,4 +1,4 @@
-use Rattle.std.proofs.Common.{◌≡◌, Ok, false, take}
+use Rattle.std.proofs.Common.{◌≡◌, Ok, take}
 use Rattle.bench_parts.specs.Little.{little}
 use Rattle.bench_parts.specs.Codes.{declared_in}
 use Rattle.bench_parts.proofs.read_core.tables.declared.Given as goal

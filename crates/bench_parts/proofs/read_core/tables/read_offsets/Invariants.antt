@@ -1,4 +1,4 @@
-use Rattle.std.proofs.Common.{◌≡◌, Ok, false}
+use Rattle.std.proofs.Common.{◌≡◌, Ok}
 use Rattle.bench_parts.specs.Little.{little}
 use Rattle.bench_parts.specs.Codes.{words_at}
 use Rattle.bench_parts.proofs.read_core.tables.read_offsets.Given as goal

@@ -2,7 +2,7 @@ use Rattle.std.proofs.Common.{◌≡◌}
 use Rattle.dwarf_constants.specs.declared.common.Register.{Register}
 use Rattle.dwarf_expressions.specs.Evaluation.{CanResume}
 use Rattle.dwarf_expressions.specs.declared.evaluation.EvaluationResult.TheVariants.{RequiresRegister}
-use Rattle.bench_parts.proofs.expressions.evaluations.value_of.Given as goal
+use Rattle.bench_parts.proofs.expressions.evaluations.evaluate.Given as goal
 
 abbrev pub invariant-loop : goal.invariant-loop
-invariant-loop l = (register : Register) → l.answer ≡ RequiresRegister register → CanResume l.evaluation.state
+invariant-loop g l = (register : Register) → l.answer ≡ RequiresRegister register → CanResume l.evaluation.state
