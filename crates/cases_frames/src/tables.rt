@@ -1,27 +1,37 @@
 //! Headers, the rows of their tables, and lookups in these.
 
+use crate::words::{bytes, number, numbers, word};
 use anyhow::Result;
 use dwarf_call_frames::{BaseAddresses, EhFrameHdr, EhHdrTable, EhHdrTableIter, Pointer};
 use dwarf_constants::Error;
-use dwarf_readers::{Reader, ReaderOffset, RunTimeEndian};
+use dwarf_readers::{EndianSlice, Reader, ReaderOffset, RunTimeEndian, TwoPieces};
 use std::alloc::Global;
+use test_readers::Backward;
 
 /// A header, and what is asked of its table.
 #[derive(Drop)]
 pub struct Table {
-    pub endian: RunTimeEndian,
-    pub address_size: u8,
-    /// Base addresses are known.
-    pub is_based: bool,
-    pub bytes: Vec<u8>,
-    /// Addresses that are looked up.
-    pub addresses: Vec<u64>,
-    /// Numbers of rows that are skipped.
-    pub behind: Vec<usize>,
+    endian: RunTimeEndian,
+    address_size: u8,
+    // Base addresses are known.
+    is_based: bool,
+    bytes: Vec<u8>,
+    // Addresses that are looked up.
+    addresses: Vec<u64>,
+    // Numbers of rows that are skipped.
+    behind: Vec<u64>,
 }
 
 // How many rows are shown at most.
 const MOST_ROWS: usize = 9;
+
+// A byte order by its name.
+fn endian(name: &str) -> RunTimeEndian {
+    match name {
+        "big" => RunTimeEndian::Big,
+        _ => RunTimeEndian::Little,
+    }
+}
 
 // An address in hexadecimal, after a `*` if the pointer to it is indirect.
 fn pointer_of(alloc: Global, pointer: Pointer) -> Result<String> {
@@ -88,20 +98,79 @@ fn show_address<R: Reader>(
     match table.lookup(address, bases) {
         Ok(pointer) => {
             let text = pointer_of(alloc, pointer)?;
-            match table.pointer_to_offset(pointer) {
-                Ok(offset) => {
-                    let offset = offset.0.into_u64();
-                    write!(shown, "  {address:x}: {text} at {offset:x}\n")?;
-                }
-                Err(error) => write!(shown, "  {address:x}: {text} {error:?}\n")?,
-            }
+            write!(shown, "  {address:x}: {text}")?;
+            show_offset(table, pointer, shown)
         }
-        Err(error) => write!(shown, "  {address:x}: {error:?}\n")?,
+        Err(error) => {
+            write!(shown, "  {address:x}: {error:?}\n")?;
+            Ok(())
+        }
+    }
+}
+
+// A pointer's offset from the start of `.eh_frame`, or the error, and the end of the line.
+fn show_offset<R: Reader>(
+    table: &EhHdrTable<'_, R>,
+    pointer: Pointer,
+    shown: &mut String,
+) -> Result<()> {
+    match table.pointer_to_offset(pointer) {
+        Ok(offset) => write!(shown, " at {:x}\n", offset.0.into_u64())?,
+        Err(error) => write!(shown, " {error:?}\n")?,
     }
     Ok(())
 }
 
 impl Table {
+    /// Reads words: the byte order, the size of an address, whether base addresses are known, the section, addresses,
+    /// and after the word `behind` numbers of rows to skip.
+    pub fn parse(alloc: Global, line: &str) -> Result<Self> {
+        let mut words = line.split_whitespace();
+        Ok(Table {
+            endian: endian(word(&mut words)?),
+            address_size: u8::try_from(number(&mut words)?)?,
+            is_based: word(&mut words)? == "known",
+            bytes: bytes(alloc, &mut words)?,
+            addresses: numbers(alloc, &mut words)?,
+            behind: numbers(alloc, &mut words)?,
+        })
+    }
+
+    /// What is shown of bytes in one piece. In two pieces, cut anywhere, it has to be the same. The
+    /// reader that stores bytes back to front has offsets of 32 bits: if that gives something else, it
+    /// is shown too.
+    pub fn show(&self, alloc: Global) -> Result<String> {
+        let mut shown = self.show_reader(alloc, EndianSlice::new(&self.bytes, self.endian))?;
+        let short = self.show_backward(alloc)?;
+        if let Some(cut) = self.odd_cut(alloc, shown.as_str())? {
+            write!(shown, "otherwise where it is cut at {cut}\n")?;
+        }
+        if short.as_str() != shown.as_str() {
+            write!(shown, "with offsets of 32 bits\n{short}")?;
+        }
+        Ok(shown)
+    }
+
+    // What is shown of bytes that are stored back to front.
+    fn show_backward(&self, alloc: Global) -> Result<String> {
+        let mut stored = Vec::from_slice(alloc, &self.bytes)?;
+        stored.reverse();
+        u32::try_from(stored.len())?;
+        self.show_reader(alloc, Backward::new_at(&stored, self.endian, 0))
+    }
+
+    // The first offset at which bytes in two pieces that are cut there show something else, if there is one.
+    fn odd_cut(&self, alloc: Global, shown: &str) -> Result<Option<usize>> {
+        for cut in 0..self.bytes.len() + 1 {
+            let (before, after) = self.bytes.split_at(cut);
+            let pieces = TwoPieces::new(before, after, self.endian);
+            if self.show_reader(alloc, pieces)?.as_str() != shown {
+                return Ok(Some(cut));
+            }
+        }
+        Ok(None)
+    }
+
     // The base addresses.
     fn bases(&self) -> BaseAddresses {
         let bases = BaseAddresses::default();
@@ -122,7 +191,7 @@ impl Table {
     ) -> Result<()> {
         show_rows(alloc, table.iter(bases), shown)?;
         for count in &self.behind {
-            show_behind(alloc, table.iter(bases), *count, shown)?;
+            show_behind(alloc, table.iter(bases), *count as usize, shown)?;
         }
         for address in &self.addresses {
             show_address(alloc, table, bases, *address, shown)?;
@@ -130,8 +199,8 @@ impl Table {
         Ok(())
     }
 
-    /// What is shown of the header.
-    pub fn show<R: Reader>(&self, alloc: Global, reader: R) -> Result<String> {
+    // What is shown of the header.
+    fn show_reader<R: Reader>(&self, alloc: Global, reader: R) -> Result<String> {
         let bases = self.bases();
         let mut shown = String::new(alloc);
         match EhFrameHdr::from(reader).parse(&bases, self.address_size) {

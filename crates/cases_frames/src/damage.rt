@@ -40,3 +40,12 @@ impl Listing {
         self.shown
     }
 }
+
+/// The digest of some bytes by FNV-1a, of 64 bits.
+pub fn digest(bytes: &[u8]) -> u64 {
+    let mut sum = 0xcbf2_9ce4_8422_2325u64;
+    for byte in bytes {
+        sum = (sum ^ u64::from(*byte)).wrapping_mul(0x0100_0000_01b3);
+    }
+    sum
+}

@@ -1,17 +1,15 @@
 //! The entries of a section, and the rows of each.
 
+use crate::fdes::{show_rows, whole};
 use anyhow::Result;
-use dwarf_constants::Result as Answer;
 use dwarf_frame_entries::{
-    _UnwindSectionPrivate, BaseAddresses, CieOrFde, CommonInformationEntry, Entry,
-    FrameDescriptionEntry, PartialFrameDescriptionEntry, UnwindContext, UnwindContextStorage,
-    UnwindOffset, UnwindSection, UnwindTable,
+    BaseAddresses, CieOrFde, CommonInformationEntry, Entry, PartialFrameDescriptionEntry,
+    UnwindContext, UnwindContextStorage, UnwindOffset, UnwindSection,
 };
 use dwarf_readers::{Reader, ReaderOffset};
 use std::alloc::Global;
-use test_frame_rows::line_of;
 
-// How many entries of a section, and rows of an entry, are shown at most.
+// How many entries of a section are shown at most.
 const MOST: usize = 100_000;
 
 // A line for a CIE.
@@ -31,63 +29,6 @@ fn show_cie<R: Reader>(cie: &CommonInformationEntry<R>, shown: &mut String) -> R
         cie.augmentation().copied()
     )?;
     Ok(())
-}
-
-// A line for each row of a table, and for the error, after which there is no row.
-fn show_table<R: Reader, S: UnwindContextStorage<R::Offset>>(
-    alloc: Global,
-    table: &mut UnwindTable<'_, '_, R, S>,
-    shown: &mut String,
-) -> Result<()> {
-    for _ in 0..MOST {
-        match table.next_row() {
-            Ok(Some(row)) => {
-                let line = line_of(alloc, row)?;
-                write!(shown, "  {line}\n")?;
-            }
-            Ok(None) => return Ok(()),
-            Err(error) => write!(shown, "  {error:?}\n")?,
-        }
-    }
-    Ok(())
-}
-
-// A line for each row of an entry, and for the error, before any row if it is one of the CIE's.
-fn show_rows<R: Reader, S: UnwindContextStorage<R::Offset>, Frames: UnwindSection<R>>(
-    alloc: Global,
-    section: &Frames,
-    bases: &BaseAddresses,
-    fde: &FrameDescriptionEntry<R>,
-    context: &mut UnwindContext<R::Offset, S>,
-    shown: &mut String,
-) -> Result<()> {
-    match fde.rows(section, bases, context) {
-        Ok(mut table) => show_table(alloc, &mut table, shown),
-        Err(error) => {
-            write!(shown, "  at once {error:?}\n")?;
-            Ok(())
-        }
-    }
-}
-
-// A reader, whose type names the types that belong to it.
-#[derive(Clone, Copy)]
-struct Of<R: Reader> {
-    reader: R,
-}
-
-// The whole FDE, with its CIE.
-fn whole<R: Reader, Frames: UnwindSection<R>>(
-    section: &Frames,
-    partial: &PartialFrameDescriptionEntry<'_, Frames, R>,
-) -> Answer<FrameDescriptionEntry<R>> {
-    let of = Of {
-        reader: *section.section(),
-    };
-    partial.parse(move |s, b, o| {
-        let _of = of;
-        s.cie_from_offset(b, o)
-    })
 }
 
 // Lines for an FDE: its parts and its rows, or its error.
@@ -136,15 +77,15 @@ pub fn show_entries<R: Reader, S: UnwindContextStorage<R::Offset>, Frames: Unwin
     section: &Frames,
     bases: &BaseAddresses,
     context: &mut UnwindContext<R::Offset, S>,
-    shown: &mut String,
-) -> Result<()> {
+) -> Result<String> {
+    let mut shown = String::new(alloc);
     let mut entries = section.entries(bases);
     for _ in 0..MOST {
         match entries.next() {
-            Ok(Some(entry)) => show_entry(alloc, section, bases, &entry, context, shown)?,
-            Ok(None) => return Ok(()),
+            Ok(Some(entry)) => show_entry(alloc, section, bases, &entry, context, &mut shown)?,
+            Ok(None) => break,
             Err(error) => write!(shown, "{error:?}\n")?,
         }
     }
-    Ok(())
+    Ok(shown)
 }
