@@ -1,7 +1,8 @@
 //! Memory that ends: what loads, steps and walks answer then, and what they leave.
 //!
 //! By themselves these tests are refused nothing. `scripts/refuse-allocations --tests test_framehop` runs each of them with each of its
-//! requests refused, alone and with all after it: what is refused is asked for again, and what takes no memory answers as it does with memory.
+//! requests refused, alone and with all after it: what is refused is asked for again, and what takes no memory answers as it does
+//! with memory.
 use crate::pe_files::PeFile;
 use crate::sessions::{Sections, try_module_of};
 use crate::steps::{self, Registers, frame_at, try_step};
