@@ -1,7 +1,9 @@
+pub mod Addresses
 pub mod FilesLoaded
 pub mod Lists
 pub mod MoveLaws
 pub mod ProcessLaws
+pub mod ProcessWalks
 pub mod SessionLaws
 pub mod StillCallback
 pub mod ThreadLaws

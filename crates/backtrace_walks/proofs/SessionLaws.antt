@@ -1,8 +1,9 @@
 -- Sessions whose caches alone change.
-use Rattle.std.proofs.Common.{◌≡◌, ℕ, ◌<◌, List, [], length, get_or, set, refl, sym, ap, subst, ◌∙◌}
+use Rattle.std.proofs.Common.{◌≡◌, ℕ, ◌<◌, List, [], ◌∷◌, ◌++◌, length, get_or, set, refl, sym, ap, subst, ◌∙◌, arith}
 use Rattle.std.proofs.lemmas.List.{get_or-set_same, length-set}
+use Rattle.framehop_rules.specs.Slots.{Kept}
 use Rattle.framehop_unwinder.specs.Modules.{Loaded, Loads}
-use Rattle.framehop_unwinder.specs.State.{SessionState, loads_with, modules_at, unwinder_at, with_modules}
+use Rattle.framehop_unwinder.specs.State.{SessionState, empty_state, loads_with, modules_at, unwinder_at, with_modules, with_unwinder}
 use Rattle.backtrace_walks.specs.SessionViews.{HasModules, IsReady, KeepsModules}
 
 pub keeps_all : {D R : Type 0} (session : SessionState D R) → KeepsModules session session
@@ -22,6 +23,17 @@ modules_stay {D} old new keeps = ap (λ (us : List (Loads (Loaded D))). (unwinde
 
 first_set : {A : Type 0} (xs : List A) (x d : A) → 0 < length xs → (0 < length (set xs 0 x)) × (get_or (set xs 0 x) 0 d ≡ x)
 first_set {A} xs x d some = (subst (λ (n : ℕ). 0 < n) (sym (length-set xs 0 x)) some, get_or-set_same xs 0 x d some)
+
+-- a session with one more cache
+abbrev pub with_cache : {D R : Type 0} → SessionState D R → Kept R → SessionState D R
+with_cache session cache = record session { caches = session.caches ++ cache ∷ [] }
+
+-- a new session, with an unwinder and a cache
+pub begun : {D R : Type 0} (next : ℕ) (cache : Kept R) (first one both : SessionState D R) → first ≡ empty_state next → one ≡ with_unwinder first → both ≡ with_cache one cache → HasModules [] both
+begun {D} {R} next cache first one both is_first is_one is_both =
+    let is : both ≡ with_cache (with_unwinder (empty_state next)) cache =
+    is_both ∙ ap (λ (s : SessionState D R). with_cache s cache) (is_one ∙ ap with_unwinder is_first) in
+    subst (λ (s : SessionState D R). HasModules [] s) (sym is) (record { ready = record { unwinder = omega arith; cache = omega arith }; modules = refl })
 
 -- a module is loaded in the first unwinder
 pub loaded : {D R : Type 0} (session : SessionState D R) (modules : List (Loaded D)) → IsReady session → HasModules modules (with_modules session 0 modules)

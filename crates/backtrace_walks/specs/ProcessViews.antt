@@ -1,12 +1,17 @@
 -- What contracts see of a process.
+use Rattle.std.specs.Prelude.{ℕ, Bool, List}
 use Rattle.backtrace_files.specs.FileViews.{files_seen}
+use Rattle.backtrace_text.specs.Frames.{frame_text}
 use Rattle.core_files.specs.MemoryViews.{word_of}
 use Rattle.framehop.specs.UnwindData.{UnwindData}
 use Rattle.framehop_unwinder.specs.State.{SessionState}
-use Rattle.backtrace_walks.specs.Backtraces.{Process}
+use Rattle.backtrace_walks.specs.Backtraces.{Process, shown_frame}
 use Rattle.backtrace_walks.specs.Modules.{modules_of}
 use Rattle.backtrace_walks.specs.SessionViews.{HasModules}
+use Rattle.backtrace_walks.specs.StackMeanings.{StackMeanings}
+use Rattle.backtrace_walks.specs.WalkedViews.{frame_seen}
 use Rattle.backtrace_walks.specs.declared.backtraces.CoreProcess.{CoreProcess}
+use Rattle.backtrace_walks.specs.declared.walks.WalkedFrame.{WalkedFrame}
 
 -- A process.
 abbrev pub process_seen : CoreProcess → Process
@@ -19,3 +24,7 @@ process_seen process = record {
 -- A session has the modules of a process.
 abbrev pub IsSessionOf : {Rule : Type 0} → CoreProcess → SessionState UnwindData Rule → Type 0
 IsSessionOf process session = HasModules (modules_of (files_seen process.files.now)) session
+
+-- The lines of a frame of a process's stack of this number, with its registers or without.
+abbrev pub walked_text : {Rule Registers : Type 0} → StackMeanings Rule Registers → CoreProcess → Bool → ℕ → WalkedFrame Registers → List ℕ
+walked_text stacks process registers number frame = frame_text number (shown_frame stacks (process_seen process) registers (frame_seen frame))

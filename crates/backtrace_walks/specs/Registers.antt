@@ -28,6 +28,16 @@ registers_x86_64 user =
     (user.rax ∷ user.rdx ∷ user.rcx ∷ user.rbx ∷ user.rsi ∷ user.rdi ∷ user.r8 ∷ user.r9 ∷ user.r10 ∷ user.r11 ∷ user.r12 ∷ user.r13
     ∷ user.r14 ∷ user.r15 ∷ [])
 
+-- registers with RAX to RDI of a thread, and with R8 to R15: parts of `registers_x86_64`
+abbrev pub with_lettered : UnwindRegsX86_64 → UserRegsX86_64 → UnwindRegsX86_64
+with_lettered registers user =
+    with_values registers (RAX ∷ RDX ∷ RCX ∷ RBX ∷ RSI ∷ RDI ∷ []) (user.rax ∷ user.rdx ∷ user.rcx ∷ user.rbx ∷ user.rsi ∷ user.rdi ∷ [])
+
+abbrev pub with_numbered : UnwindRegsX86_64 → UserRegsX86_64 → UnwindRegsX86_64
+with_numbered registers user =
+    with_values registers (R8 ∷ R9 ∷ R10 ∷ R11 ∷ R12 ∷ R13 ∷ R14 ∷ R15 ∷ [])
+    (user.r8 ∷ user.r9 ∷ user.r10 ∷ user.r11 ∷ user.r12 ∷ user.r13 ∷ user.r14 ∷ user.r15 ∷ [])
+
 -- where the walk over a thread's stack begins, if its registers are those of x86_64
 abbrev pub start_x86_64 : ThreadRegisters → Option (ThreadStart UnwindRegsX86_64)
 start_x86_64 (X86_64 user) = Some (record { pc = user.rip; registers = registers_x86_64 user })

@@ -48,6 +48,19 @@ context_x86_64 words sp pc =
     ∷ saved_word words sp 80 ∷ saved_word words sp 88 ∷ saved_word words sp 96 ∷ saved_word words sp 104 ∷ saved_word words sp 112
     ∷ saved_word words sp 128 ∷ saved_word words sp 136 ∷ saved_word words sp 144 ∷ saved_word words sp 152 ∷ [])
 
+-- registers with R8 to R15 there, and with RDI to RCX: parts of `context_x86_64`
+abbrev pub with_saved_numbered : UnwindRegsX86_64 → Words → ℕ → UnwindRegsX86_64
+with_saved_numbered registers words sp =
+    with_values registers (R8 ∷ R9 ∷ R10 ∷ R11 ∷ R12 ∷ R13 ∷ R14 ∷ R15 ∷ [])
+    (saved_word words sp 40 ∷ saved_word words sp 48 ∷ saved_word words sp 56 ∷ saved_word words sp 64 ∷ saved_word words sp 72
+    ∷ saved_word words sp 80 ∷ saved_word words sp 88 ∷ saved_word words sp 96 ∷ [])
+
+abbrev pub with_saved_lettered : UnwindRegsX86_64 → Words → ℕ → UnwindRegsX86_64
+with_saved_lettered registers words sp =
+    with_values registers (RDI ∷ RSI ∷ RBX ∷ RDX ∷ RAX ∷ RCX ∷ [])
+    (saved_word words sp 104 ∷ saved_word words sp 112 ∷ saved_word words sp 128 ∷ saved_word words sp 136 ∷ saved_word words sp 144
+    ∷ saved_word words sp 152 ∷ [])
+
 -- RIP is at 168 there
 abbrev pub interrupted_x86_64 : Interruption UnwindRegsX86_64
 interrupted_x86_64 words code registers =

@@ -8,7 +8,7 @@ ghost use Rattle.backtrace_walks.specs.ProcessViews.{process_seen};
 ghost use Rattle.backtrace_walks.specs.WalkedViews.{frame_seen};
 
 use crate::arch::ThreadArch;
-use crate::walks::{WalkedFrame, code_of, lookup_address_of};
+use crate::walks::WalkedFrame;
 use backtrace_files::{LoadedFile, location_of};
 use backtrace_text::{CodeLocation, RegisterValue, ShownFrame};
 use core_files::Memory;
@@ -50,6 +50,7 @@ fn registers_if<A: ThreadArch>(
 }
 
 // Where the code of a frame is.
+#[tactic(auto, using(crate::proofs::Addresses::same_address, crate::proofs::Addresses::same_lookup))]
 fn location_of_frame<'a, A: ThreadArch>(
     process: &CoreProcess<'_, '_, 'a>,
     frame: &WalkedFrame<A::UnwindRegs>,
@@ -57,10 +58,10 @@ fn location_of_frame<'a, A: ThreadArch>(
     ensures { location_view result
         ≡ location_of_frame A.stacks (process_seen process.now) (frame_seen frame.now) }
 {
-    let address = code_of(frame.address);
+    let address = frame.address.address();
     match A::interrupted(&process.memory, address, &frame.registers) {
         Some(_) => CodeLocation::SignalTrampoline,
-        None => location_of(process.files, address, lookup_address_of(frame.address)),
+        None => location_of(process.files, address, frame.address.address_for_lookup()),
     }
 }
 

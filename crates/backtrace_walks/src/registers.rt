@@ -3,7 +3,7 @@
 ghost use Rattle.std.specs.Prelude.{◌≡◌, ◌∷◌, [], OnOk};
 ghost use Rattle.backtrace_files.specs.Results.{Adds, IfOkAre};
 ghost use Rattle.backtrace_text.specs.FrameViews.{register_view};
-ghost use Rattle.backtrace_walks.specs.Registers.{mask_of_thread, registers_aarch64, registers_x86_64, shown_aarch64, shown_register, shown_x86_64};
+ghost use Rattle.backtrace_walks.specs.Registers.{mask_of_thread, registers_aarch64, registers_x86_64, shown_aarch64, shown_register, shown_x86_64, with_lettered, with_numbered};
 
 use backtrace_text::RegisterValue;
 use core_files::{PointerAuthenticationMasks, UserRegsAarch64, UserRegsX86_64};
@@ -20,17 +20,22 @@ pub struct ThreadStart<R> {
     pub registers: R,
 }
 
-/// The registers of a thread on x86_64.
-pub(crate) fn registers_x86_64(user: &UserRegsX86_64) -> UnwindRegsX86_64
-    ensures { result ≡ registers_x86_64 user.now }
+// Sets RAX, RDX, RCX, RBX, RSI and RDI to those of a thread.
+fn set_lettered(registers: &mut UnwindRegsX86_64, user: &UserRegsX86_64)
+    ensures { registers.new ≡ with_lettered registers.old user.now }
 {
-    let mut registers = UnwindRegsX86_64::new(user.rip, user.rsp, user.rbp);
     registers.set(Reg::RAX, user.rax);
     registers.set(Reg::RDX, user.rdx);
     registers.set(Reg::RCX, user.rcx);
     registers.set(Reg::RBX, user.rbx);
     registers.set(Reg::RSI, user.rsi);
     registers.set(Reg::RDI, user.rdi);
+}
+
+// Sets R8 to R15 to those of a thread.
+fn set_numbered(registers: &mut UnwindRegsX86_64, user: &UserRegsX86_64)
+    ensures { registers.new ≡ with_numbered registers.old user.now }
+{
     registers.set(Reg::R8, user.r8);
     registers.set(Reg::R9, user.r9);
     registers.set(Reg::R10, user.r10);
@@ -39,6 +44,15 @@ pub(crate) fn registers_x86_64(user: &UserRegsX86_64) -> UnwindRegsX86_64
     registers.set(Reg::R13, user.r13);
     registers.set(Reg::R14, user.r14);
     registers.set(Reg::R15, user.r15);
+}
+
+/// The registers of a thread on x86_64.
+pub(crate) fn registers_x86_64(user: &UserRegsX86_64) -> UnwindRegsX86_64
+    ensures { result ≡ registers_x86_64 user.now }
+{
+    let mut registers = UnwindRegsX86_64::new(user.rip, user.rsp, user.rbp);
+    set_lettered(&mut registers, user);
+    set_numbered(&mut registers, user);
     registers
 }
 

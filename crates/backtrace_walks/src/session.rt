@@ -3,7 +3,7 @@
 ghost use Rattle.std.specs.Prelude.{◌≡◌, [], IfOk, OnOk};
 ghost use Rattle.backtrace_files.specs.FileViews.{code_seen, file_seen, files_seen};
 ghost use Rattle.core_files.specs.FileViews.{mapping_of};
-ghost use Rattle.framehop_unwinder.specs.State.{modules_at};
+ghost use Rattle.framehop_unwinder.specs.State.{modules_at, with_unwinder};
 ghost use Rattle.backtrace_walks.specs.Modules.{module_of, module_with, modules_of, with_one};
 ghost use Rattle.backtrace_walks.specs.SessionViews.{HasModules, IsReady};
 
@@ -44,14 +44,25 @@ fn module_of<'a>(
     }
 }
 
+// Makes a new unwinder. A new session has numbers for its generation, so that an error is one of memory.
+fn add_unwinder<'a, A: Unwinding>(
+    session: &mut Session<FileModules<'a, A>>,
+    alloc: Global,
+) -> Result<(), AllocError>
+    ensures { OnOk result (session.new ≡ with_unwinder session.old) }
+{
+    match session.add_unwinder(alloc) {
+        Ok(()) => Ok(()),
+        Err(_) => Err(AllocError),
+    }
+}
+
 // A session with one unwinder, without a module, and one cache.
 fn empty_session<'a, A: Unwinding>(alloc: Global) -> Result<Session<FileModules<'a, A>>, AllocError>
     ensures { IfOk result (λ session. HasModules [] session) }
 {
     let mut session = Session::new(alloc, Generations::new());
-    if session.add_unwinder(alloc).is_err() {
-        return Err(AllocError);
-    }
+    add_unwinder::<A>(&mut session, alloc)?;
     session.add_cache(alloc, DwarfUnwindContext::new(alloc)?)?;
     Ok(session)
 }

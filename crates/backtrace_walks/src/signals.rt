@@ -2,7 +2,7 @@
 
 ghost use Rattle.std.specs.Prelude.{◌≡◌};
 ghost use Rattle.core_files.specs.MemoryViews.{word_of};
-ghost use Rattle.backtrace_walks.specs.Signals.{context_aarch64, context_x86_64, has_low_byte, interrupted_aarch64, interrupted_x86_64, is_word, returns_x86_64, saved_word, word_above};
+ghost use Rattle.backtrace_walks.specs.Signals.{context_aarch64, context_x86_64, has_low_byte, interrupted_aarch64, interrupted_x86_64, is_word, returns_x86_64, saved_word, with_saved_lettered, with_saved_numbered, word_above};
 
 use crate::registers::ThreadStart;
 use core_files::Memory;
@@ -54,12 +54,10 @@ fn returns_x86_64(memory: &Memory<'_, '_>, code: u64) -> bool
         && has_low_byte(5, word_above(memory, code, 8))
 }
 
-// The registers that the kernel pushed on x86_64.
-fn context_x86_64(memory: &Memory<'_, '_>, sp: u64, pc: u64) -> UnwindRegsX86_64
-    ensures { result ≡ context_x86_64 (word_of memory.now) sp pc }
+// Sets R8 to R15 to those that the kernel pushed.
+fn set_saved_numbered(registers: &mut UnwindRegsX86_64, memory: &Memory<'_, '_>, sp: u64)
+    ensures { registers.new ≡ with_saved_numbered registers.old (word_of memory.now) sp }
 {
-    let stack_pointer = saved_word(memory, sp, 160);
-    let mut registers = UnwindRegsX86_64::new(pc, stack_pointer, saved_word(memory, sp, 120));
     registers.set(Reg::R8, saved_word(memory, sp, 40));
     registers.set(Reg::R9, saved_word(memory, sp, 48));
     registers.set(Reg::R10, saved_word(memory, sp, 56));
@@ -68,12 +66,28 @@ fn context_x86_64(memory: &Memory<'_, '_>, sp: u64, pc: u64) -> UnwindRegsX86_64
     registers.set(Reg::R13, saved_word(memory, sp, 80));
     registers.set(Reg::R14, saved_word(memory, sp, 88));
     registers.set(Reg::R15, saved_word(memory, sp, 96));
+}
+
+// Sets RDI, RSI, RBX, RDX, RAX and RCX to those that the kernel pushed.
+fn set_saved_lettered(registers: &mut UnwindRegsX86_64, memory: &Memory<'_, '_>, sp: u64)
+    ensures { registers.new ≡ with_saved_lettered registers.old (word_of memory.now) sp }
+{
     registers.set(Reg::RDI, saved_word(memory, sp, 104));
     registers.set(Reg::RSI, saved_word(memory, sp, 112));
     registers.set(Reg::RBX, saved_word(memory, sp, 128));
     registers.set(Reg::RDX, saved_word(memory, sp, 136));
     registers.set(Reg::RAX, saved_word(memory, sp, 144));
     registers.set(Reg::RCX, saved_word(memory, sp, 152));
+}
+
+// The registers that the kernel pushed on x86_64.
+fn context_x86_64(memory: &Memory<'_, '_>, sp: u64, pc: u64) -> UnwindRegsX86_64
+    ensures { result ≡ context_x86_64 (word_of memory.now) sp pc }
+{
+    let stack_pointer = saved_word(memory, sp, 160);
+    let mut registers = UnwindRegsX86_64::new(pc, stack_pointer, saved_word(memory, sp, 120));
+    set_saved_numbered(&mut registers, memory, sp);
+    set_saved_lettered(&mut registers, memory, sp);
     registers
 }
 

@@ -5,7 +5,7 @@ ghost use Rattle.backtrace_text.specs.Writes.{Writes};
 ghost use Rattle.framehop_unwinder.specs.WalkViews.{walk_of};
 ghost use Rattle.json_program.specs.Errors.{ReportsFailures};
 ghost use Rattle.backtrace_walks.specs.Backtraces.{advance_of_thread, is_chosen};
-ghost use Rattle.backtrace_walks.specs.ProcessViews.{IsSessionOf, process_seen};
+ghost use Rattle.backtrace_walks.specs.ProcessViews.{IsSessionOf, process_seen, walked_text};
 ghost use Rattle.backtrace_walks.specs.StackTexts.{text_from, thread_text, threads_text, walk_text};
 ghost use Rattle.backtrace_walks.specs.WalkedViews.{IsAdvance};
 
@@ -13,7 +13,7 @@ use crate::arch::{FileModules, ThreadArch};
 use crate::backtraces::{BacktraceOptions, CoreProcess, shown_frame};
 use crate::registers::ThreadStart;
 use crate::stack_words::next_in_memory;
-use crate::walks::NextFrame;
+use crate::walks::{NextFrame, WalkedFrame};
 use backtrace_text::{WalkEnd, write_end, write_frame, write_thread};
 use core_files::Thread;
 use framehop::{Session, StackWalk};
@@ -32,6 +32,24 @@ fn next_in<'a, A: ThreadArch>(
     ensures session { IsSessionOf process.now session.new }
 {
     next_in_memory::<A>(session, &process.memory, walk)
+}
+
+// Writes the lines of a frame of this number.
+fn write_walked<A: ThreadArch, W: Sink>(
+    alloc: Global,
+    process: &CoreProcess<'_, '_, '_>,
+    registers: bool,
+    number: u64,
+    frame: &WalkedFrame<A::UnwindRegs>,
+    sink: &mut W,
+) -> Result<(), RunError>
+    requires { W.has_failed sink.old ≡ false }
+    ensures text { Writes W.contents sink.old sink.new result
+        (walked_text A.stacks process.now registers number frame.now) }
+    ensures errors { ReportsFailures result false (W.has_failed sink.new) }
+{
+    let shown = shown_frame::<A>(alloc, process, registers, frame)?;
+    write_frame(alloc, number, &shown, sink)
 }
 
 // Writes the lines of the frames of a walk, each before the next move is made, and the line of how the walk ends.
@@ -54,8 +72,7 @@ fn write_walk<'a, A: ThreadArch, W: Sink>(
     for number in 0..options.limit {
         match next_in::<A>(session, process, &mut walk) {
             NextFrame::Frame(frame) => {
-                let shown = shown_frame::<A>(alloc, process, options.registers, &frame)?;
-                write_frame(alloc, number, &shown, sink)?;
+                write_walked::<A, W>(alloc, process, options.registers, number, &frame, sink)?;
             }
             NextFrame::End(end) => return write_end(alloc, end, sink),
         }

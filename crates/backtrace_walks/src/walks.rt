@@ -2,7 +2,6 @@
 
 ghost use Rattle.std.specs.Prelude.{◌≡◌};
 ghost use Rattle.core_files.specs.MemoryViews.{word_of};
-ghost use Rattle.framehop_unwinder.specs.Frames.{frame_of, lookup_address};
 ghost use Rattle.framehop_unwinder.specs.WalkViews.{frame_answer, walk_of};
 ghost use Rattle.backtrace_walks.specs.SessionViews.{IsReady, KeepsModules, advance_in};
 ghost use Rattle.backtrace_walks.specs.WalkedViews.{AdvancesAs, next_seen};
@@ -43,27 +42,8 @@ fn next_by<R: Copy>(answer: Result<Option<FrameAddress>, Error>, registers: R) -
     }
 }
 
-/// The code address of a frame.
-pub(crate) fn code_of(address: FrameAddress) -> u64
-    ensures { result ≡ (frame_of address).address }
-{
-    match address {
-        FrameAddress::InstructionPointer(pc) => pc,
-        FrameAddress::ReturnAddress(return_address) => return_address.get(),
-    }
-}
-
-/// The address that a frame is looked up by.
-pub(crate) fn lookup_address_of(address: FrameAddress) -> u64
-    ensures { result ≡ lookup_address (frame_of address) }
-{
-    match address {
-        FrameAddress::InstructionPointer(pc) => pc,
-        FrameAddress::ReturnAddress(return_address) => return_address.get() - 1,
-    }
-}
-
 // A walk after a move that returned this: it begins anew where a signal interrupted the thread, if a handler returns to the frame.
+#[tactic(auto, using(crate::proofs::Addresses::same_address))]
 fn resumed<A: ThreadArch>(
     memory: &Memory<'_, '_>,
     walk: StackWalk<A::UnwindRegs>,
@@ -74,7 +54,7 @@ fn resumed<A: ThreadArch>(
 {
     match answer {
         Ok(Some(address)) => {
-            match A::interrupted(memory, code_of(address), &walk.regs()) {
+            match A::interrupted(memory, address.address(), &walk.regs()) {
                 Some(start) => StackWalk::new(start.pc, start.registers),
                 None => walk,
             }

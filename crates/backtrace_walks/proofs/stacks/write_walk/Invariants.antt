@@ -1,22 +1,18 @@
-use Rattle.std.proofs.Common.{◌≡◌, ◌-◌, false}
-use Rattle.framehop_unwinder.specs.Judge.{judge}
+use Rattle.std.proofs.Common.{◌≡◌, false}
 use Rattle.framehop_unwinder.specs.WalkViews.{walk_of}
 use Rattle.json_program.specs.Stream.{IsWritten}
-use Rattle.backtrace_walks.specs.Backtraces.{shown_frame}
 use Rattle.backtrace_walks.specs.ProcessViews.{IsSessionOf, process_seen}
 use Rattle.backtrace_walks.specs.StackTexts.{walk_text}
-use Rattle.backtrace_walks.proofs.WalkLaws.{lines_left}
+use Rattle.backtrace_walks.proofs.ProcessWalks.{text_left}
 use Rattle.backtrace_walks.proofs.stacks.write_walk.Given as goal
 
 -- what is written and the lines of the frames that are left make the lines of the whole walk
 abbrev pub invariant-loop-number : goal.invariant-loop-number
 invariant-loop-number g l =
     let stacks = g.A.ThreadArch.stacks in
-    let process = process_seen l.process in
-    let left = lines_left (judge stacks.steps process.modules) (stacks.interrupted process.words) process.words (shown_frame stacks process l.options.registers)
-    l.number (l.options.limit - l.number) (walk_of l.walk) in
     record {
       failed : g.W.Sink.has_failed l.sink ≡ false;
       session : IsSessionOf l.process l.session;
-      stands : IsWritten (g.W.Sink.contents l.fn.sink) (g.W.Sink.contents l.sink) left (walk_text stacks process l.options l.start);
+      stands : IsWritten (g.W.Sink.contents l.fn.sink) (g.W.Sink.contents l.sink) (text_left stacks l.process l.options l.number (walk_of l.walk))
+          (walk_text stacks (process_seen l.process) l.options l.start);
     }

@@ -1,0 +1,13 @@
+use Rattle.std.proofs.Common.{subst}
+use Rattle.backtrace_text.specs.Frames.{Frame, frame_text}
+use Rattle.json_program.proofs.Laws.{writes_nothing}
+use Rattle.json_program.specs.Stream.{WritesText}
+use Rattle.backtrace_walks.proofs.stacks.write_walked.Goals as goal
+
+pub returns-in_err-shown-clause-text : goal.returns-in_err-shown-clause-text
+returns-in_err-shown-clause-text g c = writes_nothing c.from_residual.result _ _ c.from_residual.ensures.0
+
+pub returns-clause-text : goal.returns-clause-text
+returns-clause-text g c =
+    subst (λ (f : Frame). WritesText c.write_frame.result (g.W.Sink.contents c.args.sink.now) (g.W.Sink.contents c.write_frame.new.sink) (frame_text c.args.number f))
+    c.in_ok-shown.ensures c.write_frame.ensures.text
