@@ -1,10 +1,6 @@
 //! Tables that lld links, and what LLVM reads in them. Written by scripts/compact-tables.
 
 use framehop_compact::x86_64::UnwindRuleX86_64;
-use framehop_compact_tables::CompactFormatError;
-
-/// What a lookup finds: the start, the end and the encoding of a function.
-pub type Found = Result<Option<(u32, u32, u32)>, CompactFormatError>;
 
 /// `__unwind_info`, without the zeros after its last page but 16.
 pub static X86_64_TABLES: [u8; 142] = [
@@ -216,911 +212,246 @@ pub static SMALL: [u8; 80] = [
     0x14, 0x00, 0x01, 0x00, 0x00, 0x00, 0x00, 0x00, 0x10, 0x00, 0x00, 0x01, 0x00, 0x00, 0x02, 0x02,
 ];
 
-/// What lookups of 0x1005 and 0x1015 find where the bits 1 of a byte are turned, for each byte.
-pub static TURNED_01: [(Found, Found); 80] = [
-    (
-        Ok(Some((0x1000, 0x1010, 0x1000000))),
-        Ok(Some((0x1010, 0x1020, 0x2020000))),
-    ),
-    (
-        Ok(Some((0x1000, 0x1010, 0x1000000))),
-        Ok(Some((0x1010, 0x1020, 0x2020000))),
-    ),
-    (
-        Ok(Some((0x1000, 0x1010, 0x1000000))),
-        Ok(Some((0x1010, 0x1020, 0x2020000))),
-    ),
-    (
-        Ok(Some((0x1000, 0x1010, 0x1000000))),
-        Ok(Some((0x1010, 0x1020, 0x2020000))),
-    ),
-    (
-        Ok(Some((0x1000, 0x1010, 0x10000))),
-        Ok(Some((0x1010, 0x1020, 0x2020000))),
-    ),
-    (
-        Err(CompactFormatError::Truncated),
-        Ok(Some((0x1010, 0x1020, 0x2020000))),
-    ),
-    (
-        Err(CompactFormatError::Truncated),
-        Ok(Some((0x1010, 0x1020, 0x2020000))),
-    ),
-    (
-        Err(CompactFormatError::Truncated),
-        Ok(Some((0x1010, 0x1020, 0x2020000))),
-    ),
-    (
-        Ok(Some((0x1000, 0x1010, 0x2020000))),
-        Err(CompactFormatError::BadEncodingIndex),
-    ),
-    (
-        Ok(Some((0x1000, 0x1010, 0x1000000))),
-        Ok(Some((0x1010, 0x1020, 0x1000))),
-    ),
-    (
-        Ok(Some((0x1000, 0x1010, 0x1000000))),
-        Ok(Some((0x1010, 0x1020, 0x1000))),
-    ),
-    (
-        Ok(Some((0x1000, 0x1010, 0x1000000))),
-        Ok(Some((0x1010, 0x1020, 0x1000))),
-    ),
-    (
-        Ok(Some((0x1000, 0x1010, 0x1000000))),
-        Ok(Some((0x1010, 0x1020, 0x2020000))),
-    ),
-    (
-        Ok(Some((0x1000, 0x1010, 0x1000000))),
-        Ok(Some((0x1010, 0x1020, 0x2020000))),
-    ),
-    (
-        Ok(Some((0x1000, 0x1010, 0x1000000))),
-        Ok(Some((0x1010, 0x1020, 0x2020000))),
-    ),
-    (
-        Ok(Some((0x1000, 0x1010, 0x1000000))),
-        Ok(Some((0x1010, 0x1020, 0x2020000))),
-    ),
-    (
-        Ok(Some((0x1000, 0x1010, 0x1000000))),
-        Ok(Some((0x1010, 0x1020, 0x2020000))),
-    ),
-    (
-        Ok(Some((0x1000, 0x1010, 0x1000000))),
-        Ok(Some((0x1010, 0x1020, 0x2020000))),
-    ),
-    (
-        Ok(Some((0x1000, 0x1010, 0x1000000))),
-        Ok(Some((0x1010, 0x1020, 0x2020000))),
-    ),
-    (
-        Ok(Some((0x1000, 0x1010, 0x1000000))),
-        Ok(Some((0x1010, 0x1020, 0x2020000))),
-    ),
-    (Ok(None), Ok(None)),
-    (
-        Err(CompactFormatError::Truncated),
-        Err(CompactFormatError::Truncated),
-    ),
-    (
-        Err(CompactFormatError::Truncated),
-        Err(CompactFormatError::Truncated),
-    ),
-    (
-        Err(CompactFormatError::Truncated),
-        Err(CompactFormatError::Truncated),
-    ),
-    (Ok(None), Ok(None)),
-    (
-        Err(CompactFormatError::Truncated),
-        Err(CompactFormatError::Truncated),
-    ),
-    (
-        Err(CompactFormatError::Truncated),
-        Err(CompactFormatError::Truncated),
-    ),
-    (
-        Err(CompactFormatError::Truncated),
-        Err(CompactFormatError::Truncated),
-    ),
-    (
-        Ok(Some((0x1000, 0x1010, 0x1000001))),
-        Ok(Some((0x1010, 0x1020, 0x2020000))),
-    ),
-    (
-        Ok(Some((0x1000, 0x1010, 0x1000100))),
-        Ok(Some((0x1010, 0x1020, 0x2020000))),
-    ),
-    (
-        Ok(Some((0x1000, 0x1010, 0x1010000))),
-        Ok(Some((0x1010, 0x1020, 0x2020000))),
-    ),
-    (
-        Ok(Some((0x1000, 0x1010, 0x0))),
-        Ok(Some((0x1010, 0x1020, 0x2020000))),
-    ),
-    (
-        Ok(Some((0x1001, 0x1011, 0x1000000))),
-        Ok(Some((0x1011, 0x1020, 0x2020000))),
-    ),
-    (Ok(None), Ok(None)),
-    (Ok(None), Ok(None)),
-    (Ok(None), Ok(None)),
-    (
-        Err(CompactFormatError::BadPageKind(0xc000000)),
-        Err(CompactFormatError::BadPageKind(0xc000000)),
-    ),
-    (
-        Err(CompactFormatError::Truncated),
-        Err(CompactFormatError::Truncated),
-    ),
-    (
-        Err(CompactFormatError::Truncated),
-        Err(CompactFormatError::Truncated),
-    ),
-    (
-        Err(CompactFormatError::Truncated),
-        Err(CompactFormatError::Truncated),
-    ),
-    (
-        Ok(Some((0x1000, 0x1010, 0x1000000))),
-        Ok(Some((0x1010, 0x1020, 0x2020000))),
-    ),
-    (
-        Ok(Some((0x1000, 0x1010, 0x1000000))),
-        Ok(Some((0x1010, 0x1020, 0x2020000))),
-    ),
-    (
-        Ok(Some((0x1000, 0x1010, 0x1000000))),
-        Ok(Some((0x1010, 0x1020, 0x2020000))),
-    ),
-    (
-        Ok(Some((0x1000, 0x1010, 0x1000000))),
-        Ok(Some((0x1010, 0x1020, 0x2020000))),
-    ),
-    (
-        Ok(Some((0x1000, 0x1010, 0x1000000))),
-        Ok(Some((0x1010, 0x1021, 0x2020000))),
-    ),
-    (
-        Ok(Some((0x1000, 0x1010, 0x1000000))),
-        Ok(Some((0x1010, 0x1120, 0x2020000))),
-    ),
-    (
-        Ok(Some((0x1000, 0x1010, 0x1000000))),
-        Ok(Some((0x1010, 0x11020, 0x2020000))),
-    ),
-    (
-        Ok(Some((0x1000, 0x1010, 0x1000000))),
-        Ok(Some((0x1010, 0x1001020, 0x2020000))),
-    ),
-    (
-        Ok(Some((0x1000, 0x1010, 0x1000000))),
-        Ok(Some((0x1010, 0x1020, 0x2020000))),
-    ),
-    (
-        Ok(Some((0x1000, 0x1010, 0x1000000))),
-        Ok(Some((0x1010, 0x1020, 0x2020000))),
-    ),
-    (
-        Ok(Some((0x1000, 0x1010, 0x1000000))),
-        Ok(Some((0x1010, 0x1020, 0x2020000))),
-    ),
-    (
-        Ok(Some((0x1000, 0x1010, 0x1000000))),
-        Ok(Some((0x1010, 0x1020, 0x2020000))),
-    ),
-    (
-        Ok(Some((0x1000, 0x1010, 0x1000000))),
-        Ok(Some((0x1010, 0x1020, 0x2020000))),
-    ),
-    (
-        Ok(Some((0x1000, 0x1010, 0x1000000))),
-        Ok(Some((0x1010, 0x1020, 0x2020000))),
-    ),
-    (
-        Ok(Some((0x1000, 0x1010, 0x1000000))),
-        Ok(Some((0x1010, 0x1020, 0x2020000))),
-    ),
-    (
-        Ok(Some((0x1000, 0x1010, 0x1000000))),
-        Ok(Some((0x1010, 0x1020, 0x2020000))),
-    ),
-    (
-        Err(CompactFormatError::Truncated),
-        Err(CompactFormatError::Truncated),
-    ),
-    (
-        Err(CompactFormatError::BadPageKind(0x103)),
-        Err(CompactFormatError::BadPageKind(0x103)),
-    ),
-    (
-        Err(CompactFormatError::BadPageKind(0x10003)),
-        Err(CompactFormatError::BadPageKind(0x10003)),
-    ),
-    (
-        Err(CompactFormatError::BadPageKind(0x1000003)),
-        Err(CompactFormatError::BadPageKind(0x1000003)),
-    ),
-    (
-        Err(CompactFormatError::BadEncodingIndex),
-        Err(CompactFormatError::BadEncodingIndex),
-    ),
-    (
-        Err(CompactFormatError::Truncated),
-        Err(CompactFormatError::Truncated),
-    ),
-    (
-        Ok(Some((0x1000, 0x1010, 0x1000000))),
-        Ok(Some((0x1010, 0x21000, 0x2020000))),
-    ),
-    (
-        Err(CompactFormatError::Truncated),
-        Err(CompactFormatError::Truncated),
-    ),
-    (
-        Ok(Some((0x1000, 0x1010, 0x1000000))),
-        Err(CompactFormatError::Truncated),
-    ),
-    (
-        Ok(Some((0x1000, 0x1010, 0x1000000))),
-        Err(CompactFormatError::Truncated),
-    ),
-    (
-        Ok(Some((0x1000, 0x1010, 0x1000000))),
-        Err(CompactFormatError::BadEncodingIndex),
-    ),
-    (
-        Ok(Some((0x1000, 0x1010, 0x1000000))),
-        Ok(Some((0x1010, 0x1020, 0x2020000))),
-    ),
-    (
-        Ok(Some((0x1001, 0x1010, 0x1000000))),
-        Ok(Some((0x1010, 0x1020, 0x2020000))),
-    ),
-    (Ok(None), Ok(Some((0x1010, 0x1020, 0x2020000)))),
-    (Ok(None), Ok(Some((0x1010, 0x1020, 0x2020000)))),
-    (
-        Ok(Some((0x1000, 0x1010, 0x2020000))),
-        Ok(Some((0x1010, 0x1020, 0x2020000))),
-    ),
-    (
-        Ok(Some((0x1000, 0x1011, 0x1000000))),
-        Ok(Some((0x1011, 0x1020, 0x2020000))),
-    ),
-    (
-        Ok(Some((0x1000, 0x1110, 0x1000000))),
-        Ok(Some((0x1000, 0x1110, 0x1000000))),
-    ),
-    (
-        Ok(Some((0x1000, 0x11010, 0x1000000))),
-        Ok(Some((0x1000, 0x11010, 0x1000000))),
-    ),
-    (
-        Ok(Some((0x1000, 0x1010, 0x1000000))),
-        Ok(Some((0x1010, 0x1020, 0x1000000))),
-    ),
-    (
-        Ok(Some((0x1000, 0x1010, 0x1000000))),
-        Ok(Some((0x1010, 0x1020, 0x2020001))),
-    ),
-    (
-        Ok(Some((0x1000, 0x1010, 0x1000000))),
-        Ok(Some((0x1010, 0x1020, 0x2020100))),
-    ),
-    (
-        Ok(Some((0x1000, 0x1010, 0x1000000))),
-        Ok(Some((0x1010, 0x1020, 0x2030000))),
-    ),
-    (
-        Ok(Some((0x1000, 0x1010, 0x1000000))),
-        Ok(Some((0x1010, 0x1020, 0x3020000))),
-    ),
-];
-
-/// What lookups of 0x1005 and 0x1015 find where the bits 80 of a byte are turned, for each byte.
-pub static TURNED_80: [(Found, Found); 80] = [
-    (
-        Ok(Some((0x1000, 0x1010, 0x1000000))),
-        Ok(Some((0x1010, 0x1020, 0x2020000))),
-    ),
-    (
-        Ok(Some((0x1000, 0x1010, 0x1000000))),
-        Ok(Some((0x1010, 0x1020, 0x2020000))),
-    ),
-    (
-        Ok(Some((0x1000, 0x1010, 0x1000000))),
-        Ok(Some((0x1010, 0x1020, 0x2020000))),
-    ),
-    (
-        Ok(Some((0x1000, 0x1010, 0x1000000))),
-        Ok(Some((0x1010, 0x1020, 0x2020000))),
-    ),
-    (
-        Err(CompactFormatError::Truncated),
-        Ok(Some((0x1010, 0x1020, 0x2020000))),
-    ),
-    (
-        Err(CompactFormatError::Truncated),
-        Ok(Some((0x1010, 0x1020, 0x2020000))),
-    ),
-    (
-        Err(CompactFormatError::Truncated),
-        Ok(Some((0x1010, 0x1020, 0x2020000))),
-    ),
-    (
-        Err(CompactFormatError::Truncated),
-        Ok(Some((0x1010, 0x1020, 0x2020000))),
-    ),
-    (
-        Ok(Some((0x1000, 0x1010, 0x1000000))),
-        Ok(Some((0x1010, 0x1020, 0x1000))),
-    ),
-    (
-        Ok(Some((0x1000, 0x1010, 0x1000000))),
-        Ok(Some((0x1010, 0x1020, 0x1000))),
-    ),
-    (
-        Ok(Some((0x1000, 0x1010, 0x1000000))),
-        Ok(Some((0x1010, 0x1020, 0x1000))),
-    ),
-    (
-        Ok(Some((0x1000, 0x1010, 0x1000000))),
-        Ok(Some((0x1010, 0x1020, 0x1000))),
-    ),
-    (
-        Ok(Some((0x1000, 0x1010, 0x1000000))),
-        Ok(Some((0x1010, 0x1020, 0x2020000))),
-    ),
-    (
-        Ok(Some((0x1000, 0x1010, 0x1000000))),
-        Ok(Some((0x1010, 0x1020, 0x2020000))),
-    ),
-    (
-        Ok(Some((0x1000, 0x1010, 0x1000000))),
-        Ok(Some((0x1010, 0x1020, 0x2020000))),
-    ),
-    (
-        Ok(Some((0x1000, 0x1010, 0x1000000))),
-        Ok(Some((0x1010, 0x1020, 0x2020000))),
-    ),
-    (
-        Ok(Some((0x1000, 0x1010, 0x1000000))),
-        Ok(Some((0x1010, 0x1020, 0x2020000))),
-    ),
-    (
-        Ok(Some((0x1000, 0x1010, 0x1000000))),
-        Ok(Some((0x1010, 0x1020, 0x2020000))),
-    ),
-    (
-        Ok(Some((0x1000, 0x1010, 0x1000000))),
-        Ok(Some((0x1010, 0x1020, 0x2020000))),
-    ),
-    (
-        Ok(Some((0x1000, 0x1010, 0x1000000))),
-        Ok(Some((0x1010, 0x1020, 0x2020000))),
-    ),
-    (
-        Err(CompactFormatError::Truncated),
-        Err(CompactFormatError::Truncated),
-    ),
-    (
-        Err(CompactFormatError::Truncated),
-        Err(CompactFormatError::Truncated),
-    ),
-    (
-        Err(CompactFormatError::Truncated),
-        Err(CompactFormatError::Truncated),
-    ),
-    (
-        Err(CompactFormatError::Truncated),
-        Err(CompactFormatError::Truncated),
-    ),
-    (
-        Err(CompactFormatError::Truncated),
-        Err(CompactFormatError::Truncated),
-    ),
-    (
-        Err(CompactFormatError::Truncated),
-        Err(CompactFormatError::Truncated),
-    ),
-    (
-        Err(CompactFormatError::Truncated),
-        Err(CompactFormatError::Truncated),
-    ),
-    (
-        Err(CompactFormatError::Truncated),
-        Err(CompactFormatError::Truncated),
-    ),
-    (
-        Ok(Some((0x1000, 0x1010, 0x1000080))),
-        Ok(Some((0x1010, 0x1020, 0x2020000))),
-    ),
-    (
-        Ok(Some((0x1000, 0x1010, 0x1008000))),
-        Ok(Some((0x1010, 0x1020, 0x2020000))),
-    ),
-    (
-        Ok(Some((0x1000, 0x1010, 0x1800000))),
-        Ok(Some((0x1010, 0x1020, 0x2020000))),
-    ),
-    (
-        Ok(Some((0x1000, 0x1010, 0x81000000))),
-        Ok(Some((0x1010, 0x1020, 0x2020000))),
-    ),
-    (Ok(None), Ok(None)),
-    (Ok(None), Ok(None)),
-    (Ok(None), Ok(None)),
-    (Ok(None), Ok(None)),
-    (
-        Err(CompactFormatError::Truncated),
-        Err(CompactFormatError::Truncated),
-    ),
-    (
-        Err(CompactFormatError::Truncated),
-        Err(CompactFormatError::Truncated),
-    ),
-    (
-        Err(CompactFormatError::Truncated),
-        Err(CompactFormatError::Truncated),
-    ),
-    (
-        Err(CompactFormatError::Truncated),
-        Err(CompactFormatError::Truncated),
-    ),
-    (
-        Ok(Some((0x1000, 0x1010, 0x1000000))),
-        Ok(Some((0x1010, 0x1020, 0x2020000))),
-    ),
-    (
-        Ok(Some((0x1000, 0x1010, 0x1000000))),
-        Ok(Some((0x1010, 0x1020, 0x2020000))),
-    ),
-    (
-        Ok(Some((0x1000, 0x1010, 0x1000000))),
-        Ok(Some((0x1010, 0x1020, 0x2020000))),
-    ),
-    (
-        Ok(Some((0x1000, 0x1010, 0x1000000))),
-        Ok(Some((0x1010, 0x1020, 0x2020000))),
-    ),
-    (
-        Ok(Some((0x1000, 0x1010, 0x1000000))),
-        Ok(Some((0x1010, 0x10a0, 0x2020000))),
-    ),
-    (
-        Ok(Some((0x1000, 0x1010, 0x1000000))),
-        Ok(Some((0x1010, 0x9020, 0x2020000))),
-    ),
-    (
-        Ok(Some((0x1000, 0x1010, 0x1000000))),
-        Ok(Some((0x1010, 0x801020, 0x2020000))),
-    ),
-    (
-        Ok(Some((0x1000, 0x1010, 0x1000000))),
-        Ok(Some((0x1010, 0x80001020, 0x2020000))),
-    ),
-    (
-        Ok(Some((0x1000, 0x1010, 0x1000000))),
-        Ok(Some((0x1010, 0x1020, 0x2020000))),
-    ),
-    (
-        Ok(Some((0x1000, 0x1010, 0x1000000))),
-        Ok(Some((0x1010, 0x1020, 0x2020000))),
-    ),
-    (
-        Ok(Some((0x1000, 0x1010, 0x1000000))),
-        Ok(Some((0x1010, 0x1020, 0x2020000))),
-    ),
-    (
-        Ok(Some((0x1000, 0x1010, 0x1000000))),
-        Ok(Some((0x1010, 0x1020, 0x2020000))),
-    ),
-    (
-        Ok(Some((0x1000, 0x1010, 0x1000000))),
-        Ok(Some((0x1010, 0x1020, 0x2020000))),
-    ),
-    (
-        Ok(Some((0x1000, 0x1010, 0x1000000))),
-        Ok(Some((0x1010, 0x1020, 0x2020000))),
-    ),
-    (
-        Ok(Some((0x1000, 0x1010, 0x1000000))),
-        Ok(Some((0x1010, 0x1020, 0x2020000))),
-    ),
-    (
-        Ok(Some((0x1000, 0x1010, 0x1000000))),
-        Ok(Some((0x1010, 0x1020, 0x2020000))),
-    ),
-    (
-        Err(CompactFormatError::BadPageKind(0x83)),
-        Err(CompactFormatError::BadPageKind(0x83)),
-    ),
-    (
-        Err(CompactFormatError::BadPageKind(0x8003)),
-        Err(CompactFormatError::BadPageKind(0x8003)),
-    ),
-    (
-        Err(CompactFormatError::BadPageKind(0x800003)),
-        Err(CompactFormatError::BadPageKind(0x800003)),
-    ),
-    (
-        Err(CompactFormatError::BadPageKind(0x80000003)),
-        Err(CompactFormatError::BadPageKind(0x80000003)),
-    ),
-    (
-        Err(CompactFormatError::Truncated),
-        Err(CompactFormatError::Truncated),
-    ),
-    (
-        Err(CompactFormatError::Truncated),
-        Err(CompactFormatError::Truncated),
-    ),
-    (
-        Err(CompactFormatError::Truncated),
-        Err(CompactFormatError::Truncated),
-    ),
-    (
-        Err(CompactFormatError::Truncated),
-        Err(CompactFormatError::Truncated),
-    ),
-    (
-        Ok(Some((0x1000, 0x1010, 0x1000000))),
-        Err(CompactFormatError::Truncated),
-    ),
-    (
-        Ok(Some((0x1000, 0x1010, 0x1000000))),
-        Err(CompactFormatError::Truncated),
-    ),
-    (
-        Ok(Some((0x1000, 0x1010, 0x1000000))),
-        Ok(Some((0x1010, 0x1020, 0x2020000))),
-    ),
-    (
-        Ok(Some((0x1000, 0x1010, 0x1000000))),
-        Ok(Some((0x1010, 0x1020, 0x2020000))),
-    ),
-    (Ok(None), Ok(Some((0x1010, 0x1020, 0x2020000)))),
-    (Ok(None), Ok(Some((0x1010, 0x1020, 0x2020000)))),
-    (Ok(None), Ok(Some((0x1010, 0x1020, 0x2020000)))),
-    (
-        Err(CompactFormatError::BadEncodingIndex),
-        Ok(Some((0x1010, 0x1020, 0x2020000))),
-    ),
-    (
-        Ok(Some((0x1000, 0x1090, 0x1000000))),
-        Ok(Some((0x1000, 0x1090, 0x1000000))),
-    ),
-    (
-        Ok(Some((0x1000, 0x9010, 0x1000000))),
-        Ok(Some((0x1000, 0x9010, 0x1000000))),
-    ),
-    (
-        Ok(Some((0x1000, 0x801010, 0x1000000))),
-        Ok(Some((0x1000, 0x801010, 0x1000000))),
-    ),
-    (
-        Ok(Some((0x1000, 0x1010, 0x1000000))),
-        Err(CompactFormatError::BadEncodingIndex),
-    ),
-    (
-        Ok(Some((0x1000, 0x1010, 0x1000000))),
-        Ok(Some((0x1010, 0x1020, 0x2020080))),
-    ),
-    (
-        Ok(Some((0x1000, 0x1010, 0x1000000))),
-        Ok(Some((0x1010, 0x1020, 0x2028000))),
-    ),
-    (
-        Ok(Some((0x1000, 0x1010, 0x1000000))),
-        Ok(Some((0x1010, 0x1020, 0x2820000))),
-    ),
-    (
-        Ok(Some((0x1000, 0x1010, 0x1000000))),
-        Ok(Some((0x1010, 0x1020, 0x82020000))),
-    ),
-];
-
-/// What lookups of 0x1005 and 0x1015 find where the bits ff of a byte are turned, for each byte.
-pub static TURNED_FF: [(Found, Found); 80] = [
-    (
-        Ok(Some((0x1000, 0x1010, 0x1000000))),
-        Ok(Some((0x1010, 0x1020, 0x2020000))),
-    ),
-    (
-        Ok(Some((0x1000, 0x1010, 0x1000000))),
-        Ok(Some((0x1010, 0x1020, 0x2020000))),
-    ),
-    (
-        Ok(Some((0x1000, 0x1010, 0x1000000))),
-        Ok(Some((0x1010, 0x1020, 0x2020000))),
-    ),
-    (
-        Ok(Some((0x1000, 0x1010, 0x1000000))),
-        Ok(Some((0x1010, 0x1020, 0x2020000))),
-    ),
-    (
-        Err(CompactFormatError::Truncated),
-        Ok(Some((0x1010, 0x1020, 0x2020000))),
-    ),
-    (
-        Err(CompactFormatError::Truncated),
-        Ok(Some((0x1010, 0x1020, 0x2020000))),
-    ),
-    (
-        Err(CompactFormatError::Truncated),
-        Ok(Some((0x1010, 0x1020, 0x2020000))),
-    ),
-    (
-        Err(CompactFormatError::Truncated),
-        Ok(Some((0x1010, 0x1020, 0x2020000))),
-    ),
-    (
-        Ok(Some((0x1000, 0x1010, 0x1000000))),
-        Ok(Some((0x1010, 0x1020, 0x1000))),
-    ),
-    (
-        Ok(Some((0x1000, 0x1010, 0x1000000))),
-        Ok(Some((0x1010, 0x1020, 0x1000))),
-    ),
-    (
-        Ok(Some((0x1000, 0x1010, 0x1000000))),
-        Ok(Some((0x1010, 0x1020, 0x1000))),
-    ),
-    (
-        Ok(Some((0x1000, 0x1010, 0x1000000))),
-        Ok(Some((0x1010, 0x1020, 0x1000))),
-    ),
-    (
-        Ok(Some((0x1000, 0x1010, 0x1000000))),
-        Ok(Some((0x1010, 0x1020, 0x2020000))),
-    ),
-    (
-        Ok(Some((0x1000, 0x1010, 0x1000000))),
-        Ok(Some((0x1010, 0x1020, 0x2020000))),
-    ),
-    (
-        Ok(Some((0x1000, 0x1010, 0x1000000))),
-        Ok(Some((0x1010, 0x1020, 0x2020000))),
-    ),
-    (
-        Ok(Some((0x1000, 0x1010, 0x1000000))),
-        Ok(Some((0x1010, 0x1020, 0x2020000))),
-    ),
-    (
-        Ok(Some((0x1000, 0x1010, 0x1000000))),
-        Ok(Some((0x1010, 0x1020, 0x2020000))),
-    ),
-    (
-        Ok(Some((0x1000, 0x1010, 0x1000000))),
-        Ok(Some((0x1010, 0x1020, 0x2020000))),
-    ),
-    (
-        Ok(Some((0x1000, 0x1010, 0x1000000))),
-        Ok(Some((0x1010, 0x1020, 0x2020000))),
-    ),
-    (
-        Ok(Some((0x1000, 0x1010, 0x1000000))),
-        Ok(Some((0x1010, 0x1020, 0x2020000))),
-    ),
-    (
-        Err(CompactFormatError::Truncated),
-        Err(CompactFormatError::Truncated),
-    ),
-    (
-        Err(CompactFormatError::Truncated),
-        Err(CompactFormatError::Truncated),
-    ),
-    (
-        Err(CompactFormatError::Truncated),
-        Err(CompactFormatError::Truncated),
-    ),
-    (
-        Err(CompactFormatError::Truncated),
-        Err(CompactFormatError::Truncated),
-    ),
-    (
-        Err(CompactFormatError::Truncated),
-        Err(CompactFormatError::Truncated),
-    ),
-    (
-        Err(CompactFormatError::Truncated),
-        Err(CompactFormatError::Truncated),
-    ),
-    (
-        Err(CompactFormatError::Truncated),
-        Err(CompactFormatError::Truncated),
-    ),
-    (
-        Err(CompactFormatError::Truncated),
-        Err(CompactFormatError::Truncated),
-    ),
-    (
-        Ok(Some((0x1000, 0x1010, 0x10000ff))),
-        Ok(Some((0x1010, 0x1020, 0x2020000))),
-    ),
-    (
-        Ok(Some((0x1000, 0x1010, 0x100ff00))),
-        Ok(Some((0x1010, 0x1020, 0x2020000))),
-    ),
-    (
-        Ok(Some((0x1000, 0x1010, 0x1ff0000))),
-        Ok(Some((0x1010, 0x1020, 0x2020000))),
-    ),
-    (
-        Ok(Some((0x1000, 0x1010, 0xfe000000))),
-        Ok(Some((0x1010, 0x1020, 0x2020000))),
-    ),
-    (Ok(None), Ok(None)),
-    (Ok(None), Ok(None)),
-    (Ok(None), Ok(None)),
-    (Ok(None), Ok(None)),
-    (
-        Err(CompactFormatError::Truncated),
-        Err(CompactFormatError::Truncated),
-    ),
-    (
-        Err(CompactFormatError::Truncated),
-        Err(CompactFormatError::Truncated),
-    ),
-    (
-        Err(CompactFormatError::Truncated),
-        Err(CompactFormatError::Truncated),
-    ),
-    (
-        Err(CompactFormatError::Truncated),
-        Err(CompactFormatError::Truncated),
-    ),
-    (
-        Ok(Some((0x1000, 0x1010, 0x1000000))),
-        Ok(Some((0x1010, 0x1020, 0x2020000))),
-    ),
-    (
-        Ok(Some((0x1000, 0x1010, 0x1000000))),
-        Ok(Some((0x1010, 0x1020, 0x2020000))),
-    ),
-    (
-        Ok(Some((0x1000, 0x1010, 0x1000000))),
-        Ok(Some((0x1010, 0x1020, 0x2020000))),
-    ),
-    (
-        Ok(Some((0x1000, 0x1010, 0x1000000))),
-        Ok(Some((0x1010, 0x1020, 0x2020000))),
-    ),
-    (
-        Ok(Some((0x1000, 0x1010, 0x1000000))),
-        Ok(Some((0x1010, 0x10df, 0x2020000))),
-    ),
-    (
-        Ok(Some((0x1000, 0x1010, 0x1000000))),
-        Ok(Some((0x1010, 0xef20, 0x2020000))),
-    ),
-    (
-        Ok(Some((0x1000, 0x1010, 0x1000000))),
-        Ok(Some((0x1010, 0xff1020, 0x2020000))),
-    ),
-    (
-        Ok(Some((0x1000, 0x1010, 0x1000000))),
-        Ok(Some((0x1010, 0xff001020, 0x2020000))),
-    ),
-    (
-        Ok(Some((0x1000, 0x1010, 0x1000000))),
-        Ok(Some((0x1010, 0x1020, 0x2020000))),
-    ),
-    (
-        Ok(Some((0x1000, 0x1010, 0x1000000))),
-        Ok(Some((0x1010, 0x1020, 0x2020000))),
-    ),
-    (
-        Ok(Some((0x1000, 0x1010, 0x1000000))),
-        Ok(Some((0x1010, 0x1020, 0x2020000))),
-    ),
-    (
-        Ok(Some((0x1000, 0x1010, 0x1000000))),
-        Ok(Some((0x1010, 0x1020, 0x2020000))),
-    ),
-    (
-        Ok(Some((0x1000, 0x1010, 0x1000000))),
-        Ok(Some((0x1010, 0x1020, 0x2020000))),
-    ),
-    (
-        Ok(Some((0x1000, 0x1010, 0x1000000))),
-        Ok(Some((0x1010, 0x1020, 0x2020000))),
-    ),
-    (
-        Ok(Some((0x1000, 0x1010, 0x1000000))),
-        Ok(Some((0x1010, 0x1020, 0x2020000))),
-    ),
-    (
-        Ok(Some((0x1000, 0x1010, 0x1000000))),
-        Ok(Some((0x1010, 0x1020, 0x2020000))),
-    ),
-    (
-        Err(CompactFormatError::BadPageKind(0xfc)),
-        Err(CompactFormatError::BadPageKind(0xfc)),
-    ),
-    (
-        Err(CompactFormatError::BadPageKind(0xff03)),
-        Err(CompactFormatError::BadPageKind(0xff03)),
-    ),
-    (
-        Err(CompactFormatError::BadPageKind(0xff0003)),
-        Err(CompactFormatError::BadPageKind(0xff0003)),
-    ),
-    (
-        Err(CompactFormatError::BadPageKind(0xff000003)),
-        Err(CompactFormatError::BadPageKind(0xff000003)),
-    ),
-    (
-        Err(CompactFormatError::Truncated),
-        Err(CompactFormatError::Truncated),
-    ),
-    (
-        Err(CompactFormatError::Truncated),
-        Err(CompactFormatError::Truncated),
-    ),
-    (
-        Err(CompactFormatError::Truncated),
-        Err(CompactFormatError::Truncated),
-    ),
-    (
-        Err(CompactFormatError::Truncated),
-        Err(CompactFormatError::Truncated),
-    ),
-    (
-        Ok(Some((0x1000, 0x1010, 0x1000000))),
-        Err(CompactFormatError::Truncated),
-    ),
-    (
-        Ok(Some((0x1000, 0x1010, 0x1000000))),
-        Err(CompactFormatError::Truncated),
-    ),
-    (
-        Ok(Some((0x1000, 0x1010, 0x1000000))),
-        Ok(Some((0x1010, 0x1020, 0x2020000))),
-    ),
-    (
-        Ok(Some((0x1000, 0x1010, 0x1000000))),
-        Ok(Some((0x1010, 0x1020, 0x2020000))),
-    ),
-    (Ok(None), Ok(Some((0x1010, 0x1020, 0x2020000)))),
-    (Ok(None), Ok(Some((0x1010, 0x1020, 0x2020000)))),
-    (Ok(None), Ok(Some((0x1010, 0x1020, 0x2020000)))),
-    (
-        Err(CompactFormatError::BadEncodingIndex),
-        Ok(Some((0x1010, 0x1020, 0x2020000))),
-    ),
-    (
-        Ok(Some((0x1000, 0x10ef, 0x1000000))),
-        Ok(Some((0x1000, 0x10ef, 0x1000000))),
-    ),
-    (
-        Ok(Some((0x1000, 0x10f10, 0x1000000))),
-        Ok(Some((0x1000, 0x10f10, 0x1000000))),
-    ),
-    (
-        Ok(Some((0x1000, 0xff1010, 0x1000000))),
-        Ok(Some((0x1000, 0xff1010, 0x1000000))),
-    ),
-    (
-        Ok(Some((0x1000, 0x1010, 0x1000000))),
-        Err(CompactFormatError::BadEncodingIndex),
-    ),
-    (
-        Ok(Some((0x1000, 0x1010, 0x1000000))),
-        Ok(Some((0x1010, 0x1020, 0x20200ff))),
-    ),
-    (
-        Ok(Some((0x1000, 0x1010, 0x1000000))),
-        Ok(Some((0x1010, 0x1020, 0x202ff00))),
-    ),
-    (
-        Ok(Some((0x1000, 0x1010, 0x1000000))),
-        Ok(Some((0x1010, 0x1020, 0x2fd0000))),
-    ),
-    (
-        Ok(Some((0x1000, 0x1010, 0x1000000))),
-        Ok(Some((0x1010, 0x1020, 0xfd020000))),
-    ),
-];
+/// A line for some bits and a byte of it: what lookups of 0x1005 and 0x1015 find where these are turned.
+pub static TURNED: &str = "\
+01 0 1000..1010:1000000 1010..1020:2020000
+01 1 1000..1010:1000000 1010..1020:2020000
+01 2 1000..1010:1000000 1010..1020:2020000
+01 3 1000..1010:1000000 1010..1020:2020000
+01 4 1000..1010:10000 1010..1020:2020000
+01 5 Truncated 1010..1020:2020000
+01 6 Truncated 1010..1020:2020000
+01 7 Truncated 1010..1020:2020000
+01 8 1000..1010:2020000 BadEncodingIndex
+01 9 1000..1010:1000000 1010..1020:1000
+01 10 1000..1010:1000000 1010..1020:1000
+01 11 1000..1010:1000000 1010..1020:1000
+01 12 1000..1010:1000000 1010..1020:2020000
+01 13 1000..1010:1000000 1010..1020:2020000
+01 14 1000..1010:1000000 1010..1020:2020000
+01 15 1000..1010:1000000 1010..1020:2020000
+01 16 1000..1010:1000000 1010..1020:2020000
+01 17 1000..1010:1000000 1010..1020:2020000
+01 18 1000..1010:1000000 1010..1020:2020000
+01 19 1000..1010:1000000 1010..1020:2020000
+01 20 none none
+01 21 Truncated Truncated
+01 22 Truncated Truncated
+01 23 Truncated Truncated
+01 24 none none
+01 25 Truncated Truncated
+01 26 Truncated Truncated
+01 27 Truncated Truncated
+01 28 1000..1010:1000001 1010..1020:2020000
+01 29 1000..1010:1000100 1010..1020:2020000
+01 30 1000..1010:1010000 1010..1020:2020000
+01 31 1000..1010:0 1010..1020:2020000
+01 32 1001..1011:1000000 1011..1020:2020000
+01 33 none none
+01 34 none none
+01 35 none none
+01 36 BadPageKind(201326592) BadPageKind(201326592)
+01 37 Truncated Truncated
+01 38 Truncated Truncated
+01 39 Truncated Truncated
+01 40 1000..1010:1000000 1010..1020:2020000
+01 41 1000..1010:1000000 1010..1020:2020000
+01 42 1000..1010:1000000 1010..1020:2020000
+01 43 1000..1010:1000000 1010..1020:2020000
+01 44 1000..1010:1000000 1010..1021:2020000
+01 45 1000..1010:1000000 1010..1120:2020000
+01 46 1000..1010:1000000 1010..11020:2020000
+01 47 1000..1010:1000000 1010..1001020:2020000
+01 48 1000..1010:1000000 1010..1020:2020000
+01 49 1000..1010:1000000 1010..1020:2020000
+01 50 1000..1010:1000000 1010..1020:2020000
+01 51 1000..1010:1000000 1010..1020:2020000
+01 52 1000..1010:1000000 1010..1020:2020000
+01 53 1000..1010:1000000 1010..1020:2020000
+01 54 1000..1010:1000000 1010..1020:2020000
+01 55 1000..1010:1000000 1010..1020:2020000
+01 56 Truncated Truncated
+01 57 BadPageKind(259) BadPageKind(259)
+01 58 BadPageKind(65539) BadPageKind(65539)
+01 59 BadPageKind(16777219) BadPageKind(16777219)
+01 60 BadEncodingIndex BadEncodingIndex
+01 61 Truncated Truncated
+01 62 1000..1010:1000000 1010..21000:2020000
+01 63 Truncated Truncated
+01 64 1000..1010:1000000 Truncated
+01 65 1000..1010:1000000 Truncated
+01 66 1000..1010:1000000 BadEncodingIndex
+01 67 1000..1010:1000000 1010..1020:2020000
+01 68 1001..1010:1000000 1010..1020:2020000
+01 69 none 1010..1020:2020000
+01 70 none 1010..1020:2020000
+01 71 1000..1010:2020000 1010..1020:2020000
+01 72 1000..1011:1000000 1011..1020:2020000
+01 73 1000..1110:1000000 1000..1110:1000000
+01 74 1000..11010:1000000 1000..11010:1000000
+01 75 1000..1010:1000000 1010..1020:1000000
+01 76 1000..1010:1000000 1010..1020:2020001
+01 77 1000..1010:1000000 1010..1020:2020100
+01 78 1000..1010:1000000 1010..1020:2030000
+01 79 1000..1010:1000000 1010..1020:3020000
+80 0 1000..1010:1000000 1010..1020:2020000
+80 1 1000..1010:1000000 1010..1020:2020000
+80 2 1000..1010:1000000 1010..1020:2020000
+80 3 1000..1010:1000000 1010..1020:2020000
+80 4 Truncated 1010..1020:2020000
+80 5 Truncated 1010..1020:2020000
+80 6 Truncated 1010..1020:2020000
+80 7 Truncated 1010..1020:2020000
+80 8 1000..1010:1000000 1010..1020:1000
+80 9 1000..1010:1000000 1010..1020:1000
+80 10 1000..1010:1000000 1010..1020:1000
+80 11 1000..1010:1000000 1010..1020:1000
+80 12 1000..1010:1000000 1010..1020:2020000
+80 13 1000..1010:1000000 1010..1020:2020000
+80 14 1000..1010:1000000 1010..1020:2020000
+80 15 1000..1010:1000000 1010..1020:2020000
+80 16 1000..1010:1000000 1010..1020:2020000
+80 17 1000..1010:1000000 1010..1020:2020000
+80 18 1000..1010:1000000 1010..1020:2020000
+80 19 1000..1010:1000000 1010..1020:2020000
+80 20 Truncated Truncated
+80 21 Truncated Truncated
+80 22 Truncated Truncated
+80 23 Truncated Truncated
+80 24 Truncated Truncated
+80 25 Truncated Truncated
+80 26 Truncated Truncated
+80 27 Truncated Truncated
+80 28 1000..1010:1000080 1010..1020:2020000
+80 29 1000..1010:1008000 1010..1020:2020000
+80 30 1000..1010:1800000 1010..1020:2020000
+80 31 1000..1010:81000000 1010..1020:2020000
+80 32 none none
+80 33 none none
+80 34 none none
+80 35 none none
+80 36 Truncated Truncated
+80 37 Truncated Truncated
+80 38 Truncated Truncated
+80 39 Truncated Truncated
+80 40 1000..1010:1000000 1010..1020:2020000
+80 41 1000..1010:1000000 1010..1020:2020000
+80 42 1000..1010:1000000 1010..1020:2020000
+80 43 1000..1010:1000000 1010..1020:2020000
+80 44 1000..1010:1000000 1010..10a0:2020000
+80 45 1000..1010:1000000 1010..9020:2020000
+80 46 1000..1010:1000000 1010..801020:2020000
+80 47 1000..1010:1000000 1010..80001020:2020000
+80 48 1000..1010:1000000 1010..1020:2020000
+80 49 1000..1010:1000000 1010..1020:2020000
+80 50 1000..1010:1000000 1010..1020:2020000
+80 51 1000..1010:1000000 1010..1020:2020000
+80 52 1000..1010:1000000 1010..1020:2020000
+80 53 1000..1010:1000000 1010..1020:2020000
+80 54 1000..1010:1000000 1010..1020:2020000
+80 55 1000..1010:1000000 1010..1020:2020000
+80 56 BadPageKind(131) BadPageKind(131)
+80 57 BadPageKind(32771) BadPageKind(32771)
+80 58 BadPageKind(8388611) BadPageKind(8388611)
+80 59 BadPageKind(2147483651) BadPageKind(2147483651)
+80 60 Truncated Truncated
+80 61 Truncated Truncated
+80 62 Truncated Truncated
+80 63 Truncated Truncated
+80 64 1000..1010:1000000 Truncated
+80 65 1000..1010:1000000 Truncated
+80 66 1000..1010:1000000 1010..1020:2020000
+80 67 1000..1010:1000000 1010..1020:2020000
+80 68 none 1010..1020:2020000
+80 69 none 1010..1020:2020000
+80 70 none 1010..1020:2020000
+80 71 BadEncodingIndex 1010..1020:2020000
+80 72 1000..1090:1000000 1000..1090:1000000
+80 73 1000..9010:1000000 1000..9010:1000000
+80 74 1000..801010:1000000 1000..801010:1000000
+80 75 1000..1010:1000000 BadEncodingIndex
+80 76 1000..1010:1000000 1010..1020:2020080
+80 77 1000..1010:1000000 1010..1020:2028000
+80 78 1000..1010:1000000 1010..1020:2820000
+80 79 1000..1010:1000000 1010..1020:82020000
+ff 0 1000..1010:1000000 1010..1020:2020000
+ff 1 1000..1010:1000000 1010..1020:2020000
+ff 2 1000..1010:1000000 1010..1020:2020000
+ff 3 1000..1010:1000000 1010..1020:2020000
+ff 4 Truncated 1010..1020:2020000
+ff 5 Truncated 1010..1020:2020000
+ff 6 Truncated 1010..1020:2020000
+ff 7 Truncated 1010..1020:2020000
+ff 8 1000..1010:1000000 1010..1020:1000
+ff 9 1000..1010:1000000 1010..1020:1000
+ff 10 1000..1010:1000000 1010..1020:1000
+ff 11 1000..1010:1000000 1010..1020:1000
+ff 12 1000..1010:1000000 1010..1020:2020000
+ff 13 1000..1010:1000000 1010..1020:2020000
+ff 14 1000..1010:1000000 1010..1020:2020000
+ff 15 1000..1010:1000000 1010..1020:2020000
+ff 16 1000..1010:1000000 1010..1020:2020000
+ff 17 1000..1010:1000000 1010..1020:2020000
+ff 18 1000..1010:1000000 1010..1020:2020000
+ff 19 1000..1010:1000000 1010..1020:2020000
+ff 20 Truncated Truncated
+ff 21 Truncated Truncated
+ff 22 Truncated Truncated
+ff 23 Truncated Truncated
+ff 24 Truncated Truncated
+ff 25 Truncated Truncated
+ff 26 Truncated Truncated
+ff 27 Truncated Truncated
+ff 28 1000..1010:10000ff 1010..1020:2020000
+ff 29 1000..1010:100ff00 1010..1020:2020000
+ff 30 1000..1010:1ff0000 1010..1020:2020000
+ff 31 1000..1010:fe000000 1010..1020:2020000
+ff 32 none none
+ff 33 none none
+ff 34 none none
+ff 35 none none
+ff 36 Truncated Truncated
+ff 37 Truncated Truncated
+ff 38 Truncated Truncated
+ff 39 Truncated Truncated
+ff 40 1000..1010:1000000 1010..1020:2020000
+ff 41 1000..1010:1000000 1010..1020:2020000
+ff 42 1000..1010:1000000 1010..1020:2020000
+ff 43 1000..1010:1000000 1010..1020:2020000
+ff 44 1000..1010:1000000 1010..10df:2020000
+ff 45 1000..1010:1000000 1010..ef20:2020000
+ff 46 1000..1010:1000000 1010..ff1020:2020000
+ff 47 1000..1010:1000000 1010..ff001020:2020000
+ff 48 1000..1010:1000000 1010..1020:2020000
+ff 49 1000..1010:1000000 1010..1020:2020000
+ff 50 1000..1010:1000000 1010..1020:2020000
+ff 51 1000..1010:1000000 1010..1020:2020000
+ff 52 1000..1010:1000000 1010..1020:2020000
+ff 53 1000..1010:1000000 1010..1020:2020000
+ff 54 1000..1010:1000000 1010..1020:2020000
+ff 55 1000..1010:1000000 1010..1020:2020000
+ff 56 BadPageKind(252) BadPageKind(252)
+ff 57 BadPageKind(65283) BadPageKind(65283)
+ff 58 BadPageKind(16711683) BadPageKind(16711683)
+ff 59 BadPageKind(4278190083) BadPageKind(4278190083)
+ff 60 Truncated Truncated
+ff 61 Truncated Truncated
+ff 62 Truncated Truncated
+ff 63 Truncated Truncated
+ff 64 1000..1010:1000000 Truncated
+ff 65 1000..1010:1000000 Truncated
+ff 66 1000..1010:1000000 1010..1020:2020000
+ff 67 1000..1010:1000000 1010..1020:2020000
+ff 68 none 1010..1020:2020000
+ff 69 none 1010..1020:2020000
+ff 70 none 1010..1020:2020000
+ff 71 BadEncodingIndex 1010..1020:2020000
+ff 72 1000..10ef:1000000 1000..10ef:1000000
+ff 73 1000..10f10:1000000 1000..10f10:1000000
+ff 74 1000..ff1010:1000000 1000..ff1010:1000000
+ff 75 1000..1010:1000000 BadEncodingIndex
+ff 76 1000..1010:1000000 1010..1020:20200ff
+ff 77 1000..1010:1000000 1010..1020:202ff00
+ff 78 1000..1010:1000000 1010..1020:2fd0000
+ff 79 1000..1010:1000000 1010..1020:fd020000
+";

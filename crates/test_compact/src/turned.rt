@@ -1,62 +1,67 @@
 //! A small table of which each byte is turned.
 
-use crate::tables::{Found, SMALL, TURNED_01, TURNED_80, TURNED_FF};
+use crate::tables::{SMALL, TURNED};
 use framehop_compact_tables::{UnwindInfo, is_increasing};
+use std::alloc::{AllocError, Global};
 use std::process::Abort;
 use std::test::Fail;
 
-/// The table with some bits of a byte turned.
-fn turned(at: usize, bits: u8) -> [u8; 80] {
+/// What a lookup finds, as text.
+fn found_in(
+    alloc: Global,
+    unwind_info: UnwindInfo<'_>,
+    address: u32,
+) -> Result<String, AllocError> {
+    let text = match unwind_info.lookup(address) {
+        Ok(Some(function)) => {
+            let (start, end) = (function.start_address, function.end_address);
+            format!(in alloc; "{start:x}..{end:x}:{:x}", function.opcode)?
+        }
+        Ok(None) => format!(in alloc; "none")?,
+        Err(error) => format!(in alloc; "{error:?}")?,
+    };
+    Ok(text)
+}
+
+/// Asserts what a lookup finds, and also by halving, if the table increases.
+fn assert_found(
+    rt: &impl Abort,
+    alloc: Global,
+    table: &[u8],
+    (address, wanted): (u32, &str),
+) -> Result<(), Fail> {
+    let found = found_in(alloc, UnwindInfo::new(table), address)?;
+    assert!(rt; found.as_str() == wanted, "{table:?}");
+    if is_increasing(table) {
+        let found = found_in(alloc, UnwindInfo::new_increasing(table), address)?;
+        assert!(rt; found.as_str() == wanted, "{table:?}");
+    }
+    Ok(())
+}
+
+/// Asserts what lookups find by a line of the table.
+fn assert_turned(rt: &impl Abort, alloc: Global, line: &str) -> Result<(), Fail> {
+    let mut words = line.split_whitespace();
+    let bits = u8::from_str_radix(words.next().expect(rt, "bits"), 16)?;
+    let at: usize = words.next().expect(rt, "an index").parse()?;
     let mut table = SMALL;
-    if at < table.len() {
-        table[at] ^= bits;
+    if let Some(byte) = table.get_mut(at) {
+        *byte ^= bits;
     }
-    table
-}
-
-/// What a lookup finds, by its parts.
-fn parts_of(unwind_info: UnwindInfo<'_>, address: u32) -> Found {
-    let found = unwind_info.lookup(address)?;
-    Ok(found.map(|function| (
-        function.start_address,
-        function.end_address,
-        function.opcode,
-    )))
-}
-
-/// The same by halving, if the table increases.
-fn by_halving(table: &[u8], address: u32) -> Option<Found> {
-    if !is_increasing(table) {
-        return None;
-    }
-    Some(parts_of(UnwindInfo::new_increasing(table), address))
-}
-
-/// Asserts what a lookup finds, in either way.
-fn assert_found(rt: &impl Abort, table: &[u8], address: u32, expected: Found) {
-    assert!(rt;
-        parts_of(UnwindInfo::new(table), address) == expected,
-        "{table:?}"
-    );
-    if let Some(found) = by_halving(table, address) {
-        assert!(rt; found == expected, "{table:?}");
-    }
-}
-
-/// Asserts what lookups find in the table with some bits of each byte turned.
-fn assert_turned(rt: &impl Abort, bits: u8, expected: &[(Found, Found)]) {
-    for (at, (first, second)) in expected.iter().enumerate() {
-        let table = turned(at, bits);
-        assert_found(rt, &table, 0x1005, *first);
-        assert_found(rt, &table, 0x1015, *second);
-    }
+    let first = words.next().expect(rt, "what is found");
+    assert_found(rt, alloc, &table, (0x1005, first))?;
+    let second = words.next().expect(rt, "what is found");
+    assert_found(rt, alloc, &table, (0x1015, second))
 }
 
 #[test]
 fn turned_bytes_are_read_as_the_header_says(rt: HostRuntime) -> Result<(), Fail> {
     assert!(rt; is_increasing(&SMALL));
-    assert_turned(&rt, 0x01, &TURNED_01);
-    assert_turned(&rt, 0x80, &TURNED_80);
-    assert_turned(&rt, 0xff, &TURNED_FF);
+    let mut count = 0u32;
+    for line in TURNED.lines() {
+        assert_turned(&rt, rt.alloc(), line)?;
+        count = count.wrapping_add(1);
+    }
+    assert!(rt; count == 240);
     Ok(())
 }
