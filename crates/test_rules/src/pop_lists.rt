@@ -5,7 +5,6 @@ use framehop_rules::x86_64::{
 };
 use framehop_rules::{Error, UnwindRule};
 use std::alloc::{AllocError, Global};
-use std::process::Abort;
 use std::test::Fail;
 
 const LAST: u64 = u64::MAX - 7;
@@ -76,20 +75,26 @@ fn numbered(alloc: Global, length: usize, lists: u32) -> Result<u32, AllocError>
     Ok(count)
 }
 
-/// Every list has a number of its own among those of its length, which gives the list back.
+/// How many lists there are of each length.
+static LISTS: [u32; 9] = [1, 8, 56, 336, 1680, 6720, 20160, 40320, 40320];
+
+/// How many lists there are, if each has a number of its own among those of its length, which
+/// gives the list back.
+fn numbered_of_all_lengths(alloc: Global) -> Result<Option<u32>, AllocError> {
+    let mut all = 0u32;
+    for (length, &lists) in LISTS.iter().enumerate() {
+        if numbered(alloc, length, lists)? != lists {
+            return Ok(None);
+        }
+        all = all.wrapping_add(lists);
+    }
+    Ok(Some(all))
+}
+
 #[test]
 fn numbers_every_list(rt: HostRuntime) -> Result<(), Fail> {
-    let mut lists = 0u32;
-    let mut of_length = 1u32;
-    for length in 0..9u32 {
-        assert!(rt;
-            numbered(rt.alloc(), length as usize, of_length)? == of_length,
-            "of {length}"
-        );
-        lists = lists.wrapping_add(of_length);
-        of_length = of_length.wrapping_mul(8u32.wrapping_sub(length));
-    }
-    assert!(rt; lists == 109601);
+    let numbered = numbered_of_all_lengths(rt.alloc())?;
+    assert!(rt; numbered == Some(109601));
     Ok(())
 }
 
@@ -167,24 +172,39 @@ fn full_registers(sp: u64) -> UnwindRegsX86_64 {
     regs
 }
 
-/// One step over the worked stack, or over one whose words are all 1: its result and the registers
-/// after it.
-fn assert_pops(
-    rt: &impl Abort,
+/// What a step gives, and the registers after it.
+type Popped = (Result<Option<u64>, Error>, UnwindRegsX86_64);
+
+/// A word of a stack whose words are all 1.
+fn one_at(_address: u64) -> Result<u64, ()> {
+    Ok(1)
+}
+
+/// One step over a stack. By a rule that isn't valid there is none.
+fn pop<F: FnMut(u64) -> Result<u64, ()>>(
     rule: UnwindRuleX86_64,
     sp: u64,
-    is_all_ones: bool,
-    answer: Result<Option<u64>, Error>,
-    after: UnwindRegsX86_64,
-) {
+    read_stack: &mut F,
+) -> Option<Popped>
+    requires { F.IsAlwaysCallable read_stack.old }
+{
+    if !rule.is_valid() {
+        return None;
+    }
     let mut regs = full_registers(sp);
-    let mut read_stack = |address: u64| if is_all_ones { Ok(1) } else { word_at(address) };
-    assert!(rt; rule.is_valid(), "{rule:?}");
-    let given = rule.exec(true, &mut regs, &mut read_stack);
-    assert!(rt;
-        given == answer && regs == after,
-        "{rule:?} at {sp:x} gives {given:?} and leaves {regs:?}"
-    );
+    let given = rule.exec(true, &mut regs, read_stack);
+    Some((given, regs))
+}
+
+/// One step over the worked stack, or over one whose words are all 1.
+fn pop_from(rule: UnwindRuleX86_64, sp: u64, is_all_ones: bool) -> Option<Popped> {
+    if is_all_ones {
+        let mut read_stack = one_at;
+        pop(rule, sp, &mut read_stack)
+    } else {
+        let mut read_stack = word_at;
+        pop(rule, sp, &mut read_stack)
+    }
 }
 
 static POPPED: [(UnwindRuleX86_64, u64, &[(Reg, u64)], u64, u64); 4] = [
@@ -215,7 +235,11 @@ fn pops_registers(rt: HostRuntime) {
         for &(reg, value) in values {
             after.set(reg, value);
         }
-        assert_pops(&rt, rule, sp, false, Ok(Some(return_address)), after);
+        let popped = pop_from(rule, sp, false);
+        assert!(rt;
+            popped == Some((Ok(Some(return_address)), after)),
+            "{rule:?} at {sp:x}"
+        );
     }
 }
 
@@ -259,7 +283,11 @@ static KEPT: [(UnwindRuleX86_64, u64, bool, Result<Option<u64>, Error>); 8] = [
 #[test]
 fn keeps_registers_that_it_popped(rt: HostRuntime) {
     for &(rule, sp, is_all_ones, answer) in &KEPT {
-        assert_pops(&rt, rule, sp, is_all_ones, answer, full_registers(sp));
+        let popped = pop_from(rule, sp, is_all_ones);
+        assert!(rt;
+            popped == Some((answer, full_registers(sp))),
+            "{rule:?} at {sp:x}"
+        );
     }
 }
 
