@@ -7,8 +7,8 @@ the sources and definitions of these crates and of all below them, and of the sc
 other files; the tables `counts`, numbers by their names, of which `shown` are those that documents have if not all, and `tools`,
 versions. Figures by crate are in `[crates]`, and tables of a bench or of causes in `[[tables]]`.
 
-A record is stale if its hash isn't that of the files; one with a hash for each crate if one of these isn't, or if another crate has wrong
-edits. A command that ends with `[NAME..]` is that of runs with any names.
+A record is stale if its hash isn't that of the files; one with a hash for each crate if one of these isn't, or if a crate lacks its row: the
+gate's has one for each crate, that of wrong edits for each that has some. A command that ends with `[NAME..]` is that of runs with any names.
 """
 
 import builtins
@@ -73,12 +73,18 @@ class Record:
     def is_stale(self):
         """Whether what the record rests on has changed since the run."""
         if any("hash" in row for row in self.crates.values()):
-            with_edits = {path.parent.name for path in TOP.glob("crates/*/wrong")}
-            return with_edits != set(self.crates) or any(row["hash"] != edits_hash(name) for name, row in self.crates.items())
+            wanted, hash_of_crate = self.rows_by()
+            return wanted != set(self.crates) or any(row.get("hash") != hash_of_crate(name) for name, row in self.crates.items())
         try:
             return not self.hash or self.hash != hash_of(self.inputs, self.script)
         except (KeyError, OSError):
             return True
+
+    def rows_by(self):
+        """The crates of which a record by crate has a row, and what gives the hash of each."""
+        if self.name == "gate":
+            return set(below()), gate_hash
+        return {path.parent.name for path in TOP.glob("crates/*/wrong")}, edits_hash
 
     def text(self):
         """The text of the record's file."""
@@ -190,6 +196,14 @@ def edits_hash(name):
     """The hash of a crate's own sources and definitions, and of its wrong edits; None if there is no such crate."""
     edits = sorted((TOP / "crates" / name / "wrong").glob("*.edit"))
     return digest_of([*sources_of(name), *edits])[:16] if name in below() else None
+
+
+@functools.cache
+def gate_hash(name):
+    """The hash of a crate's own files that the gate reads; None if there is no such crate."""
+    folder = TOP / "crates" / name
+    files = [path for path in folder.rglob("*") if path.is_file() and path.relative_to(folder).parts[0] not in ("out", "wrong", "README.md")]
+    return digest_of(sorted(files))[:16] if name in below() else None
 
 
 def hash_of(names, script=None):

@@ -238,7 +238,10 @@ def gate_sums():
     lines = record.counts["lines"]
     rows += [[text, number_text(record.counts[name]), thousand(record.counts[name], lines)] for name, text in names.items()]
     clock, processors = number_text(record.counts["minutes by the clock"]), record.counts["processors"]
-    return "\n" + figures.markdown_table(rows) + f"\n\n{lines:,} lines; {clock} minutes by the clock on {processors} processors.\n" + run_of(record)
+    commits = len({row.get("commit", record.commit) for row in record.crates.values()})
+    text = f"{lines:,} lines. The last run of all crates took {clock} minutes by the clock on {processors} processors."
+    text += f" Rows were measured at {commits} commits." if commits > 1 else ""
+    return "\n" + figures.markdown_table(rows) + "\n\n" + wrapped(text) + run_of(record)
 
 
 def gate_crates():
