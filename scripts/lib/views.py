@@ -22,6 +22,8 @@ FIGURE = re.compile(r"(?<![\w.,])\d{1,3}(?:,\d{3})+(?![\w,])")
 CODE_AND_MARKERS = re.compile(
     r"^```.*?^```|<!-- ([\w -]+): begin -->.*?<!-- \1: end -->|<!-- count: .+? -->.*?<!-- end -->|`[^`\n]+`|^(?: {4}|\t)[^\n]*", re.M | re.S)
 WIDTH = 130
+# Crates that take fewer minutes of the gate are in one row.
+FEW_MINUTES = 2
 # A table with more rows than this has those with smaller numbers in one.
 LONG_TABLE, SMALL = 12, 100
 OTHER_CRATES = ("test_", "cases_", "bench_", "example_")
@@ -245,12 +247,16 @@ def gate_sums():
 
 
 def gate_crates():
-    """The gate's minutes by crate."""
+    """The gate's minutes by crate; those that take little are in one row."""
     record = records.named("gate")
+    known = {name: row for name, row in record.crates.items() if name in crates()}
+    spent = {name: [row.get(kind, 0) for kind in ("proof", "tests", "edits")] for name, row in known.items()}
+    small = [name for name in known if sum(spent[name]) < FEW_MINUTES]
+    shown = [(f"`{name}`", known[name]["lines"], spent[name]) for name in known if name not in small]
+    shown.append((f"{len(small)} others", sum(known[name]["lines"] for name in small), [sum(it) for it in zip(*(spent[name] for name in small))]))
     rows = [["Crate", "Lines", "Proof", "Tests", "Edits", "A thousand lines"]]
-    for name, row in ((name, row) for name, row in record.crates.items() if name in crates()):
-        spent = [f"{row[kind]:.1f}" if row.get(kind) else "–" for kind in ("proof", "tests", "edits")]
-        rows.append([f"`{name}`", f"{row['lines']:,}", *spent, thousand(row["proof"] + row.get("tests", 0), row["lines"])])
+    for name, lines, (proof, tests, edits) in shown:
+        rows.append([name, f"{lines:,}", *(f"{it:.1f}" if it else "–" for it in (proof, tests, edits)), thousand(proof + tests, lines)])
     return "\n" + figures.markdown_table(rows) + "\n"
 
 
