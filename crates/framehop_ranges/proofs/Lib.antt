@@ -1,3 +1,3 @@
 pub mod BlockLaws
-pub mod Halving
+pub mod PartLaws
 pub mod RangeLaws

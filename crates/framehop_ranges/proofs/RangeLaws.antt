@@ -9,7 +9,7 @@ use Rattle.list_laws.proofs.Laws.{by_case}
 use Rattle.framehop_ranges.specs.declared.entry.RangeEntry.{RangeEntry}
 use Rattle.framehop_ranges.specs.declared.ranges.Ranges.{Ranges}
 use Rattle.framehop_ranges.specs.RangeValues.{value_from, value_in, last_or}
-use Rattle.framehop_ranges.specs.Ranges.{AreSame, Sound, Extends}
+use Rattle.framehop_ranges.specs.Ranges.{Sound, Extends}
 use Rattle.framehop_ranges.specs.Rises.{Rises}
 
 module _ {V : Type 0} where

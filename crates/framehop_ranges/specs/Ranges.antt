@@ -2,17 +2,25 @@
 use Rattle.std.specs.Prelude.{◌≡◌, ◌<◌, ◌≤◌, ◌+◌, ℕ, length, max}
 use Rattle.std.specs.List.{All}
 use Rattle.framehop_ranges.specs.declared.ranges.Ranges.{Ranges}
-use Rattle.framehop_ranges.specs.RangeValues.{value_in}
+use Rattle.framehop_ranges.specs.RangeValues.{last_or, value_in}
 use Rattle.framehop_ranges.specs.Rises.{Rises}
 
 -- the value at an address
 abbrev pub range_at : {V : Type 0} → Ranges V → ℕ → V
 range_at ranges address = value_in ranges.before ranges.entries.items address
 
+-- the value at their end
+abbrev pub end_value : {V : Type 0} → Ranges V → V
+end_value ranges = last_or ranges.before ranges.entries.items
+
 -- the ranges rise, and start below the end of the last
 pub record Sound {V : Type 0} (ranges : Ranges V) : Type 0 where
   pub rises : Rises ranges.entries.items
   pub below : All (λ entry. entry.start < ranges.done) ranges.entries.items
+
+-- no range has been added
+abbrev pub AddsNone : {V : Type 0} → (old ranges : Ranges V) → Type 0
+AddsNone old ranges = ranges.entries.items ≡ old.entries.items
 
 -- nothing has changed
 pub record AreSame {V : Type 0} (old ranges : Ranges V) : Type 0 where

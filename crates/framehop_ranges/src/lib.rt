@@ -4,7 +4,6 @@
 
 mod blocks;
 mod entry;
-mod halves;
 mod range_table;
 mod ranges;
 mod same;

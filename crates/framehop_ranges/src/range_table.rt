@@ -7,9 +7,9 @@ ghost use Rattle.framehop_ranges.specs.Rises.{Rises};
 
 use crate::blocks::{block_of, blocks_of};
 use crate::entry::RangeEntry;
-use crate::halves::{Part, halve};
 use crate::ranges::Ranges;
 use crate::same::SameValue;
+use sorted_starts::halve_items;
 use std::alloc::{AllocError, Global};
 
 /// What a look-up found.
@@ -34,6 +34,13 @@ pub struct RangeTable<V> {
     ghost counted: { AreBlocksOf (2 ^ shift) entries.items blocks.items },
 }
 
+// Some of a table's entries: from one place up to another.
+#[derive(Clone, Copy)]
+struct Part {
+    first: usize,
+    end: usize,
+}
+
 // By how many bits an address is shifted for its block: so many that there are no more blocks up to the last start than
 // a quarter of the entries, and one.
 fn shift_for<V: Copy>(entries: &[RangeEntry<V>]) -> u32
@@ -51,7 +58,7 @@ fn shift_for<V: Copy>(entries: &[RangeEntry<V>]) -> u32
 }
 
 impl<V: SameValue> RangeTable<V> {
-    ghost use Rattle.framehop_ranges.specs.RangeTables.{range_count, value_at};
+    ghost use Rattle.framehop_ranges.specs.RangeTables.{near_count, range_count, value_at};
     ghost use Rattle.framehop_ranges.specs.Ranges.{Sound, range_at};
 
     /// The table of some ranges; from their end on their last value goes on. Fails if memory is refused.
@@ -94,6 +101,7 @@ impl<V: SameValue> RangeTable<V> {
     fn part(&self, address: u32) -> Part
         ensures part { IsPart self.now.entries.items address result.first result.end }
         ensures few { result.end - result.first ≤ 2 ^ self.now.shift }
+        ensures near { result.end - result.first ≡ near_count self.now address }
     {
         let block = block_of(address, self.shift);
         let first = self.starts_below(block);
@@ -116,15 +124,17 @@ impl<V: SameValue> RangeTable<V> {
     }
 
     /// The value at an address. Of n starts it reads at most ceil(log2(n)) + 1, and at most `shift + 1`, however many
-    /// there are.
+    /// there are; of the m in the address's block at least floor(log2(m + 1)).
     pub fn look_up(&self, address: u32) -> RangeLookup<V>
         ensures value { result.value ≡ value_at self.now address }
         ensures few { (k : ℕ) → range_count self.now ≤ 2 ^ k → result.starts_read ≤ suc k }
         ensures near { result.starts_read ≤ suc self.now.shift }
+        ensures enough { (k : ℕ) → 2 ^ k ≤ suc (near_count self.now address) → k ≤ result.starts_read }
     {
-        let halved = halve(&self.entries, self.part(address), address);
+        let Part { first, end } = self.part(address);
+        let halved = halve_items(&self.entries[first..end], address);
         RangeLookup {
-            value: self.value_of(halved.at_or_below, address),
+            value: self.value_of(first + halved.at_or_below, address),
             starts_read: halved.reads,
         }
     }

@@ -2,7 +2,7 @@
 
 ghost use Rattle.std.specs.Prelude.{◌≡◌, ◌≤◌, ◌^◌, ℕ, IfOk, OnErr, length};
 ghost use Rattle.framehop_ranges.specs.RangeValues.{last_or};
-ghost use Rattle.framehop_ranges.specs.Ranges.{AreSame, Sound, Extends, range_at};
+ghost use Rattle.framehop_ranges.specs.Ranges.{AddsNone, AreSame, Sound, Extends, end_value, range_at};
 
 use crate::entry::RangeEntry;
 use crate::same::SameValue;
@@ -53,12 +53,14 @@ impl<V: SameValue> Ranges<V> {
     }
 
     /// Gives the addresses up to an end a value, from where the ranges are done; nothing changes if they are
-    /// done beyond it, or if memory is refused.
+    /// done beyond it, or if memory is refused. No range is added if the last value goes on.
     #[inline(always)]
     pub fn extend(&mut self, end: u64, value: V) -> Result<(), AllocError>
         requires sound { Sound self.old }
         requires fits { end ≤ 2 ^ 32 }
         ensures extends { IfOk result (λ _. Extends self.old end value self.new) }
+        ensures goes_on { IfOk result (λ _. end_value self.old ≡ value → AddsNone self.old self.new) }
+        ensures passed { IfOk result (λ _. end ≤ self.old.done → AddsNone self.old self.new) }
         ensures refused { OnErr result (AreSame self.old self.new) }
     {
         if end <= self.done {
