@@ -1,28 +1,9 @@
 -- The last row that starts at or below an address, by a pass from the end and by halving.
-use Rattle.std.proofs.Common.{◌≡◌, ℕ, zero, suc, ◌+◌, ◌-◌, ◌*◌, ◌/◌, ◌^◌, ◌<◌, ◌≤◌, Bool, true, false, if◌then◌else◌, refl, sym, ◌∙◌, arith}
+use Rattle.std.proofs.Common.{◌≡◌, ℕ, zero, suc, ◌+◌, ◌^◌, ◌<◌, ◌≤◌, true, false, refl, sym, ◌∙◌, arith}
 use Rattle.std.specs.Prelude.{nat_le, nat_lt, Option, Some, None, IfSome}
 use Rattle.std.proofs.lemmas.Bool.Decides.{nat_tests}
-use Rattle.std.proofs.Math.Nat.{two-pow-succ, sub-zero}
-use Rattle.framehop_compact_tables.specs.Rows.{last_row, Increases, IsLastRow}
-
--- of at most 2^k rows, where so many are left, at most k were read, and each read halved what was left
-abbrev pub AtMostHalved : ℕ → ℕ → ℕ → Type 0
-AtMostHalved all reads left = (k : ℕ) → all ≤ 2 ^ k → (reads ≤ k) × (left ≤ 2 ^ (k - reads))
-
-pub none-read : (all reads : ℕ) → reads ≡ 0 → AtMostHalved all reads all
-none-read all reads none k h = rw none (omega arith, rw (sub-zero k) h)
-
--- one read more leaves half at most
-pub at-most-half : (all reads next left : ℕ) → 1 < left → next ≡ reads + 1 → AtMostHalved all reads left → AtMostHalved all next (left - left / 2)
-at-most-half all reads next left some one before k h = let (few, below) = before k h in by (k - reads) refl few below
-  where
-    by : (j : ℕ) → k - reads ≡ j → reads ≤ k → left ≤ 2 ^ j → (next ≤ k) × (left - left / 2 ≤ 2 ^ (k - next))
-    by zero e few below = absurd (omega arith)
-    by (suc j) e few below =
-        let after : k - next ≡ j = omega arith in
-        let double : left ≤ 2 ^ j + 2 ^ j = rw (← two-pow-succ j) below in
-        let within : left - left / 2 ≤ 2 ^ j = omega arith in
-        (omega arith, rw after within)
+use Rattle.framehop_compact_tables.specs.Rows.{AreFewMore, IsLastRow, last_row}
+use Rattle.sorted_starts.specs.Starts.{Parts}
 
 -- the last of a row more
 pub last-here : (rows left : ℕ) (start : ℕ → ℕ) (address : ℕ) → rows ≡ left + 1 → start left ≤ address → last_row rows start address ≡ Some left
@@ -86,81 +67,21 @@ found-last (suc rows) row start address found = elim (nat_le (start rows) addres
 
 -- ---- halving
 
-starts-from : (rows : ℕ) (start : ℕ → ℕ) → Increases rows start → (d i : ℕ) → i + d < rows → start i ≤ start (i + d)
-starts-from rows start up zero i within = let same : i + 0 ≡ i = omega arith in rw same (omega arith)
-starts-from rows start up (suc d) i within =
-    let one : i + suc d ≡ i + 1 + d = omega arith in
-    let step = up i (omega arith) in
-    let more = starts-from rows start up d (i + 1) (omega arith) in
-    rw one (omega arith)
-
-starts-up : (rows : ℕ) (start : ℕ → ℕ) → Increases rows start → (i j : ℕ) → i ≤ j → j < rows → start i ≤ start j
-starts-up rows start up i j low high =
-    let there : i + (j - i) ≡ j = omega arith in
-    let more = starts-from rows start up (j - i) i (omega arith) in
-    rw there at more
-
--- what is known where so many rows from this one on are left: the one that is sought, if there is one, is among them
-pub record IsLeft (rows : ℕ) (start : ℕ → ℕ) (address low len : ℕ) : Type 0 where
-  pub some : 0 < len
-  pub within : low + len ≤ rows
-  pub reached : 0 < low → start low ≤ address
-  pub after : (row : ℕ) → low + len ≤ row → row < rows → address < start row
-
-pub all-left : (rows : ℕ) (start : ℕ → ℕ) (address count : ℕ) → count ≡ rows → 0 < count → IsLeft rows start address 0 count
-all-left rows start address count all some = record {
-  some = some;
-  within = omega arith;
-  reached = λ never. absurd (omega arith);
-  after = λ row past inside. absurd (omega arith);
-}
-
-pub half-left : (rows : ℕ) (start : ℕ → ℕ) (address low len next : ℕ) → Increases rows start → 1 < len → IsLeft rows start address low len
-    → next ≡ low + len / 2 * (if nat_le (start (low + len / 2)) address then 1 else 0) → IsLeft rows start address next (len - len / 2)
-half-left rows start address low len next up more left is = by (nat_le (start (low + len / 2)) address) refl is
-  where
-    by : (b : Bool) → nat_le (start (low + len / 2)) address ≡ b → next ≡ low + len / 2 * (if b then 1 else 0) → IsLeft rows start address next (len - len / 2)
-    by true reached at = let there : next ≡ low + len / 2 = omega arith in rw there (record {
-      some = omega arith;
-      within = omega (arith, left.within);
-      reached = λ above. grind (arith, nat_tests);
-      after = λ row past inside. left.after row (omega arith) inside;
-    })
-    by false missed at = let there : next ≡ low = omega arith in rw there (record {
-      some = omega arith;
-      within = omega (arith, left.within);
-      reached = left.reached;
-      after = λ row past inside.
-          let step = starts-up rows start up (low + len / 2) row (omega arith) inside in
-          let high : address < start (low + len / 2) = grind (arith, nat_tests) in
-          omega arith;
-    })
-
--- the one that is left is the last, if it starts at or below the address; else there is none
-pub left-found : (rows : ℕ) (start : ℕ → ℕ) (address low len : ℕ) → len ≤ 1 → IsLeft rows start address low len → start low ≤ address
-    → Some low ≡ last_row rows start address
-left-found rows start address low len one left reached = sym (last-found rows low start address (record {
-  within = omega (arith, left.some, left.within);
-  reached = reached;
-  after = λ row past inside. left.after row (omega (arith, left.some)) inside;
+-- what is parted by an address has its last row before the part above
+pub parted-last : (rows : ℕ) (start : ℕ → ℕ) (address parted row : ℕ) → parted ≡ row + 1 → Parts rows start address parted → Some row ≡ last_row rows start address
+parted-last rows start address parted row one parts = sym (last-found rows row start address (record {
+  within = omega (arith, parts.bound);
+  reached = parts.below row (omega arith);
+  after = λ next past inside. parts.above next (omega arith) inside;
 }))
 
-pub left-missed : (rows : ℕ) (start : ℕ → ℕ) (address low len : ℕ) → len ≤ 1 → IsLeft rows start address low len → address < start low
-    → None ≡ last_row rows start address
-left-missed rows start address low len one left missed = sym (last-missed rows start address (λ row inside.
-    elim (nat_lt row 1) as (λ b. nat_lt row 1 ≡ b → address < start row) [
-      | true ↦ λ first.
-          let zeroth : row ≡ 0 = grind (arith, nat_tests) in
-          let lowest : low ≡ 0 = at-start (nat_lt 0 low) refl in
-          rw (zeroth, ← lowest) missed
-      | false ↦ λ later. let lowest : low ≡ 0 = at-start (nat_lt 0 low) refl in
-          let past : 1 ≤ row = grind (arith, nat_tests) in
-          left.after row (omega (arith, left.some)) inside
-    ] refl))
-  where
-    at-start : (b : Bool) → nat_lt 0 low ≡ b → low ≡ 0
-    at-start true above = let reached = left.reached (grind (arith, nat_tests)) in absurd (omega arith)
-    at-start false not = grind (arith, nat_tests)
+pub parted-none : (rows : ℕ) (start : ℕ → ℕ) (address parted : ℕ) → parted ≡ 0 → Parts rows start address parted → None ≡ last_row rows start address
+parted-none rows start address parted none parts = sym (last-missed rows start address (λ row inside. parts.above row (omega arith) inside))
+
+-- at most ceil(log2(n)) + 1 steps of n rows, and none of none
+pub few-more : (rows before after : ℕ) → ((k : ℕ) → rows ≤ 2 ^ k → after ≤ before + (k + 1)) → (rows ≡ 0 → after ≡ before) → AreFewMore rows before after
+few-more zero before after few none k h = let same = none refl in omega arith
+few-more (suc rows) before after few none k h = few k h
 
 pub found-if-some : (rows : ℕ) (start : ℕ → ℕ) (address : ℕ) (found : Option ℕ) → found ≡ last_row rows start address → IfSome found (λ row. IsLastRow rows start address row)
 found-if-some rows start address None is = tt

@@ -1,6 +1,6 @@
 -- How many steps a lookup in the tables of `__unwind_info` takes.
 use Rattle.std.specs.Prelude.{ℕ, ◌+◌, ◌^◌, ◌≤◌, ◌==◌, IsTrue, if◌then◌else◌, List, Option, Some, None, Ok, Err}
-use Rattle.framehop_compact_tables.specs.Rows.{last_row}
+use Rattle.framehop_compact_tables.specs.Rows.{last_row, most_steps}
 use Rattle.framehop_compact_tables.specs.Index.{index_count, index_start}
 use Rattle.framehop_compact_tables.specs.Pages.{entry_count}
 use Rattle.framehop_compact_tables.specs.Functions.{page_of}
@@ -19,10 +19,11 @@ rows_by_index bytes (Some row) = if row + 1 == index_count bytes then 0 else row
 abbrev pub page_rows : List ℕ → ℕ → ℕ
 page_rows bytes address = rows_by_index bytes (last_row (index_count bytes) (index_start bytes) address)
 
--- At most ceil(log2(n)) + 1 more steps for each of the two tables that are searched for an address.
+-- At most ceil(log2(n)) + 1 more steps for each table of n rows that is searched for an address: the index, and a page if there is one.
 abbrev pub AreFewForAddress : List ℕ → ℕ → ℕ → ℕ → Type 0
 AreFewForAddress bytes address before after =
-    (k j : ℕ) → index_count bytes ≤ 2 ^ k → page_rows bytes address ≤ 2 ^ j → after ≤ before + (k + 1) + (j + 1)
+    (k j : ℕ) → index_count bytes ≤ 2 ^ k → page_rows bytes address ≤ 2 ^ j
+    → after ≤ before + most_steps (index_count bytes) k + most_steps (page_rows bytes address) j
 
 -- The same, if the tables are known to increase.
 abbrev pub AreFewIfIncreasing : UnwindInfo → ℕ → ℕ → ℕ → Type 0

@@ -16,6 +16,11 @@ pub record IsLastRow (rows : ℕ) (start : ℕ → ℕ) (address row : ℕ) : Ty
 abbrev pub Increases : ℕ → (ℕ → ℕ) → Type 0
 Increases rows start = (row : ℕ) → row + 1 < rows → start row < start (row + 1)
 
--- At most ceil(log2(n)) + 1 more steps for n rows: for a table of at most 2^k rows, at most k + 1.
+-- How many steps a search in so many rows takes at most, of which there are at most 2^k: k + 1, or none if there is no row.
+abbrev pub most_steps : ℕ → ℕ → ℕ
+most_steps zero k = 0
+most_steps (suc rows) k = k + 1
+
+-- At most ceil(log2(n)) + 1 more steps for n rows.
 abbrev pub AreFewMore : ℕ → ℕ → ℕ → Type 0
-AreFewMore rows before after = (k : ℕ) → rows ≤ 2 ^ k → after ≤ before + (k + 1)
+AreFewMore rows before after = (k : ℕ) → rows ≤ 2 ^ k → after ≤ before + most_steps rows k

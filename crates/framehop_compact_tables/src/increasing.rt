@@ -8,8 +8,9 @@ ghost use Rattle.framehop_compact_tables.specs.Increasing.{HasIncreasingPage, Ha
 use crate::index::Index;
 use crate::page::page_at;
 use crate::page_entries::PageEntries;
-use crate::search::{Rows, rows_increase};
+use crate::search::rows_increase;
 use framehop_errors::CompactFormatError;
+use sorted_starts::Starts;
 
 // The entries of the page of an entry of the index.
 #[inline(always)]
@@ -23,7 +24,7 @@ pub(crate) fn page_of<'a>(
     ensures err { IfErr result (λ e. page_of index.now.bytes.now row ≡ Err e) }
 {
     let bytes = index.bytes;
-    let page = page_at(bytes, index.page_offset(row), index.start(row))?;
+    let page = page_at(bytes, index.page_offset(row), index.start_at(row))?;
     let entries = &bytes[page.entries_offset()..];
     let before = &bytes[page.entries_offset().saturating_sub(1)..];
     Ok(PageEntries {
@@ -50,7 +51,7 @@ fn pages_increase(index: &Index<'_>) -> bool
     requires { 0 < index_count index.now.bytes.now }
     ensures { IsTrue result ↔ HaveIncreasingPages index.now.bytes.now }
 {
-    for row in 0..index.row_count() - 1 {
+    for row in 0..index.start_count() - 1 {
         if !has_increasing_page(index, row) {
             return false;
         }

@@ -5,8 +5,8 @@ ghost use Rattle.framehop_compact_tables.specs.Index.{index_offset, index_count,
 ghost use Rattle.framehop_errors.specs.declared.compact_format.CompactFormatError.TheVariants.{Truncated};
 
 use crate::bytes::{is_within, u32_after, u32_at};
-use crate::search::{Rows, count_at_most};
 use framehop_errors::CompactFormatError;
+use sorted_starts::{Starts, count_at_most};
 
 /// The index of the first level (`unwind_info_section_header_index_entry`).
 #[derive(Clone, Copy, Debug)]
@@ -54,16 +54,16 @@ impl<'a> Index<'a> {
     }
 }
 
-impl Rows for Index<'_> {
-    ghost rows = { λ index. index_count index.bytes.now };
+impl Starts for Index<'_> {
+    ghost count = { λ index. index_count index.bytes.now };
 
     ghost start = { λ index. index_start index.bytes.now };
 
-    fn row_count(&self) -> usize {
+    fn start_count(&self) -> usize {
         self.count as usize
     }
 
-    fn start(&self, row: usize) -> u32 {
+    fn start_at(&self, row: usize) -> u32 {
         u32_at(self.bytes, self.offset as usize + 12 * row)
     }
 

@@ -10,9 +10,10 @@ use crate::function::Function;
 use crate::increasing::page_of;
 use crate::index::Index;
 use crate::page_entries::PageEntries;
-use crate::search::{Rows, find_row};
+use crate::search::find_row;
 use dwarf_readers::{Counted, Steps, count_steps};
 use framehop_errors::CompactFormatError;
+use sorted_starts::Starts;
 use std::sync::ledger::Ledger;
 
 /// The bytes of `__unwind_info`.
@@ -33,11 +34,11 @@ fn end_of(index: &Index<'_>, row: usize, entries: &PageEntries<'_>, entry: usize
     requires same_bytes { entries.now.bytes.now ≡ index.now.bytes.now }
     ensures { result ≡ end_of index.now.bytes.now row entries.now.page entry }
 {
-    let count = entries.row_count();
+    let count = entries.start_count();
     if entry + 1 < count {
-        entries.start(entry + 1)
+        entries.start_at(entry + 1)
     } else {
-        index.start(row + 1)
+        index.start_at(row + 1)
     }
 }
 
@@ -56,7 +57,7 @@ fn function_of(
 {
     let opcode = entries.encoding(entry)?;
     Ok(Function {
-        start_address: entries.start(entry),
+        start_address: entries.start_at(entry),
         end_address: end_of(index, row, entries, entry),
         opcode,
     })
@@ -114,7 +115,7 @@ impl<'a> UnwindInfo<'a> {
         let Some(row) = find_row(&index, self.increasing, address, steps) else {
             return Ok(None);
         };
-        if row == index.row_count() - 1 {
+        if row == index.start_count() - 1 {
             return Ok(None);
         }
         let entries = page_of(&index, row)?;

@@ -7,8 +7,8 @@ ghost use Rattle.framehop_compact_tables.specs.Pages.{entries_offset, entry_coun
 
 use crate::bytes::{is_within, u32_after, u32_at, u32_below};
 use crate::page::Page;
-use crate::search::{Rows, count_at_most};
 use framehop_errors::CompactFormatError;
+use sorted_starts::{Starts, count_at_most};
 
 /// The entries of a page.
 #[derive(Clone, Copy, Debug)]
@@ -118,17 +118,17 @@ impl PageEntries<'_> {
     }
 }
 
-impl Rows for PageEntries<'_> {
-    ghost rows = { λ entries. entry_count entries.page };
+impl Starts for PageEntries<'_> {
+    ghost count = { λ entries. entry_count entries.page };
 
     ghost start = { λ entries. entry_start entries.bytes.now entries.page };
 
-    fn row_count(&self) -> usize {
+    fn start_count(&self) -> usize {
         self.page.entry_count()
     }
 
     #[inline(always)]
-    fn start(&self, row: usize) -> u32 {
+    fn start_at(&self, row: usize) -> u32 {
         match self.page {
             Page::Regular { entries_offset, .. } => {
                 u32_at(self.bytes, entries_offset as usize + 8 * row)

@@ -6,6 +6,8 @@ ghost use Rattle.sorted_starts.specs.Halves.{AreLeft};
 ghost use Rattle.sorted_starts.specs.Starts.{AreSorted, Parts};
 
 use crate::starts::{HasStart, Starts};
+use dwarf_readers::Steps;
+use std::sync::ledger::Ledger;
 
 /// What a search found.
 #[derive(Clone, Copy, Debug, PartialEq, Eq)]
@@ -131,6 +133,35 @@ pub fn halve<T: Starts>(starts: &T, limit: u32) -> Halved
         at_or_below: left.low + left.more + passed,
         reads: left.reads + 1,
     }
+}
+
+// Counts so many steps, for which the program does nothing.
+#[inline(always)]
+fn count_steps<L: Ledger>(steps: &mut Steps<L>, count: u32)
+    ensures { steps.new ≡ steps.old + count }
+{
+    for step in 0..count {
+        let _step = step;
+        steps.tick();
+    }
+}
+
+/// As `halve`: how many starts are at or below a limit. It counts a step for each start that it reads.
+#[inline(always)]
+pub fn halve_counted<T: Starts, L: Ledger>(
+    starts: &T,
+    limit: u32,
+    steps: &mut Steps<L>,
+) -> usize
+    requires { AreSorted (T.count starts.now) (T.start starts.now) }
+    ensures parts { Parts (T.count starts.now) (T.start starts.now) limit result }
+    ensures few { (k : ℕ) → T.count starts.now ≤ 2 ^ k → steps.new ≤ steps.old + (k + 1) }
+    ensures enough { (k : ℕ) → 2 ^ k ≤ T.count starts.now + 1 → steps.old + k ≤ steps.new }
+    ensures none { T.count starts.now ≡ 0 → steps.new ≡ steps.old }
+{
+    let halved = halve(starts, limit);
+    count_steps(steps, halved.reads);
+    halved.at_or_below
 }
 
 /// As `halve`, of the starts of a slice's items.

@@ -4,5 +4,5 @@
 mod halves;
 mod starts;
 
-pub use halves::{Halved, halve, halve_items};
+pub use halves::{Halved, halve, halve_counted, halve_items};
 pub use starts::{HasStart, Starts, count_at_most};

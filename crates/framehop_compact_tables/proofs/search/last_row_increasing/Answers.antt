@@ -1,36 +1,20 @@
-use Rattle.std.proofs.Common.{◌≡◌, ◌∙◌, ◌+◌, ◌-◌, ◌*◌, ◌/◌, arith, ap, sym}
-use Rattle.std.specs.Prelude.{nat_le, if◌then◌else◌}
-use Rattle.framehop_compact_tables.proofs.Halving.{at-most-half, last-missed, left-found, left-missed, half-left}
+use Rattle.std.proofs.Common.{◌-◌, arith}
+use Rattle.framehop_compact_tables.proofs.Halving.{few-more, parted-last, parted-none}
 use Rattle.framehop_compact_tables.proofs.search.last_row_increasing.Goals as goal
 
-pub returns-then-count-eq0-clause-row : goal.returns-then-count-eq0-clause-row
-returns-then-count-eq0-clause-row g c =
-    sym (last-missed (g.T.Rows.rows c.args.table.now) (g.T.Rows.start c.args.table.now) c.args.address
-    (λ row within. absurd (omega (arith, c.row_count-count.ensures))))
+pub halve_counted-requires : goal.halve_counted-requires
+halve_counted-requires g c = λ place within. omega (arith, c.requires place within)
 
-pub halves-preserved : goal.halves-preserved
-halves-preserved g c =
-    let known = c.halves.invariant in
-    let start = g.T.Rows.start c.args.table.now in
-    let half = c.halves.len / 2 in
-    let low = c.halves.low + c.halves.more in
-    let passed = c.half_passed-passed.ensures in
-    let row : c.halves.low + half + c.halves.more ≡ low + half = omega arith in
-    let next : low + c.half_passed-passed.result ≡ low + half * (if nat_le (start (low + half)) c.args.address then 1 else 0) =
-    ap (λ n. low + n) (passed.passed ∙ ap (λ row. half * (if nat_le (start row) c.args.address then 1 else 0)) row) in
-    record {
-      left = half-left (g.T.Rows.rows c.args.table.now) start c.args.address low c.halves.len (low + c.half_passed-passed.result)
-          c.requires c.halves-test.true known.left next;
-      counted = omega (arith, known.counted, passed.counted);
-      few = at-most-half _ (c.halves.steps - c.args.steps.now) _ c.halves.len c.halves-test.true (omega (arith, known.counted, passed.counted)) known.few;
-    }
+pub returns-in-0-clause-row : goal.returns-in-0-clause-row
+returns-in-0-clause-row g c =
+    parted-none (g.T.Starts.count c.args.table.now) (g.T.Starts.start c.args.table.now) c.args.address c.halve_counted.result (omega arith) c.halve_counted.ensures.parts
 
-pub returns-then-counted_start-address-clause-row : goal.returns-then-counted_start-address-clause-row
-returns-then-counted_start-address-clause-row g c =
-    left-found (g.T.Rows.rows c.args.table.now) (g.T.Rows.start c.args.table.now) c.args.address (c.halves.low + c.halves.more) c.halves.len (omega arith) c.halves.invariant.left
-    (omega (arith, c.counted_start.ensures.start))
+pub returns-in-0-clause-few : goal.returns-in-0-clause-few
+returns-in-0-clause-few g c = few-more (g.T.Starts.count c.args.table.now) _ _ c.halve_counted.ensures.few c.halve_counted.ensures.none
 
-pub returns-else-counted_start-address-clause-row : goal.returns-else-counted_start-address-clause-row
-returns-else-counted_start-address-clause-row g c =
-    left-missed (g.T.Rows.rows c.args.table.now) (g.T.Rows.start c.args.table.now) c.args.address (c.halves.low + c.halves.more) c.halves.len (omega arith) c.halves.invariant.left
-    (omega (arith, c.counted_start.ensures.start))
+pub returns-in_default-clause-row : goal.returns-in_default-clause-row
+returns-in_default-clause-row g c =
+    parted-last (g.T.Starts.count c.args.table.now) (g.T.Starts.start c.args.table.now) c.args.address c.halve_counted.result (c.halve_counted.result - 1) (omega arith) c.halve_counted.ensures.parts
+
+pub returns-in_default-clause-few : goal.returns-in_default-clause-few
+returns-in_default-clause-few g c = few-more (g.T.Starts.count c.args.table.now) _ _ c.halve_counted.ensures.few c.halve_counted.ensures.none

@@ -3,7 +3,7 @@ use Rattle.std.specs.Prelude.{◌/◌, ◌%◌, nat_le, if◌then◌else◌}
 use Rattle.framehop_compact_tables.specs.Bytes.{capped_sum, u32_at}
 use Rattle.framehop_compact_tables.specs.Pages.{entries_offset, entry_start}
 use Rattle.framehop_compact_tables.proofs.Entries.{u32_at-drop}
-use Rattle.framehop_compact_tables.proofs.page_entries.PageEntriesRows.count_at_or_below.Goals as goal
+use Rattle.framehop_compact_tables.proofs.page_entries.PageEntriesStarts.count_at_or_below.Goals as goal
 
 pub returns-in-Regular : goal.returns-in-Regular
 returns-in-Regular c =

@@ -2,7 +2,7 @@ use Rattle.std.proofs.Common.{◌≡◌, ◌∙◌, ◌+◌, ◌*◌, arith, ap}
 use Rattle.framehop_compact_tables.specs.Bytes.{u32_at}
 use Rattle.framehop_compact_tables.specs.Index.{index_start}
 use Rattle.framehop_compact_tables.proofs.Entries.{u32_at-drop}
-use Rattle.framehop_compact_tables.proofs.index.IndexRows.count_at_or_below.Goals as goal
+use Rattle.framehop_compact_tables.proofs.index.IndexStarts.count_at_or_below.Goals as goal
 
 pub returns : goal.returns
 returns c =
