@@ -9,17 +9,20 @@ use std::test::Fail;
 // Names that no section has.
 static ABSENT: [&[u8]; 4] = [b".none", b".sym", b"symtab", b".symtab\0"];
 
-// A section is as readelf prints it.
-fn is_seen(section: &Section, seen: &SectionSeen) -> bool {
-    section.kind == seen.kind
-        && section.flags == seen.flags
-        && section.address == seen.address
-        && section.offset == seen.offset
-        && section.size == seen.size
-        && section.link == seen.link
-        && section.info == seen.info
-        && section.alignment == seen.alignment
-        && section.entry_size == seen.entry_size
+// A section as readelf prints it, whose name is at this offset.
+fn section_of(seen: &SectionSeen, name_offset: u32) -> Section {
+    Section {
+        name_offset,
+        kind: seen.kind,
+        flags: seen.flags,
+        address: seen.address,
+        offset: seen.offset,
+        size: seen.size,
+        link: seen.link,
+        info: seen.info,
+        alignment: seen.alignment,
+        entry_size: seen.entry_size,
+    }
 }
 
 fn check_sections(rt: &impl Abort, file: &ElfFile<'_>, seen: &FileSeen) -> Result<(), Fail> {
@@ -28,7 +31,10 @@ fn check_sections(rt: &impl Abort, file: &ElfFile<'_>, seen: &FileSeen) -> Resul
         let index = index as u64;
         assert!(rt; index < file.section_count());
         let section = file.section(index)?;
-        assert!(rt; is_seen(&section, expected), "{index}");
+        assert!(rt;
+            section == section_of(expected, section.name_offset),
+            "{index}"
+        );
         assert!(rt; file.section_name(&section)? == expected.name, "{index}");
         assert!(rt;
             file.section_named(expected.name)? == Some(section),
