@@ -150,12 +150,12 @@ fn check(rt: &impl Abort, cache: &mut RuleCache<UnwindRuleX86_64>, look_up: Look
 fn finds_what_was_kept_last(rt: HostRuntime) -> Result<(), Fail> {
     let mut cache = cache_of(rt.alloc())?;
     assert!(rt; cache.stats() == counts!(0, 0, 0, 0));
-    for look_up in LOOK_UPS {
-        check(&rt, &mut cache, look_up);
+    for look_up in &LOOK_UPS {
+        check(&rt, &mut cache, *look_up);
     }
     let mut cache = cache_of(rt.alloc())?;
-    for look_up in AGAIN {
-        check(&rt, &mut cache, look_up);
+    for look_up in &AGAIN {
+        check(&rt, &mut cache, *look_up);
     }
     Ok(())
 }
