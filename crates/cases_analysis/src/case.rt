@@ -1,7 +1,7 @@
 //! What a line of the input asks for.
 
+use crate::detecting::Detecting;
 use anyhow::{Context, Result, bail};
-use framehop_analysis::InstructionAnalysis;
 use framehop_analysis::aarch64::ArchAarch64;
 use framehop_analysis::x86_64::ArchX86_64;
 use std::alloc::Global;
@@ -15,11 +15,15 @@ pub struct Case {
 }
 
 impl Case {
-    /// Reads a line: `x86_64` or `aarch64`, the code in hexadecimal, and offsets, with a space between any two.
+    /// Reads a line: `x86_64` or `aarch64`, the code as [`push_part`] reads each of its parts, which have a `+` between any two, and
+    /// offsets, with a space between any two.
     pub fn parse(alloc: Global, line: &str) -> Result<Self> {
         let mut words = line.split_whitespace();
         let is_aarch64 = words.next() == Some("aarch64");
-        let code = hex::decode(alloc, words.next().context("code")?.as_bytes())?;
+        let mut code = Vec::new(alloc);
+        for part in words.next().context("code")?.split('+') {
+            push_part(alloc, &mut code, part)?;
+        }
         let mut offsets = Vec::new(alloc);
         for word in words {
             offsets.push(word.parse::<usize>()?)?;
@@ -36,17 +40,28 @@ impl Case {
         let mut shown = String::new(alloc);
         for offset in &self.offsets {
             if self.is_aarch64 {
-                show_rules::<ArchAarch64>(&mut shown, &self.code, *offset)?;
+                show_rules::<ArchAarch64>(alloc, &mut shown, &self.code, *offset)?;
             } else {
-                show_rules::<ArchX86_64>(&mut shown, &self.code, *offset)?;
+                show_rules::<ArchX86_64>(alloc, &mut shown, &self.code, *offset)?;
             }
         }
         Ok(shown)
     }
 }
 
-// The rules of a prologue, of an epilogue, and of either.
-fn show_rules<A: InstructionAnalysis>(
+// Adds code in hexadecimal, perhaps with a `*` and how often it stands there behind it.
+fn push_part(alloc: Global, code: &mut Vec<u8>, part: &str) -> Result<()> {
+    let (digits, count) = part.split_once('*').unwrap_or((part, "1"));
+    let bytes = hex::decode(alloc, digits.as_bytes())?;
+    for _ in 0..count.parse::<u32>()? {
+        code.extend_from_slice(&bytes)?;
+    }
+    Ok(())
+}
+
+// The rules of a prologue, of an epilogue, and of either; and those of the detectors, if they are others.
+fn show_rules<A: Detecting>(
+    alloc: Global,
     shown: &mut String,
     code: &[u8],
     offset: usize,
@@ -57,6 +72,13 @@ fn show_rules<A: InstructionAnalysis>(
     let prologue = A::rule_from_prologue_analysis(code, offset);
     let epilogue = A::rule_from_epilogue_analysis(code, offset);
     let either = A::rule_from_instruction_analysis(code, offset);
-    write!(shown, "{offset}: {prologue:?}, {epilogue:?}, {either:?}\n")?;
+    let rules = format!(in alloc; "{prologue:?}, {epilogue:?}")?;
+    write!(shown, "{offset}: {rules}, {either:?}\n")?;
+    let prologue = A::detected_prologue(code, offset);
+    let epilogue = A::detected_epilogue(code, offset);
+    let detected = format!(in alloc; "{prologue:?}, {epilogue:?}")?;
+    if detected.as_str() != rules.as_str() {
+        write!(shown, "detected {detected}\n")?;
+    }
     Ok(())
 }

@@ -3,6 +3,7 @@
 #![tactic(auto)]
 
 mod case;
+mod detecting;
 
 use anyhow::Result;
 use case::Case;
