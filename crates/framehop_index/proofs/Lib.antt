@@ -2,7 +2,6 @@ pub mod CfiIndexBuild
 pub mod CfiIndexOrder
 pub mod EntryIndex
 pub mod EntryPlaces
-pub mod Halves
 pub mod IndexSpans
 pub mod PartialFdes
 pub mod Rising

@@ -1,7 +1,7 @@
 //! The index of a section of call frames, by which the FDE for an address is found.
 
-ghost use Rattle.std.specs.Prelude.{◌≡◌, ◌<◌, ◌≤◌, ◌^◌, ◌+◌, ◌*◌, ℕ, suc, length, nat_le, if◌then◌else◌, IfOk, IsTrue};
-ghost use Rattle.std.specs.List.Sorted.{IsNonDecreasingBy, IsPartitionPoint};
+ghost use Rattle.std.specs.Prelude.{◌≡◌, ℕ, length, IfOk, IsTrue};
+ghost use Rattle.std.specs.List.Sorted.{IsNonDecreasingBy};
 ghost use Rattle.dwarf_frame_entries.specs.Entries.{fde_of};
 ghost use Rattle.framehop_index.specs.LastCie.{IsLastCie};
 ghost use Rattle.framehop_index.specs.FrameSections.{eh_frame_of, debug_frame_of};
@@ -15,7 +15,7 @@ use dwarf_frame_entries::{
 };
 use dwarf_read_core::{LittleEndian, Reader, ReaderOffset};
 use framehop_errors::DwarfCfiIndexError;
-use list_laws::halves_are_counted;
+use sorted_starts::{HasStart, halve_items};
 use std::alloc::{AllocError, Global};
 
 /// What an index keeps of an FDE.
@@ -25,6 +25,15 @@ pub struct IndexedFde {
     pub start: u32,
     /// The FDE's offset in the section, in bytes.
     pub offset: u32,
+}
+
+impl HasStart for IndexedFde {
+    ghost start = { λ fde. fde.start };
+
+    #[inline(always)]
+    fn start(&self) -> u32 {
+        self.start
+    }
 }
 
 // What the index keeps of an FDE, if it can hold it.
@@ -132,69 +141,6 @@ fn in_order(mut fdes: Vec<IndexedFde>) -> Result<Vec<IndexedFde>, AllocError>
     Ok(fdes)
 }
 
-// How many FDEs of an index start at or below an address, and how many starts were read to find out.
-#[derive(Clone, Copy)]
-struct Halved {
-    at_or_below: usize,
-    reads: u32,
-}
-
-// Half of the most FDEs among which no branch is taken: 4,096 of them are soon in the processor's cache.
-// Among more, a branch lets the processor guess, and fetch ahead.
-const NEAR: usize = 2048;
-
-// 1 if a start is at or below an address, else 0, without a branch, which no processor could foresee.
-#[inline(always)]
-fn count_at_or_below(start: u32, address: u32) -> usize
-    ensures { result ≡ (if nat_le start address then 1 else 0) }
-{
-    ((u64::from(address) + (1 << 32) - u64::from(start)) >> 32) as usize
-}
-
-// The first of the FDEs that are left: after a half of them, if the one there starts at or below the
-// address.
-#[inline(always)]
-fn first_left(low: usize, half: usize, start: u32, address: u32) -> usize
-    requires { low + half < 2 ^ 64 }
-    ensures { result ≡ low + half * (if nat_le start address then 1 else 0) }
-{
-    if half <= NEAR {
-        return low + half * count_at_or_below(start, address);
-    }
-    if start <= address { low + half } else { low }
-}
-
-// Halves an index's FDEs until it is known how many start at or below an address.
-fn halve(fdes: &[IndexedFde], address: u32) -> Halved
-    requires ordered { IsNonDecreasingBy (λ fde. fde.start) fdes.now }
-    ensures bound { result.at_or_below ≤ length fdes.now }
-    ensures partition { IsPartitionPoint (λ fde. fde.start ≤ address)
-        (λ fde. address < fde.start) fdes.now result.at_or_below }
-    ensures few { (k : ℕ) → length fdes.now ≤ 2 ^ k → result.reads ≤ suc k }
-    ensures enough { (k : ℕ) → 2 ^ k ≤ suc (length fdes.now) → k ≤ result.reads }
-{
-    halves_are_counted();
-    if fdes.is_empty() {
-        return Halved {
-            at_or_below: 0,
-            reads: 0,
-        };
-    }
-    let mut low = 0;
-    let mut len = fdes.len();
-    let mut reads: u32 = 0;
-    'halves: while len > 1 {
-        let half = len / 2;
-        low = first_left(low, half, fdes[low + half].start, address);
-        reads += 1;
-        len -= half;
-    }
-    Halved {
-        at_or_below: low + count_at_or_below(fdes[low].start, address),
-        reads: reads + 1,
-    }
-}
-
 /// What a look-up in an index found.
 #[derive(Debug, Clone, Copy, PartialEq, Eq)]
 pub struct IndexLookup {
@@ -299,7 +245,7 @@ impl DwarfCfiIndex {
         ensures few { ReadsFew self.now result.starts_read }
         ensures counted { ReadsEnough self.now result.starts_read }
     {
-        let halved = halve(&self.fdes, rel_lookup_address);
+        let halved = halve_items(&self.fdes, rel_lookup_address);
         let fde_offset = match halved.at_or_below {
             0 => None,
             count => Some(self.fdes[count - 1].offset),
