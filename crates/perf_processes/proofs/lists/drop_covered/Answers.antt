@@ -1,0 +1,7 @@
+use Rattle.std.proofs.Common.{rules, of_calls}
+use Rattle.std.proofs.lemmas.Fn.{filter_same}
+use Rattle.perf_processes.specs.Processes.{is_kept_by}
+use Rattle.perf_processes.proofs.lists.drop_covered.Goals as goal
+
+pub returns : goal.returns
+returns c = filter_same _ (is_kept_by c.args.mapped) _ (λ x b f k. search (rules, of_calls)) _ _ c.retain.ensures.filtered
