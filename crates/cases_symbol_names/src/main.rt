@@ -1,0 +1,34 @@
+//! Writes each line of the input as the text of the mangled name that it is, or as it is if it isn't one that is
+//! understood, as `c++filt` does. `scripts/symbol-names` writes what `c++filt` writes.
+#![tactic(auto)]
+
+use anyhow::Result;
+use itanium_names::{Failure, demangled};
+use std::alloc::Global;
+use std::io;
+use std::io::{BufWriter, Read, Write};
+
+fn write_line<W: Write>(out: &mut W, line: &[u8]) -> io::Result<()> {
+    out.write_all(line)?;
+    out.write_all(b"\n")
+}
+
+fn show_name<W: Write>(alloc: Global, out: &mut W, name: &str) -> Result<()> {
+    match demangled(alloc, name.as_bytes()) {
+        Ok(text) => write_line(out, &text)?,
+        Err(Failure::NotUnderstood) => write_line(out, name.as_bytes())?,
+        Err(failure) => return Err(failure.into()),
+    }
+    Ok(())
+}
+
+fn main(rt: HostRuntime) -> Result<()> {
+    let mut input = Vec::new(rt.alloc());
+    rt.reader().read_to_end(&mut input)?;
+    let mut out = BufWriter::new(rt.alloc(), io::writer(&rt))?;
+    for line in str::from_utf8(&input)?.lines() {
+        show_name(rt.alloc(), &mut out, line)?;
+    }
+    out.flush()?;
+    Ok(())
+}

@@ -1,0 +1,9 @@
+pub mod Choices
+pub mod Grammar
+pub mod Pieces
+pub mod Reading
+pub mod Runs
+pub mod State
+pub mod Tables
+pub mod Views
+pub mod Writing
