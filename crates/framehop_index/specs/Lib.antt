@@ -1,8 +1,11 @@
 pub mod CfiIndex
 pub mod CfiIndexView
 pub mod EntryFor
+pub mod FdeLookups
 pub mod FrameSections
 pub mod IndexSpans
 pub mod LastCie
 pub mod Lookups
 pub mod Rising
+pub mod SectionFramesViews
+pub mod SectionTypes
