@@ -5,6 +5,7 @@ pub mod Each
 pub mod EntryCounts
 pub mod EntryLists
 pub mod EntryOffsets
+pub mod Kept
 pub mod Laws
 pub mod LookupLaws
 pub mod LookupMemory

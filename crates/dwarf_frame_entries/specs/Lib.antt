@@ -7,11 +7,14 @@ pub mod EntryPrograms
 pub mod EntryViews
 pub mod Getters
 pub mod HeadViews
+pub mod Kept
+pub mod KnownCies
 pub mod LetterViews
 pub mod LookupLaws
 pub mod Memory
 pub mod Parts
 pub mod PointerViews
 pub mod SectionFdes
+pub mod SectionWithin
 pub mod UnwindTableLends
 pub mod UnwindTables

@@ -298,13 +298,3 @@ pub refused : {X : Type 0} (r : Result X DwarfCfiIndexError) (Is : X → ℕ →
     → (error ≢ OutOfMemory → index_error section ≡ Some error) → IsMadeOf r Is base section
 refused (Ok made) Is base section error err same why = absurd cc
 refused (Err e) Is base section error err same why = subst (λ (x : DwarfCfiIndexError). x ≢ OutOfMemory → index_error section ≡ Some x) (sym same) why
-
--- ---- the entries that are left are of the section
-
--- the first of them
-pub first-of : (section : FrameSection) (all left : List (Result AnyEntry Error)) (item : Result AnyEntry Error) → all ≡ item ∷ left → All (IsOfSection section) all → IsOfSection section item
-first-of section all left item is of = All-head (IsOfSection section) item left (subst (All (IsOfSection section)) is of)
-
--- and the others
-pub others-of : (section : FrameSection) (all left : List (Result AnyEntry Error)) (item : Result AnyEntry Error) → all ≡ item ∷ left → All (IsOfSection section) all → All (IsOfSection section) left
-others-of section all left item is of = All-tail (IsOfSection section) item left (subst (All (IsOfSection section)) is of)

@@ -3,15 +3,13 @@
 ghost use Rattle.std.specs.Prelude.{◌≡◌, ℕ, length, IfOk, IsTrue};
 ghost use Rattle.std.specs.List.Sorted.{IsNonDecreasingBy};
 ghost use Rattle.dwarf_frame_entries.specs.Entries.{fde_of};
-ghost use Rattle.framehop_index.specs.LastCie.{IsLastCie};
 ghost use Rattle.framehop_index.specs.FrameSections.{eh_frame_of, debug_frame_of};
 ghost use Rattle.framehop_index.specs.CfiIndex.{IsMadeOf, KeepsAll, entry_held, entry_kept};
 ghost use Rattle.framehop_index.specs.Rising.{IsSortedFromBack, RisesBy};
 
-use crate::last_cie::{LastCie, fde_by_last};
 use dwarf_frame_entries::{
-    BaseAddresses, DebugFrame, EhFrame, Entry, FrameDescriptionEntry, PartialFrameDescriptionEntry,
-    UnwindSection,
+    BaseAddresses, DebugFrame, EhFrame, Entry, FrameDescriptionEntry, KnownCies,
+    PartialFrameDescriptionEntry, UnwindSection,
 };
 use dwarf_read_core::{LittleEndian, Reader, ReaderOffset};
 use framehop_errors::DwarfCfiIndexError;
@@ -48,21 +46,18 @@ fn entry_held<R: Reader>(fde: &FrameDescriptionEntry<R>, base_svma: u64) -> Opti
 }
 
 // What the index keeps of an FDE of a section, if the FDE can be read and the index can hold it. Its CIE is
-// read only if it isn't the one that was read last.
+// read only if no FDE before it names that.
 #[inline(always)]
 fn entry_kept<R: Reader, Section: UnwindSection<R>>(
-    section: &Section,
-    bases: &BaseAddresses,
-    base_svma: u64,
+    known: &mut KnownCies<'_, Section, R>,
     partial: &PartialFrameDescriptionEntry<'_, Section, R>,
-    last: &mut Option<LastCie<R>>,
+    base_svma: u64,
 ) -> Option<IndexedFde>
-    requires within { partial.now.within ≡ (Section.frame section.now bases.now).within }
-    requires last { IsLastCie R.stretch R.Offset.value (Section.frame section.now bases.now) last.old }
+    requires { partial.now.within ≡ known.old }
     ensures kept { result ≡ entry_kept base_svma (fde_of R.Offset.limit Section.kind partial.now) }
-    ensures last { IsLastCie R.stretch R.Offset.value (Section.frame section.now bases.now) last.new }
+    ensures same { known.new ≡ known.old }
 {
-    let fde = fde_by_last(section, bases, partial, last).ok()?;
+    let fde = known.fde(partial).ok()?;
     entry_held(&fde, base_svma)
 }
 
@@ -94,7 +89,7 @@ fn kept_fdes<R: Reader, Section: UnwindSection<R>>(
     // No more are left out than there are bytes.
     let _bytes = size_of_section(section);
     let mut left_out: usize = 0;
-    let mut last = None;
+    let mut known = KnownCies::new(alloc, section, bases);
     let mut entries = section.entries(bases);
     'entries: loop {
         let Some(entry) = entries.next()? else {
@@ -103,7 +98,7 @@ fn kept_fdes<R: Reader, Section: UnwindSection<R>>(
         let Entry::Fde(partial) = entry else {
             continue;
         };
-        match entry_kept(section, bases, base_svma, &partial, &mut last) {
+        match entry_kept(&mut known, &partial, base_svma) {
             Some(kept) => {
                 if fdes.push(kept).is_err() {
                     return Err(DwarfCfiIndexError::OutOfMemory);

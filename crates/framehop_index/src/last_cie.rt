@@ -1,4 +1,4 @@
-//! The CIE that was read last, which is kept for the FDEs after it: most name the same CIE as the one before.
+//! The CIE that was read last, which scans and tables keep for the FDEs after it: most name the same CIE as the one before.
 
 ghost use Rattle.std.specs.Prelude.{◌≡◌, Ok};
 ghost use Rattle.dwarf_endianity.specs.Answers.{Gives};

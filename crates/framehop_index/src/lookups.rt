@@ -83,7 +83,7 @@ pub fn headed_offset(
 
 /// The first FDE of a section that can be read and contains an address. If none does, it fails with the error
 /// that ends the list of entries, or with `NoUnwindInfoForAddress`. A CIE is read only if it isn't the one
-/// that was read last.
+/// that was read last: a scan takes no memory, so it keeps no other.
 pub fn containing_fde<R: Reader, Section: UnwindSection<R>>(
     section: &Section,
     bases: &BaseAddresses,

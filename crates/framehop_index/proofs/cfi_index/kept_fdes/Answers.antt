@@ -1,8 +1,8 @@
-use Rattle.std.proofs.Common.{rules, ◌≡◌, [], ◌∷◌, ◌++◌, Ok, ap, sym, arith}
+use Rattle.std.proofs.Common.{rules, ◌≡◌, [], ◌∷◌, ◌++◌, Ok, ap, sym, ◌∙◌, arith}
 use Rattle.dwarf_frame_entries.specs.EntryLists.{entries_of}
 use Rattle.dwarf_frame_entries.specs.declared.entries.Entry.TheVariants as which
-use Rattle.dwarf_frame_entries.proofs.Laws.{fdes_of_section}
-use Rattle.framehop_index.proofs.CfiIndexBuild.{cie-gathered, fde-gathered, fde-left-out, first-of, none-gathered, one-more, others-of}
+use Rattle.dwarf_frame_entries.proofs.Laws.{fdes_of_section, first_of_section, others_of_section}
+use Rattle.framehop_index.proofs.CfiIndexBuild.{cie-gathered, fde-gathered, fde-left-out, none-gathered, one-more}
 use Rattle.framehop_index.proofs.cfi_index.kept_fdes.Goals as goal
 
 pub entries-init : goal.entries-init
@@ -12,7 +12,7 @@ entries-init g c =
     record {
       gathered = none-gathered section c.args.base_svma c.new-fdes.result.items c.entries-entries.result.entries c.entries-entries.result.end (search rules) all (ap (λ l. l.end) c.entries-entries.ensures);
       within = rw all (fdes_of_section section);
-      last = tt;
+      known = c.new-known.ensures;
     }
 
 pub entries-preserved-in_default-entry : goal.entries-preserved-in_default-entry
@@ -22,15 +22,16 @@ entries-preserved-in_default-entry g c =
     let on = rw c.in-Some.is at c.in_ok-entry.ensures.end in
     record {
       gathered = cie-gathered section c.args.base_svma c.entries.fdes.items c.entries.left_out c.entries.entries.entries c.next.new.self.entries c.entries.entries.end c.next.new.self.end _ list on c.entries.invariant.gathered;
-      within = others-of section c.entries.entries.entries c.next.new.self.entries _ list c.entries.invariant.within;
-      last = c.entries.invariant.last;
+      within = others_of_section section c.entries.entries.entries c.next.new.self.entries _ list c.entries.invariant.within;
+      known = c.entries.invariant.known;
     }
 
-pub entry_kept-requires-clause-within : goal.entry_kept-requires-clause-within
-entry_kept-requires-clause-within g c =
+pub entry_kept-requires : goal.entry_kept-requires
+entry_kept-requires g c =
     let section = g.Section._UnwindSectionPrivate.frame c.args.section.now c.args.bases.now in
     let list = rw (c.in-Some.is, c.in-Fde.is) at c.in_ok-entry.ensures.list in
-    first-of section c.entries.entries.entries c.next.new.self.entries (Ok (which.Fde c.in-Fde.partial)) list c.entries.invariant.within
+    first_of_section section c.entries.entries.entries c.next.new.self.entries (Ok (which.Fde c.in-Fde.partial)) list c.entries.invariant.within
+    ∙ sym c.entries.invariant.known
 
 pub entries-preserved-else-is_err : goal.entries-preserved-else-is_err
 entries-preserved-else-is_err g c =
@@ -42,8 +43,8 @@ entries-preserved-else-is_err g c =
     record {
       gathered = fde-gathered section c.args.base_svma c.entries.fdes.items c.push.new.self.items c.entries.left_out c.entries.entries.entries c.next.new.self.entries c.entries.entries.end c.next.new.self.end c.in-Fde.partial list on c.entries.invariant.gathered kept
           (sym (rw (g.met.Section._UnwindSectionPrivate.framed c.args.section.now c.args.bases.now) c.in-Some-entry_kept.ensures.kept)) pushed;
-      within = others-of section c.entries.entries.entries c.next.new.self.entries _ list c.entries.invariant.within;
-      last = c.entry_kept.ensures.last;
+      within = others_of_section section c.entries.entries.entries c.next.new.self.entries _ list c.entries.invariant.within;
+      known = c.entry_kept.ensures.same ∙ c.entries.invariant.known;
     }
 
 pub overflow_add-left_out : goal.overflow_add-left_out
@@ -63,6 +64,6 @@ entries-preserved g c =
     record {
       gathered = fde-left-out section c.args.base_svma c.entries.fdes.items c.entries.fdes.items c.entries.left_out c.entries.entries.entries c.next.new.self.entries c.entries.entries.end c.next.new.self.end c.in-Fde.partial list on c.entries.invariant.gathered
           (sym (rw (g.met.Section._UnwindSectionPrivate.framed c.args.section.now c.args.bases.now) c.in-None.ensures.kept));
-      within = others-of section c.entries.entries.entries c.next.new.self.entries _ list c.entries.invariant.within;
-      last = c.entry_kept.ensures.last;
+      within = others_of_section section c.entries.entries.entries c.next.new.self.entries _ list c.entries.invariant.within;
+      known = c.entry_kept.ensures.same ∙ c.entries.invariant.known;
     }

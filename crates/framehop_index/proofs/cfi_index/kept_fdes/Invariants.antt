@@ -1,7 +1,6 @@
-use Rattle.std.proofs.Common.{length}
+use Rattle.std.proofs.Common.{◌≡◌, length}
 use Rattle.std.specs.List.{All}
 use Rattle.dwarf_frame_entries.specs.SectionFdes.{IsOfSection}
-use Rattle.framehop_index.specs.LastCie.{IsLastCie}
 use Rattle.framehop_index.proofs.CfiIndexBuild.{Gathered}
 use Rattle.framehop_index.proofs.cfi_index.kept_fdes.Given as goal
 
@@ -11,7 +10,7 @@ invariant-entries g l =
     record {
       gathered : Gathered section l.base_svma l.fdes.items l.left_out l.entries.entries l.entries.end;
       within : All (IsOfSection section) l.entries.entries;
-      last : IsLastCie g.R.Reader.stretch g.R.Offset.ReaderOffset.value section l.last;
+      known : l.known ≡ section.within;
     }
 
 abbrev pub decreases-entries : goal.decreases-entries

@@ -2,8 +2,7 @@ use Rattle.std.proofs.Common.{Ok, ap, sym, ◌∙◌}
 use Rattle.std.proofs.lemmas.Result.{err_from_is_err_and}
 use Rattle.dwarf_frame_entries.specs.EntryLists.{EntryList}
 use Rattle.dwarf_frame_entries.specs.declared.entries.Entry.TheVariants as which
-use Rattle.dwarf_frame_entries.proofs.Laws.{fdes_of_section}
-use Rattle.framehop_index.proofs.CfiIndexBuild.{first-of, others-of}
+use Rattle.dwarf_frame_entries.proofs.Laws.{fdes_of_section, first_of_section, others_of_section}
 use Rattle.framehop_index.proofs.Scans.{cie-passed, fde-elsewhere, fde-found, fde-passed, list-fails, none-left, scan-all, scan_among}
 use Rattle.framehop_index.proofs.lookups.containing_fde.Goals as goal
 
@@ -37,7 +36,7 @@ entries-preserved-in_default-entry g c =
     let on = rw c.in-Some.is at c.in_ok-entry.ensures.end in
     record {
       left = cie-passed section c.args.address c.entries.entries.entries c.entries.entries.end _ c.entries.invariant.left _ on _ c.next.new.self.entries list;
-      within = others-of section c.entries.entries.entries c.next.new.self.entries _ list c.entries.invariant.within;
+      within = others_of_section section c.entries.entries.entries c.next.new.self.entries _ list c.entries.invariant.within;
       last = c.entries.invariant.last;
     }
 
@@ -45,7 +44,7 @@ pub fde_by_last-requires-clause-within : goal.fde_by_last-requires-clause-within
 fde_by_last-requires-clause-within g c =
     let section = g.Section._UnwindSectionPrivate.frame c.args.section.now c.args.bases.now in
     let list = rw (c.in-Some.is, c.in-Fde.is) at c.in_ok-entry.ensures.list in
-    first-of section c.entries.entries.entries c.next.new.self.entries (Ok (which.Fde c.in-Fde.partial)) list c.entries.invariant.within
+    first_of_section section c.entries.entries.entries c.next.new.self.entries (Ok (which.Fde c.in-Fde.partial)) list c.entries.invariant.within
 
 pub returns-then-contains : goal.returns-then-contains
 returns-then-contains g c =
@@ -64,7 +63,7 @@ entries-preserved-in_default-fde_by_last g c =
     record {
       left = fde-passed section c.args.address c.entries.entries.entries c.entries.entries.end _ c.entries.invariant.left _ on c.in-Fde.partial c.next.new.self.entries list c.in_default-fde_by_last.field-0
           (rw (g.met.Section._UnwindSectionPrivate.framed c.args.section.now c.args.bases.now) c.in_default-fde_by_last.ensures.fde);
-      within = others-of section c.entries.entries.entries c.next.new.self.entries _ list c.entries.invariant.within;
+      within = others_of_section section c.entries.entries.entries c.next.new.self.entries _ list c.entries.invariant.within;
       last = c.fde_by_last.ensures.last;
     }
 
@@ -77,6 +76,6 @@ entries-preserved g c =
       left = fde-elsewhere section c.args.address c.entries.entries.entries c.entries.entries.end _ c.entries.invariant.left _ on c.in-Fde.partial c.next.new.self.entries list c.in-Ok.fde
           (rw (g.met.Section._UnwindSectionPrivate.framed c.args.section.now c.args.bases.now) c.in-Ok.ensures.fde)
           (sym c.contains.ensures ∙ c.if-contains.false);
-      within = others-of section c.entries.entries.entries c.next.new.self.entries _ list c.entries.invariant.within;
+      within = others_of_section section c.entries.entries.entries c.next.new.self.entries _ list c.entries.invariant.within;
       last = c.fde_by_last.ensures.last;
     }
