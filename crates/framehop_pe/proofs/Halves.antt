@@ -1,5 +1,5 @@
--- Halving of increasing rows.
-use Rattle.std.proofs.Common.{◌≡◌, ℕ, zero, suc, ◌+◌, ◌*◌, ◌-◌, ◌/◌, ◌<◌, ◌≤◌, Bool, true, false, if◌then◌else◌, List, refl, ap, sym, ◌∙◌, arith}
+-- The row that contains an address: the first by a pass, and the last that begins at or below it.
+use Rattle.std.proofs.Common.{◌≡◌, ℕ, zero, suc, ◌+◌, ◌-◌, ◌<◌, ◌≤◌, Bool, true, false, if◌then◌else◌, List, refl, ap, sym, ◌∙◌, arith}
 use Rattle.std.specs.Prelude.{nat_le, nat_lt, ◌&&◌, Option, Some, None}
 use Rattle.std.proofs.lemmas.Bool.Decides.{nat_tests}
 use Rattle.framehop_pe.specs.Rows.{IsIncreasing, begin_at, end_at, first_number, first_row, pdata_rows, row_contains}
@@ -57,20 +57,20 @@ module _ (bytes : List ℕ) (up : IsIncreasing bytes) where
         by true = grind (arith, nat_tests)
         by false = refl
 
-    -- what is left of a halving is the row that contains the address, or none does
-    pub found-at : (low : ℕ) → low < pdata_rows bytes → (0 < low → begin_at bytes low ≤ address)
-        → ((row : ℕ) → low < row → row < pdata_rows bytes → address < begin_at bytes row)
+    -- the last row that begins at or below the address contains it, or none does
+    pub found-at : (low : ℕ) → low < pdata_rows bytes → begin_at bytes low ≤ address
+        → ((row : ℕ) → low + 1 ≤ row → row < pdata_rows bytes → address < begin_at bytes row)
         → (if row_contains bytes address low then Some low else None) ≡ first_number (pdata_rows bytes) 0 (row_contains bytes address)
-    found-at low within first after = by (row_contains bytes address low) refl
+    found-at low within begun after = by (row_contains bytes address low) refl
       where
         before : (k : ℕ) → k < low → row_contains bytes address k ≡ false
-        before k earlier = let end = ends-before k low earlier within in let start = first (omega arith) in below-lacks k (omega arith)
+        before k earlier = let end = ends-before k low earlier within in below-lacks k (omega arith)
 
         missed : row_contains bytes address low ≡ false → (k : ℕ) → k < pdata_rows bytes → row_contains bytes address k ≡ false
         missed not k inside = elim (nat_lt k low) as (λ b. nat_lt k low ≡ b → row_contains bytes address k ≡ false) [
           | true ↦ λ earlier. before k (grind (arith, nat_tests))
           | false ↦ λ later. elim (nat_lt low k) as (λ b. nat_lt low k ≡ b → row_contains bytes address k ≡ false) [
-            | true ↦ λ above. above-lacks k (after k (grind (arith, nat_tests)) inside)
+            | true ↦ λ above. let past : low < k = grind (arith, nat_tests) in above-lacks k (after k (omega arith) inside)
             | false ↦ λ same. let is : k ≡ low = grind (arith, nat_tests) in ap (λ (r : ℕ). row_contains bytes address r) is ∙ not
           ] refl
         ] refl
@@ -78,6 +78,10 @@ module _ (bytes : List ℕ) (up : IsIncreasing bytes) where
         by : (b : Bool) → row_contains bytes address low ≡ b → (if b then Some low else None) ≡ first_number (pdata_rows bytes) 0 (row_contains bytes address)
         by true is = sym (first-found low (pdata_rows bytes) 0 low (row_contains bytes address) (omega arith) within (λ k a b. before k b) is)
         by false is = sym (first-none (pdata_rows bytes) 0 (row_contains bytes address) (λ k a b. missed is k (omega arith)))
+
+    -- if all begin above the address none contains it
+    pub found-none : ((row : ℕ) → 0 ≤ row → row < pdata_rows bytes → address < begin_at bytes row) → None ≡ first_number (pdata_rows bytes) 0 (row_contains bytes address)
+    found-none above = sym (first-none (pdata_rows bytes) 0 (row_contains bytes address) (λ k a b. above-lacks k (above k (omega arith) (omega arith))))
 
 -- a pass goes on after a row that doesn't contain the address
 pub pass-on : (n from : ℕ) (test : ℕ → Bool) (all : Option ℕ) → from < n → test from ≡ false → first_number (n - from) from test ≡ all → first_number (n - (from + 1)) (from + 1) test ≡ all
@@ -101,43 +105,7 @@ pass-end n from test all past so_far =
     let here : first_number 0 from test ≡ None = refl in
     sym here ∙ ap (λ (m : ℕ). first_number m from test) (sym none) ∙ so_far
 
--- ---- one half
-
--- what is known where so many rows from this one on are left: the one that is sought, if there is one, is among them
-pub record IsLeft (bytes : List ℕ) (address low len : ℕ) : Type 0 where
-  pub some : 0 < len
-  pub within : low + len ≤ pdata_rows bytes
-  pub first : 0 < low → begin_at bytes low ≤ address
-  pub after : (row : ℕ) → low + len ≤ row → row < pdata_rows bytes → address < begin_at bytes row
-
-pub all-left : (bytes : List ℕ) (address count : ℕ) → count ≡ pdata_rows bytes → 0 < count → IsLeft bytes address 0 count
-all-left bytes address count all some = record {
-  some = some;
-  within = omega arith;
-  first = λ never. absurd (omega arith);
-  after = λ row past inside. absurd (omega arith);
-}
-
-pub half-left : (bytes : List ℕ) (address low len next : ℕ) → IsIncreasing bytes → 1 < len → IsLeft bytes address low len
-    → next ≡ low + len / 2 * (if nat_le (begin_at bytes (low + len / 2)) address then 1 else 0) → IsLeft bytes address next (len - len / 2)
-half-left bytes address low len next up more left is = by (nat_le (begin_at bytes (low + len / 2)) address) refl is
-  where
-    by : (b : Bool) → nat_le (begin_at bytes (low + len / 2)) address ≡ b → next ≡ low + len / 2 * (if b then 1 else 0) → IsLeft bytes address next (len - len / 2)
-    by true reached at = let there : next ≡ low + len / 2 = omega arith in rw there (record {
-      some = omega arith;
-      within = omega (arith, left.within);
-      first = λ above. grind (arith, nat_tests);
-      after = λ row past inside. left.after row (omega arith) inside;
-    })
-    by false missed at = let there : next ≡ low = omega arith in rw there (record {
-      some = omega arith;
-      within = omega (arith, left.within);
-      first = left.first;
-      after = λ row past inside.
-          let step = begins-up bytes up (low + len / 2) row (omega arith) inside in
-          let high : address < begin_at bytes (low + len / 2) = grind (arith, nat_tests) in
-          omega arith;
-    })
+-- ---- what is found
 
 found-here : (from found : ℕ) (b : Bool) (later : Option ℕ) → b ≡ true → (if b then Some from else later) ≡ Some found → from ≡ found
 found-here from found true later here is = cc

@@ -5,7 +5,7 @@ ghost use Rattle.framehop_pe.specs.Rows.{pdata_rows, begin_at, end_at, unwind_in
 
 use dwarf_readers::{Counted, Steps, count_steps};
 use framehop_pe_codes::{PeSections, u32_at};
-use list_laws::halves_are_counted;
+use sorted_starts::{Starts, halve_counted};
 use std::sync::ledger::Ledger;
 
 /// The row of a function (Microsoft, "x64 exception handling", struct RUNTIME_FUNCTION). Addresses are relative to the
@@ -88,40 +88,35 @@ pub fn pdata_lookup(bytes: &[u8], address: u32) -> Option<usize>
     None
 }
 
-// Where the function of a row begins, counted.
-fn counted_begin<L: Ledger>(bytes: &[u8], row: usize, steps: &mut Steps<L>) -> u32
-    requires { row < pdata_rows bytes.now }
-    ensures begin { result ≡ begin_at bytes.now row }
-    ensures counted { steps.new ≡ steps.old + 1 }
-{
-    steps.tick();
-    begin_at(bytes, row)
+// Where the functions of the rows begin.
+#[derive(Clone, Copy)]
+struct Begins<'a> {
+    bytes: &'a [u8],
 }
 
-// 1 if a begin is at or below an address, else 0: without a branch, which no processor could foresee.
-#[inline(always)]
-fn count_at_or_below(begin: u32, address: u32) -> usize
-    ensures { result ≡ (if nat_le begin address then 1 else 0) }
-{
-    (((1 << 63) + u64::from(address) - u64::from(begin)) >> 63) as usize
+impl Starts for Begins<'_> {
+    ghost count = { λ begins. pdata_rows begins.bytes.now };
+
+    ghost start = { λ begins. begin_at begins.bytes.now };
+
+    #[inline(always)]
+    fn start_count(&self) -> usize {
+        pdata_rows(self.bytes)
+    }
+
+    #[inline(always)]
+    fn start_at(&self, place: usize) -> u32 {
+        begin_at(self.bytes, place)
+    }
 }
 
-// The first of the rows that are left: after a half of them, if the one there begins at or below the address.
-#[inline(always)]
-fn first_left(low: usize, half: usize, begin: u32, address: u32) -> usize
-    requires { low + half < 2 ^ 64 }
-    ensures { result ≡ low + half * (if nat_le begin address then 1 else 0) }
-{
-    low + half * count_at_or_below(begin, address)
-}
-
-// The row, if it contains the address.
-fn candidate(bytes: &[u8], row: usize, begin: u32, address: u32) -> Option<usize>
+// A row that begins at or below an address, if it contains the address.
+fn candidate(bytes: &[u8], row: usize, address: u32) -> Option<usize>
     requires within { row < pdata_rows bytes.now }
-    requires begin { begin ≡ begin_at bytes.now row }
+    requires begin { begin_at bytes.now row ≤ address }
     ensures { result ≡ (if row_contains bytes.now address row then Some row else None) }
 {
-    if begin <= address && address < end_at(bytes, row) {
+    if address < end_at(bytes, row) {
         Some(row)
     } else {
         None
@@ -129,7 +124,7 @@ fn candidate(bytes: &[u8], row: usize, begin: u32, address: u32) -> Option<usize
 }
 
 /// As `pdata_lookup`, by halving, if the rows increase (`pdata_is_increasing`). It counts a step for each begin that it
-/// reads, which are at most ceil(log2(n)) + 1 of n rows.
+/// reads, which are at most ceil(log2(n)) + 1 of n rows, and at least floor(log2(n + 1)).
 pub fn pdata_lookup_increasing<L: Ledger>(
     bytes: &[u8],
     address: u32,
@@ -138,22 +133,12 @@ pub fn pdata_lookup_increasing<L: Ledger>(
     requires { IsIncreasing bytes.now }
     ensures found { result ≡ first_row bytes.now address }
     ensures few { (k : ℕ) → pdata_rows bytes.now ≤ 2 ^ k → steps.new ≤ steps.old + (k + 1) }
+    ensures enough { (k : ℕ) → 2 ^ k ≤ pdata_rows bytes.now + 1 → steps.old + k ≤ steps.new }
 {
-    halves_are_counted();
-    let count = pdata_rows(bytes);
-    if count == 0 {
-        return None;
+    match halve_counted(&Begins { bytes }, address, steps) {
+        0 => None,
+        begun => candidate(bytes, begun - 1, address),
     }
-    let mut low = 0;
-    let mut len = count;
-    'halves: while len > 1 {
-        let half = len / 2;
-        let begin = counted_begin(bytes, low + half, steps);
-        low = first_left(low, half, begin, address);
-        len -= half;
-    }
-    let begin = counted_begin(bytes, low, steps);
-    candidate(bytes, low, begin, address)
 }
 
 // A lookup whose steps nobody asks for.

@@ -1,34 +1,17 @@
-use Rattle.std.proofs.Common.{◌≡◌, ◌∙◌, ◌-◌, ◌+◌, arith, sym}
-use Rattle.framehop_pe.specs.Rows.{pdata_rows, row_contains}
-use Rattle.framehop_pe.proofs.Halves.{first-none, found-at, all-left, half-left}
+use Rattle.std.proofs.Common.{◌∙◌, ◌-◌, arith}
+use Rattle.framehop_pe.proofs.Halves.{found-at, found-none}
 use Rattle.framehop_pe.proofs.pdata.pdata_lookup_increasing.Goals as goal
 
-pub returns-then-count-eq0-clause-found : goal.returns-then-count-eq0-clause-found
-returns-then-count-eq0-clause-found g c =
-    sym (first-none (pdata_rows c.args.bytes.now) 0 (row_contains c.args.bytes.now c.args.address) (λ k a b. absurd (omega arith)))
+pub halve_counted-requires : goal.halve_counted-requires
+halve_counted-requires g c = λ place within. omega (arith, (c.requires place within).0)
 
-pub halves-init : goal.halves-init
-halves-init g c = record {
-  left = all-left c.args.bytes.now c.args.address c.pdata_rows-count.result c.pdata_rows-count.ensures (omega arith);
-  counted = omega arith;
-  few = let none : c.args.steps.now - c.args.steps.now ≡ 0 = omega arith in rw none (rw c.pdata_rows-count.ensures (c.halves_are_counted.ensures.none (pdata_rows c.args.bytes.now)).0);
-}
+pub returns-in-0-clause-found : goal.returns-in-0-clause-found
+returns-in-0-clause-found g c =
+    found-none c.args.bytes.now c.requires c.args.address (λ row from inside. c.halve_counted.ensures.parts.above row (omega (arith, c.in-0.is)) inside)
 
-pub halves-preserved : goal.halves-preserved
-halves-preserved g c =
-    let known = c.halves.invariant in
-    record {
-      left = half-left c.args.bytes.now c.args.address c.halves.low c.halves.len c.first_left-low.result c.requires c.halves-test.true known.left
-          (rw (← c.counted_begin-begin.ensures.begin) c.first_left-low.ensures);
-      counted = omega (arith, known.counted, c.counted_begin-begin.ensures.counted);
-      few =
-          let one : c.counted_begin-begin.new.steps - c.args.steps.now ≡ c.halves.steps - c.args.steps.now + 1 = omega (arith, known.counted, c.counted_begin-begin.ensures.counted) in
-          rw one (c.halves_are_counted.ensures.at_most _ _ c.halves.len _ c.halves-test.true (omega arith) known.few);
-    }
-
-pub returns-clause-found : goal.returns-clause-found
-returns-clause-found g c =
-    let left = c.halves.invariant.left in
+pub returns-in_default-clause-found : goal.returns-in_default-clause-found
+returns-in_default-clause-found g c =
+    let last = c.halve_counted.result - 1 in
+    let parts = c.halve_counted.ensures.parts in
     c.candidate.ensures
-    ∙ found-at c.args.bytes.now c.requires c.args.address c.halves.low (omega (arith, left.within, left.some)) left.first
-    (λ row past inside. left.after row (omega (arith, c.halves-test.false, left.some)) inside)
+    ∙ found-at c.args.bytes.now c.requires c.args.address last (omega (arith, parts.bound)) (parts.below last (omega arith)) (λ row from inside. parts.above row (omega arith) inside)
