@@ -7,7 +7,7 @@ use Rattle.elf_files.specs.declared.header.Machine.{Machine}
 use Rattle.elf_files.specs.declared.header.Machine.TheVariants.{X86_64, Aarch64}
 use Rattle.framehop_rows.specs.RowAttemptAarch64 as arm
 use Rattle.framehop_rows.specs.RowAttemptX86_64 as x86
-use Rattle.framehop_rows.specs.RowParts.{parts_of}
+use Rattle.dwarf_frame_parts.specs.RowParts.{parts_of}
 use Rattle.framehop_rows.specs.ScaledRow.{RA, RBP}
 use Rattle.framehop_rows.specs.ScaledRow as scaled_x86
 use Rattle.framehop_rows.specs.ScaledRowAarch64.{X29, X30}

@@ -124,11 +124,12 @@ pub enum CallFrameInstruction<T> {
     Nop,
 }
 
-// How the bytes of instructions are read. The section is a reader of its own: rows that hold a
-// reference to it beside a context couldn't be asked for in a loop. Fields of a byte are the last, so
-// that no copy of the section is one with a byte that was just written, which processors wait for.
+/// How the bytes of an entry's instructions are read.
 #[derive(Debug, Clone, Copy)]
-pub(crate) struct Coding<'a, R> {
+pub struct Coding<'a, R> {
+    // The section is a reader of its own: rows that hold a reference to it beside a context couldn't be asked
+    // for in a loop. Fields of a byte are the last, so that no copy of the section is one with a byte that was
+    // just written, which processors wait for.
     bases: &'a SectionBaseAddresses,
     func_base: Option<u64>,
     section: R,
@@ -202,8 +203,9 @@ impl<'a, R: Reader> CallFrameInstructionIter<'a, R> {
         self.coding.next_if_frequent(&mut self.input)
     }
 
-    // How the instructions that are left are read, and their bytes.
-    pub(crate) fn into_parts(self) -> (Coding<'a, R>, R)
+    /// How the instructions that are left are read, and their bytes.
+    #[inline(always)]
+    pub fn into_parts(self) -> (Coding<'a, R>, R)
         ensures { self.entry ≡ instructions_by R.stretch R.Offset.limit result.0 result.1 }
     {
         (self.coding, self.input)
@@ -251,13 +253,10 @@ impl<'a, R: Reader> Coding<'a, R> {
         }
     }
 
-    // The same by a call, so that its code is there once. The reader is passed as a copy, and so it needn't be kept in
-    // memory.
+    /// The next instruction of `input`, as [`CallFrameInstructionIter::next`] gives it, by a call: its code is there
+    /// once. The reader is passed as a copy, and so it needn't be kept in memory.
     #[inline(always)]
-    pub(crate) fn next_by_call(
-        &self,
-        input: &mut R,
-    ) -> Result<Option<CallFrameInstruction<R::Offset>>>
+    pub fn next_by_call(&self, input: &mut R) -> Result<Option<CallFrameInstruction<R::Offset>>>
         ensures given { GivesNextBy R.stretch R.Offset.limit R.Offset.value self.now
             result input.old input.new }
         ensures memory { IfErr result (λ e. e ≢ OutOfMemory) }
@@ -278,9 +277,10 @@ impl<'a, R: Reader> Coding<'a, R> {
         self.next(input)
     }
 
-    // Reads the next instruction, if it is a frequent one, and nothing else.
+    /// The next instruction of `input`, if it is a frequent one, as [`CallFrameInstructionIter::next_if_frequent`]
+    /// gives it. Otherwise nothing is read.
     #[inline(always)]
-    pub(crate) fn next_if_frequent(&self, input: &mut R) -> Option<CallFrameInstruction<R::Offset>>
+    pub fn next_if_frequent(&self, input: &mut R) -> Option<CallFrameInstruction<R::Offset>>
         ensures some { IfSome result (λ instruction. GivesNextBy R.stretch R.Offset.limit R.Offset.value
             self.now (Ok (Some instruction)) input.old input.new) }
         ensures none { result ≡ None → input.new ≡ input.old }

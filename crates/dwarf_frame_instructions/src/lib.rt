@@ -10,6 +10,6 @@ mod rows;
 
 pub use effects::Factors;
 pub use expression_laws::expressions_have_their_bytes;
-pub use instructions::{CallFrameInstruction, CallFrameInstructionIter};
+pub use instructions::{CallFrameInstruction, CallFrameInstructionIter, Coding};
 pub use row_laws::{each_address_has_one_row, each_rule_is_seen_alike};
 pub use rows::{FrameProgram, ProgramRows, row_for_address};

@@ -5,9 +5,9 @@ ghost use Rattle.std.specs.FinMap.{get};
 ghost use Rattle.dwarf_storage.specs.Capacity.{HasRoom, IsWithin};
 ghost use Rattle.dwarf_frame_rows.specs.Row.{FollowsRows, SameAround, row_of, rules_of_first, with_parts_of};
 ghost use Rattle.dwarf_frame_rows.specs.RuleMap.{rules_of_one};
-ghost use Rattle.dwarf_frame_rows.specs.Effects.{Limits, TakesNoMemory, initial_rows, limits_of, negated_rule};
+ghost use Rattle.dwarf_frame_rows.specs.Effects.{Limits, TakesNoMemory, initial_rows, is_within, limits_of, negated_rule};
 
-use crate::rule_map::RegisterRuleMap;
+use crate::rule_map::{RegisterRuleMap, can_have};
 use crate::{Effect, RegisterRule, RuledRegister, UnwindTableRow};
 use arrayvec::ArrayVec;
 use dwarf_constants::{AArch64, Error, Register, Result};
@@ -144,6 +144,14 @@ impl<T: ReaderOffset, S: UnwindContextStorage<T>> UnwindContext<T, S> {
         &self.row
     }
 
+    /// Whether a row can have this many rules, and there can be this many rows, whatever the context holds now.
+    #[inline(always)]
+    pub fn can_have(&self, rules: usize, rows: usize) -> bool
+        ensures { IsTrue result ↔ ((is_within S.limits.rules rules ≡ true) × (is_within S.limits.rows rows ≡ true)) }
+    {
+        self.row.rules().can_have(rules) && can_have(&self.saved, rows)
+    }
+
     /// Sets the bounds of the current row.
     pub fn set_bounds(&mut self, start_address: u64, end_address: u64)
         ensures { state_of S.Stack.items self.new
@@ -256,8 +264,8 @@ impl<T: ReaderOffset, S: UnwindContextStorage<T>> UnwindContext<T, S> {
     // Gives the register the rule that the CIE's own instructions left, or none.
     #[inline(never)]
     fn restore_rule(&mut self, register: Register) -> Result<()>
-        ensures acts { Acts (state_by_initial_rules S.limits register.0)
-            (state_of S.Stack.items self.old) (state_of S.Stack.items self.new) result }
+        ensures acts { let of = state_of S.Stack.items in
+            Acts (state_by_initial_rules S.limits register.0) (of self.old) (of self.new) result }
         ensures memory { IsSome S.Rules.capacity → NeedsNoMemory result }
     {
         match self.initial_rule(register)? {

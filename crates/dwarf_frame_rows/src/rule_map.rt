@@ -1,6 +1,6 @@
 //! The rules of a row as a map, which is a list in the order of the registers.
 
-ghost use Rattle.std.specs.Prelude.{◌≡◌, ◌+◌, ◌<◌, ◌≤◌, ◌^◌, ℕ, [], ◌∷◌, ◌++◌, length, take, IfOk, IfErr, IsErr, IsNone, IsOk, IsSome, IsTrue, OnErr, OnOk, slice_set};
+ghost use Rattle.std.specs.Prelude.{◌≡◌, ◌↔◌, ◌+◌, ◌<◌, ◌≤◌, ◌^◌, ℕ, [], ◌∷◌, ◌++◌, length, take, IfOk, IfErr, IsErr, IsNone, IsOk, IsSome, IsTrue, OnErr, OnOk, slice_set};
 ghost use Rattle.std.specs.FinMap as map;
 ghost use Rattle.std.specs.List as list;
 ghost use Rattle.dwarf_storage.specs.Capacity.{IsWithin};
@@ -39,6 +39,19 @@ impl<V, Rules: ArrayLike<Item = RuledRegister<V>>> Model for RegisterRuleMap<V, 
     ghost view = { λ m. map_of (Rules.items m.rules) };
 
     ghost invariant = { λ m. IsIncreasing (Rules.items m.rules) };
+}
+
+// Whether a list can have this many items, whatever it has now.
+#[inline(always)]
+pub(crate) fn can_have<L: ArrayLike>(list: &L, items: usize) -> bool
+    ensures { IsTrue result ↔ IsWithin L.capacity items }
+{
+    let len = list.as_slice().len();
+    if items <= len {
+        true
+    } else {
+        list.has_room_for(items - len)
+    }
 }
 
 /// The rules of no row.
@@ -119,6 +132,14 @@ impl<V: Copy, Rules: ArrayLike<Item = RuledRegister<V>>> RegisterRuleMap<V, Rule
         ensures { result ≡ map.len self.now }
     {
         self.rules.as_slice().len()
+    }
+
+    // Whether a map can have rules of this many registers, whatever it has now.
+    #[inline(always)]
+    pub(crate) fn can_have(&self, rules: usize) -> bool
+        ensures { IsTrue result ↔ IsWithin Rules.capacity rules }
+    {
+        can_have(&self.rules, rules)
     }
 
     // Takes all rules away.

@@ -29,7 +29,7 @@ use Rattle.framehop_rows.specs.RowAnswerAarch64.{register_value, caller_with}
 use Rattle.framehop_rows.specs.RowAttempt.{said_or_given}
 use Rattle.framehop.specs.RowAttempts.{attempt_by_row}
 use Rattle.framehop_rows.specs.RowAttemptAarch64.{rows}
-use Rattle.framehop_rows.specs.RowParts.{parts_of}
+use Rattle.dwarf_frame_parts.specs.RowParts.{parts_of}
 use Rattle.framehop_rows.specs.RowSources.{direct_sources, sum_of, in_half}
 use Rattle.framehop_rows.specs.ScaledRowAarch64.{X29, X30, scaled_rule}
 use Rattle.framehop_errors.specs.declared.dwarf.DwarfUnwinderError.{DwarfUnwinderError}

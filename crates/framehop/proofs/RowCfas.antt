@@ -26,7 +26,7 @@ use Rattle.framehop_rows.specs.DirectRowAarch64 as aarch64_direct
 use Rattle.framehop_rows.specs.RowAnswer as x86_64_answer
 use Rattle.framehop_rows.specs.RowAnswerAarch64 as aarch64_answer
 use Rattle.framehop_rows.specs.RowAttempt.{said_or_given}
-use Rattle.framehop_rows.specs.RowParts.{parts_of}
+use Rattle.dwarf_frame_parts.specs.RowParts.{parts_of}
 use Rattle.framehop_rows.specs.RowSources.{direct_sources, in_half, in_range, plus, sum_of, whole_sources}
 use Rattle.framehop_rows.specs.RuleLaws.{RulesAnswerAsRows}
 use Rattle.framehop_rows.specs.ScaledRow as x86_64_scaled

@@ -5,7 +5,7 @@ use Rattle.dwarf_frame_rows.specs.Row.{Row}
 use Rattle.framehop_rows.specs.RowAttemptAarch64 as aarch64_rows
 use Rattle.framehop_rows.specs.RowAttemptX86_64 as x86_64_rows
 use Rattle.framehop_rows.specs.RowMeanings.{RowMeanings}
-use Rattle.framehop_rows.specs.RowParts.{parts_of}
+use Rattle.dwarf_frame_parts.specs.RowParts.{parts_of}
 use Rattle.framehop_rows.specs.ScaledRow as x86_64
 use Rattle.framehop_rows.specs.ScaledRowAarch64 as aarch64
 use Rattle.framehop_tables.specs.Covered.{covered_at, tabulated}

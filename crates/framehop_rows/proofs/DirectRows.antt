@@ -9,7 +9,7 @@ use Rattle.framehop_errors.specs.declared.dwarf.DwarfUnwinderError.{DwarfUnwinde
 use Rattle.framehop_rows.specs.Columns.{Sources, cfa_by}
 use Rattle.framehop_rows.specs.DirectRow.{direct_return_address, direct_bp, direct_refusal, caller_unless, direct_by_return_address, direct_by_cfa, direct_by}
 use Rattle.framehop_rows.specs.RowSources.{word_below_cfa}
-use Rattle.framehop_rows.specs.declared.parts.Parts.{Parts}
+use Rattle.dwarf_frame_parts.specs.declared.parts.Parts.{Parts}
 
 -- a word that was read is the word there
 pub word_read : (there : Option ℕ) (value : ℕ) → Ok value ≡ read_answer there → Some value ≡ there

@@ -9,7 +9,7 @@ use Rattle.framehop_rows.specs.Columns.{Sources, cfa_by, column_by}
 use Rattle.framehop_rows.specs.DirectRowAarch64.{restored, direct_by_fp, direct_by_cfa, direct_by}
 use Rattle.framehop_errors.specs.declared.dwarf.DwarfUnwinderError.{DwarfUnwinderError}
 use Rattle.framehop_errors.specs.declared.dwarf.DwarfUnwinderError.TheVariants.{StackPointerMovedBackwards}
-use Rattle.framehop_rows.specs.declared.parts.Parts.{Parts}
+use Rattle.dwarf_frame_parts.specs.declared.parts.Parts.{Parts}
 
 module _ (sources : Sources) (first : Bool) (registers : UnwindRegsAarch64) (words : Words) (parts : Parts ℕ) (cfa : ℕ) (cfa_is : Some cfa ≡ cfa_by sources parts.cfa) where
   abbrev lr : Option ℕ

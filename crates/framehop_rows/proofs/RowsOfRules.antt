@@ -23,7 +23,7 @@ use Rattle.framehop_rows.specs.RowAnswer.{register_value, caller_at, row_answer}
 use Rattle.framehop_rows.specs.RowSources.{plus, whole_sources}
 use Rattle.framehop_rows.specs.RuleFields.{as_words, as_signed_words}
 use Rattle.framehop_rows.specs.ScaledRow.{scaled_rule, from_return_address, from_register, from_sp, from_bp, raised_sp}
-use Rattle.framehop_rows.specs.declared.parts.Parts.{Parts}
+use Rattle.dwarf_frame_parts.specs.declared.parts.Parts.{Parts}
 use Rattle.framehop_rows.proofs.RuleParts.{and_then-gives, address-gives, in_range-is, in_range-fits, in_range-at, past-test, word-gives, option_map-some, and_then-some, by_test, words-is, signed_words-is}
 
 -- ---- what a part of a rule gives

@@ -24,7 +24,7 @@ use Rattle.framehop_rows.specs.RuleFields.{as_words, as_signed_words, pairs_of}
 use Rattle.framehop_rows.specs.ScaledRowAarch64.{saved_by, raised_sp, from_sp, followed_fp, from_fp, from_cfa, scaled_rule}
 use Rattle.framehop_rows.specs.declared.aarch64.dwarf.Saved.{Saved}
 use Rattle.framehop_rows.specs.declared.aarch64.dwarf.Saved.TheVariants.{InRegister, FromCfa}
-use Rattle.framehop_rows.specs.declared.parts.Parts.{Parts}
+use Rattle.dwarf_frame_parts.specs.declared.parts.Parts.{Parts}
 use Rattle.framehop_rows.proofs.RuleParts.{and_then-gives, address-gives, in_range-is, word-gives, option_map-some, and_then-some, by_test, words-is, signed_words-is, pairs-is}
 
 -- ---- what columns give

@@ -13,7 +13,7 @@ use Rattle.framehop_errors.specs.declared.dwarf.DwarfUnwinderError.TheVariants.{
 use Rattle.framehop_rows.specs.Columns.{Sources, cfa_by, column_by}
 use Rattle.framehop_rows.specs.RowAnswer.{register_value}
 use Rattle.framehop_rows.specs.RowSources.{direct_sources, word_below_cfa}
-use Rattle.framehop_rows.specs.declared.parts.Parts.{Parts}
+use Rattle.dwarf_frame_parts.specs.declared.parts.Parts.{Parts}
 
 -- what a row of a section is evaluated by in a frame
 abbrev pub frame_sources : (limit : Option ℕ) → (address_size : ℕ) → Stretch → UnwindRegsX86_64 → Sources

@@ -10,7 +10,7 @@ use Rattle.framehop_rows.specs.RowAnswerAarch64.{register_value, caller_with}
 use Rattle.framehop_rows.specs.RowSources.{direct_sources}
 use Rattle.framehop_errors.specs.declared.dwarf.DwarfUnwinderError.{DwarfUnwinderError}
 use Rattle.framehop_errors.specs.declared.dwarf.DwarfUnwinderError.TheVariants.{CouldNotRecoverCfa, CouldNotRecoverFramePointer, CouldNotRecoverReturnAddress, StackPointerMovedBackwards}
-use Rattle.framehop_rows.specs.declared.parts.Parts.{Parts}
+use Rattle.dwarf_frame_parts.specs.declared.parts.Parts.{Parts}
 
 -- a register of the caller: what its rule gives, or else, in a first frame, its value in the frame
 abbrev pub restored : Bool → (own : ℕ) → Option ℕ → Option ℕ

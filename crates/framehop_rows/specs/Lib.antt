@@ -12,7 +12,6 @@ pub mod RowAttemptAarch64
 pub mod RowAttemptX86_64
 pub mod RowErrors
 pub mod RowMeanings
-pub mod RowParts
 pub mod RowRules
 pub mod RowSources
 pub mod RowValues

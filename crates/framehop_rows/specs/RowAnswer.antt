@@ -10,7 +10,7 @@ use Rattle.dwarf_frame_rows.specs.declared.rules.RegisterRule.{RegisterRule}
 use Rattle.framehop_rows.specs.Columns.{cfa_by, column_by}
 use Rattle.framehop_rows.specs.RowSources.{whole_sources}
 use Rattle.framehop_rows.specs.ScaledRow.{RBP, RSP, RA}
-use Rattle.framehop_rows.specs.declared.parts.Parts.{Parts}
+use Rattle.dwarf_frame_parts.specs.declared.parts.Parts.{Parts}
 
 -- the registers that have values in a frame
 abbrev pub register_value : UnwindRegsX86_64 → Register → Option ℕ

@@ -10,7 +10,7 @@ use Rattle.framehop_rules.specs.RuleMeaningAarch64.{caller_registers}
 use Rattle.framehop_rows.specs.Columns.{cfa_by, column_by}
 use Rattle.framehop_rows.specs.RowSources.{whole_sources}
 use Rattle.framehop_rows.specs.ScaledRowAarch64.{X29, X30, SP}
-use Rattle.framehop_rows.specs.declared.parts.Parts.{Parts}
+use Rattle.dwarf_frame_parts.specs.declared.parts.Parts.{Parts}
 
 -- the registers that have values in a frame
 abbrev pub register_value : UnwindRegsAarch64 → Register → Option ℕ

@@ -1,6 +1,7 @@
 -- The attempt at a step by a row of call frames, on any architecture.
 use Rattle.std.specs.Prelude.{◌≡◌, ◌≢◌, ℕ, Bool, Option, Some, None, OnErr, Result, Ok, Err}
 use Rattle.dwarf_readers.specs.Stretch.{Stretch}
+use Rattle.dwarf_frame_rows.specs.Row.{Row}
 use Rattle.framehop_registers.specs.Callback.{Words, OverWords}
 use Rattle.framehop_rules.specs.Outcome.{Caller}
 use Rattle.framehop_rules.specs.UnwindResults.{KeepsUnlessDirect}
@@ -9,7 +10,7 @@ use Rattle.framehop_rules.specs.declared.unwind_result.UnwindResult.TheVariants.
 use Rattle.framehop_rows.specs.Memory.{HasExpressionPart}
 use Rattle.framehop_errors.specs.declared.dwarf.DwarfUnwinderError.{DwarfUnwinderError}
 use Rattle.framehop_errors.specs.declared.dwarf.DwarfUnwinderError.TheVariants as why
-use Rattle.framehop_rows.specs.declared.parts.Parts.{Parts}
+use Rattle.dwarf_frame_parts.specs.declared.parts.Parts.{Parts}
 
 -- An attempt at a step by a row: by an unwind rule that says the row exactly; or the caller that the row gives by itself, from the
 -- registers and the words of the stack, or why it gives none.
@@ -87,3 +88,8 @@ pub record AnswersRow {Rule Registers S : Type 0} (step : S → ℕ → Result �
   pub answer : OverWords step old new (λ words. result ≢ Err why.OutOfMemory → (result, after) ≡ row_trial before words attempt)
   pub rule : result ≢ Err why.OutOfMemory → rule_answered result ≡ rule_of_row attempt
   pub registers : KeepsUnlessDirect result before after
+
+-- .. that the attempt by each row says that has a property
+abbrev pub AnswersRows : {Rule Registers S : Type 0} → (S → ℕ → Result ℕ (Unit {0}) → S → Type 0) → (old new : S) → (before after : Registers)
+    → Result (UnwindResult Rule) DwarfUnwinderError → (Row ℕ → RowAttempt Rule Registers) → (Row ℕ → Type 0) → Type 0
+AnswersRows step old new before after result attempt has = (row : Row ℕ) → has row → AnswersRow step old new before after result (attempt row)

@@ -9,7 +9,7 @@ use Rattle.framehop_rules.specs.declared.aarch64.unwind_rule.UnwindRuleAarch64.T
 use Rattle.framehop_rows.specs.DirectRowAarch64.{direct_answer}
 use Rattle.framehop_rows.specs.RowAttempt.{RowAttempt, attempt_by_parts, MeetsExpressionPart}
 use Rattle.framehop_rows.specs.RowMeanings.{RowMeanings, row_meanings}
-use Rattle.framehop_rows.specs.RowParts.{parts_of}
+use Rattle.dwarf_frame_parts.specs.RowParts.{parts_of}
 use Rattle.framehop_rows.specs.ScaledRowAarch64.{X29, X30, scaled_rule}
 
 -- the attempt by a row

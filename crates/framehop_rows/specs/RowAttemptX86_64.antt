@@ -9,7 +9,7 @@ use Rattle.framehop_rules.specs.declared.x86_64.unwind_rule.UnwindRuleX86_64.The
 use Rattle.framehop_rows.specs.DirectRow.{direct_answer}
 use Rattle.framehop_rows.specs.RowAttempt.{RowAttempt, attempt_by_parts, MeetsExpressionPart}
 use Rattle.framehop_rows.specs.RowMeanings.{RowMeanings, row_meanings}
-use Rattle.framehop_rows.specs.RowParts.{parts_of}
+use Rattle.dwarf_frame_parts.specs.RowParts.{parts_of}
 use Rattle.framehop_rows.specs.ScaledRow.{RBP, RA, scaled_rule}
 
 -- the attempt by a row

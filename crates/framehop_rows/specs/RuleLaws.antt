@@ -2,7 +2,7 @@
 use Rattle.std.specs.Prelude.{◌≡◌, ℕ, Bool, Option, Some}
 use Rattle.framehop_registers.specs.Callback.{Words}
 use Rattle.framehop_rules.specs.Outcome.{Outcome, Answers, Caller}
-use Rattle.framehop_rows.specs.declared.parts.Parts.{Parts}
+use Rattle.dwarf_frame_parts.specs.declared.parts.Parts.{Parts}
 
 -- If a rule says a row exactly and gives a caller, that is the row's, for all registers and all words of the stack.
 abbrev pub RulesAnswerAsRows : {Rule Registers : Type 0} → (scaled_rule : Parts ℕ → Option Rule)

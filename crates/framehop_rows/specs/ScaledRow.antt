@@ -9,7 +9,7 @@ use Rattle.dwarf_frame_rows.specs.declared.rules.CfaRule.TheVariants.{RegisterAn
 use Rattle.dwarf_frame_rows.specs.declared.rules.RegisterRule.{RegisterRule}
 use Rattle.dwarf_frame_rows.specs.declared.rules.RegisterRule.TheVariants as rule
 use Rattle.framehop_rows.specs.RuleFields.{as_words, as_signed_words}
-use Rattle.framehop_rows.specs.declared.parts.Parts.{Parts}
+use Rattle.dwarf_frame_parts.specs.declared.parts.Parts.{Parts}
 
 -- the frame pointer
 abbrev pub RBP : Register

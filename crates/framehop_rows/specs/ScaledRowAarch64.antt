@@ -11,7 +11,7 @@ use Rattle.framehop_rules.specs.declared.aarch64.unwind_rule.UnwindRuleAarch64.T
 use Rattle.framehop_rows.specs.RuleFields.{as_words, as_signed_words, pairs_of}
 use Rattle.framehop_rows.specs.declared.aarch64.dwarf.Saved.{Saved}
 use Rattle.framehop_rows.specs.declared.aarch64.dwarf.Saved.TheVariants.{InRegister, FromCfa}
-use Rattle.framehop_rows.specs.declared.parts.Parts.{Parts}
+use Rattle.dwarf_frame_parts.specs.declared.parts.Parts.{Parts}
 
 -- the frame pointer
 abbrev pub X29 : Register

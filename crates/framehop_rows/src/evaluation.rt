@@ -9,7 +9,7 @@ ghost use Rattle.dwarf_frame_instructions.specs.StateViews.{cfa_as, rule_as};
 ghost use Rattle.framehop_rows.specs.Columns.{found_by, value_found};
 ghost use Rattle.framehop_rows.specs.RowValues.{Evaluates, EvaluatesOver, cfa_in, column_in};
 ghost use Rattle.framehop_rows.specs.ExpressionValue.{program_value};
-ghost use Rattle.framehop_rows.specs.RowParts.{column_as};
+ghost use Rattle.dwarf_frame_parts.specs.RowParts.{column_as};
 ghost use Rattle.framehop_rows.specs.RowSources.{direct_sources, sum_of, value_by_expression, word_below_cfa};
 ghost use Rattle.framehop_rows.specs.Memory.{IsColumnExpression, IsExpression, TakesMemory};
 

@@ -1,18 +1,16 @@
 //! The unwind rules that say rows, without a frame.
 
 ghost use Rattle.std.specs.Prelude.{◌≡◌, ℕ, Bool, Option, IfSome};
-ghost use Rattle.dwarf_constants.specs.declared.common.Register.{Register};
 ghost use Rattle.dwarf_readers.specs.Stretch.{Stretch};
 ghost use Rattle.dwarf_frame_instructions.specs.Execution.{row_in};
 ghost use Rattle.dwarf_frame_rows.specs.Row.{Row};
 ghost use Rattle.framehop_rows.specs.RowAttempt.{rule_of_row};
-ghost use Rattle.framehop_rows.specs.RowParts.{IsApart, parts_as, parts_of};
-ghost use Rattle.framehop_rows.specs.declared.parts.Parts.{Parts};
+ghost use Rattle.dwarf_frame_parts.specs.RowParts.{parts_as, parts_of};
+ghost use Rattle.dwarf_frame_parts.specs.declared.parts.Parts.{Parts};
 
 use crate::dwarf::DwarfUnwinding;
-use crate::parts::{Parts, parts_of_row};
 use crate::rows::PartsUnwinding;
-use dwarf_constants::Register;
+use dwarf_frame_parts::{Parts, parts_of_row};
 use dwarf_frame_rows::{RegisterRule, RuledRegister, UnwindTableRow};
 use dwarf_readers::ReaderOffset;
 use dwarf_storage::ArrayLike;
@@ -32,21 +30,8 @@ pub trait RowRules: DwarfUnwinding {
         ensures rule { result ≡ rule_of (row_in T.value row.now) }
         ensures valid { IfSome result Self.UnwindRule.is_valid };
 
-    /// The frame pointer, and the register of the return address, as DWARF numbers it.
-    ghost fp: { Register };
-
-    ghost ra: { Register };
-
     /// The rule that says the parts of a row exactly, if one does.
     ghost rule_of_parts: { Parts ℕ → Option Self.UnwindRule };
-
-    /// The frame pointer.
-    fn frame_pointer() -> Register
-        ensures { result ≡ fp };
-
-    /// The return address.
-    fn return_address() -> Register
-        ensures { result ≡ ra };
 
     /// The rule that says the parts of a row exactly, if one does.
     fn rule_for_parts<T: ReaderOffset>(parts: &Parts<T>) -> Option<Self::UnwindRule>
@@ -59,10 +44,7 @@ pub trait RowRules: DwarfUnwinding {
         → rule_of_row (Self.rows.row_attempt first values address_size section row) ≡ rule_of row };
 
     /// The rule of a row is that of its parts.
-    ghost of_parts: { (row : Row ℕ) → rule_of row ≡ rule_of_parts (parts_of fp ra row) };
-
-    /// Neither has the sign state.
-    ghost apart: { IsApart fp × IsApart ra };
+    ghost of_parts: { (row : Row ℕ) → rule_of row ≡ rule_of_parts (parts_of Self.fp Self.ra row) };
 }
 
 // The rule that says a row exactly, if one does.
@@ -80,7 +62,7 @@ fn rule_by_parts<
 
 impl RowRules for ArchX86_64 {
     ghost use Rattle.std.specs.Prelude.{refl};
-    ghost use Rattle.framehop_rows.specs.RowParts.{parts_of};
+    ghost use Rattle.dwarf_frame_parts.specs.RowParts.{parts_of};
     ghost use Rattle.framehop_rows.specs.RowRules.{rule-said};
     ghost use Rattle.framehop_rows.specs.ScaledRow.{RBP, RA, scaled_rule};
 
@@ -89,23 +71,9 @@ impl RowRules for ArchX86_64 {
     ghost says = { λ first values address_size section row.
         rule-said _ (scaled_rule (parts_of RBP RA row)) };
 
-    ghost fp = { RBP };
-
-    ghost ra = { RA };
-
-    ghost apart = { (refl, refl) };
-
     ghost rule_of_parts = { λ parts. scaled_rule parts };
 
     ghost of_parts = { λ row. refl };
-
-    fn frame_pointer() -> Register {
-        <ArchX86_64 as PartsUnwinding>::frame_pointer()
-    }
-
-    fn return_address() -> Register {
-        <ArchX86_64 as PartsUnwinding>::return_address()
-    }
 
     #[inline(always)]
     fn rule_for_parts<T: ReaderOffset>(parts: &Parts<T>) -> Option<UnwindRuleX86_64> {
@@ -121,7 +89,7 @@ impl RowRules for ArchX86_64 {
 
 impl RowRules for ArchAarch64 {
     ghost use Rattle.std.specs.Prelude.{refl};
-    ghost use Rattle.framehop_rows.specs.RowParts.{parts_of};
+    ghost use Rattle.dwarf_frame_parts.specs.RowParts.{parts_of};
     ghost use Rattle.framehop_rows.specs.RowRules.{rule-said};
     ghost use Rattle.framehop_rows.specs.ScaledRowAarch64.{X29, X30, scaled_rule};
 
@@ -130,23 +98,9 @@ impl RowRules for ArchAarch64 {
     ghost says = { λ first values address_size section row.
         rule-said _ (scaled_rule (parts_of X29 X30 row)) };
 
-    ghost fp = { X29 };
-
-    ghost ra = { X30 };
-
-    ghost apart = { (refl, refl) };
-
     ghost rule_of_parts = { λ parts. scaled_rule parts };
 
     ghost of_parts = { λ row. refl };
-
-    fn frame_pointer() -> Register {
-        <ArchAarch64 as PartsUnwinding>::frame_pointer()
-    }
-
-    fn return_address() -> Register {
-        <ArchAarch64 as PartsUnwinding>::return_address()
-    }
 
     #[inline(always)]
     fn rule_for_parts<T: ReaderOffset>(parts: &Parts<T>) -> Option<UnwindRuleAarch64> {

@@ -2,21 +2,19 @@
 
 ghost use Rattle.std.specs.Prelude.{◌≡◌, ℕ, Option, Err, IfErr, IfSome};
 ghost use Rattle.dwarf_constants.specs.declared.common.Register.{Register};
-ghost use Rattle.dwarf_frame_instructions.specs.Execution.{row_in};
 ghost use Rattle.framehop_rules.specs.UnwindResults.{HasValidRule};
 ghost use Rattle.framehop_rows.specs.Memory.{HasExpressionPart, TakesMemory};
 ghost use Rattle.framehop_rows.specs.RowAttempt.{AnswersCaller, AnswersRow, DirectAnswer, MeetsExpressionPart, attempt_by_parts};
 ghost use Rattle.framehop_rows.specs.RowErrors.{IsOfRow};
-ghost use Rattle.framehop_rows.specs.RowParts.{parts_as, parts_of};
+ghost use Rattle.dwarf_frame_parts.specs.RowParts.{parts_as};
 ghost use Rattle.framehop_errors.specs.declared.dwarf.DwarfUnwinderError.TheVariants.{OutOfMemory};
-ghost use Rattle.framehop_rows.specs.declared.parts.Parts.{Parts};
+ghost use Rattle.dwarf_frame_parts.specs.declared.parts.Parts.{Parts};
 
-use crate::parts::{Parts, parts_of_row};
 use dwarf_constants::{Encoding, Register};
 use dwarf_expressions::EvaluationStorage;
-use dwarf_frame_rows::{_UnwindSectionPrivate, RegisterRule, RuledRegister, UnwindTableRow};
+use dwarf_frame_parts::Parts;
+use dwarf_frame_rows::_UnwindSectionPrivate;
 use dwarf_readers::{Reader, ReaderOffset};
-use dwarf_storage::ArrayLike;
 use framehop_errors::DwarfUnwinderError;
 use framehop_rules::{Arch, UnwindResult};
 use std::alloc::Global;
@@ -76,19 +74,19 @@ pub(crate) trait PartsUnwinding: Arch {
             → TakesMemory S.Stack.is_made_in_place S.Stack.capacity };
 }
 
-// The step by a row of a section: the unwind rule that says the row exactly, or else the return address by
-// the row itself, and then the registers are the caller's. An `Err` leaves the registers as they were.
-pub(crate) fn unwind_frame_by_row<
+// The step by the parts of a row of a section: the unwind rule that says them exactly, or else the return address
+// by the parts themselves, and then the registers are the caller's. An `Err` leaves the registers as they were.
+#[inline(always)]
+pub(crate) fn unwind_frame_by_parts<
     A: PartsUnwinding,
     S: EvaluationStorage,
     R: Reader,
     Section: _UnwindSectionPrivate<R>,
-    Rules: ArrayLike<Item = RuledRegister<RegisterRule<R::Offset>>>,
     F: FnMut(u64) -> Result<u64, ()>,
 >(
     alloc: Global,
     section: &Section,
-    row: &UnwindTableRow<R::Offset, Rules>,
+    parts: &Parts<R::Offset>,
     encoding: Encoding,
     regs: &mut A::UnwindRegs,
     is_first_frame: bool,
@@ -99,22 +97,21 @@ pub(crate) fn unwind_frame_by_row<
     ensures answers { AnswersRow F.step read_stack.old read_stack.new regs.old regs.new result
         (attempt_by_parts A.scaled_rule A.direct_answer is_first_frame S.Stack.capacity
         encoding.address_size (R.stretch (Section.reader section.now))
-        (parts_of A.fp A.ra (row_in R.Offset.value row.now))) }
+        (parts_as R.Offset.value parts.now)) }
     ensures valid { HasValidRule A.UnwindRule.is_valid result }
     ensures refusals { IfErr result IsOfRow }
-    ensures expression { result ≡ Err OutOfMemory → MeetsExpressionPart A.scaled_rule
-        (parts_of A.fp A.ra (row_in R.Offset.value row.now)) }
+    ensures expression { result ≡ Err OutOfMemory
+        → MeetsExpressionPart A.scaled_rule (parts_as R.Offset.value parts.now) }
     ensures memory { result ≡ Err OutOfMemory
         → TakesMemory S.Stack.is_made_in_place S.Stack.capacity }
 {
-    let parts = parts_of_row(row, A::frame_pointer(), A::return_address());
-    if let Some(rule) = A::rule_for_parts(&parts) {
+    if let Some(rule) = A::rule_for_parts(parts) {
         return Ok(UnwindResult::ExecRule(rule));
     }
     match A::unwind_by_parts::<S, R, Section, F>(
         alloc,
         section,
-        &parts,
+        parts,
         encoding,
         regs,
         is_first_frame,

@@ -15,7 +15,6 @@ use crate::by_parts::{ByParts, left_by_cie};
 use crate::covered::Covered;
 use crate::entry::{Entry, extend, nothing_up_to};
 use crate::parts_rows::{add_rows_by_parts, columns_of, has_room};
-use crate::parts_state::CountedParts;
 use crate::rows::add_rows;
 use crate::same_rule::SameRule;
 use crate::spans::Span;
@@ -23,6 +22,7 @@ use dwarf_frame_entries::{
     BaseAddresses, FrameDescriptionEntry, UnwindContext, UnwindContextStorage, UnwindSection,
 };
 use dwarf_frame_instructions::{FrameProgram, ProgramRows};
+use dwarf_frame_parts::LeftByCie;
 use dwarf_readers::Reader;
 use framehop_index::{DwarfCfiIndex, IndexedFde, fde_at_by_last};
 use framehop_ranges::Ranges;
@@ -35,13 +35,13 @@ use std::alloc::{AllocError, Global};
 fn add_by_parts<A: RowRules, R: Reader, S: UnwindContextStorage<R::Offset>>(
     ranges: &mut Ranges<Entry<A::UnwindRule>>,
     program: FrameProgram<'_, R>,
-    left: Option<CountedParts<R::Offset>>,
+    left: Option<LeftByCie>,
     span: Span,
 ) -> Result<bool, AllocError>
 where
     A::UnwindRule: SameRule,
     requires span { CanAdd ranges.old span }
-    requires left { IfSome left (HasRoomFor R.Offset.value (record { fp = A.fp; ra = A.ra }) S.limits
+    requires left { IfSome left (HasRoomFor (record { fp = A.fp; ra = A.ra }) S.limits
         (program_of program)) }
     ensures { IfOk result (AddsProgram (row_rules A.rows A.rule_of) span S.limits
         (program_of program.entry) ranges.old ranges.new) }
@@ -59,7 +59,7 @@ fn add_fde<A: RowRules, R: Reader, Section: UnwindSection<R>, S: UnwindContextSt
     bases: &BaseAddresses,
     context: &mut UnwindContext<R::Offset, S>,
     fde: &FrameDescriptionEntry<R>,
-    known: &mut ByParts<R::Offset>,
+    known: &mut ByParts,
     span: Span,
 ) -> Result<(), AllocError>
 where
@@ -67,9 +67,9 @@ where
     requires fixed { S.never_allocates }
     requires span { CanAdd ranges.old span }
     requires there { cie_from_offset (Section.frame section.now bases.now) fde.now.cie.head.offset ≡ Ok fde.now.cie }
-    requires known { Holds R.Offset.value A.fp A.ra (Section.frame section.now bases.now)
+    requires known { Holds A.fp A.ra (Section.frame section.now bases.now)
         (Section.extensions section.now) S.limits known.old }
-    ensures known { Holds R.Offset.value A.fp A.ra (Section.frame section.now bases.now)
+    ensures known { Holds A.fp A.ra (Section.frame section.now bases.now)
         (Section.extensions section.now) S.limits known.new }
     ensures adds { let frame = Section.frame section.now bases.now in
         let rows = fde_rows S.limits frame (Section.extensions section.now) fde.now in
@@ -95,7 +95,7 @@ fn add_entry<A: RowRules, R: Reader, Section: UnwindSection<R>, S: UnwindContext
     bases: &BaseAddresses,
     context: &mut UnwindContext<R::Offset, S>,
     read: dwarf_constants::Result<FrameDescriptionEntry<R>>,
-    known: &mut ByParts<R::Offset>,
+    known: &mut ByParts,
     span: Span,
 ) -> Result<(), AllocError>
 where
@@ -103,9 +103,9 @@ where
     requires fixed { S.never_allocates }
     requires span { CanAdd ranges.old span }
     requires read { Gives (λ fde. fde) read (fde_from_offset (Section.frame section.now bases.now) span.offset) }
-    requires known { Holds R.Offset.value A.fp A.ra (Section.frame section.now bases.now)
+    requires known { Holds A.fp A.ra (Section.frame section.now bases.now)
         (Section.extensions section.now) S.limits known.old }
-    ensures known { Holds R.Offset.value A.fp A.ra (Section.frame section.now bases.now)
+    ensures known { Holds A.fp A.ra (Section.frame section.now bases.now)
         (Section.extensions section.now) S.limits known.new }
     ensures adds { let frame = Section.frame section.now bases.now in
         let t = tabulated A.rows A.rule_of S.limits (Section.extensions section.now) span.base_svma in

@@ -7,7 +7,6 @@ mod entry;
 mod fdes;
 mod kept;
 mod parts_rows;
-mod parts_state;
 mod rows;
 mod rule_table;
 mod same_rule;

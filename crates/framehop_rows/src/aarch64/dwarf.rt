@@ -9,18 +9,18 @@ ghost use Rattle.framehop_rows.specs.DirectViewsAarch64.{caller_shown};
 ghost use Rattle.framehop_rows.specs.Memory.{HasExpressionPart, TakesMemory};
 ghost use Rattle.framehop_rows.specs.RowAnswerAarch64.{row_answer, register_value};
 ghost use Rattle.framehop_rows.specs.RowErrors.{IsOfRow};
-ghost use Rattle.framehop_rows.specs.RowParts.{parts_as};
+ghost use Rattle.dwarf_frame_parts.specs.RowParts.{parts_as};
 ghost use Rattle.framehop_rows.specs.RuleLaws.{RulesAnswerAsRows};
 ghost use Rattle.framehop_rows.specs.ScaledRowAarch64.{saved_by, raised_sp, restored_lr, restored_both, from_sp, restored_from_fp, followed_fp, from_fp, scaled_rule};
 ghost use Rattle.framehop_errors.specs.declared.dwarf.DwarfUnwinderError.TheVariants.{OutOfMemory};
 
 use crate::dwarf::DwarfUnwinding;
 use crate::evaluation::{DwarfUnwindRegs, eval_cfa_rule, eval_register_rule};
-use crate::parts::Parts;
-use crate::rows::{PartsUnwinding, unwind_frame_by_row};
+use crate::rows::{PartsUnwinding, unwind_frame_by_parts};
 use crate::rule_fields::{unsigned_pairs, unsigned_words, words_from_base};
 use dwarf_constants::{AArch64, Encoding, Register, Vendor};
 use dwarf_expressions::EvaluationStorage;
+use dwarf_frame_parts::{Parts, SimpleRow, parts_of_row};
 use dwarf_frame_rows::{
     _UnwindSectionPrivate, CfaRule, RegisterRule, RuledRegister, UnwindTableRow,
 };
@@ -304,11 +304,19 @@ impl PartsUnwinding for ArchAarch64 {
 }
 
 impl DwarfUnwinding for ArchAarch64 {
+    ghost use Rattle.std.specs.Prelude.{refl};
     ghost use Rattle.framehop_rows.specs.RowAttemptAarch64.{rows, MeetsExpression};
+    ghost use Rattle.framehop_rows.specs.ScaledRowAarch64.{X29, X30};
 
     ghost rows = { rows };
 
     ghost MeetsExpression = { MeetsExpression };
+
+    ghost fp = { X29 };
+
+    ghost ra = { X30 };
+
+    ghost apart = { (refl, refl) };
 
     fn unwind_frame<
         S: EvaluationStorage,
@@ -325,15 +333,50 @@ impl DwarfUnwinding for ArchAarch64 {
         is_first_frame: bool,
         read_stack: &mut F,
     ) -> Result<UnwindResult<UnwindRuleAarch64>, DwarfUnwinderError> {
-        unwind_frame_by_row::<ArchAarch64, S, R, Section, Rules, F>(
+        let parts = parts_of_row(row, AArch64::X29, AArch64::X30);
+        unwind_frame_by_parts::<ArchAarch64, S, R, Section, F>(
             alloc,
             section,
-            row,
+            &parts,
             encoding,
             regs,
             is_first_frame,
             read_stack,
         )
+    }
+
+    #[inline(always)]
+    fn unwind_frame_by_parts<
+        S: EvaluationStorage,
+        R: Reader,
+        Section: _UnwindSectionPrivate<R>,
+        F: FnMut(u64) -> Result<u64, ()>,
+    >(
+        alloc: Global,
+        section: &Section,
+        parts: &SimpleRow,
+        encoding: Encoding,
+        regs: &mut UnwindRegsAarch64,
+        is_first_frame: bool,
+        read_stack: &mut F,
+    ) -> Result<UnwindResult<UnwindRuleAarch64>, DwarfUnwinderError> {
+        unwind_frame_by_parts::<ArchAarch64, S, R, Section, F>(
+            alloc,
+            section,
+            &parts.parts(),
+            encoding,
+            regs,
+            is_first_frame,
+            read_stack,
+        )
+    }
+
+    fn frame_pointer() -> Register {
+        <ArchAarch64 as PartsUnwinding>::frame_pointer()
+    }
+
+    fn return_address() -> Register {
+        <ArchAarch64 as PartsUnwinding>::return_address()
     }
 
     fn rule_if_uncovered_by_fde() -> UnwindRuleAarch64 {

@@ -10,17 +10,17 @@ ghost use Rattle.framehop_rules.specs.RuleMeaning.{rule_meaning, IsValid};
 ghost use Rattle.framehop_rows.specs.RowAnswer.{row_answer, register_value};
 ghost use Rattle.framehop_errors.specs.declared.dwarf.DwarfUnwinderError.TheVariants.{OutOfMemory};
 ghost use Rattle.framehop_rows.specs.RowErrors.{IsOfRow};
-ghost use Rattle.framehop_rows.specs.RowParts.{column_as, parts_as};
+ghost use Rattle.dwarf_frame_parts.specs.RowParts.{column_as, parts_as};
 ghost use Rattle.framehop_rows.specs.RuleLaws.{RulesAnswerAsRows};
 ghost use Rattle.framehop_rows.specs.ScaledRow.{raised_sp, restored_bp, from_sp, from_bp, scaled_rule};
 
 use crate::dwarf::DwarfUnwinding;
 use crate::evaluation::{DwarfUnwindRegs, eval_cfa_rule, eval_register_rule, read_below};
-use crate::parts::Parts;
-use crate::rows::{PartsUnwinding, unwind_frame_by_row};
+use crate::rows::{PartsUnwinding, unwind_frame_by_parts};
 use crate::rule_fields::{unsigned_words, words_from_base};
 use dwarf_constants::{Encoding, Register, Vendor, X86_64};
 use dwarf_expressions::EvaluationStorage;
+use dwarf_frame_parts::{Parts, SimpleRow, parts_of_row};
 use dwarf_frame_rows::{
     _UnwindSectionPrivate, CfaRule, RegisterRule, RuledRegister, UnwindTableRow,
 };
@@ -291,11 +291,19 @@ impl PartsUnwinding for ArchX86_64 {
 }
 
 impl DwarfUnwinding for ArchX86_64 {
+    ghost use Rattle.std.specs.Prelude.{refl};
     ghost use Rattle.framehop_rows.specs.RowAttemptX86_64.{rows, MeetsExpression};
+    ghost use Rattle.framehop_rows.specs.ScaledRow.{RBP, RA};
 
     ghost rows = { rows };
 
     ghost MeetsExpression = { MeetsExpression };
+
+    ghost fp = { RBP };
+
+    ghost ra = { RA };
+
+    ghost apart = { (refl, refl) };
 
     fn unwind_frame<
         S: EvaluationStorage,
@@ -312,15 +320,50 @@ impl DwarfUnwinding for ArchX86_64 {
         is_first_frame: bool,
         read_stack: &mut F,
     ) -> Result<UnwindResult<UnwindRuleX86_64>, DwarfUnwinderError> {
-        unwind_frame_by_row::<ArchX86_64, S, R, Section, Rules, F>(
+        let parts = parts_of_row(row, X86_64::RBP, X86_64::RA);
+        unwind_frame_by_parts::<ArchX86_64, S, R, Section, F>(
             alloc,
             section,
-            row,
+            &parts,
             encoding,
             regs,
             is_first_frame,
             read_stack,
         )
+    }
+
+    #[inline(always)]
+    fn unwind_frame_by_parts<
+        S: EvaluationStorage,
+        R: Reader,
+        Section: _UnwindSectionPrivate<R>,
+        F: FnMut(u64) -> Result<u64, ()>,
+    >(
+        alloc: Global,
+        section: &Section,
+        parts: &SimpleRow,
+        encoding: Encoding,
+        regs: &mut UnwindRegsX86_64,
+        is_first_frame: bool,
+        read_stack: &mut F,
+    ) -> Result<UnwindResult<UnwindRuleX86_64>, DwarfUnwinderError> {
+        unwind_frame_by_parts::<ArchX86_64, S, R, Section, F>(
+            alloc,
+            section,
+            &parts.parts(),
+            encoding,
+            regs,
+            is_first_frame,
+            read_stack,
+        )
+    }
+
+    fn frame_pointer() -> Register {
+        <ArchX86_64 as PartsUnwinding>::frame_pointer()
+    }
+
+    fn return_address() -> Register {
+        <ArchX86_64 as PartsUnwinding>::return_address()
     }
 
     fn rule_if_uncovered_by_fde() -> UnwindRuleX86_64 {

@@ -13,7 +13,7 @@ invariant-loop-place g l =
     record {
       sound : Sound l.ranges;
       last : IsLastCie g.R.Reader.stretch g.R.Offset.ReaderOffset.value (g.Section._UnwindSectionPrivate.frame l.section l.bases) l.last;
-      known : Holds g.R.Offset.ReaderOffset.value g.A.RowRules.fp g.A.RowRules.ra (g.Section._UnwindSectionPrivate.frame l.section l.bases)
+      known : Holds g.A.DwarfUnwinding.fp g.A.DwarfUnwinding.ra (g.Section._UnwindSectionPrivate.frame l.section l.bases)
           (g.Section._UnwindSectionPrivate.extensions l.section) g.S.UnwindContextStorage.limits l.known;
       done : l.ranges.done ≡ start_at l.end l.fdes l.place;
       few : length l.ranges.entries.items + room_within t (drop l.place l.fdes) ≤ room_within t l.fdes;

@@ -1,5 +1,5 @@
 use Rattle.std.proofs.Common.{refl}
-use Rattle.framehop_rows.specs.RowParts.{parts_of}
+use Rattle.dwarf_frame_parts.specs.RowParts.{parts_of}
 use Rattle.framehop_rows.specs.ScaledRowAarch64.{X29, X30, scaled_rule}
 use Rattle.framehop.proofs.RowCfas.{aarch64-cfa}
 use Rattle.framehop.proofs.row_laws.aarch64.the_cfa_becomes_sp.Goals as goal

@@ -1,5 +1,5 @@
 use Rattle.std.proofs.Common.{refl}
-use Rattle.framehop_rows.specs.RowParts.{parts_of}
+use Rattle.dwarf_frame_parts.specs.RowParts.{parts_of}
 use Rattle.framehop_rows.specs.ScaledRow.{RA, RBP, scaled_rule}
 use Rattle.framehop.proofs.RowCfas.{x86_64-cfa}
 use Rattle.framehop.proofs.row_laws.x86_64.the_cfa_becomes_sp.Goals as goal

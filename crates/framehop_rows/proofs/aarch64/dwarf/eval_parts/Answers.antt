@@ -6,7 +6,7 @@ use Rattle.framehop_registers.proofs.Laws.{over_none, over_weaker, over_both}
 use Rattle.framehop_rows.specs.Columns.{Sources, cfa_by, column_by}
 use Rattle.framehop_rows.specs.DirectRowAarch64.{restored}
 use Rattle.framehop_rows.specs.RowAnswerAarch64.{register_value}
-use Rattle.framehop_rows.specs.RowParts.{parts_as}
+use Rattle.dwarf_frame_parts.specs.RowParts.{parts_as}
 use Rattle.framehop_rows.specs.RowSources.{direct_sources}
 use Rattle.framehop_rows.proofs.DirectRowsAarch64.{refused-is, answer-is}
 use Rattle.framehop_rows.proofs.aarch64.dwarf.eval_parts.Goals as goal

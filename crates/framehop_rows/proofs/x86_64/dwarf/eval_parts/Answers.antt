@@ -5,7 +5,7 @@ use Rattle.framehop_registers.specs.Registers.{bp_of}
 use Rattle.framehop_registers.proofs.Laws.{over_both}
 use Rattle.framehop_rows.specs.Columns.{Sources, column_by}
 use Rattle.framehop_rows.specs.DirectRow.{direct_bp, frame_sources}
-use Rattle.framehop_rows.specs.RowParts.{parts_as}
+use Rattle.dwarf_frame_parts.specs.RowParts.{parts_as}
 use Rattle.framehop_rows.proofs.DirectRows.{answer_is, refused_is, caller_is}
 use Rattle.framehop_rows.proofs.x86_64.dwarf.eval_parts.Goals as goal
 

@@ -1,0 +1,4 @@
+pub mod PartsLaws
+pub mod PartsOfRows
+pub mod PartsSteps
+pub mod RowsLeft
