@@ -3,10 +3,10 @@
 #![tactic(auto)]
 
 use anyhow::Result;
-use itanium_names::{Failure, demangled};
 use std::alloc::Global;
 use std::io;
 use std::io::{BufWriter, Read, Write};
+use symbol_names::demangled;
 
 fn write_line<W: Write>(out: &mut W, line: &[u8]) -> io::Result<()> {
     out.write_all(line)?;
@@ -14,10 +14,9 @@ fn write_line<W: Write>(out: &mut W, line: &[u8]) -> io::Result<()> {
 }
 
 fn show_name<W: Write>(alloc: Global, out: &mut W, name: &str) -> Result<()> {
-    match demangled(alloc, name.as_bytes()) {
-        Ok(text) => write_line(out, &text)?,
-        Err(Failure::NotUnderstood) => write_line(out, name.as_bytes())?,
-        Err(failure) => return Err(failure.into()),
+    match demangled(alloc, name.as_bytes())? {
+        Some(text) => write_line(out, &text)?,
+        None => write_line(out, name.as_bytes())?,
     }
     Ok(())
 }
