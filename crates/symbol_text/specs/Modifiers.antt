@@ -1,5 +1,5 @@
 -- Types that are made of another type (Itanium C++ ABI, 5.1.5.1 and 5.1.5.3), as C++ declares them.
-use Rattle.std.specs.Prelude.{ℕ, zero, suc, ◌-◌, ◌+◌, Bool, true, false, List, [], ◌∷◌, ◌++◌, length, slice_get, slice_range, codes, nat_eq, nat_lt, if◌then◌else◌, Option, Some, None}
+use Rattle.std.specs.Prelude.{ℕ, zero, suc, ◌-◌, ◌+◌, Bool, true, false, List, [], ◌∷◌, ◌++◌, length, slice_get, slice_range, codes, nat_eq, nat_le, nat_lt, if◌then◌else◌, Option, Some, None}
 use Rattle.std.specs.List.{ends_with}
 use Rattle.symbol_text.specs.declared.piece.Kind.{Kind}
 use Rattle.symbol_text.specs.declared.piece.Kind.TheVariants.{Plain, Name, Special, Template, Function, Array, Reference, RvalueReference}
@@ -7,6 +7,7 @@ use Rattle.symbol_text.specs.declared.piece.Piece.{Piece}
 use Rattle.symbol_text.specs.declared.piece.Span.{Span}
 use Rattle.symbol_text.specs.declared.piece.TheConstants.{NOWHERE}
 use Rattle.symbol_text.specs.declared.modifiers.Modifier.{Modifier}
+use Rattle.symbol_text.specs.declared.modifiers.TheConstants.{ELEMENT_LIMIT}
 use Rattle.symbol_text.specs.declared.modifiers.Modifier.TheVariants as modifiers
 use Rattle.symbol_text.specs.Texts.{◌>>=◌, appended, copied}
 
@@ -110,12 +111,13 @@ modified modifiers.Restrict piece text = qualified piece (words_of modifiers.Res
 modified modifiers.Complex piece text = qualified piece (words_of modifiers.Complex) text
 modified modifiers.Imaginary piece text = qualified piece (words_of modifiers.Imaginary) text
 
--- The type that is made of one element, behind all others, and the text with it.
+-- The type that is made of one element, behind all others, and the text with it. There may be so many elements.
 unfoldable pub modified_at : Modifier → ℕ → List Piece → List ℕ → Option (List Piece × List ℕ)
 modified_at modifier at elements text =
-    slice_get elements at >>= (λ element.
+    if nat_le ELEMENT_LIMIT (length elements) then None else
+    (slice_get elements at >>= (λ element.
     modified modifier element text >>= (λ made.
-    Some (elements ++ made.0 ∷ [], made.1)))
+    Some (elements ++ made.0 ∷ [], made.1))))
 
 -- The types that are made of some elements, behind all others, and the text with them.
 abbrev pub modified_all : Modifier → ℕ → ℕ → List Piece → List ℕ → Option (List Piece × List ℕ)

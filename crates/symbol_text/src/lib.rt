@@ -11,7 +11,7 @@ mod writing;
 
 pub use failure::Failure;
 pub use joining::join;
-pub use modifiers::{Modifier, closing, modify, modify_all, opening};
+pub use modifiers::{ELEMENT_LIMIT, Modifier, closing, modify, modify_all, opening};
 pub use numerals::{Numerals, after_byte, number_at, ordinal_at};
 pub use piece::{Kind, NOWHERE, Piece, Span};
 pub use writing::{TEXT_LIMIT, append, append_decimal, copy, copy_whole, last_byte};

@@ -183,6 +183,9 @@ pub fn modify(text: &mut Vec<u8>, piece: Piece, modifier: Modifier) -> Result<Pi
     }
 }
 
+/// How many elements there may be where types are made of those of a pack, which may take no text.
+pub const ELEMENT_LIMIT: usize = 1 << 16;
+
 // The type that is made of one element, behind all other elements.
 #[tactic(auto, unfolding(crate::specs::Modifiers::modified_at))]
 fn modify_at(
@@ -194,6 +197,9 @@ fn modify_at(
     ensures { Gives (λ _. (elements.new.items, text.new.items)) result
         (modified_at modifier at elements.old.items text.old.items) }
 {
+    if ELEMENT_LIMIT <= elements.len() {
+        return Err(Failure::NotUnderstood);
+    }
     let Some(element) = elements.get(at).copied() else {
         return Err(Failure::NotUnderstood);
     };
