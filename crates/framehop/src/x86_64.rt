@@ -1,9 +1,9 @@
 //! The unwinder of x86_64.
 
-ghost use Rattle.std.specs.Prelude.{◌≡◌, IfOk, OnOk, OnErr, None, [], replicate};
+ghost use Rattle.std.specs.Prelude.{◌≡◌, IfOk, OnOk, OnErr, []};
 ghost use Rattle.std.specs.List.{All};
 ghost use Rattle.framehop_histories.specs.CommandViews.{OfCallback};
-ghost use Rattle.framehop_rules.specs.Slots.{no_counts};
+ghost use Rattle.framehop_rules.specs.Slots.{new_kept};
 ghost use Rattle.framehop_unwinder.specs.CacheViews.{rules_of};
 ghost use Rattle.framehop.specs.Performances.{PerformsX86_64};
 
@@ -18,6 +18,7 @@ pub use framehop_analysis::x86_64::{
 use framehop_modules::SectionBytes;
 pub use framehop_rows::x86_64::rule_answers_as_its_row;
 use framehop_rules::CacheStats;
+pub use framehop_rules::SlotCount;
 pub use framehop_rules::x86_64::{
     ArchX86_64, OffsetOrPop, PopList, Reg, UnwindRegsX86_64, UnwindRuleX86_64, decode, encode,
 };
@@ -39,23 +40,36 @@ pub struct CacheX86_64<P: AllocationPolicy = MayAllocateDuringUnwind>(
 );
 
 impl CacheX86_64<MayAllocateDuringUnwind> {
-    /// A new cache for steps that may allocate. Fails if it fails to allocate.
+    /// A new cache of 509 slots, for steps that may allocate. Fails if it fails to allocate.
     pub fn new(alloc: Global) -> Result<Self, AllocError>
-        ensures slots { IfOk result (λ cache. (rules_of cache.0).slots ≡ replicate 509 None) }
-        ensures counts { IfOk result (λ cache. (rules_of cache.0).counts ≡ no_counts) }
+        ensures { IfOk result (λ cache. rules_of cache.0 ≡ new_kept 509) }
     {
         CacheX86_64::new_in(alloc)
+    }
+
+    /// A new cache of so many slots, for steps that may allocate. Fails if it fails to allocate.
+    pub fn with_slots(alloc: Global, slots: SlotCount) -> Result<Self, AllocError>
+        ensures { IfOk result (λ cache. rules_of cache.0 ≡ new_kept slots) }
+    {
+        CacheX86_64::with_slots_in(alloc, slots)
     }
 }
 
 impl<P: AllocationPolicy> CacheX86_64<P> {
-    /// A new cache for steps under the policy `P`. Fails if it fails to allocate.
+    /// A new cache of 509 slots, for steps under the policy `P`. Fails if it fails to allocate.
     pub fn new_in(alloc: Global) -> Result<Self, AllocError>
-        ensures slots { IfOk result (λ cache. (rules_of cache.0).slots ≡ replicate 509 None) }
-        ensures counts { IfOk result (λ cache. (rules_of cache.0).counts ≡ no_counts) }
+        ensures { IfOk result (λ cache. rules_of cache.0 ≡ new_kept 509) }
     {
         let unwind_context = DwarfUnwindContext::new(alloc)?;
         Ok(CacheX86_64(Cache::new(alloc, unwind_context)?))
+    }
+
+    /// A new cache of so many slots, for steps under the policy `P`. Fails if it fails to allocate.
+    pub fn with_slots_in(alloc: Global, slots: SlotCount) -> Result<Self, AllocError>
+        ensures { IfOk result (λ cache. rules_of cache.0 ≡ new_kept slots) }
+    {
+        let unwind_context = DwarfUnwindContext::new(alloc)?;
+        Ok(CacheX86_64(Cache::with_slots(alloc, unwind_context, slots)?))
     }
 
     /// How many look-ups found a rule so far, and why the others found none.

@@ -19,7 +19,7 @@ use Rattle.framehop_histories.specs.StateAfter.{state_after, state_done, walk_pl
 -- the reply from these parts of a state
 abbrev reply_by : {D R Regs : Type 0} → Meanings D R Regs → Act D Regs → List (List (Loaded D)) → ℕ → ℕ → List (Walk Regs) → Reply Regs
 reply_by m NewUnwinder modules caches next walks = if nat_lt next (2 ^ 64 - 1) then Added else Exhausted
-reply_by m NewCache modules caches next walks = Added
+reply_by m (NewCache slots) modules caches next walks = Added
 reply_by m (Load i module_) modules caches next walks = if_known (slice_get modules i) (λ found. if nat_lt next (2 ^ 64 - 1) then Added else Exhausted)
 reply_by m (Unload i start) modules caches next walks =
     if_known (slice_get modules i) (λ found. if is_loaded_at start found then (if nat_lt next (2 ^ 64 - 1) then Removed else Exhausted) else Removed)
@@ -36,7 +36,7 @@ modules-in {D} unwinders = map (λ (u : Loads (Loaded D)). u.modules) unwinders
 by-parts : {D R Regs : Type 0} (m : Meanings D R Regs) (act : Act D Regs) (state : CommandState D Regs)
     → reply_to m act state ≡ reply_by m act (modules-in state.model.unwinders) (length state.model.histories) state.model.next state.walks
 by-parts m NewUnwinder state = refl
-by-parts m NewCache state = refl
+by-parts m (NewCache slots) state = refl
 by-parts m (Load i module_) state = refl
 by-parts m (Unload i start) state = refl
 by-parts m (Clone i) state = refl
@@ -106,9 +106,9 @@ module _ {D R Regs : Type 0} (m : Meanings D R Regs) where
     next = ap (λ n. n + 1) alike.next;
     walks = alike.walks;
   }
-  done-alike NewCache one other alike = record {
+  done-alike (NewCache slots) one other alike = record {
     modules = alike.modules;
-    caches = length-append one.model.histories (no_history ∷ []) ∙ ap (λ n. n + 1) alike.caches ∙ sym (length-append other.model.histories (no_history ∷ []));
+    caches = length-append one.model.histories (no_history slots ∷ []) ∙ ap (λ n. n + 1) alike.caches ∙ sym (length-append other.model.histories (no_history slots ∷ []));
     next = alike.next;
     walks = alike.walks;
   }
@@ -149,7 +149,7 @@ module _ {D R Regs : Type 0} (m : Meanings D R Regs) where
 
   refused-alike : (act : Act D Regs) (one other : CommandState D Regs) → AreAlike one other → AreAlike (state_after m act one None) (state_after m act other None)
   refused-alike NewUnwinder one other alike = alike
-  refused-alike NewCache one other alike = alike
+  refused-alike (NewCache slots) one other alike = alike
   refused-alike (Load i module_) one other alike = alike
   refused-alike (Unload i start) one other alike = alike
   refused-alike (Clone i) one other alike = alike

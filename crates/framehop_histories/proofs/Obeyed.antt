@@ -19,7 +19,8 @@ use Rattle.framehop_unwinder.specs.Judge.{judge}
 use Rattle.framehop_unwinder.specs.Memory.{AsksMemory, WantsMemoryOnlyIf}
 use Rattle.framehop_unwinder.specs.Modules.{Loaded, Loads, with_loaded, without_loaded, is_loaded_at}
 use Rattle.framehop_unwinder.specs.Moves.{MoveAsks}
-use Rattle.framehop_unwinder.specs.State.{ChangesCaches, SessionState, new_cache, unwinder_at, loads_with, with_modules, histories_after_step, histories_after_move}
+use Rattle.framehop_rules.specs.Slots.{new_kept}
+use Rattle.framehop_unwinder.specs.State.{ChangesCaches, SessionState, with_cache, unwinder_at, loads_with, with_modules, histories_after_step, histories_after_move}
 use Rattle.framehop_unwinder.specs.Trials.{wants_memory}
 use Rattle.framehop_unwinder.specs.Walk.{Walk, WalkPosition, Starts, At, Over, Move, move}
 use Rattle.framehop_unwinder.specs.WalkViews.{walk_from, walk_of, place_of, frame_answer, move_made}
@@ -187,18 +188,18 @@ module _ {D R Regs : Type 0} (takes : Bool) (asks : D → ℕ → Bool → Type 
   unwinder-refused s new not_last same = λ ws. from-any NewUnwinder s new ws ws None (λ hs count. stays NewUnwinder s new hs ws ws None (ap is_done (left s.next Added not_last), tt) refl same refl count)
 
   -- a new cache
-  pub cache-made : (s new : SessionState D R) → new ≡ record s { caches = s.caches ++ new_cache ∷ [] }
-      → ((hs : List KeyHistory) → HaveHistories hs s.caches → HaveHistories (hs ++ no_history ∷ []) new.caches)
-      → MeetsInSession NewCache s (Some Added) new
-  cache-made s new e keeps = λ ws. from-any NewCache s new ws ws (Some Added) (λ hs count.
-      is-obeyed NewCache s new hs (hs ++ no_history ∷ []) ws ws ws s.unwinders s.next (Some Added) refl refl
+  pub cache-made : (slots : ℕ) (s new : SessionState D R) → new ≡ with_cache s slots
+      → ((hs : List KeyHistory) → HaveHistories hs s.caches → HaveHistories (hs ++ no_history slots ∷ []) new.caches)
+      → MeetsInSession (NewCache slots) s (Some Added) new
+  cache-made slots s new e keeps = λ ws. from-any (NewCache slots) s new ws ws (Some Added) (λ hs count.
+      is-obeyed (NewCache slots) s new hs (hs ++ no_history slots ∷ []) ws ws ws s.unwinders s.next (Some Added) refl refl
       (ap (λ (x : SessionState D R). x.unwinders) e) (ap (λ (x : SessionState D R). x.next) e)
-      (let made : length new.caches ≡ length (s.caches ++ new_cache ∷ []) = ap (λ (x : SessionState D R). length x.caches) e in
-      omega (arith, made, count, length-append s.caches (new_cache ∷ []), length-append hs (no_history ∷ [])))
+      (let made : length new.caches ≡ length (s.caches ++ new_kept slots ∷ []) = ap (λ (x : SessionState D R). length x.caches) e in
+      omega (arith, made, count, length-append s.caches (new_kept slots ∷ []), length-append hs (no_history slots ∷ [])))
       refl (keeps hs))
 
-  pub cache-refused : (s new : SessionState D R) → new ≡ s → MeetsInSession NewCache s None new
-  cache-refused s new same = λ ws. from-any NewCache s new ws ws None (λ hs count. stays NewCache s new hs ws ws None (refl, tt) refl same refl count)
+  pub cache-refused : (slots : ℕ) (s new : SessionState D R) → new ≡ s → MeetsInSession (NewCache slots) s None new
+  cache-refused slots s new same = λ ws. from-any (NewCache slots) s new ws ws None (λ hs count. stays (NewCache slots) s new hs ws ws None (refl, tt) refl same refl count)
 
   -- a load
   pub load-unknown : (s : SessionState D R) (i : ℕ) (module_ : Loaded D) → length s.unwinders ≤ i → MeetsInSession (Load i module_) s (Some Unknown) s

@@ -16,7 +16,7 @@ use Rattle.framehop_histories.specs.declared.commands.Command.TheVariants.{NewUn
 abbrev pub act_of : {Data Context Registers Callback : Type 0} → (Callback → Words) → Command Data Context Registers Callback
     → Act Data Registers
 act_of words NewUnwinder = commands.NewUnwinder
-act_of words (NewCache unwind_context) = commands.NewCache
+act_of words (NewCache slots unwind_context) = commands.NewCache slots
 act_of words (Load unwinder module_) = commands.Load unwinder module_
 act_of words (Unload unwinder start) = commands.Unload unwinder start
 act_of words (Clone unwinder) = commands.Clone unwinder
@@ -43,7 +43,7 @@ walks_of walks = map walk_of walks
 abbrev pub OfCallback : {Data Context Registers Callback : Type 0} → (Callback → Type 0)
     → Command Data Context Registers Callback → Type 0
 OfCallback Statement NewUnwinder = Unit {0}
-OfCallback Statement (NewCache unwind_context) = Unit {0}
+OfCallback Statement (NewCache slots unwind_context) = Unit {0}
 OfCallback Statement (Load unwinder module_) = Unit {0}
 OfCallback Statement (Unload unwinder start) = Unit {0}
 OfCallback Statement (Clone unwinder) = Unit {0}

@@ -16,7 +16,7 @@ use Rattle.framehop_unwinder.specs.Walk.{Walk, Move, move}
 -- the words of the stack in place of a callback.
 pub data Act (Data Registers : Type 0) : Type 0 where
   NewUnwinder : Act Data Registers
-  NewCache : Act Data Registers
+  NewCache : (slots : ℕ) → Act Data Registers
   Load : (unwinder : ℕ) → Loaded Data → Act Data Registers
   Unload : (unwinder start : ℕ) → Act Data Registers
   Clone : (unwinder : ℕ) → Act Data Registers
@@ -72,7 +72,7 @@ moved made = Moved made.answer made.walk.registers
 abbrev pub reply_to : {Data Rule Registers : Type 0} → Meanings Data Rule Registers → Act Data Registers → CommandState Data Registers
     → Reply Registers
 reply_to m NewUnwinder state = if_left state Added
-reply_to m NewCache state = Added
+reply_to m (NewCache slots) state = Added
 reply_to m (Load unwinder module_) state = if_known (modules_of state unwinder) (λ modules. if_left state Added)
 reply_to m (Unload unwinder start) state = if_known (modules_of state unwinder) (λ modules.
     if is_loaded_at start modules then if_left state Removed else Removed)

@@ -11,7 +11,7 @@ use Rattle.framehop_histories.specs.StateAfter.{state_after, walk_place}
 -- one that is found for the frame asks for it.
 abbrev pub MayAsk : {Data Registers : Type 0} → Bool → (Data → ℕ → Bool → Type 0) → Act Data Registers → CommandState Data Registers → Type 0
 MayAsk takes_memory asks NewUnwinder state = Unit {0}
-MayAsk takes_memory asks NewCache state = Unit {0}
+MayAsk takes_memory asks (NewCache slots) state = Unit {0}
 MayAsk takes_memory asks (Load unwinder module_) state = Unit {0}
 MayAsk takes_memory asks (Unload unwinder start) state = ⊥
 MayAsk takes_memory asks (Clone unwinder) state = Unit {0}

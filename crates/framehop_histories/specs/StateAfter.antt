@@ -45,7 +45,7 @@ walk_place walks walk = unwrap_or (option_map (λ there. there.position) (slice_
 abbrev pub model_after : {Data Rule Registers : Type 0} → Meanings Data Rule Registers → Act Data Registers → List (Walk Registers)
     → SessionModel Data → SessionModel Data
 model_after m NewUnwinder walks model = with_number (model.unwinders ++ loads_with [] model.next ∷ []) model
-model_after m NewCache walks model = record model { histories = model.histories ++ no_history ∷ [] }
+model_after m (NewCache slots) walks model = record model { histories = model.histories ++ no_history slots ∷ [] }
 model_after m (Load unwinder module_) walks model =
     model_with_modules unwinder (with_loaded module_ (modules_in unwinder model)) model
 model_after m (Unload unwinder start) walks model =
@@ -62,7 +62,7 @@ model_after m (NextFrame unwinder cache walk words) walks model =
 abbrev pub model_refused : {Data Rule Registers : Type 0} → Meanings Data Rule Registers → Act Data Registers → List (Walk Registers)
     → SessionModel Data → SessionModel Data
 model_refused m NewUnwinder walks model = model
-model_refused m NewCache walks model = model
+model_refused m (NewCache slots) walks model = model
 model_refused m (Load unwinder module_) walks model = model
 model_refused m (Unload unwinder start) walks model = model
 model_refused m (Clone unwinder) walks model = model
@@ -80,7 +80,7 @@ with_moved judgment words walk walks =
 abbrev pub walks_after : {Data Rule Registers : Type 0} → Meanings Data Rule Registers → Act Data Registers → SessionModel Data
     → List (Walk Registers) → List (Walk Registers)
 walks_after m NewUnwinder model walks = walks
-walks_after m NewCache model walks = walks
+walks_after m (NewCache slots) model walks = walks
 walks_after m (Load unwinder module_) model walks = walks
 walks_after m (Unload unwinder start) model walks = walks
 walks_after m (Clone unwinder) model walks = walks

@@ -13,7 +13,7 @@ ghost use Rattle.framehop_unwinder.specs.WalkViews.{frame_answer, walk_of};
 ghost use Rattle.framehop_unwinder.specs.declared.iterator.StackWalk.{StackWalk};
 
 use framehop_modules::LoadError;
-use framehop_rules::{Error, FrameAddress};
+use framehop_rules::{Error, FrameAddress, SlotCount};
 use framehop_unwinder::{AddUnwinderError, Module, ModuleUnwinding, Session, StackWalk};
 use std::alloc::{AllocError, Global};
 use std::collections::VecDeque;
@@ -24,8 +24,8 @@ use std::collections::VecDeque;
 pub enum Command<D, C, R, F> {
     /// A new unwinder without a module.
     NewUnwinder,
-    /// A new cache with this room.
-    NewCache(C),
+    /// A new cache of so many slots, with this room.
+    NewCache(SlotCount, C),
     /// Loads a module in an unwinder.
     Load(usize, Module<D>),
     /// Unloads the last of the modules of an unwinder that start at an address, if one does.
@@ -105,17 +105,18 @@ pub fn new_unwinder<A: ModuleUnwinding>(
     }
 }
 
-/// A new cache with this room, the last.
+/// A new cache of so many slots, with this room, the last.
 pub fn new_cache<A: ModuleUnwinding>(
     session: &mut Session<A>,
     alloc: Global,
+    slots: SlotCount,
     unwind_context: A::UnwindContext,
 ) -> Answer<A::UnwindRegs>
-    ensures obeys { ObeysInSession A.takes_memory A.asks_memory A.meanings NewCache
+    ensures obeys { ObeysInSession A.takes_memory A.asks_memory A.meanings (NewCache slots)
         session.old result session.new }
     ensures stays { StaysUnlessDone result session.old session.new }
 {
-    match session.add_cache(alloc, unwind_context) {
+    match session.add_cache_with_slots(alloc, unwind_context, slots) {
         Ok(()) => Answer::Added,
         Err(_) => Answer::OutOfMemory,
     }
@@ -262,7 +263,9 @@ fn obey<A: ModuleUnwinding, F: FnMut(u64) -> Result<u64, ()> + Drop>(
 {
     match command {
         Command::NewUnwinder => new_unwinder(session, alloc),
-        Command::NewCache(unwind_context) => new_cache(session, alloc, unwind_context),
+        Command::NewCache(slots, unwind_context) => {
+            new_cache(session, alloc, slots, unwind_context)
+        }
         Command::Load(unwinder, module) => load(session, unwinder, module),
         Command::Unload(unwinder, start) => unload(session, unwinder, start),
         Command::Clone(unwinder) => clone_unwinder(session, alloc, unwinder),

@@ -1,3 +1,4 @@
+mod CacheSlots
 mod LastKept
 pub mod Laws
 mod Parts

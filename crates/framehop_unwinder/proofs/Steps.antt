@@ -8,7 +8,7 @@ use Rattle.framehop_registers.specs.declared.code_address.FrameAddress.TheVarian
 use Rattle.framehop_registers.specs.declared.error.Error.{Error}
 use Rattle.framehop_registers.specs.declared.error.Error.TheVariants.{CouldNotReadStack, FramepointerUnwindingMovedBackwards, DidNotAdvance, IntegerOverflow, ReturnAddressIsNull, OutOfMemory}
 use Rattle.framehop_rules.specs.Outcome.{IsOfRule}
-use Rattle.framehop_rules.specs.Slots.{Key, KeptRule, Finding, Hits, EmptySlot, OtherModules, OtherAddress, key_of}
+use Rattle.framehop_rules.specs.Slots.{Key, Layout, Finding, Hits, EmptySlot, OtherModules, OtherAddress, found_in, key_of}
 use Rattle.framehop_rules.specs.CacheViews.{result_of}
 use Rattle.framehop_rules.specs.declared.rule_cache.CacheResult.TheVariants.{Miss, Hit}
 use Rattle.framehop_unwinder.specs.Attempt.{Attempt, Says, Evaluates, SaysNothing, Meanings, attempt_at}
@@ -16,7 +16,7 @@ use Rattle.framehop_unwinder.specs.Frames.{frame_of, lookup_address}
 use Rattle.framehop_unwinder.specs.Judge.{by_attempt, judge_at}
 use Rattle.framehop_unwinder.specs.Memory.{AsksMemoryAt, AsksMemory}
 use Rattle.framehop_unwinder.specs.Modules.{Loaded, module_found}
-use Rattle.framehop_unwinder.specs.RulesKept.{rule_of_attempt, rule_kept, key_for, with_any, with_missed, finding_in, slots_after}
+use Rattle.framehop_unwinder.specs.RulesKept.{Sets, rule_of_attempt, rule_kept, key_for, with_any, with_missed, sets_after}
 use Rattle.framehop_unwinder.specs.Trials.{has_wanted, rule_of_result, wants_memory}
 use Rattle.framehop_unwinder.specs.declared.unwinding.UnwindFailure.{UnwindFailure}
 use Rattle.framehop_unwinder.specs.declared.unwinding.UnwindFailure.TheVariants as failure
@@ -72,7 +72,7 @@ module _ {Data Rule Registers : Type 0} (m : Meanings Data Rule Registers) (firs
   pub kept-judged : (modules : List (Loaded Data)) (address generation : ℕ) (rule : Rule) → rule_kept m modules (key_of address first generation) ≡ Some rule → judge_at m modules first address registers words ≡ m.meaning rule first registers words
   kept-judged modules address generation rule is = kept-attempt (attempt_at m modules first address) rule is
 
-module _ {Rule : Type 0} (kept : Key → Option Rule) (key : Key) (slots : List (Option (KeptRule Rule))) where
+module _ {Rule : Type 0} (kept : Key → Option Rule) (key : Key) (layout : Layout) (sets : Sets Rule) where
   hit-of : (look_up : Finding Rule) (rule : Rule) → Hit rule ≡ result_of key look_up → look_up ≡ Hits rule
   hit-of (Hits r) rule is = let e : rule ≡ r = cc in ap (λ x. Hits x) (sym e)
   hit-of EmptySlot rule is = absurd cc
@@ -80,19 +80,19 @@ module _ {Rule : Type 0} (kept : Key → Option Rule) (key : Key) (slots : List 
   hit-of OtherAddress rule is = absurd cc
 
   -- a look-up that hits finds the rule
-  pub hit-found : (rule : Rule) → Hit rule ≡ result_of key (finding_in slots key) → finding_in slots key ≡ Hits rule
-  hit-found rule is = hit-of (finding_in slots key) rule is
+  pub hit-found : (rule : Rule) → Hit rule ≡ result_of key (found_in layout sets key) → found_in layout sets key ≡ Hits rule
+  hit-found rule is = hit-of (found_in layout sets key) rule is
 
-  miss-of : (look_up : Finding Rule) (handle : Key) (rule : Option Rule) → Miss handle ≡ result_of key look_up → with_any slots handle rule ≡ with_missed slots key rule look_up
+  miss-of : (look_up : Finding Rule) (handle : Key) (rule : Option Rule) → Miss handle ≡ result_of key look_up → with_any layout sets handle rule ≡ with_missed layout sets key rule look_up
   miss-of (Hits r) handle rule is = absurd cc
-  miss-of EmptySlot handle rule is = let e : handle ≡ key = cc in ap (λ k. with_any slots k rule) e
-  miss-of OtherModules handle rule is = let e : handle ≡ key = cc in ap (λ k. with_any slots k rule) e
-  miss-of OtherAddress handle rule is = let e : handle ≡ key = cc in ap (λ k. with_any slots k rule) e
+  miss-of EmptySlot handle rule is = let e : handle ≡ key = cc in ap (λ k. with_any layout sets k rule) e
+  miss-of OtherModules handle rule is = let e : handle ≡ key = cc in ap (λ k. with_any layout sets k rule) e
+  miss-of OtherAddress handle rule is = let e : handle ≡ key = cc in ap (λ k. with_any layout sets k rule) e
 
   -- after one that misses, what is to be kept is
-  pub miss-keeps : (wanted : Bool) (handle : Key) (rule : Option Rule) → Miss handle ≡ result_of key (finding_in slots key) → (wanted ≡ true → rule ≡ None) → (wanted ≡ false → rule ≡ kept key) → with_any slots handle rule ≡ slots_after wanted kept key slots
-  miss-keeps true handle rule is none same = ap (with_any slots handle) (none refl)
-  miss-keeps false handle rule is none same = miss-of (finding_in slots key) handle rule is ∙ ap (λ r. with_missed slots key r (finding_in slots key)) (same refl)
+  pub miss-keeps : (wanted : Bool) (handle : Key) (rule : Option Rule) → Miss handle ≡ result_of key (found_in layout sets key) → (wanted ≡ true → rule ≡ None) → (wanted ≡ false → rule ≡ kept key) → with_any layout sets handle rule ≡ sets_after wanted kept key layout sets
+  miss-keeps true handle rule is none same = ap (with_any layout sets handle) (none refl)
+  miss-keeps false handle rule is none same = miss-of (found_in layout sets key) handle rule is ∙ ap (λ r. with_missed layout sets key r (found_in layout sets key)) (same refl)
 
 -- where memory was wanted nothing is to be kept
 pub wanted-keeps-none : {Rule : Type 0} (fallback : Rule) (answer : Result (UnwindResult Rule) UnwindFailure) → has_wanted answer ≡ true → rule_of_result fallback answer ≡ None

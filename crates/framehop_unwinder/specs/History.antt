@@ -1,16 +1,21 @@
 -- A cache by the list of all keys that were kept in it.
-use Rattle.std.specs.Prelude.{ℕ, ◌≡◌, List, [], ◌∷◌, ◌++◌, length, Bool, Option, Some, None, option_map, slice_set, slice_index_or, if◌then◌else◌}
-use Rattle.framehop_rules.specs.LastKept.{last_key}
-use Rattle.framehop_rules.specs.Slots.{Key, KeptRule, Kept, Finding, Hits, EmptySlot, OtherModules, OtherAddress, finding_for, slot_of, entry_in, no_counts, counts_after}
+use Rattle.std.specs.Prelude.{ℕ, ◌≡◌, List, [], ◌∷◌, ◌++◌, length, map, Bool, Option, Some, None, option_map, slice_set, slice_index_or, if◌then◌else◌}
+use Rattle.framehop_rules.specs.LastKept.{last_keys}
+use Rattle.framehop_rules.specs.Slots.{Key, KeptRule, Kept, Layout, Finding, Hits, EmptySlot, OtherModules, OtherAddress, finding_among, found_by, key_in, layout_of, sets_in, set_of, slots_of, no_counts, counts_after}
 use Rattle.framehop_rules.specs.declared.rule_cache.CacheStats.{CacheStats}
+use Rattle.framehop_unwinder.specs.RulesKept.{sets_after}
 
 -- a key in a slot, without its rule
 abbrev pub bare_entry : Key → KeptRule (Unit {0})
 bare_entry key = record { key = key; rule = tt }
 
--- what a look-up finds after these keys were kept: the last of the slot decides
-abbrev pub finding_after : List Key → Key → Finding (Unit {0})
-finding_after keys key = finding_for key (option_map bare_entry (last_key keys (slot_of key.address)))
+-- slots with keys, without their rules
+abbrev pub bare_slots : List (Option Key) → List (Option (KeptRule (Unit {0})))
+bare_slots keys = map (option_map bare_entry) keys
+
+-- what a look-up finds after these keys were kept: the last of the set decide
+abbrev pub finding_after : Layout → List Key → Key → Finding (Unit {0})
+finding_after layout keys key = finding_among key (bare_slots (last_keys layout keys (set_of layout key.address)))
 
 -- the keys with one more, if there is a rule to keep
 abbrev pub with_key : {Rule : Type 0} → List Key → Key → Option Rule → List Key
@@ -26,32 +31,47 @@ with_missed_key keys key kept OtherAddress = with_key keys key kept
 
 -- the keys kept after a step under a key: one more if and only if the look-up missed and there is a rule to keep. Nothing is kept
 -- if the step was out of memory
-abbrev pub keys_after : {Rule : Type 0} → Bool → (Key → Option Rule) → Key → List Key → List Key
-keys_after wanted kept key keys = if wanted then keys else with_missed_key keys key (kept key) (finding_after keys key)
+abbrev pub keys_after : {Rule : Type 0} → Bool → (Key → Option Rule) → Key → Layout → List Key → List Key
+keys_after wanted kept key layout keys =
+    if wanted then keys else with_missed_key keys key (kept key) (finding_after layout keys key)
 
--- Of 509 slots, each has the last of the keys that were kept in it.
-pub record HasLastKeys {Rule : Type 0} (keys : List Key) (slots : List (Option (KeptRule Rule))) : Type 0 where
-  pub count : length slots ≡ 509
-  pub each : (slot : ℕ) → option_map (λ entry. entry.key) (entry_in slots slot) ≡ last_key keys slot
+-- Each set has the last of the keys that were kept in it.
+pub record HasLastKeys {Rule : Type 0} (layout : Layout) (keys : List Key) (sets : List (List (Option (KeptRule Rule)))) : Type 0 where
+  pub count : length sets ≡ sets_in layout
+  pub each : (set : ℕ) → map key_in (slots_of layout sets set) ≡ last_keys layout keys set
 
--- The history of a cache: the keys that were kept in it so far, in their order, and its counts.
+-- if each set of a cache has the last of these keys, it has so after a step, of which a rule may be kept
+abbrev pub KeepsLastKeys : {Rule : Type 0} → Key → List Key → Kept Rule → Type 0
+KeepsLastKeys {Rule} key keys cache =
+    (wanted : Bool) (kept : Key → Option Rule) → HasLastKeys cache.layout keys cache.sets
+    → HasLastKeys cache.layout (keys_after wanted kept key cache.layout keys) (sets_after wanted kept key cache.layout cache.sets)
+
+-- if each set of a cache has the last of these keys, they decide what a look-up is counted as
+abbrev pub KeysDecideCounts : {Rule : Type 0} → Key → List Key → Kept Rule → Type 0
+KeysDecideCounts key keys cache =
+    (counts : CacheStats) → HasLastKeys cache.layout keys cache.sets
+    → counts_after (found_by cache key) counts ≡ counts_after (finding_after cache.layout keys key) counts
+
+-- The history of a cache: its layout, the keys that were kept in it so far, in their order, and its counts.
 pub record KeyHistory : Type 0 where
+  pub layout : Layout
   pub keys : List Key
   pub counts : CacheStats
 
--- nothing was kept and counted yet
-abbrev pub no_history : KeyHistory
-no_history = record { keys = []; counts = no_counts }
+-- in a cache of so many slots, nothing was kept and counted yet
+abbrev pub no_history : ℕ → KeyHistory
+no_history slots = record { layout = layout_of slots; keys = []; counts = no_counts }
 
 -- a history of a list
 abbrev pub history_at : List KeyHistory → ℕ → KeyHistory
-history_at histories i = slice_index_or histories i no_history
+history_at histories i = slice_index_or histories i (no_history 509)
 
 -- the history of a cache after a step under a key
 abbrev pub history_after : {Rule : Type 0} → Bool → (Key → Option Rule) → Key → KeyHistory → KeyHistory
 history_after wanted kept key history = record {
-  keys = keys_after wanted kept key history.keys;
-  counts = counts_after (finding_after history.keys key) history.counts;
+  layout = history.layout;
+  keys = keys_after wanted kept key history.layout history.keys;
+  counts = counts_after (finding_after history.layout history.keys key) history.counts;
 }
 
 -- the histories of caches after a step under a key through one of them
@@ -61,7 +81,8 @@ histories_after wanted kept key cache histories =
 
 -- A cache that this history has made.
 pub record HasHistory {Rule : Type 0} (history : KeyHistory) (cache : Kept Rule) : Type 0 where
-  pub keys : HasLastKeys history.keys cache.slots
+  pub layout : cache.layout ≡ history.layout
+  pub keys : HasLastKeys history.layout history.keys cache.sets
   pub counts : cache.counts ≡ history.counts
 
 -- caches that these histories have made, one each
@@ -70,3 +91,8 @@ HaveHistories [] [] = Unit {0}
 HaveHistories [] (cache ∷ caches) = ⊥
 HaveHistories (history ∷ histories) [] = ⊥
 HaveHistories (history ∷ histories) (cache ∷ caches) = HasHistory history cache × HaveHistories histories caches
+
+-- beside caches that histories have made there is a new one, of so many slots
+abbrev pub GainNewHistory : {Rule : Type 0} → ℕ → (old new : List (Kept Rule)) → Type 0
+GainNewHistory slots old new =
+    (histories : List KeyHistory) → HaveHistories histories old → HaveHistories (histories ++ no_history slots ∷ []) new

@@ -1,7 +1,7 @@
 -- Unwinders and caches under one counter.
-use Rattle.std.specs.Prelude.{ℕ, ◌≡◌, ◌<◌, ◌+◌, List, [], ◌∷◌, ◌++◌, length, map, Bool, Option, None, replicate, slice_index_or, slice_set}
+use Rattle.std.specs.Prelude.{ℕ, ◌≡◌, ◌<◌, ◌+◌, List, [], ◌∷◌, ◌++◌, length, map, Bool, Option, slice_index_or, slice_set}
 use Rattle.std.specs.List.{All}
-use Rattle.framehop_rules.specs.Slots.{KeptRule, Kept, no_counts}
+use Rattle.framehop_rules.specs.Slots.{KeptRule, Kept, new_kept}
 use Rattle.framehop_unwinder.specs.Attempt.{Meanings}
 use Rattle.framehop_unwinder.specs.Frames.{Frame}
 use Rattle.framehop_unwinder.specs.History.{KeyHistory, HaveHistories, histories_after}
@@ -29,11 +29,11 @@ modules_at session unwinder = (unwinder_at session.unwinders unwinder).modules
 
 -- a cache of a list
 abbrev pub cache_at : {Rule : Type 0} → List (Kept Rule) → ℕ → Kept Rule
-cache_at caches i = slice_index_or caches i (record { slots = []; counts = no_counts })
+cache_at caches i = slice_index_or caches i (new_kept 509)
 
--- a new cache
-abbrev pub new_cache : {Rule : Type 0} → Kept Rule
-new_cache = record { slots = replicate 509 None; counts = no_counts }
+-- a session with one more cache, without a rule, of so many slots
+abbrev pub with_cache : {Data Rule : Type 0} → SessionState Data Rule → ℕ → SessionState Data Rule
+with_cache session slots = record session { caches = session.caches ++ new_kept slots ∷ [] }
 
 -- modules that a generation tells apart
 abbrev pub loads_with : {Data : Type 0} → List (Loaded Data) → ℕ → Loads (Loaded Data)
@@ -96,14 +96,14 @@ abbrev pub MovesThrough : {Data Rule Registers : Type 0} → Meanings Data Rule 
 MovesThrough m wanted position unwinder cache old new =
     ChangesCaches (histories_after_move m wanted position (unwinder_at old.unwinders unwinder) cache) old new
 
--- the slots of each cache
-abbrev pub slots_of_all : {Rule : Type 0} → List (Kept Rule) → List (List (Option (KeptRule Rule)))
-slots_of_all caches = map (λ cache. cache.slots) caches
+-- the sets of each cache
+abbrev pub sets_of_all : {Rule : Type 0} → List (Kept Rule) → List (List (List (Option (KeptRule Rule))))
+sets_of_all caches = map (λ cache. cache.sets) caches
 
 -- Why caches can be shared: generations and the keys that were kept are below the next number, unwinders of one generation
 -- have the same modules, and each cache fits each unwinder.
 pub record IsSound {Data Rule Registers : Type 0} (m : Meanings Data Rule Registers) (next : ℕ) (unwinders : List (Loads (Loaded Data)))
-    (caches : List (List (Option (KeptRule Rule)))) : Type 0 where
+    (caches : List (List (List (Option (KeptRule Rule))))) : Type 0 where
   pub older : All (λ unwinder. unwinder.generation < next) unwinders
   pub same : All (λ one. All (AreOneBook one) unwinders) unwinders
   pub below : All (KeysBelow next) caches

@@ -1,10 +1,10 @@
 //! What steps keep and reuse.
 
-ghost use Rattle.std.specs.Prelude.{◌≡◌, IfOk, None, replicate};
-ghost use Rattle.framehop_rules.specs.Slots.{no_counts};
+ghost use Rattle.std.specs.Prelude.{◌≡◌, IfOk};
+ghost use Rattle.framehop_rules.specs.Slots.{new_kept};
 ghost use Rattle.framehop_unwinder.specs.CacheViews.{rules_of};
 
-use framehop_rules::{CacheStats, RuleCache, UnwindRule};
+use framehop_rules::{CacheStats, RuleCache, SlotCount, UnwindRule};
 use std::alloc::{AllocError, Global};
 
 /// The unwind rules that steps kept, and the room that attempts reuse. One cache serves any number
@@ -16,13 +16,28 @@ pub struct Cache<R: UnwindRule, C> {
 }
 
 impl<R: UnwindRule, C: Drop> Cache<R, C> {
-    /// A cache without a rule, with this room. Its slots are one allocation, the only one that it
-    /// takes beside the room.
+    /// A cache without a rule, of 509 slots, with this room. Its slots are one allocation, the only one
+    /// that it takes beside the room.
     pub fn new(alloc: Global, unwind_context: C) -> Result<Self, AllocError>
-        ensures slots { IfOk result (λ cache. (rules_of cache).slots ≡ replicate 509 None) }
-        ensures counts { IfOk result (λ cache. (rules_of cache).counts ≡ no_counts) }
+        ensures { IfOk result (λ cache. rules_of cache ≡ new_kept 509) }
     {
         let rule_cache = RuleCache::new(alloc)?;
+        Ok(Cache {
+            rule_cache,
+            unwind_context,
+        })
+    }
+
+    /// A cache without a rule, of so many slots, with this room. Its slots are one allocation, the only
+    /// one that it takes beside the room.
+    pub fn with_slots(
+        alloc: Global,
+        unwind_context: C,
+        slots: SlotCount,
+    ) -> Result<Self, AllocError>
+        ensures { IfOk result (λ cache. rules_of cache ≡ new_kept slots) }
+    {
+        let rule_cache = RuleCache::with_slots(alloc, slots)?;
         Ok(Cache {
             rule_cache,
             unwind_context,

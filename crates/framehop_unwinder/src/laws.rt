@@ -1,16 +1,15 @@
 //! Laws of caches that are shared. The functions do nothing when the program runs.
 
-ghost use Rattle.std.specs.Prelude.{◌≡◌, ◌+◌, ℕ, Bool, List, [], Option, None, Result, replicate};
+ghost use Rattle.std.specs.Prelude.{◌≡◌, ◌+◌, ℕ, Bool, List, [], Option, Result};
 ghost use Rattle.framehop_registers.specs.declared.error.Error.{Error};
 ghost use Rattle.framehop_rules.specs.Outcome.{Outcome, Caller, IsStep};
-ghost use Rattle.framehop_rules.specs.Slots.{Key, counts_after};
-ghost use Rattle.framehop_rules.specs.declared.rule_cache.CacheStats.{CacheStats};
+ghost use Rattle.framehop_rules.specs.Slots.{Key, Kept, Layout, empty_sets};
 ghost use Rattle.framehop_unwinder.specs.Attempt.{Meanings};
 ghost use Rattle.framehop_unwinder.specs.Frames.{Frame};
-ghost use Rattle.framehop_unwinder.specs.History.{HasLastKeys, finding_after, keys_after};
+ghost use Rattle.framehop_unwinder.specs.History.{HasLastKeys, KeepsLastKeys, KeysDecideCounts};
 ghost use Rattle.framehop_unwinder.specs.Modules.{Loaded};
 ghost use Rattle.framehop_unwinder.specs.ModulesApart.{ChangesNoStep};
-ghost use Rattle.framehop_unwinder.specs.RulesKept.{Fits, StaysBelow, KeepsFitting, KeysBelow, Slots, finding_in, slots_after};
+ghost use Rattle.framehop_unwinder.specs.RulesKept.{Fits, StaysBelow, KeepsFitting, KeysBelow, Sets};
 
 use crate::unwinding::ModuleUnwinding;
 use framehop_rules::{Arch, UnwindRule};
@@ -19,34 +18,32 @@ use framehop_rules::{Arch, UnwindRule};
 /// generation differs or which keeps the same rule for the key of the step.
 pub fn fits_after_step<R: UnwindRule>()
     ensures fits { (wanted : Bool) (mine theirs : Key → Option R) (generation : ℕ)
-        (key : Key) (slots : Slots R) → KeepsFitting wanted mine theirs generation key slots }
+        (key : Key) (cache : Kept R) → KeepsFitting wanted mine theirs generation key cache }
     ensures below { (wanted : Bool) (mine : Key → Option R) (next : ℕ) (key : Key)
-        (slots : Slots R) → StaysBelow wanted mine next key slots }
+        (cache : Kept R) → StaysBelow wanted mine next key cache }
 {}
 
 /// A cache fits an unwinder with a generation that none of its keys has, and a new cache fits all.
 pub fn fits_if_new<R: UnwindRule>()
-    ensures fits { (theirs : Key → Option R) (generation : ℕ) (slots : Slots R)
-        → KeysBelow generation slots → Fits theirs generation slots }
-    ensures more { (next : ℕ) (slots : Slots R)
-        → KeysBelow next slots → KeysBelow (next + 1) slots }
-    ensures empty { (theirs : Key → Option R) (generation : ℕ)
-        → Fits theirs generation (replicate 509 None) }
-    ensures empty_below { (next : ℕ) → KeysBelow {Rule = R} next (replicate 509 None) }
+    ensures fits { (theirs : Key → Option R) (generation : ℕ) (sets : Sets R)
+        → KeysBelow generation sets → Fits theirs generation sets }
+    ensures more { (next : ℕ) (sets : Sets R)
+        → KeysBelow next sets → KeysBelow (next + 1) sets }
+    ensures empty { (theirs : Key → Option R) (generation : ℕ) (layout : Layout)
+        → Fits theirs generation (empty_sets layout) }
+    ensures empty_below { (next : ℕ) (layout : Layout)
+        → KeysBelow {Rule = R} next (empty_sets layout) }
 {}
 
-/// What a cache keeps and counts, by the list of all keys that were kept in it: each slot has the
-/// last key of its remainder, which decides what a look-up is counted as, and whether its step
+/// What a cache keeps and counts, by the list of all keys that were kept in it: each set has the
+/// last keys of its remainder, which decide what a look-up is counted as, and whether its step
 /// keeps its key.
 pub fn keys_after_step<R: UnwindRule>()
-    ensures empty { HasLastKeys {Rule = R} [] (replicate 509 None) }
-    ensures kept { (wanted : Bool) (kept : Key → Option R) (key : Key) (keys : List Key)
-        (slots : Slots R) → HasLastKeys keys slots
-        → HasLastKeys (keys_after wanted kept key keys) (slots_after wanted kept key slots) }
-    ensures counts { (key : Key) (keys : List Key) (slots : Slots R)
-        (counts : CacheStats) → HasLastKeys keys slots
-        → counts_after (finding_in slots key) counts
-        ≡ counts_after (finding_after keys key) counts }
+    ensures empty { (layout : Layout) → HasLastKeys {Rule = R} layout [] (empty_sets layout) }
+    ensures kept { (key : Key) (keys : List Key) (cache : Kept R)
+        → KeepsLastKeys key keys cache }
+    ensures counts { (key : Key) (keys : List Key) (cache : Kept R)
+        → KeysDecideCounts key keys cache }
 {}
 
 /// Two steps that come to the same, as those through a shared cache and a new one, give the same

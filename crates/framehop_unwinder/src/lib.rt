@@ -13,7 +13,9 @@ mod unwinding;
 
 pub use cache::Cache;
 pub use framehop_modules::{Generations, GenerationsExhausted, LoadError};
-pub use framehop_rules::{Arch, CacheStats, Error, FrameAddress, UnwindResult, UnwindRule};
+pub use framehop_rules::{
+    Arch, CacheStats, Error, FrameAddress, SlotCount, UnwindResult, UnwindRule,
+};
 pub use iterator::{StackWalk, UnwindIterator};
 pub use module::Module;
 pub use session::{AddUnwinderError, Session};

@@ -8,8 +8,8 @@ ghost use Rattle.framehop_unwinder.specs.Judge.{judge};
 ghost use Rattle.framehop_unwinder.specs.Memory.{WantsFrom};
 ghost use Rattle.framehop_unwinder.specs.Modules.{is_loaded_at, with_loaded};
 ghost use Rattle.framehop_unwinder.specs.Moves.{MoveWants, MovesOn};
-ghost use Rattle.framehop_unwinder.specs.History.{KeyHistory, HaveHistories, history_at, no_history};
-ghost use Rattle.framehop_unwinder.specs.State.{MovesThrough, StepsThrough, cache_at, empty_state, modules_at, new_cache, with_clone, with_modules, with_unloaded, with_unwinder};
+ghost use Rattle.framehop_unwinder.specs.History.{GainNewHistory, KeyHistory, HaveHistories, history_at};
+ghost use Rattle.framehop_unwinder.specs.State.{MovesThrough, StepsThrough, cache_at, empty_state, modules_at, with_cache, with_clone, with_modules, with_unloaded, with_unwinder};
 ghost use Rattle.framehop_unwinder.specs.Trials.{StaysUnlessStepped, StepsAs, wants_memory};
 ghost use Rattle.framehop_unwinder.specs.WalkViews.{MovesAs, walk_of};
 
@@ -20,7 +20,7 @@ use crate::unwinder::UnwinderInternal;
 use crate::unwinders::Unwinder;
 use crate::unwinding::ModuleUnwinding;
 use framehop_modules::{Generations, GenerationsExhausted, LoadError};
-use framehop_rules::{CacheStats, Error, FrameAddress};
+use framehop_rules::{CacheStats, Error, FrameAddress, SlotCount};
 use std::alloc::{AllocError, Global};
 use std::marker::Model;
 
@@ -37,7 +37,7 @@ pub struct Session<A: ModuleUnwinding> {
 impl<A: ModuleUnwinding> Model for Session<A> {
     ghost use Rattle.std.specs.Prelude.{map};
     ghost use Rattle.framehop_unwinder.specs.CacheViews.{rules_of};
-    ghost use Rattle.framehop_unwinder.specs.State.{SessionState, IsSound, slots_of_all};
+    ghost use Rattle.framehop_unwinder.specs.State.{SessionState, IsSound, sets_of_all};
 
     ghost Value = { SessionState A.UnwindData A.UnwindRule };
 
@@ -49,7 +49,7 @@ impl<A: ModuleUnwinding> Model for Session<A> {
 
     ghost invariant = { λ session.
         IsSound A.meanings session.generations
-        session.unwinders.items (slots_of_all (map rules_of session.caches.items)) };
+        session.unwinders.items (sets_of_all (map rules_of session.caches.items)) };
 }
 
 /// Why an unwinder was not made.
@@ -87,19 +87,33 @@ impl<A: ModuleUnwinding> Session<A> {
         self.caches.len()
     }
 
-    /// Makes a new cache, the last, with this room.
+    /// Makes a new cache of 509 slots, the last, with this room.
     pub fn add_cache(
         &mut self,
         alloc: Global,
         unwind_context: A::UnwindContext,
     ) -> Result<(), AllocError>
-        ensures ok { OnOk result (self.new
-            ≡ record self.old { caches = self.old.caches ++ new_cache ∷ [] }) }
-        ensures histories { (histories : List KeyHistory) → HaveHistories histories self.old.caches
-            → OnOk result (HaveHistories (histories ++ no_history ∷ []) self.new.caches) }
+        ensures ok { OnOk result (self.new ≡ with_cache self.old 509) }
+        ensures histories { OnOk result
+            (GainNewHistory 509 self.old.caches self.new.caches) }
         ensures refused { OnErr result (self.new ≡ self.old) }
     {
-        let cache = Cache::new(alloc, unwind_context)?;
+        self.add_cache_with_slots(alloc, unwind_context, SlotCount::original())
+    }
+
+    /// Makes a new cache of so many slots, the last, with this room.
+    pub fn add_cache_with_slots(
+        &mut self,
+        alloc: Global,
+        unwind_context: A::UnwindContext,
+        slots: SlotCount,
+    ) -> Result<(), AllocError>
+        ensures ok { OnOk result (self.new ≡ with_cache self.old slots) }
+        ensures histories { OnOk result
+            (GainNewHistory slots self.old.caches self.new.caches) }
+        ensures refused { OnErr result (self.new ≡ self.old) }
+    {
+        let cache = Cache::with_slots(alloc, unwind_context, slots)?;
         self.caches.push(cache)?;
         Ok(())
     }

@@ -126,8 +126,9 @@ fn keep<R: UnwindRule>(
     answer: Result<UnwindResult<R>, UnwindFailure>,
 )
     requires { HasValidRule R.is_valid answer }
-    ensures slots { cache.new.slots
-        ≡ with_any cache.old.slots handle (rule_of_result R.fallback answer) }
+    ensures layout { cache.new.layout ≡ cache.old.layout }
+    ensures sets { cache.new.sets ≡ with_any cache.old.layout cache.old.sets handle
+        (rule_of_result R.fallback answer) }
     ensures counts { cache.new.counts ≡ cache.old.counts }
 {
     match answer {

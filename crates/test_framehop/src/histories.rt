@@ -7,7 +7,7 @@ ghost use Rattle.framehop_histories.specs.CommandViews.{OfCallback};
 use crate::steps::module_with;
 use framehop::aarch64::{self, ArchAarch64, UnwindRegsAarch64};
 use framehop::histories::{Answer, Command};
-use framehop::x86_64::{self, ArchX86_64, UnwindRegsX86_64};
+use framehop::x86_64::{self, ArchX86_64, SlotCount, UnwindRegsX86_64};
 use framehop::{
     AllocationPolicy, BySections, DwarfUnwindContext, FrameAddress, Generations,
     MayAllocateDuringUnwind, MustNotAllocateDuringUnwind, Session,
@@ -97,7 +97,7 @@ fn beginning_of<D: Drop, C: Drop, R: Copy, F: FnMut(u64) -> Result<u64, ()> + Co
 {
     let mut commands = VecDeque::new(alloc);
     commands.push_back(Command::NewUnwinder)?;
-    commands.push_back(Command::NewCache(context))?;
+    commands.push_back(Command::NewCache(SlotCount::original(), context))?;
     commands.push_back(Command::Load(0, module))?;
     Ok(commands)
 }

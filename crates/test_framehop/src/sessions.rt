@@ -1,13 +1,16 @@
 //! Two equal steps in a module, of any architecture, by a session with one cache.
 ghost use Rattle.std.specs.Prelude.{true};
 
+use framehop::x86_64::{ArchX86_64, UnwindRegsX86_64};
 use framehop::{
-    ExplicitModuleSectionInfo, FrameAddress, Generations, Module, ModuleSectionInfo,
-    ModuleUnwinding, Session, load_module,
+    BySections, DwarfUnwindContext, Error, ExplicitModuleSectionInfo, FrameAddress, Generations,
+    MayAllocateDuringUnwind, Module, ModuleSectionInfo, ModuleUnwinding, Session, StackWalk,
+    load_module,
 };
 use std::alloc::{AllocError, Global};
 use std::ops::Range;
 use std::test::Fail;
+use test_readers::WORKED;
 
 /// The sections that a test states.
 pub type Sections<'a> = ExplicitModuleSectionInfo<&'a [u8]>;
@@ -73,4 +76,47 @@ pub fn step_twice<A: ModuleUnwinding, F: FnMut(u64) -> Result<u64, ()>>(
     let return_address = session.step(0, 0, address, &mut last, &mut word_at)?;
     let is_hit = session.stats(0).hit_count == 1;
     Ok((return_address, last, is_hit))
+}
+
+/// A section whose one row has the return address at the stack pointer, three words below the CFA. No rule
+/// expresses it.
+fn section_without_a_rule() -> [u8; 56] {
+    let mut section = WORKED;
+    section[15] = 24;
+    section[17] = 3;
+    section
+}
+
+/// After a return address of 0 a walk is at its old frame, with the registers of the caller: the next move
+/// steps from there, and here it finds a caller that isn't null.
+#[test]
+fn walks_have_the_callers_registers_after_a_return_address_of_0(
+    rt: HostRuntime,
+) -> Result<(), Fail> {
+    let section = section_without_a_rule();
+    let sections = Sections {
+        eh_frame: Some(&section),
+        ..Default::default()
+    };
+    let module = module_of(rt.alloc(), sections, 0x100000..0x102000)?;
+    let context = DwarfUnwindContext::new(rt.alloc())?;
+    let mut session: Session<BySections<ArchX86_64, &[u8], MayAllocateDuringUnwind>> = session_of(
+        rt.alloc(),
+        module,
+        context,
+    )?;
+    if session.unwinders() == 0 || session.caches() == 0 {
+        return Err(Fail::new("nothing was made"));
+    }
+    let mut read_stack = |at: u64| Ok(if at == 0x10 { 0 } else { 0x100300 });
+    let regs = UnwindRegsX86_64::new(0x101000, 0x10, 0x20);
+    let mut walk = StackWalk::new(0x101000, regs);
+    let first = FrameAddress::from_instruction_pointer(0x101000);
+    assert!(rt; session.next_frame(0, 0, &mut walk, &mut read_stack) == Ok(Some(first)));
+    let null = session.next_frame(0, 0, &mut walk, &mut read_stack);
+    assert!(rt; null == Err(Error::ReturnAddressIsNull) && walk.regs().sp() == 0x28);
+    let other = session.next_frame(0, 0, &mut walk, &mut read_stack);
+    assert!(rt; other == Ok(FrameAddress::from_return_address(0x100300)));
+    assert!(rt; walk.regs().sp() == 0x40);
+    Ok(())
 }

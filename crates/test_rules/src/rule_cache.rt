@@ -4,7 +4,7 @@ ghost use Rattle.framehop_rules.specs.RuleMeaning.{IsValid};
 
 use framehop_rules::aarch64::UnwindRuleAarch64;
 use framehop_rules::x86_64::UnwindRuleX86_64;
-use framehop_rules::{CacheResult, CacheStats, RuleCache, UnwindRule};
+use framehop_rules::{CacheResult, CacheStats, RuleCache, SlotCount, UnwindRule};
 use std::alloc::{AllocError, Global};
 use std::process::Abort;
 use std::test::Fail;
@@ -89,6 +89,43 @@ static AGAIN: [LookUp; 2] = [
     hit!((0x1000, false, 3), 5, counts!(1, 1, 0, 0)),
 ];
 
+/// Four slots, which are two pairs. The addresses 0, 8 and 16 have the first.
+static PAIRS: [LookUp; 15] = [
+    miss!((0, true, 0), Some(1), counts!(0, 1, 0, 0)),
+    hit!((0, true, 0), 1, counts!(1, 1, 0, 0)),
+    miss!((8, true, 0), Some(2), counts!(1, 2, 0, 0)),
+    hit!((0, true, 0), 1, counts!(2, 2, 0, 0)),
+    hit!((8, true, 0), 2, counts!(3, 2, 0, 0)),
+    miss!((16, true, 0), Some(3), counts!(3, 2, 0, 1)),
+    miss!((0, true, 0), None, counts!(3, 2, 0, 2)),
+    hit!((8, true, 0), 2, counts!(4, 2, 0, 2)),
+    hit!((16, true, 0), 3, counts!(5, 2, 0, 2)),
+    miss!((8, true, 1), Some(4), counts!(5, 2, 1, 2)),
+    hit!((16, true, 0), 3, counts!(6, 2, 1, 2)),
+    miss!((8, true, 0), None, counts!(6, 2, 1, 3)),
+    miss!((4, false, 0), Some(5), counts!(6, 3, 1, 3)),
+    miss!((5, false, 0), None, counts!(6, 4, 1, 3)),
+    hit!((4, false, 0), 5, counts!(7, 4, 1, 3)),
+];
+
+/// Numbers of slots, and whether a cache can have so many.
+static SLOT_COUNTS: [(usize, bool); 14] = [
+    (0, false),
+    (1, false),
+    (2, true),
+    (3, false),
+    (4, true),
+    (508, false),
+    (509, true),
+    (510, false),
+    (512, true),
+    (16384, true),
+    (16385, false),
+    (0x100000, true),
+    (0x200000, false),
+    (usize::MAX, false),
+];
+
 /// A rule that a number tells from others.
 fn rule(number: u16) -> UnwindRuleX86_64
     ensures { IsValid result }
@@ -104,6 +141,14 @@ fn cache_of<R: UnwindRule>(alloc: Global) -> Result<RuleCache<R>, AllocError> {
     match RuleCache::new(alloc) {
         Ok(cache) => Ok(cache),
         Err(_) => RuleCache::new(alloc),
+    }
+}
+
+/// A cache of so many slots. Likewise.
+fn cache_with<R: UnwindRule>(alloc: Global, slots: SlotCount) -> Result<RuleCache<R>, AllocError> {
+    match RuleCache::with_slots(alloc, slots) {
+        Ok(cache) => Ok(cache),
+        Err(_) => RuleCache::with_slots(alloc, slots),
     }
 }
 
@@ -157,6 +202,44 @@ fn finds_what_was_kept_last(rt: HostRuntime) -> Result<(), Fail> {
     for look_up in &AGAIN {
         check(&rt, &mut cache, *look_up);
     }
+    Ok(())
+}
+
+/// Of a pair the older rule falls out.
+#[test]
+fn finds_what_pairs_kept_last(rt: HostRuntime) -> Result<(), Fail> {
+    let slots = SlotCount::new(4).unwrap_or(SlotCount::original());
+    let mut cache = cache_with(rt.alloc(), slots)?;
+    for look_up in PAIRS {
+        check(&rt, &mut cache, look_up);
+    }
+    Ok(())
+}
+
+#[test]
+fn counts_of_slots_are_checked(rt: HostRuntime) {
+    for (slots, is_count) in SLOT_COUNTS {
+        let given = SlotCount::new(slots).map(|count| count.get());
+        assert!(rt; given == is_count.then_some(slots), "{slots}: {given:?}");
+    }
+}
+
+/// Each pair keeps two rules.
+#[test]
+fn keeps_a_rule_in_each_of_16384_slots(rt: HostRuntime) -> Result<(), Fail> {
+    let slots = SlotCount::new(16384).unwrap_or(SlotCount::original());
+    let mut cache = cache_with(rt.alloc(), slots)?;
+    for is_kept in [false, true] {
+        for number in 0..16384u16 {
+            let rule = UnwindRuleAarch64::OffsetSp {
+                sp_offset_by_16: number,
+            };
+            let key = (0x100003 + u64::from(number) * 4, false, 7);
+            let found = find_or_keep(&mut cache, key, Some(rule));
+            assert!(rt; found == is_kept.then_some(rule), "{number}");
+        }
+    }
+    assert!(rt; cache.stats() == counts!(16384, 16384, 0, 0));
     Ok(())
 }
 

@@ -8,6 +8,7 @@ use crate::tables::{Row, Said, Tables};
 use crate::worked::{counts, first, loaded, module, next_random, word_at};
 use framehop_histories::{Answer, Command, perform};
 use framehop_registers::x86_64::UnwindRegsX86_64;
+use framehop_rules::SlotCount;
 use framehop_rules::x86_64::ArchX86_64;
 use framehop_unwinder::{
     Cache, Error, FrameAddress, Generations, Module, Session, Unwinder, UnwinderInternal,
@@ -209,7 +210,7 @@ impl Alone {
     ) -> Result<Shown, Fail> {
         match command {
             Command::NewUnwinder => self.add_unwinder(alloc),
-            Command::NewCache(()) => {
+            Command::NewCache(_, ()) => {
                 self.caches = self.caches.saturating_add(1);
                 Ok(ADDED)
             }
@@ -229,6 +230,16 @@ impl Alone {
             }
         }
     }
+}
+
+// How many slots a cache has: as many as the original's, or few pairs.
+fn slots(number: usize) -> SlotCount {
+    let count = match number % 3 {
+        0 => 509,
+        1 => 2,
+        _ => 16,
+    };
+    SlotCount::new(count).unwrap_or(SlotCount::original())
 }
 
 // A command that is drawn at random.
@@ -252,7 +263,7 @@ fn draw<F: FnMut(u64) -> Result<u64, ()> + Drop>(
         return Ok(Command::NewUnwinder);
     }
     if drawn == 1 {
-        return Ok(Command::NewCache(()));
+        return Ok(Command::NewCache(slots(walk), ()));
     }
     if drawn < 4 {
         let said = match next_random(state) % 5 {
@@ -292,7 +303,7 @@ fn command_of<F: FnMut(u64) -> Result<u64, ()> + Drop>(
     let regs = UnwindRegsX86_64::new(0x101000, 0x10, 0x20);
     match number {
         0 => Ok(Command::NewUnwinder),
-        1 | 5 => Ok(Command::NewCache(())),
+        1 | 5 => Ok(Command::NewCache(SlotCount::original(), ())),
         2 => Ok(Command::Load(0, there.try_clone()?)),
         3 => Ok(Command::Clone(0)),
         4 => Ok(Command::Step(1, 0, first(0x101000), regs, read_stack)),

@@ -2,6 +2,7 @@
 use crate::tables::{Said, Tables};
 use crate::worked::{first, module, word_at};
 use framehop_registers::x86_64::UnwindRegsX86_64;
+use framehop_rules::SlotCount;
 use framehop_rules::x86_64::ArchX86_64;
 use framehop_unwinder::{
     Error, FrameAddress, Generations, GenerationsExhausted, LoadError, Session, Unwinder,
@@ -143,7 +144,7 @@ fn is_answered(alloc: Global, session: &mut Session<Toy>, turn: Turn) -> Result<
 fn follow(rt: &impl Abort, alloc: Global, generation: u64, turns: &[Turn]) -> Result<(), Fail> {
     let mut session = Session::new(alloc, Generations::starting_at(generation));
     let _unwinder = add_unwinder(&mut session, alloc)?;
-    let _cache = add_cache(&mut session, alloc, ())?;
+    let _cache = add_cache(&mut session, alloc, SlotCount::original(), ())?;
     for (number, turn) in turns.iter().enumerate() {
         assert!(rt; is_answered(alloc, &mut session, *turn)?, "turn {number}");
     }

@@ -14,7 +14,7 @@ use Rattle.json_program.specs.Faults.{Checked, ◌⊛◌, both, ◌>>=◌}
 use Rattle.json_program.specs.Json.{field, text_value, address_value, number_value, has_only}
 use Rattle.serde_json.specs.Find.{get}
 use Rattle.unwind_run_document.specs.declared.document.Architecture.{Architecture}
-use Rattle.unwind_run_document.specs.Commands.{verb_in, task_in, command_in}
+use Rattle.unwind_run_document.specs.Commands.{slots_in, verb_in, task_in, command_in}
 use Rattle.unwind_run_document.specs.Frames.{kind_in, checked_frame, frame_in}
 use Rattle.unwind_run_document.specs.Loads.{loading_of, unloading_of, load_names, unload_names, load_in, unload_in}
 use Rattle.unwind_run_document.specs.Lookups.{road_steps_of, roads_names, tables_in, roads_in}
@@ -226,7 +226,10 @@ one_sound count name d n is =
 
 task_sound : (machine : Architecture) (made : Made) (d : Data) (v : Verb) (task : Task) → task_in machine made d v ≡ Ok task → IsSoundTask made task
 task_sound machine made d verb.Unwinder task is = subst (IsSoundTask made) (ok_is make_unwinder task (test_ok (has_only (codes "do" ∷ []) d) (Ok make_unwinder) BadCommand task is).1) tt
-task_sound machine made d verb.Cache task is = subst (IsSoundTask made) (ok_is make_cache task (test_ok (has_only (codes "do" ∷ []) d) (Ok make_cache) BadCommand task is).1) tt
+task_sound machine made d verb.Cache task is =
+    let t = test_ok (has_only (codes "do" ∷ codes "slots" ∷ []) d) (Ok make_cache ⊛ slots_in (get (codes "slots") d)) BadCommand task is in
+    let l = last_ok (Ok make_cache) (slots_in (get (codes "slots") d)) task t.1 in
+    subst (IsSoundTask made) (sym (l.4 ∙ ap (λ g. g l.1) (sym (ok_is make_cache l.0 l.2)))) tt
 task_sound machine made d verb.Load task is =
     let l = last_ok (Ok load_module) (load_in made d) task is in
     subst (IsSoundTask made) (sym (l.4 ∙ ap (λ g. g l.1) (sym (ok_is load_module l.0 l.2)))) (load_sound made d l.1 l.3)

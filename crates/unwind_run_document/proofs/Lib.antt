@@ -2,5 +2,6 @@ pub mod Known
 pub mod Loads
 pub mod Names
 pub mod RoadFields
+pub mod SlotCounts
 pub mod Steps
 pub mod Tasks

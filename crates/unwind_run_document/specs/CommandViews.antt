@@ -90,7 +90,7 @@ unload_view u = record { unwinder = u.unwinder; start = u.start }
 -- a command
 abbrev pub task_of : Command → Task
 task_of commands.Unwinder = make_unwinder
-task_of commands.Cache = make_cache
+task_of (commands.Cache slots) = make_cache slots
 task_of (commands.Clone u) = clone_unwinder u
 task_of (commands.Load l) = load_module (load_view l)
 task_of (commands.Unload u) = unload_module (unload_view u)

@@ -29,6 +29,6 @@ one_number count name d =
 -- how many unwinders and caches there are after a command
 abbrev pub made_after : Made → Task → Made
 made_after made make_unwinder = record { unwinders = made.unwinders + 1; caches = made.caches }
-made_after made make_cache = record { unwinders = made.unwinders; caches = made.caches + 1 }
+made_after made (make_cache slots) = record { unwinders = made.unwinders; caches = made.caches + 1 }
 made_after made (clone_unwinder unwinder) = record { unwinders = made.unwinders + 1; caches = made.caches }
 made_after made _ = made

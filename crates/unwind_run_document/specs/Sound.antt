@@ -25,7 +25,7 @@ pub record AreSoundRoads (roads : RoadSteps) : Type 0 where
 -- what a command names was made before it
 abbrev pub IsSoundTask : Made → Task → Type 0
 IsSoundTask made make_unwinder = Unit {0}
-IsSoundTask made make_cache = Unit {0}
+IsSoundTask made (make_cache slots) = Unit {0}
 IsSoundTask made (clone_unwinder unwinder) = unwinder < made.unwinders
 IsSoundTask made (load_module load) = load.unwinder < made.unwinders
 IsSoundTask made (unload_module unload) = unload.unwinder < made.unwinders

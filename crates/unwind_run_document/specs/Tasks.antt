@@ -69,7 +69,7 @@ pub record RoadSteps : Type 0 where
 -- a command
 pub data Task : Type 0 where
   make_unwinder : Task
-  make_cache : Task
+  make_cache : (slots : ℕ) → Task
   clone_unwinder : ℕ → Task
   load_module : Loading → Task
   unload_module : Unloading → Task

@@ -2,7 +2,8 @@
 
 ghost use Rattle.std.specs.Prelude.{◌≡◌, codes};
 ghost use Rattle.serde_json.specs.View.{view};
-ghost use Rattle.unwind_run_document.specs.Commands.{command_in, task_in, verb_in};
+ghost use Rattle.unwind_run_document.specs.Commands.{command_in, slots_in, slots_of_count, task_in, verb_in};
+ghost use Rattle.serde_json.specs.Find.{get};
 ghost use Rattle.unwind_run_document.specs.Made.{one_number};
 ghost use Rattle.json_program.specs.Json.{field};
 ghost use Rattle.json_program.specs.Decoded.{Decodes};
@@ -15,8 +16,9 @@ use crate::registers::StatedRegisters;
 use crate::roads::roads_in;
 use crate::step::step_in;
 use crate::walk::walk_in;
+use framehop_rules::SlotCount;
 use json_program::check::Checked;
-use json_program::field::{has_only, text_field};
+use json_program::field::{has_only, number_field, text_field};
 use json_program::float::has_float;
 use json_program::{DecodeError, FaultName};
 use serde_json::Value;
@@ -27,8 +29,8 @@ use std::alloc::Global;
 pub enum Command {
     /// Makes the next unwinder.
     Unwinder,
-    /// Makes the next cache.
-    Cache,
+    /// Makes the next cache, of so many slots.
+    Cache(SlotCount),
     /// Makes the next unwinder, with the modules of the one of this number.
     Clone(usize),
     /// Loads a module in an unwinder.
@@ -200,6 +202,26 @@ fn one_number(object: &Value, name: &str, count: usize) -> Checked<usize>
     made_number(object, name, count)
 }
 
+// So many slots, if a cache can have so many.
+fn slots_of_count(count: u64) -> Checked<SlotCount>
+    ensures { result ≡ slots_of_count count }
+{
+    match SlotCount::new(count as usize) {
+        Some(slots) => Ok(slots),
+        None => Err(FaultName::BadNumber),
+    }
+}
+
+// How many slots a new cache has: 509, if that is left out.
+fn slots_in(object: &Value) -> Checked<SlotCount>
+    ensures { result ≡ slots_in (get (codes "slots") (view object.now)) }
+{
+    match object.get("slots") {
+        None => Ok(SlotCount::original()),
+        Some(_) => slots_of_count(number_field(object, "slots")?),
+    }
+}
+
 // The command that does it.
 fn task_in(
     alloc: Global,
@@ -212,7 +234,9 @@ fn task_in(
 {
     match verb {
         Verb::Unwinder if has_only(object, &["do"]) => Ok(Command::Unwinder),
-        Verb::Cache if has_only(object, &["do"]) => Ok(Command::Cache),
+        Verb::Cache if has_only(object, &["do", "slots"]) => {
+            Ok(Command::Cache(slots_in(object)?))
+        }
         Verb::Unwinder | Verb::Cache => Err(DecodeError::Fault(FaultName::BadCommand)),
         Verb::Clone => Ok(Command::Clone(one_number(object, "unwinder", made.unwinders)?)),
         Verb::Load => Ok(Command::Load(load_in(alloc, object, made)?)),

@@ -28,7 +28,7 @@ pub(crate) fn add(made: &mut Made, command: &Command)
 {
     match command {
         Command::Unwinder | Command::Clone(_) => made.unwinders += 1,
-        Command::Cache => made.caches += 1,
+        Command::Cache(_) => made.caches += 1,
         _ => {}
     }
 }

@@ -132,7 +132,7 @@ module _ {Data Rule Registers : Type 0} (m : Meanings Data Rule Registers) where
 output_counts : {Data Rule Registers : Type 0} (m : Meanings Data Rule Registers) (forms : RegisterForms Registers) (data_of : DataForms Data) (p : SessionModel Data) (task : Task)
     → IsSoundTask (made_by p) task → (output_of m forms data_of p task).is_refused ≡ false → made_by (output_of m forms data_of p task).model ≡ made_after (made_by p) task
 output_counts m forms data_of p make_unwinder sound carried = unwinder_made m (nat_lt p.next (2 ^ 64 - 1)) p carried
-output_counts m forms data_of p make_cache sound carried = ap (λ n. part (length p.unwinders) n) (length-append p.histories (no_history ∷ []))
+output_counts m forms data_of p (make_cache slots) sound carried = ap (λ n. part (length p.unwinders) n) (length-append p.histories (no_history slots ∷ []))
 output_counts m forms data_of p (clone_unwinder u) sound carried = clone_made m u p sound
 output_counts m forms data_of p (load_module l) sound carried =
     let act = Load l.unwinder (loaded_by data_of l) in

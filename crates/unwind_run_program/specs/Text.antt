@@ -84,7 +84,7 @@ road_lines m forms data_of r =
 abbrev pub output_of : {Data Rule Registers : Type 0} → Meanings Data Rule Registers → RegisterForms Registers → DataForms Data → SessionModel Data → Task
     → CommandOutput Data
 output_of m forms data_of model make_unwinder = output_of_act m (step_line forms.text) NewUnwinder model
-output_of m forms data_of model make_cache = output_of_act m (step_line forms.text) NewCache model
+output_of m forms data_of model (make_cache slots) = output_of_act m (step_line forms.text) (NewCache slots) model
 output_of m forms data_of model (clone_unwinder unwinder) = output_of_act m (step_line forms.text) (Clone unwinder) model
 output_of m forms data_of model (load_module l) =
     output_of_act m (step_line forms.text) (Load l.unwinder (loaded_by data_of l)) model

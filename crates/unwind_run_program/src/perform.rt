@@ -69,7 +69,9 @@ pub(crate) fn perform<A: DocumentModules>(
 {
     match command {
         Command::Unwinder => commands::add_unwinder(session, alloc),
-        Command::Cache => commands::add_cache(session, alloc, A::unwind_context(alloc)?),
+        Command::Cache(slots) => {
+            commands::add_cache(session, alloc, slots, A::unwind_context(alloc)?)
+        }
         Command::Clone(unwinder) => commands::clone_unwinder(session, alloc, unwinder),
         Command::Load(load) => load_module(session, alloc, load),
         Command::Unload(unload) => commands::unload(session, alloc, unload.unwinder, unload.start),

@@ -11,6 +11,7 @@ ghost use Rattle.unwind_run_session.specs.Outputs.{IsAppendedFor, IsUndone, IsWr
 use crate::lines::{counts_line, frame_line, stop_line};
 use framehop_histories as histories;
 use framehop_histories::Answer;
+use framehop_rules::SlotCount;
 use framehop_unwinder::{Module, ModuleUnwinding, Session};
 use std::alloc::{AllocError, Global};
 
@@ -81,16 +82,18 @@ pub fn add_unwinder<A: ModuleUnwinding>(
     Written::of_answer(alloc, answer)
 }
 
-/// Makes the next cache, with this context for its attempts. A call that fails leaves the session.
+/// Makes the next cache, of so many slots, with this context for its attempts. A call that fails leaves the
+/// session.
 pub fn add_cache<A: ModuleUnwinding>(
     session: &mut Session<A>,
     alloc: Global,
+    slots: SlotCount,
     unwind_context: A::UnwindContext,
 ) -> Result<Written, AllocError>
-    ensures output { OutputsAct A.meanings NewCache session.old session.new result }
+    ensures output { OutputsAct A.meanings (NewCache slots) session.old session.new result }
     ensures refused { OnErr result (session.new ≡ session.old) }
 {
-    let answer = histories::new_cache(session, alloc, unwind_context);
+    let answer = histories::new_cache(session, alloc, slots, unwind_context);
     Written::of_answer(alloc, answer)
 }
 

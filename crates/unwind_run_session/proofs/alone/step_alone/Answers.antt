@@ -1,13 +1,13 @@
-use Rattle.std.proofs.Common.{◌≡◌, ℕ, replicate, List, [], ◌∷◌, true, false, Option, None, Result, Ok, Err, IfOk, OnOk, sym, ap, subst, ◌∙◌}
+use Rattle.std.proofs.Common.{◌≡◌, ℕ, List, [], ◌∷◌, true, false, Option, None, Result, Ok, Err, IfOk, OnOk, sym, ap, subst, ◌∙◌}
 use Rattle.std.specs.Prelude.{IfSome}
 use Rattle.std.specs.Result.{is_err}
 use Rattle.std.proofs.lemmas.List.Elements.{All-replicate}
 use Rattle.framehop_rules.specs.Outcome.{IsStep}
-use Rattle.framehop_rules.specs.Slots.{KeptRule, Key}
+use Rattle.framehop_rules.specs.Slots.{Key, Kept, new_kept}
 use Rattle.framehop_unwinder.specs.Frames.{frame_of}
 use Rattle.framehop_unwinder.specs.Judge.{judge}
 use Rattle.framehop_unwinder.specs.Modules.{Loaded, Loads, with_module}
-use Rattle.framehop_unwinder.specs.RulesKept.{Fits, FitsEntry}
+use Rattle.framehop_unwinder.specs.RulesKept.{Fits, FitsEntry, SetFits}
 use Rattle.unwind_run_session.proofs.alone.step_alone.Goals as goal
 
 -- a module that was put into an empty list stands there alone
@@ -16,12 +16,11 @@ one_module : {Data E : Type 0} (answer : Result (Unit {0}) E) (old new : List (L
 one_module (Ok done) old new module_ good none made = made ∙ ap (with_module (λ m. m.start) module_) none
 one_module (Err error) old new module_ good none made = absurd (let e : true ≡ false = good in cc)
 
--- slots without an entry fit every unwinder
-empty_fits : {Rule : Type 0} (kept : Key → Option Rule) (generation : ℕ) (slots : List (Option (KeptRule Rule)))
-    → slots ≡ replicate 509 None → Fits kept generation slots
-empty_fits {Rule} kept generation slots empty =
-    subst (λ (ss : List (Option (KeptRule Rule))). Fits kept generation ss) (sym empty)
-    (record { each = All-replicate (λ slot. IfSome slot (FitsEntry kept generation)) 509 None tt })
+-- a new cache fits every unwinder
+new_fits : {Rule : Type 0} (kept : Key → Option Rule) (generation : ℕ) (cache : Kept Rule) → cache ≡ new_kept 509 → Fits kept generation cache.sets
+new_fits {Rule} kept generation cache empty =
+    subst (λ (k : Kept Rule). Fits kept generation k.sets) (sym empty)
+    (record { each = All-replicate (SetFits kept generation) 509 (None ∷ []) (All-replicate (λ slot. IfSome slot (FitsEntry kept generation)) 1 None tt) })
 
 -- an unwinder that was made has no module
 no_module : {Data E : Type 0} (answer : Result (Loads (Loaded Data)) E) (made empty : Loads (Loaded Data))
@@ -37,7 +36,7 @@ returns-clause-step g c =
     record {
       said = λ words answers unwanted.
           subst (λ (ms : List (Loaded g.row.A-UnwindData.Denot)). IsStep c.unwind_frame.result c.args.regs.now c.unwind_frame.new.regs (judge m ms (frame_of c.args.address) c.args.regs.now words))
-          modules (c.unwind_frame.ensures.step.said words answers (empty_fits _ _ _ c.in-Ok.ensures.slots) unwanted);
+          modules (c.unwind_frame.ensures.step.said words answers (new_fits _ _ _ c.in-Ok.ensures) unwanted);
       still = c.unwind_frame.ensures.step.still;
     }
 

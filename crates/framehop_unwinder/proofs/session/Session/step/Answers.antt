@@ -1,8 +1,8 @@
-use Rattle.std.proofs.Common.{ap, ◌≡◌, ◌<◌, length, map, arith, sym, subst, ◌∙◌, [], refl}
+use Rattle.std.proofs.Common.{ap, ◌≡◌, ◌<◌, length, map, arith, sym, subst, ◌∙◌, refl}
 use Rattle.std.specs.Prelude.{slice_set}
 use Rattle.std.proofs.lemmas.List.{map-set, length-map, length-set, get_or-map}
 use Rattle.framehop_rules.specs.Outcome.{IsStep}
-use Rattle.framehop_rules.specs.Slots.{Key, Kept, no_counts}
+use Rattle.framehop_rules.specs.Slots.{Key, Kept, new_kept}
 use Rattle.framehop_unwinder.specs.CacheViews.{rules_of}
 use Rattle.framehop_unwinder.specs.Frames.{frame_of}
 use Rattle.framehop_unwinder.specs.History.{HaveHistories}
@@ -10,7 +10,7 @@ use Rattle.framehop_unwinder.specs.Judge.{judge}
 use Rattle.framehop_unwinder.specs.Memory.{AsksMemory}
 use Rattle.framehop_unwinder.specs.Modules.{Loaded, Loads}
 use Rattle.framehop_unwinder.specs.RulesKept.{key_for, rule_kept}
-use Rattle.framehop_unwinder.specs.State.{SessionState, unwinder_at, cache_at, histories_after_step, slots_of_all}
+use Rattle.framehop_unwinder.specs.State.{SessionState, unwinder_at, cache_at, histories_after_step, sets_of_all}
 use Rattle.framehop_unwinder.specs.Trials.{wants_memory}
 use Rattle.framehop_unwinder.proofs.Histories.{stands_after, step-have}
 use Rattle.framehop_unwinder.proofs.Loads.{read-is}
@@ -25,15 +25,15 @@ invariant_of-self g c =
     let caches = map rules_of items in
     let there : c.args.unwinder < length loads = omega (arith, ap (λ (s : SessionState g.row.A-UnwindData.Denot g.row.A-UnwindRule.Denot). length s.unwinders) c.self.view_is) in
     let kept : c.args.cache < length items = omega (arith, length-map items rules_of, ap (λ (s : SessionState g.row.A-UnwindData.Denot g.row.A-UnwindRule.Denot). length s.caches) c.self.view_is) in
-    let kept_slots : c.args.cache < length (slots_of_all caches) = omega (arith, length-map items rules_of, length-map caches (λ k. k.slots)) in
+    let kept_slots : c.args.cache < length (sets_of_all caches) = omega (arith, length-map items rules_of, length-map caches (λ k. k.sets)) in
     let read = c.index_mut-cache.result.now in
     let kept_rules : c.args.cache < length caches = omega (arith, length-map items rules_of) in
-    let cached = ap (λ k. (rules_of k).slots) c.index_mut-cache.ensures.value
-    ∙ ap (λ k. k.slots) (sym (get_or-map rules_of items c.args.cache read (rules_of read) kept))
-    ∙ sym (get_or-map (λ k. k.slots) caches c.args.cache (rules_of read) (rules_of read).slots kept_rules) in
+    let cached = ap (λ k. (rules_of k).sets) c.index_mut-cache.ensures.value
+    ∙ ap (λ k. k.sets) (sym (get_or-map rules_of items c.args.cache read (rules_of read) kept))
+    ∙ sym (get_or-map (λ k. k.sets) caches c.args.cache (rules_of read) (rules_of read).sets kept_rules) in
     let key : Key = key_for (frame_of c.args.address) c.index.result.now.generation in
-    rw (map-set rules_of items c.args.cache c.unwind_frame.new.cache, map-set (λ k. k.slots) caches c.args.cache (rules_of c.unwind_frame.new.cache), c.unwind_frame.ensures.cache.slots)
-    (sound_step_of m c.self.inside.generations loads (slots_of_all caches) (wants_memory c.unwind_frame.result) c.args.unwinder c.args.cache c.index.result.now (rules_of read).slots key there kept_slots c.index.ensures cached refl c.self.invariant)
+    rw (map-set rules_of items c.args.cache c.unwind_frame.new.cache, map-set (λ k. k.sets) caches c.args.cache (rules_of c.unwind_frame.new.cache), c.unwind_frame.ensures.cache.sets)
+    (sound_step_of m c.self.inside.generations loads (sets_of_all caches) (wants_memory c.unwind_frame.result) c.args.unwinder c.args.cache c.index.result.now (rules_of read).sets key (rules_of read).layout there kept_slots c.index.ensures cached refl c.self.invariant)
 
 pub returns-clause-step : goal.returns-clause-step
 returns-clause-step g c =
@@ -43,13 +43,13 @@ returns-clause-step g c =
     let caches = map rules_of items in
     let there : c.args.unwinder < length loads = omega (arith, ap (λ (s : SessionState g.row.A-UnwindData.Denot g.row.A-UnwindRule.Denot). length s.unwinders) c.self.view_is) in
     let kept : c.args.cache < length items = omega (arith, length-map items rules_of, ap (λ (s : SessionState g.row.A-UnwindData.Denot g.row.A-UnwindRule.Denot). length s.caches) c.self.view_is) in
-    let kept_slots : c.args.cache < length (slots_of_all caches) = omega (arith, length-map items rules_of, length-map caches (λ k. k.slots)) in
+    let kept_slots : c.args.cache < length (sets_of_all caches) = omega (arith, length-map items rules_of, length-map caches (λ k. k.sets)) in
     let read = c.index_mut-cache.result.now in
     let kept_rules : c.args.cache < length caches = omega (arith, length-map items rules_of) in
-    let cached = ap (λ k. (rules_of k).slots) c.index_mut-cache.ensures.value
-    ∙ ap (λ k. k.slots) (sym (get_or-map rules_of items c.args.cache read (rules_of read) kept))
-    ∙ sym (get_or-map (λ k. k.slots) caches c.args.cache (rules_of read) (rules_of read).slots kept_rules) in
-    let fits = fits_at m c.self.inside.generations loads (slots_of_all caches) c.args.unwinder c.args.cache c.index.result.now (rules_of read).slots there kept_slots c.index.ensures cached c.self.invariant in
+    let cached = ap (λ k. (rules_of k).sets) c.index_mut-cache.ensures.value
+    ∙ ap (λ k. k.sets) (sym (get_or-map rules_of items c.args.cache read (rules_of read) kept))
+    ∙ sym (get_or-map (λ k. k.sets) caches c.args.cache (rules_of read) (rules_of read).sets kept_rules) in
+    let fits = fits_at m c.self.inside.generations loads (sets_of_all caches) c.args.unwinder c.args.cache c.index.result.now (rules_of read).sets there kept_slots c.index.ensures cached c.self.invariant in
     let is = read-is loads c.self.inside.generations caches c.args.self.now c.self.view_is c.args.unwinder c.requires.unwinder c.index.result.now c.index.ensures in
     record {
       said = λ words answers wanted.
@@ -68,7 +68,7 @@ returns-clause-caches g c =
     let caches = map rules_of items in
     let kept : c.args.cache < length items = omega (arith, length-map items rules_of, ap (λ (s : SessionState D R). length s.caches) c.self.view_is) in
     let read = c.index_mut-cache.result.now in
-    let empty : Kept R = record { slots = []; counts = no_counts } in
+    let empty : Kept R = new_kept 509 in
     let u = c.index.result.now in
     let w = wants_memory c.unwind_frame.result in
     let stands : Loads (Loaded D) → Kept R → Kept R = λ x k. stands_after w (rule_kept m x.modules) (key_for (frame_of c.args.address) x.generation) k in
@@ -77,7 +77,7 @@ returns-clause-caches g c =
     ap rules_of c.index_mut-cache.ensures.value ∙ sym (get_or-map rules_of items c.args.cache read empty kept) ∙ ap (λ (s : SessionState D R). cache_at s.caches c.args.cache) c.self.view_is in
     let mine_now = unwinder_at c.args.self.now.unwinders c.args.unwinder in
     let made = map-set rules_of items c.args.cache c.unwind_frame.new.cache
-    ∙ ap (slice_set caches c.args.cache) (kept-is (rules_of c.unwind_frame.new.cache) _ _ c.unwind_frame.ensures.cache.slots c.unwind_frame.ensures.cache.counts
+    ∙ ap (slice_set caches c.args.cache) (kept-is (rules_of c.unwind_frame.new.cache) _ _ _ c.unwind_frame.ensures.cache.layout c.unwind_frame.ensures.cache.sets c.unwind_frame.ensures.cache.counts
     ∙ ap (λ (x : Loads (Loaded D)). stands x (rules_of read)) mine
     ∙ ap (stands mine_now) theirs)
     ∙ ap (λ (s : SessionState D R). slice_set s.caches c.args.cache (stands mine_now (cache_at c.args.self.now.caches c.args.cache))) c.self.view_is in

@@ -2,7 +2,7 @@ use Rattle.std.proofs.Common.{ap, sym, subst, ◌∙◌, ◌<◌, ◌≤◌, ◌
 use Rattle.std.specs.Prelude.{OnErr}
 use Rattle.framehop_unwinder.specs.CacheViews.{rules_of}
 use Rattle.framehop_unwinder.specs.Modules.{Loaded, Loads, has_start, without_module}
-use Rattle.framehop_unwinder.specs.State.{SessionState, slots_of_all}
+use Rattle.framehop_unwinder.specs.State.{SessionState, sets_of_all}
 use Rattle.framehop_unwinder.proofs.Loads.{read-is, put-same, put-done, put-refused}
 use Rattle.framehop_unwinder.proofs.Sound.{sound_unload}
 use Rattle.framehop_unwinder.proofs.session.Session.unload.Goals as goal
@@ -13,7 +13,7 @@ invariant_of-self g c =
     let loads = c.self.inside.unwinders.items in
     let there : c.args.unwinder < length loads = omega (arith, ap (λ (s : SessionState g.row.A-UnwindData.Denot g.row.A-UnwindRule.Denot). length s.unwinders) c.self.view_is) in
     let e = c.remove_module.ensures in
-    sound_unload m c.self.inside.generations c.remove_module.new.generations loads (slots_of_all (map rules_of c.self.inside.caches.items)) c.args.unwinder c.index_mut.result.now c.remove_module.new.self c.remove_module.result
+    sound_unload m c.self.inside.generations c.remove_module.new.generations loads (sets_of_all (map rules_of c.self.inside.caches.items)) c.args.unwinder c.index_mut.result.now c.remove_module.new.self c.remove_module.result
     (has_start (λ (m : Loaded g.row.A-UnwindData.Denot). m.start) c.args.start c.index_mut.result.now.modules) _ refl
     e.unknown (λ has. (e.number has).generation) (λ has. (e.number has).taken) e.failure.same e.failure.untaken there c.index_mut.ensures.value c.self.invariant
 

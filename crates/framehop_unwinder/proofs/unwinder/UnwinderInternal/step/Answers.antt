@@ -15,13 +15,14 @@ returns-in-Hit-clause-step g c =
     let m = g.A.ModuleUnwinding.meanings in
     let modules = c.args.self.now.modules in
     let key : Key = key_of c.args.address c.args.is_first_frame c.args.self.now.generation in
-    let slots = (rules_of c.args.cache.now).slots in
-    let found = hit-found (rule_kept m modules) key slots c.in-Hit.rule (rw c.generation.ensures at c.in-Hit.ensures.found) in
+    let layout = (rules_of c.args.cache.now).layout in
+    let sets = (rules_of c.args.cache.now).sets in
+    let found = hit-found (rule_kept m modules) key layout sets c.in-Hit.rule (rw c.generation.ensures at c.in-Hit.ensures.found) in
     record {
       said = λ words answers fits wanted.
           subst (IsStep c.exec.result c.args.regs.now c.exec.new.regs)
           (sym (kept-judged m c.args.is_first_frame c.args.regs.now words modules c.args.address c.args.self.now.generation c.in-Hit.rule
-          (hit_fits (rule_kept m modules) key slots c.in-Hit.rule found fits)))
+          (hit_fits (rule_kept m modules) key layout sets c.in-Hit.rule found fits)))
           (subst (λ meaning. IsStep c.exec.result c.args.regs.now c.exec.new.regs (meaning c.in-Hit.rule c.args.is_first_frame c.args.regs.now words))
           (sym g.met.A.ModuleUnwinding.meaning_is) (c.exec.ensures.step.said words answers));
       still = c.exec.ensures.step.still;
@@ -46,19 +47,21 @@ returns-clause-cache g c =
     let m = g.A.ModuleUnwinding.meanings in
     let fallback = g.A.UnwindRule.UnwindRule.fallback in
     let key : Key = key_of c.args.address c.args.is_first_frame c.args.self.now.generation in
-    let slots = (rules_of c.args.cache.now).slots in
+    let layout = (rules_of c.args.cache.now).layout in
+    let sets = (rules_of c.args.cache.now).sets in
     let answer = c.attempt-answer.result in
     let rule = rule_of_result fallback answer in
     let is = c.execute.ensures.wanted in
-    let slots_are = c.keep.ensures.slots
-    ∙ ap (λ old. with_any old c.in-Miss.handle rule) c.lookup.ensures.slots
-    ∙ miss-keeps (rule_kept m c.args.self.now.modules) key slots (wants_memory c.execute.result) c.in-Miss.handle rule (rw c.generation.ensures at c.in-Miss.ensures.found)
+    let sets_are = c.keep.ensures.sets
+    ∙ ap (λ old. with_any old c.lookup.new.self.sets c.in-Miss.handle rule) c.lookup.ensures.layout
+    ∙ ap (λ old. with_any layout old c.in-Miss.handle rule) c.lookup.ensures.sets
+    ∙ miss-keeps (rule_kept m c.args.self.now.modules) key layout sets (wants_memory c.execute.result) c.in-Miss.handle rule (rw c.generation.ensures at c.in-Miss.ensures.found)
     (λ wanted. wanted-keeps-none fallback answer (sym is ∙ wanted)) (λ not_wanted. c.attempt-answer.ensures.answers.kept fallback (sym is ∙ not_wanted) ∙ ap (λ f. rule_of_attempt f (attempt_at m c.args.self.now.modules c.args.is_first_frame c.args.address)) (sym g.met.A.ModuleUnwinding.fallback_is)) in
-    record { slots = slots_are; counts = search rules }
+    record { layout = search rules; sets = sets_are; counts = search rules }
 
 -- a rule that the cache has keeps nothing
 pub returns-in-Hit-clause-cache : goal.returns-in-Hit-clause-cache
-returns-in-Hit-clause-cache g c = record { slots = search rules; counts = search rules }
+returns-in-Hit-clause-cache g c = record { layout = search rules; sets = search rules; counts = search rules }
 
 pub returns-clause-stays : goal.returns-clause-stays
 returns-clause-stays g c = record {
