@@ -148,11 +148,7 @@ fn count_steps<L: Ledger>(steps: &mut Steps<L>, count: u32)
 
 /// As `halve`: how many starts are at or below a limit. It counts a step for each start that it reads.
 #[inline(always)]
-pub fn halve_counted<T: Starts, L: Ledger>(
-    starts: &T,
-    limit: u32,
-    steps: &mut Steps<L>,
-) -> usize
+pub fn halve_counted<T: Starts, L: Ledger>(starts: &T, limit: u32, steps: &mut Steps<L>) -> usize
     requires { AreSorted (T.count starts.now) (T.start starts.now) }
     ensures parts { Parts (T.count starts.now) (T.start starts.now) limit result }
     ensures few { (k : ℕ) → T.count starts.now ≤ 2 ^ k → steps.new ≤ steps.old + (k + 1) }
