@@ -188,6 +188,9 @@ def recordings():
     more = {"read": 31, "branch": 0xA0000, "interrupt": 3, "mask": 0x1C0, "copied": 8, "room": 8}
     every = [(attributes(EVERY, 31, perf.SAMPLE_ID_ALL, 0xA0000, mask=0x1C0, interrupt=3), [5])]
     yield "a sample of every field", file_of(every, record(9, sample(EVERY, rand, 10, 10, 6, 5, 0x1800, **more), 2))
+    directory = bytearray(file_of([(attributes(KINDS), [5])], b""))
+    directory[75] |= 1
+    yield "a directory", bytes(directory)
     yield "another machine", file_of(one, b"", b"riscv64")
     for read in range(32):
         event = [(attributes(EVERY, read, perf.SAMPLE_ID_ALL, (read & 1) << 17 | (read & 2) << 18, interrupt=0x303), [5])]

@@ -2,12 +2,12 @@
 use Rattle.std.specs.Prelude.{ℕ, ◌+◌, ◌-◌, ◌*◌, ◌/◌, ◌^◌, ◌==◌, ◌||◌, not, nat_eq, nat_lt, min, count_ones, if◌then◌else◌, Bool, List, [], ◌∷◌, length, Option, Some, None, Result, Ok, Err}
 use Rattle.std.specs.List.{starts_with}
 use Rattle.perf_files.specs.declared.error.HeaderError.{HeaderError}
-use Rattle.perf_files.specs.declared.error.HeaderError.TheVariants.{NotPerfData, OtherByteOrder, Truncated, HeaderSize, AttributeSize}
+use Rattle.perf_files.specs.declared.error.HeaderError.TheVariants.{NotPerfData, OtherByteOrder, Truncated, HeaderSize, AttributeSize, Directory}
 use Rattle.perf_files.specs.declared.header.FileHeader.{FileHeader}
 use Rattle.perf_files.specs.declared.header.PerfHeader.{PerfHeader}
 use Rattle.perf_files.specs.declared.header.PerfHeader.TheVariants.{Pipe, File}
 use Rattle.perf_files.specs.declared.section.Section.{Section}
-use Rattle.perf_files.specs.Bytes.{number_at}
+use Rattle.perf_files.specs.Bytes.{has_bit, number_at}
 use Rattle.perf_files.specs.Sections.{section_at}
 
 -- A value, or why there is none.
@@ -32,18 +32,20 @@ if_perf_data bytes next =
     if_not (not (starts_with nat_eq bytes magic)) (NotPerfData 0) (
     if_not (nat_lt (length bytes) 16) (Truncated 0) next))
 
--- The header of a file: its attributes have room for the 64 bytes of the first version's and the 16 of where the ids are.
+-- The header of a file. Its attributes have room for the 64 bytes of the first version's and the 16 of where the ids are, and its records
+-- aren't in other files (HEADER_DIR_FORMAT).
 abbrev pub file_header : List ℕ → HeaderResult PerfHeader
 file_header bytes =
     if_not (nat_lt (number_at 8 bytes 8) 104) (HeaderSize 8) (
     if_not (nat_lt (length bytes) 104) (Truncated 0) (
     if_not (nat_lt (number_at 8 bytes 16) 80) (AttributeSize 16) (
+    if_not (has_bit (number_at 8 bytes 72) 0x1000000) (Directory 72) (
     Ok (File (record {
       attribute_size = number_at 8 bytes 16;
       attributes = section_at bytes 24;
       «data» = section_at bytes 40;
       features = number_at 8 bytes 72;
-    })))))
+    }))))))
 
 -- The header: one of 16 bytes is a pipe's.
 unfoldable pub header_of : List ℕ → HeaderResult PerfHeader

@@ -87,6 +87,13 @@ pub enum HeaderError {
         /// Where their size is.
         offset: u64,
     },
+
+    /// The records are in other files of a directory.
+    #[error("records in a directory (at offset 0x{offset:x})")]
+    Directory {
+        /// Where the features are.
+        offset: u64,
+    },
 }
 
 /// Why it isn't known which event a record is of.

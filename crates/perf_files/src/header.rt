@@ -38,6 +38,9 @@ const PIPE_HEADER_SIZE: u64 = 16;
 
 const FILE_HEADER_SIZE: usize = 104;
 
+// The feature of a recording whose records are in other files (`HEADER_DIR_FORMAT`).
+const DIRECTORY: u64 = 0x100_0000;
+
 // Whether a recording begins here.
 fn check_magic(bytes: &[u8]) -> Result<(), HeaderError>
     ensures check { result ≡ if_perf_data bytes.now (Ok tt) }
@@ -57,7 +60,7 @@ fn check_magic(bytes: &[u8]) -> Result<(), HeaderError>
 
 /// The header that a recording begins with: at least 104 bytes of a file, or 16 of a pipe. Fails if it isn't a recording of perf, if it
 /// was made on a machine of the other byte order, if the header isn't whole, has another size, or says that attributes have a size that
-/// has no room for the first version's, 64 bytes, and for their ids.
+/// has no room for the first version's, 64 bytes, and for their ids, or that the records are in other files.
 #[tactic(auto, unfolding(crate::specs::Header::header_of))]
 pub fn read_header(bytes: &[u8]) -> Result<PerfHeader, HeaderError>
     ensures { result ≡ header_of bytes.now }
@@ -77,11 +80,15 @@ pub fn read_header(bytes: &[u8]) -> Result<PerfHeader, HeaderError>
     if attribute_size < 80 {
         return Err(HeaderError::AttributeSize { offset: 16 });
     }
+    let features = u64_at(bytes, 72);
+    if features / DIRECTORY % 2 == 1 {
+        return Err(HeaderError::Directory { offset: 72 });
+    }
     Ok(PerfHeader::File(FileHeader {
         attribute_size,
         attributes: section_at(bytes, 24),
         data: section_at(bytes, 40),
-        features: u64_at(bytes, 72),
+        features,
     }))
 }
 
