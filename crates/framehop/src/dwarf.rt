@@ -15,6 +15,7 @@ use dwarf_expressions::EvaluationStorage;
 use dwarf_frame_entries::{
     BaseAddresses, DebugFrame, EhFrame, FrameDescriptionEntry, UnwindContext, UnwindSection,
 };
+use dwarf_frame_parts::{Columns, MAX_ROWS, MAX_RULES, PartsAt, parts_for_address};
 use dwarf_frame_rows::UnwindContextStorage;
 use dwarf_read_core::{EndianSlice, Error, LittleEndian, Reader, ReaderOffset};
 use framehop_errors::DwarfUnwinderError;
@@ -49,7 +50,7 @@ pub(crate) fn lookup_address(
 }
 
 // The step by an FDE from a frame at an address of its code: that of its row for the address, or the rule
-// for code that no row covers if it has none.
+// for code that no row covers if it has none. The context makes the row only if its parts aren't known without one.
 #[inline(always)]
 fn unwind_frame_by_fde<
     A: DwarfUnwinding,
@@ -80,6 +81,27 @@ fn unwind_frame_by_fde<
         → TakesMemory ES.Stack.is_made_in_place ES.Stack.capacity }
 {
     let encoding = fde.cie().encoding();
+    if context.can_have(MAX_RULES, MAX_ROWS) {
+        let columns = Columns {
+            fp: A::frame_pointer(),
+            ra: A::return_address(),
+        };
+        match parts_for_address(columns, fde.program(section, bases), address) {
+            PartsAt::Found(parts) => {
+                return A::unwind_frame_by_parts::<ES, R, Section, F>(
+                    alloc,
+                    section,
+                    &parts,
+                    encoding,
+                    regs,
+                    is_first_frame,
+                    read_stack,
+                );
+            }
+            PartsAt::Uncovered => return Ok(UnwindResult::ExecRule(A::rule_if_uncovered_by_fde())),
+            PartsAt::GivesUp => {}
+        }
+    }
     let row = match fde.unwind_info_for_address(section, bases, context, address) {
         Ok(row) => row,
         Err(_) => return Ok(UnwindResult::ExecRule(A::rule_if_uncovered_by_fde())),
