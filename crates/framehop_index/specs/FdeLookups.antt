@@ -29,6 +29,7 @@ pub record PlacedFrames : Type 0 where
   pub bases : BaseAddresses
   pub base_svma : ℕ
 
+-- a section with these
 abbrev pub placed : UnwindSectionType (List ℕ) → Lookup → BaseAddresses → (base : ℕ) → PlacedFrames
 placed section lookup bases base = record { section = section; lookup = lookup; bases = bases; base_svma = base }
 
