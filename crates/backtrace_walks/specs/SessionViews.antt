@@ -1,9 +1,10 @@
 -- What contracts see of the session of a core's modules.
-use Rattle.std.specs.Prelude.{◌≡◌, ◌<◌, List, length}
+use Rattle.std.specs.Prelude.{◌≡◌, List, true}
 use Rattle.core_files.specs.MemoryViews.{word_of}
 use Rattle.core_files.specs.declared.memory.Memory.{Memory}
 use Rattle.framehop.specs.UnwindData.{UnwindData}
 use Rattle.framehop_registers.specs.Callback.{Words}
+use Rattle.framehop_unwinder.specs.ByNumber.{is_held, marks}
 use Rattle.framehop_unwinder.specs.Modules.{Loaded}
 use Rattle.framehop_unwinder.specs.State.{SessionState, modules_at}
 use Rattle.framehop_unwinder.specs.WalkViews.{walk_of}
@@ -11,17 +12,17 @@ use Rattle.framehop_unwinder.specs.declared.iterator.StackWalk.{StackWalk}
 use Rattle.backtrace_walks.specs.StackMeanings.{StackMeanings, advance_by}
 use Rattle.backtrace_walks.specs.Walks.{Advance}
 
--- A session has an unwinder and a cache at least.
+-- A session has its first unwinder and its first cache.
 pub record IsReady {Data Rule : Type 0} (session : SessionState Data Rule) : Type 0 where
-  pub unwinder : 0 < length session.unwinders
-  pub cache : 0 < length session.caches
+  pub unwinder : is_held session.unwinders 0 ≡ true
+  pub cache : is_held (marks session.caches) 0 ≡ true
 
 -- Only what is in a session's caches changed.
 pub record KeepsModules {Data Rule : Type 0} (old new : SessionState Data Rule) : Type 0 where
   pub unwinders : new.unwinders ≡ old.unwinders
-  pub caches : length new.caches ≡ length old.caches
+  pub caches : marks new.caches ≡ marks old.caches
 
--- A session has an unwinder and a cache at least, and these modules in the first unwinder.
+-- A session has its first unwinder and its first cache, and these modules in the unwinder.
 pub record HasModules {Data Rule : Type 0} (loaded : List (Loaded Data)) (session : SessionState Data Rule) : Type 0 where
   pub ready : IsReady session
   pub modules : modules_at session 0 ≡ loaded

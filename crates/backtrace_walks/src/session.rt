@@ -11,7 +11,8 @@ use crate::arch::FileModules;
 use backtrace_files::{FileSections, LoadedCode, LoadedFile, loaded_code};
 use core_files::MappedFile;
 use framehop::{
-    DwarfUnwindContext, Generations, Module, Session, Unwinding, load_module_with_debug_frame,
+    DwarfUnwindContext, FdeLookup, Generations, LoadOptions, Module, Session, UnwinderId,
+    Unwinding, load_module,
 };
 use std::alloc::{AllocError, Global};
 
@@ -24,10 +25,15 @@ fn module_with<'a>(
     ensures { IfOk result (λ module_.
         module_ ≡ module_with (mapping_of mapping.now) (code_seen code.now)) }
 {
-    let mut sections = FileSections::new(code.file, code.base_svma);
+    let options = LoadOptions {
+        lookup: FdeLookup::Auto,
+        tables: None,
+        debug_frame_beside: true,
+    };
+    let sections = FileSections::new(code.file, code.base_svma);
     let range = mapping.start..mapping.end;
     let name = String::new(alloc);
-    let module = load_module_with_debug_frame(alloc, name, range, code.base_avma, &mut sections)?;
+    let module = load_module(alloc, name, range, code.base_avma, sections, options)?;
     Ok(module)
 }
 
@@ -52,7 +58,7 @@ fn add_unwinder<'a, A: Unwinding>(
     ensures { OnOk result (session.new ≡ with_unwinder session.old) }
 {
     match session.add_unwinder(alloc) {
-        Ok(()) => Ok(()),
+        Ok(_) => Ok(()),
         Err(_) => Err(AllocError),
     }
 }
@@ -69,7 +75,7 @@ fn empty_session<'a, A: Unwinding>(alloc: Global) -> Result<Session<FileModules<
 
 // Loads a module in the first unwinder, if there is one. No list has as many modules as the session has generations, so that an error
 // is one of memory.
-#[tactic(auto, using(crate::proofs::SessionLaws::loaded, crate::proofs::SessionLaws::unloaded))]
+#[tactic(auto, using(crate::proofs::SessionLaws::unloaded))]
 fn load_found<'a, A: Unwinding>(
     session: &mut Session<FileModules<'a, A>>,
     found: Option<Module<&'a [u8]>>,
@@ -80,10 +86,13 @@ fn load_found<'a, A: Unwinding>(
     let Some(module) = found else {
         return Ok(());
     };
-    match session.load(0, module) {
-        Ok(()) => Ok(()),
-        Err(_) => Err(AllocError),
+    let Ok(loaded) = session.load(UnwinderId::numbered(0), module) else {
+        return Err(AllocError);
+    };
+    if loaded.is_err() {
+        return Err(AllocError);
     }
+    Ok(())
 }
 
 /// A session whose one unwinder has the modules of a process's files, each at the addresses of its mapping, and which has one cache.

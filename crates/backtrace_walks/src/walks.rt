@@ -10,7 +10,7 @@ ghost use Rattle.backtrace_walks.specs.Walks.{next_by, resumed};
 use crate::arch::{FileModules, ThreadArch};
 use backtrace_text::WalkEnd;
 use core_files::Memory;
-use framehop::{Session, StackWalk};
+use framehop::{CacheId, Session, StackWalk, UnwinderId};
 use framehop_registers::{Error, FrameAddress};
 
 /// A frame of a walk.
@@ -80,7 +80,10 @@ pub fn next_frame<'a, A: ThreadArch, F: FnMut(u64) -> Result<u64, ()>>(
         (advance_in A.stacks session.old memory.now walk.old) }
     ensures session { KeepsModules session.old session.new }
 {
-    let answer = session.next_frame(0, 0, walk, read_stack);
+    let (unwinder, cache) = (UnwinderId::numbered(0), CacheId::numbered(0));
+    let answer = session
+        .next_frame(unwinder, cache, walk, read_stack)
+        .unwrap();
     let next = next_by(answer, walk.regs());
     *walk = resumed::<A>(memory, *walk, answer);
     next

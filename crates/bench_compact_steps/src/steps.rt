@@ -5,7 +5,8 @@ use crate::work::{Frames, Work};
 use anyhow::{Result, bail};
 use framehop::{
     Arch, BySections, Cache, DwarfUnwindContext, ExplicitModuleSectionInfo, FrameAddress,
-    Generations, MayAllocateDuringUnwind, Module, Unwinder, UnwinderInternal, load_module,
+    Generations, LoadOptions, MayAllocateDuringUnwind, Module, Unwinder, UnwinderInternal,
+    load_module,
 };
 use std::alloc::{AllocError, Global};
 
@@ -59,14 +60,21 @@ impl Stack {
 // The module with these sections.
 fn module_of(alloc: Global, work: Work<'_>) -> Result<Module<Vec<u8>>> {
     let start = u64::from(work.text_start);
-    let mut sections = ExplicitModuleSectionInfo {
+    let sections = ExplicitModuleSectionInfo {
         text_svma: Some(start..start.saturating_add(work.text.len() as u64)),
         text: Some(work.text.to_vec(alloc)?),
         unwind_info: Some(work.unwind_info.to_vec(alloc)?),
         ..Default::default()
     };
     let name = String::from_str(alloc, "timed")?;
-    Ok(load_module(alloc, name, BASE..BASE + SIZE, BASE, &mut sections)?)
+    Ok(load_module(
+        alloc,
+        name,
+        BASE..BASE + SIZE,
+        BASE,
+        sections,
+        LoadOptions::default(),
+    )?)
 }
 
 /// An unwinder with the module.

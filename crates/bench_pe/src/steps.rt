@@ -4,7 +4,8 @@ use crate::work::Frames;
 use anyhow::{Result, bail};
 use framehop::x86_64::{Reg, UnwindRegsX86_64, UnwinderX86_64};
 use framehop::{
-    FrameAddress, Generations, Module, ModuleSectionInfo, SectionBytes, Unwinder, load_module,
+    FrameAddress, Generations, LoadOptions, Module, ModuleSectionInfo, SectionBytes, Unwinder,
+    load_module,
 };
 use std::alloc::{AllocError, Global};
 
@@ -54,9 +55,15 @@ pub fn module_of<D: SectionBytes + Drop, I: ModuleSectionInfo<D> + Copy>(
     alloc: Global,
     sections: I,
 ) -> Result<Module<D>> {
-    let mut given = sections;
     let name = String::from_str(alloc, "timed")?;
-    Ok(load_module(alloc, name, BASE..BASE + SIZE, BASE, &mut given)?)
+    Ok(load_module(
+        alloc,
+        name,
+        BASE..BASE + SIZE,
+        BASE,
+        sections,
+        LoadOptions::default(),
+    )?)
 }
 
 /// An unwinder with the module.

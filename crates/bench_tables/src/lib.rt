@@ -3,7 +3,7 @@
 
 use anyhow::Result;
 use bench_walks::{Making, Parts, TimedArch, Work};
-use framehop::{ExplicitModuleSectionInfo, Module, load_module_tabulated};
+use framehop::{LoadOptions, Module, load_module};
 use std::alloc::Global;
 
 /// A module is made with a table of rules. A header isn't used.
@@ -16,10 +16,12 @@ impl Making for Tabulated {
         work: &Work,
         parts: Parts,
     ) -> Result<Module<Vec<u8>>> {
-        let Parts { name, mut info } = parts;
+        let Parts { name, info } = parts;
+        let options = LoadOptions {
+            tables: Some(A::table_arch()),
+            ..Default::default()
+        };
         let range = work.base..work.end;
-        Ok(load_module_tabulated::<A, Vec<u8>, ExplicitModuleSectionInfo<Vec<u8>>>(
-            alloc, name, range, work.base, &mut info,
-        )?)
+        Ok(load_module(alloc, name, range, work.base, info, options)?)
     }
 }

@@ -3,7 +3,7 @@
 use crate::arch::TimedArch;
 use crate::work::Work;
 use anyhow::Result;
-use framehop::{ExplicitModuleSectionInfo, Module, load_module};
+use framehop::{ExplicitModuleSectionInfo, LoadOptions, Module, load_module};
 use std::alloc::Global;
 
 /// What the module that is timed is made of: its name, and its section with its header, if it has one.
@@ -50,7 +50,8 @@ impl Making for Plain {
         work: &Work,
         parts: Parts,
     ) -> Result<Module<Vec<u8>>> {
-        let Parts { name, mut info } = parts;
-        Ok(load_module(alloc, name, work.base..work.end, work.base, &mut info)?)
+        let Parts { name, info } = parts;
+        let options = LoadOptions::default();
+        Ok(load_module(alloc, name, work.base..work.end, work.base, info, options)?)
     }
 }

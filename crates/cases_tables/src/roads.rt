@@ -5,9 +5,9 @@ use crate::case::Case;
 use crate::frames::{BASE, Frame, word_at};
 use anyhow::{Result, bail};
 use framehop::{
-    Arch, BySections, Cache, DwarfUnwindContext, Error, ExplicitModuleSectionInfo, Generations,
-    MayAllocateDuringUnwind, Module, ModuleUnwindData, Unwinder, UnwinderInternal, load_module,
-    load_module_tabulated,
+    Arch, BySections, Cache, DwarfUnwindContext, Error, ExplicitModuleSectionInfo, FdeLookup,
+    Generations, LoadOptions, MayAllocateDuringUnwind, Module, TableArch, Unwinder,
+    UnwinderInternal, load_module,
 };
 use std::alloc::Global;
 
@@ -29,12 +29,8 @@ struct Roads<A: ComparedArch> {
     scan: Compared<A>,
 }
 
-// The sections of a case, with the header or without.
-fn sections_of(
-    alloc: Global,
-    case: &Case,
-    with_header: bool,
-) -> Result<ExplicitModuleSectionInfo<Vec<u8>>> {
+// The sections of a case.
+fn sections_of(alloc: Global, case: &Case) -> Result<ExplicitModuleSectionInfo<Vec<u8>>> {
     let mut sections = ExplicitModuleSectionInfo {
         base_svma: case.base,
         text_svma: Some(case.text..case.text),
@@ -47,7 +43,7 @@ fn sections_of(
         sections.eh_frame = Some(bytes);
         sections.eh_frame_svma = Some(case.section_start..case.section_start);
     }
-    if with_header {
+    if !case.header.is_empty() {
         sections.eh_frame_hdr = Some(case.header.as_slice().to_vec(alloc)?);
         sections.eh_frame_hdr_svma = Some(case.header_start..case.header_start);
     }
@@ -67,43 +63,36 @@ fn unwinder_of<A: ComparedArch>(
     Ok(unwinder)
 }
 
-// The module of a case that finds FDEs by reading the section.
-fn scanned(alloc: Global, case: &Case) -> Result<Module<Vec<u8>>> {
-    let mut sections = sections_of(alloc, case, false)?;
-    let name = String::from_str(alloc, "scan")?;
-    let data = ModuleUnwindData::scanning(&mut sections);
-    Ok(Module::new(alloc, name, BASE..u64::MAX, BASE, data)?)
-}
-
-// The module of a case by its header or by an index.
-fn looked_up(alloc: Global, case: &Case, with_header: bool) -> Result<Module<Vec<u8>>> {
-    let mut sections = sections_of(alloc, case, with_header)?;
+// The module of a case whose FDEs are found so.
+fn module_of(
+    alloc: Global,
+    case: &Case,
+    lookup: FdeLookup,
+    tables: Option<TableArch>,
+) -> Result<Module<Vec<u8>>> {
+    let options = LoadOptions {
+        lookup,
+        tables,
+        ..Default::default()
+    };
+    let sections = sections_of(alloc, case)?;
     let name = String::from_str(alloc, "module")?;
-    Ok(load_module(alloc, name, BASE..u64::MAX, BASE, &mut sections)?)
-}
-
-// The module of a case with a table.
-fn tabulated<A: ComparedArch>(alloc: Global, case: &Case) -> Result<Module<Vec<u8>>> {
-    let mut sections = sections_of(alloc, case, true)?;
-    let name = String::from_str(alloc, "table")?;
-    Ok(load_module_tabulated::<A, Vec<u8>, ExplicitModuleSectionInfo<Vec<u8>>>(
-        alloc,
-        name,
-        BASE..u64::MAX,
-        BASE,
-        &mut sections,
-    )?)
+    Ok(load_module(alloc, name, BASE..u64::MAX, BASE, sections, options)?)
 }
 
 impl<A: ComparedArch> Roads<A> {
     // The unwinders of a case.
     fn new(alloc: Global, case: &Case) -> Result<Self> {
         let mut generations = Generations::new();
+        let table = module_of(alloc, case, FdeLookup::Auto, Some(A::table_arch()))?;
+        let index = module_of(alloc, case, FdeLookup::Index, None)?;
+        let header = module_of(alloc, case, FdeLookup::Auto, None)?;
+        let scan = module_of(alloc, case, FdeLookup::Scan, None)?;
         Ok(Roads {
-            table: unwinder_of::<A>(alloc, &mut generations, tabulated::<A>(alloc, case)?)?,
-            index: unwinder_of::<A>(alloc, &mut generations, looked_up(alloc, case, false)?)?,
-            header: unwinder_of::<A>(alloc, &mut generations, looked_up(alloc, case, true)?)?,
-            scan: unwinder_of::<A>(alloc, &mut generations, scanned(alloc, case)?)?,
+            table: unwinder_of::<A>(alloc, &mut generations, table)?,
+            index: unwinder_of::<A>(alloc, &mut generations, index)?,
+            header: unwinder_of::<A>(alloc, &mut generations, header)?,
+            scan: unwinder_of::<A>(alloc, &mut generations, scan)?,
         })
     }
 }

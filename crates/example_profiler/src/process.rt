@@ -1,7 +1,7 @@
 //! What a profiler knows of a process: a library, the stack of a thread, and the registers of two samples of it.
 
 use anyhow::Result;
-use framehop::{ExplicitModuleSectionInfo, Module, load_module};
+use framehop::{ExplicitModuleSectionInfo, LoadOptions, Module, load_module};
 use std::alloc::Global;
 
 /// The registers of a thread that was stopped, and its stack.
@@ -53,11 +53,31 @@ static EH_FRAME: [u8; 56] = [
 
 /// The library, which is loaded at 0x100000.
 pub fn library(alloc: Global) -> Result<Module<Vec<u8>>> {
-    let mut sections = ExplicitModuleSectionInfo {
+    let sections = ExplicitModuleSectionInfo {
         base_svma: 0,
         eh_frame: Some(EH_FRAME.to_vec(alloc)?),
         ..Default::default()
     };
     let name = String::from_str(alloc, "library")?;
-    Ok(load_module(alloc, name, 0x100000..0x102000, 0x100000, &mut sections)?)
+    Ok(load_module(
+        alloc,
+        name,
+        0x100000..0x102000,
+        0x100000,
+        sections,
+        LoadOptions::default(),
+    )?)
+}
+
+/// A library of another process, at the same place, whose section says nothing of the function.
+pub fn other_library(alloc: Global) -> Result<Module<Vec<u8>>> {
+    let name = String::from_str(alloc, "other library")?;
+    Ok(load_module(
+        alloc,
+        name,
+        0x100000..0x102000,
+        0x100000,
+        ExplicitModuleSectionInfo::<Vec<u8>>::default(),
+        LoadOptions::default(),
+    )?)
 }

@@ -1,15 +1,15 @@
 -- The sections that are chosen after `.debug_frame` was handed out, and modules that have that section beside another.
-use Rattle.std.proofs.Common.{◌≡◌, ◌∙◌, ℕ, List, Option, Some, None, refl, sym, ap, inl, inr, ◌⊎◌}
-use Rattle.std.specs.Prelude.{codes, option_map, unwrap_or}
+use Rattle.std.proofs.Common.{◌≡◌, ◌∙◌, ℕ, Bool, true, false, List, Option, Some, None, refl, sym, ap, inl, inr, ◌⊎◌}
+use Rattle.std.specs.Prelude.{codes, not, option_map, unwrap_or, if◌then◌else◌}
 use Rattle.std.specs.Option.{option_or}
 use Rattle.framehop_modules.specs.Chosen.{chosen_sections, compact_sections, either_data, eh_frame_sections, pe_sections}
 use Rattle.framehop_modules.specs.ChosenViews.{sections_bytes}
 use Rattle.framehop_modules.specs.Sections.{SectionLeft, Sections}
 use Rattle.framehop_modules.specs.declared.module_sections.ModuleSections.{ModuleSections}
 use Rattle.framehop_modules.specs.declared.module_sections.ModuleSections.TheVariants.{CompactUnwindInfoAndEhFrame, PeUnwindInfo, EhFrame, DebugFrame, NoSections}
-use Rattle.framehop.specs.LookupMethods.{ByIndex}
-use Rattle.framehop.specs.UnwindData.{CallFrames, format_of, with_debug_frame}
-use Rattle.framehop.specs.declared.dwarf.UnwindSectionType.TheVariants as section
+use Rattle.dwarf_frame_rows.specs.declared.base_addresses.BaseAddresses.{BaseAddresses}
+use Rattle.framehop.specs.UnwindData.{ModuleFormat, debug_frame_of, format_with}
+use Rattle.framehop.specs.declared.load_options.LoadOptions.{LoadOptions}
 
 -- what is chosen with `.debug_frame`, by what is chosen without it
 abbrev pub with_it : List ℕ → ModuleSections (List ℕ) → ModuleSections (List ℕ)
@@ -52,6 +52,11 @@ module _ (s t : Sections) (left : SectionLeft (codes ".debug_frame") s t) where
       ∙ ap (λ (o : Option (List ℕ)). first_of_all s (t.section_data (codes "__unwind_info")) (t.section_data (codes ".pdata")) (either_data t (codes ".eh_frame") (codes "__eh_frame")) o) is
       ∙ by bytes (t.section_data (codes "__unwind_info")) (t.section_data (codes ".pdata")) (either_data t (codes ".eh_frame") (codes "__eh_frame")) (t.section_data (codes ".debug_frame"))
 
+-- what isn't left is asked for
+pub asked-for : (b : Bool) → not b ≡ false → b ≡ true
+asked-for true is = refl
+asked-for false is = cc
+
 -- what isn't `.debug_frame` stays
 stays : {D : Type 0} (content : D → List ℕ) (bytes : List ℕ) (taken : ModuleSections D) → ((x : D) → taken ≡ DebugFrame x → ⊥) → (taken ≡ NoSections → ⊥)
     → sections_bytes content taken ≡ with_it bytes (sections_bytes content taken)
@@ -61,22 +66,25 @@ stays content bytes (EhFrame eh_frame header) other some = refl
 stays content bytes (DebugFrame debug_frame) other some = absurd (other debug_frame refl)
 stays content bytes NoSections other some = absurd (some refl)
 
-module _ {D : Type 0} (content : D → List ℕ) (s t : Sections) (left : SectionLeft (codes ".debug_frame") s t) (bytes : List ℕ) (given : Some bytes ≡ s.section_data (codes ".debug_frame")) (taken : ModuleSections D) (chosen : sections_bytes content taken ≡ chosen_sections t) where
+module _ {D : Type 0} (content : D → List ℕ) (options : LoadOptions) (asked : options.debug_frame_beside ≡ true) (s t : Sections) (left : SectionLeft (codes ".debug_frame") s t)
+    (bytes : List ℕ) (given : Some bytes ≡ s.section_data (codes ".debug_frame")) (taken : ModuleSections D) (chosen : sections_bytes content taken ≡ chosen_sections t) (bases : BaseAddresses) (base : ℕ) where
+  abbrev by_sections : Option (List ℕ) → ModuleSections (List ℕ) → ModuleFormat
+  by_sections debug_frame sections = format_with options bases base debug_frame sections
+
   -- the format of a module with both, by what was taken
-  format-both : (base : ℕ) → with_debug_frame (Some bytes) (format_of base (with_it bytes (sections_bytes content taken))) ≡ with_debug_frame (s.section_data (codes ".debug_frame")) (format_of base (chosen_sections s))
-  format-both base =
-      ap (λ (c : ModuleSections (List ℕ)). with_debug_frame (Some bytes) (format_of base (with_it bytes c))) chosen
-      ∙ ap (λ (c : ModuleSections (List ℕ)). with_debug_frame (Some bytes) (format_of base c)) (sym (chosen-with_it s t left bytes (sym given)))
-      ∙ ap (λ (o : Option (List ℕ)). with_debug_frame o (format_of base (chosen_sections s))) given
+  format-both : by_sections (Some bytes) (with_it bytes (sections_bytes content taken)) ≡ by_sections (debug_frame_of options s) (chosen_sections s)
+  format-both =
+      ap (λ (c : ModuleSections (List ℕ)). by_sections (Some bytes) (with_it bytes c)) chosen
+      ∙ ap (λ (c : ModuleSections (List ℕ)). by_sections (Some bytes) c) (sym (chosen-with_it s t left bytes (sym given)))
+      ∙ ap (λ (o : Option (List ℕ)). by_sections o (chosen_sections s)) given
+      ∙ ap (λ (b : Bool). by_sections (if b then s.section_data (codes ".debug_frame") else None) (chosen_sections s)) (sym asked)
 
   -- `.debug_frame` alone
-  pub alone-is : ((x : D) × (taken ≡ DebugFrame x)) ⊎ (taken ≡ NoSections) → (base : ℕ)
-      → CallFrames (section.DebugFrame bytes) ByIndex ≡ with_debug_frame (s.section_data (codes ".debug_frame")) (format_of base (chosen_sections s))
-  alone-is (inl (x, is)) base = ap (λ (m : ModuleSections D). with_debug_frame (Some bytes) (format_of base (with_it bytes (sections_bytes content m)))) (sym is) ∙ format-both base
-  alone-is (inr is) base = ap (λ (m : ModuleSections D). with_debug_frame (Some bytes) (format_of base (with_it bytes (sections_bytes content m)))) (sym is) ∙ format-both base
+  pub alone-is : ((x : D) × (taken ≡ DebugFrame x)) ⊎ (taken ≡ NoSections) → by_sections None (DebugFrame bytes) ≡ by_sections (debug_frame_of options s) (chosen_sections s)
+  alone-is (inl (x, is)) = ap (λ (m : ModuleSections D). by_sections (Some bytes) (with_it bytes (sections_bytes content m))) (sym is) ∙ format-both
+  alone-is (inr is) = ap (λ (m : ModuleSections D). by_sections (Some bytes) (with_it bytes (sections_bytes content m))) (sym is) ∙ format-both
 
   -- other sections, with it beside them
-  pub beside-is : ((x : D) → taken ≡ DebugFrame x → ⊥) → (taken ≡ NoSections → ⊥) → (base : ℕ)
-      → with_debug_frame (Some bytes) (format_of base (sections_bytes content taken)) ≡ with_debug_frame (s.section_data (codes ".debug_frame")) (format_of base (chosen_sections s))
-  beside-is other some base =
-      ap (λ (c : ModuleSections (List ℕ)). with_debug_frame (Some bytes) (format_of base c)) (stays content bytes taken other some) ∙ format-both base
+  pub beside-is : ((x : D) → taken ≡ DebugFrame x → ⊥) → (taken ≡ NoSections → ⊥) → by_sections (Some bytes) (sections_bytes content taken) ≡ by_sections (debug_frame_of options s) (chosen_sections s)
+  beside-is other some =
+      ap (λ (c : ModuleSections (List ℕ)). by_sections (Some bytes) c) (stays content bytes taken other some) ∙ format-both

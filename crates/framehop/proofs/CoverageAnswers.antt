@@ -1,12 +1,11 @@
 -- Steps by call frames, by how the address is covered.
-use Rattle.std.proofs.Common.{◌≡◌, ℕ, ◌+◌, ◌^◌, ◌<◌, ◌≤◌, Bool, true, false, Option, Result, Ok, Err, refl, sym, subst, arith}
+use Rattle.std.proofs.Common.{◌≡◌, ℕ, ◌+◌, ◌^◌, ◌<◌, ◌≤◌, Bool, true, false, Option, Some, Result, Ok, Err, refl, sym, ap, ◌∙◌, cond, subst, arith}
 use Rattle.std.specs.Prelude.{IfOk, IfErr, nat_lt}
 use Rattle.std.proofs.lemmas.Bool.Decides.{nat_tests}
 use Rattle.dwarf_constants.specs.declared.common.Vendor.{Vendor}
 use Rattle.dwarf_constants.specs.declared.error.Error.{Error}
-use Rattle.dwarf_constants.specs.declared.error.Error.TheVariants.{NoUnwindInfoForAddress}
 use Rattle.dwarf_frame_entries.specs.AddressLookups.{fde_for_address_skipping}
-use Rattle.dwarf_frame_entries.specs.Entries.{fde_from_offset}
+use Rattle.dwarf_frame_entries.specs.Entries.{Fde, fde_from_offset}
 use Rattle.dwarf_frame_rows.specs.Effects.{Limits}
 use Rattle.dwarf_frame_rows.specs.FrameSection.{FrameSection}
 use Rattle.dwarf_frame_rows.specs.Row.{Row}
@@ -19,8 +18,9 @@ use Rattle.framehop_errors.specs.declared.dwarf.DwarfUnwinderError.TheVariants.{
 use Rattle.framehop_rows.specs.RowAttempt.{AnswersRow}
 use Rattle.framehop_rows.specs.RowErrors.{IsOfRow}
 use Rattle.framehop_rows.specs.RowMeanings.{RowMeanings}
-use Rattle.framehop.specs.Coverage.{Coverage, Covered, Uncovered, NoFde, NoAddress, by_entry, by_scanned, covered_by_fde, covered_by_scan}
-use Rattle.framehop.specs.DwarfViews.{AnswersCoverage, scan_failure}
+use Rattle.framehop_index.specs.FdeLookups.{fde_scanned}
+use Rattle.framehop.specs.Coverage.{Coverage, Covered, Uncovered, NoFde, NoAddress, by_entry, by_fde, by_known, by_read, covered_by_fde, covered_by_scan}
+use Rattle.framehop.specs.DwarfViews.{AnswersCoverage}
 use Rattle.framehop.proofs.TruthfulLookups.{fits-64}
 
 -- anything holds of nothing
@@ -85,22 +85,26 @@ module _ {Rule Registers S : Type 0} {step : S → ℕ → Result ℕ (Unit {0})
         expression = λ h. cc;
       })
 
-  -- after a scan that found none
-  pub by-scan_failure : (state : S) (registers : Registers) (limits : Limits) (vendor : Vendor) (section : FrameSection) (address : ℕ) (e : Error)
-      → AnswersCoverage step state state registers registers (scan_failure m.uncovered e) m meets first values (by_scanned limits vendor section address (Err e))
-  by-scan_failure state registers limits vendor section address NoUnwindInfoForAddress = by-uncovered state registers m.uncovered Uncovered refl refl
-  by-scan_failure state registers limits vendor section address e = by-no_fde state registers _ _ refl
+-- by an FDE that is known
+pub known-there : (limits : Limits) (vendor own : Vendor) (section here : FrameSection) (address : ℕ) (fde : Fde) (known : Option Fde) → own ≡ vendor → here ≡ section → known ≡ Some fde
+    → by_fde limits own here address fde ≡ by_known limits vendor section address known
+known-there limits vendor own section here address fde known same read is = rw (same, read, is) refl
 
 -- an address that has 64 bits
-module _ (limits : Limits) (vendor own : Vendor) (section here : FrameSection) (base relative address : ℕ) (is : address ≡ base + relative) (fits : address < 2 ^ 64) (same : own ≡ vendor) (read : here ≡ section) where
+module _ (limits : Limits) (vendor : Vendor) (section : FrameSection) (base relative address : ℕ) (is : address ≡ base + relative) (fits : address < 2 ^ 64) where
   in-range : nat_lt (base + relative) (2 ^ 64) ≡ true
   in-range = fits-64 (subst (λ (n : ℕ). n < 2 ^ 64) is fits)
 
-  pub scan-there : by_scanned limits own here address (fde_for_address_skipping here address) ≡ covered_by_scan limits vendor section base relative
-  scan-there = rw (in-range, is, same, read) refl
+  -- by the FDE at an offset
+  pub entry-there : (offset : ℕ) (read : Result Fde Error) → fde_from_offset section offset ≡ read → covered_by_fde limits vendor section base relative offset ≡ by_entry limits vendor section address read
+  entry-there offset read at = rw (in-range, is, at) refl
 
-  pub entry-there : (offset : ℕ) → by_entry limits own here address (fde_from_offset here offset) ≡ covered_by_fde limits vendor section base relative offset
-  entry-there offset = rw (in-range, is, same, read) refl
+  -- by a scan
+  pub scan-there : (read : Result (Option Fde) Error) → fde_scanned (fde_for_address_skipping section address) ≡ read → covered_by_scan limits vendor section base relative ≡ by_read limits vendor section address read
+  scan-there read at =
+      ap (λ (b : Bool). cond b (by_read limits vendor section (base + relative) (fde_scanned (fde_for_address_skipping section (base + relative)))) NoAddress) in-range
+      ∙ ap (λ (n : ℕ). by_read limits vendor section n (fde_scanned (fde_for_address_skipping section n))) (sym is)
+      ∙ ap (by_read limits vendor section address) at
 
 -- and one that hasn't
 module _ (limits : Limits) (vendor : Vendor) (section : FrameSection) (base relative : ℕ) (high : 2 ^ 64 ≤ base + relative) where

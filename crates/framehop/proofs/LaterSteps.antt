@@ -1,5 +1,5 @@
 -- On aarch64 each answered step of a later frame raises the stack pointer within 64 bits.
-use Rattle.std.proofs.Common.{◌≡◌, ℕ, ◌-◌, ◌^◌, ◌<◌, Bool, true, false, List, Option, Some, None, Result, Ok, Err, refl, ap, subst, arith}
+use Rattle.std.proofs.Common.{◌≡◌, ℕ, ◌+◌, ◌-◌, ◌^◌, ◌<◌, Bool, true, false, List, Option, Some, None, Result, Ok, Err, refl, ap, subst, arith}
 use Rattle.std.specs.Prelude.{ℤ, pos, negsuc, ◌+ℤ◌, nat_le, nat_lt, if◌then◌else◌, option_and_then}
 use Rattle.std.specs.Result.{result_ok}
 use Rattle.std.proofs.lemmas.Bool.{leb-false}
@@ -11,15 +11,15 @@ use Rattle.dwarf_frame_rows.specs.declared.base_addresses.BaseAddresses.{BaseAdd
 use Rattle.dwarf_frame_rows.specs.declared.rules.CfaRule.{CfaRule}
 use Rattle.dwarf_frame_rows.specs.declared.rules.CfaRule.TheVariants.{RegisterAndOffset, Expression}
 use Rattle.framehop.specs.Attempts.{StepLimits, attempt_by_method}
-use Rattle.framehop.specs.Coverage.{Coverage, Covered, Uncovered, NoFde, NoAddress, attempt_by, covered_by_fde, covered_by_scan}
-use Rattle.framehop_index.specs.Lookups.{found_by_header, found_by_index, parsed_header}
-use Rattle.framehop.specs.LookupMethods.{Lookup, ByIndex, ByHeader, ByScan, method_by}
-use Rattle.framehop.specs.SectionTypes.{section_of_type}
-use Rattle.framehop.specs.Methods.{method_at}
-use Rattle.framehop.specs.declared.dwarf.UnwindSectionType.TheVariants as kinds
+use Rattle.framehop.specs.Coverage.{Coverage, Covered, Uncovered, NoFde, NoAddress, attempt_by, by_known}
+use Rattle.framehop_index.specs.FdeLookups.{FoundFde, PlacedFrames, fde_for, section_of}
+use Rattle.framehop_index.specs.SectionTypes.{section_of_type}
+use Rattle.framehop_index.specs.declared.section_type.UnwindSectionType.TheVariants as kinds
+use Rattle.framehop.specs.CallFrames.{frames_used}
+use Rattle.framehop.specs.Methods.{fde_at_offset, method_found}
 use Rattle.framehop_compact.specs.CompactResults.{CuiResult}
 use Rattle.framehop_compact.specs.declared.cui_unwind_result.CuiUnwindResult.TheVariants.{ExecRule, NeedDwarf}
-use Rattle.framehop.specs.UnwindData.{UnwindData, ModuleFormat, SectionFrames, BothFrames, CallFrames, Compact, NoFormat, Pe, frames_for, method_by_compact, method_by_format}
+use Rattle.framehop.specs.UnwindData.{UnwindData, ModuleFormat, CallFrames, Compact, NoFormat, Pe, method_by_compact, method_by_format}
 use Rattle.framehop_registers.specs.Callback.{Words}
 use Rattle.framehop_registers.specs.RegistersAarch64.{lr_of, sp_of, fp_of}
 use Rattle.framehop_registers.specs.declared.aarch64.unwindregs.UnwindRegsAarch64.{UnwindRegsAarch64}
@@ -124,35 +124,28 @@ module _ (rules : RulesRaise) (limits : StepLimits) (registers : UnwindRegsAarch
   coverage-raised limit (NoFde e) is = rules UseFramePointer registers words caller is
   coverage-raised limit NoAddress is = rules UseFramePointer registers words caller is
 
-  -- by the FDE that was found, if one was
-  offset-raised : (base relative : ℕ) (section : FrameSection) (o : Option ℕ)
-      → by_attempt (meanings_aarch64 limits) false registers words (attempt_by_method rows limits base relative false (method_at section o)) ≡ Answers caller → IsRaised (sp_of registers) (sp_of caller.registers)
-  offset-raised base relative section (Some offset) is = coverage-raised limits.values (covered_by_fde limits.rows rows.vendor section base relative offset) is
-  offset-raised base relative section None is = rules UseFramePointer registers words caller is
-
-  -- by a lookup
-  lookup-raised : (bases : BaseAddresses) (base relative : ℕ) (section : FrameSection) (lookup : Lookup)
-      → by_attempt (meanings_aarch64 limits) false registers words (attempt_by_method rows limits base relative false (method_by lookup bases section base relative)) ≡ Answers caller → IsRaised (sp_of registers) (sp_of caller.registers)
-  lookup-raised bases base relative section ByIndex is = offset-raised base relative section (found_by_index section base relative) is
-  lookup-raised bases base relative section (ByHeader bytes) is = offset-raised base relative section (found_by_header bases (parsed_header bases (Some bytes)) base relative) is
-  lookup-raised bases base relative section ByScan is = coverage-raised limits.values (covered_by_scan limits.rows rows.vendor section base relative) is
+  -- by what is known of the FDE
+  known-raised : (section : FrameSection) (address : ℕ) (found : FoundFde)
+      → by_attempt (meanings_aarch64 limits) false registers words (attempt_by_method rows limits false (method_found section address found)) ≡ Answers caller → IsRaised (sp_of registers) (sp_of caller.registers)
+  known-raised section address (Ok known) is = coverage-raised limits.values (by_known limits.rows rows.vendor section address known) is
+  known-raised section address (Err e) is = rules UseFramePointer registers words caller is
 
   -- by compact unwind info
   compact-raised : (bases : BaseAddresses) (base relative : ℕ) (eh_frame : Option (List ℕ)) (said : CuiResult UnwindRuleAarch64)
-      → by_attempt (meanings_aarch64 limits) false registers words (attempt_by_method rows limits base relative false (method_by_compact bases eh_frame said)) ≡ Answers caller → IsRaised (sp_of registers) (sp_of caller.registers)
+      → by_attempt (meanings_aarch64 limits) false registers words (attempt_by_method rows limits false (method_by_compact bases base relative eh_frame said)) ≡ Answers caller → IsRaised (sp_of registers) (sp_of caller.registers)
   compact-raised bases base relative eh_frame (Ok (ExecRule rule)) is = rules rule registers words caller is
   compact-raised bases base relative None (Ok (NeedDwarf offset)) is = rules UseFramePointer registers words caller is
   compact-raised bases base relative (Some bytes) (Ok (NeedDwarf offset)) is =
-      coverage-raised limits.values (covered_by_fde limits.rows rows.vendor (section_of_type bases (kinds.EhFrame bytes)) base relative offset) is
+      let section : FrameSection = section_of_type bases (kinds.EhFrame bytes) in
+      known-raised section (base + relative) (fde_at_offset section base relative offset) is
   compact-raised bases base relative eh_frame (Err refusal) is = rules UseFramePointer registers words caller is
 
   -- by a format
   format-raised : (bases : BaseAddresses) (base relative : ℕ) (format : ModuleFormat)
-      → by_attempt (meanings_aarch64 limits) false registers words (attempt_by_method rows limits base relative false (method_by_format formats_aarch64.tables bases base relative false format)) ≡ Answers caller → IsRaised (sp_of registers) (sp_of caller.registers)
-  format-raised bases base relative (CallFrames section lookup) is = lookup-raised bases base relative (section_of_type bases section) lookup is
-  format-raised bases base relative (BothFrames main other) is =
-      let used : SectionFrames = frames_for bases base relative main other in
-      lookup-raised bases base relative (section_of_type bases used.section) used.lookup is
+      → by_attempt (meanings_aarch64 limits) false registers words (attempt_by_method rows limits false (method_by_format formats_aarch64.tables bases base relative false format)) ≡ Answers caller → IsRaised (sp_of registers) (sp_of caller.registers)
+  format-raised bases base relative (CallFrames frames) is =
+      let used : PlacedFrames = frames_used frames relative in
+      known-raised (section_of used) (used.base_svma + relative) (fde_for used relative) is
   format-raised bases base relative (Pe file) is = rules UseFramePointer registers words caller is
   format-raised bases base relative (Compact file eh_frame) is = compact-raised bases base relative eh_frame (formats_aarch64.tables.compact file relative false) is
   format-raised bases base relative NoFormat is = rules UseFramePointer registers words caller is

@@ -1,7 +1,7 @@
 pub mod BothSections
 pub mod CoverageAnswers
 pub mod CoveredSteps
-pub mod Coverages
+pub mod FramesUsed
 pub mod LaterSteps
 pub mod MethodAnswers
 pub mod PeTrials

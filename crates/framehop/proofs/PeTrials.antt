@@ -93,12 +93,11 @@ module _ {Rule Registers : Type 0} where
       → one ≡ other → AnswersPe step old new before after result one → AnswersPe step old new before after result other
   said-as {step = step} old new before after result one other same says = subst (λ (a : PeAttempt Rule Registers). AnswersPe step old new before after result a) same says
 
-  module _ {S : Type 0} {step : S → ℕ → Result ℕ (Unit {0}) → S → Type 0} (m : RowMeanings Rule Registers) (meets : Row ℕ → Type 0) (limits : StepLimits) (takes first : Bool)
-      (base relative : ℕ) where
+  module _ {S : Type 0} {step : S → ℕ → Result ℕ (Unit {0}) → S → Type 0} (m : RowMeanings Rule Registers) (meets : Row ℕ → Type 0) (limits : StepLimits) (takes first : Bool) where
     -- an answer is what the attempt says
     answer-said : (old new : S) (before after : Registers) (answer : UnwindResult Rule) (attempt : PeAttempt Rule Registers) → KeepsUnlessDirect {Failure = PeUnwinderError} (Ok answer) before after
         → AnswersPe step old new before after (Ok answer) attempt
-        → AnswersAttempt step old new before after (Ok answer) (attempt_by_method m limits base relative first (method_by_pe attempt))
+        → AnswersAttempt step old new before after (Ok answer) (attempt_by_method m limits first (method_by_pe attempt))
     answer-said old new before after answer (SaysRule rule) keeps says =
         let same : answer ≡ ExecRule rule = (let is = says.is_of in cc) in
         let kept : after ≡ before = subst (λ (a : UnwindResult Rule). KeepsUnlessDirect {Failure = PeUnwinderError} (Ok a) before after) same keeps in
@@ -118,7 +117,7 @@ module _ {Rule Registers : Type 0} where
     -- and so is a refusal
     refusal-said : (old new : S) (before after : Registers) (e : PeUnwinderError) (f : UnwindFailure) (attempt : PeAttempt Rule Registers) → f ≡ failure_of (of.Pe e) → after ≡ before
         → AnswersPe step old new before after (Err e) attempt
-        → AnswersAttempt step old new before after (Err f) (attempt_by_method m limits base relative first (method_by_pe attempt))
+        → AnswersAttempt step old new before after (Err f) (attempt_by_method m limits first (method_by_pe attempt))
     refusal-said old new before after e f (SaysRule rule) same kept says = let is = says.is_of in cc
     refusal-said old new before after e f (SaysCodes caller) same kept says =
         let of_frame = same ∙ of-stack e says.is_of in
@@ -138,7 +137,7 @@ module _ {Rule Registers : Type 0} where
 
     pub pe-answers : (old new : S) (before after : Registers) (answer : UnwindResult Rule) (attempt : PeAttempt Rule Registers) → KeepsUnlessDirect {Failure = PeUnwinderError} (Ok answer) before after
         → AnswersPe step old new before after (Ok answer) attempt
-        → AnswersMethod step old new before after (Ok answer) m meets limits takes base relative first (method_by_pe attempt)
+        → AnswersMethod step old new before after (Ok answer) m meets limits takes first (method_by_pe attempt)
     pe-answers old new before after answer attempt keeps says = record {
       answer = answer-said old new before after answer attempt keeps says;
       memory = never-wanted takes (has_wanted {Rule = Rule} (Ok answer)) _ refl;
@@ -146,7 +145,7 @@ module _ {Rule Registers : Type 0} where
 
     pub pe-fails : (old new : S) (before after : Registers) (e : PeUnwinderError) (f : UnwindFailure) (attempt : PeAttempt Rule Registers) → f ≡ failure_of (of.Pe e) → after ≡ before
         → AnswersPe step old new before after (Err e) attempt
-        → AnswersMethod step old new before after (Err f) m meets limits takes base relative first (method_by_pe attempt)
+        → AnswersMethod step old new before after (Err f) m meets limits takes first (method_by_pe attempt)
     pe-fails old new before after e f attempt same kept says = record {
       answer = refusal-said old new before after e f attempt same kept says;
       memory = never-wanted takes (has_wanted {Rule = Rule} (Err f)) _ (ap (λ (f : UnwindFailure). has_wanted {Rule = Rule} (Err f)) same ∙ calm Rule e);

@@ -1,6 +1,6 @@
 -- If a header is truthful, all lookups lead to the same FDEs.
 use Rattle.std.proofs.Common.{◌≡◌, ◌<◌, ◌^◌, ℕ, ◌+◌, Bool, true, false, cond, List, [], ◌∷◌, Option, Some, None, Result, Ok, Err, refl, sym, ap, ◌∙◌, arith, subst}
-use Rattle.std.specs.Prelude.{is_none, nat_le, nat_lt, option_map, ◌==◌}
+use Rattle.std.specs.Prelude.{is_none, nat_le, nat_lt, option_map, ◌==◌, if◌then◌else◌}
 use Rattle.std.specs.List.{All, AllPass, Contains, filter, find}
 use Rattle.std.proofs.lemmas.Bool.Decides.{nat_tests}
 use Rattle.std.proofs.lemmas.List.Elements.{All-head, All-tail, All-contains, All-contains_itself, All-filter}
@@ -23,11 +23,14 @@ use Rattle.dwarf_frame_entries.specs.Entries.{fde_from_offset}
 use Rattle.framehop_rows.specs.RowMeanings.{RowMeanings}
 use Rattle.framehop_unwinder.specs.Attempt.{Attempt, Says, SaysNothing}
 use Rattle.framehop.specs.Attempts.{StepLimits, attempt, attempt_by_method}
-use Rattle.framehop.specs.Coverage.{Coverage, NoAddress, Uncovered, attempt_by, by_entry, by_fde, by_fde_row, by_scanned, covered_by_fde}
+use Rattle.framehop.specs.Coverage.{Coverage, NoAddress, Uncovered, attempt_by, by_entry, by_fde, by_fde_row, covered_by_fde}
 use Rattle.framehop_index.specs.EntryFor.{fits_index, has_index, indexed_entry, indexed_fdes}
 use Rattle.framehop_index.specs.FrameSections.{eh_frame_of}
 use Rattle.framehop_index.specs.Lookups.{found_by_index}
-use Rattle.framehop.specs.Methods.{Method, UsesFde, UsesScan, method_at}
+use Rattle.framehop_errors.specs.declared.dwarf.DwarfUnwinderError.TheVariants.{LookupAddressOverflow}
+use Rattle.framehop_errors.specs.declared.unwinder.UnwinderError.TheVariants.{Dwarf, DwarfCfiIndexCouldNotFindAddress, EhFrameHdrCouldNotFindAddress}
+use Rattle.framehop_index.specs.FdeLookups.{FoundFde, fde_by_scan, fde_found, fde_read}
+use Rattle.framehop.specs.Methods.{method_found}
 use Rattle.framehop.specs.LookupsAlike.{AllLeadTo, LeadsAbove}
 use Rattle.framehop.specs.TruthfulLookups.{AreTruthful, HeadedSection, headed_section, headed_data, indexed_data, offset_headed, scanned_data}
 use Rattle.framehop.proofs.RowStarts.{no-row-below}
@@ -158,38 +161,54 @@ module _ (h : HeadedSection) (t : AreTruthful h) where
 
     -- the attempts
     module _ {Rule Registers : Type 0} (m : RowMeanings Rule Registers) (limits : StepLimits) (other : BaseAddresses) (same : other.eh_frame ≡ bases.eh_frame) (first : Bool) where
-      abbrev by_method : Method Rule Registers → Attempt Rule Registers
-      by_method method = attempt_by_method m limits base relative first method
+      -- what is known of the FDE, if the address has 64 bits
+      abbrev in_range : FoundFde → FoundFde
+      in_range found = if nat_lt (base + relative) (2 ^ 64) then found else Err (Dwarf LookupAddressOverflow)
 
-      -- without an address of 64 bits nothing is said
-      overflows : (offset : ℕ) → nat_lt (base + relative) (2 ^ 64) ≡ false → by_method (UsesFde s offset) ≡ SaysNothing
-      overflows offset not = rw not refl
+      -- the attempt by it
+      abbrev said : FoundFde → Attempt Rule Registers
+      said found = attempt_by_method m limits first (method_found s (base + relative) (in_range found))
 
-      unheaded : nat_lt (base + relative) (2 ^ 64) ≡ false → offset_headed h relative ≡ None
-      unheaded not = rw (t.parses, not) refl
+      -- by the header
+      headed-says : attempt m limits (headed_data h) relative first ≡ said (fde_found s EhFrameHdrCouldNotFindAddress (offset_headed h relative))
+      headed-says = refl
+
+      -- by an index
+      index-says : attempt m limits (indexed_data other h) relative first ≡ said (fde_found s DwarfCfiIndexCouldNotFindAddress (found_by_index s base relative))
+      index-says =
+          ap (λ (sec : FrameSection). attempt_by_method m limits first (method_found sec (base + relative) (in_range (fde_found sec DwarfCfiIndexCouldNotFindAddress (found_by_index sec base relative)))))
+          (same-section bases other h.section same)
+
+      -- and by a scan
+      scan-says : attempt m limits (scanned_data other h) relative first ≡ said (fde_by_scan (fde_for_address_skipping s (base + relative)))
+      scan-says =
+          ap (λ (sec : FrameSection). attempt_by_method m limits first (method_found sec (base + relative) (in_range (fde_by_scan (fde_for_address_skipping sec (base + relative))))))
+          (same-section bases other h.section same)
+
+      -- out of range all is the same
+      over : (one two : FoundFde) → nat_lt (base + relative) (2 ^ 64) ≡ false → said one ≡ said two
+      over one two not = rw not refl
 
       -- by the header the attempt is that by the nearest FDE
-      headed : (fde : Fde) → nearest_fde (base + relative) (whole_fdes s) ≡ Some fde → attempt m limits (headed_data h) relative first ≡ by_method (UsesFde s fde.head.offset)
+      headed : (fde : Fde) → nearest_fde (base + relative) (whole_fdes s) ≡ Some fde → attempt m limits (headed_data h) relative first ≡ said (Ok (Some fde))
       headed fde nearest =
           by_case (nat_lt (base + relative) (2 ^ 64))
-          (λ fits. ap (λ (o : Option ℕ). by_method (method_at s o)) (header-nearest fde nearest fits))
-          (λ not. ap (λ (o : Option ℕ). by_method (method_at s o)) (unheaded not) ∙ sym (overflows fde.head.offset not))
+          (λ fits. headed-says ∙ ap (λ (o : Option ℕ). said (fde_found s EhFrameHdrCouldNotFindAddress o)) (header-nearest fde nearest fits) ∙ ap (λ (r : Result Fde Error). said (fde_read r)) (there fde (listed fde nearest)))
+          (λ not. headed-says ∙ over (fde_found s EhFrameHdrCouldNotFindAddress (offset_headed h relative)) (Ok (Some fde)) not)
 
       -- and so it is by the index
-      indexed : (fde : Fde) → nearest_fde (base + relative) (whole_fdes s) ≡ Some fde → attempt m limits (indexed_data other h) relative first ≡ by_method (UsesFde s fde.head.offset)
+      indexed : (fde : Fde) → nearest_fde (base + relative) (whole_fdes s) ≡ Some fde → attempt m limits (indexed_data other h) relative first ≡ said (Ok (Some fde))
       indexed fde nearest =
-          ap (λ (sec : FrameSection). by_method (method_at sec (found_by_index sec base relative))) (same-section bases other h.section same)
-          ∙ ap (λ (o : Option ℕ). by_method (method_at s o)) (index-nearest fde nearest)
+          index-says ∙ ap (λ (o : Option ℕ). said (fde_found s DwarfCfiIndexCouldNotFindAddress o)) (index-nearest fde nearest)
+          ∙ ap (λ (r : Result Fde Error). said (fde_read r)) (there fde (listed fde nearest))
 
       -- and by the scan, where the FDE contains the address
-      scanned : (fde : Fde) → Contains (whole_fdes s) fde → contains (base + relative) fde ≡ true → attempt m limits (scanned_data other h) relative first ≡ by_method (UsesFde s fde.head.offset)
+      near-read : (fde : Fde) → nat_lt fde.head.offset (2 ^ 32) ≡ true → said (fde_by_scan (Ok fde)) ≡ said (Ok (Some fde))
+      near-read fde near = rw near refl
+
+      scanned : (fde : Fde) → Contains (whole_fdes s) fde → contains (base + relative) fde ≡ true → attempt m limits (scanned_data other h) relative first ≡ said (Ok (Some fde))
       scanned fde inside holds =
-          let at : by_entry limits.rows m.vendor s (base + relative) (fde_from_offset s fde.head.offset) ≡ by_fde limits.rows m.vendor s (base + relative) fde
-          = ap (by_entry limits.rows m.vendor s (base + relative)) (there fde inside) in
-          let found : by_scanned limits.rows m.vendor s (base + relative) (fde_for_address_skipping s (base + relative)) ≡ by_fde limits.rows m.vendor s (base + relative) fde
-          = ap (by_scanned limits.rows m.vendor s (base + relative)) (scan-contained fde inside holds) ∙ (rw (small fde inside) refl) in
-          ap (λ (sec : FrameSection). by_method (UsesScan sec)) (same-section bases other h.section same)
-          ∙ ap (λ (c : Coverage). attempt_by m first limits.values (cond (nat_lt (base + relative) (2 ^ 64)) c NoAddress)) (found ∙ sym at)
+          scan-says ∙ ap (λ (r : Result Fde Error). said (fde_by_scan r)) (scan-contained fde inside holds) ∙ near-read fde (small fde inside)
 
       pub index-alike : (fde : Fde) → nearest_fde (base + relative) (whole_fdes s) ≡ Some fde → attempt m limits (indexed_data other h) relative first ≡ attempt m limits (headed_data h) relative first
       index-alike fde nearest = indexed fde nearest ∙ sym (headed fde nearest)
@@ -200,18 +219,6 @@ module _ (h : HeadedSection) (t : AreTruthful h) where
       pub scan-alike : (fde : Fde) → Contains (whole_fdes s) fde → contains (base + relative) fde ≡ true → attempt m limits (scanned_data other h) relative first ≡ attempt m limits (headed_data h) relative first
       scan-alike fde inside holds = scanned fde inside holds ∙ sym (headed fde (nearest-contained fde inside holds))
 
-      -- the scan, if this is found
-      scanned-as : (coverage : Coverage) → by_scanned limits.rows m.vendor s (base + relative) (fde_for_address_skipping s (base + relative)) ≡ coverage
-          → attempt m limits (scanned_data other h) relative first ≡ attempt_by m first limits.values (cond (nat_lt (base + relative) (2 ^ 64)) coverage NoAddress)
-      scanned-as coverage found =
-          ap (λ (sec : FrameSection). by_method (UsesScan sec)) (same-section bases other h.section same)
-          ∙ ap (λ (c : Coverage). attempt_by m first limits.values (cond (nat_lt (base + relative) (2 ^ 64)) c NoAddress)) found
-
-      -- an FDE at its offset
-      read-there : (fde : Fde) → fde_from_offset s fde.head.offset ≡ Ok fde
-          → by_entry limits.rows m.vendor s (base + relative) (fde_from_offset s fde.head.offset) ≡ by_fde limits.rows m.vendor s (base + relative) fde
-      read-there fde at = ap (by_entry limits.rows m.vendor s (base + relative)) at
-
       -- without a row nothing is covered
       no-row : (fde : Fde) → ((row : Row ℕ) → fde_row limits.rows s m.vendor fde (base + relative) ≡ Ok row → ⊥) → by_fde limits.rows m.vendor s (base + relative) fde ≡ Uncovered
       no-row fde none = by (fde_row limits.rows s m.vendor fde (base + relative)) refl
@@ -219,6 +226,13 @@ module _ (h : HeadedSection) (t : AreTruthful h) where
           by : (r : Result (Row ℕ) Error) → fde_row limits.rows s m.vendor fde (base + relative) ≡ r → by_fde_row fde.cie.address_size s.within.bytes r ≡ Uncovered
           by (Ok row) is = absurd (none row is)
           by (Err e) is = refl
+
+      -- and the attempt is that without an FDE
+      said-uncovered : (fde : Fde) → by_fde limits.rows m.vendor s (base + relative) fde ≡ Uncovered → said (Ok None) ≡ said (Ok (Some fde))
+      said-uncovered fde uncovered =
+          by_case (nat_lt (base + relative) (2 ^ 64))
+          (λ fits. (let same = sym (ap (attempt_by m first limits.values) uncovered) in rw fits same))
+          (λ not. over (Ok None) (Ok (Some fde)) not)
 
       -- from the lowest start on
       pub scan-from : (fde : Fde) → nearest_fde (base + relative) (whole_fdes s) ≡ Some fde
@@ -228,39 +242,46 @@ module _ (h : HeadedSection) (t : AreTruthful h) where
           by_case (contains (base + relative) fde)
           (scan-alike fde (listed fde nearest))
           (λ out.
-          let found : by_scanned limits.rows m.vendor s (base + relative) (fde_for_address_skipping s (base + relative)) ≡ Uncovered
-          = ap (by_scanned limits.rows m.vendor s (base + relative)) (header_laws.scanned_outside s bases t.says t.is_truthful (base + relative) fde nearest out) in
-          let left : by_entry limits.rows m.vendor s (base + relative) (fde_from_offset s fde.head.offset) ≡ Uncovered
-          = read-there fde (there fde (listed fde nearest)) ∙ no-row fde (λ row is. let yes = within row is in cc) in
-          scanned-as Uncovered found
-          ∙ sym (ap (λ (c : Coverage). attempt_by m first limits.values (cond (nat_lt (base + relative) (2 ^ 64)) c NoAddress)) left)
+          scan-says
+          ∙ ap (λ (r : Result Fde Error). said (fde_by_scan r)) (header_laws.scanned_outside s bases t.says t.is_truthful (base + relative) fde nearest out)
+          ∙ said-uncovered fde (no-row fde (λ row is. let yes = within row is in cc))
           ∙ sym (headed fde nearest))
 
       -- below it
       module _ (fits : nat_lt (base + relative) (2 ^ 64) ≡ true) (none : nearest_fde (base + relative) (whole_fdes s) ≡ None) where
+        -- what the header leads to has no row
+        leads-nowhere : (found : LeadsAbove h relative) → by_fde limits.rows m.vendor s (base + relative) found.fde ≡ Uncovered
+        leads-nowhere found =
+            let above = no-row-below limits.rows s m.vendor found.fde (base + relative) found.above in
+            no-row found.fde (λ row is. cc)
+
         pub left-uncovered : 0 < t.says.count → (offset : ℕ) → offset_headed h relative ≡ Some offset → covered_by_fde limits.rows m.vendor s base relative offset ≡ Uncovered
         left-uncovered rows offset leads =
             let found = header-above fits none rows in
             let same : found.fde.head.offset ≡ offset = (let e : Some found.fde.head.offset ≡ Some offset = sym found.leads ∙ leads in cc) in
-            let above = no-row-below limits.rows s m.vendor found.fde (base + relative) found.above in
             let left : by_entry limits.rows m.vendor s (base + relative) (fde_from_offset s found.fde.head.offset) ≡ Uncovered
-            = read-there found.fde found.at_offset ∙ no-row found.fde (λ row is. cc) in
+            = ap (by_entry limits.rows m.vendor s (base + relative)) found.at_offset ∙ leads-nowhere found in
             ap (covered_by_fde limits.rows m.vendor s base relative) (sym same)
             ∙ ap (λ (c : Coverage). cond (nat_lt (base + relative) (2 ^ 64)) c NoAddress) left
             ∙ ap (λ (b : Bool). cond b Uncovered NoAddress) fits
 
+        -- in range it is by what is found
+        within-range : (found : FoundFde) → said found ≡ attempt_by_method m limits first (method_found s (base + relative) found)
+        within-range found = ap (λ (b : Bool). attempt_by_method m limits first (method_found s (base + relative) (cond b found (Err (Dwarf LookupAddressOverflow))))) fits
+
         pub header-below : 0 < t.says.count → attempt m limits (headed_data h) relative first ≡ Says m.uncovered
         header-below rows =
             let found = header-above fits none rows in
-            ap (λ (o : Option ℕ). by_method (method_at s o)) found.leads
-            ∙ ap (attempt_by m first limits.values) (left-uncovered rows found.fde.head.offset found.leads)
+            headed-says ∙ ap (λ (o : Option ℕ). said (fde_found s EhFrameHdrCouldNotFindAddress o)) found.leads
+            ∙ ap (λ (r : Result Fde Error). said (fde_read r)) found.at_offset
+            ∙ within-range (Ok (Some found.fde)) ∙ ap (attempt_by m first limits.values) (leads-nowhere found)
 
         pub index-below : attempt m limits (indexed_data other h) relative first ≡ SaysNothing
         index-below =
-            ap (λ (sec : FrameSection). by_method (method_at sec (found_by_index sec base relative))) (same-section bases other h.section same)
-            ∙ ap (λ (o : Option ℕ). by_method (method_at s o)) (index-none fits none)
+            index-says ∙ ap (λ (o : Option ℕ). said (fde_found s DwarfCfiIndexCouldNotFindAddress o)) (index-none fits none)
+            ∙ within-range (Err DwarfCfiIndexCouldNotFindAddress)
 
         pub scan-below : attempt m limits (scanned_data other h) relative first ≡ Says m.uncovered
         scan-below =
-            scanned-as Uncovered (ap (by_scanned limits.rows m.vendor s (base + relative)) (scan-none fits none))
-            ∙ ap (λ (b : Bool). attempt_by m first limits.values (cond b Uncovered NoAddress)) fits
+            scan-says ∙ ap (λ (r : Result Fde Error). said (fde_by_scan r)) (scan-none fits none)
+            ∙ within-range (Ok None)

@@ -1,5 +1,5 @@
 -- Tables of the rules that a module's call frames say, as contracts see them.
-use Rattle.std.specs.Prelude.{◌≡◌, ℕ, Bool, true, false, Option}
+use Rattle.std.specs.Prelude.{◌≡◌, ℕ, Option, IfSome}
 use Rattle.dwarf_frame_rows.specs.FrameSection.{FrameSection}
 use Rattle.dwarf_frame_rows.specs.Row.{Row}
 use Rattle.framehop_rows.specs.RowAttemptAarch64 as aarch64_rows
@@ -12,18 +12,16 @@ use Rattle.framehop_tables.specs.Covered.{covered_at, tabulated}
 use Rattle.framehop_tables.specs.RuleTables.{IsTableOf}
 use Rattle.framehop_tables.specs.declared.covered.Covered.{Covered}
 use Rattle.framehop.specs.StepMeanings.{row_limits}
+use Rattle.framehop_index.specs.FdeLookups.{ByIndex, PlacedFrames, section_of}
+use Rattle.framehop.specs.declared.load_options.TableArch.{TableArch}
+use Rattle.framehop.specs.declared.load_options.TableArch.TheVariants as arch
 use Rattle.framehop.specs.declared.tabulation.ArchRuleTable.{ArchRuleTable}
 use Rattle.framehop.specs.declared.tabulation.ArchRuleTable.TheVariants.{X86_64, Aarch64}
 
--- a table on x86_64
-abbrev pub is_on_x86_64 : ArchRuleTable → Bool
-is_on_x86_64 (X86_64 table) = true
-is_on_x86_64 (Aarch64 table) = false
-
--- a table on aarch64
-abbrev pub is_on_aarch64 : ArchRuleTable → Bool
-is_on_aarch64 (X86_64 table) = false
-is_on_aarch64 (Aarch64 table) = true
+-- the architecture of a table
+abbrev pub arch_of : ArchRuleTable → TableArch
+arch_of (X86_64 table) = arch.X86_64
+arch_of (Aarch64 table) = arch.Aarch64
 
 -- The table says of each relative address what the index of this section says on the table's architecture, with the room for rows that
 -- policies set.
@@ -39,3 +37,18 @@ abbrev pub SaysAsIndexOn : {Rule Registers : Type 0} → RowMeanings Rule Regist
 SaysAsIndexOn m rule_of table relative covered =
     (base : ℕ) (section : FrameSection) → IsArchTableOf table base section
     → covered ≡ covered_at (tabulated m rule_of row_limits m.vendor base section) relative
+
+-- What is said of a relative address is what the index of a section says, and FDEs of the section are found by an index.
+pub record SaysAsIndexOf {Rule Registers : Type 0} (m : RowMeanings Rule Registers) (rule_of : Row ℕ → Option Rule) (main : PlacedFrames)
+    (relative : ℕ) (covered : Covered Rule) : Type 0 where
+  pub by_index : main.lookup ≡ ByIndex
+  pub says : covered ≡ covered_at (tabulated m rule_of row_limits m.vendor main.base_svma (section_of main)) relative
+
+-- A table is one of what the index of a section says, and FDEs of the section are found by an index.
+pub record IsTableFor (main : PlacedFrames) (table : ArchRuleTable) : Type 0 where
+  pub by_index : main.lookup ≡ ByIndex
+  pub says : IsArchTableOf table main.base_svma (section_of main)
+
+-- .. if there is a table
+abbrev pub IsTabulatedFor : PlacedFrames → Option ArchRuleTable → Type 0
+IsTabulatedFor main table = IfSome table (IsTableFor main)

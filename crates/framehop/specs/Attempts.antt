@@ -6,8 +6,8 @@ use Rattle.dwarf_frame_rows.specs.Row.{Row}
 use Rattle.framehop_errors.specs.declared.compact.CompactUnwindInfoUnwinderError.TheVariants.{FunctionHasNoInfo}
 use Rattle.framehop_unwinder.specs.Attempt.{Attempt, Says, Evaluates, SaysNothing}
 use Rattle.framehop_rows.specs.RowMeanings.{RowMeanings}
-use Rattle.framehop.specs.Coverage.{attempt_by, covered_by_fde, covered_by_scan, EvaluatesExpression}
-use Rattle.framehop.specs.Methods.{Method, UsesRule, UsesFde, UsesScan, UsesCodes, UsesNothing}
+use Rattle.framehop.specs.Coverage.{attempt_by, by_known, EvaluatesExpression}
+use Rattle.framehop.specs.Methods.{Method, UsesRule, UsesFde, UsesCodes, UsesNothing}
 use Rattle.framehop.specs.UnwindData.{TableMethods, UnwindData, method_of}
 
 -- The limits that a policy sets: of rows and their rules, and of the values of an expression, if these have one.
@@ -19,16 +19,14 @@ pub record StepLimits : Type 0 where
 abbrev pub step_limits : Limits → Option ℕ → StepLimits
 step_limits rows values = record { rows = rows; values = values }
 
--- the attempt at an address relative to a base, by a method
-abbrev pub attempt_by_method : {Rule Registers : Type 0} → RowMeanings Rule Registers → StepLimits → (base relative : ℕ) → Bool
-    → Method Rule Registers → Attempt Rule Registers
-attempt_by_method m limits base relative first (UsesRule rule) = Says rule
-attempt_by_method m limits base relative first (UsesFde section offset) =
-    attempt_by m first limits.values (covered_by_fde limits.rows m.vendor section base relative offset)
-attempt_by_method m limits base relative first (UsesScan section) =
-    attempt_by m first limits.values (covered_by_scan limits.rows m.vendor section base relative)
-attempt_by_method m limits base relative first (UsesCodes caller) = Evaluates caller
-attempt_by_method m limits base relative first UsesNothing = SaysNothing
+-- the attempt by a method
+abbrev pub attempt_by_method : {Rule Registers : Type 0} → RowMeanings Rule Registers → StepLimits → Bool → Method Rule Registers
+    → Attempt Rule Registers
+attempt_by_method m limits first (UsesRule rule) = Says rule
+attempt_by_method m limits first (UsesFde section address known) =
+    attempt_by m first limits.values (by_known limits.rows m.vendor section address known)
+attempt_by_method m limits first (UsesCodes caller) = Evaluates caller
+attempt_by_method m limits first UsesNothing = SaysNothing
 
 -- What each format of unwind data means on an architecture: call frames, and other tables.
 pub record FormatMeanings (Rule Registers : Type 0) : Type 0 where
@@ -43,7 +41,7 @@ format_meanings rows tables = record { rows = rows; tables = tables }
 abbrev pub attempt_by_format : {Rule Registers : Type 0} → FormatMeanings Rule Registers → StepLimits → UnwindData → ℕ → Bool
     → Attempt Rule Registers
 attempt_by_format m limits given relative first =
-    attempt_by_method m.rows limits given.base_svma relative first (method_of m.tables given relative first)
+    attempt_by_method m.rows limits first (method_of m.tables given relative first)
 
 -- other tables that say nothing
 abbrev pub no_tables : {Rule Registers : Type 0} → TableMethods Rule Registers
@@ -55,18 +53,15 @@ attempt m limits given relative first =
     attempt_by_format (format_meanings m no_tables) limits given relative first
 
 -- the method takes a row that evaluates an expression; `meets` says which rows do
-abbrev pub EvaluatesByMethod : {Rule Registers : Type 0} → (Row ℕ → Type 0) → Limits → Vendor → (base relative : ℕ) → Method Rule Registers
-    → Type 0
-EvaluatesByMethod meets limits vendor base relative (UsesRule rule) = ⊥
-EvaluatesByMethod meets limits vendor base relative (UsesFde section offset) =
-    EvaluatesExpression meets (covered_by_fde limits vendor section base relative offset)
-EvaluatesByMethod meets limits vendor base relative (UsesScan section) =
-    EvaluatesExpression meets (covered_by_scan limits vendor section base relative)
-EvaluatesByMethod meets limits vendor base relative (UsesCodes caller) = ⊥
-EvaluatesByMethod meets limits vendor base relative UsesNothing = ⊥
+abbrev pub EvaluatesByMethod : {Rule Registers : Type 0} → (Row ℕ → Type 0) → Limits → Vendor → Method Rule Registers → Type 0
+EvaluatesByMethod meets limits vendor (UsesRule rule) = ⊥
+EvaluatesByMethod meets limits vendor (UsesFde section address known) =
+    EvaluatesExpression meets (by_known limits vendor section address known)
+EvaluatesByMethod meets limits vendor (UsesCodes caller) = ⊥
+EvaluatesByMethod meets limits vendor UsesNothing = ⊥
 
 -- the attempt by a module's data takes such a row
 abbrev pub AsksExpression : {Rule Registers : Type 0} → (Row ℕ → Type 0) → FormatMeanings Rule Registers → StepLimits → UnwindData → ℕ → Bool
     → Type 0
 AsksExpression meets m limits given relative first =
-    EvaluatesByMethod meets limits.rows m.rows.vendor given.base_svma relative (method_of m.tables given relative first)
+    EvaluatesByMethod meets limits.rows m.rows.vendor (method_of m.tables given relative first)

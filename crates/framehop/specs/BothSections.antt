@@ -1,11 +1,14 @@
 -- Modules that are unwound by `.eh_frame` and `.debug_frame`, beside those that are unwound by one of the two.
 use Rattle.std.specs.Prelude.{◌≡◌, ◌⊎◌, ℕ, Bool, true, false, List, Option, Some, codes}
-use Rattle.framehop_modules.specs.Chosen.{chosen_sections}
+use Rattle.framehop_modules.specs.Chosen.{base_svmas, chosen_sections}
 use Rattle.framehop_modules.specs.Sections.{Sections}
 use Rattle.framehop_modules.specs.declared.module_sections.ModuleSections.TheVariants.{EhFrame}
 use Rattle.framehop.specs.Attempts.{FormatMeanings, StepLimits, attempt_by_format}
-use Rattle.framehop.specs.UnwindData.{SectionFrames, UnwindData, CallFrames, both_data_of, debug_frames, is_in_frames, lookup_with, unwind_data_of}
-use Rattle.framehop.specs.declared.dwarf.UnwindSectionType.TheVariants as section
+use Rattle.framehop.specs.CallFrames.{alone}
+use Rattle.framehop.specs.LoadOptions.{as_original}
+use Rattle.framehop.specs.UnwindData.{UnwindData, CallFrames, bases_of, both_data_of, debug_frames, frames_with, unwind_data_of}
+use Rattle.framehop_index.specs.FdeLookups.{PlacedFrames, covers}
+use Rattle.framehop_index.specs.declared.section_type.UnwindSectionType.TheVariants as section
 
 -- A module is unwound by `.eh_frame`, and has a `.debug_frame` too.
 pub record HasBoth (s : Sections) : Type 0 where
@@ -20,24 +23,24 @@ abbrev pub HasOne : Sections → Type 0
 HasOne s = (HasBoth s → ⊥)
 
 -- its `.eh_frame`, with the lookup of FDEs
-abbrev pub eh_frames : {s : Sections} → HasBoth s → SectionFrames
-eh_frames has = record { section = section.EhFrame has.eh_frame; lookup = lookup_with has.eh_frame_hdr }
+abbrev pub eh_frames : {s : Sections} → HasBoth s → PlacedFrames
+eh_frames {s} has = frames_with as_original (bases_of (base_svmas s)) s.base_svma (section.EhFrame has.eh_frame) has.eh_frame_hdr
+
+-- its `.debug_frame`
+abbrev pub frames_beside : {s : Sections} → HasBoth s → PlacedFrames
+frames_beside {s} has = debug_frames as_original (bases_of (base_svmas s)) s.base_svma has.debug_frame
 
 -- the unwind data of the module if it is unwound by a section alone
-abbrev pub data_by : Sections → SectionFrames → UnwindData
-data_by s frames = record (unwind_data_of s) { format = CallFrames frames.section frames.lookup }
-
--- a relative address is in the FDE that is found for it in a section
-abbrev pub is_in : Sections → (relative : ℕ) → SectionFrames → Bool
-is_in s relative frames = is_in_frames (unwind_data_of s).bases s.base_svma relative frames
+abbrev pub data_by : Sections → PlacedFrames → UnwindData
+data_by s frames = record (unwind_data_of s) { format = CallFrames (alone frames) }
 
 -- The attempt by both sections at a relative address is that by `.debug_frame` alone, if the address is in the FDE found there, and not in
 -- that of `.eh_frame`. Else it is that of the module by `.eh_frame` alone.
 pub record AttemptsByOne {Rule Registers : Type 0} (m : FormatMeanings Rule Registers) (limits : StepLimits) {s : Sections} (has : HasBoth s)
     (relative : ℕ) (first : Bool) : Type 0 where
-  pub by_debug_frame : is_in s relative (eh_frames has) ≡ false → is_in s relative (debug_frames has.debug_frame) ≡ true
-      → attempt_by_format m limits (both_data_of s) relative first ≡ attempt_by_format m limits (data_by s (debug_frames has.debug_frame)) relative first
-  pub by_eh_frame : (is_in s relative (eh_frames has) ≡ true) ⊎ (is_in s relative (debug_frames has.debug_frame) ≡ false)
+  pub by_debug_frame : covers (eh_frames has) relative ≡ false → covers (frames_beside has) relative ≡ true
+      → attempt_by_format m limits (both_data_of s) relative first ≡ attempt_by_format m limits (data_by s (frames_beside has)) relative first
+  pub by_eh_frame : (covers (eh_frames has) relative ≡ true) ⊎ (covers (frames_beside has) relative ≡ false)
       → attempt_by_format m limits (both_data_of s) relative first ≡ attempt_by_format m limits (unwind_data_of s) relative first
 
 -- So it is for each module that has both, at all addresses, in first and in later frames.

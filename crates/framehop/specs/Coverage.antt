@@ -1,8 +1,7 @@
 -- How call frame information covers an address, and the attempt at a step from there, on any architecture.
-use Rattle.std.specs.Prelude.{◌≡◌, ℕ, ◌+◌, ◌^◌, Bool, Option, Result, Ok, Err, nat_lt, if◌then◌else◌}
+use Rattle.std.specs.Prelude.{◌≡◌, ℕ, ◌+◌, ◌^◌, Bool, Option, Some, None, Result, Ok, Err, nat_lt, if◌then◌else◌}
 use Rattle.dwarf_constants.specs.declared.common.Vendor.{Vendor}
 use Rattle.dwarf_constants.specs.declared.error.Error.{Error}
-use Rattle.dwarf_constants.specs.declared.error.Error.TheVariants.{NoUnwindInfoForAddress, UnsupportedOffset}
 use Rattle.dwarf_readers.specs.Stretch.{Stretch}
 use Rattle.dwarf_frame_rows.specs.Effects.{Limits}
 use Rattle.dwarf_frame_rows.specs.Row.{Row}
@@ -16,6 +15,7 @@ use Rattle.framehop_rows.specs.RowErrors.{IsOfRow}
 use Rattle.framehop_rows.specs.RowMeanings.{RowMeanings}
 use Rattle.framehop_errors.specs.declared.dwarf.DwarfUnwinderError.{DwarfUnwinderError}
 use Rattle.framehop_errors.specs.declared.dwarf.DwarfUnwinderError.TheVariants.{FdeFromOffsetFailed, LookupAddressOverflow}
+use Rattle.framehop_index.specs.FdeLookups.{fde_scanned}
 use Rattle.framehop.specs.RowAttempts.{attempt_by_row}
 
 -- How an address is covered: by a row of an FDE, in a section of these bytes and with addresses of this size in bytes; by no row or
@@ -41,16 +41,15 @@ abbrev pub by_entry : Limits → Vendor → FrameSection → (address : ℕ) →
 by_entry limits vendor section address (Ok fde) = by_fde limits vendor section address fde
 by_entry limits vendor section address (Err e) = NoFde e
 
--- by an FDE that a scan finds, which has to be at an offset of 32 bits
-abbrev pub by_near : Limits → Vendor → FrameSection → (address : ℕ) → Fde → Coverage
-by_near limits vendor section address fde =
-    if nat_lt fde.head.offset (2 ^ 32) then by_fde limits vendor section address fde else NoFde UnsupportedOffset
+-- by what is known of the FDE for the address: by none if it is known that there is none
+abbrev pub by_known : Limits → Vendor → FrameSection → (address : ℕ) → Option Fde → Coverage
+by_known limits vendor section address (Some fde) = by_fde limits vendor section address fde
+by_known limits vendor section address None = Uncovered
 
--- by what a scan finds: after the whole list it is known that no FDE that can be read contains the address
-abbrev pub by_scanned : Limits → Vendor → FrameSection → (address : ℕ) → Result Fde Error → Coverage
-by_scanned limits vendor section address (Ok fde) = by_near limits vendor section address fde
-by_scanned limits vendor section address (Err NoUnwindInfoForAddress) = Uncovered
-by_scanned limits vendor section address (Err e) = NoFde e
+-- .. unless it can't be read
+abbrev pub by_read : Limits → Vendor → FrameSection → (address : ℕ) → Result (Option Fde) Error → Coverage
+by_read limits vendor section address (Ok known) = by_known limits vendor section address known
+by_read limits vendor section address (Err e) = NoFde e
 
 -- the coverage of an address relative to a base, if it has 64 bits
 abbrev pub at_address : (base relative : ℕ) → (ℕ → Coverage) → Coverage
@@ -64,7 +63,7 @@ covered_by_fde limits vendor section base relative offset =
 -- by the first FDE that can be read and contains the address
 abbrev pub covered_by_scan : Limits → Vendor → FrameSection → (base relative : ℕ) → Coverage
 covered_by_scan limits vendor section base relative =
-    at_address base relative (λ address. by_scanned limits vendor section address (fde_for_address_skipping section address))
+    at_address base relative (λ address. by_read limits vendor section address (fde_scanned (fde_for_address_skipping section address)))
 
 -- the attempt by call frames at an address that is covered so
 abbrev pub row_attempt_by : {Rule Registers : Type 0} → RowMeanings Rule Registers → Bool → (values : Option ℕ) → Coverage

@@ -1,32 +1,15 @@
 -- Unwinding by call frames as contracts see it.
-use Rattle.std.specs.Prelude.{ℕ, Bool, List, Option, Result, Ok, Err, ◌≡◌, IfOk, IfErr}
-use Rattle.dwarf_constants.specs.declared.error.Error.{Error}
-use Rattle.dwarf_constants.specs.declared.error.Error.TheVariants.{NoUnwindInfoForAddress}
-use Rattle.std.specs.Borrow.{Bor}
+use Rattle.std.specs.Prelude.{ℕ, Bool, Option, Result, Err, ◌≡◌, IfOk, IfErr}
 use Rattle.dwarf_frame_rows.specs.Effects.{Limits}
-use Rattle.dwarf_frame_rows.specs.FrameSection.{FrameSection}
 use Rattle.dwarf_frame_rows.specs.Row.{Row}
-use Rattle.dwarf_frame_rows.specs.declared.base_addresses.BaseAddresses.{BaseAddresses}
 use Rattle.framehop_rules.specs.declared.unwind_result.UnwindResult.{UnwindResult}
-use Rattle.framehop_rules.specs.declared.unwind_result.UnwindResult.TheVariants.{ExecRule}
 use Rattle.framehop_rows.specs.RowAttempt.{AnswersRow}
 use Rattle.framehop_rows.specs.RowMeanings.{RowMeanings}
 use Rattle.framehop_errors.specs.declared.dwarf.DwarfUnwinderError.{DwarfUnwinderError}
-use Rattle.framehop_errors.specs.declared.dwarf.DwarfUnwinderError.TheVariants.{FdeFromOffsetFailed, OutOfMemory}
+use Rattle.framehop_errors.specs.declared.dwarf.DwarfUnwinderError.TheVariants.{OutOfMemory}
 use Rattle.framehop.specs.Coverage.{Coverage, EvaluatesExpression, IsErrorOf, IsKnown, covered_by_fde, covered_by_scan, row_attempt_by}
-use Rattle.framehop.specs.SectionTypes.{section_of_type}
+use Rattle.framehop_index.specs.SectionTypes.{frame_section_lent}
 use Rattle.framehop.specs.declared.dwarf.DwarfUnwinder.{DwarfUnwinder}
-use Rattle.framehop.specs.declared.dwarf.UnwindSectionType.{UnwindSectionType}
-use Rattle.framehop.specs.declared.dwarf.UnwindSectionType.TheVariants.{EhFrame, DebugFrame}
-
--- a section of call frames, by the bytes of what has them
-abbrev pub frame_section_bytes : {D : Type 0} → (D → List ℕ) → UnwindSectionType D → UnwindSectionType (List ℕ)
-frame_section_bytes content (EhFrame data_) = EhFrame (content data_)
-frame_section_bytes content (DebugFrame data_) = DebugFrame (content data_)
-
--- the section of what is lent: its bytes, and the addresses that its pointers are relative to
-abbrev pub frame_section_lent : Bor BaseAddresses → UnwindSectionType (Bor (List ℕ)) → FrameSection
-frame_section_lent bases section = section_of_type bases.now (frame_section_bytes (λ b. b.now) section)
 
 -- A step by call frames, which took the callback from `old` to `new` and the registers from `before` to `after`, at an address that is
 -- covered so: it answers the attempt by the coverage; there is an answer only if the FDE is known, and an error is one of that
@@ -38,11 +21,6 @@ pub record AnswersCoverage {Rule Registers S : Type 0} (step : S → ℕ → Res
   pub answer : IfOk result (λ _. IsKnown coverage)
   pub error : IfErr result (IsErrorOf coverage)
   pub expression : result ≡ Err OutOfMemory → EvaluatesExpression meets coverage
-
--- what a scan that found no FDE gives
-abbrev pub scan_failure : {Rule : Type 0} → Rule → Error → Result (UnwindResult Rule) DwarfUnwinderError
-scan_failure uncovered NoUnwindInfoForAddress = Ok (ExecRule uncovered)
-scan_failure uncovered e = Err (FdeFromOffsetFailed e)
 
 -- A call of a step by call frames: how its callback answers, the callback before and after it, likewise the registers, and what it
 -- returned.

@@ -2,9 +2,10 @@ pub mod ArchMeanings
 pub mod ArchTables
 pub mod Attempts
 pub mod BothSections
+pub mod CallFrames
 pub mod Coverage
 pub mod DwarfViews
-pub mod LookupMethods
+pub mod LoadOptions
 pub mod LookupsAlike
 pub mod MethodViews
 pub mod Methods
@@ -13,8 +14,8 @@ pub mod Performances
 pub mod RowAttempts
 pub mod RowCfas
 pub mod SameSteps
-pub mod SectionTypes
 pub mod StepMeanings
+pub mod TableAttempts
 pub mod TableMethods
 pub mod TruthfulLookups
 pub mod UnwindData

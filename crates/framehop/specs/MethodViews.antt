@@ -13,8 +13,7 @@ use Rattle.framehop.specs.Methods.{Method}
 -- by a method, and memory runs out only for an expression.
 pub record AnswersMethod {Rule Registers S : Type 0} (step : S → ℕ → Result ℕ (Unit {0}) → S → Type 0) (old new : S)
     (before after : Registers) (result : Result (UnwindResult Rule) UnwindFailure) (m : RowMeanings Rule Registers)
-    (meets : Row ℕ → Type 0) (limits : StepLimits) (takes_memory : Bool) (base relative : ℕ) (first : Bool)
-    (method : Method Rule Registers) : Type 0 where
-  pub answer : AnswersAttempt step old new before after result (attempt_by_method m limits base relative first method)
+    (meets : Row ℕ → Type 0) (limits : StepLimits) (takes_memory first : Bool) (method : Method Rule Registers) : Type 0 where
+  pub answer : AnswersAttempt step old new before after result (attempt_by_method m limits first method)
   pub memory : WantsMemoryOnlyIf takes_memory (has_wanted result)
-      (EvaluatesByMethod meets limits.rows m.vendor base relative method)
+      (EvaluatesByMethod meets limits.rows m.vendor method)

@@ -12,9 +12,10 @@ use Rattle.framehop.specs.Attempts.{StepLimits, attempt}
 use Rattle.framehop_index.specs.EntryFor.{fits_index}
 use Rattle.framehop_index.specs.FrameSections.{eh_frame_of}
 use Rattle.framehop_index.specs.Lookups.{eh_frame_hdr_of, found_by_header, parsed_header}
-use Rattle.framehop.specs.LookupMethods.{Lookup, ByHeader, ByIndex, ByScan}
+use Rattle.framehop_index.specs.FdeLookups.{Lookup, ByHeader, ByIndex, ByScan, PlacedFrames, placed}
+use Rattle.framehop_index.specs.declared.section_type.UnwindSectionType.TheVariants.{EhFrame}
+use Rattle.framehop.specs.CallFrames.{alone}
 use Rattle.framehop.specs.UnwindData.{UnwindData, CallFrames}
-use Rattle.framehop.specs.declared.dwarf.UnwindSectionType.TheVariants.{EhFrame}
 
 -- The bytes of a section `.eh_frame` and of its header, the addresses that pointers in them are relative to, and the base that
 -- relative addresses are relative to.
@@ -28,9 +29,13 @@ pub record HeadedSection : Type 0 where
 abbrev pub headed_section : HeadedSection → FrameSection
 headed_section h = eh_frame_of h.bases h.section
 
+-- the section with a lookup of its FDEs
+abbrev pub frames_with : HeadedSection → BaseAddresses → Lookup → PlacedFrames
+frames_with h bases lookup = placed (EhFrame h.section) lookup bases h.base
+
 -- a module with this section alone, whose FDEs are found by a lookup
 abbrev pub data_with : HeadedSection → BaseAddresses → Lookup → UnwindData
-data_with h bases lookup = record { format = CallFrames (EhFrame h.section) lookup; bases = bases; base_svma = h.base }
+data_with h bases lookup = record { format = CallFrames (alone (frames_with h bases lookup)); bases = bases; base_svma = h.base }
 
 -- a module that is unwound by the header
 abbrev pub headed_data : HeadedSection → UnwindData

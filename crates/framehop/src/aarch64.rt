@@ -30,6 +30,10 @@ pub type UnwinderAarch64<D, P = MayAllocateDuringUnwind> = UnwinderInternal<
     BySections<ArchAarch64, D, P>,
 >;
 
+/// Unwinders and caches of processes on aarch64, which share what they keep. The modules of unwinders are
+/// unwound as those of an [`UnwinderAarch64`].
+pub type SessionAarch64<D, P = MayAllocateDuringUnwind> = Session<BySections<ArchAarch64, D, P>>;
+
 /// What steps on aarch64 keep and reuse: a cache of unwind rules, and storage that steps evaluate rows in.
 /// A step or a walk takes the [`Cache`] in it.
 #[derive(Drop)]
@@ -95,8 +99,8 @@ pub fn perform<
     >,
 ) -> Result<Vec<Answer<UnwindRegsAarch64>>, AllocError>
     requires { All (OfCallback F.IsAlwaysCallable) commands.old.items }
-    ensures performs { IfOk result (λ done. PerformsAarch64 F.step P.may_allocate P.limits
-        session.old commands.old.items session.new done.items) }
+    ensures performs { IfOk result (λ all. PerformsAarch64 F.step P.may_allocate P.limits
+        session.old commands.old.items session.new all.items) }
     ensures performed { OnOk result (commands.new.items ≡ []) }
     ensures refused { OnErr result (session.new ≡ session.old) }
     ensures waiting { OnErr result (commands.new ≡ commands.old) }

@@ -6,12 +6,12 @@ ghost use Rattle.framehop.specs.StepMeanings.{meanings_by};
 ghost use Rattle.framehop.specs.TableMethods.{table_methods};
 
 use crate::cache::AllocationPolicy;
-use crate::call_frames::{failure_of, unwind_frame_by_call_frames, unwind_frame_by_covered};
+use crate::call_frames::{failure_of, unwind_frame_by_call_frames};
 use crate::compact::unwind_frame_by_compact;
 use crate::context::DwarfUnwindContext;
 use crate::pe::unwind_frame_by_pe;
 use crate::tabulation::Tabulating;
-use crate::unwind_data::ModuleUnwindData;
+use crate::unwind_data::{ModuleFormat, ModuleUnwindData};
 use framehop_analysis::InstructionAnalysis;
 use framehop_compact::CompactUnwindInfoUnwinding;
 use framehop_errors::UnwinderError;
@@ -75,17 +75,23 @@ impl<A: Unwinding, D: SectionBytes + Drop, P: AllocationPolicy> ModuleUnwinding
         unwind_context: &mut DwarfUnwindContext<P>,
         read_stack: &mut F,
     ) -> Result<UnwindResult<A::UnwindRule>, UnwindFailure> {
-        if let Some(file) = unwind_data.pe() {
-            return unwind_frame_by_pe::<A, P, D, F>(
+        match unwind_data.format() {
+            ModuleFormat::CallFrames(frames) => unwind_frame_by_call_frames::<A, P, D, F>(
+                frames,
+                regs,
+                is_first_frame,
+                relative_address,
+                unwind_context,
+                read_stack,
+            ),
+            ModuleFormat::Pe(file) => unwind_frame_by_pe::<A, P, D, F>(
                 file,
                 regs,
                 is_first_frame,
                 relative_address,
                 read_stack,
-            );
-        }
-        if let Some(file) = unwind_data.compact() {
-            return unwind_frame_by_compact::<A, P, D, F>(
+            ),
+            ModuleFormat::Compact(file) => unwind_frame_by_compact::<A, P, D, F>(
                 file,
                 unwind_data.bases(),
                 unwind_data.base_svma(),
@@ -94,36 +100,8 @@ impl<A: Unwinding, D: SectionBytes + Drop, P: AllocationPolicy> ModuleUnwinding
                 relative_address,
                 unwind_context,
                 read_stack,
-            );
+            ),
+            ModuleFormat::NoFormat => Err(failure_of(UnwinderError::NoModuleUnwindData)),
         }
-        if let Some((section, table)) = unwind_data.table() {
-            if let Some(covered) = A::look_up(table, relative_address) {
-                return unwind_frame_by_covered::<A, P, F>(
-                    covered,
-                    section,
-                    unwind_data.bases(),
-                    unwind_data.base_svma(),
-                    regs,
-                    is_first_frame,
-                    relative_address,
-                    unwind_context,
-                    read_stack,
-                );
-            }
-        }
-        let Some((section, lookup)) = unwind_data.call_frames(relative_address) else {
-            return Err(failure_of(UnwinderError::NoModuleUnwindData));
-        };
-        unwind_frame_by_call_frames::<A, P, F>(
-            section,
-            lookup,
-            unwind_data.bases(),
-            unwind_data.base_svma(),
-            regs,
-            is_first_frame,
-            relative_address,
-            unwind_context,
-            read_stack,
-        )
     }
 }

@@ -171,8 +171,8 @@ pub(crate) fn unwind_frame_by_compact<
     requires callable { F.IsAlwaysCallable read_stack.old }
     ensures callable { F.IsAlwaysCallable read_stack.new }
     ensures answers { AnswersMethod F.step read_stack.old read_stack.new regs.old regs.new result
-        A.rows A.MeetsExpression P.limits P.may_allocate base_svma relative_address is_first_frame
-        (method_by_compact bases.now (option_map D.content file.now.eh_frame)
+        A.rows A.MeetsExpression P.limits P.may_allocate is_first_frame
+        (method_by_compact bases.now base_svma relative_address (option_map D.content file.now.eh_frame)
         (compact_step A.compact (compact_view D.content file.now) relative_address is_first_frame)) }
     ensures valid { HasValidRule A.UnwindRule.is_valid result }
 {

@@ -3,5 +3,5 @@
 
 pub use framehop_histories::{
     Answer, Command, clone_unwinder, laws, load, new_cache, new_unwinder, new_walk, next_frame,
-    perform, step, unload,
+    perform, remove_cache, remove_unwinder, step, unload,
 };

@@ -9,10 +9,10 @@ mod arch;
 mod cache;
 mod call_frames;
 mod compact;
-mod contained;
 mod context;
 mod dwarf;
 pub mod histories;
+mod load_options;
 pub mod lookup_laws;
 mod module;
 mod pe;
@@ -30,7 +30,7 @@ pub use cache::{
     StoreRowsOnHeap, policies_set_limits,
 };
 pub use context::DwarfUnwindContext;
-pub use dwarf::{DwarfUnwinder, UnwindSectionType};
+pub use dwarf::DwarfUnwinder;
 pub use dwarf_frame_entries::BaseAddresses;
 pub use framehop_analysis::InstructionAnalysis;
 pub use framehop_compact::{
@@ -40,7 +40,7 @@ pub use framehop_errors::{
     CompactFormatError, CompactUnwindInfoUnwinderError, DwarfCfiIndexError, DwarfUnwinderError,
     PeUnwinderError, UnwinderError,
 };
-pub use framehop_index::{DwarfCfiIndex, IndexLookup};
+pub use framehop_index::{DwarfCfiIndex, IndexLookup, UnwindSectionType};
 pub use framehop_modules::{
     ExplicitModuleSectionInfo, Generations, GenerationsExhausted, LoadError, ModuleSectionInfo,
     SectionBytes,
@@ -58,9 +58,10 @@ pub use framehop_rules::{
 };
 pub use framehop_tables::{Covered, RuleLookup, RuleTable, SameRule};
 pub use framehop_unwinder::{
-    AddUnwinderError, Cache, ModuleUnwinding, Session, StackWalk, UnwindFailure, UnwindIterator,
-    Unwinder, UnwinderInternal, laws,
+    AddUnwinderError, Cache, CacheId, ModuleUnwinding, Session, StackWalk, StaleId, UnwindFailure,
+    UnwindIterator, Unwinder, UnwinderId, UnwinderInternal, laws,
 };
-pub use module::{Module, load_module, load_module_tabulated, load_module_with_debug_frame};
+pub use load_options::{FdeLookup, LoadOptions, TableArch};
+pub use module::{Module, load_module};
 pub use tabulation::{ArchRuleTable, Tabulating};
 pub use unwind_data::ModuleUnwindData;

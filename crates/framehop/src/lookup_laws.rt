@@ -6,21 +6,21 @@ ghost use Rattle.framehop_modules.specs.Sections.{Sections};
 ghost use Rattle.framehop_unwinder.specs.Attempt.{Meanings};
 ghost use Rattle.framehop.specs.Attempts.{FormatMeanings, StepLimits};
 ghost use Rattle.framehop.specs.BothSections.{AllAttemptByOne, HasOne};
+ghost use Rattle.framehop.specs.TableAttempts.{AllAttemptAsIndexed};
+ghost use Rattle.framehop.specs.declared.load_options.LoadOptions.{LoadOptions};
 ghost use Rattle.framehop.specs.SameSteps.{StepsFollowAttempts};
 ghost use Rattle.framehop.specs.StepMeanings.{meanings_aarch64, meanings_x86_64};
 ghost use Rattle.framehop.specs.LookupsAlike.{AddressBelow, AddressFrom, AddressWithin, AllLeadTo, AllStepAlike, AttemptsBelow, AttemptsFrom, LookupsBelowAll};
 ghost use Rattle.framehop.specs.TruthfulLookups.{AllAttemptAlike};
-ghost use Rattle.framehop.specs.UnwindData.{HasHeaderOfEhFrame, UnwindData, both_data_of, scanned_data_of, unwind_data_of};
+ghost use Rattle.framehop.specs.UnwindData.{HasHeaderOfEhFrame, UnwindData, both_data_of, unwind_data_of, unwind_data_with};
 
 use framehop_rows::DwarfUnwinding;
 use framehop_rules::Arch;
 pub use framehop_tables::table_laws::tables_attempt_as_indexes;
 
-/// The FDEs of `.debug_frame` are never found by a header, whatever sections a module has.
+/// The FDEs of `.debug_frame` are never found by a header, whatever sections a module has, and whatever its load asks for.
 pub fn headers_are_of_eh_frame()
-    ensures made { (s : Sections) → HasHeaderOfEhFrame (unwind_data_of s).format }
-    ensures scanning { (s : Sections) → HasHeaderOfEhFrame (scanned_data_of s).format }
-    ensures both { (s : Sections) → HasHeaderOfEhFrame (both_data_of s).format }
+    ensures { (options : LoadOptions) (s : Sections) → HasHeaderOfEhFrame (unwind_data_with options s).format }
 {}
 
 /// If an FDE contains an address of 64 bits, each lookup leads to it.
@@ -71,8 +71,13 @@ pub fn truthful_lookups_step_alike()
 {}
 
 /// `.debug_frame` is used exactly at addresses that its FDE covers and that of `.eh_frame` doesn't. A module without both sections
-/// behaves as if loaded by `load_module`.
+/// behaves as if loaded without it.
 pub fn debug_frame_is_used_beside_eh_frame<A: Arch>()
     ensures both { (m : FormatMeanings A.UnwindRule A.UnwindRegs) → AllAttemptByOne m }
     ensures one { (s : Sections) → HasOne s → both_data_of s ≡ unwind_data_of s }
+{}
+
+/// A table changes no attempt: it is that of a module whose FDEs are found by an index, whatever else its load asks for.
+pub fn tables_change_no_attempt<A: Arch>()
+    ensures { (m : FormatMeanings A.UnwindRule A.UnwindRegs) → AllAttemptAsIndexed m }
 {}

@@ -1,6 +1,6 @@
 //! Steps by the unwind data of a PE file.
 
-ghost use Rattle.std.specs.Prelude.{◌≡◌, ℕ, IsTrue, option_and_then, option_map};
+ghost use Rattle.std.specs.Prelude.{◌≡◌, IsTrue, option_and_then, option_map};
 ghost use Rattle.framehop_rules.specs.UnwindResults.{HasValidRule, KeepsUnlessDirect};
 ghost use Rattle.framehop_pe_codes.specs.Sections.{file_of, section_of};
 ghost use Rattle.framehop_pe.specs.PeAttempts.{AnswersPe};
@@ -128,9 +128,8 @@ pub(crate) fn unwind_frame_by_pe<
     requires increasing { IncreasesAsSaid D.content file.now }
     requires callable { F.IsAlwaysCallable read_stack.old }
     ensures callable { F.IsAlwaysCallable read_stack.new }
-    ensures answers { (base_svma : ℕ) → AnswersMethod F.step read_stack.old read_stack.new regs.old
-        regs.new result A.rows A.MeetsExpression P.limits P.may_allocate base_svma relative_address
-        is_first_frame (method_by_pe
+    ensures answers { AnswersMethod F.step read_stack.old read_stack.new regs.old
+        regs.new result A.rows A.MeetsExpression P.limits P.may_allocate is_first_frame (method_by_pe
         (A.pe_attempt (file_view D.content file.now) relative_address is_first_frame)) }
     ensures valid { HasValidRule A.UnwindRule.is_valid result }
 {

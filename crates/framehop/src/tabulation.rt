@@ -1,19 +1,19 @@
 //! Tables of the rules that a module's call frames say.
 
-ghost use Rattle.std.specs.Prelude.{◌≡◌, ◌↔◌, Bool, IfOk, IfSome, IsSome, IsTrue};
+ghost use Rattle.std.specs.Prelude.{◌≡◌, ◌↔◌, IfOk, IfSome, IsSome};
 ghost use Rattle.framehop_index.specs.CfiIndexView.{IsIndexOf};
 ghost use Rattle.framehop_tables.specs.Covered.{SaysValid, tabulated};
 ghost use Rattle.framehop_tables.specs.RuleTables.{IsTableOf};
-ghost use Rattle.framehop.specs.ArchTables.{IsArchTableOf, SaysAsIndexOn, is_on_aarch64, is_on_x86_64};
-ghost use Rattle.framehop.specs.DwarfViews.{frame_section_lent};
+ghost use Rattle.framehop.specs.ArchTables.{IsArchTableOf, SaysAsIndexOn, arch_of};
+ghost use Rattle.framehop_index.specs.SectionTypes.{frame_section_lent};
 ghost use Rattle.framehop.specs.StepMeanings.{row_limits};
 
 use crate::cache::{AllocationPolicy, MayAllocateDuringUnwind};
 use crate::context::DwarfUnwindContext;
-use crate::dwarf::UnwindSectionType;
+use crate::load_options::TableArch;
 use dwarf_frame_entries::{BaseAddresses, DebugFrame, EhFrame};
 use dwarf_read_core::{EndianSlice, LittleEndian};
-use framehop_index::DwarfCfiIndex;
+use framehop_index::{DwarfCfiIndex, UnwindSectionType};
 use framehop_rows::RowRules;
 use framehop_rules::Arch;
 use framehop_rules::aarch64::{ArchAarch64, UnwindRuleAarch64};
@@ -67,46 +67,58 @@ where
     }
 }
 
+// The table of a section of call frames on an architecture, by an index of the section, which has the same base. The section's pointers
+// are relative to `bases`. Fails if it fails to allocate.
+pub(crate) fn tabulate(
+    alloc: Global,
+    arch: TableArch,
+    section: UnwindSectionType<&[u8]>,
+    bases: &BaseAddresses,
+    base_svma: u64,
+    index: &DwarfCfiIndex,
+) -> Result<ArchRuleTable, AllocError>
+    requires { IsIndexOf index.now base_svma (frame_section_lent bases section) }
+    ensures table { IfOk result (λ table.
+        IsArchTableOf table base_svma (frame_section_lent bases.entry section.entry)) }
+    ensures arch { IfOk result (λ table. arch_of table ≡ arch) }
+{
+    match arch {
+        TableArch::X86_64 => {
+            let table = table_of::<ArchX86_64>(alloc, section, bases, base_svma, index)?;
+            Ok(ArchRuleTable::X86_64(table))
+        }
+        TableArch::Aarch64 => {
+            let table = table_of::<ArchAarch64>(alloc, section, bases, base_svma, index)?;
+            Ok(ArchRuleTable::Aarch64(table))
+        }
+    }
+}
+
 /// An architecture that tables of rules are made for.
 pub trait Tabulating: RowRules {
-    ghost use Rattle.framehop.specs.declared.tabulation.ArchRuleTable.{ArchRuleTable};
+    ghost use Rattle.framehop.specs.declared.load_options.TableArch.{TableArch};
 
-    /// A table is one on this architecture.
-    ghost is_own: { ArchRuleTable → Bool };
+    /// The architecture.
+    ghost arch: { TableArch };
 
-    /// The table of a section of call frames, by an index of the section, which has the same base. The section's pointers are
-    /// relative to `bases`. Fails if it fails to allocate.
-    fn tabulate(
-        alloc: Global,
-        section: UnwindSectionType<&[u8]>,
-        bases: &BaseAddresses,
-        base_svma: u64,
-        index: &DwarfCfiIndex,
-    ) -> Result<ArchRuleTable, AllocError>
-        requires { IsIndexOf index.now base_svma (frame_section_lent bases section) }
-        ensures table { IfOk result (λ table.
-            IsArchTableOf table base_svma (frame_section_lent bases.entry section.entry)) }
-        ensures own { IfOk result (λ table. IsTrue (is_own table)) };
+    /// The architecture, as a load takes it.
+    fn table_arch() -> TableArch
+        ensures { result ≡ arch };
 
     /// What a table says of a relative address, if it is a table on this architecture: a rule can be executed.
     fn look_up(table: &ArchRuleTable, relative_address: u32) -> Option<Covered<Self::UnwindRule>>
-        ensures own { IsSome result ↔ IsTrue (is_own table.now) }
+        ensures own { IsSome result ↔ (arch_of table.now ≡ arch) }
         ensures covered { IfSome result (SaysAsIndexOn Self.rows Self.rule_of table.now relative_address) }
         ensures valid { IfSome result (SaysValid Self.UnwindRule.is_valid) };
 }
 
 impl Tabulating for ArchX86_64 {
-    ghost is_own = { is_on_x86_64 };
+    ghost use Rattle.framehop.specs.declared.load_options.TableArch.TheVariants.{X86_64};
 
-    fn tabulate(
-        alloc: Global,
-        section: UnwindSectionType<&[u8]>,
-        bases: &BaseAddresses,
-        base_svma: u64,
-        index: &DwarfCfiIndex,
-    ) -> Result<ArchRuleTable, AllocError> {
-        let table = table_of::<ArchX86_64>(alloc, section, bases, base_svma, index)?;
-        Ok(ArchRuleTable::X86_64(table))
+    ghost arch = { X86_64 };
+
+    fn table_arch() -> TableArch {
+        TableArch::X86_64
     }
 
     #[inline(always)]
@@ -119,17 +131,12 @@ impl Tabulating for ArchX86_64 {
 }
 
 impl Tabulating for ArchAarch64 {
-    ghost is_own = { is_on_aarch64 };
+    ghost use Rattle.framehop.specs.declared.load_options.TableArch.TheVariants.{Aarch64};
 
-    fn tabulate(
-        alloc: Global,
-        section: UnwindSectionType<&[u8]>,
-        bases: &BaseAddresses,
-        base_svma: u64,
-        index: &DwarfCfiIndex,
-    ) -> Result<ArchRuleTable, AllocError> {
-        let table = table_of::<ArchAarch64>(alloc, section, bases, base_svma, index)?;
-        Ok(ArchRuleTable::Aarch64(table))
+    ghost arch = { Aarch64 };
+
+    fn table_arch() -> TableArch {
+        TableArch::Aarch64
     }
 
     #[inline(always)]

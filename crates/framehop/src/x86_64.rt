@@ -32,6 +32,10 @@ pub type UnwinderX86_64<D, P = MayAllocateDuringUnwind> = UnwinderInternal<
     BySections<ArchX86_64, D, P>,
 >;
 
+/// Unwinders and caches of processes on x86_64, which share what they keep. The modules of unwinders are
+/// unwound as those of an [`UnwinderX86_64`].
+pub type SessionX86_64<D, P = MayAllocateDuringUnwind> = Session<BySections<ArchX86_64, D, P>>;
+
 /// What steps on x86_64 keep and reuse: a cache of unwind rules, and storage that steps evaluate rows in.
 /// A step or a walk takes the [`Cache`] in it.
 #[derive(Drop)]
@@ -97,8 +101,8 @@ pub fn perform<
     >,
 ) -> Result<Vec<Answer<UnwindRegsX86_64>>, AllocError>
     requires { All (OfCallback F.IsAlwaysCallable) commands.old.items }
-    ensures performs { IfOk result (λ done. PerformsX86_64 F.step P.may_allocate P.limits
-        session.old commands.old.items session.new done.items) }
+    ensures performs { IfOk result (λ all. PerformsX86_64 F.step P.may_allocate P.limits
+        session.old commands.old.items session.new all.items) }
     ensures performed { OnOk result (commands.new.items ≡ []) }
     ensures refused { OnErr result (session.new ≡ session.old) }
     ensures waiting { OnErr result (commands.new ≡ commands.old) }

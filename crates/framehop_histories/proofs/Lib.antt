@@ -1,3 +1,4 @@
 mod Obeyed
 mod CommandLists
+mod Held
 mod Alike

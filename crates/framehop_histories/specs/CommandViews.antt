@@ -10,7 +10,7 @@ use Rattle.framehop_histories.specs.Commands as commands
 use Rattle.framehop_histories.specs.declared.commands.Answer.{Answer}
 use Rattle.framehop_histories.specs.declared.commands.Answer.TheVariants.{Added, Removed, Unknown, GenerationsExhausted, OutOfMemory, Stepped, Moved}
 use Rattle.framehop_histories.specs.declared.commands.Command.{Command}
-use Rattle.framehop_histories.specs.declared.commands.Command.TheVariants.{NewUnwinder, NewCache, Load, Unload, Clone, Step, NewWalk, NextFrame}
+use Rattle.framehop_histories.specs.declared.commands.Command.TheVariants.{NewUnwinder, NewCache, Load, Unload, Clone, RemoveUnwinder, RemoveCache, Step, NewWalk, NextFrame}
 
 -- what a command asks, if callbacks answer by these words
 abbrev pub act_of : {Data Context Registers Callback : Type 0} → (Callback → Words) → Command Data Context Registers Callback
@@ -20,6 +20,8 @@ act_of words (NewCache slots unwind_context) = commands.NewCache slots
 act_of words (Load unwinder module_) = commands.Load unwinder module_
 act_of words (Unload unwinder start) = commands.Unload unwinder start
 act_of words (Clone unwinder) = commands.Clone unwinder
+act_of words (RemoveUnwinder unwinder) = commands.RemoveUnwinder unwinder
+act_of words (RemoveCache cache) = commands.RemoveCache cache
 act_of words (Step unwinder cache address regs read_stack) =
     commands.Step unwinder cache (frame_of address) regs (words read_stack)
 act_of words (NewWalk pc regs) = commands.NewWalk pc regs
@@ -47,6 +49,8 @@ OfCallback Statement (NewCache slots unwind_context) = Unit {0}
 OfCallback Statement (Load unwinder module_) = Unit {0}
 OfCallback Statement (Unload unwinder start) = Unit {0}
 OfCallback Statement (Clone unwinder) = Unit {0}
+OfCallback Statement (RemoveUnwinder unwinder) = Unit {0}
+OfCallback Statement (RemoveCache cache) = Unit {0}
 OfCallback Statement (Step unwinder cache address regs read_stack) = Statement read_stack
 OfCallback Statement (NewWalk pc regs) = Unit {0}
 OfCallback Statement (NextFrame unwinder cache walk read_stack) = Statement read_stack

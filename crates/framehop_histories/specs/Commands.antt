@@ -1,25 +1,28 @@
 -- Commands to unwinders that share caches: what each asks, the state that it is answered from, and its reply. Each step is the judge's
 -- from the modules that are loaded then, and each move of a walk is the judge's.
-use Rattle.std.specs.Prelude.{ℕ, ◌-◌, ◌^◌, List, length, map, nat_lt, Option, Some, None, Result, if◌then◌else◌}
+use Rattle.std.specs.Prelude.{ℕ, ◌-◌, ◌^◌, List, map, nat_lt, Option, Some, None, option_map, Result, if◌then◌else◌}
 use Rattle.std.specs.List.{slice_get}
 use Rattle.framehop_registers.specs.Callback.{Words}
 use Rattle.framehop_registers.specs.declared.error.Error.{Error}
 use Rattle.framehop_rules.specs.Outcome.{Outcome, Caller, answer_of_outcome, registers_after}
 use Rattle.framehop_unwinder.specs.Attempt.{Meanings}
+use Rattle.framehop_unwinder.specs.ByNumber.{held, is_held}
 use Rattle.framehop_unwinder.specs.Frames.{Frame}
 use Rattle.framehop_unwinder.specs.Judge.{judge}
 use Rattle.framehop_unwinder.specs.Modules.{Loaded, is_loaded_at}
 use Rattle.framehop_unwinder.specs.Progress.{SessionModel}
 use Rattle.framehop_unwinder.specs.Walk.{Walk, Move, move}
 
--- What a command asks. Unwinders, caches and walks go by their numbers, in the order in which they were made; a step and a move have
--- the words of the stack in place of a callback.
+-- What a command asks. Unwinders, caches and walks go by their numbers, in the order in which they were made, which are not
+-- given again if one is let go; a step and a move have the words of the stack in place of a callback.
 pub data Act (Data Registers : Type 0) : Type 0 where
   NewUnwinder : Act Data Registers
   NewCache : (slots : ℕ) → Act Data Registers
   Load : (unwinder : ℕ) → Loaded Data → Act Data Registers
   Unload : (unwinder start : ℕ) → Act Data Registers
   Clone : (unwinder : ℕ) → Act Data Registers
+  RemoveUnwinder : (unwinder : ℕ) → Act Data Registers
+  RemoveCache : (cache : ℕ) → Act Data Registers
   Step : (unwinder cache : ℕ) → Frame → Registers → Words → Act Data Registers
   NewWalk : (pc : ℕ) → Registers → Act Data Registers
   NextFrame : (unwinder cache walk : ℕ) → Words → Act Data Registers
@@ -42,12 +45,12 @@ pub data Reply (Registers : Type 0) : Type 0 where
 
 -- the modules of an unwinder, if the unwinder is there
 abbrev pub modules_of : {Data Registers : Type 0} → CommandState Data Registers → ℕ → Option (List (Loaded Data))
-modules_of state unwinder = slice_get (map (λ loads. loads.modules) state.model.unwinders) unwinder
+modules_of state unwinder = held (map (option_map (λ loads. loads.modules)) state.model.unwinders) unwinder
 
 -- the modules of an unwinder, if the unwinder and the cache are there
 abbrev pub modules_with_cache : {Data Registers : Type 0} → CommandState Data Registers → ℕ → ℕ → Option (List (Loaded Data))
 modules_with_cache state unwinder cache =
-    if nat_lt cache (length state.model.histories) then modules_of state unwinder else None
+    if is_held state.model.histories cache then modules_of state unwinder else None
 
 -- the reply about what is named, if it is there
 abbrev pub if_known : {X Registers : Type 0} → Option X → (X → Reply Registers) → Reply Registers
@@ -67,8 +70,8 @@ abbrev pub moved : {Registers : Type 0} → Move Registers → Reply Registers
 moved made = Moved made.answer made.walk.registers
 
 -- The reply to a command. A new unwinder, a load, and an unload of a module that is there make a list of modules that a number tells
--- apart; a clone shares the list of its unwinder. A step and a move are the judge's from the modules of the unwinder, through any
--- cache that is there.
+-- apart; a clone shares the list of its unwinder. What is let go isn't there any more. A step and a move are the judge's from the
+-- modules of the unwinder, through any cache that is there.
 abbrev pub reply_to : {Data Rule Registers : Type 0} → Meanings Data Rule Registers → Act Data Registers → CommandState Data Registers
     → Reply Registers
 reply_to m NewUnwinder state = if_left state Added
@@ -77,6 +80,8 @@ reply_to m (Load unwinder module_) state = if_known (modules_of state unwinder) 
 reply_to m (Unload unwinder start) state = if_known (modules_of state unwinder) (λ modules.
     if is_loaded_at start modules then if_left state Removed else Removed)
 reply_to m (Clone unwinder) state = if_known (modules_of state unwinder) (λ modules. Added)
+reply_to m (RemoveUnwinder unwinder) state = if_known (modules_of state unwinder) (λ modules. Removed)
+reply_to m (RemoveCache cache) state = if is_held state.model.histories cache then Removed else Unknown
 reply_to m (Step unwinder cache frame registers words) state = if_known (modules_with_cache state unwinder cache) (λ modules.
     stepped registers (judge m modules frame registers words))
 reply_to m (NewWalk pc registers) state = Added

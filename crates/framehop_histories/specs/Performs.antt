@@ -1,11 +1,12 @@
 -- What commands do to a session.
-use Rattle.std.specs.Prelude.{ℕ, ◌≡◌, List, [], length, map, slice_set, Bool, Option, Result, Err}
+use Rattle.std.specs.Prelude.{ℕ, ◌≡◌, List, [], map, slice_set, Bool, Option, Result, Err}
 use Rattle.std.specs.List.{All, slice_index_or}
 use Rattle.framehop_registers.specs.Callback.{Words, AnswersBy}
 use Rattle.framehop_registers.specs.declared.code_address.FrameAddress.{FrameAddress}
 use Rattle.framehop_registers.specs.declared.error.Error.{Error}
 use Rattle.framehop_registers.specs.declared.error.Error.TheVariants as error
 use Rattle.framehop_unwinder.specs.Attempt.{Meanings}
+use Rattle.framehop_unwinder.specs.ByNumber.{marks}
 use Rattle.framehop_unwinder.specs.History.{HaveHistories}
 use Rattle.framehop_unwinder.specs.Moves.{MovesOn}
 use Rattle.framehop_unwinder.specs.State.{SessionState}
@@ -21,12 +22,12 @@ use Rattle.framehop_histories.specs.declared.commands.Answer.{Answer}
 use Rattle.framehop_histories.specs.declared.commands.Answer.TheVariants.{Added, Removed, Unknown, GenerationsExhausted, OutOfMemory, Stepped, Moved}
 use Rattle.framehop_histories.specs.declared.commands.Command.{Command}
 
--- A session and walks in this state, whatever its caches keep: its unwinders, its counter, and as many caches as there are histories.
+-- A session and walks in this state, whatever its caches keep: its unwinders, its counter, and a cache for each history.
 pub record IsIn {Data Rule Registers : Type 0} (state : CommandState Data Registers) (session : SessionState Data Rule)
     (all_walks : List (Walk Registers)) : Type 0 where
   pub unwinders : session.unwinders ≡ state.model.unwinders
   pub next : session.next ≡ state.model.next
-  pub caches : length session.caches ≡ length state.model.histories
+  pub caches : marks session.caches ≡ marks state.model.histories
   pub walks : all_walks ≡ state.walks
 
 -- A command that was answered so, from a state that the session was in: its reply, and the session in the state after it. If the
@@ -61,11 +62,11 @@ StaysUnlessDone OutOfMemory old new = new ≡ old
 StaysUnlessDone (Stepped answer regs) old new = Unit {0}
 StaysUnlessDone (Moved answer regs) old new = Unit {0}
 
--- The unwinders and the counter stay, and there are as many caches.
+-- The unwinders and the counter stay, and the caches are there still.
 pub record LoadsStay {Data Rule : Type 0} (old new : SessionState Data Rule) : Type 0 where
   pub unwinders : new.unwinders ≡ old.unwinders
   pub next : new.next ≡ old.next
-  pub caches : length new.caches ≡ length old.caches
+  pub caches : marks new.caches ≡ marks old.caches
 
 -- A step from a frame with these registers was answered so, for every callback: if there is no caller, they are left as they were.
 abbrev pub StepsOn : {Registers : Type 0} → Registers → Answer Registers → Type 0

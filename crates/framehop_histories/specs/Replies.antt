@@ -4,7 +4,7 @@ use Rattle.framehop_unwinder.specs.Attempt.{Meanings}
 use Rattle.framehop_unwinder.specs.Memory.{AsksMemory}
 use Rattle.framehop_unwinder.specs.Moves.{MoveAsks}
 use Rattle.framehop_unwinder.specs.Progress.{modules_in}
-use Rattle.framehop_histories.specs.Commands.{Act, NewUnwinder, NewCache, Load, Unload, Clone, Step, NewWalk, NextFrame, CommandState, Reply, Added, Removed, Unknown, Exhausted, Stepped, Moved, reply_to}
+use Rattle.framehop_histories.specs.Commands.{Act, NewUnwinder, NewCache, Load, Unload, Clone, RemoveUnwinder, RemoveCache, Step, NewWalk, NextFrame, CommandState, Reply, Added, Removed, Unknown, Exhausted, Stepped, Moved, reply_to}
 use Rattle.framehop_histories.specs.StateAfter.{state_after, walk_place}
 
 -- A command may ask for memory if it adds something; a step, or a move of a walk from a frame, only if modules may take memory and the
@@ -15,6 +15,8 @@ MayAsk takes_memory asks (NewCache slots) state = Unit {0}
 MayAsk takes_memory asks (Load unwinder module_) state = Unit {0}
 MayAsk takes_memory asks (Unload unwinder start) state = ⊥
 MayAsk takes_memory asks (Clone unwinder) state = Unit {0}
+MayAsk takes_memory asks (RemoveUnwinder unwinder) state = ⊥
+MayAsk takes_memory asks (RemoveCache cache) state = ⊥
 MayAsk takes_memory asks (Step unwinder cache frame registers words) state =
     (takes_memory ≡ true) × AsksMemory asks (modules_in unwinder state.model) frame
 MayAsk takes_memory asks (NewWalk pc registers) state = Unit {0}

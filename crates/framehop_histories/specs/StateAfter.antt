@@ -12,16 +12,16 @@ use Rattle.framehop_unwinder.specs.Progress.{SessionModel, modules_in}
 use Rattle.framehop_unwinder.specs.State.{unwinder_at, loads_with, histories_after_step, histories_after_move}
 use Rattle.framehop_unwinder.specs.Walk.{Judgment, Walk, WalkPosition, Over, move}
 use Rattle.framehop_unwinder.specs.WalkViews.{walk_from}
-use Rattle.framehop_histories.specs.Commands.{Act, NewUnwinder, NewCache, Load, Unload, Clone, Step, NewWalk, NextFrame, CommandState, Reply, Added, Removed, Unknown, Exhausted, Stepped, Moved}
+use Rattle.framehop_histories.specs.Commands.{Act, NewUnwinder, NewCache, Load, Unload, Clone, RemoveUnwinder, RemoveCache, Step, NewWalk, NextFrame, CommandState, Reply, Added, Removed, Unknown, Exhausted, Stepped, Moved}
 
 -- these unwinders, one of which takes the counter's next number
-abbrev pub with_number : {Data : Type 0} → List (Loads (Loaded Data)) → SessionModel Data → SessionModel Data
+abbrev pub with_number : {Data : Type 0} → List (Option (Loads (Loaded Data))) → SessionModel Data → SessionModel Data
 with_number unwinders model = record model { unwinders = unwinders; next = model.next + 1 }
 
 -- other modules in an unwinder, which takes the next number
 abbrev pub model_with_modules : {Data : Type 0} → ℕ → List (Loaded Data) → SessionModel Data → SessionModel Data
 model_with_modules unwinder modules model =
-    with_number (slice_set model.unwinders unwinder (loads_with modules model.next)) model
+    with_number (slice_set model.unwinders unwinder (Some (loads_with modules model.next))) model
 
 -- a step through a cache, which is out of memory or not
 abbrev pub with_step : {Data Rule Registers : Type 0} → Meanings Data Rule Registers → Bool → ℕ → ℕ → Frame → SessionModel Data
@@ -44,15 +44,17 @@ walk_place walks walk = unwrap_or (option_map (λ there. there.position) (slice_
 -- the session after a command that is carried out
 abbrev pub model_after : {Data Rule Registers : Type 0} → Meanings Data Rule Registers → Act Data Registers → List (Walk Registers)
     → SessionModel Data → SessionModel Data
-model_after m NewUnwinder walks model = with_number (model.unwinders ++ loads_with [] model.next ∷ []) model
-model_after m (NewCache slots) walks model = record model { histories = model.histories ++ no_history slots ∷ [] }
+model_after m NewUnwinder walks model = with_number (model.unwinders ++ Some (loads_with [] model.next) ∷ []) model
+model_after m (NewCache slots) walks model = record model { histories = model.histories ++ Some (no_history slots) ∷ [] }
 model_after m (Load unwinder module_) walks model =
     model_with_modules unwinder (with_loaded module_ (modules_in unwinder model)) model
 model_after m (Unload unwinder start) walks model =
     if is_loaded_at start (modules_in unwinder model)
     then model_with_modules unwinder (without_loaded start (modules_in unwinder model)) model else model
 model_after m (Clone unwinder) walks model =
-    record model { unwinders = model.unwinders ++ unwinder_at model.unwinders unwinder ∷ [] }
+    record model { unwinders = model.unwinders ++ Some (unwinder_at model.unwinders unwinder) ∷ [] }
+model_after m (RemoveUnwinder unwinder) walks model = record model { unwinders = slice_set model.unwinders unwinder None }
+model_after m (RemoveCache cache) walks model = record model { histories = slice_set model.histories cache None }
 model_after m (Step unwinder cache frame registers words) walks model = with_step m false unwinder cache frame model
 model_after m (NewWalk pc registers) walks model = model
 model_after m (NextFrame unwinder cache walk words) walks model =
@@ -66,6 +68,8 @@ model_refused m (NewCache slots) walks model = model
 model_refused m (Load unwinder module_) walks model = model
 model_refused m (Unload unwinder start) walks model = model
 model_refused m (Clone unwinder) walks model = model
+model_refused m (RemoveUnwinder unwinder) walks model = model
+model_refused m (RemoveCache cache) walks model = model
 model_refused m (Step unwinder cache frame registers words) walks model = with_step m true unwinder cache frame model
 model_refused m (NewWalk pc registers) walks model = model
 model_refused m (NextFrame unwinder cache walk words) walks model =
@@ -84,6 +88,8 @@ walks_after m (NewCache slots) model walks = walks
 walks_after m (Load unwinder module_) model walks = walks
 walks_after m (Unload unwinder start) model walks = walks
 walks_after m (Clone unwinder) model walks = walks
+walks_after m (RemoveUnwinder unwinder) model walks = walks
+walks_after m (RemoveCache cache) model walks = walks
 walks_after m (Step unwinder cache frame registers words) model walks = walks
 walks_after m (NewWalk pc registers) model walks = walks ++ walk_from pc registers ∷ []
 walks_after m (NextFrame unwinder cache walk words) model walks = with_moved (judge m (modules_in unwinder model)) words walk walks

@@ -1,9 +1,10 @@
 //! Commands to a session, one by one and in lists, with their answers.
 
-ghost use Rattle.std.specs.Prelude.{◌≡◌, ℕ, ◌∷◌, ◌++◌, true, false, Some, None, [], List, length, map, IfOk, OnOk, OnErr};
+ghost use Rattle.std.specs.Prelude.{◌≡◌, ℕ, ◌∷◌, ◌++◌, true, false, Some, None, [], List, length, map, IfErr, IfOk, OnOk, OnErr};
 ghost use Rattle.std.specs.List.{All};
+ghost use Rattle.framehop_modules.specs.LoadErrors.{is_exhausted};
 ghost use Rattle.framehop_registers.specs.Callback.{OverWords};
-ghost use Rattle.framehop_histories.specs.Commands.{NewUnwinder, NewCache, Load, Unload, Clone, Step, NewWalk, NextFrame, Stepped, Moved};
+ghost use Rattle.framehop_histories.specs.Commands.{NewUnwinder, NewCache, Load, Unload, Clone, RemoveUnwinder, RemoveCache, Step, NewWalk, NextFrame, Stepped, Moved};
 ghost use Rattle.framehop_histories.specs.CommandViews.{OfCallback, reply_of};
 ghost use Rattle.framehop_histories.specs.Performs.{LoadsStay, Obeys, ObeysByWords, ObeysInSession, OneMovesOn, Performs, StaysUnlessDone, StepsOn, WalksMoveOn};
 ghost use Rattle.framehop_unwinder.specs.Frames.{frame_of};
@@ -14,12 +15,14 @@ ghost use Rattle.framehop_unwinder.specs.declared.iterator.StackWalk.{StackWalk}
 
 use framehop_modules::LoadError;
 use framehop_rules::{Error, FrameAddress, SlotCount};
-use framehop_unwinder::{AddUnwinderError, Module, ModuleUnwinding, Session, StackWalk};
+use framehop_unwinder::{
+    AddUnwinderError, CacheId, Module, ModuleUnwinding, Session, StackWalk, UnwinderId,
+};
 use std::alloc::{AllocError, Global};
 use std::collections::VecDeque;
 
 /// What a session is asked for. Unwinders, caches and walks go by their numbers, in the order in which
-/// they were made. `F` reads the words of a stack.
+/// they were made; no number is given again. `F` reads the words of a stack.
 #[derive(Drop)]
 pub enum Command<D, C, R, F> {
     /// A new unwinder without a module.
@@ -32,6 +35,10 @@ pub enum Command<D, C, R, F> {
     Unload(usize, u64),
     /// A new unwinder with the modules of another.
     Clone(usize),
+    /// Lets an unwinder go.
+    RemoveUnwinder(usize),
+    /// Lets a cache go.
+    RemoveCache(usize),
     /// The step of an unwinder with a cache, from a frame with these registers.
     Step(usize, usize, FrameAddress, R, F),
     /// A new walk from a frame at an instruction pointer with these registers.
@@ -45,7 +52,7 @@ pub enum Command<D, C, R, F> {
 pub enum Answer<R> {
     /// An unwinder, a cache, a module or a walk was added.
     Added,
-    /// The module was unloaded, or none starts there.
+    /// The module was unloaded, or none starts there; or the unwinder or the cache was let go.
     Removed,
     /// There is no such unwinder, cache or walk. Nothing was done.
     Unknown,
@@ -60,6 +67,21 @@ pub enum Answer<R> {
 }
 
 impl<R: Copy> Answer<R> {
+    // The answer of a load that comes to this.
+    fn of_load<M: Drop>(loaded: Result<(), LoadError<M>>) -> Self
+        ensures added { OnOk loaded (result ≡ Answer.Added) }
+        ensures exhausted { IfErr loaded (λ error. is_exhausted error ≡ true
+            → result ≡ Answer.GenerationsExhausted) }
+        ensures wanted { IfErr loaded (λ error. is_exhausted error ≡ false
+            → result ≡ Answer.OutOfMemory) }
+    {
+        match loaded {
+            Ok(()) => Answer::Added,
+            Err(LoadError::GenerationsExhausted(_)) => Answer::GenerationsExhausted,
+            Err(LoadError::OutOfMemory(_)) => Answer::OutOfMemory,
+        }
+    }
+
     // The answer of a step that leaves these registers.
     fn of_step(answer: Result<Option<u64>, Error>, regs: R) -> Self
         ensures wanted { wants_memory answer ≡ true → reply_of result ≡ None }
@@ -99,7 +121,7 @@ pub fn new_unwinder<A: ModuleUnwinding>(
     ensures stays { StaysUnlessDone result session.old session.new }
 {
     match session.add_unwinder(alloc) {
-        Ok(()) => Answer::Added,
+        Ok(_) => Answer::Added,
         Err(AddUnwinderError::GenerationsExhausted) => Answer::GenerationsExhausted,
         Err(AddUnwinderError::OutOfMemory) => Answer::OutOfMemory,
     }
@@ -117,7 +139,7 @@ pub fn new_cache<A: ModuleUnwinding>(
     ensures stays { StaysUnlessDone result session.old session.new }
 {
     match session.add_cache_with_slots(alloc, unwind_context, slots) {
-        Ok(()) => Answer::Added,
+        Ok(_) => Answer::Added,
         Err(_) => Answer::OutOfMemory,
     }
 }
@@ -132,14 +154,10 @@ pub fn load<A: ModuleUnwinding>(
         session.old result session.new }
     ensures stays { StaysUnlessDone result session.old session.new }
 {
-    if unwinder >= session.unwinders() {
+    let Ok(loaded) = session.load(UnwinderId::numbered(unwinder), module) else {
         return Answer::Unknown;
-    }
-    match session.load(unwinder, module) {
-        Ok(()) => Answer::Added,
-        Err(LoadError::GenerationsExhausted(_)) => Answer::GenerationsExhausted,
-        Err(LoadError::OutOfMemory(_)) => Answer::OutOfMemory,
-    }
+    };
+    Answer::of_load(loaded)
 }
 
 /// Unloads the last of the modules of an unwinder that start at an address, if one does.
@@ -152,10 +170,10 @@ pub fn unload<A: ModuleUnwinding>(
         session.old result session.new }
     ensures stays { StaysUnlessDone result session.old session.new }
 {
-    if unwinder >= session.unwinders() {
+    let Ok(unloaded) = session.unload(UnwinderId::numbered(unwinder), start) else {
         return Answer::Unknown;
-    }
-    match session.unload(unwinder, start) {
+    };
+    match unloaded {
         Ok(()) => Answer::Removed,
         Err(_) => Answer::GenerationsExhausted,
     }
@@ -171,12 +189,42 @@ pub fn clone_unwinder<A: ModuleUnwinding>(
         session.old result session.new }
     ensures stays { StaysUnlessDone result session.old session.new }
 {
-    if unwinder >= session.unwinders() {
+    let Ok(made) = session.clone_unwinder(alloc, UnwinderId::numbered(unwinder)) else {
         return Answer::Unknown;
-    }
-    match session.clone_unwinder(alloc, unwinder) {
-        Ok(()) => Answer::Added,
+    };
+    match made {
+        Ok(_) => Answer::Added,
         Err(_) => Answer::OutOfMemory,
+    }
+}
+
+/// Lets an unwinder go.
+pub fn remove_unwinder<A: ModuleUnwinding>(
+    session: &mut Session<A>,
+    unwinder: usize,
+) -> Answer<A::UnwindRegs>
+    ensures obeys { ObeysInSession A.takes_memory A.asks_memory A.meanings
+        (RemoveUnwinder unwinder) session.old result session.new }
+    ensures stays { StaysUnlessDone result session.old session.new }
+{
+    match session.remove_unwinder(UnwinderId::numbered(unwinder)) {
+        Ok(()) => Answer::Removed,
+        Err(_) => Answer::Unknown,
+    }
+}
+
+/// Lets a cache go.
+pub fn remove_cache<A: ModuleUnwinding>(
+    session: &mut Session<A>,
+    cache: usize,
+) -> Answer<A::UnwindRegs>
+    ensures obeys { ObeysInSession A.takes_memory A.asks_memory A.meanings (RemoveCache cache)
+        session.old result session.new }
+    ensures stays { StaysUnlessDone result session.old session.new }
+{
+    match session.remove_cache(CacheId::numbered(cache)) {
+        Ok(()) => Answer::Removed,
+        Err(_) => Answer::Unknown,
     }
 }
 
@@ -199,12 +247,12 @@ pub fn step<A: ModuleUnwinding, F: FnMut(u64) -> Result<u64, ()>>(
     ensures loads { LoadsStay session.old session.new }
     ensures unknown { result ≡ Answer.Unknown → session.new ≡ session.old }
 {
-    if unwinder >= session.unwinders() || cache >= session.caches() {
-        return Answer::Unknown;
-    }
+    let (unwinder, cache) = (UnwinderId::numbered(unwinder), CacheId::numbered(cache));
     let mut regs = regs;
-    let answer = session.step(unwinder, cache, address, &mut regs, read_stack);
-    Answer::of_step(answer, regs)
+    match session.step(unwinder, cache, address, &mut regs, read_stack) {
+        Ok(answer) => Answer::of_step(answer, regs),
+        Err(_) => Answer::Unknown,
+    }
 }
 
 /// A new walk from a frame at an instruction pointer with these registers, the last.
@@ -242,12 +290,18 @@ pub fn next_frame<A: ModuleUnwinding, F: FnMut(u64) -> Result<u64, ()>>(
     ensures loads { LoadsStay session.old session.new }
     ensures unknown { result ≡ Answer.Unknown → session.new ≡ session.old }
 {
-    if unwinder >= session.unwinders() || cache >= session.caches() || walk >= walks.len() {
+    let (unwinder, cache) = (UnwinderId::numbered(unwinder), CacheId::numbered(cache));
+    if !session.has(unwinder, cache) {
+        return Answer::Unknown;
+    }
+    if walk >= walks.len() {
         return Answer::Unknown;
     }
     let walk = &mut walks[walk];
-    let answer = session.next_frame(unwinder, cache, walk, read_stack);
-    Answer::of_move(answer, walk.regs())
+    match session.next_frame(unwinder, cache, walk, read_stack) {
+        Ok(answer) => Answer::of_move(answer, walk.regs()),
+        Err(_) => Answer::Unknown,
+    }
 }
 
 // Does what a command asks.
@@ -269,6 +323,8 @@ fn obey<A: ModuleUnwinding, F: FnMut(u64) -> Result<u64, ()> + Drop>(
         Command::Load(unwinder, module) => load(session, unwinder, module),
         Command::Unload(unwinder, start) => unload(session, unwinder, start),
         Command::Clone(unwinder) => clone_unwinder(session, alloc, unwinder),
+        Command::RemoveUnwinder(unwinder) => remove_unwinder(session, unwinder),
+        Command::RemoveCache(cache) => remove_cache(session, cache),
         Command::Step(unwinder, cache, address, regs, read_stack) => {
             let mut read_stack = read_stack;
             step(session, unwinder, cache, address, regs, &mut read_stack)

@@ -7,5 +7,5 @@ pub mod laws;
 
 pub use commands::{
     Answer, Command, clone_unwinder, load, new_cache, new_unwinder, new_walk, next_frame, perform,
-    step, unload,
+    remove_cache, remove_unwinder, step, unload,
 };

@@ -1,8 +1,11 @@
+mod ByNumbers
 mod Elsewhere
+mod Held
 mod Histories
 mod KeyLists
 mod Loads
 mod ModulesInOrder
+mod Sessions
 mod Slots
 mod Sound
 mod Steps

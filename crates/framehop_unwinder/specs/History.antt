@@ -1,8 +1,9 @@
 -- A cache by the list of all keys that were kept in it.
-use Rattle.std.specs.Prelude.{ℕ, ◌≡◌, List, [], ◌∷◌, ◌++◌, length, map, Bool, Option, Some, None, option_map, slice_set, slice_index_or, if◌then◌else◌}
+use Rattle.std.specs.Prelude.{ℕ, ◌≡◌, List, [], ◌∷◌, ◌++◌, length, map, Bool, Option, Some, None, option_map, unwrap_or, if◌then◌else◌}
 use Rattle.framehop_rules.specs.LastKept.{last_keys}
 use Rattle.framehop_rules.specs.Slots.{Key, KeptRule, Kept, Layout, Finding, Hits, EmptySlot, OtherModules, OtherAddress, finding_among, found_by, key_in, layout_of, sets_in, set_of, slots_of, no_counts, counts_after}
 use Rattle.framehop_rules.specs.declared.rule_cache.CacheStats.{CacheStats}
+use Rattle.framehop_unwinder.specs.ByNumber.{held, with_changed}
 use Rattle.framehop_unwinder.specs.RulesKept.{sets_after}
 
 -- a key in a slot, without its rule
@@ -62,9 +63,9 @@ pub record KeyHistory : Type 0 where
 abbrev pub no_history : ℕ → KeyHistory
 no_history slots = record { layout = layout_of slots; keys = []; counts = no_counts }
 
--- a history of a list
-abbrev pub history_at : List KeyHistory → ℕ → KeyHistory
-history_at histories i = slice_index_or histories i (no_history 509)
+-- the history under a number
+abbrev pub history_at : List (Option KeyHistory) → ℕ → KeyHistory
+history_at histories i = unwrap_or (held histories i) (no_history 509)
 
 -- the history of a cache after a step under a key
 abbrev pub history_after : {Rule : Type 0} → Bool → (Key → Option Rule) → Key → KeyHistory → KeyHistory
@@ -75,9 +76,8 @@ history_after wanted kept key history = record {
 }
 
 -- the histories of caches after a step under a key through one of them
-abbrev pub histories_after : {Rule : Type 0} → Bool → (Key → Option Rule) → Key → ℕ → List KeyHistory → List KeyHistory
-histories_after wanted kept key cache histories =
-    slice_set histories cache (history_after wanted kept key (history_at histories cache))
+abbrev pub histories_after : {Rule : Type 0} → Bool → (Key → Option Rule) → Key → ℕ → List (Option KeyHistory) → List (Option KeyHistory)
+histories_after wanted kept key cache histories = with_changed (history_after wanted kept key) histories cache
 
 -- A cache that this history has made.
 pub record HasHistory {Rule : Type 0} (history : KeyHistory) (cache : Kept Rule) : Type 0 where
@@ -85,14 +85,21 @@ pub record HasHistory {Rule : Type 0} (history : KeyHistory) (cache : Kept Rule)
   pub keys : HasLastKeys history.layout history.keys cache.sets
   pub counts : cache.counts ≡ history.counts
 
+-- a cache that a history has made; or both were let go
+abbrev pub HasHistoryIfHeld : {Rule : Type 0} → Option KeyHistory → Option (Kept Rule) → Type 0
+HasHistoryIfHeld None None = Unit {0}
+HasHistoryIfHeld None (Some cache) = ⊥
+HasHistoryIfHeld (Some history) None = ⊥
+HasHistoryIfHeld (Some history) (Some cache) = HasHistory history cache
+
 -- caches that these histories have made, one each
-abbrev pub HaveHistories : {Rule : Type 0} → List KeyHistory → List (Kept Rule) → Type 0
+abbrev pub HaveHistories : {Rule : Type 0} → List (Option KeyHistory) → List (Option (Kept Rule)) → Type 0
 HaveHistories [] [] = Unit {0}
 HaveHistories [] (cache ∷ caches) = ⊥
 HaveHistories (history ∷ histories) [] = ⊥
-HaveHistories (history ∷ histories) (cache ∷ caches) = HasHistory history cache × HaveHistories histories caches
+HaveHistories (history ∷ histories) (cache ∷ caches) = HasHistoryIfHeld history cache × HaveHistories histories caches
 
 -- beside caches that histories have made there is a new one, of so many slots
-abbrev pub GainNewHistory : {Rule : Type 0} → ℕ → (old new : List (Kept Rule)) → Type 0
+abbrev pub GainNewHistory : {Rule : Type 0} → ℕ → (old new : List (Option (Kept Rule))) → Type 0
 GainNewHistory slots old new =
-    (histories : List KeyHistory) → HaveHistories histories old → HaveHistories (histories ++ no_history slots ∷ []) new
+    (histories : List (Option KeyHistory)) → HaveHistories histories old → HaveHistories (histories ++ Some (no_history slots) ∷ []) new

@@ -3,9 +3,11 @@
 #![tactic(auto)]
 
 mod cache;
+mod ids;
 mod iterator;
 pub mod laws;
 mod module;
+mod numbered;
 mod session;
 mod unwinder;
 mod unwinders;
@@ -16,6 +18,7 @@ pub use framehop_modules::{Generations, GenerationsExhausted, LoadError};
 pub use framehop_rules::{
     Arch, CacheStats, Error, FrameAddress, SlotCount, UnwindResult, UnwindRule,
 };
+pub use ids::{CacheId, StaleId, UnwinderId};
 pub use iterator::{StackWalk, UnwindIterator};
 pub use module::Module;
 pub use session::{AddUnwinderError, Session};

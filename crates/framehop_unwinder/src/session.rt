@@ -1,21 +1,24 @@
 //! Many unwinders, which share caches under one counter of generations.
 
-ghost use Rattle.std.specs.Prelude.{◌≡◌, ◌<◌, ◌≤◌, ◌+◌, ◌^◌, ◌-◌, ◌∷◌, ◌++◌, [], true, false, Ok, Err, None, length, List, IfOk, IfErr, IsErr, OnOk, OnErr};
+ghost use Rattle.std.specs.Prelude.{◌≡◌, ◌≤◌, ◌+◌, ◌^◌, ◌-◌, ◌∷◌, ◌++◌, [], true, false, Ok, Err, None, Option, length, List, IfOk, IfErr, IsErr, OnOk, OnErr};
 ghost use Rattle.framehop_registers.specs.Callback.{OverWords};
 ghost use Rattle.framehop_modules.specs.LoadErrors.{module_returned, is_exhausted};
 ghost use Rattle.framehop_unwinder.specs.Frames.{frame_of};
+ghost use Rattle.framehop_unwinder.specs.History.{GainNewHistory, KeyHistory, HaveHistories, history_at};
+ghost use Rattle.framehop_unwinder.specs.IdViews.{FindsHeld, MovesBy, StepsBy, cache_number, has_both, has_cache, has_module_at, has_unwinder, modules_by, unwinder_number, with_module_in, without_module_in};
 ghost use Rattle.framehop_unwinder.specs.Judge.{judge};
 ghost use Rattle.framehop_unwinder.specs.Memory.{WantsFrom};
-ghost use Rattle.framehop_unwinder.specs.Modules.{is_loaded_at, with_loaded};
+ghost use Rattle.framehop_unwinder.specs.Modules.{last_end};
 ghost use Rattle.framehop_unwinder.specs.Moves.{MoveWants, MovesOn};
-ghost use Rattle.framehop_unwinder.specs.History.{GainNewHistory, KeyHistory, HaveHistories, history_at};
-ghost use Rattle.framehop_unwinder.specs.State.{MovesThrough, StepsThrough, cache_at, empty_state, modules_at, with_cache, with_clone, with_modules, with_unloaded, with_unwinder};
+ghost use Rattle.framehop_unwinder.specs.State.{cache_at, empty_state, with_cache, with_clone, with_unwinder, without_cache, without_unwinder};
 ghost use Rattle.framehop_unwinder.specs.Trials.{StaysUnlessStepped, StepsAs, wants_memory};
 ghost use Rattle.framehop_unwinder.specs.WalkViews.{MovesAs, walk_of};
 
 use crate::cache::Cache;
+use crate::ids::{CacheId, StaleId, UnwinderId};
 use crate::iterator::{StackWalk, UnwindIteratorState};
 use crate::module::Module;
+use crate::numbered::Numbered;
 use crate::unwinder::UnwinderInternal;
 use crate::unwinders::Unwinder;
 use crate::unwinding::ModuleUnwinding;
@@ -25,31 +28,33 @@ use std::alloc::{AllocError, Global};
 use std::marker::Model;
 
 /// Unwinders and caches under one counter of generations. Any cache serves any of the unwinders, after
-/// any loads, unloads and clones: each step is the one that the modules loaded now give without a
-/// cache.
+/// any loads, unloads and clones, and after others were let go: each step is the one that the modules
+/// loaded now give without a cache.
+///
+/// A call with the id of an unwinder or a cache that was let go, or was never made, returns `StaleId`,
+/// and changes nothing.
 #[derive(Drop)]
 pub struct Session<A: ModuleUnwinding> {
-    unwinders: Vec<UnwinderInternal<A>>,
-    caches: Vec<Cache<A::UnwindRule, A::UnwindContext>>,
+    unwinders: Numbered<UnwinderInternal<A>>,
+    caches: Numbered<Cache<A::UnwindRule, A::UnwindContext>>,
     generations: Generations,
 }
 
 impl<A: ModuleUnwinding> Model for Session<A> {
-    ghost use Rattle.std.specs.Prelude.{map};
-    ghost use Rattle.framehop_unwinder.specs.CacheViews.{rules_of};
-    ghost use Rattle.framehop_unwinder.specs.State.{SessionState, IsSound, sets_of_all};
+    ghost use Rattle.framehop_unwinder.specs.NumberedViews.{by_number};
+    ghost use Rattle.framehop_unwinder.specs.SessionViews.{IsInOrder, caches_by_number};
+    ghost use Rattle.framehop_unwinder.specs.State.{SessionState};
 
     ghost Value = { SessionState A.UnwindData A.UnwindRule };
 
     ghost view = { λ session. record {
-      unwinders = session.unwinders.items;
+      unwinders = by_number session.unwinders;
       next = session.generations;
-      caches = map rules_of session.caches.items;
+      caches = caches_by_number session.caches;
     } };
 
     ghost invariant = { λ session.
-        IsSound A.meanings session.generations
-        session.unwinders.items (sets_of_all (map rules_of session.caches.items)) };
+        IsInOrder A.meanings session.generations session.unwinders session.caches };
 }
 
 /// Why an unwinder was not made.
@@ -67,32 +72,47 @@ impl<A: ModuleUnwinding> Session<A> {
         ensures { result ≡ empty_state generations }
     {
         Session {
-            unwinders: Vec::new(alloc),
-            caches: Vec::new(alloc),
+            unwinders: Numbered::new(alloc),
+            caches: Numbered::new(alloc),
             generations,
         }
     }
 
-    /// How many unwinders there are.
-    pub fn unwinders(&self) -> usize
-        ensures { result ≡ length self.now.unwinders }
+    /// No unwinder and no cache, and a counter from 0 on.
+    pub fn empty(alloc: Global) -> Self
+        ensures { result ≡ empty_state 0 }
     {
-        self.unwinders.len()
+        Session::new(alloc, Generations::new())
     }
 
-    /// How many caches there are.
-    pub fn caches(&self) -> usize
-        ensures { result ≡ length self.now.caches }
+    /// Whether the session has an unwinder.
+    pub fn has_unwinder(&self, unwinder: UnwinderId) -> bool
+        ensures { result ≡ has_unwinder self.now unwinder }
     {
-        self.caches.len()
+        self.unwinders.holds(unwinder.place)
     }
 
-    /// Makes a new cache of 509 slots, the last, with this room.
+    /// Whether the session has a cache.
+    pub fn has_cache(&self, cache: CacheId) -> bool
+        ensures { result ≡ has_cache self.now cache }
+    {
+        self.caches.holds(cache.place)
+    }
+
+    /// Whether the session has an unwinder and a cache.
+    pub fn has(&self, unwinder: UnwinderId, cache: CacheId) -> bool
+        ensures { result ≡ has_both self.now unwinder cache }
+    {
+        self.has_unwinder(unwinder) && self.has_cache(cache)
+    }
+
+    /// Makes a new cache of 509 slots, with this room.
     pub fn add_cache(
         &mut self,
         alloc: Global,
         unwind_context: A::UnwindContext,
-    ) -> Result<(), AllocError>
+    ) -> Result<CacheId, AllocError>
+        ensures number { IfOk result (λ id. cache_number id ≡ length self.old.caches) }
         ensures ok { OnOk result (self.new ≡ with_cache self.old 509) }
         ensures histories { OnOk result
             (GainNewHistory 509 self.old.caches self.new.caches) }
@@ -101,25 +121,27 @@ impl<A: ModuleUnwinding> Session<A> {
         self.add_cache_with_slots(alloc, unwind_context, SlotCount::original())
     }
 
-    /// Makes a new cache of so many slots, the last, with this room.
+    /// Makes a new cache of so many slots, with this room.
     pub fn add_cache_with_slots(
         &mut self,
         alloc: Global,
         unwind_context: A::UnwindContext,
         slots: SlotCount,
-    ) -> Result<(), AllocError>
+    ) -> Result<CacheId, AllocError>
+        ensures number { IfOk result (λ id. cache_number id ≡ length self.old.caches) }
         ensures ok { OnOk result (self.new ≡ with_cache self.old slots) }
         ensures histories { OnOk result
             (GainNewHistory slots self.old.caches self.new.caches) }
         ensures refused { OnErr result (self.new ≡ self.old) }
     {
         let cache = Cache::with_slots(alloc, unwind_context, slots)?;
-        self.caches.push(cache)?;
-        Ok(())
+        let place = self.caches.add(cache)?;
+        Ok(CacheId { place })
     }
 
-    /// Makes a new unwinder without a module, the last.
-    pub fn add_unwinder(&mut self, alloc: Global) -> Result<(), AddUnwinderError>
+    /// Makes a new unwinder without a module.
+    pub fn add_unwinder(&mut self, alloc: Global) -> Result<UnwinderId, AddUnwinderError>
+        ensures number { IfOk result (λ id. unwinder_number id ≡ length self.old.unwinders) }
         ensures ok { OnOk result (self.new ≡ with_unwinder self.old) }
         ensures exhausted { 2 ^ 64 - 1 ≤ self.old.next
             → result ≡ Err AddUnwinderError.GenerationsExhausted }
@@ -127,96 +149,181 @@ impl<A: ModuleUnwinding> Session<A> {
             → self.old.next ≡ 2 ^ 64 - 1 }
         ensures refused { OnErr result (self.new ≡ self.old) }
     {
-        if self.generations.left() == 0 {
+        let left = self.generations.left();
+        if left == 0 {
             return Err(AddUnwinderError::GenerationsExhausted);
         }
-        if self.unwinders.reserve(1).is_err() {
-            return Err(AddUnwinderError::OutOfMemory);
+        let unwinder = UnwinderInternal::with_generation(alloc, u64::MAX - left);
+        match self.unwinders.add(unwinder) {
+            Ok(place) => {
+                self.generations.take();
+                Ok(UnwinderId { place })
+            }
+            Err(_) => Err(AddUnwinderError::OutOfMemory),
         }
-        let unwinder = UnwinderInternal::with_generation(alloc, self.generations.take());
-        self.unwinders.push_reserved(unwinder);
+    }
+
+    /// Makes an unwinder with the modules and the generation of another.
+    pub fn clone_unwinder(
+        &mut self,
+        alloc: Global,
+        unwinder: UnwinderId,
+    ) -> Result<Result<UnwinderId, AllocError>, StaleId>
+        ensures found { FindsHeld (has_unwinder self.old unwinder) result self.old self.new }
+        ensures number { IfOk result (λ made. IfOk made (λ id.
+            unwinder_number id ≡ length self.old.unwinders)) }
+        ensures ok { IfOk result (λ made. OnOk made
+            (self.new ≡ with_clone self.old (unwinder_number unwinder))) }
+        ensures refused { IfOk result (λ made. OnErr made (self.new ≡ self.old)) }
+    {
+        let Some(unwinder) = self.unwinders.get(unwinder.place) else {
+            return Err(StaleId);
+        };
+        let Ok(clone) = unwinder.try_clone(alloc) else {
+            return Ok(Err(AllocError));
+        };
+        let Ok(place) = self.unwinders.add(clone) else {
+            return Ok(Err(AllocError));
+        };
+        Ok(Ok(UnwinderId { place }))
+    }
+
+    /// Lets an unwinder go, with its modules: what no other unwinder has of them is freed.
+    pub fn remove_unwinder(&mut self, unwinder: UnwinderId) -> Result<(), StaleId>
+        ensures found { FindsHeld (has_unwinder self.old unwinder) result self.old self.new }
+        ensures ok { OnOk result
+            (self.new ≡ without_unwinder self.old (unwinder_number unwinder)) }
+    {
+        if !self.unwinders.remove(unwinder.place) {
+            return Err(StaleId);
+        }
         Ok(())
     }
 
-    /// Makes an unwinder, the last, with the modules and the generation of another.
-    pub fn clone_unwinder(&mut self, alloc: Global, unwinder: usize) -> Result<(), AllocError>
-        requires { unwinder < length self.old.unwinders }
-        ensures ok { OnOk result (self.new ≡ with_clone self.old unwinder) }
-        ensures refused { OnErr result (self.new ≡ self.old) }
+    /// Lets a cache go, and frees it.
+    pub fn remove_cache(&mut self, cache: CacheId) -> Result<(), StaleId>
+        ensures found { FindsHeld (has_cache self.old cache) result self.old self.new }
+        ensures ok { OnOk result (self.new ≡ without_cache self.old (cache_number cache)) }
     {
-        let clone = self.unwinders[unwinder].try_clone(alloc)?;
-        self.unwinders.push(clone)?;
+        if !self.caches.remove(cache.place) {
+            return Err(StaleId);
+        }
         Ok(())
     }
 
     /// Loads a module in an unwinder.
     pub fn load(
         &mut self,
-        unwinder: usize,
+        unwinder: UnwinderId,
         module: Module<A::UnwindData>,
-    ) -> Result<(), LoadError<Module<A::UnwindData>>>
-        requires { unwinder < length self.old.unwinders }
-        ensures ok { OnOk result (self.new ≡ with_modules self.old unwinder
-            (with_loaded «module» (modules_at self.old unwinder))) }
-        ensures exhausted { 2 ^ 64 - 1 ≤ self.old.next
-            → result ≡ Err (LoadError.GenerationsExhausted «module») }
-        ensures only { IfErr result (λ error. is_exhausted error ≡ true
-            → self.old.next ≡ 2 ^ 64 - 1) }
-        ensures returned { IfErr result (λ error. module_returned error ≡ «module») }
-        ensures refused { OnErr result (self.new ≡ self.old) }
+    ) -> Result<Result<(), LoadError<Module<A::UnwindData>>>, StaleId>
+        ensures found { FindsHeld (has_unwinder self.old unwinder) result self.old self.new }
+        ensures ok { IfOk result (λ loaded. OnOk loaded
+            (self.new ≡ with_module_in self.old unwinder «module»)) }
+        ensures exhausted { IfOk result (λ loaded. 2 ^ 64 - 1 ≤ self.old.next
+            → loaded ≡ Err (LoadError.GenerationsExhausted «module»)) }
+        ensures only { IfOk result (λ loaded. IfErr loaded (λ error. is_exhausted error ≡ true
+            → self.old.next ≡ 2 ^ 64 - 1)) }
+        ensures returned { IfOk result (λ loaded. IfErr loaded (λ error.
+            module_returned error ≡ «module»)) }
+        ensures refused { IfOk result (λ loaded. OnErr loaded (self.new ≡ self.old)) }
     {
-        self.unwinders[unwinder].add_module(&mut self.generations, module)
+        let Some(slot) = self.unwinders.slot_of(unwinder.place) else {
+            return Err(StaleId);
+        };
+        match &mut self.unwinders.values[slot] {
+            Some(unwinder) => Ok(unwinder.add_module(&mut self.generations, module)),
+            None => Err(StaleId),
+        }
     }
 
     /// Unloads the last of the modules of an unwinder that start at an address, if one does.
-    pub fn unload(&mut self, unwinder: usize, start: u64) -> Result<(), GenerationsExhausted>
-        requires { unwinder < length self.old.unwinders }
-        ensures unknown { is_loaded_at start (modules_at self.old unwinder) ≡ false
-            → (result ≡ Ok tt) × (self.new ≡ self.old) }
-        ensures ok { is_loaded_at start (modules_at self.old unwinder) ≡ true
-            → OnOk result (self.new ≡ with_unloaded self.old unwinder start) }
-        ensures exhausted { is_loaded_at start (modules_at self.old unwinder) ≡ true
-            → 2 ^ 64 - 1 ≤ self.old.next → IsErr result }
-        ensures only { OnErr result (self.old.next ≡ 2 ^ 64 - 1) }
-        ensures refused { OnErr result (self.new ≡ self.old) }
+    pub fn unload(
+        &mut self,
+        unwinder: UnwinderId,
+        start: u64,
+    ) -> Result<Result<(), GenerationsExhausted>, StaleId>
+        ensures found { FindsHeld (has_unwinder self.old unwinder) result self.old self.new }
+        ensures unknown { IfOk result (λ unloaded.
+            has_module_at self.old unwinder start ≡ false
+            → (unloaded ≡ Ok tt) × (self.new ≡ self.old)) }
+        ensures ok { IfOk result (λ unloaded.
+            has_module_at self.old unwinder start ≡ true
+            → OnOk unloaded (self.new ≡ without_module_in self.old unwinder start)) }
+        ensures exhausted { IfOk result (λ unloaded.
+            has_module_at self.old unwinder start ≡ true
+            → 2 ^ 64 - 1 ≤ self.old.next → IsErr unloaded) }
+        ensures only { IfOk result (λ unloaded. OnErr unloaded (self.old.next ≡ 2 ^ 64 - 1)) }
+        ensures refused { IfOk result (λ unloaded. OnErr unloaded (self.new ≡ self.old)) }
     {
-        self.unwinders[unwinder].remove_module(&mut self.generations, start)
+        let Some(slot) = self.unwinders.slot_of(unwinder.place) else {
+            return Err(StaleId);
+        };
+        match &mut self.unwinders.values[slot] {
+            Some(unwinder) => Ok(unwinder.remove_module(&mut self.generations, start)),
+            None => Err(StaleId),
+        }
+    }
+
+    /// The end of the last module of an unwinder, else 0.
+    pub fn max_known_code_address(&self, unwinder: UnwinderId) -> Result<u64, StaleId>
+        ensures found { FindsHeld (has_unwinder self.now unwinder) result self.now self.now }
+        ensures address { IfOk result (λ address. address
+            ≡ last_end (λ module_. module_.end) (modules_by self.now unwinder)) }
+    {
+        match self.unwinders.get(unwinder.place) {
+            Some(unwinder) => Ok(unwinder.max_known_code_address()),
+            None => Err(StaleId),
+        }
     }
 
     /// How many look-ups in a cache found a rule so far, and why the others didn't.
-    pub fn stats(&self, cache: usize) -> CacheStats
-        requires { cache < length self.now.caches }
-        ensures counts { result ≡ (cache_at self.now.caches cache).counts }
-        ensures histories { (histories : List KeyHistory) → HaveHistories histories self.now.caches
-            → result ≡ (history_at histories cache).counts }
+    pub fn stats(&self, cache: CacheId) -> Result<CacheStats, StaleId>
+        ensures found { FindsHeld (has_cache self.now cache) result self.now self.now }
+        ensures counts { IfOk result (λ stats.
+            stats ≡ (cache_at self.now.caches (cache_number cache)).counts) }
+        ensures histories { IfOk result (λ stats. (histories : List (Option KeyHistory))
+            → HaveHistories histories self.now.caches
+            → stats ≡ (history_at histories (cache_number cache)).counts) }
     {
-        self.caches[cache].stats()
+        match self.caches.get(cache.place) {
+            Some(cache) => Ok(cache.stats()),
+            None => Err(StaleId),
+        }
     }
 
     /// Makes the step of an unwinder from a frame with these registers, with any of the caches.
     pub fn step<F: FnMut(u64) -> Result<u64, ()>>(
         &mut self,
-        unwinder: usize,
-        cache: usize,
+        unwinder: UnwinderId,
+        cache: CacheId,
         address: FrameAddress,
         regs: &mut A::UnwindRegs,
         read_stack: &mut F,
-    ) -> Result<Option<u64>, Error>
-        requires callable { F.IsAlwaysCallable read_stack.old }
-        requires unwinder { unwinder < length self.old.unwinders }
-        requires cache { cache < length self.old.caches }
+    ) -> Result<Result<Option<u64>, Error>, StaleId>
+        requires { F.IsAlwaysCallable read_stack.old }
         ensures callable { F.IsAlwaysCallable read_stack.new }
-        ensures step { OverWords F.step read_stack.old read_stack.new (λ words.
-            StepsAs result regs.old regs.new
-            (judge A.meanings (modules_at self.old unwinder) (frame_of address) regs.old words)) }
-        ensures caches { StepsThrough A.meanings (wants_memory result) (frame_of address)
-            unwinder cache self.old self.new }
-        ensures stays { StaysUnlessStepped result regs.old regs.new }
-        ensures memory { WantsFrom A.takes_memory A.asks_memory (modules_at self.old unwinder)
-            (frame_of address) (wants_memory result) }
+        ensures found { FindsHeld (has_both self.old unwinder cache) result self.old self.new }
+        ensures unchanged { OnErr result (regs.new ≡ regs.old) }
+        ensures step { OverWords F.step read_stack.old read_stack.new (λ words. IfOk result (λ answer.
+            StepsAs answer regs.old regs.new (judge A.meanings (modules_by self.old unwinder)
+            (frame_of address) regs.old words))) }
+        ensures caches { IfOk result (λ answer. StepsBy A.meanings answer
+            (frame_of address) unwinder cache self.old self.new) }
+        ensures stays { IfOk result (λ answer. StaysUnlessStepped answer regs.old regs.new) }
+        ensures memory { IfOk result (λ answer. WantsFrom A.takes_memory A.asks_memory
+            (modules_by self.old unwinder) (frame_of address) (wants_memory answer)) }
     {
-        let cache = &mut self.caches[cache];
-        self.unwinders[unwinder].unwind_frame(address, regs, cache, read_stack)
+        let Some(unwinder) = self.unwinders.get(unwinder.place) else {
+            return Err(StaleId);
+        };
+        let Some(slot) = self.caches.slot_of(cache.place) else {
+            return Err(StaleId);
+        };
+        let Some(cache) = &mut self.caches.values[slot] else {
+            return Err(StaleId);
+        };
+        Ok(unwinder.unwind_frame(address, regs, cache, read_stack))
     }
 
     /// Makes the next move of a walk over an unwinder's frames, with any of the caches: returns the
@@ -225,30 +332,37 @@ impl<A: ModuleUnwinding> Session<A> {
     /// has the caller's registers there, and must not be continued.
     pub fn next_frame<F: FnMut(u64) -> Result<u64, ()>>(
         &mut self,
-        unwinder: usize,
-        cache: usize,
+        unwinder: UnwinderId,
+        cache: CacheId,
         walk: &mut StackWalk<A::UnwindRegs>,
         read_stack: &mut F,
-    ) -> Result<Option<FrameAddress>, Error>
-        requires callable { F.IsAlwaysCallable read_stack.old }
-        requires unwinder { unwinder < length self.old.unwinders }
-        requires cache { cache < length self.old.caches }
+    ) -> Result<Result<Option<FrameAddress>, Error>, StaleId>
+        requires { F.IsAlwaysCallable read_stack.old }
         ensures callable { F.IsAlwaysCallable read_stack.new }
-        ensures moved { OverWords F.step read_stack.old read_stack.new (λ words.
-            MovesAs (judge A.meanings (modules_at self.old unwinder)) words
-            (walk_of walk.old) result (walk_of walk.new)) }
-        ensures walk { MovesOn (walk_of walk.old) result (walk_of walk.new) }
-        ensures caches { MovesThrough A.meanings (wants_memory result) (walk_of walk.old).position
-            unwinder cache self.old self.new }
-        ensures memory { MoveWants A.takes_memory A.asks_memory (modules_at self.old unwinder)
-            (walk_of walk.old).position (wants_memory result) }
+        ensures found { FindsHeld (has_both self.old unwinder cache) result self.old self.new }
+        ensures unchanged { OnErr result (walk.new ≡ walk.old) }
+        ensures moved { OverWords F.step read_stack.old read_stack.new (λ words. IfOk result (λ answer.
+            MovesAs (judge A.meanings (modules_by self.old unwinder)) words
+            (walk_of walk.old) answer (walk_of walk.new))) }
+        ensures walk { IfOk result (λ answer. MovesOn (walk_of walk.old) answer (walk_of walk.new)) }
+        ensures caches { IfOk result (λ answer. MovesBy A.meanings answer
+            (walk_of walk.old).position unwinder cache self.old self.new) }
+        ensures memory { IfOk result (λ answer. MoveWants A.takes_memory A.asks_memory
+            (modules_by self.old unwinder) (walk_of walk.old).position
+            (wants_memory answer)) }
     {
-        let address = match walk.state {
-            UnwindIteratorState::Initial(pc) => return Ok(Some(walk.state.begin(pc))),
-            UnwindIteratorState::Unwinding(address) => address,
-            UnwindIteratorState::Done => return Ok(None),
-        };
-        let step = self.step(unwinder, cache, address, &mut walk.regs, read_stack)?;
-        walk.state.go_on(step)
+        if let UnwindIteratorState::Unwinding(address) = walk.state {
+            return match self.step(unwinder, cache, address, &mut walk.regs, read_stack)? {
+                Ok(step) => Ok(walk.state.go_on(step)),
+                Err(error) => Ok(Err(error)),
+            };
+        }
+        if !self.has(unwinder, cache) {
+            return Err(StaleId);
+        }
+        match walk.state {
+            UnwindIteratorState::Initial(pc) => Ok(Ok(Some(walk.state.begin(pc)))),
+            UnwindIteratorState::Unwinding(_) | UnwindIteratorState::Done => Ok(Ok(None)),
+        }
     }
 }

@@ -8,9 +8,9 @@ use crate::sessions::{Sections, try_module_of};
 use crate::steps::{self, Registers, frame_at, try_step};
 use framehop::x86_64::{ArchX86_64, CacheX86_64, UnwindRegsX86_64, UnwinderX86_64};
 use framehop::{
-    AllocationPolicy, BySections, CacheStats, DwarfUnwindContext, Error, FrameAddress, Generations,
-    LoadError, MayAllocateDuringUnwind, Module, ModuleUnwinding, MustNotAllocateDuringUnwind,
-    Session, StackWalk, Unwinder,
+    AllocationPolicy, BySections, CacheId, CacheStats, DwarfUnwindContext, Error, FrameAddress,
+    Generations, LoadError, MayAllocateDuringUnwind, Module, ModuleUnwinding,
+    MustNotAllocateDuringUnwind, Session, StackWalk, Unwinder, UnwinderId,
 };
 use std::alloc::{AllocError, Global};
 use std::process::Abort;
@@ -175,16 +175,14 @@ fn load<A: ModuleUnwinding>(
     session: &mut Session<A>,
     module: framehop_unwinder::Module<A::UnwindData>,
 ) -> Result<(), AllocError> {
-    if session.unwinders() == 0 {
-        return Err(AllocError);
-    }
-    let Err(LoadError::OutOfMemory(module)) = session.load(0, module) else {
+    let unwinder = UnwinderId::numbered(0);
+    let Ok(Err(LoadError::OutOfMemory(module))) = session.load(unwinder, module) else {
         return Ok(());
     };
     assert!(rt; module.name() == "m");
-    match session.load(0, module) {
-        Ok(()) => Ok(()),
-        Err(_) => Err(AllocError),
+    match session.load(unwinder, module) {
+        Ok(Ok(())) => Ok(()),
+        _ => Err(AllocError),
     }
 }
 
@@ -208,7 +206,8 @@ fn add_cache<'a, P: AllocationPolicy>(
     session: &mut Session<BySections<ArchX86_64, &'a [u8], P>>,
 ) -> Result<(), AllocError> {
     let context = DwarfUnwindContext::new(alloc)?;
-    session.add_cache(alloc, context)
+    session.add_cache(alloc, context)?;
+    Ok(())
 }
 
 /// Loads the module that starts there. What is refused once is asked for again.
@@ -232,12 +231,13 @@ fn step<A: ModuleUnwinding<UnwindRegs = UnwindRegsX86_64>>(
     is_first: bool,
     (ip, sp, bp): Registers,
 ) -> Option<(Result<Option<u64>, Error>, Registers)> {
-    if session.unwinders() == 0 || session.caches() == 0 {
-        return None;
-    }
+    let (unwinder, cache) = (UnwinderId::numbered(0), CacheId::numbered(0));
     let mut regs = UnwindRegsX86_64::new(ip, sp, bp);
     let mut read_stack = word_at;
-    let answer = session.step(0, 0, frame_at(is_first, ip), &mut regs, &mut read_stack);
+    let frame = frame_at(is_first, ip);
+    let answer = session
+        .step(unwinder, cache, frame, &mut regs, &mut read_stack)
+        .ok()?;
     Some((answer, (regs.ip(), regs.sp(), regs.bp())))
 }
 
@@ -267,11 +267,11 @@ fn next_frame<A: ModuleUnwinding>(
     session: &mut Session<A>,
     walk: &mut StackWalk<A::UnwindRegs>,
 ) -> Option<Result<Option<FrameAddress>, Error>> {
-    if session.unwinders() == 0 || session.caches() == 0 {
-        return None;
-    }
+    let (unwinder, cache) = (UnwinderId::numbered(0), CacheId::numbered(0));
     let mut read_stack = word_at;
-    Some(session.next_frame(0, 0, walk, &mut read_stack))
+    session
+        .next_frame(unwinder, cache, walk, &mut read_stack)
+        .ok()
 }
 
 /// Wants the frames of the worked stack and its end, twice.

@@ -2,8 +2,8 @@
 use crate::sessions::{Sections, step_twice};
 use framehop::x86_64::{ArchX86_64, UnwindRegsX86_64};
 use framehop::{
-    BySections, DwarfUnwindContext, FrameAddress, MayAllocateDuringUnwind, Module,
-    load_module_with_debug_frame,
+    BySections, DwarfUnwindContext, FrameAddress, LoadOptions, MayAllocateDuringUnwind, Module,
+    load_module,
 };
 use std::alloc::Global;
 use std::test::Fail;
@@ -21,14 +21,18 @@ static BESIDE: [u8; 76] = [
 
 /// A module with the worked `.eh_frame` and with that `.debug_frame`.
 fn module_with_both(alloc: Global) -> Result<Module<&'static [u8]>, Fail> {
-    let mut sections = Sections {
+    let options = LoadOptions {
+        debug_frame_beside: true,
+        ..Default::default()
+    };
+    let sections = Sections {
         eh_frame: Some(WORKED.as_slice()),
         debug_frame: Some(BESIDE.as_slice()),
         ..Default::default()
     };
     let name = String::from_str(alloc, "m")?;
     let range = 0x100000..0x102000;
-    Ok(load_module_with_debug_frame(alloc, name, range, 0x100000, &mut sections)?)
+    Ok(load_module(alloc, name, range, 0x100000, sections, options)?)
 }
 
 /// Of a module that is loaded with both, `.debug_frame` is used only at addresses that its FDE contains and that of `.eh_frame` doesn't.

@@ -3,9 +3,9 @@ ghost use Rattle.std.specs.Prelude.{true};
 
 use framehop::x86_64::{ArchX86_64, UnwindRegsX86_64};
 use framehop::{
-    BySections, DwarfUnwindContext, Error, ExplicitModuleSectionInfo, FrameAddress, Generations,
-    MayAllocateDuringUnwind, Module, ModuleSectionInfo, ModuleUnwinding, Session, StackWalk,
-    load_module,
+    BySections, CacheId, DwarfUnwindContext, Error, ExplicitModuleSectionInfo, FrameAddress,
+    Generations, LoadOptions, MayAllocateDuringUnwind, Module, ModuleSectionInfo, ModuleUnwinding,
+    Session, StackWalk, UnwinderId, load_module,
 };
 use std::alloc::{AllocError, Global};
 use std::ops::Range;
@@ -21,12 +21,12 @@ pub type Stepped<R> = (Option<u64>, R, bool);
 /// A module with these sections at these addresses, if memory isn't refused.
 pub fn try_module_of<'a, I: ModuleSectionInfo<&'a [u8]> + Drop>(
     alloc: Global,
-    mut sections: I,
+    sections: I,
     range: Range<u64>,
 ) -> Result<Module<&'a [u8]>, AllocError> {
     let base = range.start;
     let name = String::from_str(alloc, "m")?;
-    load_module(alloc, name, range, base, &mut sections)
+    load_module(alloc, name, range, base, sections, LoadOptions::default())
 }
 
 /// A module with these sections at these addresses.
@@ -43,16 +43,16 @@ fn session_of<A: ModuleUnwinding>(
     alloc: Global,
     module: framehop_unwinder::Module<A::UnwindData>,
     context: A::UnwindContext,
-) -> Result<Session<A>, Fail> {
+) -> Result<(Session<A>, UnwinderId, CacheId), Fail> {
     let mut session = Session::new(alloc, Generations::new());
-    session.add_cache(alloc, context)?;
-    if session.add_unwinder(alloc).is_err() || session.unwinders() == 0 {
+    let cache = session.add_cache(alloc, context)?;
+    let Ok(unwinder) = session.add_unwinder(alloc) else {
         return Err(Fail::new("no unwinder"));
-    }
-    if session.load(0, module).is_err() {
+    };
+    if session.load(unwinder, module)?.is_err() {
         return Err(Fail::new("not loaded"));
     }
-    Ok(session)
+    Ok((session, unwinder, cache))
 }
 
 /// Two equal steps from a frame through one cache, by what the last gives.
@@ -66,15 +66,12 @@ pub fn step_twice<A: ModuleUnwinding, F: FnMut(u64) -> Result<u64, ()>>(
 ) -> Result<Stepped<A::UnwindRegs>, Fail>
     requires { F.IsAlwaysCallable word_at }
 {
-    let mut session: Session<A> = session_of(alloc, module, context)?;
-    if session.unwinders() == 0 || session.caches() == 0 {
-        return Err(Fail::new("nothing was made"));
-    }
+    let (mut session, unwinder, cache) = session_of::<A>(alloc, module, context)?;
     let mut first = regs;
-    session.step(0, 0, address, &mut first, &mut word_at)?;
+    session.step(unwinder, cache, address, &mut first, &mut word_at)??;
     let mut last = regs;
-    let return_address = session.step(0, 0, address, &mut last, &mut word_at)?;
-    let is_hit = session.stats(0).hit_count == 1;
+    let return_address = session.step(unwinder, cache, address, &mut last, &mut word_at)??;
+    let is_hit = session.stats(cache)?.hit_count == 1;
     Ok((return_address, last, is_hit))
 }
 
@@ -100,22 +97,18 @@ fn walks_have_the_callers_registers_after_a_return_address_of_0(
     };
     let module = module_of(rt.alloc(), sections, 0x100000..0x102000)?;
     let context = DwarfUnwindContext::new(rt.alloc())?;
-    let mut session: Session<BySections<ArchX86_64, &[u8], MayAllocateDuringUnwind>> = session_of(
-        rt.alloc(),
-        module,
-        context,
-    )?;
-    if session.unwinders() == 0 || session.caches() == 0 {
-        return Err(Fail::new("nothing was made"));
-    }
+    let (mut session, unwinder, cache) = session_of::<
+        BySections<ArchX86_64, &[u8], MayAllocateDuringUnwind>,
+    >(rt.alloc(), module, context)?;
     let mut read_stack = |at: u64| Ok(if at == 0x10 { 0 } else { 0x100300 });
     let regs = UnwindRegsX86_64::new(0x101000, 0x10, 0x20);
     let mut walk = StackWalk::new(0x101000, regs);
     let first = FrameAddress::from_instruction_pointer(0x101000);
-    assert!(rt; session.next_frame(0, 0, &mut walk, &mut read_stack) == Ok(Some(first)));
-    let null = session.next_frame(0, 0, &mut walk, &mut read_stack);
+    let start = session.next_frame(unwinder, cache, &mut walk, &mut read_stack)?;
+    assert!(rt; start == Ok(Some(first)));
+    let null = session.next_frame(unwinder, cache, &mut walk, &mut read_stack)?;
     assert!(rt; null == Err(Error::ReturnAddressIsNull) && walk.regs().sp() == 0x28);
-    let other = session.next_frame(0, 0, &mut walk, &mut read_stack);
+    let other = session.next_frame(unwinder, cache, &mut walk, &mut read_stack)?;
     assert!(rt; other == Ok(FrameAddress::from_return_address(0x100300)));
     assert!(rt; walk.regs().sp() == 0x40);
     Ok(())

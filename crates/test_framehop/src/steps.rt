@@ -2,7 +2,7 @@
 use framehop::aarch64::CacheAarch64;
 use framehop::x86_64::{CacheX86_64, UnwindRegsX86_64, UnwinderX86_64};
 use framehop::{
-    AllocationPolicy, Error, ExplicitModuleSectionInfo, FrameAddress, Generations,
+    AllocationPolicy, Error, ExplicitModuleSectionInfo, FrameAddress, Generations, LoadOptions,
     MayAllocateDuringUnwind, Module, MustNotAllocateDuringUnwind, Unwinder, load_module,
 };
 use std::alloc::Global;
@@ -29,12 +29,19 @@ pub type Registers = (u64, u64, u64);
 
 /// A module that is loaded at 0x100000, with this section `.eh_frame`.
 pub fn module_with(alloc: Global, section: &[u8]) -> Result<Module<Vec<u8>>, Fail> {
-    let mut sections = ExplicitModuleSectionInfo {
+    let sections = ExplicitModuleSectionInfo {
         eh_frame: Some(section.to_vec(alloc)?),
         ..Default::default()
     };
     let name = String::from_str(alloc, "m")?;
-    Ok(load_module(alloc, name, 0x100000..0x102000, 0x100000, &mut sections)?)
+    Ok(load_module(
+        alloc,
+        name,
+        0x100000..0x102000,
+        0x100000,
+        sections,
+        LoadOptions::default(),
+    )?)
 }
 
 /// An unwinder of one module.

@@ -3,8 +3,8 @@ use crate::steps::{Registers, module_with, try_step, unwinder_in};
 use framehop::aarch64::ArchAarch64;
 use framehop::x86_64::{ArchX86_64, CacheX86_64};
 use framehop::{
-    AllocationPolicy, ExplicitModuleSectionInfo, Generations, MayAllocateDuringUnwind, Module,
-    MustNotAllocateDuringUnwind, Tabulating, load_module_tabulated,
+    AllocationPolicy, ExplicitModuleSectionInfo, Generations, LoadOptions, MayAllocateDuringUnwind,
+    Module, MustNotAllocateDuringUnwind, Tabulating, load_module,
 };
 use std::alloc::Global;
 use std::process::Abort;
@@ -32,18 +32,16 @@ const WITHIN: [u8; 32] = [
 
 /// A module with this section, and with a table on the architecture.
 fn tabulated<A: Tabulating>(alloc: Global, section: &[u8]) -> Result<Module<Vec<u8>>, Fail> {
-    let mut sections = ExplicitModuleSectionInfo {
+    let options = LoadOptions {
+        tables: Some(A::table_arch()),
+        ..Default::default()
+    };
+    let sections = ExplicitModuleSectionInfo {
         eh_frame: Some(section.to_vec(alloc)?),
         ..Default::default()
     };
     let name = String::from_str(alloc, "t")?;
-    Ok(load_module_tabulated::<A, Vec<u8>, ExplicitModuleSectionInfo<Vec<u8>>>(
-        alloc,
-        name,
-        0x100000..0x102000,
-        0x100000,
-        &mut sections,
-    )?)
+    Ok(load_module(alloc, name, 0x100000..0x102000, 0x100000, sections, options)?)
 }
 
 /// The worked section with another FDE at its end.

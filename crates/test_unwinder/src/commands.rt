@@ -11,7 +11,8 @@ use framehop_registers::x86_64::UnwindRegsX86_64;
 use framehop_rules::SlotCount;
 use framehop_rules::x86_64::ArchX86_64;
 use framehop_unwinder::{
-    Cache, Error, FrameAddress, Generations, Module, Session, Unwinder, UnwinderInternal,
+    Cache, CacheId, Error, FrameAddress, Generations, Module, Session, StaleId, Unwinder,
+    UnwinderId, UnwinderInternal,
 };
 use std::alloc::{AllocError, Global};
 use std::collections::VecDeque;
@@ -109,13 +110,13 @@ fn move_alone(
     }
 }
 
-/// Unwinders and walks without a cache, and how many caches there would be.
+/// Unwinders and walks without a cache, and which caches there would be.
 #[derive(Drop)]
 struct Alone {
     generations: Generations,
-    unwinders: Vec<UnwinderInternal<Toy>>,
+    unwinders: Vec<Option<UnwinderInternal<Toy>>>,
     walks: Vec<Walk>,
-    caches: u64,
+    caches: Vec<bool>,
 }
 
 impl Alone {
@@ -124,7 +125,7 @@ impl Alone {
             generations: Generations::new(),
             unwinders: Vec::new(alloc),
             walks: Vec::new(alloc),
-            caches: 0,
+            caches: Vec::new(alloc),
         }
     }
 
@@ -133,13 +134,13 @@ impl Alone {
         let Ok(unwinder) = UnwinderInternal::new(alloc, &mut self.generations) else {
             return Ok(EXHAUSTED);
         };
-        self.unwinders.push(unwinder)?;
+        self.unwinders.push(Some(unwinder))?;
         Ok(ADDED)
     }
 
     // A module is loaded.
     fn load(&mut self, unwinder: usize, module: &Module<Vec<Row>>) -> Result<Shown, Fail> {
-        let Some(there) = self.unwinders.get_mut(unwinder) else {
+        let Some(Some(there)) = self.unwinders.get_mut(unwinder) else {
             return Ok(UNKNOWN);
         };
         loaded(there.add_module(&mut self.generations, module.try_clone()?))?;
@@ -148,7 +149,7 @@ impl Alone {
 
     // A module is unloaded.
     fn unload(&mut self, unwinder: usize, start: u64) -> Shown {
-        let Some(there) = self.unwinders.get_mut(unwinder) else {
+        let Some(Some(there)) = self.unwinders.get_mut(unwinder) else {
             return UNKNOWN;
         };
         match there.remove_module(&mut self.generations, start) {
@@ -159,12 +160,39 @@ impl Alone {
 
     // An unwinder is cloned.
     fn clone_unwinder(&mut self, alloc: Global, unwinder: usize) -> Result<Shown, Fail> {
-        let Some(there) = self.unwinders.get(unwinder) else {
+        let Some(Some(there)) = self.unwinders.get(unwinder) else {
             return Ok(UNKNOWN);
         };
         let clone = there.try_clone(alloc)?;
-        self.unwinders.push(clone)?;
+        self.unwinders.push(Some(clone))?;
         Ok(ADDED)
+    }
+
+    // An unwinder is let go.
+    fn remove_unwinder(&mut self, unwinder: usize) -> Shown {
+        match self.unwinders.get_mut(unwinder) {
+            Some(there) if there.is_some() => {
+                *there = None;
+                REMOVED
+            }
+            _ => UNKNOWN,
+        }
+    }
+
+    // A cache is let go.
+    fn remove_cache(&mut self, cache: usize) -> Shown {
+        match self.caches.get_mut(cache) {
+            Some(there) if *there => {
+                *there = false;
+                REMOVED
+            }
+            _ => UNKNOWN,
+        }
+    }
+
+    // Whether there would be a cache.
+    fn has_cache(&self, cache: usize) -> bool {
+        self.caches.get(cache).copied().unwrap_or(false)
     }
 
     // A step, where there would be the cache.
@@ -177,7 +205,7 @@ impl Alone {
         mut regs: Regs,
     ) -> Result<Shown, Fail> {
         match self.unwinders.get(unwinder) {
-            Some(there) if (cache as u64) < self.caches => {
+            Some(Some(there)) if self.has_cache(cache) => {
                 let answer = step_alone(alloc, there, address, &mut regs)?;
                 Ok(Shown::Stepped(answer, regs.sp(), regs.bp()))
             }
@@ -193,8 +221,9 @@ impl Alone {
         cache: usize,
         walk: usize,
     ) -> Result<Shown, Fail> {
+        let has_cache = self.has_cache(cache);
         match (self.unwinders.get(unwinder), self.walks.get_mut(walk)) {
-            (Some(there), Some(walk)) if (cache as u64) < self.caches => {
+            (Some(Some(there)), Some(walk)) if has_cache => {
                 let answer = move_alone(alloc, there, walk)?;
                 Ok(Shown::Moved(answer, walk.regs.sp(), walk.regs.bp()))
             }
@@ -211,12 +240,14 @@ impl Alone {
         match command {
             Command::NewUnwinder => self.add_unwinder(alloc),
             Command::NewCache(_, ()) => {
-                self.caches = self.caches.saturating_add(1);
+                self.caches.push(true)?;
                 Ok(ADDED)
             }
             Command::Load(unwinder, module) => self.load(*unwinder, module),
             Command::Unload(unwinder, start) => Ok(self.unload(*unwinder, *start)),
             Command::Clone(unwinder) => self.clone_unwinder(alloc, *unwinder),
+            Command::RemoveUnwinder(unwinder) => Ok(self.remove_unwinder(*unwinder)),
+            Command::RemoveCache(cache) => Ok(self.remove_cache(*cache)),
             Command::Step(unwinder, cache, address, regs, _) => {
                 self.step(alloc, *unwinder, *cache, *address, *regs)
             }
@@ -242,18 +273,25 @@ fn slots(number: usize) -> SlotCount {
     SlotCount::new(count).unwrap_or(SlotCount::original())
 }
 
-// A command that is drawn at random.
+// A command that is drawn at random, mostly about those of so many unwinders and caches that were made
+// last.
 fn draw<F: FnMut(u64) -> Result<u64, ()> + Drop>(
     alloc: Global,
     state: &mut u64,
+    made: (usize, usize),
     read_stack: F,
 ) -> Result<Command<Vec<Row>, (), Regs, F>, Fail>
     requires { F.IsAlwaysCallable read_stack }
     ensures { IfOk result (OfCallback F.IsAlwaysCallable) }
 {
+    let (unwinders, caches) = made;
     let drawn = next_random(state) % 32;
-    let unwinder = (next_random(state) % 6) as usize;
-    let cache = (next_random(state) % 3) as usize;
+    let unwinder = unwinders
+        .saturating_sub(5)
+        .saturating_add((next_random(state) % 6) as usize);
+    let cache = caches
+        .saturating_sub(2)
+        .saturating_add((next_random(state) % 3) as usize);
     let walk = (next_random(state) % 64) as usize;
     let start = 0x100000 + next_random(state) % 4 * 0x800;
     let pc = start + next_random(state) % 3 * 8;
@@ -280,7 +318,13 @@ fn draw<F: FnMut(u64) -> Result<u64, ()> + Drop>(
     if drawn == 5 {
         return Ok(Command::Clone(unwinder));
     }
-    if drawn < 9 {
+    if drawn == 6 {
+        return Ok(Command::RemoveUnwinder(unwinder));
+    }
+    if drawn == 7 {
+        return Ok(Command::RemoveCache(cache));
+    }
+    if drawn < 10 {
         return Ok(Command::NewWalk(pc, regs));
     }
     if drawn < 20 {
@@ -367,12 +411,23 @@ fn script<F: FnMut(u64) -> Result<u64, ()> + Copy>(
     let mut commands = VecDeque::new(alloc);
     let mut wanted = Vec::new(alloc);
     for _ in 0..count {
-        let command = draw(alloc, &mut state, read_stack)?;
+        let made = (alone.unwinders.len(), alone.caches.len());
+        let command = draw(alloc, &mut state, made, read_stack)?;
         let answer = alone.answer(alloc, &command)?;
         wanted.push(answer)?;
         commands.push_back(command)?;
     }
     Ok((commands, wanted))
+}
+
+// Which of the first unwinders there are.
+fn unwinders_of(session: &Session<Toy>) -> [bool; 3] {
+    [0, 1, 2].map(|number| session.has_unwinder(UnwinderId::numbered(number)))
+}
+
+// Which of the first caches there are.
+fn caches_of(session: &Session<Toy>) -> [bool; 3] {
+    [0, 1, 2].map(|number| session.has_cache(CacheId::numbered(number)))
 }
 
 /// A new unwinder, a new cache, a load, a clone and a step. Where memory is refused for one of them, as
@@ -388,14 +443,15 @@ fn refused_commands_do_nothing(rt: HostRuntime) -> Result<(), Fail> {
         let mut shown = REFUSED;
         for _ in 0..2 {
             if shown == REFUSED {
-                let unwinders = session.unwinders();
-                let caches = session.caches();
+                let unwinders = unwinders_of(&session);
+                let caches = caches_of(&session);
                 let read_stack = |at: u64| word_at(at);
                 if let Ok(answer) = answer_of(alloc, &mut session, number, &there, read_stack) {
                     shown = answer;
                 }
                 if shown == REFUSED {
-                    assert!(rt; (session.unwinders(), session.caches()) == (unwinders, caches));
+                    assert!(rt; unwinders_of(&session) == unwinders);
+                    assert!(rt; caches_of(&session) == caches);
                 }
             }
         }
@@ -419,11 +475,9 @@ fn each_cache_counts_its_own_look_ups(rt: HostRuntime) -> Result<(), Fail> {
             return Err(Fail::new("OutOfMemory"));
         }
     }
-    assert!(rt; session.caches() == 2);
-    if session.caches() == 2 {
-        assert!(rt; counts(session.stats(0)) == (1, 1, 0, 0));
-        assert!(rt; counts(session.stats(1)) == (1, 2, 1, 0));
-    }
+    assert!(rt; counts(session.stats(CacheId::numbered(0))?) == (1, 1, 0, 0));
+    assert!(rt; counts(session.stats(CacheId::numbered(1))?) == (1, 2, 1, 0));
+    assert!(rt; session.stats(CacheId::numbered(2)) == Err(StaleId));
     Ok(())
 }
 

@@ -5,6 +5,8 @@
 #[cfg(test)]
 mod commands;
 #[cfg(test)]
+mod removals;
+#[cfg(test)]
 mod sections;
 #[cfg(test)]
 mod sessions;

@@ -5,8 +5,8 @@ use framehop_registers::x86_64::UnwindRegsX86_64;
 use framehop_rules::SlotCount;
 use framehop_rules::x86_64::ArchX86_64;
 use framehop_unwinder::{
-    Error, FrameAddress, Generations, GenerationsExhausted, LoadError, Session, Unwinder,
-    UnwinderInternal,
+    CacheId, Error, FrameAddress, Generations, GenerationsExhausted, LoadError, Session, StaleId,
+    Unwinder, UnwinderId, UnwinderInternal,
 };
 use std::alloc::Global;
 use std::process::Abort;
@@ -59,8 +59,8 @@ enum Turn {
     First(usize, u64, Stepped),
     /// The same from a later frame.
     Later(usize, u64, Stepped),
-    /// How many unwinders there are.
-    Unwinders(usize),
+    /// Whether there is an unwinder.
+    Has(usize, bool),
 }
 
 // What a walk from the second frame's function writes, over the first so many words.
@@ -92,7 +92,6 @@ fn written(alloc: Global, session: &mut Session<Toy>, order: Order) -> Result<Wr
         Order::Unload(unwinder, start) => Ok(unload(session, alloc, unwinder, start)?),
         Order::Clone => Ok(clone_unwinder(session, alloc, 0)?),
         Order::Walk(limit, words) => walk_over(alloc, session, limit, words),
-        Order::Stats if session.caches() == 0 => Err(Fail::new("no cache")),
         Order::Stats => Ok(stats(session, alloc, 0)?),
     }
 }
@@ -115,13 +114,13 @@ fn steps(
     address: FrameAddress,
     stepped: Stepped,
 ) -> bool {
-    if unwinder >= session.unwinders() || session.caches() == 0 {
-        return false;
-    }
     let mut regs = UnwindRegsX86_64::new(address.address(), 0x10, 0x20);
     let mut read_stack = |at: u64| word_at(at);
-    let answer = session.step(unwinder, 0, address, &mut regs, &mut read_stack);
-    (answer, regs.sp(), regs.bp()) == stepped
+    let (unwinder, cache) = (UnwinderId::numbered(unwinder), CacheId::numbered(0));
+    match session.step(unwinder, cache, address, &mut regs, &mut read_stack) {
+        Ok(answer) => (answer, regs.sp(), regs.bp()) == stepped,
+        Err(StaleId) => false,
+    }
 }
 
 // Takes a turn, and answers whether it is answered as it has to be.
@@ -136,7 +135,9 @@ fn is_answered(alloc: Global, session: &mut Session<Toy>, turn: Turn) -> Result<
             let frame = FrameAddress::from_return_address(address).ok_or("a frame")?;
             Ok(steps(session, unwinder, frame, stepped))
         }
-        Turn::Unwinders(count) => Ok(session.unwinders() == count),
+        Turn::Has(unwinder, is_there) => {
+            Ok(session.has_unwinder(UnwinderId::numbered(unwinder)) == is_there)
+        }
     }
 }
 
@@ -228,11 +229,12 @@ static REFUSED_WITHOUT_A_NUMBER: [Turn; 4] = [
 ];
 
 /// What takes none isn't: an unload that finds nothing, and a clone.
-static DONE_WITHOUT_A_NUMBER: [Turn; 4] = [
+static DONE_WITHOUT_A_NUMBER: [Turn; 5] = [
     Turn::Does(Order::Load(0x102000, 0x1002, Said::StubRule)),
     Turn::Does(Order::Unload(0, 0x100001)),
     Turn::Does(Order::Clone),
-    Turn::Unwinders(2),
+    Turn::Has(1, true),
+    Turn::Has(2, false),
 ];
 
 /// The same step twice: the second finds the rule that the first kept.

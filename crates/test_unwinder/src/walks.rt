@@ -54,8 +54,8 @@ fn walks_to_the_end(rt: HostRuntime) -> Result<(), Fail> {
 fn walks_by_moves_of_a_session(rt: HostRuntime) -> Result<(), Fail> {
     let alloc = rt.alloc();
     let mut session: Session<Tables<ArchX86_64>> = Session::new(alloc, Generations::new());
-    added(session.add_unwinder(alloc))?;
-    session.add_cache(alloc, ())?;
+    let unwinder = added(session.add_unwinder(alloc))?;
+    let cache = session.add_cache(alloc, ())?;
     let mut walk = StackWalk::new(0x101000, UnwindRegsX86_64::new(0x101000, 0x10, 0x20));
     let mut read_stack = |at: u64| word_at(at);
     for (frame, sp) in [
@@ -65,11 +65,9 @@ fn walks_by_moves_of_a_session(rt: HostRuntime) -> Result<(), Fail> {
         (None, 0x50),
         (None, 0x50),
     ] {
-        if session.unwinders() == 1 && session.caches() == 1 {
-            let answer = session.next_frame(0, 0, &mut walk, &mut read_stack);
-            assert!(rt; answer == Ok(frame));
-            assert!(rt; walk.regs().sp() == sp);
-        }
+        let answer = session.next_frame(unwinder, cache, &mut walk, &mut read_stack)?;
+        assert!(rt; answer == Ok(frame));
+        assert!(rt; walk.regs().sp() == sp);
     }
     let mut walk = StackWalk::new(0x101000, UnwindRegsX86_64::new(0x101000, 0x10, 0x1000));
     for answer in [
@@ -77,9 +75,7 @@ fn walks_by_moves_of_a_session(rt: HostRuntime) -> Result<(), Fail> {
         Err(Error::CouldNotReadStack(0x1000)),
         Err(Error::CouldNotReadStack(0x1000)),
     ] {
-        if session.unwinders() == 1 && session.caches() == 1 {
-            assert!(rt; session.next_frame(0, 0, &mut walk, &mut read_stack) == answer);
-        }
+        assert!(rt; session.next_frame(unwinder, cache, &mut walk, &mut read_stack)? == answer);
     }
     Ok(())
 }

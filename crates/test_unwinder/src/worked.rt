@@ -1,6 +1,8 @@
 //! A worked stack, modules that say one thing, and what a cache counted.
 use crate::tables::{Row, Said};
-use framehop_unwinder::{AddUnwinderError, CacheStats, FrameAddress, LoadError, Module};
+use framehop_unwinder::{
+    AddUnwinderError, CacheStats, FrameAddress, LoadError, Module, UnwinderId,
+};
 use std::alloc::Global;
 use std::test::Fail;
 
@@ -60,9 +62,9 @@ pub fn loaded<M: Drop>(answer: Result<(), LoadError<M>>) -> Result<(), Fail> {
 }
 
 /// A new unwinder that has to be made, unless memory is refused.
-pub fn added(answer: Result<(), AddUnwinderError>) -> Result<(), Fail> {
+pub fn added(answer: Result<UnwinderId, AddUnwinderError>) -> Result<UnwinderId, Fail> {
     match answer {
-        Ok(()) => Ok(()),
+        Ok(unwinder) => Ok(unwinder),
         Err(AddUnwinderError::OutOfMemory) => Err(Fail::new("OutOfMemory")),
         Err(AddUnwinderError::GenerationsExhausted) => Err(Fail::new("GenerationsExhausted")),
     }

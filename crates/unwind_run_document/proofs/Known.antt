@@ -20,6 +20,7 @@ use Rattle.unwind_run_document.specs.Loads.{loading_of, unloading_of, load_names
 use Rattle.unwind_run_document.specs.Lookups.{road_steps_of, roads_names, tables_in, roads_in}
 use Rattle.unwind_run_document.specs.Made.{Made, made_number, one_number, number_below, made_after}
 use Rattle.unwind_run_document.specs.Registers.{registers_in}
+use Rattle.unwind_run_document.specs.Options.{options_in}
 use Rattle.unwind_run_document.specs.Sections.{sections_in, segments_in}
 use Rattle.unwind_run_document.specs.Sound.{IsSoundTask, IsSoundStep, IsSoundWalk, AreSoundRoads, AreSound}
 use Rattle.unwind_run_document.specs.Stacks.{words_in, stack_names, stack_at, stack_in}
@@ -83,12 +84,13 @@ five_ok f a b c d e y is =
     )
 
 -- the first field of a load gave a value, and the load has it
-eight_ok : {B C D E F G H I : Type 0} (f : ℕ → B → C → D → E → F → G → H → I) (first : I → ℕ)
-    → ((u : ℕ) (b : B) (c : C) (d : D) (e : E) (x : F) (g : G) (h : H) → first (f u b c d e x g h) ≡ u)
-    → (u : Checked ℕ) (b : Checked B) (c : Checked C) (d : Checked D) (e : Checked E) (x : Checked F) (g : Checked G) (h : Checked H) (y : I)
-    → Ok f ⊛ u ⊛ b ⊛ c ⊛ d ⊛ e ⊛ x ⊛ g ⊛ h ≡ Ok y → u ≡ Ok (first y)
-eight_ok f first has u b c d e x g h y is =
-    let l8 = last_ok (Ok f ⊛ u ⊛ b ⊛ c ⊛ d ⊛ e ⊛ x ⊛ g) h y is in
+nine_ok : {B C D E F G H I J : Type 0} (f : ℕ → B → C → D → E → F → G → H → I → J) (first : J → ℕ)
+    → ((u : ℕ) (b : B) (c : C) (d : D) (e : E) (x : F) (g : G) (h : H) (i : I) → first (f u b c d e x g h i) ≡ u)
+    → (u : Checked ℕ) (b : Checked B) (c : Checked C) (d : Checked D) (e : Checked E) (x : Checked F) (g : Checked G) (h : Checked H) (i : Checked I) (y : J)
+    → Ok f ⊛ u ⊛ b ⊛ c ⊛ d ⊛ e ⊛ x ⊛ g ⊛ h ⊛ i ≡ Ok y → u ≡ Ok (first y)
+nine_ok f first has u b c d e x g h i y is =
+    let l9 = last_ok (Ok f ⊛ u ⊛ b ⊛ c ⊛ d ⊛ e ⊛ x ⊛ g ⊛ h) i y is in
+    let l8 = last_ok (Ok f ⊛ u ⊛ b ⊛ c ⊛ d ⊛ e ⊛ x ⊛ g) h l9.0 l9.2 in
     let l7 = last_ok (Ok f ⊛ u ⊛ b ⊛ c ⊛ d ⊛ e ⊛ x) g l8.0 l8.2 in
     let l6 = last_ok (Ok f ⊛ u ⊛ b ⊛ c ⊛ d ⊛ e) x l7.0 l7.2 in
     let l5 = last_ok (Ok f ⊛ u ⊛ b ⊛ c ⊛ d) e l6.0 l6.2 in
@@ -96,10 +98,10 @@ eight_ok f first has u b c d e x g h y is =
     let l3 = last_ok (Ok f ⊛ u ⊛ b) c l4.0 l4.2 in
     let l2 = last_ok (Ok f ⊛ u) b l3.0 l3.2 in
     let l1 = last_ok (Ok f) u l2.0 l2.2 in
-    let made : y ≡ f l1.1 l2.1 l3.1 l4.1 l5.1 l6.1 l7.1 l8.1 =
-    l8.4 ∙ ap (λ k. k l8.1) (l7.4 ∙ ap (λ k. k l7.1) (l6.4 ∙ ap (λ k. k l6.1) (l5.4 ∙ ap (λ k. k l5.1) (l4.4 ∙ ap (λ k. k l4.1) (l3.4 ∙ ap (λ k. k l3.1)
-    (l2.4 ∙ ap (λ k. k l2.1) (l1.4 ∙ ap (λ k. k l1.1) (sym (ok_is f l1.0 l1.2))))))))) in
-    l1.3 ∙ ap (λ n. Ok n) (sym (ap first made ∙ has l1.1 l2.1 l3.1 l4.1 l5.1 l6.1 l7.1 l8.1))
+    let made : y ≡ f l1.1 l2.1 l3.1 l4.1 l5.1 l6.1 l7.1 l8.1 l9.1 =
+    l9.4 ∙ ap (λ k. k l9.1) (l8.4 ∙ ap (λ k. k l8.1) (l7.4 ∙ ap (λ k. k l7.1) (l6.4 ∙ ap (λ k. k l6.1) (l5.4 ∙ ap (λ k. k l5.1) (l4.4 ∙ ap (λ k. k l4.1) (l3.4 ∙ ap (λ k. k l3.1)
+    (l2.4 ∙ ap (λ k. k l2.1) (l1.4 ∙ ap (λ k. k l1.1) (sym (ok_is f l1.0 l1.2)))))))))) in
+    l1.3 ∙ ap (λ n. Ok n) (sym (ap first made ∙ has l1.1 l2.1 l3.1 l4.1 l5.1 l6.1 l7.1 l8.1 l9.1))
 
 -- ---- steps and loads
 
@@ -163,9 +165,9 @@ load_sound made d load is =
     let u = made_number made.unwinders (codes "unwinder") d in
     let t = test_ok (has_only load_names d) (Ok loading_of ⊛ u ⊛ field text_value (codes "name") d ⊛ field address_value (codes "start") d ⊛ field address_value (codes "end") d
     ⊛ field address_value (codes "base") d ⊛ field address_value (codes "base_svma") d ⊛ field sections_in (codes "sections") d
-    ⊛ segments_in (get (codes "segments") d)) BadCommand load is in
-    let known : u ≡ Ok load.unwinder = eight_ok loading_of (λ l. l.unwinder) (λ u n s e b v ss gs. refl) u (field text_value (codes "name") d) (field address_value (codes "start") d) (field address_value (codes "end") d)
-    (field address_value (codes "base") d) (field address_value (codes "base_svma") d) (field sections_in (codes "sections") d) (segments_in (get (codes "segments") d)) load t.1 in
+    ⊛ segments_in (get (codes "segments") d) ⊛ options_in d) BadCommand load is in
+    let known : u ≡ Ok load.unwinder = nine_ok loading_of (λ l. l.unwinder) (λ u n s e b v ss gs o. refl) u (field text_value (codes "name") d) (field address_value (codes "start") d) (field address_value (codes "end") d)
+    (field address_value (codes "base") d) (field address_value (codes "base_svma") d) (field sections_in (codes "sections") d) (segments_in (get (codes "segments") d)) (options_in d) load t.1 in
     number_known made.unwinders (field number_value (codes "unwinder") d) load.unwinder known
 
 -- the fields of an unload gave values, and the unload has its unwinder

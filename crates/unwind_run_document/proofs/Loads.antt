@@ -1,6 +1,7 @@
 -- The fields of a load, of an unload and of a section.
 use Rattle.std.proofs.Common.{◌≡◌, ℕ, List, Option, option_map, Ok, String, Vec, Global, string_bytes}
 use Rattle.unwind_run_document.specs.declared.command.AddressRange.{AddressRange}
+use Rattle.unwind_run_document.specs.declared.command.StatedOptions.{StatedOptions}
 use Rattle.unwind_run_document.specs.declared.command.StatedSection.{StatedSection as Section}
 use Rattle.json_program.specs.Faults.{Checked, ◌⊛◌, both}
 use Rattle.unwind_run_document.specs.Loads.{loading_of, unloading_of}
@@ -52,19 +53,24 @@ Six = Five × Vec Section Global
 abbrev pub Seven : Type 0
 Seven = Six × Vec Section Global
 
--- the load that the eight fields make
-abbrev pub loaded : Seven → Loading
-loaded p =
-    loading_of p.0.0.0.0.0.0.0 (string_bytes p.0.0.0.0.0.0.1) p.0.0.0.0.0.1 p.0.0.0.0.1 p.0.0.0.1 p.0.0.1 (sections_view p.0.1.items) (sections_view p.1.items)
+abbrev pub Eight : Type 0
+Eight = Seven × StatedOptions
 
-pub eight_fields : (u : Checked ℕ) (n : Checked Text) (s e b v : Checked ℕ) (ss gs : Checked (Vec Section Global))
-    (one : Checked One) (two : Checked Two) (three : Checked Three) (four : Checked Four) (five : Checked Five) (six : Checked Six) (seven : Checked Seven)
-    (U : Checked ℕ) (N : Checked (List ℕ)) (S E B V : Checked ℕ) (SS GS : Checked (List StatedSection))
-    → u ≡ U → result_map string_bytes n ≡ N → s ≡ S → e ≡ E → b ≡ B → v ≡ V → result_map (λ x. sections_view x.items) ss ≡ SS → result_map (λ x. sections_view x.items) gs ≡ GS
-    → one ≡ both u n → two ≡ both one s → three ≡ both two e → four ≡ both three b → five ≡ both four v → six ≡ both five ss → seven ≡ both six gs
-    → result_map loaded seven ≡ Ok loading_of ⊛ U ⊛ N ⊛ S ⊛ E ⊛ B ⊛ V ⊛ SS ⊛ GS
-eight_fields u n s e b v ss gs one two three four five six seven U N S E B V SS GS u_is n_is s_is e_is b_is v_is ss_is gs_is one_is two_is three_is four_is five_is six_is seven_is =
-    and-field (λ p. loading_of p.0.0.0.0.0.0 (string_bytes p.0.0.0.0.0.1) p.0.0.0.0.1 p.0.0.0.1 p.0.0.1 p.0.1 (sections_view p.1.items)) (λ x. sections_view x.items) six gs seven _ GS
+-- the load that the eight fields make with the options
+abbrev pub loaded : Eight → Loading
+loaded p =
+    loading_of p.0.0.0.0.0.0.0.0 (string_bytes p.0.0.0.0.0.0.0.1) p.0.0.0.0.0.0.1 p.0.0.0.0.0.1 p.0.0.0.0.1 p.0.0.0.1 (sections_view p.0.0.1.items)
+    (sections_view p.0.1.items) p.1
+
+pub nine_fields : (u : Checked ℕ) (n : Checked Text) (s e b v : Checked ℕ) (ss gs : Checked (Vec Section Global)) (o : Checked StatedOptions)
+    (one : Checked One) (two : Checked Two) (three : Checked Three) (four : Checked Four) (five : Checked Five) (six : Checked Six) (seven : Checked Seven) (eight : Checked Eight)
+    (U : Checked ℕ) (N : Checked (List ℕ)) (S E B V : Checked ℕ) (SS GS : Checked (List StatedSection)) (O : Checked StatedOptions)
+    → u ≡ U → result_map string_bytes n ≡ N → s ≡ S → e ≡ E → b ≡ B → v ≡ V → result_map (λ x. sections_view x.items) ss ≡ SS → result_map (λ x. sections_view x.items) gs ≡ GS → o ≡ O
+    → one ≡ both u n → two ≡ both one s → three ≡ both two e → four ≡ both three b → five ≡ both four v → six ≡ both five ss → seven ≡ both six gs → eight ≡ both seven o
+    → result_map loaded eight ≡ Ok loading_of ⊛ U ⊛ N ⊛ S ⊛ E ⊛ B ⊛ V ⊛ SS ⊛ GS ⊛ O
+nine_fields u n s e b v ss gs o one two three four five six seven eight U N S E B V SS GS O u_is n_is s_is e_is b_is v_is ss_is gs_is o_is one_is two_is three_is four_is five_is six_is seven_is eight_is =
+    and-field (λ p. loading_of p.0.0.0.0.0.0.0 (string_bytes p.0.0.0.0.0.0.1) p.0.0.0.0.0.1 p.0.0.0.0.1 p.0.0.0.1 p.0.0.1 (sections_view p.0.1.items) (sections_view p.1.items)) (λ x. x) seven o eight _ O
+    (and-field (λ p. loading_of p.0.0.0.0.0.0 (string_bytes p.0.0.0.0.0.1) p.0.0.0.0.1 p.0.0.0.1 p.0.0.1 p.0.1 (sections_view p.1.items)) (λ x. sections_view x.items) six gs seven _ GS
     (and-field (λ p. loading_of p.0.0.0.0.0 (string_bytes p.0.0.0.0.1) p.0.0.0.1 p.0.0.1 p.0.1 p.1) (λ x. sections_view x.items) five ss six _ SS
     (and-field (λ p. loading_of p.0.0.0.0 (string_bytes p.0.0.0.1) p.0.0.1 p.0.1 p.1) (λ x. x) four v five _ V
     (and-field (λ p. loading_of p.0.0.0 (string_bytes p.0.0.1) p.0.1 p.1) (λ x. x) three b four _ B
@@ -76,7 +82,8 @@ eight_fields u n s e b v ss gs one two three four five six seven U N S E B V SS 
     (as_it_is b B b_is) four_is)
     (as_it_is v V v_is) five_is)
     ss_is six_is)
-    gs_is seven_is
+    gs_is seven_is)
+    (as_it_is o O o_is) eight_is
 
 pub unload_fields : (u s : Checked ℕ) (one : Checked (ℕ × ℕ)) (U S : Checked ℕ) → u ≡ U → s ≡ S → one ≡ both u s
     → result_map (λ p. unloading_of p.0 p.1) one ≡ Ok unloading_of ⊛ U ⊛ S

@@ -35,6 +35,7 @@ load_view l = record {
   base_svma = l.base_svma;
   sections = sections_view l.sections.items;
   segments = sections_view l.segments.items;
+  options = l.options;
 }
 
 -- a stack

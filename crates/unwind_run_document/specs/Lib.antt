@@ -5,6 +5,7 @@ pub mod Frames
 pub mod Loads
 pub mod Lookups
 pub mod Made
+pub mod Options
 pub mod Registers
 pub mod Sections
 pub mod Sound

@@ -7,17 +7,19 @@ use Rattle.json_program.specs.Faults.{Checked, ◌⊛◌}
 use Rattle.json_program.specs.Json.{text_value, address_value, field, has_only}
 use Rattle.unwind_run_document.specs.Tasks.{StatedSection, Loading, Unloading}
 use Rattle.unwind_run_document.specs.Made.{Made, made_number}
+use Rattle.unwind_run_document.specs.Options.{options_in}
 use Rattle.unwind_run_document.specs.Sections.{sections_in, segments_in}
+use Rattle.unwind_run_document.specs.declared.command.StatedOptions.{StatedOptions}
 
 -- the fields of a load
 abbrev pub load_names : List (List ℕ)
 load_names =
     codes "do" ∷ codes "unwinder" ∷ codes "name" ∷ codes "start" ∷ codes "end" ∷ codes "base" ∷ codes "base_svma"
-    ∷ codes "sections" ∷ codes "segments" ∷ []
+    ∷ codes "sections" ∷ codes "segments" ∷ codes "lookup" ∷ codes "tables" ∷ codes "debug_frame_beside" ∷ []
 
 -- the load of these parts
-abbrev pub loading_of : ℕ → List ℕ → ℕ → ℕ → ℕ → ℕ → (sections segments : List StatedSection) → Loading
-loading_of unwinder name start end base base_svma sections segments = record {
+abbrev pub loading_of : ℕ → List ℕ → ℕ → ℕ → ℕ → ℕ → (sections segments : List StatedSection) → StatedOptions → Loading
+loading_of unwinder name start end base base_svma sections segments options = record {
   unwinder = unwinder;
   name = name;
   start = start;
@@ -26,6 +28,7 @@ loading_of unwinder name start end base base_svma sections segments = record {
   base_svma = base_svma;
   sections = sections;
   segments = segments;
+  options = options;
 }
 
 -- a value that has to be a load
@@ -35,7 +38,7 @@ load_in made d =
     then Ok loading_of ⊛ made_number made.unwinders (codes "unwinder") d ⊛ field text_value (codes "name") d
     ⊛ field address_value (codes "start") d ⊛ field address_value (codes "end") d
     ⊛ field address_value (codes "base") d ⊛ field address_value (codes "base_svma") d
-    ⊛ field sections_in (codes "sections") d ⊛ segments_in (get (codes "segments") d)
+    ⊛ field sections_in (codes "sections") d ⊛ segments_in (get (codes "segments") d) ⊛ options_in d
     else Err BadCommand
 
 -- the fields of an unload

@@ -2,6 +2,7 @@
 use Rattle.std.specs.Prelude.{ℕ, List, Option}
 use Rattle.unwind_run_document.specs.declared.command.FrameKind.{FrameKind}
 use Rattle.unwind_run_document.specs.declared.command.AddressRange.{AddressRange}
+use Rattle.unwind_run_document.specs.declared.command.StatedOptions.{StatedOptions}
 use Rattle.unwind_run_document.specs.declared.registers.StatedRegisters.{StatedRegisters}
 
 -- a section or a segment of a module: its name, its range as the file states it, and its bytes
@@ -10,7 +11,8 @@ pub record StatedSection : Type 0 where
   pub range : Option AddressRange
   pub bytes : Option (List ℕ)
 
--- a module for an unwinder: its range in memory, its base there and in the file, its sections and its segments
+-- a module for an unwinder: its range in memory, its base there and in the file, its sections and its segments, and what is asked for beside
+-- these
 pub record Loading : Type 0 where
   pub unwinder : ℕ
   pub name : List ℕ
@@ -20,6 +22,7 @@ pub record Loading : Type 0 where
   pub base_svma : ℕ
   pub sections : List StatedSection
   pub segments : List StatedSection
+  pub options : StatedOptions
 
 -- the words of a stack, eight bytes each, from an address on
 pub record StackWords : Type 0 where

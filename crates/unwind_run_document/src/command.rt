@@ -65,6 +65,28 @@ pub struct LoadCommand {
     pub sections: Vec<StatedSection>,
     /// The segments, of which no two have one name.
     pub segments: Vec<StatedSection>,
+    pub options: StatedOptions,
+}
+
+/// How the FDEs of a module's section of call frames are found.
+#[derive(Clone, Copy, Debug, PartialEq, Eq)]
+pub enum StatedLookup {
+    /// By a header, if there is one and no table is asked for, and else by an index.
+    Auto,
+    /// By an index.
+    Index,
+    /// By reading the section at each step.
+    Scan,
+}
+
+/// What a load asks for beside its sections.
+#[derive(Clone, Copy, Debug, PartialEq, Eq)]
+pub struct StatedOptions {
+    pub lookup: StatedLookup,
+    /// Whether there is to be a table of the rules that the call frames say.
+    pub tables: bool,
+    /// Whether `.debug_frame` is used beside `.eh_frame`.
+    pub debug_frame_beside: bool,
 }
 
 /// A module of an unwinder, by its start.

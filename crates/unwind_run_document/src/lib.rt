@@ -5,14 +5,15 @@ mod command;
 mod document;
 mod load;
 mod made;
+mod options;
 mod registers;
 mod roads;
 mod step;
 mod walk;
 
 pub use command::{
-    AddressRange, Command, FrameKind, LoadCommand, RoadsCommand, Stack, StatedSection,
-    StatedTables, StepCommand, UnloadCommand, WalkCommand,
+    AddressRange, Command, FrameKind, LoadCommand, RoadsCommand, Stack, StatedLookup,
+    StatedOptions, StatedSection, StatedTables, StepCommand, UnloadCommand, WalkCommand,
 };
 pub use document::{Architecture, COMMAND_LIMIT, Document, Policy, WALK_LIMIT, decode};
 pub use registers::StatedRegisters;

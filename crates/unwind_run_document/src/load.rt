@@ -11,6 +11,7 @@ ghost use Rattle.unwind_run_document.specs.CommandViews.{load_view, made_view, s
 
 use crate::command::{AddressRange, LoadCommand, StatedSection, UnloadCommand};
 use crate::made::{Made, made_number};
+use crate::options::options_in;
 use json_program::check::{Checked, both, keep_fault, with_fault};
 use json_program::field::{address_field, address_in, find_field, has_only, text_field};
 use json_program::json::bytes_in;
@@ -166,6 +167,9 @@ pub(crate) fn load_in(
         "base_svma",
         "sections",
         "segments",
+        "lookup",
+        "tables",
+        "debug_frame_beside",
     ];
     if !has_only(object, &names) {
         return Err(DecodeError::Fault(FaultName::BadCommand));
@@ -180,9 +184,9 @@ pub(crate) fn load_in(
     let segments = keep_fault(segments_field(alloc, object))?;
     let front = both(both(both(unwinder, name), start), end);
     let front = both(both(both(front, base), base_svma), sections);
-    let (((((((unwinder, name), start), end), base), base_svma), sections), segments) = both(
-        front, segments,
-    )?;
+    let front = both(front, segments);
+    let ((((((((unwinder, name), start), end), base), base_svma), sections), segments), options) =
+        both(front, options_in(object))?;
     Ok(LoadCommand {
         unwinder,
         name,
@@ -192,6 +196,7 @@ pub(crate) fn load_in(
         base_svma,
         sections,
         segments,
+        options,
     })
 }
 

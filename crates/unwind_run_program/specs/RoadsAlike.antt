@@ -8,13 +8,14 @@ use Rattle.framehop.specs.Attempts.{StepLimits}
 use Rattle.framehop_index.specs.FrameSections.{eh_frame_of}
 use Rattle.framehop.specs.TruthfulLookups.{AreTruthful, HeadedSection}
 use Rattle.framehop.specs.UnwindData.{UnwindData, bases_of}
+use Rattle.framehop.specs.declared.load_options.TableArch.{TableArch}
 use Rattle.framehop_modules.specs.Chosen.{base_svmas}
 use Rattle.framehop_unwinder.specs.Attempt.{Meanings}
 use Rattle.framehop_unwinder.specs.Frames.{lookup_address}
 use Rattle.unwind_run_document.specs.Tasks.{RoadSteps, TableData}
 use Rattle.unwind_run_program.specs.Registers.{RegisterForms}
 use Rattle.unwind_run_program.specs.Roads.{headed_section, stated_section}
-use Rattle.unwind_run_program.specs.Sections.{data_stated, sections_stated}
+use Rattle.unwind_run_program.specs.Sections.{data_stated, scanning, sections_stated}
 use Rattle.unwind_run_program.specs.Text.{frame_at, road_line, road_lines}
 
 -- the addresses that pointers are relative to in a module with both tables
@@ -45,14 +46,14 @@ abbrev pub CoversStep : RoadSteps → Type 0
 CoversStep steps = Covers steps.tables (address_looked_up steps)
 
 -- the line of the step that reads the section
-abbrev pub scan_line : {Rule Registers : Type 0} → Meanings UnwindData Rule Registers → RegisterForms Registers → RoadSteps → List ℕ
-scan_line m forms steps = road_line m forms steps (data_stated.scanned steps.tables.base_svma (stated_section steps.tables ∷ []))
+abbrev pub scan_line : {Rule Registers : Type 0} → Meanings UnwindData Rule Registers → RegisterForms Registers → TableArch → RoadSteps → List ℕ
+scan_line m forms arch steps = road_line m forms steps (data_stated arch scanning steps.tables.base_svma (stated_section steps.tables ∷ []) [])
 
 -- Within any limits, each lookup writes the line of the step that reads the section.
 abbrev pub WriteAlike : {Rule Registers : Type 0} → (StepLimits → Meanings UnwindData Rule Registers) → RoadSteps → Type 0
 WriteAlike {Registers} meanings steps =
-    (limits : StepLimits) (forms : RegisterForms Registers)
-    → road_lines (meanings limits) forms data_stated steps ≡ named_alike (scan_line (meanings limits) forms steps)
+    (limits : StepLimits) (forms : RegisterForms Registers) (arch : TableArch)
+    → road_lines (meanings limits) forms (data_stated arch) steps ≡ named_alike (scan_line (meanings limits) forms arch steps)
 
 -- each step from an address that is covered so
 abbrev pub EachWritesAlike : {Rule Registers : Type 0} → (StepLimits → Meanings UnwindData Rule Registers) → Type 0

@@ -1,11 +1,19 @@
 -- The sections of a load by their names.
-use Rattle.std.specs.Prelude.{ℕ, List, [], ◌∷◌, Option, None, option_map, bytes_eq, if◌then◌else◌}
+use Rattle.std.specs.Prelude.{ℕ, Bool, false, List, [], ◌∷◌, Option, Some, None, option_map, bytes_eq, if◌then◌else◌}
 use Rattle.std.specs.Option.{option_or}
 use Rattle.std.specs.declared.ops.Range.{Range}
-use Rattle.framehop.specs.UnwindData.{UnwindData, unwind_data_of, scanned_data_of}
+use Rattle.framehop.specs.UnwindData.{UnwindData, unwind_data_with}
+use Rattle.framehop.specs.declared.load_options.FdeLookup.{FdeLookup}
+use Rattle.framehop.specs.declared.load_options.FdeLookup.TheVariants.{Auto, Index, Scan}
+use Rattle.framehop.specs.declared.load_options.LoadOptions.{LoadOptions}
+use Rattle.framehop.specs.declared.load_options.TableArch.{TableArch}
 use Rattle.framehop_modules.specs.Sections.{Sections}
 use Rattle.unwind_run_document.specs.declared.command.AddressRange.{AddressRange}
+use Rattle.unwind_run_document.specs.Options.{options_of}
 use Rattle.unwind_run_document.specs.Tasks.{StatedSection}
+use Rattle.unwind_run_document.specs.declared.command.StatedLookup.{StatedLookup}
+use Rattle.unwind_run_document.specs.declared.command.StatedLookup.TheVariants as stated
+use Rattle.unwind_run_document.specs.declared.command.StatedOptions.{StatedOptions}
 
 -- a section's range, as a range of numbers
 abbrev pub range_of : AddressRange → Range ℕ
@@ -33,15 +41,36 @@ sections_stated base_svma sections segments = record {
   segment_data = λ name. first_data_named name segments;
 }
 
--- The unwind data of sections whose stated addresses are relative to an address: of a module that is loaded, with segments too, and of
--- one whose call frame information is read by each step.
-pub record DataForms (Data : Type 0) : Type 0 where
-  pub loaded : ℕ → (sections segments : List StatedSection) → Data
-  pub scanned : ℕ → List StatedSection → Data
+-- the unwind data of sections and segments whose stated addresses are relative to an address, by what is asked for beside them
+abbrev pub DataForms : Type 0 → Type 0
+DataForms Data = StatedOptions → (base_svma : ℕ) → (sections segments : List StatedSection) → Data
 
--- the unwind data of sections by their names
-abbrev pub data_stated : DataForms UnwindData
-data_stated = record {
-  loaded = λ base_svma sections segments. unwind_data_of (sections_stated base_svma sections segments);
-  scanned = λ base_svma sections. scanned_data_of (sections_stated base_svma sections []);
+-- how the FDEs are found
+abbrev pub lookup_of : StatedLookup → FdeLookup
+lookup_of stated.Auto = Auto
+lookup_of stated.Index = Index
+lookup_of stated.Scan = Scan
+
+-- the architecture of a table, if one is asked for
+abbrev pub tables_on : TableArch → Bool → Option TableArch
+tables_on arch asked = if asked then Some arch else None
+
+-- what is asked for, with a table on an architecture if one is
+abbrev pub options_on : TableArch → StatedOptions → LoadOptions
+options_on arch options = record {
+  lookup = lookup_of options.lookup;
+  tables = tables_on arch options.tables;
+  debug_frame_beside = options.debug_frame_beside;
 }
+
+-- the unwind data of sections by their names, on an architecture
+abbrev pub data_stated : TableArch → DataForms UnwindData
+data_stated arch options base_svma sections segments = unwind_data_with (options_on arch options) (sections_stated base_svma sections segments)
+
+-- nothing is asked for
+abbrev pub plain : StatedOptions
+plain = options_of stated.Auto false false
+
+-- each step is to scan the section of call frames
+abbrev pub scanning : StatedOptions
+scanning = options_of stated.Scan false false

@@ -1,6 +1,6 @@
 -- What a run writes for a document: the lines of each step, walk and count and of the steps by each lookup, or the line of the
 -- document's first fault.
-use Rattle.std.specs.Prelude.{ℕ, Bool, ◌-◌, ◌/◌, ◌%◌, List, [], ◌∷◌, ◌++◌, ◌&&◌, length, codes, None, Result, Ok, Err, slice_get, ◌==◌, nat_le, if◌then◌else◌}
+use Rattle.std.specs.Prelude.{ℕ, Bool, ◌-◌, ◌/◌, ◌%◌, List, [], ◌∷◌, ◌++◌, ◌&&◌, codes, None, Result, Ok, Err, slice_get, ◌==◌, nat_le, if◌then◌else◌}
 use Rattle.json_program.specs.Faults.{fault_line}
 use Rattle.json_program.specs.Lines.{line}
 use Rattle.json_program.specs.declared.fault.Fault.{Fault}
@@ -11,11 +11,12 @@ use Rattle.framehop_unwinder.specs.Attempt.{Meanings}
 use Rattle.framehop.specs.Attempts.{StepLimits}
 use Rattle.framehop.specs.StepMeanings.{limits_may_allocate, limits_must_not_allocate, meanings_aarch64, meanings_x86_64}
 use Rattle.framehop.specs.UnwindData.{UnwindData}
-use Rattle.unwind_run_program.specs.Sections.{DataForms, data_stated}
+use Rattle.framehop.specs.declared.load_options.TableArch.{TableArch}
+use Rattle.framehop.specs.declared.load_options.TableArch.TheVariants as tables
+use Rattle.unwind_run_program.specs.Sections.{DataForms, data_stated, plain, scanning}
 use Rattle.framehop_unwinder.specs.Frames.{Frame, first_frame, later_frame}
 use Rattle.framehop_unwinder.specs.Judge.{judge}
 use Rattle.framehop_unwinder.specs.Modules.{Loaded}
-use Rattle.framehop_unwinder.specs.State.{SessionState}
 use Rattle.framehop_histories.specs.Commands.{NewUnwinder, NewCache, Clone, Load, Unload, Step}
 use Rattle.unwind_run_document.specs.declared.command.FrameKind.{FrameKind}
 use Rattle.unwind_run_document.specs.declared.command.FrameKind.TheVariants.{Ip, Ra}
@@ -24,7 +25,6 @@ use Rattle.unwind_run_document.specs.declared.document.Architecture.TheVariants 
 use Rattle.unwind_run_document.specs.declared.document.Policy.{Policy}
 use Rattle.unwind_run_document.specs.declared.document.Policy.TheVariants.{May, Must}
 use Rattle.unwind_run_document.specs.declared.registers.StatedRegisters.{StatedRegisters}
-use Rattle.unwind_run_document.specs.Made.{Made}
 use Rattle.unwind_run_document.specs.Tasks.{StackWords, Loading, RoadSteps, Task, make_unwinder, make_cache, clone_unwinder, load_module, unload_module, take_step, take_walk, show_counts, take_roads}
 use Rattle.unwind_run_document.specs.Document.{Content, content_of}
 use Rattle.unwind_run_program.specs.Lines.{outcome_line, step_line}
@@ -56,7 +56,7 @@ loaded_by data_of l = record {
   start = l.start;
   end = l.end;
   base = l.base;
-  unwind_data = data_of.loaded l.base_svma l.sections l.segments;
+  unwind_data = data_of l.options l.base_svma l.sections l.segments;
 }
 
 -- the line of a step over modules, from a frame with stated registers and a stated stack
@@ -76,9 +76,9 @@ abbrev pub road_lines : {Data Rule Registers : Type 0} → Meanings Data Rule Re
 road_lines m forms data_of r =
     let base = r.tables.base_svma in
     let section = stated_section r.tables in
-    codes "header " ++ road_line m forms r (data_of.loaded base (section ∷ stated_header r.tables ∷ []) [])
-    ++ codes "index " ++ road_line m forms r (data_of.loaded base (section ∷ []) [])
-    ++ codes "scan " ++ road_line m forms r (data_of.scanned base (section ∷ []))
+    codes "header " ++ road_line m forms r (data_of plain base (section ∷ stated_header r.tables ∷ []) [])
+    ++ codes "index " ++ road_line m forms r (data_of plain base (section ∷ []) [])
+    ++ codes "scan " ++ road_line m forms r (data_of scanning base (section ∷ []) [])
 
 -- the output of a command, whose steps have the lines of an architecture
 abbrev pub output_of : {Data Rule Registers : Type 0} → Meanings Data Rule Registers → RegisterForms Registers → DataForms Data → SessionModel Data → Task
@@ -105,19 +105,15 @@ lines_of m forms data_of model (task ∷ tasks) =
     (output_of m forms data_of model task).text
     ++ (if (output_of m forms data_of model task).is_refused then [] else lines_of m forms data_of (output_of m forms data_of model task).model tasks)
 
--- how many unwinders and caches a session has
-abbrev pub made_in : {Data Rule : Type 0} → SessionState Data Rule → Made
-made_in state = record { unwinders = length state.unwinders; caches = length state.caches }
-
 -- the lines of commands by what steps go by within limits, from a generation on
-abbrev pub lines_under : {Rule Registers : Type 0} → (StepLimits → Meanings UnwindData Rule Registers) → RegisterForms Registers
+abbrev pub lines_under : {Rule Registers : Type 0} → (StepLimits → Meanings UnwindData Rule Registers) → RegisterForms Registers → TableArch
     → StepLimits → ℕ → List Task → List ℕ
-lines_under meanings forms limits generation tasks = lines_of (meanings limits) forms data_stated (beginning generation) tasks
+lines_under meanings forms arch limits generation tasks = lines_of (meanings limits) forms (data_stated arch) (beginning generation) tasks
 
 -- the lines of commands on an architecture, from a generation on
 abbrev pub lines_on : Architecture → StepLimits → ℕ → List Task → List ℕ
-lines_on arch.X86_64 limits generation tasks = lines_under meanings_x86_64 forms_x86_64 limits generation tasks
-lines_on arch.Aarch64 limits generation tasks = lines_under meanings_aarch64 forms_aarch64 limits generation tasks
+lines_on arch.X86_64 limits generation tasks = lines_under meanings_x86_64 forms_x86_64 tables.X86_64 limits generation tasks
+lines_on arch.Aarch64 limits generation tasks = lines_under meanings_aarch64 forms_aarch64 tables.Aarch64 limits generation tasks
 
 -- the lines of a document's commands: its policy sets the limits, its counter begins with its generation
 abbrev pub content_lines : Content → List ℕ

@@ -1,14 +1,13 @@
 //! What each command of a document does in a session.
 
-ghost use Rattle.std.specs.Prelude.{◌≡◌, ◌≢◌, ◌<◌, IfOk, length, string_bytes};
+ghost use Rattle.std.specs.Prelude.{◌≡◌, ◌≢◌, IfOk, string_bytes};
 ghost use Rattle.framehop_registers.specs.Callback.{read_answer};
 ghost use Rattle.framehop_unwinder.specs.Frames.{frame_of};
-ghost use Rattle.unwind_run_document.specs.Sound.{IsSoundTask};
 ghost use Rattle.unwind_run_program.specs.Registers.{RegisterForms};
 ghost use Rattle.unwind_run_program.specs.Sections.{DataForms};
 ghost use Rattle.unwind_run_document.specs.CommandViews.{sections_view, task_of, words_view};
-ghost use Rattle.unwind_run_program.specs.TaskViews.{CarriesOut};
-ghost use Rattle.unwind_run_program.specs.Text.{frame_at, made_in, words_of};
+ghost use Rattle.unwind_run_program.specs.TaskViews.{CarriesOut, IsSound};
+ghost use Rattle.unwind_run_program.specs.Text.{frame_at, words_of};
 ghost use Rattle.unwind_run_document.specs.declared.command.FrameKind.TheVariants.{Ra};
 
 use crate::lines::step_line;
@@ -19,8 +18,8 @@ use framehop_rules::FrameAddress;
 use framehop_unwinder::{Module, ModuleUnwinding, Session};
 use std::alloc::{AllocError, Global};
 use unwind_run_document::{
-    Command, FrameKind, LoadCommand, RoadsCommand, Stack, StatedRegisters, StatedSection,
-    StepCommand, WalkCommand,
+    Command, FrameKind, LoadCommand, RoadsCommand, Stack, StatedOptions, StatedRegisters,
+    StatedSection, StepCommand, WalkCommand,
 };
 use unwind_run_session as commands;
 use unwind_run_session::{LimitedWalk, Written};
@@ -31,19 +30,16 @@ pub(crate) trait DocumentModules: ModuleUnwinding {
 
     ghost data_of: { DataForms Self.UnwindData };
 
-    /// The unwind data of sections and segments, whose stated addresses are relative to an address.
+    /// The unwind data of sections and segments, whose stated addresses are relative to an address, with what is asked for beside.
     fn unwind_data(
         alloc: Global,
+        options: StatedOptions,
         base_svma: u64,
         sections: Vec<StatedSection>,
         segments: Vec<StatedSection>,
     ) -> Result<Self::UnwindData, AllocError>
-        ensures { IfOk result (λ given. given ≡ data_of.loaded base_svma
+        ensures { IfOk result (λ given. given ≡ data_of options base_svma
             (sections_view sections.items) (sections_view segments.items)) };
-
-    /// The same of sections alone, if each step scans the section of call frames.
-    fn scanned_data(alloc: Global, base_svma: u64, sections: Vec<StatedSection>) -> Self::UnwindData
-        ensures { result ≡ data_of.scanned base_svma (sections_view sections.items) };
 
     /// The registers that are stated.
     fn stated_registers(stated: StatedRegisters) -> Self::UnwindRegs
@@ -63,7 +59,7 @@ pub(crate) fn perform<A: DocumentModules>(
     alloc: Global,
     command: Command,
 ) -> Result<Written, AllocError>
-    requires { IsSoundTask (made_in session.old) (task_of command) }
+    requires { IsSound (task_of command) }
     ensures { CarriesOut A.meanings A.forms A.data_of (task_of command)
         session.old session.new result }
 {
@@ -88,11 +84,11 @@ fn load_module<A: DocumentModules>(
     alloc: Global,
     load: LoadCommand,
 ) -> Result<Written, AllocError>
-    requires { load.unwinder < length session.old.unwinders }
     ensures { CarriesOut A.meanings A.forms A.data_of (task_of (Command.Load load))
         session.old session.new result }
 {
-    let unwind_data = A::unwind_data(alloc, load.base_svma, load.sections, load.segments)?;
+    let (options, base_svma) = (load.options, load.base_svma);
+    let unwind_data = A::unwind_data(alloc, options, base_svma, load.sections, load.segments)?;
     let range = load.start..load.end;
     let module = Module::new(alloc, load.name, range, load.base, unwind_data)?;
     commands::load(session, alloc, load.unwinder, module)
@@ -104,7 +100,7 @@ fn take_step<A: DocumentModules>(
     alloc: Global,
     step: &StepCommand,
 ) -> Result<Written, AllocError>
-    requires { IsSoundTask (made_in session.old) (task_of (Command.Step step.now)) }
+    requires { IsSound (task_of (Command.Step step.now)) }
     ensures { CarriesOut A.meanings A.forms A.data_of (task_of (Command.Step step.now))
         session.old session.new result }
 {
@@ -130,7 +126,7 @@ fn take_walk<A: DocumentModules>(
     alloc: Global,
     walk: &WalkCommand,
 ) -> Result<Written, AllocError>
-    requires { IsSoundTask (made_in session.old) (task_of (Command.Walk walk.now)) }
+    requires { IsSound (task_of (Command.Walk walk.now)) }
     ensures { CarriesOut A.meanings A.forms A.data_of (task_of (Command.Walk walk.now))
         session.old session.new result }
 {
@@ -155,7 +151,7 @@ fn take_roads<A: DocumentModules>(
     alloc: Global,
     roads: &RoadsCommand,
 ) -> Result<Written, AllocError>
-    requires { IsSoundTask (made_in session.old) (task_of (Command.Roads roads.now)) }
+    requires { IsSound (task_of (Command.Roads roads.now)) }
     ensures { CarriesOut A.meanings A.forms A.data_of (task_of (Command.Roads roads.now))
         session.old session.new result }
 {

@@ -12,8 +12,24 @@ use crate::perform::{DocumentModules, frame_address, word_at};
 use framehop_unwinder::Module;
 use std::alloc::{AllocError, Global};
 use std::fmt;
-use unwind_run_document::{AddressRange, RoadsCommand, StatedSection, StatedTables};
+use unwind_run_document::{
+    AddressRange, RoadsCommand, StatedLookup, StatedOptions, StatedSection, StatedTables,
+};
 use unwind_run_session::step_alone;
+
+/// Nothing is asked for.
+const PLAIN: StatedOptions = StatedOptions {
+    lookup: StatedLookup::Auto,
+    tables: false,
+    debug_frame_beside: false,
+};
+
+/// Each step is to scan the section of call frames.
+const SCANNING: StatedOptions = StatedOptions {
+    lookup: StatedLookup::Scan,
+    tables: false,
+    debug_frame_beside: false,
+};
 
 /// The length of the module, if the addresses after its start are that many.
 const MODULE_LENGTH: u64 = 1 << 32;
@@ -125,12 +141,13 @@ pub(crate) fn road_lines<A: DocumentModules>(
     let tables = &roads.tables;
     let base_svma = tables.base_svma;
     let with_header = section_with_header(alloc, tables)?;
-    let headed = A::unwind_data(alloc, base_svma, with_header, Vec::new(alloc))?;
+    let headed = A::unwind_data(alloc, PLAIN, base_svma, with_header, Vec::new(alloc))?;
     let header = road_line::<A>(alloc, roads, headed)?;
     let alone = section_alone(alloc, tables)?;
-    let indexed = A::unwind_data(alloc, base_svma, alone, Vec::new(alloc))?;
+    let indexed = A::unwind_data(alloc, PLAIN, base_svma, alone, Vec::new(alloc))?;
     let index = road_line::<A>(alloc, roads, indexed)?;
-    let scanned = A::scanned_data(alloc, base_svma, section_alone(alloc, tables)?);
+    let again = section_alone(alloc, tables)?;
+    let scanned = A::unwind_data(alloc, SCANNING, base_svma, again, Vec::new(alloc))?;
     let scan = road_line::<A>(alloc, roads, scanned)?;
     let lines = NamedLines {
         header: header.as_str(),

@@ -4,16 +4,19 @@ ghost use Rattle.std.specs.Prelude.{◌≡◌, ◌<◌, None, IsSome, IfSome, If
 ghost use Rattle.std.specs.List.{slice_index_or};
 ghost use Rattle.unwind_run_document.specs.CommandViews.{section_view, sections_view};
 ghost use Rattle.unwind_run_program.specs.SectionViews.{HasFirstData};
-ghost use Rattle.unwind_run_program.specs.Sections.{first_data_named, stated_range_named};
+ghost use Rattle.unwind_run_program.specs.Sections.{first_data_named, lookup_of, options_on, stated_range_named, tables_on};
 ghost use Rattle.unwind_run_document.specs.declared.command.StatedSection.{StatedSection as Stated};
 
 use crate::arch::DocumentArch;
 use crate::perform::DocumentModules;
-use framehop::{AllocationPolicy, BySections, DwarfUnwindContext, ModuleUnwindData};
+use framehop::{
+    AllocationPolicy, BySections, DwarfUnwindContext, FdeLookup, LoadOptions, ModuleUnwindData,
+    TableArch, Tabulating,
+};
 use framehop_modules::ModuleSectionInfo;
 use std::alloc::{AllocError, Global};
 use std::ops::Range;
-use unwind_run_document::{StatedRegisters, StatedSection};
+use unwind_run_document::{StatedLookup, StatedOptions, StatedRegisters, StatedSection};
 
 /// The sections and segments of a load, whose stated addresses are relative to an address.
 #[derive(Debug, Drop)]
@@ -104,29 +107,49 @@ impl ModuleSectionInfo<Vec<u8>> for StatedSections {
     }
 }
 
+// How the FDEs are found.
+fn lookup_of(stated: StatedLookup) -> FdeLookup
+    ensures { result ≡ lookup_of stated }
+{
+    match stated {
+        StatedLookup::Auto => FdeLookup::Auto,
+        StatedLookup::Index => FdeLookup::Index,
+        StatedLookup::Scan => FdeLookup::Scan,
+    }
+}
+
+// The architecture of a table, if one is asked for.
+fn tables_on<A: Tabulating>(asked: bool) -> Option<TableArch>
+    ensures { result ≡ tables_on A.arch asked }
+{
+    if asked { Some(A::table_arch()) } else { None }
+}
+
+// What is asked for, with a table on the architecture if one is.
+fn options_on<A: Tabulating>(options: StatedOptions) -> LoadOptions
+    ensures { result ≡ options_on A.arch options }
+{
+    LoadOptions {
+        lookup: lookup_of(options.lookup),
+        tables: tables_on::<A>(options.tables),
+        debug_frame_beside: options.debug_frame_beside,
+    }
+}
+
 impl<A: DocumentArch, P: AllocationPolicy> DocumentModules for BySections<A, Vec<u8>, P> {
     ghost use Rattle.unwind_run_program.specs.Sections.{data_stated};
 
-    ghost data_of = { data_stated };
+    ghost data_of = { data_stated A.arch };
 
     fn unwind_data(
         alloc: Global,
+        options: StatedOptions,
         base_svma: u64,
         sections: Vec<StatedSection>,
         segments: Vec<StatedSection>,
     ) -> Result<ModuleUnwindData<Vec<u8>>, AllocError> {
-        let mut info = StatedSections::new(base_svma, sections, segments);
-        ModuleUnwindData::new(alloc, &mut info)
-    }
-
-    fn scanned_data(
-        alloc: Global,
-        base_svma: u64,
-        sections: Vec<StatedSection>,
-    ) -> ModuleUnwindData<Vec<u8>> {
-        let segments = Vec::new(alloc);
-        let mut info = StatedSections::new(base_svma, sections, segments);
-        ModuleUnwindData::scanning(&mut info)
+        let info = StatedSections::new(base_svma, sections, segments);
+        ModuleUnwindData::new(alloc, info, options_on::<A>(options))
     }
 
     ghost forms = { A.forms };

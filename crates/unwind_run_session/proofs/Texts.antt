@@ -1,10 +1,13 @@
 -- What is written for the answers to commands, and where the session is then.
-use Rattle.std.proofs.Common.{◌≡◌, ℕ, suc, Bool, true, false, cond, List, [], ◌∷◌, length, Option, Some, None, Result, Ok, Err, IfOk, OnErr, refl, ap, subst, ◌∙◌}
-use Rattle.std.specs.Prelude.{string_bytes, nat_lt, if◌then◌else◌, ◌^◌, ◌-◌}
+use Rattle.std.proofs.Common.{◌≡◌, ℕ, zero, suc, Bool, true, false, cond, List, [], ◌∷◌, Option, Some, None, Result, Ok, Err, IfOk, OnErr, refl, ap, subst, ◌∙◌}
+use Rattle.std.specs.Prelude.{string_bytes, is_some, nat_lt, if◌then◌else◌, ◌^◌, ◌-◌, option_map, unwrap_or, IsErr}
+use Rattle.json_program.specs.Lines.{line}
 use Rattle.framehop_registers.specs.declared.error.Error.{Error}
 use Rattle.framehop_rules.specs.Slots.{Kept}
 use Rattle.framehop_unwinder.specs.Attempt.{Meanings}
-use Rattle.framehop_unwinder.specs.History.{KeyHistory, HaveHistories}
+use Rattle.framehop_unwinder.specs.ByNumber.{held, is_held, mark, marks}
+use Rattle.framehop_unwinder.specs.History.{KeyHistory, HasHistoryIfHeld, HaveHistories, history_at, no_history}
+use Rattle.framehop_unwinder.specs.IdViews.{FindsHeld}
 use Rattle.framehop_unwinder.specs.Modules.{Loaded, is_loaded_at}
 use Rattle.framehop_unwinder.specs.Progress.{SessionModel, IsAt}
 use Rattle.framehop_unwinder.specs.State.{SessionState}
@@ -14,22 +17,60 @@ use Rattle.framehop_histories.specs.Performs.{IsIn, IsObeyed, StaysUnlessDone}
 use Rattle.framehop_histories.specs.StateAfter.{state_after}
 use Rattle.framehop_histories.specs.declared.commands.Answer.{Answer}
 use Rattle.framehop_histories.specs.declared.commands.Answer.TheVariants as answers
-use Rattle.unwind_run_session.specs.Outputs.{IsUndone, IsWrittenFor, OutputsAct, is_refusal, next_state, text_for, without_walks}
+use Rattle.unwind_run_session.specs.Lines.{counts_text}
+use Rattle.unwind_run_session.specs.Outputs.{counts_lines, IsUndone, IsWrittenFor, OutputsAct, is_refusal, next_state, text_for, without_walks}
 use Rattle.unwind_run_session.specs.declared.commands.Written.{Written}
 
--- there are as many histories as caches
-pub histories_count : {Rule : Type 0} (histories : List KeyHistory) (caches : List (Kept Rule)) → HaveHistories histories caches → length caches ≡ length histories
-histories_count [] [] h = refl
-histories_count [] (cache ∷ caches) h = absurd h
-histories_count (history ∷ histories) [] h = absurd h
-histories_count (history ∷ histories) (cache ∷ caches) h = ap suc (histories_count histories caches h.1)
+-- a history is there as its cache is
+mark-of : {Rule : Type 0} (history : Option KeyHistory) (cache : Option (Kept Rule)) → HasHistoryIfHeld history cache → option_map mark cache ≡ option_map mark history
+mark-of None None h = refl
+mark-of None (Some cache) h = absurd h
+mark-of (Some history) None h = absurd h
+mark-of (Some history) (Some cache) h = refl
+
+pub histories_marks : {Rule : Type 0} (histories : List (Option KeyHistory)) (caches : List (Option (Kept Rule))) → HaveHistories histories caches → marks caches ≡ marks histories
+histories_marks [] [] h = refl
+histories_marks [] (cache ∷ caches) h = absurd h
+histories_marks (history ∷ histories) [] h = absurd h
+histories_marks {Rule} (history ∷ histories) (cache ∷ caches) h =
+    ap (λ (m : Option (Unit {0})). m ∷ marks caches) (mark-of history cache h.0)
+    ∙ ap (λ (ms : List (Option (Unit {0}))). option_map mark history ∷ ms) (histories_marks histories caches h.1)
+
+-- the counts of a cache that is there, and of one that isn't
+counts-of : {Rule : Type 0} (history : Option KeyHistory) (cache : Option (Kept Rule)) → HasHistoryIfHeld history cache → is_some cache ≡ true → counts_lines history ≡ line (counts_text (unwrap_or history (no_history 509)).counts)
+counts-of history None h there = absurd (let no : false ≡ true = there in cc)
+counts-of None (Some cache) h there = absurd h
+counts-of (Some history) (Some cache) h there = refl
+
+pub counts-there : {Rule : Type 0} (histories : List (Option KeyHistory)) (caches : List (Option (Kept Rule))) (i : ℕ) → HaveHistories histories caches → is_held caches i ≡ true
+    → counts_lines (held histories i) ≡ line (counts_text (history_at histories i).counts)
+counts-there histories [] i h there = absurd (let no : false ≡ true = there in cc)
+counts-there [] (cache ∷ caches) i h there = absurd h
+counts-there (history ∷ histories) (cache ∷ caches) zero h there = counts-of history cache h.0 there
+counts-there (history ∷ histories) (cache ∷ caches) (suc i) h there = counts-there histories caches i h.1 there
+
+no-counts-of : {Rule : Type 0} (history : Option KeyHistory) (cache : Option (Kept Rule)) → HasHistoryIfHeld history cache → is_some cache ≡ false → counts_lines history ≡ []
+no-counts-of None cache h gone = refl
+no-counts-of (Some history) None h gone = absurd h
+no-counts-of (Some history) (Some cache) h gone = absurd (let no : true ≡ false = gone in cc)
+
+pub counts-gone : {Rule : Type 0} (histories : List (Option KeyHistory)) (caches : List (Option (Kept Rule))) (i : ℕ) → HaveHistories histories caches → is_held caches i ≡ false → counts_lines (held histories i) ≡ []
+counts-gone [] caches i h gone = refl
+counts-gone (history ∷ histories) [] i h gone = absurd h
+counts-gone (history ∷ histories) (cache ∷ caches) zero h gone = no-counts-of history cache h.0 gone
+counts-gone (history ∷ histories) (cache ∷ caches) (suc i) h gone = counts-gone histories caches i h.1 gone
+
+-- a call that found what it names
+pub was-found : {X A E : Type 0} (there : Bool) (result : Result A E) (old new : X) (answer : A) → FindsHeld there result old new → result ≡ Ok answer → there ≡ true
+was-found true result old new answer found is = refl
+was-found {A} {E} false result old new answer found is = absurd (let none : false ≡ true = subst (λ (r : Result A E). IsErr r) is (found.stale refl) in cc)
 
 -- a session at a model is in its state
 pub is-in : {D R Regs : Type 0} (model : SessionModel D) (session : SessionState D R) → IsAt model session → IsIn {Registers = Regs} (without_walks model) session []
 is-in model session at = record {
   unwinders = at.unwinders;
   next = at.next;
-  caches = histories_count model.histories session.caches at.histories;
+  caches = histories_marks model.histories session.caches at.histories;
   walks = refl;
 }
 

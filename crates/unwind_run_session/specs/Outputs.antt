@@ -5,8 +5,9 @@ use Rattle.json_program.specs.Lines.{line}
 use Rattle.framehop_registers.specs.Callback.{Words}
 use Rattle.framehop_registers.specs.declared.error.Error.{Error}
 use Rattle.framehop_unwinder.specs.Attempt.{Meanings}
+use Rattle.framehop_unwinder.specs.ByNumber.{held}
 use Rattle.framehop_unwinder.specs.Frames.{Frame}
-use Rattle.framehop_unwinder.specs.History.{history_at}
+use Rattle.framehop_unwinder.specs.History.{KeyHistory}
 use Rattle.framehop_unwinder.specs.Progress.{IsAt, SessionModel}
 use Rattle.framehop_unwinder.specs.State.{SessionState}
 use Rattle.framehop_histories.specs.Commands.{Act, NewWalk, NextFrame, CommandState, Reply, Added, Removed, Unknown, Exhausted, Stepped, Moved, reply_to}
@@ -70,9 +71,14 @@ output_of_act m step_line act model = record {
   model = (next_state m act (without_walks model)).model;
 }
 
+-- the line of the counts of a cache, if it is there
+abbrev pub counts_lines : Option KeyHistory → List ℕ
+counts_lines None = []
+counts_lines (Some history) = line (counts_text history.counts)
+
 -- the counts of a cache
 abbrev pub output_of_stats : {Data : Type 0} → ℕ → SessionModel Data → CommandOutput Data
-output_of_stats cache model = writes (line (counts_text (history_at model.histories cache).counts)) model
+output_of_stats cache model = writes (counts_lines (held model.histories cache)) model
 
 -- whether a reply is a frame of a walk
 abbrev pub gives_frame : {Registers : Type 0} → Reply Registers → Bool

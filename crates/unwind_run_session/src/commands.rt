@@ -1,6 +1,6 @@
 //! The commands that change a session or read it, on any architecture.
 
-ghost use Rattle.std.specs.Prelude.{◌≡◌, ◌<◌, [], false, true, length, codes, IfOk, OnErr, OnOk, string_bytes};
+ghost use Rattle.std.specs.Prelude.{◌≡◌, [], false, true, codes, IfOk, OnErr, OnOk, string_bytes};
 ghost use Rattle.json_program.specs.Lines.{line};
 ghost use Rattle.framehop_registers.specs.Callback.{Words, AnswersBy};
 ghost use Rattle.framehop_histories.specs.CommandViews.{reply_of};
@@ -12,7 +12,7 @@ use crate::lines::{counts_line, frame_line, stop_line};
 use framehop_histories as histories;
 use framehop_histories::Answer;
 use framehop_rules::SlotCount;
-use framehop_unwinder::{Module, ModuleUnwinding, Session};
+use framehop_unwinder::{CacheId, Module, ModuleUnwinding, Session};
 use std::alloc::{AllocError, Global};
 
 /// The text that a command wrote, and whether the command was `refused`, which ends the run.
@@ -139,17 +139,19 @@ pub fn unload<A: ModuleUnwinding>(
     Written::of_answer(alloc, answer)
 }
 
-/// Shows the counts of a cache.
+/// Shows the counts of a cache, if it is there.
 pub fn stats<A: ModuleUnwinding>(
     session: &mut Session<A>,
     alloc: Global,
     cache: usize,
 ) -> Result<Written, AllocError>
-    requires { cache < length session.old.caches }
     ensures output { Outputs (output_of_stats cache) session.old session.new result }
     ensures same { session.new ≡ session.old }
 {
-    let line = counts_line(alloc, session.stats(cache))?;
+    let Ok(counts) = session.stats(CacheId::numbered(cache)) else {
+        return Ok(Written::nothing(alloc));
+    };
+    let line = counts_line(alloc, counts)?;
     Ok(Written::lines(line))
 }
 

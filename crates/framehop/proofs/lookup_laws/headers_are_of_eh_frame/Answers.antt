@@ -1,36 +1,31 @@
 use Rattle.std.proofs.Common.{ℕ, List, Option, Some, None}
-use Rattle.std.specs.Prelude.{codes}
-use Rattle.framehop_modules.specs.Chosen.{chosen_sections}
+use Rattle.dwarf_frame_rows.specs.declared.base_addresses.BaseAddresses.{BaseAddresses}
+use Rattle.framehop_index.specs.declared.section_type.UnwindSectionType.TheVariants as section
+use Rattle.framehop_modules.specs.Chosen.{base_svmas, chosen_sections}
 use Rattle.framehop_modules.specs.declared.module_sections.ModuleSections.{ModuleSections}
 use Rattle.framehop_modules.specs.declared.module_sections.ModuleSections.TheVariants.{CompactUnwindInfoAndEhFrame, PeUnwindInfo, EhFrame, DebugFrame, NoSections}
-use Rattle.framehop.specs.UnwindData.{HasHeaderOfEhFrame, format_of, scanned, with_debug_frame}
+use Rattle.framehop.specs.LoadOptions.{lookup_by}
+use Rattle.framehop.specs.UnwindData.{HasHeaderOfEhFrame, IsHeaderOfEhFrame, bases_of, debug_frame_of, format_with}
+use Rattle.framehop.specs.declared.load_options.FdeLookup.{FdeLookup}
+use Rattle.framehop.specs.declared.load_options.FdeLookup.TheVariants.{Auto, Index, Scan}
+use Rattle.framehop.specs.declared.load_options.LoadOptions.{LoadOptions}
+use Rattle.framehop.specs.declared.load_options.TableArch.{TableArch}
 use Rattle.framehop.proofs.lookup_laws.headers_are_of_eh_frame.Goals as goal
 
-of-format : (base : ℕ) (chosen : ModuleSections (List ℕ)) → HasHeaderOfEhFrame (format_of base chosen)
-of-format base (CompactUnwindInfoAndEhFrame unwind_info eh_frame stubs stub_helper text) = tt
-of-format base (PeUnwindInfo pdata rdata xdata text) = tt
-of-format base (EhFrame bytes header) = tt
-of-format base (DebugFrame bytes) = tt
-of-format base NoSections = tt
+-- without a header none is used
+no-header : (bytes : List ℕ) (lookup : FdeLookup) (tables : Option TableArch) → IsHeaderOfEhFrame (section.DebugFrame bytes) (lookup_by lookup tables None)
+no-header bytes Auto None = tt
+no-header bytes Auto (Some arch) = tt
+no-header bytes Index tables = tt
+no-header bytes Scan tables = tt
 
-of-scanned : (base : ℕ) (chosen : ModuleSections (List ℕ)) → HasHeaderOfEhFrame (scanned (format_of base chosen))
-of-scanned base (CompactUnwindInfoAndEhFrame unwind_info eh_frame stubs stub_helper text) = tt
-of-scanned base (PeUnwindInfo pdata rdata xdata text) = tt
-of-scanned base (EhFrame bytes header) = tt
-of-scanned base (DebugFrame bytes) = tt
-of-scanned base NoSections = tt
-
-of-both : (base : ℕ) (debug_frame : Option (List ℕ)) (chosen : ModuleSections (List ℕ)) → HasHeaderOfEhFrame (with_debug_frame debug_frame (format_of base chosen))
-of-both base None chosen = of-format base chosen
-of-both base (Some bytes) (CompactUnwindInfoAndEhFrame unwind_info eh_frame stubs stub_helper text) = tt
-of-both base (Some bytes) (PeUnwindInfo pdata rdata xdata text) = tt
-of-both base (Some bytes) (EhFrame eh_frame header) = (tt, tt)
-of-both base (Some bytes) (DebugFrame debug_frame) = tt
-of-both base (Some bytes) NoSections = tt
+of-format : (options : LoadOptions) (bases : BaseAddresses) (base : ℕ) (debug_frame : Option (List ℕ)) (chosen : ModuleSections (List ℕ)) → HasHeaderOfEhFrame (format_with options bases base debug_frame chosen)
+of-format options bases base debug_frame (CompactUnwindInfoAndEhFrame unwind_info eh_frame stubs stub_helper text) = tt
+of-format options bases base debug_frame (PeUnwindInfo pdata rdata xdata text) = tt
+of-format options bases base (Some beside) (EhFrame bytes header) = (tt, no-header beside options.lookup options.tables)
+of-format options bases base None (EhFrame bytes header) = (tt, tt)
+of-format options bases base debug_frame (DebugFrame bytes) = (no-header bytes options.lookup options.tables, tt)
+of-format options bases base debug_frame NoSections = tt
 
 pub returns : goal.returns
-returns c = record {
-  made = λ s. of-format s.base_svma (chosen_sections s);
-  scanning = λ s. of-scanned s.base_svma (chosen_sections s);
-  both = λ s. of-both s.base_svma (s.section_data (codes ".debug_frame")) (chosen_sections s);
-}
+returns c options s = of-format options (bases_of (base_svmas s)) s.base_svma (debug_frame_of options s) (chosen_sections s)

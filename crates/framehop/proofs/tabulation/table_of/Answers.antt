@@ -2,8 +2,7 @@ use Rattle.std.proofs.Common.{◌^◌, false, ap, sym, ◌∙◌}
 use Rattle.dwarf_readers.specs.EndianSlice.{stretch_of}
 use Rattle.dwarf_frame_rows.specs.FrameSection.{FrameSection, frame_section}
 use Rattle.dwarf_frame_sections.specs.Sections.{FrameData, eh_frame, debug_frame}
-use Rattle.framehop.specs.DwarfViews.{frame_section_bytes}
-use Rattle.framehop.specs.SectionTypes.{section_of_type}
+use Rattle.framehop_index.specs.SectionTypes.{frame_section_bytes, section_of_type}
 use Rattle.framehop.specs.StepMeanings.{row_limits}
 use Rattle.framehop.proofs.SectionsMade.{section-made}
 use Rattle.framehop.proofs.Tabulations.{made-as}

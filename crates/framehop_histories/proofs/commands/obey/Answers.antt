@@ -23,3 +23,9 @@ returns-in-NewWalk g c = λ words said. rw c.in-NewWalk.is (c.new_walk.ensures.o
 
 pub returns-in-NextFrame : goal.returns-in-NextFrame
 returns-in-NextFrame g c = λ words said. let mine = rw c.in-NextFrame.is at said in rw c.in-NextFrame.is (c.next_frame.ensures.obeys.said (words c.in-NextFrame.read_stack) mine)
+
+pub returns-in-RemoveUnwinder : goal.returns-in-RemoveUnwinder
+returns-in-RemoveUnwinder g c = λ words said. rw c.in-RemoveUnwinder.is (c.remove_unwinder.ensures.obeys c.args.walks.now.items)
+
+pub returns-in-RemoveCache : goal.returns-in-RemoveCache
+returns-in-RemoveCache g c = λ words said. rw c.in-RemoveCache.is (c.remove_cache.ensures.obeys c.args.walks.now.items)

@@ -13,13 +13,13 @@ use Rattle.framehop_unwinder.specs.Judge.{by_attempt}
 use Rattle.unwind_run_program.specs.Lines.{outcome_line}
 use Rattle.unwind_run_program.specs.Roads.{stated_section, stated_header}
 use Rattle.unwind_run_program.specs.RoadsAlike.{headed_in}
-use Rattle.unwind_run_program.specs.Sections.{data_stated, sections_stated}
+use Rattle.unwind_run_program.specs.Sections.{data_stated, plain, scanning, sections_stated}
 use Rattle.unwind_run_program.specs.Text.{frame_at, road_line, words_of}
 use Rattle.unwind_run_program.proofs.OneModule.{alone_alike}
 use Rattle.unwind_run_program.proofs.laws.truthful_lookups_write_alike.Goals as goal
 
 pub returns : goal.returns
-returns g c r covers limits forms =
+returns g c r covers limits forms arch =
     let rows = g.A.DwarfUnwinding.rows in
     let formats = format_meanings rows (table_methods g.A.PeUnwinding.pe_attempt g.A.CompactUnwindInfoUnwinding.compact) in
     let m = meanings_by g.A.UnwindRule.UnwindRule.meaning g.A.UnwindRule.UnwindRule.fallback formats limits in
@@ -29,9 +29,9 @@ returns g c r covers limits forms =
     let registers = forms.stated r.registers in
     let alone = stated_section t ∷ [] in
     let other = bases_of (base_svmas (sections_stated base alone [])) in
-    let headed = data_stated.loaded base (stated_section t ∷ stated_header t ∷ []) [] in
-    let indexed = data_stated.loaded base alone [] in
-    let scanned = data_stated.scanned base alone in
+    let headed = data_stated arch plain base (stated_section t ∷ stated_header t ∷ []) [] in
+    let indexed = data_stated arch plain base alone [] in
+    let scanned = data_stated arch scanning base alone [] in
     let contained : (relative : ℕ) → base + relative ≡ lookup_address frame → contains (base + relative) covers.fde ≡ true =
     λ relative is. subst (λ (x : ℕ). contains x covers.fde ≡ true) (sym is) covers.contained in
     let within : (relative : ℕ) → base + relative ≡ lookup_address frame → AddressWithin = λ relative is. record {

@@ -3,3 +3,9 @@ use Rattle.unwind_run_program.proofs.perform.perform.Goals as goal
 
 pub returns-in_ok-unwind_context-in-Cache : goal.returns-in_ok-unwind_context-in-Cache
 returns-in_ok-unwind_context-in-Cache g c = rw c.in-Cache.is (c.add_cache.ensures.output (step_line g.A.DocumentModules.forms.text))
+
+pub returns-in-Clone : goal.returns-in-Clone
+returns-in-Clone g c = rw c.in-Clone.is (c.clone_unwinder.ensures.output (step_line g.A.DocumentModules.forms.text))
+
+pub returns-in-Unload : goal.returns-in-Unload
+returns-in-Unload g c = rw c.in-Unload.is (c.unload.ensures.output (step_line g.A.DocumentModules.forms.text))

@@ -6,11 +6,13 @@ use Rattle.framehop_unwinder.specs.State.{SessionState, empty_state}
 use Rattle.framehop_unwinder.specs.History.{HaveHistories}
 use Rattle.framehop_unwinder.specs.Progress.{IsAt}
 use Rattle.unwind_run_session.specs.Outputs.{IsOutput, beginning}
+use Rattle.unwind_run_document.specs.Document.{nothing_made}
+use Rattle.unwind_run_document.specs.Made.{made_after}
 use Rattle.unwind_run_document.specs.Sound.{AreSound}
 use Rattle.unwind_run_document.specs.Tasks.{Task}
 use Rattle.unwind_run_document.specs.CommandViews.{tasks_of, task_of}
-use Rattle.unwind_run_program.specs.Text.{lines_of, made_in, output_of}
-use Rattle.unwind_run_program.proofs.Runs.{begun_next, next_task, sound_next, written_last, written_next}
+use Rattle.unwind_run_program.specs.Text.{lines_of, output_of}
+use Rattle.unwind_run_program.proofs.Runs.{begun_next, next_task, written_last, written_next}
 use Rattle.unwind_run_program.proofs.program.run_commands.Goals as goal
 
 pub loop-command-init : goal.loop-command-init
@@ -30,7 +32,7 @@ loop-command-init g c =
     } in
     record {
       failed = c.requires.writer;
-      sound = subst (λ (s : SessionState D R). AreSound (made_in s) (tasks_of (reverse c.reverse.new.self.items))) (sym begins) (subst (λ (ts : List Task). AreSound (made_in {Data = D} {Rule = R} (empty_state c.args.generation)) ts) whole c.requires.sound);
+      sound = (nothing_made, subst (λ (ts : List Task). AreSound nothing_made ts) whole c.requires.sound);
       stands = (
         beginning c.args.generation,
         at,
@@ -87,12 +89,13 @@ loop-command-preserved g c =
     let all = lines_of m forms d (beginning c.args.generation) (tasks_of c.args.commands.items) in
     let next = next_task l.commands.items c.pop.new.self.items c.in-Some.command c.in-Some.ensures.items in
     let written = subst (λ (ts : List Task). IsWritten (g.W.Sink.contents c.args.writer.now) (g.W.Sink.contents l.writer) (lines_of m forms d p ts) all) next l.invariant.stands.2 in
-    let sound = subst (λ (ts : List Task). AreSound (made_in l.session) ts) next l.invariant.sound in
+    let made = l.invariant.sound.0 in
+    let sound = subst (λ (ts : List Task). AreSound made ts) next l.invariant.sound.1 in
     let comes = c.in_ok-written.ensures p l.invariant.stands.1 in
     let comes_written = subst (λ (xs : List ℕ). IsOutput (output_of m forms d p task) xs c.in_ok-written.written.is_refused c.perform.new.session) (sym c.as_bytes.ensures.value) comes in
     record {
       failed = not_failed (g.W.Sink.has_failed c.write_all.new.sink) c.in_ok-write_all.ensures.write;
-      sound = sound_next m forms d p l.session c.perform.new.session task left c.as_bytes.result.now c.in_ok-written.written.is_refused l.invariant.stands.1 comes_written c.if-written.false sound;
+      sound = (made_after made task, sound.1);
       stands = (
         (output_of m forms d p task).model,
         comes_written.model,

@@ -1,26 +1,109 @@
-use Rattle.std.proofs.Common.{ap, ◌<◌, length, map, arith}
-use Rattle.framehop_unwinder.specs.CacheViews.{rules_of}
-use Rattle.framehop_unwinder.specs.Modules.{Loaded, with_module}
+use Rattle.std.proofs.Common.{ap, sym, subst, ◌∙◌, ◌≡◌, ◌≤◌, ◌-◌, ◌^◌, List, Option, Some, None, true, refl}
+use Rattle.std.specs.Prelude.{OnErr, OnOk, is_some, slice_set}
+use Rattle.std.specs.Vec.{with_item}
+use Rattle.framehop_unwinder.specs.ByNumber.{held, is_held}
+use Rattle.framehop_unwinder.specs.IdViews.{unwinder_number, with_module_in}
+use Rattle.framehop_unwinder.specs.Modules.{Loaded, Loads, has_start, with_module, without_module}
+use Rattle.framehop_unwinder.specs.NumberedViews.{by_number}
+use Rattle.framehop_unwinder.specs.SessionViews.{caches_by_number}
 use Rattle.framehop_unwinder.specs.State.{SessionState, sets_of_all}
-use Rattle.framehop_unwinder.proofs.Loads.{put-done, put-refused}
-use Rattle.framehop_unwinder.proofs.Sound.{sound_load}
+use Rattle.framehop_unwinder.specs.declared.numbered.Numbered.{Numbered}
+use Rattle.framehop_unwinder.proofs.Loads.{holding, read-is, put-same, put-done, put-refused}
+use Rattle.framehop_unwinder.proofs.Sessions.{finds, finds-none, held-in-slot, held-nowhere, order-of-unwinders, put-back, put-in-slot}
+use Rattle.framehop_unwinder.proofs.Sound.{sound_load, sound_unload}
 use Rattle.framehop_unwinder.proofs.session.Session.load.Goals as goal
+
+pub returns-in_default-clause-found : goal.returns-in_default-clause-found
+returns-in_default-clause-found g c =
+    let s = c.self.inside in
+    let n = unwinder_number c.args.unwinder in
+    let none = held-nowhere s.unwinders n c.self.invariant.unwinders_numbered c.in_default.ensures.nowhere in
+    finds-none _ _ _ _ (ap (λ (x : SessionState g.row.A-UnwindData.Denot g.row.A-UnwindRule.Denot). is_held x.unwinders n) (sym c.self.view_is) ∙ ap is_some none) refl
 
 pub invariant_of-self : goal.invariant_of-self
 invariant_of-self g c =
     let m = g.A.ModuleUnwinding.meanings in
-    let loads = c.self.inside.unwinders.items in
-    let there : c.args.unwinder < length loads = omega (arith, ap (λ (s : SessionState g.row.A-UnwindData.Denot g.row.A-UnwindRule.Denot). length s.unwinders) c.self.view_is) in
-    sound_load m c.self.inside.generations c.add_module.new.generations loads (sets_of_all (map rules_of c.self.inside.caches.items)) c.args.unwinder c.index_mut.result.now c.add_module.new.self c.add_module.result
-    c.add_module.ensures.number.generation c.add_module.ensures.number.taken c.add_module.ensures.failure.same c.add_module.ensures.failure.untaken there c.index_mut.ensures.value c.self.invariant
-
-pub returns-clause-ok : goal.returns-clause-ok
-returns-clause-ok g c =
+    let s = c.self.inside in
+    let n = unwinder_number c.args.unwinder in
+    let loads = by_number s.unwinders in
+    let sets = sets_of_all (caches_by_number s.caches) in
+    let read = held-in-slot s.unwinders c.in-Some.slot n c.index_mut.result.now c.self.invariant.unwinders_numbered c.in-Some.ensures.inside c.in-Some.ensures.here c.index_mut.ensures.value in
+    let old = c.in-Some-index_mut.unwinder in
+    let there : held loads n ≡ Some old = read ∙ c.in-Some-index_mut.is in
     let e = c.add_module.ensures in
-    put-done c.self.inside.unwinders.items c.self.inside.generations (map rules_of c.self.inside.caches.items) c.args.self.now c.self.view_is c.args.unwinder c.requires c.index_mut.result.now c.index_mut.ensures.value
-    c.add_module.result c.add_module.new.self c.add_module.new.generations (with_module (λ (m : Loaded g.row.A-UnwindData.Denot). m.start) c.args.«module») e.modules e.number.generation e.number.taken
+    let new : Numbered (Loads (Loaded g.row.A-UnwindData.Denot)) = record s.unwinders { values = with_item s.unwinders.values c.in-Some.slot (Some c.add_module.new.self) } in
+    let put = put-in-slot s.unwinders new refl refl c.in-Some.slot n (Some c.add_module.new.self) refl c.in-Some.ensures.inside c.in-Some.ensures.here c.self.invariant.unwinders_numbered in
+    order-of-unwinders m s.generations s.unwinders s.caches c.self.invariant c.add_module.new.generations new (slice_set loads n (Some c.add_module.new.self)) put.1 put.0
+    (sound_load m s.generations c.add_module.new.generations loads sets n old c.add_module.new.self c.add_module.result e.number.generation e.number.taken e.failure.same e.failure.untaken there c.self.invariant.sound)
 
-pub returns-clause-refused : goal.returns-clause-refused
-returns-clause-refused g c =
-    put-refused c.self.inside.unwinders.items c.self.inside.generations (map rules_of c.self.inside.caches.items) c.args.self.now c.self.view_is c.args.unwinder c.requires c.index_mut.result.now c.index_mut.ensures.value
-    c.add_module.result c.add_module.new.self c.add_module.new.generations c.add_module.ensures.failure.same c.add_module.ensures.failure.untaken
+pub invariant_of-self-in-None-index_mut : goal.invariant_of-self-in-None-index_mut
+invariant_of-self-in-None-index_mut g c =
+    let m = g.A.ModuleUnwinding.meanings in
+    let s = c.self.inside in
+    let n = unwinder_number c.args.unwinder in
+    let loads = by_number s.unwinders in
+    let sets = sets_of_all (caches_by_number s.caches) in
+    let read = held-in-slot s.unwinders c.in-Some.slot n c.index_mut.result.now c.self.invariant.unwinders_numbered c.in-Some.ensures.inside c.in-Some.ensures.here c.index_mut.ensures.value in
+    let new : Numbered (Loads (Loaded g.row.A-UnwindData.Denot)) = record s.unwinders { values = with_item s.unwinders.values c.in-Some.slot c.index_mut.result.now } in
+    let put = put-back s.unwinders new refl refl c.in-Some.slot c.index_mut.result.now refl c.index_mut.ensures.value c.self.invariant.unwinders_numbered in
+    order-of-unwinders m s.generations s.unwinders s.caches c.self.invariant s.generations new loads put.1 put.0 c.self.invariant.sound
+
+pub returns-in-Some-index_mut-clause-found : goal.returns-in-Some-index_mut-clause-found
+returns-in-Some-index_mut-clause-found g c =
+    let m = g.A.ModuleUnwinding.meanings in
+    let s = c.self.inside in
+    let n = unwinder_number c.args.unwinder in
+    let loads = by_number s.unwinders in
+    let sets = sets_of_all (caches_by_number s.caches) in
+    let read = held-in-slot s.unwinders c.in-Some.slot n c.index_mut.result.now c.self.invariant.unwinders_numbered c.in-Some.ensures.inside c.in-Some.ensures.here c.index_mut.ensures.value in
+    let old = c.in-Some-index_mut.unwinder in
+    let there : held loads n ≡ Some old = read ∙ c.in-Some-index_mut.is in
+    finds _ _ _ _ (ap (λ (x : SessionState g.row.A-UnwindData.Denot g.row.A-UnwindRule.Denot). is_held x.unwinders n) (sym c.self.view_is) ∙ ap is_some there)
+
+pub returns-in-None-clause-found : goal.returns-in-None-clause-found
+returns-in-None-clause-found g c =
+    let m = g.A.ModuleUnwinding.meanings in
+    let s = c.self.inside in
+    let n = unwinder_number c.args.unwinder in
+    let loads = by_number s.unwinders in
+    let sets = sets_of_all (caches_by_number s.caches) in
+    let read = held-in-slot s.unwinders c.in-Some.slot n c.index_mut.result.now c.self.invariant.unwinders_numbered c.in-Some.ensures.inside c.in-Some.ensures.here c.index_mut.ensures.value in
+    let new : Numbered (Loads (Loaded g.row.A-UnwindData.Denot)) = record s.unwinders { values = with_item s.unwinders.values c.in-Some.slot c.index_mut.result.now } in
+    let put = put-back s.unwinders new refl refl c.in-Some.slot c.index_mut.result.now refl c.index_mut.ensures.value c.self.invariant.unwinders_numbered in
+    finds-none _ _ _ _ (ap (λ (x : SessionState g.row.A-UnwindData.Denot g.row.A-UnwindRule.Denot). is_held x.unwinders n) (sym c.self.view_is) ∙ ap is_some (read ∙ c.in-None.is))
+    (ap (λ (us : List (Option (Loads (Loaded g.row.A-UnwindData.Denot)))). holding us s.generations (caches_by_number s.caches)) put.0 ∙ c.self.view_is)
+
+pub returns-in-Some-index_mut-clause-ok : goal.returns-in-Some-index_mut-clause-ok
+returns-in-Some-index_mut-clause-ok g c =
+    let m = g.A.ModuleUnwinding.meanings in
+    let s = c.self.inside in
+    let n = unwinder_number c.args.unwinder in
+    let loads = by_number s.unwinders in
+    let sets = sets_of_all (caches_by_number s.caches) in
+    let read = held-in-slot s.unwinders c.in-Some.slot n c.index_mut.result.now c.self.invariant.unwinders_numbered c.in-Some.ensures.inside c.in-Some.ensures.here c.index_mut.ensures.value in
+    let old = c.in-Some-index_mut.unwinder in
+    let there : held loads n ≡ Some old = read ∙ c.in-Some-index_mut.is in
+    let new : Numbered (Loads (Loaded g.row.A-UnwindData.Denot)) = record s.unwinders { values = with_item s.unwinders.values c.in-Some.slot (Some c.add_module.new.self) } in
+    let put = put-in-slot s.unwinders new refl refl c.in-Some.slot n (Some c.add_module.new.self) refl c.in-Some.ensures.inside c.in-Some.ensures.here c.self.invariant.unwinders_numbered in
+    let caches = caches_by_number s.caches in
+    let e = c.add_module.ensures in
+    subst (λ (us : List (Option (Loads (Loaded g.row.A-UnwindData.Denot)))). OnOk c.add_module.result (holding us c.add_module.new.generations caches ≡ with_module_in c.args.self.now c.args.unwinder c.args.«module»)) (sym put.0)
+    (put-done loads s.generations caches c.args.self.now c.self.view_is n old there c.add_module.result c.add_module.new.self c.add_module.new.generations
+    (with_module (λ (m : Loaded g.row.A-UnwindData.Denot). m.start) c.args.«module») e.modules e.number.generation e.number.taken)
+
+pub returns-in-Some-index_mut-clause-refused : goal.returns-in-Some-index_mut-clause-refused
+returns-in-Some-index_mut-clause-refused g c =
+    let m = g.A.ModuleUnwinding.meanings in
+    let s = c.self.inside in
+    let n = unwinder_number c.args.unwinder in
+    let loads = by_number s.unwinders in
+    let sets = sets_of_all (caches_by_number s.caches) in
+    let read = held-in-slot s.unwinders c.in-Some.slot n c.index_mut.result.now c.self.invariant.unwinders_numbered c.in-Some.ensures.inside c.in-Some.ensures.here c.index_mut.ensures.value in
+    let old = c.in-Some-index_mut.unwinder in
+    let there : held loads n ≡ Some old = read ∙ c.in-Some-index_mut.is in
+    let new : Numbered (Loads (Loaded g.row.A-UnwindData.Denot)) = record s.unwinders { values = with_item s.unwinders.values c.in-Some.slot (Some c.add_module.new.self) } in
+    let put = put-in-slot s.unwinders new refl refl c.in-Some.slot n (Some c.add_module.new.self) refl c.in-Some.ensures.inside c.in-Some.ensures.here c.self.invariant.unwinders_numbered in
+    let caches = caches_by_number s.caches in
+    let e = c.add_module.ensures in
+    subst (λ (us : List (Option (Loads (Loaded g.row.A-UnwindData.Denot)))). OnErr c.add_module.result (holding us c.add_module.new.generations caches ≡ c.args.self.now)) (sym put.0)
+    (put-refused loads s.generations caches c.args.self.now c.self.view_is n old there c.add_module.result c.add_module.new.self c.add_module.new.generations e.failure.same e.failure.untaken)

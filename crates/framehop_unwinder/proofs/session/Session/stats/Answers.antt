@@ -1,19 +1,33 @@
-use Rattle.std.proofs.Common.{ap, ◌≡◌, ◌<◌, length, arith, sym, ◌∙◌}
-use Rattle.std.proofs.lemmas.List.{length-map, get_or-map}
+use Rattle.std.proofs.Common.{ap, sym, ◌∙◌, Option, Some, None, refl}
+use Rattle.std.specs.Prelude.{is_some, option_copied, unwrap_or}
 use Rattle.framehop_rules.specs.Slots.{Kept, new_kept}
 use Rattle.framehop_unwinder.specs.CacheViews.{rules_of}
-use Rattle.framehop_unwinder.specs.State.{SessionState, cache_at}
+use Rattle.framehop_unwinder.specs.IdViews.{cache_number}
+use Rattle.framehop_unwinder.specs.State.{SessionState}
 use Rattle.framehop_unwinder.proofs.Histories.{counts-have}
+use Rattle.framehop_unwinder.proofs.Sessions.{cache-read, finds, finds-none}
 use Rattle.framehop_unwinder.proofs.session.Session.stats.Goals as goal
 
-pub returns-clause-histories : goal.returns-clause-histories
-returns-clause-histories g c =
-    let D = g.row.A-UnwindData.Denot in
-    let R = g.row.A-UnwindRule.Denot in
-    let items = c.self.inside.caches.items in
-    let empty : Kept R = new_kept 509 in
-    let kept : c.args.cache < length items = omega (arith, length-map items rules_of, ap (λ (s : SessionState D R). length s.caches) c.self.view_is) in
-    let read = c.index.result.now in
-    let theirs : rules_of read ≡ cache_at c.args.self.now.caches c.args.cache =
-    ap rules_of c.index.ensures ∙ sym (get_or-map rules_of items c.args.cache read empty kept) ∙ ap (λ (s : SessionState D R). cache_at s.caches c.args.cache) c.self.view_is in
-    λ histories have. c.stats.ensures ∙ ap (λ (k : Kept R). k.counts) theirs ∙ counts-have histories c.args.self.now.caches c.args.cache empty c.requires have
+pub returns-in-Some-clause-found : goal.returns-in-Some-clause-found
+returns-in-Some-clause-found g c =
+    let now = c.args.self.now in
+    let there = cache-read now c.self.inside.caches (cache_number c.args.cache) (Some c.in-Some.cache.now) (ap (λ (s : SessionState g.row.A-UnwindData.Denot g.row.A-UnwindRule.Denot). s.caches) c.self.view_is) (sym c.get.ensures ∙ ap option_copied c.in-Some.is) in
+    finds _ _ _ _ (ap is_some there)
+
+pub returns-in-Some-clause-counts : goal.returns-in-Some-clause-counts
+returns-in-Some-clause-counts g c =
+    let now = c.args.self.now in
+    let there = cache-read now c.self.inside.caches (cache_number c.args.cache) (Some c.in-Some.cache.now) (ap (λ (s : SessionState g.row.A-UnwindData.Denot g.row.A-UnwindRule.Denot). s.caches) c.self.view_is) (sym c.get.ensures ∙ ap option_copied c.in-Some.is) in
+    c.stats.ensures ∙ sym (ap (λ (o : Option (Kept g.row.A-UnwindRule.Denot)). (unwrap_or o (new_kept 509)).counts) there)
+
+pub returns-in-Some-clause-histories : goal.returns-in-Some-clause-histories
+returns-in-Some-clause-histories g c =
+    let now = c.args.self.now in
+    let there = cache-read now c.self.inside.caches (cache_number c.args.cache) (Some c.in-Some.cache.now) (ap (λ (s : SessionState g.row.A-UnwindData.Denot g.row.A-UnwindRule.Denot). s.caches) c.self.view_is) (sym c.get.ensures ∙ ap option_copied c.in-Some.is) in
+    λ histories have. c.stats.ensures ∙ counts-have histories now.caches (cache_number c.args.cache) (rules_of c.in-Some.cache.now) there have
+
+pub returns-in-None-clause-found : goal.returns-in-None-clause-found
+returns-in-None-clause-found g c =
+    let now = c.args.self.now in
+    let gone = cache-read now c.self.inside.caches (cache_number c.args.cache) None (ap (λ (s : SessionState g.row.A-UnwindData.Denot g.row.A-UnwindRule.Denot). s.caches) c.self.view_is) (sym c.get.ensures ∙ ap option_copied c.in-None.is) in
+    finds-none _ _ _ _ (ap is_some gone) refl
