@@ -42,7 +42,7 @@ def output(*command, folder=None, statuses=(0,), **options):
 def crates():
     """The names of all crates with the names of those below each, in the order of crates.txt: each comes after those below it."""
     lines = (line.partition("#")[0].strip() for line in (TOP / "crates.txt").read_text().splitlines())
-    return {name.strip(): below.split() for name, _, below in (line.partition(":") for line in lines if line)}
+    return {name.split()[0]: below.split() for name, _, below in (line.partition(":") for line in lines if line)}
 
 
 def built_program(crate):

@@ -1,0 +1,4 @@
+pub mod Calls
+pub mod Moves
+pub mod Passing
+pub mod StillCallback

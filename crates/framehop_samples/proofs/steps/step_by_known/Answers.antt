@@ -1,0 +1,24 @@
+use Rattle.std.proofs.Common.{◌≡◌, ◌∙◌, refl, subst, ap}
+use Rattle.framehop_registers.specs.Callback.{read_answer}
+use Rattle.framehop_samples.specs.Samples.{words_of}
+use Rattle.framehop_samples.proofs.Calls.{if_done, is_done}
+use Rattle.framehop_samples.proofs.StillCallback.{answers_while}
+use Rattle.framehop_samples.proofs.steps.step_by_known.Goals as goal
+
+pub returns-clause-step : goal.returns-clause-step
+returns-clause-step g c =
+    if_done c.step-step.result c.unwrap.result _ c.unwrap.ensures (c.step-step.ensures.step.said (words_of c.args.sample.now)
+    (answers_while _ _ _ (λ state. state.0 ≡ c.args.sample) refl (λ state next at r fits holds read. ap (λ s. s.0) read.met.1.1 ∙ holds)
+    (λ state next at r fits holds read. subst (λ s. r ≡ read_answer (words_of s.now at)) holds read.met.0)))
+
+pub unwrap-requires : goal.unwrap-requires
+unwrap-requires g c = is_done _ c.step-step.result _ _ c.requires c.step-step.ensures.found
+
+pub returns-clause-caches : goal.returns-clause-caches
+returns-clause-caches g c = if_done c.step-step.result c.unwrap.result _ c.unwrap.ensures c.step-step.ensures.caches
+
+pub returns-clause-stays : goal.returns-clause-stays
+returns-clause-stays g c = if_done c.step-step.result c.unwrap.result _ c.unwrap.ensures c.step-step.ensures.stays
+
+pub returns-clause-memory : goal.returns-clause-memory
+returns-clause-memory g c = if_done c.step-step.result c.unwrap.result _ c.unwrap.ensures c.step-step.ensures.memory

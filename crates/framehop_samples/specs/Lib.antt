@@ -1,0 +1,3 @@
+pub mod Samples
+pub mod Steps
+pub mod Walks
