@@ -92,6 +92,23 @@ pub(crate) fn copies_of(
     Ok(copies)
 }
 
+// What a process has mapped.
+pub(crate) fn mappings_of(
+    alloc: Global,
+    all: &[MappedFile],
+    pid: u32,
+) -> Result<Vec<MappedFile>, AllocError>
+    ensures { IfOk result (λ found. found.items ≡ filter (is_mapped_by pid) all.now) }
+{
+    let mut found = Vec::new(alloc);
+    for mapped in all {
+        if mapped.pid == pid {
+            found.push(*mapped)?;
+        }
+    }
+    Ok(found)
+}
+
 // The last mapping of a process that has an address.
 pub(crate) fn mapping_at(all: &[MappedFile], pid: u32, address: u64) -> Option<MappedFile>
     ensures { result ≡ mapping_at pid address all.now }

@@ -1,12 +1,13 @@
 //! Processes over time.
 
-ghost use Rattle.std.specs.Prelude.{◌≡◌, OnOk};
-ghost use Rattle.perf_processes.specs.Processes.{after_change, end_thread, mapping_at, name_of, no_processes, parent_thread, start_process, start_thread, task_thread, with_name};
+ghost use Rattle.std.specs.Prelude.{◌≡◌, IfOk, OnOk};
+ghost use Rattle.std.specs.List.{filter};
+ghost use Rattle.perf_processes.specs.Processes.{after_change, end_thread, is_mapped_by, mapping_at, name_of, no_processes, parent_thread, start_process, start_thread, task_thread, with_name};
 
 use crate::change::{Change, MappedFile, ThreadName};
 use crate::lists::{
     copies_of, drop_covered, drop_mapped, drop_thread, drop_threads, has_process, mapping_at,
-    name_of,
+    mappings_of, name_of,
 };
 use perf_files::{Task, ThreadId};
 use std::alloc::{AllocError, Global};
@@ -137,6 +138,13 @@ impl Processes {
         ensures { result ≡ mapping_at pid address self.now.mappings }
     {
         mapping_at(self.mappings.as_slice(), pid, address)
+    }
+
+    /// All that a process has mapped, the latest last.
+    pub fn mappings_of(&self, alloc: Global, pid: u32) -> Result<Vec<MappedFile>, AllocError>
+        ensures { IfOk result (λ found. found.items ≡ filter (is_mapped_by pid) self.now.mappings) }
+    {
+        mappings_of(alloc, self.mappings.as_slice(), pid)
     }
 
     /// What a thread is called.

@@ -1,0 +1,3 @@
+pub mod FrameNames
+pub mod Lines
+pub mod Names

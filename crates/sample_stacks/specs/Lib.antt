@@ -1,0 +1,5 @@
+pub mod KernelFrames
+pub mod SampleMeanings
+pub mod SampleWalks
+pub mod StackCopies
+pub mod WalkViews

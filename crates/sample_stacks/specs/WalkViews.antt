@@ -1,0 +1,26 @@
+-- What contracts see of walks.
+use Rattle.std.specs.Prelude.{◌≡◌, ℕ}
+use Rattle.framehop_unwinder.specs.ByNumber.{marks}
+use Rattle.framehop_unwinder.specs.Frames.{frame_of}
+use Rattle.framehop_unwinder.specs.State.{SessionState}
+use Rattle.framehop_unwinder.specs.Walk.{Move, Walk}
+use Rattle.framehop_unwinder.specs.WalkViews.{walk_of}
+use Rattle.framehop_unwinder.specs.declared.iterator.StackWalk.{StackWalk}
+use Rattle.sample_stacks.specs.SampleWalks.{Ends, Next, Reaches, next_of}
+use Rattle.sample_stacks.specs.declared.walks.NextMove.{NextMove}
+use Rattle.sample_stacks.specs.declared.walks.NextMove.TheVariants as next
+
+-- What a walk has next.
+abbrev pub next_seen : NextMove → Next
+next_seen (next.Frame address) = Reaches (frame_of address)
+next_seen (next.End end) = Ends end
+
+-- A call returns what a move gives, over a copy from this address on, and leaves the walk where the move does.
+pub record IsMove {Registers : Type 0} (start : ℕ) (next : NextMove) (walk : StackWalk Registers) (made : Move Registers) : Type 0 where
+  pub next_is : next_seen next ≡ next_of start made.answer
+  pub walk_is : walk_of walk ≡ made.walk
+
+-- Only what is in a session's caches changed.
+pub record KeepsModules {Data Rule : Type 0} (old new : SessionState Data Rule) : Type 0 where
+  pub unwinders : new.unwinders ≡ old.unwinders
+  pub caches : marks new.caches ≡ marks old.caches

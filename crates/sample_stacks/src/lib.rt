@@ -1,0 +1,12 @@
+//! The stack of one sample: where its walk begins, the words that were copied, the moves of the walk, and the frames of the kernel.
+#![tactic(auto)]
+
+mod arch;
+mod kernel;
+mod stack_copy;
+mod walks;
+
+pub use arch::{SampleArch, SampleModules, SampleStart};
+pub use kernel::push_kernel_frames;
+pub use stack_copy::StackCopy;
+pub use walks::{NextMove, WalkEnd, next_move};
