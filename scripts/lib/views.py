@@ -23,7 +23,7 @@ CODE_AND_MARKERS = re.compile(
     r"^```.*?^```|<!-- ([\w -]+): begin -->.*?<!-- \1: end -->|<!-- count: .+? -->.*?<!-- end -->|`[^`\n]+`|^(?: {4}|\t)[^\n]*", re.M | re.S)
 WIDTH = 130
 # Crates that take fewer minutes of the gate are in one row.
-FEW_MINUTES = 2
+FEW_MINUTES = 4
 # A table with more rows than this has those with smaller numbers in one.
 LONG_TABLE, SMALL = 12, 100
 OTHER_CRATES = ("test_", "cases_", "bench_", "example_")
@@ -261,13 +261,19 @@ def gate_crates():
 
 
 def edit_table():
-    """The wrong edits of each crate, and how many of those in `wrong` were seen refused over the files as they are."""
+    """The wrong edits of each crate, and how many of those in `wrong` were seen refused over the files as they are. Crates without edits in
+    the gate, of which none was, are in one row."""
     record = records.named("edits-refused")
     rows = [["Crate", "In each gate", "In `wrong`", "Seen refused"]]
+    others = []
     for name, (gate, other) in wrong_edits().items():
         seen = record.crates.get(name)
-        state = "–" if not other or not seen else str(seen["refused"]) if seen["hash"] == records.edits_hash(name) else "before the last change"
-        rows.append([f"`{name}`", str(gate or "–"), str(other or "–"), state])
+        is_fresh = bool(other and seen and seen["hash"] == records.edits_hash(name))
+        if gate or is_fresh:
+            rows.append([f"`{name}`", str(gate or "–"), str(other or "–"), str(seen["refused"]) if is_fresh else "–"])
+        else:
+            others.append(other)
+    rows.append([f"{len(others)} others", "–", number_text(sum(others)), "–"])
     return "\n" + figures.markdown_table(rows) + "\n"
 
 
