@@ -2,7 +2,7 @@
 #
 #     podman build -t yingalod .
 #     podman run --rm -it --cap-add SYS_PTRACE --security-opt seccomp=unconfined \
-#         -v KIT:/opt/rattle:ro -v "$PWD":/yingalod yingalod scripts/elf-files
+#         -v KIT:/kit:ro -v "$PWD":/yingalod yingalod scripts/elf-files
 #
 # Rattle's kit comes from outside, as the folder KIT with bin/rt. What isn't Debian's: rustc 1.95.0, for programs in Rust of
 # scripts/real-stacks and scripts/backtraces, and cargo, for benches with --original.
@@ -20,5 +20,5 @@ RUN apt-get update \
     git perl procps python3 \
  && rm -rf /var/lib/apt/lists/*
 
-ENV PATH="/opt/rattle/bin:${PATH}"
+ENV PATH="/kit/bin:${PATH}"
 WORKDIR /yingalod
