@@ -106,7 +106,12 @@ int main() {
   return 0;
 }
 """
-COMPILED = "#include <map>\n#include <regex>\n#include <string>\nint main() { std::regex all(\"a+b\"); std::map<std::string, int> found; return found.size(); }\n"
+COMPILED = """
+#include <map>
+#include <regex>
+#include <string>
+int main() { std::regex all("a+b"); std::map<std::string, int> found; return found.size(); }
+"""
 SCRIPT = """
 import json, re
 def words(depth):

@@ -3,9 +3,33 @@
 import os
 import subprocess
 
-from lib.tools import built_program, give_up
+from lib.tools import built_program, give_up, output
 
 RUNS = 5
+
+# Runs a program, and says its status, the microseconds of the processor and the most resident KiB. A program that Python starts counts
+# what was resident of Python too.
+MEASURE = """
+#include <stdio.h>
+#include <sys/resource.h>
+#include <sys/wait.h>
+#include <unistd.h>
+int main(int argc, char **argv) {
+    int status;
+    struct rusage used;
+    pid_t child = fork();
+    if (child == 0) {
+        freopen("/dev/null", "r", stdin);
+        freopen(argv[1], "w", stdout);
+        freopen("/dev/null", "w", stderr);
+        execvp(argv[2], argv + 2);
+        _exit(127);
+    }
+    if (wait4(child, &status, 0, &used) < 0) return 1;
+    long micros = (used.ru_utime.tv_sec + used.ru_stime.tv_sec) * 1000000 + used.ru_utime.tv_usec + used.ru_stime.tv_usec;
+    printf("%d %ld %ld\\n", WIFEXITED(status) ? WEXITSTATUS(status) : -1, micros, used.ru_maxrss);
+}
+"""
 
 
 def use_one_processor():
@@ -47,3 +71,18 @@ def processor_time(program, path):
         taken = used.ru_utime + used.ru_stime
         least = taken if least is None else min(least, taken)
     return least, written
+
+
+def measuring(folder):
+    """A program that measures what another takes."""
+    (folder / "measure.c").write_text(MEASURE)
+    output("gcc", "-O1", "-w", "-o", folder / "measure", folder / "measure.c")
+    return folder / "measure"
+
+
+def resources(measure, words, written, statuses=(0,)):
+    """The seconds of the processor and the MiB of a run, which writes into a file."""
+    status, micros, size = map(int, output(measure, written, *map(str, words)).split())
+    if status not in statuses:
+        give_up(f"{words[0]} ended with status {status}")
+    return micros / 1e6, size / 1024
