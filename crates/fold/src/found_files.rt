@@ -1,0 +1,285 @@
+//! The files that a recording names, as the system gives them.
+
+use crate::recording::NamedBuildId;
+use elf_files::{ElfFile, Machine, SectionKind};
+use fold_stacks::{RecordedFiles, SampledFiles};
+use function_index::has_symbol_table;
+use perf_files::Architecture;
+use process_modules::FileBytes;
+use std::alloc::{AllocError, Global};
+use std::collections::HashMap;
+use std::fs::File;
+use std::os::unix::fs::FileExt;
+use std::{env, fs, io, str};
+
+/// Where files are looked for.
+#[derive(Debug, Drop)]
+pub(crate) struct Folders {
+    /// The folder that the names of files are below, or no text.
+    pub(crate) root: String,
+    /// The folders of files by their build ids, the first of which counts.
+    pub(crate) by_build_id: Vec<String>,
+}
+
+// What was found of a file.
+#[derive(Clone, Copy, Debug)]
+struct FoundFile {
+    // The file with the code.
+    code: Option<&'static [u8]>,
+    // The file with the symbols.
+    symbols: Option<&'static [u8]>,
+    // Whether there was a file with another build id.
+    has_other: bool,
+}
+
+/// The files that a recording names.
+#[derive(Drop)]
+pub(crate) struct FoundFiles<'r> {
+    rt: &'r HostRuntime,
+    folders: Folders,
+    machine: Architecture,
+    build_ids: Vec<NamedBuildId>,
+    recorded: RecordedFiles,
+    found: HashMap<u32, FoundFile>,
+    /// How many files weren't found.
+    pub(crate) missing: u64,
+}
+
+// The folder where distributions have debug files.
+const DEBUG_FOLDER: &str = "/usr/lib/debug/.build-id";
+
+/// The folders of files by their build ids: the one that was asked for, that of distributions, and perf's own.
+pub(crate) fn folders_of(rt: &HostRuntime, root: &str, build_ids: Option<&str>) -> Result<Folders, AllocError> {
+    let alloc = rt.alloc();
+    let mut by_build_id = Vec::new(alloc);
+    if let Some(folder) = build_ids {
+        by_build_id.push(String::from_str(alloc, folder)?)?;
+    }
+    by_build_id.push(String::from_str(alloc, DEBUG_FOLDER)?)?;
+    if let Ok(home) = env::var(rt, "HOME") {
+        by_build_id.push(format!(in alloc; "{home}/.debug/.build-id")?)?;
+    }
+    Ok(Folders {
+        root: String::from_str(alloc, root)?,
+        by_build_id,
+    })
+}
+
+// So many bytes of a file from its start on, in as much memory.
+fn first_bytes(rt: &HostRuntime, file: &File, size: u64) -> io::Result<Vec<u8>> {
+    let mut bytes = Vec::new(rt.alloc());
+    bytes.resize(size as usize, 0)?;
+    file.read_exact_at(&mut bytes, 0)?;
+    Ok(bytes)
+}
+
+// The bytes of a regular file that begins as ELF files do. Any other isn't read, and a device isn't opened.
+fn read_regular(rt: &HostRuntime, path: &str) -> io::Result<Vec<u8>> {
+    let metadata = fs::metadata(rt, path)?;
+    if !metadata.is_file() {
+        return Err(io::Error::from(io::ErrorKind::InvalidInput));
+    }
+    let file = File::open(rt, path)?;
+    let size = metadata.len();
+    let start = first_bytes(rt, &file, size.min(4))?;
+    if start.as_slice() != b"\x7fELF".as_slice() {
+        return Err(io::Error::from(io::ErrorKind::InvalidInput));
+    }
+    first_bytes(rt, &file, size)
+}
+
+// Whether a file has code, and not only what debuggers read.
+fn has_code(elf: &ElfFile<'_>) -> bool {
+    match elf.section_named(b".text") {
+        Ok(Some(section)) => !matches!(section.kind, SectionKind::NoBits),
+        _ => true,
+    }
+}
+
+// Whether a file is of a machine.
+fn is_of(elf: &ElfFile<'_>, machine: Architecture) -> bool {
+    match machine {
+        Architecture::X86_64 => matches!(elf.machine(), Machine::X86_64),
+        Architecture::Aarch64 => matches!(elf.machine(), Machine::Aarch64),
+    }
+}
+
+// Whether a file with a build id is another than the one with a recorded build id: both are known, and differ.
+fn is_other(elf: &ElfFile<'_>, recorded: &[u8]) -> bool {
+    match elf.build_id() {
+        Ok(Some(id)) => !recorded.is_empty() && id != recorded,
+        _ => false,
+    }
+}
+
+// Appends a build id as the name of a file: the first byte is that of a folder.
+fn push_id_path(alloc: Global, path: &mut String, build_id: &[u8]) -> Result<(), AllocError> {
+    for (index, byte) in build_id.iter().enumerate() {
+        let digits = format!(in alloc; "{byte:02x}")?;
+        path.push_str(digits.as_str())?;
+        if index == 0 {
+            path.push_str("/")?;
+        }
+    }
+    Ok(())
+}
+
+impl FoundFile {
+    // Takes a file that was read, if it is the one that is meant.
+    fn take(&mut self, bytes: Vec<u8>, machine: Architecture, build_id: &[u8]) {
+        let bytes: &'static [u8] = bytes.leak();
+        let Ok(elf) = ElfFile::parse(bytes) else {
+            return;
+        };
+        if !is_of(&elf, machine) || is_other(&elf, build_id) {
+            self.has_other = true;
+            return;
+        }
+        if self.symbols.is_none() && has_symbol_table(&elf) {
+            self.symbols = Some(bytes);
+        }
+        if self.code.is_none() && has_code(&elf) {
+            self.code = Some(bytes);
+        }
+    }
+}
+
+impl<'r> FoundFiles<'r> {
+    /// No files yet, of a recording with these build ids.
+    pub(crate) fn new(
+        rt: &'r HostRuntime,
+        folders: Folders,
+        machine: Architecture,
+        build_ids: Vec<NamedBuildId>,
+    ) -> Self {
+        FoundFiles {
+            rt,
+            folders,
+            machine,
+            build_ids,
+            recorded: RecordedFiles::new(rt.alloc()),
+            found: HashMap::new(rt.alloc()),
+            missing: 0,
+        }
+    }
+
+    // The build id that the recording has of a file of this name.
+    fn build_id_named(&self, name: &[u8]) -> &[u8] {
+        for known in &self.build_ids {
+            if known.name.as_slice() == name {
+                return known.build_id.as_slice();
+            }
+        }
+        &[]
+    }
+
+    // Looks for a file below the folders of build ids.
+    fn find_by_id(&self, found: &mut FoundFile, build_id: &[u8]) -> Result<(), AllocError> {
+        let alloc = self.rt.alloc();
+        for folder in &self.folders.by_build_id {
+            for ending in ["", ".debug", "/elf"] {
+                let mut path = format!(in alloc; "{folder}/")?;
+                push_id_path(alloc, &mut path, build_id)?;
+                path.push_str(ending)?;
+                if let Ok(bytes) = read_regular(self.rt, path.as_str()) {
+                    found.take(bytes, self.machine, build_id);
+                }
+            }
+        }
+        Ok(())
+    }
+
+    // Looks for a file by its name.
+    fn find_by_name(
+        &self,
+        found: &mut FoundFile,
+        name: &[u8],
+        build_id: &[u8],
+    ) -> Result<(), AllocError> {
+        let Ok(name) = str::from_utf8(name) else {
+            return Ok(());
+        };
+        let root = &self.folders.root;
+        let path = format!(in self.rt.alloc(); "{root}{name}")?;
+        if let Ok(bytes) = read_regular(self.rt, path.as_str()) {
+            found.take(bytes, self.machine, build_id);
+        }
+        Ok(())
+    }
+
+    // Looks for a file.
+    fn find(&self, file: u32) -> Result<FoundFile, AllocError> {
+        let mut found = FoundFile {
+            code: None,
+            symbols: None,
+            has_other: false,
+        };
+        let Some(recorded) = self.recorded.get(file) else {
+            return Ok(found);
+        };
+        let name = recorded.name.as_slice();
+        let build_id = recorded.build_id.as_slice();
+        if !build_id.is_empty() {
+            self.find_by_id(&mut found, build_id)?;
+        }
+        if found.code.is_none() && name.starts_with(b"/") {
+            self.find_by_name(&mut found, name, build_id)?;
+        }
+        Ok(found)
+    }
+
+    // Says of a file that it is missing, if it is one.
+    fn say_if_missing(&mut self, file: u32, found: FoundFile) {
+        let name = self.name_of(file);
+        if found.code.is_some() || !name.starts_with(b"/") || name.starts_with(b"//") {
+            return;
+        }
+        let why = if found.has_other {
+            "has another build id than the recording"
+        } else {
+            "not found"
+        };
+        let name = str::from_utf8(name).unwrap_or("?");
+        let _ = eprintln!(self.rt; "fold: {name}: {why}");
+        self.missing = self.missing.saturating_add(1);
+    }
+
+    // What was found of a file, which is looked for once.
+    fn found(&mut self, file: u32) -> Result<FoundFile, AllocError> {
+        if let Some(found) = self.found.get(&file).copied() {
+            return Ok(found);
+        }
+        let found = self.find(file)?;
+        self.found.insert(file, found)?;
+        self.say_if_missing(file, found);
+        Ok(found)
+    }
+}
+
+impl FileBytes for FoundFiles<'_> {
+    fn bytes_of(&mut self, file: u32) -> Result<Option<&'static [u8]>, AllocError> {
+        Ok(self.found(file)?.code)
+    }
+}
+
+impl SampledFiles for FoundFiles<'_> {
+    fn number_of(&mut self, name: &[u8], build_id: &[u8]) -> Result<u32, AllocError> {
+        if !build_id.is_empty() {
+            return self.recorded.number_of(name, build_id);
+        }
+        let build_id = self.build_id_named(name).to_vec(self.rt.alloc())?;
+        self.recorded.number_of(name, build_id.as_slice())
+    }
+
+    fn name_of(&self, file: u32) -> &[u8] {
+        match self.recorded.get(file) {
+            Some(recorded) => recorded.name.as_slice(),
+            None => &[],
+        }
+    }
+
+    fn symbols_of(&mut self, file: u32) -> Result<Option<&'static [u8]>, AllocError> {
+        let found = self.found(file)?;
+        Ok(found.symbols.or(found.code))
+    }
+}

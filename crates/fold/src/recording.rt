@@ -1,0 +1,392 @@
+//! What a recording says beside its samples: its machine, its events, the build ids of files, and where its records are.
+
+use crate::event_names::event_names;
+use crate::source::Source;
+use anyhow::Result;
+use perf_files::{
+    Architecture, AttributeEntry, Attributes, Event, EventError, FeatureError, FieldError,
+    FileBuildId, FileHeader, HeaderError, PerfHeader, Record, RecordError, RecordKind, RecordPlace,
+    Section, Words, architecture_in, event_of, read_header, record_at, sort_by_time, time_of,
+};
+use std::alloc::{AllocError, Global};
+use thiserror::Error;
+
+/// The build id of a file.
+#[derive(Debug, Drop)]
+pub(crate) struct NamedBuildId {
+    /// The file's name.
+    pub(crate) name: Vec<u8>,
+    /// The build id.
+    pub(crate) build_id: Vec<u8>,
+}
+
+/// Why a recording is refused.
+#[derive(Debug, Clone, Copy, PartialEq, Eq, Error)]
+pub(crate) enum Refusal {
+    /// Its header.
+    #[error("{0}")]
+    Header(HeaderError),
+
+    /// The attributes of an event.
+    #[error("{0}")]
+    Attributes(FieldError),
+
+    /// Its machine.
+    #[error("{0}")]
+    Machine(FeatureError),
+
+    /// Which event its records are of.
+    #[error("{0}")]
+    Events(EventError),
+
+    /// Its records are compressed.
+    #[error("compressed records (at offset 0x{offset:x})")]
+    Compressed {
+        /// Where the first one begins.
+        offset: u64,
+    },
+}
+
+/// What a recording says beside its samples.
+#[derive(Drop)]
+pub(crate) struct Recording {
+    /// Its machine, if it says which.
+    pub(crate) machine: Option<Architecture>,
+    /// Its events.
+    pub(crate) events: Vec<Event>,
+    /// Their names, as far as there are some.
+    pub(crate) event_names: Vec<Vec<u8>>,
+    /// The build ids of files.
+    pub(crate) build_ids: Vec<NamedBuildId>,
+    /// Where the records are, in the order of time.
+    pub(crate) places: Vec<RecordPlace>,
+    /// Records of which it isn't known when they were made, or of which event they are.
+    pub(crate) unreadable: u64,
+    /// Where records end before the data do, and why, if that isn't that the last one was cut off.
+    pub(crate) cut: Option<Option<RecordError>>,
+}
+
+// The greatest size of a record.
+const MOST_BYTES: u64 = 1 << 16;
+
+// How much is read at once.
+const BLOCK: u64 = 1 << 20;
+
+const PIPE_HEADER_SIZE: u64 = 16;
+
+const FILE_HEADER_SIZE: u64 = 104;
+
+// The numbers of features.
+const BUILD_IDS: u32 = 2;
+
+const ARCHITECTURE: u32 = 6;
+
+const EVENT_DESCRIPTIONS: u32 = 12;
+
+// The numbers that words are.
+fn numbers_of(alloc: Global, words: &Words<'_>) -> Result<Vec<u64>, AllocError> {
+    let mut numbers = Vec::new(alloc);
+    for index in 0..words.len() {
+        if let Some(number) = words.get(index) {
+            numbers.push(number)?;
+        }
+    }
+    Ok(numbers)
+}
+
+// The rest of some bytes behind so many.
+fn rest_of(bytes: &[u8], size: u64) -> &[u8] {
+    let start = size.min(bytes.len() as u64) as usize;
+    &bytes[start..]
+}
+
+// Whether a record is taken when samples are folded.
+fn is_taken(kind: RecordKind) -> bool {
+    matches!(
+        kind,
+        RecordKind::Mapping
+            | RecordKind::Mapping2
+            | RecordKind::Command
+            | RecordKind::Fork
+            | RecordKind::Exit
+            | RecordKind::Lost
+            | RecordKind::LostSamples
+            | RecordKind::Sample
+    )
+}
+
+impl Recording {
+    // A recording that says nothing.
+    fn new(alloc: Global) -> Self {
+        Recording {
+            machine: None,
+            events: Vec::new(alloc),
+            event_names: Vec::new(alloc),
+            build_ids: Vec::new(alloc),
+            places: Vec::new(alloc),
+            unreadable: 0,
+            cut: None,
+        }
+    }
+
+    // Takes the entry of an event of a file.
+    fn take_entry(
+        &mut self,
+        alloc: Global,
+        source: &mut Source,
+        header: &FileHeader,
+        offset: u64,
+    ) -> Result<Result<(), Refusal>> {
+        let bytes = source.bytes(offset, header.attribute_size, 0)?;
+        let entry = match AttributeEntry::parse(bytes) {
+            Ok(entry) => entry,
+            Err(error) => return Ok(Err(Refusal::Attributes(error))),
+        };
+        let ids = source.bytes(entry.ids.offset, entry.ids.size, 0)?;
+        let ids = numbers_of(alloc, &Words::new(ids))?;
+        self.events.push(Event {
+            attributes: entry.attributes,
+            ids,
+        })?;
+        Ok(Ok(()))
+    }
+
+    // Takes the events of a file.
+    fn take_entries(
+        &mut self,
+        alloc: Global,
+        source: &mut Source,
+        header: &FileHeader,
+    ) -> Result<Result<(), Refusal>> {
+        let end = header
+            .attributes
+            .offset
+            .saturating_add(header.attributes.size)
+            .min(source.size());
+        let mut offset = header.attributes.offset;
+        for _ in 0..header.attributes.size {
+            if end.saturating_sub(offset) < header.attribute_size {
+                break;
+            }
+            if let Err(refusal) = self.take_entry(alloc, source, header, offset)? {
+                return Ok(Err(refusal));
+            }
+            offset = offset.saturating_add(header.attribute_size);
+        }
+        Ok(Ok(()))
+    }
+
+    // Takes the build id of a file.
+    fn take_build_id(&mut self, alloc: Global, record: &Record<'_>) -> Result<(), AllocError> {
+        if let Ok(found) = FileBuildId::parse(record) {
+            self.build_ids.push(NamedBuildId {
+                name: found.name.to_vec(alloc)?,
+                build_id: found.build_id.to_vec(alloc)?,
+            })?;
+        }
+        Ok(())
+    }
+
+    // Takes the feature with the build ids of files.
+    fn take_build_ids(&mut self, alloc: Global, feature: &[u8]) -> Result<(), AllocError> {
+        let mut left = feature;
+        for _ in 0..feature.len() {
+            let Ok(Some((record, size))) = record_at(left, 0) else {
+                break;
+            };
+            self.take_build_id(alloc, &record)?;
+            left = rest_of(left, size);
+        }
+        Ok(())
+    }
+
+    // Takes a feature by its number.
+    fn take_feature(
+        &mut self,
+        alloc: Global,
+        number: u32,
+        feature: &[u8],
+    ) -> Result<Result<(), Refusal>, AllocError> {
+        match number {
+            ARCHITECTURE => match architecture_in(feature) {
+                Ok(machine) => self.machine = Some(machine),
+                Err(error) => return Ok(Err(Refusal::Machine(error))),
+            },
+            BUILD_IDS => self.take_build_ids(alloc, feature)?,
+            EVENT_DESCRIPTIONS => self.event_names = event_names(alloc, feature)?,
+            _ => {}
+        }
+        Ok(Ok(()))
+    }
+
+    // Takes the features of a file that are known.
+    fn take_features(
+        &mut self,
+        alloc: Global,
+        source: &mut Source,
+        header: &FileHeader,
+    ) -> Result<Result<(), Refusal>> {
+        let Some(place) = header.feature_table() else {
+            return Ok(Ok(()));
+        };
+        for number in [ARCHITECTURE, BUILD_IDS, EVENT_DESCRIPTIONS] {
+            let table = source.bytes(place.offset, place.size, 0)?;
+            let Ok(Some(place)) = header.feature_in(table, number) else {
+                continue;
+            };
+            let feature = source.bytes(place.offset, place.size, 0)?;
+            if let Err(refusal) = self.take_feature(alloc, number, feature)? {
+                return Ok(Err(refusal));
+            }
+        }
+        Ok(Ok(()))
+    }
+
+    // Takes a record of the kernel: when it was made.
+    fn take_place(&mut self, record: &Record<'_>) -> Result<Result<(), Refusal>, AllocError> {
+        let index = match event_of(self.events.as_slice(), record) {
+            Ok(index) => index,
+            Err(EventError::NoEvent) => return Ok(Err(Refusal::Events(EventError::NoEvent))),
+            Err(EventError::MixedLayouts) => {
+                return Ok(Err(Refusal::Events(EventError::MixedLayouts)));
+            }
+            Err(_) => {
+                self.unreadable = self.unreadable.saturating_add(1);
+                return Ok(Ok(()));
+            }
+        };
+        let Some(event) = self.events.get(index) else {
+            return Ok(Ok(()));
+        };
+        match time_of(record, &event.attributes) {
+            Ok(time) => self.places.push(RecordPlace::new(time, record.offset))?,
+            Err(_) => self.unreadable = self.unreadable.saturating_add(1),
+        }
+        Ok(Ok(()))
+    }
+
+    // Takes the attributes of an event of a pipe.
+    fn take_attributes(
+        &mut self,
+        alloc: Global,
+        record: &Record<'_>,
+    ) -> Result<Result<(), Refusal>, AllocError> {
+        match Attributes::parse_with_ids(record.payload) {
+            Ok((attributes, words)) => {
+                let ids = numbers_of(alloc, &words)?;
+                self.events.push(Event { attributes, ids })?;
+                Ok(Ok(()))
+            }
+            Err(error) => Ok(Err(Refusal::Attributes(error))),
+        }
+    }
+
+    // Takes a record.
+    fn take_record(
+        &mut self,
+        alloc: Global,
+        record: &Record<'_>,
+    ) -> Result<Result<(), Refusal>, AllocError> {
+        match record.kind {
+            RecordKind::Attributes => self.take_attributes(alloc, record),
+            RecordKind::Feature => {
+                let number = Words::new(record.payload).get(0).unwrap_or(0);
+                let number = u32::try_from(number).unwrap_or(0);
+                self.take_feature(alloc, number, rest_of(record.payload, 8))
+            }
+            RecordKind::BuildId => {
+                self.take_build_id(alloc, record)?;
+                Ok(Ok(()))
+            }
+            RecordKind::Compressed => Ok(Err(Refusal::Compressed {
+                offset: record.offset,
+            })),
+            kind if is_taken(kind) => self.take_place(record),
+            _ => Ok(Ok(())),
+        }
+    }
+
+    // Takes all records.
+    fn take_records(
+        &mut self,
+        alloc: Global,
+        source: &mut Source,
+        data: Section,
+    ) -> Result<Result<(), Refusal>> {
+        let end = data.offset.saturating_add(data.size);
+        let mut offset = data.offset;
+        for _ in 0..data.size {
+            let left = end.saturating_sub(offset);
+            let bytes = source.bytes(offset, left.min(MOST_BYTES), BLOCK)?;
+            match record_at(bytes, offset) {
+                Ok(Some((record, size))) => {
+                    if let Err(refusal) = self.take_record(alloc, &record)? {
+                        return Ok(Err(refusal));
+                    }
+                    offset = offset.saturating_add(size);
+                }
+                Ok(None) => {
+                    if left > 0 {
+                        self.cut = Some(None);
+                    }
+                    break;
+                }
+                Err(error) => {
+                    self.cut = Some(Some(error));
+                    break;
+                }
+            }
+        }
+        Ok(Ok(()))
+    }
+
+    // Takes what a file says, and returns where its records are.
+    fn take_file(
+        &mut self,
+        alloc: Global,
+        source: &mut Source,
+        header: &FileHeader,
+    ) -> Result<Result<Section, Refusal>> {
+        if let Err(refusal) = self.take_entries(alloc, source, header)? {
+            return Ok(Err(refusal));
+        }
+        if let Err(refusal) = self.take_features(alloc, source, header)? {
+            return Ok(Err(refusal));
+        }
+        let data = header.data_in(source.size());
+        if data.size != header.data.size {
+            self.cut = Some(None);
+        }
+        Ok(Ok(data))
+    }
+
+    // Takes what a recording says before its records, and returns where these are.
+    fn take_head(
+        &mut self,
+        alloc: Global,
+        source: &mut Source,
+    ) -> Result<Result<Section, Refusal>> {
+        match read_header(source.bytes(0, FILE_HEADER_SIZE, 0)?) {
+            Ok(PerfHeader::Pipe) => Ok(Ok(Section {
+                offset: PIPE_HEADER_SIZE,
+                size: source.size().saturating_sub(PIPE_HEADER_SIZE),
+            })),
+            Ok(PerfHeader::File(header)) => self.take_file(alloc, source, &header),
+            Err(error) => Ok(Err(Refusal::Header(error))),
+        }
+    }
+
+    /// Reads a recording once, from its start to its end.
+    pub(crate) fn read(alloc: Global, source: &mut Source) -> Result<Result<Self, Refusal>> {
+        let mut recording = Recording::new(alloc);
+        let data = match recording.take_head(alloc, source)? {
+            Ok(data) => data,
+            Err(refusal) => return Ok(Err(refusal)),
+        };
+        if let Err(refusal) = recording.take_records(alloc, source, data)? {
+            return Ok(Err(refusal));
+        }
+        sort_by_time(&mut recording.places)?;
+        Ok(Ok(recording))
+    }
+}

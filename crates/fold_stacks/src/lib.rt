@@ -1,0 +1,24 @@
+//! The folded stacks of a recording: from its records in the order of time, and the bytes of the files that it names, to the stacks of
+//! its samples with how many samples have each.
+#![tactic(auto)]
+
+mod changes;
+mod files;
+mod folding;
+mod frames;
+mod labels;
+mod names;
+mod order;
+mod processes;
+mod samples;
+mod selection;
+mod totals;
+mod walks;
+
+pub use changes::change_of;
+pub use files::{RecordedFile, RecordedFiles, SampledFiles};
+pub use folding::{FoldError, Folding, RecordedEvents};
+pub use frames::UserFrame;
+pub use order::{StackParts, folded_stack};
+pub use selection::{is_selected, weight_of};
+pub use totals::FoldTotals;

@@ -1,0 +1,73 @@
+//! The names of frames.
+
+use folded_stacks::{push_frame_name, push_process_name};
+use line_parts::{push_bytes, push_decimal};
+use perf_files::ThreadId;
+use std::alloc::{AllocError, Global};
+use symbol_names::demangled;
+
+/// What a walk has in place of its outermost frame if the copied stack ends before it does.
+pub(crate) const TRUNCATED: &[u8] = b"[truncated]";
+
+/// What a walk has in place of its outermost frame if no caller is found.
+pub(crate) const BROKEN: &[u8] = b"[broken]";
+
+// The part of a path after the last slash.
+fn base_name(path: &[u8]) -> &[u8] {
+    match path.iter().rposition(|byte| *byte == b'/') {
+        Some(slash) => &path[slash + 1..],
+        None => path,
+    }
+}
+
+/// Appends the name of a function by its symbol: as it is written in programs, if it is known.
+pub(crate) fn push_function(
+    alloc: Global,
+    text: &mut Vec<u8>,
+    symbol: &[u8],
+) -> Result<(), AllocError> {
+    match demangled(alloc, symbol)? {
+        Some(name) => push_frame_name(text, name.as_slice()),
+        None => push_frame_name(text, symbol),
+    }
+}
+
+/// Appends the name of a function that isn't known, in a file of this name: the last part of that, in brackets.
+pub(crate) fn push_unknown_in(text: &mut Vec<u8>, file: &[u8]) -> Result<(), AllocError> {
+    push_bytes(text, b"[")?;
+    push_frame_name(text, base_name(file))?;
+    push_bytes(text, b"]")
+}
+
+/// Appends the name of a process by a thread's: as it is, or its number behind a colon if it has none.
+pub(crate) fn push_comm(
+    alloc: Global,
+    text: &mut Vec<u8>,
+    comm: Option<&[u8]>,
+    pid: u32,
+) -> Result<(), AllocError> {
+    match comm {
+        Some(comm) => push_bytes(text, comm),
+        None => {
+            push_bytes(text, b":")?;
+            push_decimal(alloc, text, u64::from(pid))
+        }
+    }
+}
+
+/// Appends what a stack begins with: the name of the process, and the thread if each has stacks of its own.
+pub(crate) fn push_process(
+    alloc: Global,
+    text: &mut Vec<u8>,
+    comm: &[u8],
+    thread: Option<ThreadId>,
+) -> Result<(), AllocError> {
+    push_process_name(text, comm)?;
+    if let Some(thread) = thread {
+        push_bytes(text, b"-")?;
+        push_decimal(alloc, text, u64::from(thread.pid))?;
+        push_bytes(text, b"/")?;
+        push_decimal(alloc, text, u64::from(thread.tid))?;
+    }
+    Ok(())
+}

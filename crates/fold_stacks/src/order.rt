@@ -1,0 +1,63 @@
+//! The order of the names in a stack.
+
+use std::alloc::{AllocError, Global};
+
+/// The parts of a stack, each by the numbers of its names. Frames are from the innermost on.
+#[derive(Clone, Copy, Debug)]
+pub struct StackParts<'p> {
+    /// The process.
+    pub process: u32,
+    /// Why the walk ended before the end of the stack, if it did.
+    pub end: Option<u32>,
+    /// The frames of user code.
+    pub user: &'p [u32],
+    /// The frames of the kernel.
+    pub kernel: &'p [u32],
+}
+
+// Adds numbers, the last first.
+fn push_reversed(stack: &mut Vec<u32>, numbers: &[u32]) -> Result<(), AllocError> {
+    for number in numbers.iter().rev() {
+        stack.push(*number)?;
+    }
+    Ok(())
+}
+
+// Adds a number, if there is one.
+fn push_if(stack: &mut Vec<u32>, number: Option<u32>) -> Result<(), AllocError> {
+    if let Some(number) = number {
+        stack.push(number)?;
+    }
+    Ok(())
+}
+
+// Adds all but the process's name, from the outermost on.
+fn push_outermost_first(stack: &mut Vec<u32>, parts: &StackParts<'_>) -> Result<(), AllocError> {
+    push_if(stack, parts.end)?;
+    push_reversed(stack, parts.user)?;
+    push_reversed(stack, parts.kernel)
+}
+
+// Adds all but the process's name, from the innermost on.
+fn push_innermost_first(stack: &mut Vec<u32>, parts: &StackParts<'_>) -> Result<(), AllocError> {
+    stack.extend_from_slice(parts.kernel)?;
+    stack.extend_from_slice(parts.user)?;
+    push_if(stack, parts.end)
+}
+
+/// The names of a stack: the process's, and then the frames from the outermost on, or inverted from the innermost on. What says why a
+/// walk ended stands in place of the outermost frame, and frames of the kernel are inside of those of user code.
+pub fn folded_stack(
+    alloc: Global,
+    parts: &StackParts<'_>,
+    inverted: bool,
+) -> Result<Vec<u32>, AllocError> {
+    let mut stack = Vec::new(alloc);
+    stack.push(parts.process)?;
+    if inverted {
+        push_innermost_first(&mut stack, parts)?;
+    } else {
+        push_outermost_first(&mut stack, parts)?;
+    }
+    Ok(stack)
+}
