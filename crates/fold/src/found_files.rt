@@ -1,5 +1,9 @@
 //! The files that a recording names, as the system gives them.
 
+ghost use Rattle.std.specs.Prelude.{◌≡◌, IsTrue};
+ghost use Rattle.std.specs.Option.{option_copied};
+ghost use Rattle.fold.specs.Files.{is_machine, is_other};
+
 use crate::recording::NamedBuildId;
 use elf_files::{ElfFile, Machine, SectionKind};
 use fold_stacks::{RecordedFiles, SampledFiles};
@@ -49,7 +53,11 @@ pub(crate) struct FoundFiles<'r> {
 const DEBUG_FOLDER: &str = "/usr/lib/debug/.build-id";
 
 /// The folders of files by their build ids: the one that was asked for, that of distributions, and perf's own.
-pub(crate) fn folders_of(rt: &HostRuntime, root: &str, build_ids: Option<&str>) -> Result<Folders, AllocError> {
+pub(crate) fn folders_of(
+    rt: &HostRuntime,
+    root: &str,
+    build_ids: Option<&str>,
+) -> Result<Folders, AllocError> {
     let alloc = rt.alloc();
     let mut by_build_id = Vec::new(alloc);
     if let Some(folder) = build_ids {
@@ -96,19 +104,31 @@ fn has_code(elf: &ElfFile<'_>) -> bool {
     }
 }
 
-// Whether a file is of a machine.
-fn is_of(elf: &ElfFile<'_>, machine: Architecture) -> bool {
-    match machine {
-        Architecture::X86_64 => matches!(elf.machine(), Machine::X86_64),
-        Architecture::Aarch64 => matches!(elf.machine(), Machine::Aarch64),
+// Whether a machine is that of a recording.
+fn is_machine(recorded: Architecture, machine: Machine) -> bool
+    ensures { result ≡ is_machine recorded machine }
+{
+    match recorded {
+        Architecture::X86_64 => matches!(machine, Machine::X86_64),
+        Architecture::Aarch64 => matches!(machine, Machine::Aarch64),
     }
 }
 
 // Whether a file with a build id is another than the one with a recorded build id: both are known, and differ.
-fn is_other(elf: &ElfFile<'_>, recorded: &[u8]) -> bool {
+fn is_other(id: Option<&[u8]>, recorded: &[u8]) -> bool
+    ensures { result ≡ is_other (option_copied id.entry) recorded.now }
+{
+    match id {
+        Some(id) => !recorded.is_empty() && id != recorded,
+        None => false,
+    }
+}
+
+// The build id of a file.
+fn build_id_of<'a>(elf: &ElfFile<'a>) -> Option<&'a [u8]> {
     match elf.build_id() {
-        Ok(Some(id)) => !recorded.is_empty() && id != recorded,
-        _ => false,
+        Ok(id) => id,
+        Err(_) => None,
     }
 }
 
@@ -131,7 +151,7 @@ impl FoundFile {
         let Ok(elf) = ElfFile::parse(bytes) else {
             return;
         };
-        if !is_of(&elf, machine) || is_other(&elf, build_id) {
+        if !is_machine(machine, elf.machine()) || is_other(build_id_of(&elf), build_id) {
             self.has_other = true;
             return;
         }

@@ -1,5 +1,8 @@
 //! What the program writes: lines, a picture, and what was folded in numbers.
 
+ghost use Rattle.std.specs.Prelude.{◌≡◌};
+ghost use Rattle.fold.specs.Order.{picture_key};
+
 use crate::recording::Recording;
 use anyhow::Result;
 use flame_graph::{Direction, FoldedStack, Picture, flame_graph};
@@ -23,7 +26,9 @@ pub(crate) fn write_lines(rt: &HostRuntime, lines: &[FoldedLine]) -> Result<()> 
 }
 
 // A byte of a stack for the order of a picture, in which names that begin others come first.
-fn picture_key(byte: u8) -> u8 {
+fn picture_key(byte: u8) -> u8
+    ensures { result ≡ picture_key byte }
+{
     if byte == b';' { 0 } else { byte }
 }
 

@@ -1,5 +1,8 @@
 //! What a recording says beside its samples: its machine, its events, the build ids of files, and where its records are.
 
+ghost use Rattle.std.specs.Prelude.{IfOk};
+ghost use Rattle.std.specs.List.Sorted.{IsNonDecreasingBy};
+
 use crate::event_names::event_names;
 use crate::source::Source;
 use anyhow::Result;
@@ -377,7 +380,9 @@ impl Recording {
     }
 
     /// Reads a recording once, from its start to its end.
-    pub(crate) fn read(alloc: Global, source: &mut Source) -> Result<Result<Self, Refusal>> {
+    pub(crate) fn read(alloc: Global, source: &mut Source) -> Result<Result<Self, Refusal>>
+        ensures { IfOk result (λ read. IfOk read (λ recording. IsNonDecreasingBy (λ place. place.key) recording.places.items)) }
+    {
         let mut recording = Recording::new(alloc);
         let data = match recording.take_head(alloc, source)? {
             Ok(data) => data,

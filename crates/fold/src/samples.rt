@@ -49,7 +49,7 @@ fn take_all<A: SampleArch>(
             continue;
         };
         match folding.take::<FoundFiles<'_>>(rt.alloc(), options, events, files, &record) {
-            Ok(()) => {}
+            Ok(_change) => {}
             Err(FoldError::OutOfMemory) => bail!("out of memory"),
             Err(_) => unreadable = unreadable.saturating_add(1),
         }

@@ -69,7 +69,9 @@ impl Source {
         if !self.has(offset, size) {
             self.read(offset, ahead.max(size).min(left))?;
         }
-        let start = offset.saturating_sub(self.start).min(self.part.len() as u64) as usize;
+        let start = offset
+            .saturating_sub(self.start)
+            .min(self.part.len() as u64) as usize;
         let rest = &self.part[start..];
         let size = size.min(rest.len() as u64) as usize;
         Ok(&rest[..size])

@@ -1,13 +1,22 @@
 //! What records say that changes processes.
 
+ghost use Rattle.std.specs.Prelude.{◌≡◌, IfOk, Ok};
+ghost use Rattle.perf_files.specs.MappingViews.{mapping_seen};
+ghost use Rattle.perf_files.specs.RecordViews.{record_seen};
+ghost use Rattle.perf_files.specs.TaskViews.{command_seen};
+ghost use Rattle.perf_files.specs.declared.record.RecordKind.TheVariants as kind;
+ghost use Rattle.fold_stacks.specs.RecordChanges.{change_by, command_change, mapped_file, number_in};
+
+use crate::error::FoldError;
 use crate::files::SampledFiles;
-use crate::folding::FoldError;
 use folded_stacks::FrameNames;
 use perf_files::{Attributes, Command, Mapping, Record, RecordKind, Task};
 use perf_processes::{Change, MappedFile, ThreadName};
 
 // A mapping of the file with this number.
-fn mapped_file(mapping: &Mapping<'_>, file: u32) -> MappedFile {
+fn mapped_file(mapping: &Mapping<'_>, file: u32) -> MappedFile
+    ensures { result ≡ mapped_file (mapping_seen mapping.now) file }
+{
     MappedFile {
         pid: mapping.thread.pid,
         address: mapping.address,
@@ -18,7 +27,9 @@ fn mapped_file(mapping: &Mapping<'_>, file: u32) -> MappedFile {
 }
 
 // The change that a name with this number says.
-fn named_change(command: &Command<'_>, name: u32) -> Change {
+fn named_change(command: &Command<'_>, name: u32) -> Change
+    ensures { result ≡ command_change name (command_seen command.now) }
+{
     let named = ThreadName {
         thread: command.thread,
         name: Some(name),
@@ -35,7 +46,9 @@ fn mapping_change<F: SampledFiles>(
     files: &mut F,
     record: &Record<'_>,
     attributes: &Attributes,
-) -> Result<Option<Change>, FoldError> {
+) -> Result<Option<Change>, FoldError>
+    ensures { IfOk result (λ change. change_by kind.Mapping attributes.now (record_seen record.now) (number_in change) ≡ Ok change) }
+{
     let mapping = Mapping::parse(record, attributes)?;
     if !mapping.executable {
         return Ok(None);
@@ -49,7 +62,9 @@ fn command_change(
     names: &mut FrameNames,
     record: &Record<'_>,
     attributes: &Attributes,
-) -> Result<Option<Change>, FoldError> {
+) -> Result<Option<Change>, FoldError>
+    ensures { IfOk result (λ change. change_by kind.Command attributes.now (record_seen record.now) (number_in change) ≡ Ok change) }
+{
     let command = Command::parse(record, attributes)?;
     let name = names.number_of(command.name)?;
     Ok(Some(named_change(&command, name)))
@@ -62,7 +77,9 @@ pub fn change_of<F: SampledFiles>(
     files: &mut F,
     record: &Record<'_>,
     attributes: &Attributes,
-) -> Result<Option<Change>, FoldError> {
+) -> Result<Option<Change>, FoldError>
+    ensures { IfOk result (λ change. change_by record.now.kind attributes.now (record_seen record.now) (number_in change) ≡ Ok change) }
+{
     match record.kind {
         RecordKind::Mapping | RecordKind::Mapping2 => {
             mapping_change::<F>(files, record, attributes)

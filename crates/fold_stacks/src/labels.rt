@@ -2,10 +2,11 @@
 
 use crate::files::SampledFiles;
 use crate::frames::UserFrame;
-use crate::names::{push_function, push_unknown_in};
+use crate::names::{UNKNOWN, push_function, push_unknown_in};
 use elf_files::ElfFile;
 use folded_stacks::{FrameNames, push_address};
 use function_index::FunctionIndex;
+use perf_processes::Processes;
 use process_modules::CodePlace;
 use std::alloc::{AllocError, Global};
 use std::collections::HashMap;
@@ -84,8 +85,8 @@ impl Labels {
         self.names.number_of(text.as_slice())
     }
 
-    /// The number of the name of the function at a place.
-    pub(crate) fn number_of_place<F: SampledFiles>(
+    // The number of the name of the function at a place.
+    fn number_of_place<F: SampledFiles>(
         &mut self,
         alloc: Global,
         files: &mut F,
@@ -112,6 +113,24 @@ impl Labels {
         let mut text = Vec::new(alloc);
         push_unknown_in(&mut text, file)?;
         self.names.number_of(text.as_slice())
+    }
+
+    /// The number of the name of a frame of a process: of its function, or of the file that is mapped there.
+    pub(crate) fn number_of_frame<F: SampledFiles>(
+        &mut self,
+        alloc: Global,
+        files: &mut F,
+        processes: &Processes,
+        pid: u32,
+        frame: &UserFrame,
+    ) -> Result<u32, AllocError> {
+        if let Some(place) = frame.place {
+            return self.number_of_place::<F>(alloc, files, place);
+        }
+        match processes.mapping_at(pid, frame.lookup) {
+            Some(mapping) => self.number_of_unknown(alloc, files.name_of(mapping.file)),
+            None => self.number_of_unknown(alloc, UNKNOWN),
+        }
     }
 
     /// The number of an address as a name.

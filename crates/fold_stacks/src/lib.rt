@@ -3,6 +3,7 @@
 #![tactic(auto)]
 
 mod changes;
+mod error;
 mod files;
 mod folding;
 mod frames;
@@ -16,9 +17,9 @@ mod totals;
 mod walks;
 
 pub use changes::change_of;
+pub use error::FoldError;
 pub use files::{RecordedFile, RecordedFiles, SampledFiles};
-pub use folding::{FoldError, Folding, RecordedEvents};
-pub use frames::UserFrame;
+pub use folding::{Folding, RecordedEvents};
 pub use order::{StackParts, folded_stack};
 pub use selection::{is_selected, weight_of};
 pub use totals::FoldTotals;

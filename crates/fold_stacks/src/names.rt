@@ -1,5 +1,10 @@
 //! The names of frames.
 
+ghost use Rattle.std.specs.Prelude.{◌≡◌};
+ghost use Rattle.std.specs.Option.{option_copied};
+ghost use Rattle.line_parts.specs.Parts.{Pushes};
+ghost use Rattle.fold_stacks.specs.FrameTexts.{base_from, base_name, comm_text, function_text, process_text, thread_text, unknown_text};
+
 use folded_stacks::{push_frame_name, push_process_name};
 use line_parts::{push_bytes, push_decimal};
 use perf_files::ThreadId;
@@ -12,12 +17,22 @@ pub(crate) const TRUNCATED: &[u8] = b"[truncated]";
 /// What a walk has in place of its outermost frame if no caller is found.
 pub(crate) const BROKEN: &[u8] = b"[broken]";
 
+/// What stands for the name of a file where none is mapped.
+pub(crate) const UNKNOWN: &[u8] = b"unknown";
+
 // The part of a path after the last slash.
-fn base_name(path: &[u8]) -> &[u8] {
-    match path.iter().rposition(|byte| *byte == b'/') {
-        Some(slash) => &path[slash + 1..],
-        None => path,
+fn base_name(path: &[u8]) -> &[u8]
+    ensures { result.now ≡ base_name path.now }
+{
+    let mut base = path;
+    let mut left = path;
+    'bytes: while let [byte, rest @ ..] = left {
+        if *byte == b'/' {
+            base = rest;
+        }
+        left = rest;
     }
+    base
 }
 
 /// Appends the name of a function by its symbol: as it is written in programs, if it is known.
@@ -25,7 +40,9 @@ pub(crate) fn push_function(
     alloc: Global,
     text: &mut Vec<u8>,
     symbol: &[u8],
-) -> Result<(), AllocError> {
+) -> Result<(), AllocError>
+    ensures { Pushes result text.old text.new (function_text symbol.now) }
+{
     match demangled(alloc, symbol)? {
         Some(name) => push_frame_name(text, name.as_slice()),
         None => push_frame_name(text, symbol),
@@ -33,7 +50,9 @@ pub(crate) fn push_function(
 }
 
 /// Appends the name of a function that isn't known, in a file of this name: the last part of that, in brackets.
-pub(crate) fn push_unknown_in(text: &mut Vec<u8>, file: &[u8]) -> Result<(), AllocError> {
+pub(crate) fn push_unknown_in(text: &mut Vec<u8>, file: &[u8]) -> Result<(), AllocError>
+    ensures { Pushes result text.old text.new (unknown_text file.now) }
+{
     push_bytes(text, b"[")?;
     push_frame_name(text, base_name(file))?;
     push_bytes(text, b"]")
@@ -45,7 +64,9 @@ pub(crate) fn push_comm(
     text: &mut Vec<u8>,
     comm: Option<&[u8]>,
     pid: u32,
-) -> Result<(), AllocError> {
+) -> Result<(), AllocError>
+    ensures { Pushes result text.old text.new (comm_text (option_copied comm.entry) pid) }
+{
     match comm {
         Some(comm) => push_bytes(text, comm),
         None => {
@@ -55,19 +76,32 @@ pub(crate) fn push_comm(
     }
 }
 
+// Appends a thread, if there is one.
+fn push_thread(
+    alloc: Global,
+    text: &mut Vec<u8>,
+    thread: Option<ThreadId>,
+) -> Result<(), AllocError>
+    ensures { Pushes result text.old text.new (thread_text thread) }
+{
+    let Some(thread) = thread else {
+        return Ok(());
+    };
+    push_bytes(text, b"-")?;
+    push_decimal(alloc, text, u64::from(thread.pid))?;
+    push_bytes(text, b"/")?;
+    push_decimal(alloc, text, u64::from(thread.tid))
+}
+
 /// Appends what a stack begins with: the name of the process, and the thread if each has stacks of its own.
 pub(crate) fn push_process(
     alloc: Global,
     text: &mut Vec<u8>,
     comm: &[u8],
     thread: Option<ThreadId>,
-) -> Result<(), AllocError> {
+) -> Result<(), AllocError>
+    ensures { Pushes result text.old text.new (process_text comm.now thread) }
+{
     push_process_name(text, comm)?;
-    if let Some(thread) = thread {
-        push_bytes(text, b"-")?;
-        push_decimal(alloc, text, u64::from(thread.pid))?;
-        push_bytes(text, b"/")?;
-        push_decimal(alloc, text, u64::from(thread.tid))?;
-    }
-    Ok(())
+    push_thread(alloc, text, thread)
 }

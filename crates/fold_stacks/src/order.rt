@@ -1,5 +1,8 @@
 //! The order of the names in a stack.
 
+ghost use Rattle.std.specs.Prelude.{◌≡◌, ◌++◌, reverse, IfOk, OnOk};
+ghost use Rattle.fold_stacks.specs.Stacks.{innermost_first, numbers_if, outermost_first, stack_numbers};
+
 use std::alloc::{AllocError, Global};
 
 /// The parts of a stack, each by the numbers of its names. Frames are from the innermost on.
@@ -16,7 +19,9 @@ pub struct StackParts<'p> {
 }
 
 // Adds numbers, the last first.
-fn push_reversed(stack: &mut Vec<u32>, numbers: &[u32]) -> Result<(), AllocError> {
+fn push_reversed(stack: &mut Vec<u32>, numbers: &[u32]) -> Result<(), AllocError>
+    ensures { OnOk result (stack.new.items ≡ stack.old.items ++ reverse numbers.now) }
+{
     for number in numbers.iter().rev() {
         stack.push(*number)?;
     }
@@ -24,7 +29,9 @@ fn push_reversed(stack: &mut Vec<u32>, numbers: &[u32]) -> Result<(), AllocError
 }
 
 // Adds a number, if there is one.
-fn push_if(stack: &mut Vec<u32>, number: Option<u32>) -> Result<(), AllocError> {
+fn push_if(stack: &mut Vec<u32>, number: Option<u32>) -> Result<(), AllocError>
+    ensures { OnOk result (stack.new.items ≡ stack.old.items ++ numbers_if number) }
+{
     if let Some(number) = number {
         stack.push(number)?;
     }
@@ -32,14 +39,18 @@ fn push_if(stack: &mut Vec<u32>, number: Option<u32>) -> Result<(), AllocError> 
 }
 
 // Adds all but the process's name, from the outermost on.
-fn push_outermost_first(stack: &mut Vec<u32>, parts: &StackParts<'_>) -> Result<(), AllocError> {
+fn push_outermost_first(stack: &mut Vec<u32>, parts: &StackParts<'_>) -> Result<(), AllocError>
+    ensures { OnOk result (stack.new.items ≡ stack.old.items ++ outermost_first parts.now) }
+{
     push_if(stack, parts.end)?;
     push_reversed(stack, parts.user)?;
     push_reversed(stack, parts.kernel)
 }
 
 // Adds all but the process's name, from the innermost on.
-fn push_innermost_first(stack: &mut Vec<u32>, parts: &StackParts<'_>) -> Result<(), AllocError> {
+fn push_innermost_first(stack: &mut Vec<u32>, parts: &StackParts<'_>) -> Result<(), AllocError>
+    ensures { OnOk result (stack.new.items ≡ stack.old.items ++ innermost_first parts.now) }
+{
     stack.extend_from_slice(parts.kernel)?;
     stack.extend_from_slice(parts.user)?;
     push_if(stack, parts.end)
@@ -51,7 +62,9 @@ pub fn folded_stack(
     alloc: Global,
     parts: &StackParts<'_>,
     inverted: bool,
-) -> Result<Vec<u32>, AllocError> {
+) -> Result<Vec<u32>, AllocError>
+    ensures { IfOk result (λ stack. stack.items ≡ stack_numbers parts.now inverted) }
+{
     let mut stack = Vec::new(alloc);
     stack.push(parts.process)?;
     if inverted {

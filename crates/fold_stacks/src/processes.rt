@@ -1,5 +1,8 @@
 //! The modules of each process.
 
+ghost use Rattle.std.specs.Prelude.{◌≡◌};
+ghost use Rattle.fold_stacks.specs.Concerns.{concerned};
+
 use crate::walks::Walker;
 use perf_processes::{Change, Processes};
 use process_modules::ProcessModules;
@@ -21,7 +24,9 @@ pub(crate) struct ModuleTable {
 }
 
 // The process whose mappings a change concerns, and whether all that it had goes.
-fn concerned(change: Change) -> Option<(u32, bool)> {
+fn concerned(change: Change) -> Option<(u32, bool)>
+    ensures { result ≡ concerned change }
+{
     match change {
         Change::Mapped(mapped) => Some((mapped.pid, false)),
         Change::Named(_) => None,

@@ -29,8 +29,9 @@ impl FoldTotals {
         }
     }
 
-    // Counts a walk.
+    // Counts a sample, by how many frames its walk has and how it ends.
     pub(crate) fn add_walk(&mut self, end: WalkEnd, frames: usize) {
+        self.samples = self.samples.saturating_add(1);
         self.frames = self.frames.saturating_add(frames as u64);
         match end {
             WalkEnd::Complete => {}

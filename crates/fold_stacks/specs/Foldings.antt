@@ -1,0 +1,19 @@
+-- What a record changes of processes.
+use Rattle.std.specs.Prelude.{◌≡◌, List, slice_get, Option, Some, None, IfSome, Ok, IfOk}
+use Rattle.perf_files.specs.Events.{event_of}
+use Rattle.perf_files.specs.Records.{RecordParts}
+use Rattle.perf_files.specs.declared.event.Event.{Event}
+use Rattle.perf_processes.specs.Processes.{ProcessState, after_change}
+use Rattle.perf_processes.specs.declared.change.Change.{Change}
+use Rattle.fold_stacks.specs.RecordChanges.{change_by, number_in}
+
+-- processes after a change, if there is one
+abbrev pub after_if : Option Change → ProcessState → ProcessState
+after_if (Some change) state = after_change change state
+after_if None state = state
+
+-- This is what a record changes, by the attributes of the event that it is of.
+abbrev pub SaysChange : List Event → RecordParts → Option Change → Type 0
+SaysChange events found change =
+    IfOk (event_of events found) (λ index. IfSome (slice_get events index)
+    (λ event. change_by found.kind event.attributes found (number_in change) ≡ Ok change))
