@@ -1,6 +1,6 @@
 //! The files that a recording names, as the system gives them.
 
-ghost use Rattle.std.specs.Prelude.{◌≡◌, IsTrue};
+ghost use Rattle.std.specs.Prelude.{◌≡◌};
 ghost use Rattle.std.specs.Option.{option_copied};
 ghost use Rattle.fold.specs.Files.{is_machine, is_other};
 
@@ -32,7 +32,7 @@ struct FoundFile {
     code: Option<&'static [u8]>,
     // The file with the symbols.
     symbols: Option<&'static [u8]>,
-    // Whether there was a file with another build id.
+    // Whether there was a file that is another.
     has_other: bool,
 }
 
@@ -144,21 +144,39 @@ fn push_id_path(alloc: Global, path: &mut String, build_id: &[u8]) -> Result<(),
     Ok(())
 }
 
+// What a file has, if it is the one that was recorded.
+#[derive(Clone, Copy, Debug)]
+struct FileParts {
+    has_symbols: bool,
+    has_code: bool,
+}
+
+// What a file with these bytes has: none if it is another than the one that was recorded.
+fn parts_of(bytes: &[u8], machine: Architecture, build_id: &[u8]) -> Option<FileParts> {
+    let Ok(elf) = ElfFile::parse(bytes) else {
+        return None;
+    };
+    if !is_machine(machine, elf.machine()) || is_other(build_id_of(&elf), build_id) {
+        return None;
+    }
+    Some(FileParts {
+        has_symbols: has_symbol_table(&elf),
+        has_code: has_code(&elf),
+    })
+}
+
 impl FoundFile {
-    // Takes a file that was read, if it is the one that is meant.
+    // Takes a file that was read, if it is the one that was recorded.
     fn take(&mut self, bytes: Vec<u8>, machine: Architecture, build_id: &[u8]) {
-        let bytes: &'static [u8] = bytes.leak();
-        let Ok(elf) = ElfFile::parse(bytes) else {
-            return;
-        };
-        if !is_machine(machine, elf.machine()) || is_other(build_id_of(&elf), build_id) {
+        let Some(parts) = parts_of(bytes.as_slice(), machine, build_id) else {
             self.has_other = true;
             return;
-        }
-        if self.symbols.is_none() && has_symbol_table(&elf) {
+        };
+        let bytes: &'static [u8] = bytes.leak();
+        if self.symbols.is_none() && parts.has_symbols {
             self.symbols = Some(bytes);
         }
-        if self.code.is_none() && has_code(&elf) {
+        if self.code.is_none() && parts.has_code {
             self.code = Some(bytes);
         }
     }
@@ -255,7 +273,7 @@ impl<'r> FoundFiles<'r> {
             return;
         }
         let why = if found.has_other {
-            "has another build id than the recording"
+            "another file than the recorded one"
         } else {
             "not found"
         };

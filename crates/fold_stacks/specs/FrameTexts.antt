@@ -4,14 +4,14 @@ use Rattle.folded_stacks.specs.Names.{process_name, shown_byte}
 use Rattle.perf_files.specs.declared.fields.ThreadId.{ThreadId}
 use Rattle.symbol_names.specs.Names.{text_of}
 
--- the part of a path after its last slash (47), of which this is what follows those before the bytes that are left
-unfoldable pub base_from : List ℕ → List ℕ → List ℕ
+-- the part of a path after its last slash (47), if this is the part of what was read so far
+abbrev pub base_from : List ℕ → List ℕ → List ℕ
 base_from base [] = base
-base_from base (byte ∷ bytes) = base_from (if byte == 47 then bytes else base) bytes
+base_from base (byte ∷ bytes) = base_from (if byte == 47 then [] else base ++ byte ∷ []) bytes
 
 -- the part of a path after its last slash
 abbrev pub base_name : List ℕ → List ℕ
-base_name path = base_from path path
+base_name path = base_from [] path
 
 -- the name of a function, by its symbol: as it is written in programs, if it is known
 abbrev pub function_text : List ℕ → List ℕ
@@ -21,10 +21,10 @@ function_text symbol = map shown_byte (unwrap_or (text_of symbol) symbol)
 abbrev pub unknown_text : List ℕ → List ℕ
 unknown_text file = codes "[" ++ map shown_byte (base_name file) ++ codes "]"
 
--- the name of a thread, or the number of its process behind a colon
+-- the name of a thread, or the number of its process behind a colon; process 0 is the one that idles
 abbrev pub comm_text : Option (List ℕ) → ℕ → List ℕ
 comm_text (Some comm) pid = comm
-comm_text None pid = codes ":" ++ decimal pid
+comm_text None pid = if pid == 0 then codes "swapper" else codes ":" ++ decimal pid
 
 -- a thread behind the name of its process
 abbrev pub thread_text : Option ThreadId → List ℕ

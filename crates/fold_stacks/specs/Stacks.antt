@@ -7,14 +7,10 @@ abbrev pub numbers_if : Option ℕ → List ℕ
 numbers_if (Some number) = number ∷ []
 numbers_if None = []
 
--- all but the process's name, from the outermost on: why the walk ended, the frames of user code, and those of the kernel
-abbrev pub outermost_first : StackParts → List ℕ
-outermost_first parts = numbers_if parts.end ++ reverse parts.user.now ++ reverse parts.kernel.now
-
--- the same from the innermost on
+-- all but the process's name, from the innermost on: the frames of the kernel, those of user code, and why the walk ended
 abbrev pub innermost_first : StackParts → List ℕ
 innermost_first parts = parts.kernel.now ++ parts.user.now ++ numbers_if parts.end
 
--- the names of a stack, the process's first
+-- the names of a stack: the process's, and the others from the outermost on, or inverted from the innermost on
 abbrev pub stack_numbers : StackParts → Bool → List ℕ
-stack_numbers parts inverted = parts.process ∷ (if inverted then innermost_first parts else outermost_first parts)
+stack_numbers parts inverted = parts.process ∷ (if inverted then innermost_first parts else reverse (innermost_first parts))

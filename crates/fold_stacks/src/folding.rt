@@ -7,14 +7,14 @@ ghost use Rattle.fold_stacks.specs.Foldings.{SaysChange, after_if};
 ghost use Rattle.fold_stacks.specs.RecordChanges.{change_by, number_in};
 
 use crate::changes::change_of;
+use crate::comms::Comms;
 use crate::error::FoldError;
 use crate::files::SampledFiles;
-use crate::names::push_comm;
 use crate::samples::SampleStacks;
 use crate::selection::{is_selected, weight_of};
 use crate::totals::FoldTotals;
 use fold_options::FoldOptions;
-use folded_stacks::{FoldedLine, FrameNames};
+use folded_stacks::FoldedLine;
 use perf_files::{Attributes, Event, Record, RecordKind, Sample, ThreadId, event_of, lost_of};
 use perf_processes::{Change, Processes};
 use sample_stacks::SampleArch;
@@ -34,7 +34,7 @@ pub struct RecordedEvents<'e> {
 #[derive(Drop)]
 pub struct Folding<A: SampleArch> {
     processes: Processes,
-    comms: FrameNames,
+    comms: Comms,
     samples: SampleStacks<A>,
 }
 
@@ -55,22 +55,6 @@ fn event_name<'e>(events: RecordedEvents<'e>, index: usize) -> &'e [u8] {
     }
 }
 
-// What the process of a thread is called.
-fn comm_of(
-    alloc: Global,
-    processes: &Processes,
-    comms: &FrameNames,
-    thread: ThreadId,
-) -> Result<Vec<u8>, AllocError> {
-    let known = match processes.name_of(thread) {
-        Some(number) => Some(comms.text_of(number)),
-        None => None,
-    };
-    let mut comm = Vec::new(alloc);
-    push_comm(alloc, &mut comm, known, thread.pid)?;
-    Ok(comm)
-}
-
 impl<A: SampleArch> Folding<A> {
     /// No records yet. Fails if memory is refused.
     pub fn new(alloc: Global) -> Result<Self, AllocError>
@@ -78,7 +62,7 @@ impl<A: SampleArch> Folding<A> {
     {
         Ok(Folding {
             processes: Processes::new(alloc),
-            comms: FrameNames::new(alloc),
+            comms: Comms::new(alloc),
             samples: SampleStacks::<A>::new(alloc)?,
         })
     }
@@ -97,7 +81,7 @@ impl<A: SampleArch> Folding<A> {
     {
         let sample = Sample::parse(record.payload, attributes)?;
         let thread = sample.head.thread.unwrap_or(ThreadId { pid: 0, tid: 0 });
-        let comm = comm_of(alloc, &self.processes, &self.comms, thread)?;
+        let comm = self.comms.comm_of(alloc, &self.processes, thread)?;
         if is_selected(&options.selection, thread, comm.as_slice(), event) {
             let weight = weight_of(options.weights, sample.head.period, attributes.period);
             let process = self
@@ -127,8 +111,9 @@ impl<A: SampleArch> Folding<A> {
         ensures change { IfOk result (λ change. change_by record.now.kind attributes.now (record_seen record.now) (number_in change) ≡ Ok change) }
         ensures processes { IfOk result (λ change. self.new ≡ after_if change self.old) }
     {
-        let found = change_of::<F>(&mut self.comms, files, record, attributes)?;
+        let found = change_of::<F>(&mut self.comms.names, files, record, attributes)?;
         if let Some(change) = found {
+            self.comms.note(&self.processes, change)?;
             self.processes.apply(change)?;
             self.samples.note(change);
         }

@@ -80,7 +80,7 @@ impl Labels {
         let mut text = Vec::new(alloc);
         match self.symbol_at::<F>(alloc, files, place)? {
             Some(symbol) => push_function(alloc, &mut text, symbol)?,
-            None => push_unknown_in(&mut text, files.name_of(place.file))?,
+            None => push_unknown_in(alloc, &mut text, files.name_of(place.file))?,
         }
         self.names.number_of(text.as_slice())
     }
@@ -111,7 +111,7 @@ impl Labels {
         file: &[u8],
     ) -> Result<u32, AllocError> {
         let mut text = Vec::new(alloc);
-        push_unknown_in(&mut text, file)?;
+        push_unknown_in(alloc, &mut text, file)?;
         self.names.number_of(text.as_slice())
     }
 

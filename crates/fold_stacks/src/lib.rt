@@ -3,6 +3,7 @@
 #![tactic(auto)]
 
 mod changes;
+mod comms;
 mod error;
 mod files;
 mod folding;

@@ -1,9 +1,9 @@
 //! The names of frames.
 
-ghost use Rattle.std.specs.Prelude.{◌≡◌};
+ghost use Rattle.std.specs.Prelude.{◌≡◌, OnOk};
 ghost use Rattle.std.specs.Option.{option_copied};
 ghost use Rattle.line_parts.specs.Parts.{Pushes};
-ghost use Rattle.fold_stacks.specs.FrameTexts.{base_from, base_name, comm_text, function_text, process_text, thread_text, unknown_text};
+ghost use Rattle.fold_stacks.specs.FrameTexts.{base_from, comm_text, function_text, process_text, thread_text, unknown_text};
 
 use folded_stacks::{push_frame_name, push_process_name};
 use line_parts::{push_bytes, push_decimal};
@@ -20,19 +20,18 @@ pub(crate) const BROKEN: &[u8] = b"[broken]";
 /// What stands for the name of a file where none is mapped.
 pub(crate) const UNKNOWN: &[u8] = b"unknown";
 
-// The part of a path after the last slash.
-fn base_name(path: &[u8]) -> &[u8]
-    ensures { result.now ≡ base_name path.now }
+// Goes on with the part of a path after its last slash, by more of the path.
+fn push_base_name(base: &mut Vec<u8>, path: &[u8]) -> Result<(), AllocError>
+    ensures { OnOk result (base.new.items ≡ base_from base.old.items path.now) }
 {
-    let mut base = path;
-    let mut left = path;
-    'bytes: while let [byte, rest @ ..] = left {
+    for byte in path {
         if *byte == b'/' {
-            base = rest;
+            base.clear();
+        } else {
+            base.push(*byte)?;
         }
-        left = rest;
     }
-    base
+    Ok(())
 }
 
 /// Appends the name of a function by its symbol: as it is written in programs, if it is known.
@@ -50,15 +49,22 @@ pub(crate) fn push_function(
 }
 
 /// Appends the name of a function that isn't known, in a file of this name: the last part of that, in brackets.
-pub(crate) fn push_unknown_in(text: &mut Vec<u8>, file: &[u8]) -> Result<(), AllocError>
+pub(crate) fn push_unknown_in(
+    alloc: Global,
+    text: &mut Vec<u8>,
+    file: &[u8],
+) -> Result<(), AllocError>
     ensures { Pushes result text.old text.new (unknown_text file.now) }
 {
+    let mut base = Vec::new(alloc);
+    push_base_name(&mut base, file)?;
     push_bytes(text, b"[")?;
-    push_frame_name(text, base_name(file))?;
+    push_frame_name(text, base.as_slice())?;
     push_bytes(text, b"]")
 }
 
-/// Appends the name of a process by a thread's: as it is, or its number behind a colon if it has none.
+/// Appends the name of a process by a thread's: as it is, or its number behind a colon if it has none. Process 0 is the one that idles,
+/// which perf names so.
 pub(crate) fn push_comm(
     alloc: Global,
     text: &mut Vec<u8>,
@@ -69,6 +75,7 @@ pub(crate) fn push_comm(
 {
     match comm {
         Some(comm) => push_bytes(text, comm),
+        None if pid == 0 => push_bytes(text, b"swapper"),
         None => {
             push_bytes(text, b":")?;
             push_decimal(alloc, text, u64::from(pid))

@@ -1,7 +1,7 @@
 //! The order of the names in a stack.
 
-ghost use Rattle.std.specs.Prelude.{◌≡◌, ◌++◌, reverse, IfOk, OnOk};
-ghost use Rattle.fold_stacks.specs.Stacks.{innermost_first, numbers_if, outermost_first, stack_numbers};
+ghost use Rattle.std.specs.Prelude.{◌≡◌, ◌++◌, IfOk, OnOk};
+ghost use Rattle.fold_stacks.specs.Stacks.{innermost_first, numbers_if, stack_numbers};
 
 use std::alloc::{AllocError, Global};
 
@@ -18,16 +18,6 @@ pub struct StackParts<'p> {
     pub kernel: &'p [u32],
 }
 
-// Adds numbers, the last first.
-fn push_reversed(stack: &mut Vec<u32>, numbers: &[u32]) -> Result<(), AllocError>
-    ensures { OnOk result (stack.new.items ≡ stack.old.items ++ reverse numbers.now) }
-{
-    for number in numbers.iter().rev() {
-        stack.push(*number)?;
-    }
-    Ok(())
-}
-
 // Adds a number, if there is one.
 fn push_if(stack: &mut Vec<u32>, number: Option<u32>) -> Result<(), AllocError>
     ensures { OnOk result (stack.new.items ≡ stack.old.items ++ numbers_if number) }
@@ -36,15 +26,6 @@ fn push_if(stack: &mut Vec<u32>, number: Option<u32>) -> Result<(), AllocError>
         stack.push(number)?;
     }
     Ok(())
-}
-
-// Adds all but the process's name, from the outermost on.
-fn push_outermost_first(stack: &mut Vec<u32>, parts: &StackParts<'_>) -> Result<(), AllocError>
-    ensures { OnOk result (stack.new.items ≡ stack.old.items ++ outermost_first parts.now) }
-{
-    push_if(stack, parts.end)?;
-    push_reversed(stack, parts.user)?;
-    push_reversed(stack, parts.kernel)
 }
 
 // Adds all but the process's name, from the innermost on.
@@ -66,11 +47,13 @@ pub fn folded_stack(
     ensures { IfOk result (λ stack. stack.items ≡ stack_numbers parts.now inverted) }
 {
     let mut stack = Vec::new(alloc);
-    stack.push(parts.process)?;
     if inverted {
+        stack.push(parts.process)?;
         push_innermost_first(&mut stack, parts)?;
     } else {
-        push_outermost_first(&mut stack, parts)?;
+        push_innermost_first(&mut stack, parts)?;
+        stack.push(parts.process)?;
+        stack.reverse();
     }
     Ok(stack)
 }
