@@ -1,2 +1,5 @@
 pub mod EscapeLemmas
 pub mod PathLemmas
+pub mod PunycodeLemmas
+pub mod RunLemmas
+pub mod TextLemmas

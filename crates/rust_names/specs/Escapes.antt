@@ -1,5 +1,5 @@
 -- Characters that can't stand in a symbol, as the legacy scheme of Rust writes them: `$LT$` and such, and points.
-use Rattle.std.specs.Prelude.{ℕ, zero, suc, ◌+◌, ◌-◌, ◌*◌, ◌==◌, ◌&&◌, ◌||◌, Bool, not, List, [], ◌∷◌, length, take, drop, codes, nat_le, nat_lt, if◌then◌else◌, Option, Some, None, position}
+use Rattle.std.specs.Prelude.{ℕ, zero, suc, ◌+◌, ◌-◌, ◌*◌, ◌==◌, ◌&&◌, ◌||◌, not, List, [], ◌∷◌, length, take, drop, codes, nat_le, nat_lt, if◌then◌else◌, Option, Some, None, position}
 use Rattle.symbol_text.specs.Texts.{◌>>=◌, appended}
 
 -- The value of a small hexadecimal digit.

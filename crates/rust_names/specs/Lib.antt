@@ -1,2 +1,13 @@
 pub mod Escapes
 pub mod Legacy
+pub mod Numerals
+pub mod Identifiers
+pub mod Punycode
+pub mod Words
+pub mod Choices
+pub mod Grammar
+pub mod Texts
+pub mod State
+pub mod Reading
+pub mod Runs
+pub mod Names

@@ -6,8 +6,8 @@ ghost use Rattle.symbol_text.specs.Texts.{Gives};
 
 use symbol_text::{Failure, append};
 
-// The value of a small hexadecimal digit.
-fn hex(byte: u8) -> Option<u8>
+/// The value of a small hexadecimal digit.
+pub fn hex(byte: u8) -> Option<u8>
     ensures value { result ≡ hex_of byte }
     ensures small { IfSome result (λ digit. digit < 16) }
 {

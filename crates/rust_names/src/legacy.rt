@@ -1,4 +1,4 @@
-//! Paths.
+//! Paths of the legacy scheme.
 
 ghost use Rattle.std.specs.Prelude.{◌≡◌, ◌≤◌, IfOk, option_map, true, vec_len};
 ghost use Rattle.std.specs.Option.{option_copied};
@@ -9,8 +9,8 @@ use crate::escapes::append_part;
 use std::alloc::Global;
 use symbol_text::{Failure, Numerals, TEXT_LIMIT, after_byte, append, number_at};
 
-// All are small hexadecimal digits.
-fn are_hex(bytes: &[u8]) -> bool
+/// All are small hexadecimal digits.
+pub fn are_hex(bytes: &[u8]) -> bool
     ensures { result ≡ all_hex bytes.now }
 {
     for byte in bytes {
@@ -108,8 +108,8 @@ fn after_prefix(name: &[u8]) -> Option<&[u8]>
     after_byte(rest, b'N')
 }
 
-/// The text of a mangled name of Rust, without its hash, as `c++filt` and `rustfilt` write it. Fails with `NotUnderstood` for
-/// all else.
+/// The text of a name of the legacy scheme, without its hash, as `c++filt` and `rustfilt` write it. Fails with `NotUnderstood`
+/// for all else.
 #[tactic(auto, unfolding(crate::specs::Legacy::demangled_of))]
 pub fn demangled(alloc: Global, name: &[u8]) -> Result<Vec<u8>, Failure>
     ensures text { Gives (λ text. text.items) result (demangled_of name.now) }

@@ -4,7 +4,7 @@ use Rattle.std.specs.Global.{Global}
 use Rattle.std.specs.Option.{option_or}
 use Rattle.symbol_text.specs.declared.writing.TheConstants.{TEXT_LIMIT}
 use Rattle.itanium_names.specs.Runs as itanium
-use Rattle.rust_names.specs.Legacy as rust
+use Rattle.rust_names.specs.Names as rust
 
 -- The text of a name of Rust, and of one of C++.
 abbrev pub rust_text_of : List ℕ → Option (List ℕ)

@@ -1,4 +1,5 @@
-//! Names of symbols as they are written in programs: of C++ by the Itanium C++ ABI, and of Rust by its legacy scheme.
+//! Names of symbols as they are written in programs: of C++ by the Itanium C++ ABI, and of Rust by either of its
+//! schemes.
 #![tactic(auto)]
 
 ghost use Rattle.std.specs.Prelude.{IfOk};
