@@ -1,0 +1,2 @@
+pub mod LineViews
+pub mod Lines
