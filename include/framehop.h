@@ -9,7 +9,8 @@
  *     framehop_add_unwinder(&session, &unwinder);
  *     framehop_add_cache(&session, FRAMEHOP_SLOTS, &cache);
  *     framehop_load(&session, unwinder, &module);
- *     framehop_walk_x86_64(&session, unwinder, cache, &walk, &sample, frames, 256, &count, &address);
+ *     framehop_walk_x86_64 walk = framehop_walk_from_x86_64(unwinder, cache, registers);
+ *     framehop_next_frames_x86_64(&session, &walk, &sample, frames, 256);
  *
  * The library reads no memory but what a call is given and what loads lent. It starts no thread, takes no lock and writes no file. It
  * takes its memory from three functions of the program, which heap.c has over malloc, realloc and free.
@@ -248,8 +249,8 @@ typedef struct {
  * which nothing is known makes a call answer FRAMEHOP_NEED_WORD with its address; else it can't be read. So a stack that isn't copied
  * is walked as this, with room in `list` for as many words as the walk needs:
  *
- *     while ((status = framehop_walk_x86_64(.., &walk, &sample, .., &address)) == FRAMEHOP_NEED_WORD)
- *         list[sample.known_count++] = word_at(address);
+ *     while ((status = framehop_next_frames_x86_64(&session, &walk, &sample, ..)) == FRAMEHOP_NEED_WORD)
+ *         list[sample.known_count++] = word_at(walk.word_address);
  */
 typedef struct {
     uint64_t start;       /* the address of the first byte of the copy */
@@ -272,21 +273,18 @@ static inline framehop_sample framehop_sample_of(uint64_t start, const void *byt
     return sample;
 }
 
-/* What the address of a frame is. */
-enum { FRAMEHOP_INSTRUCTION_POINTER = 0, FRAMEHOP_RETURN_ADDRESS = 1 };
+/* Where a step or a walk is. */
+enum {
+    FRAMEHOP_STARTS = 0,         /* before the first frame, whose instruction pointer is `address`: of a walk alone */
+    FRAMEHOP_AT_INSTRUCTION = 1, /* at the frame whose instruction pointer is `address` */
+    FRAMEHOP_AT_RETURN = 2,      /* at a frame whose return address is `address`, which isn't 0 */
+    FRAMEHOP_OVER = 3            /* after the last frame: of a walk alone */
+};
 
 /* The address that a frame's function is looked up by. */
-static inline uint64_t framehop_address_for_lookup(uint32_t kind, uint64_t address) {
-    return kind == FRAMEHOP_RETURN_ADDRESS ? address - 1 : address;
+static inline uint64_t framehop_address_for_lookup(uint64_t place, uint64_t address) {
+    return place == FRAMEHOP_AT_RETURN ? address - 1 : address;
 }
-
-/* Where a walk is. */
-enum {
-    FRAMEHOP_WALK_STARTS = 0,         /* before its first frame, whose instruction pointer is `address` */
-    FRAMEHOP_WALK_AT_INSTRUCTION = 1, /* at the frame whose instruction pointer is `address` */
-    FRAMEHOP_WALK_AT_RETURN = 2,      /* at a frame whose return address is `address`, which isn't 0 */
-    FRAMEHOP_WALK_OVER = 3            /* after its last frame */
-};
 
 /* ---- x86_64 */
 
@@ -311,36 +309,50 @@ static inline framehop_registers_x86_64 framehop_registers_of_x86_64(uint64_t ip
     return registers;
 }
 
+/* A frame that a step is made from, and what the step gives. */
 typedef struct {
-    uint64_t place; /* FRAMEHOP_WALK_.. */
+    uint64_t unwinder;
+    uint64_t cache;
+    uint64_t place;                      /* FRAMEHOP_AT_INSTRUCTION or FRAMEHOP_AT_RETURN */
+    uint64_t address;                    /* of the frame */
+    framehop_registers_x86_64 registers; /* of the frame; FRAMEHOP_OK writes the caller's */
+    uint64_t return_address;             /* FRAMEHOP_OK writes it; it may be 0 */
+    uint64_t word_address;               /* FRAMEHOP_NEED_WORD and FRAMEHOP_COULD_NOT_READ_STACK write it */
+} framehop_frame_x86_64;
+
+/* The frame at an instruction pointer. */
+static inline framehop_frame_x86_64 framehop_frame_of_x86_64(uint64_t unwinder, uint64_t cache, framehop_registers_x86_64 registers) {
+    framehop_frame_x86_64 frame = {unwinder, cache, FRAMEHOP_AT_INSTRUCTION, registers.ip, registers, 0, 0};
+    return frame;
+}
+
+/* Makes the step from a frame. What `frame` says is written is; all else of it stays. The caller gives an address and registers that it
+ * had together. */
+framehop_status framehop_unwind_frame_x86_64(framehop_session *session, framehop_frame_x86_64 *frame, const framehop_sample *sample);
+
+/* Where a walk over the frames of an unwinder is, and what the last call gave. */
+typedef struct {
+    uint64_t unwinder;
+    uint64_t cache;
+    uint64_t place;                      /* FRAMEHOP_STARTS to FRAMEHOP_OVER */
     uint64_t address;
     framehop_registers_x86_64 registers; /* of the frame that it is at, or that it starts from */
-} framehop_walk_state_x86_64;
+    uint64_t count;                      /* how many frames were written */
+    uint64_t word_address;               /* FRAMEHOP_NEED_WORD and FRAMEHOP_COULD_NOT_READ_STACK write it */
+} framehop_walk_x86_64;
 
 /* A walk that starts at a frame. */
-static inline framehop_walk_state_x86_64 framehop_walk_from_x86_64(framehop_registers_x86_64 registers) {
-    framehop_walk_state_x86_64 walk;
-    walk.place = FRAMEHOP_WALK_STARTS;
-    walk.address = registers.ip;
-    walk.registers = registers;
+static inline framehop_walk_x86_64 framehop_walk_from_x86_64(uint64_t unwinder, uint64_t cache, framehop_registers_x86_64 registers) {
+    framehop_walk_x86_64 walk = {unwinder, cache, FRAMEHOP_STARTS, registers.ip, registers, 0, 0};
     return walk;
 }
 
-/* Makes the step from a frame at an address, of this kind, with these registers. FRAMEHOP_OK writes the return address, and the caller's
- * registers in place of the frame's. FRAMEHOP_NEED_WORD and FRAMEHOP_COULD_NOT_READ_STACK write the address of the word. Else nothing is
- * written. The caller gives an address, at FRAMEHOP_RETURN_ADDRESS other than 0, that it had with these registers. */
-framehop_status framehop_step_x86_64(framehop_session *session, uint64_t unwinder, uint64_t cache, uint32_t kind, uint64_t address,
-                                     framehop_registers_x86_64 *registers, const framehop_sample *sample, uint64_t *return_address,
-                                     uint64_t *word_address);
-
-/* Goes on with a walk: writes the addresses of its next frames, the instruction pointer first and then return addresses, and how many
- * they are, up to the end of the stack, an error of a step, a word that is needed, or `room` frames. The walk is then at the last frame
- * that was written, also after FRAMEHOP_NEED_WORD and errors of a step, and the next call makes the step again; after
- * FRAMEHOP_END_OF_STACK and FRAMEHOP_RETURN_ADDRESS_IS_NULL it is over. FRAMEHOP_NEED_WORD and FRAMEHOP_COULD_NOT_READ_STACK write the
- * address of the word. The caller gives `room` frames, and a walk as framehop_walk_from_x86_64 or the call before left it. */
-framehop_status framehop_walk_x86_64(framehop_session *session, uint64_t unwinder, uint64_t cache, framehop_walk_state_x86_64 *walk,
-                                     const framehop_sample *sample, uint64_t *frames, size_t room, uint64_t *count,
-                                     uint64_t *word_address);
+/* Goes on with a walk: writes the addresses of its next frames, the instruction pointer first and then return addresses, up to the end of
+ * the stack, an error of a step, a word that is needed, or `room` frames. The walk is then at the last frame that was written, also after
+ * FRAMEHOP_NEED_WORD and errors of a step, and the next call makes the step again; after FRAMEHOP_END_OF_STACK and
+ * FRAMEHOP_RETURN_ADDRESS_IS_NULL it is over. The caller gives room for the frames, and a walk as made above or left by the call before. */
+framehop_status framehop_next_frames_x86_64(framehop_session *session, framehop_walk_x86_64 *walk, const framehop_sample *sample,
+                                            uint64_t *frames, size_t room);
 
 /* ---- aarch64: the same, with its registers */
 
@@ -359,29 +371,45 @@ static inline uint64_t framehop_mask_from_max_known_address(uint64_t address) {
 }
 
 typedef struct {
-    uint64_t place; /* FRAMEHOP_WALK_.. */
+    uint64_t unwinder;
+    uint64_t cache;
+    uint64_t place;
     uint64_t address;
-    framehop_registers_aarch64 registers; /* of the frame that it is at, or that it starts from */
-} framehop_walk_state_aarch64;
+    framehop_registers_aarch64 registers;
+    uint64_t return_address;
+    uint64_t word_address;
+} framehop_frame_aarch64;
+
+/* The frame at an instruction pointer. */
+static inline framehop_frame_aarch64 framehop_frame_of_aarch64(uint64_t unwinder, uint64_t cache, uint64_t pc,
+                                                               framehop_registers_aarch64 registers) {
+    framehop_frame_aarch64 frame = {unwinder, cache, FRAMEHOP_AT_INSTRUCTION, pc, registers, 0, 0};
+    return frame;
+}
+
+/* As framehop_unwind_frame_x86_64, and so is what the caller owes. */
+framehop_status framehop_unwind_frame_aarch64(framehop_session *session, framehop_frame_aarch64 *frame, const framehop_sample *sample);
+
+typedef struct {
+    uint64_t unwinder;
+    uint64_t cache;
+    uint64_t place;
+    uint64_t address;
+    framehop_registers_aarch64 registers;
+    uint64_t count;
+    uint64_t word_address;
+} framehop_walk_aarch64;
 
 /* A walk that starts at a frame, whose instruction pointer is `pc`. */
-static inline framehop_walk_state_aarch64 framehop_walk_from_aarch64(uint64_t pc, framehop_registers_aarch64 registers) {
-    framehop_walk_state_aarch64 walk;
-    walk.place = FRAMEHOP_WALK_STARTS;
-    walk.address = pc;
-    walk.registers = registers;
+static inline framehop_walk_aarch64 framehop_walk_from_aarch64(uint64_t unwinder, uint64_t cache, uint64_t pc,
+                                                               framehop_registers_aarch64 registers) {
+    framehop_walk_aarch64 walk = {unwinder, cache, FRAMEHOP_STARTS, pc, registers, 0, 0};
     return walk;
 }
 
-/* As framehop_step_x86_64. The caller's duty is the same. */
-framehop_status framehop_step_aarch64(framehop_session *session, uint64_t unwinder, uint64_t cache, uint32_t kind, uint64_t address,
-                                      framehop_registers_aarch64 *registers, const framehop_sample *sample, uint64_t *return_address,
-                                      uint64_t *word_address);
-
-/* As framehop_walk_x86_64. The caller's duty is the same. */
-framehop_status framehop_walk_aarch64(framehop_session *session, uint64_t unwinder, uint64_t cache, framehop_walk_state_aarch64 *walk,
-                                      const framehop_sample *sample, uint64_t *frames, size_t room, uint64_t *count,
-                                      uint64_t *word_address);
+/* As framehop_next_frames_x86_64, and so is what the caller owes. */
+framehop_status framehop_next_frames_aarch64(framehop_session *session, framehop_walk_aarch64 *walk, const framehop_sample *sample,
+                                             uint64_t *frames, size_t room);
 
 #ifdef __cplusplus
 }

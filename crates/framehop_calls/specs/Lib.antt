@@ -1,0 +1,6 @@
+pub mod Calls
+pub mod Places
+pub mod Registers
+pub mod Sections
+pub mod Statuses
+pub mod Steps

@@ -1,0 +1,121 @@
+-- Steps and walks by numbers, over samples.
+use Rattle.std.specs.Prelude.{ℕ, ◌≡◌, ◌≢◌, List, take,  Option, Some, None, Result, Ok, Err, if◌then◌else◌}
+use Rattle.framehop_registers.specs.declared.error.Error.{Error}
+use Rattle.framehop_registers.specs.declared.error.Error.TheVariants.{CouldNotReadStack, FramepointerUnwindingMovedBackwards, DidNotAdvance, IntegerOverflow, ReturnAddressIsNull, OutOfMemory}
+use Rattle.framehop_unwinder.specs.Attempt.{Meanings}
+use Rattle.framehop_unwinder.specs.ByNumber.{is_held}
+use Rattle.framehop_unwinder.specs.Frames.{Frame}
+use Rattle.framehop_unwinder.specs.Judge.{judge}
+use Rattle.framehop_unwinder.specs.State.{SessionState, modules_at}
+use Rattle.framehop_unwinder.specs.Walk.{Walk}
+use Rattle.framehop_samples.specs.Samples.{words_of}
+use Rattle.framehop_samples.specs.Steps.{AsksAsSaid, KeepsModules, SampleSteps}
+use Rattle.framehop_samples.specs.Walks.{NeedsUnknown, WalksOver, WritesFrames}
+use Rattle.framehop_samples.specs.declared.sample.Sample.{Sample}
+use Rattle.framehop_samples.specs.declared.steps.SampleStep.{SampleStep}
+use Rattle.framehop_samples.specs.declared.steps.SampleStep.TheVariants.{Answered, NeedsWord}
+use Rattle.framehop_samples.specs.declared.walks.WalkEnd.{WalkEnd}
+use Rattle.framehop_samples.specs.declared.walks.WalkEnd.TheVariants as ending
+use Rattle.framehop_samples.specs.declared.walks.Walked.{Walked}
+use Rattle.framehop_calls.specs.Statuses.{ok, end_of_stack, need_word, full, error_status, no_unwinder, no_cache}
+
+-- the status of a call that names an unwinder and a cache
+abbrev pub status_of_numbers : {Data Rule : Type 0} → SessionState Data Rule → ℕ → ℕ → ℕ
+status_of_numbers session unwinder cache =
+    if is_held session.unwinders unwinder then (if is_held session.caches cache then ok else no_cache) else no_unwinder
+
+-- the status of a step
+abbrev pub step_status : SampleStep → ℕ
+step_status (Answered (Ok (Some return_address))) = ok
+step_status (Answered (Ok None)) = end_of_stack
+step_status (Answered (Err error)) = error_status error
+step_status (NeedsWord address) = need_word
+
+-- the return address that a step finds, else this one
+abbrev pub return_address_by : SampleStep → ℕ → ℕ
+return_address_by (Answered (Ok (Some return_address))) old = return_address
+return_address_by (Answered (Ok None)) old = old
+return_address_by (Answered (Err error)) old = old
+return_address_by (NeedsWord address) old = old
+
+-- the address of the word that an error is about, else this one
+abbrev pub word_of_error : Error → ℕ → ℕ
+word_of_error (CouldNotReadStack address) old = address
+word_of_error FramepointerUnwindingMovedBackwards old = old
+word_of_error DidNotAdvance old = old
+word_of_error IntegerOverflow old = old
+word_of_error ReturnAddressIsNull old = old
+word_of_error OutOfMemory old = old
+
+-- the address of the word that a step is about, else this one
+abbrev pub word_by : SampleStep → ℕ → ℕ
+word_by (Answered (Ok answer)) old = old
+word_by (Answered (Err error)) old = word_of_error error old
+word_by (NeedsWord address) old = address
+
+-- What a step changes beside the session.
+pub record StepOutput (Registers : Type 0) : Type 0 where
+  pub registers : Registers
+  pub return_address : ℕ
+  pub word_address : ℕ
+
+-- A step from a frame over a sample is made: it is the judge's, and what it gives is written and told.
+pub record MakesStep {Data Rule Registers : Type 0} (m : Meanings Data Rule Registers) (status unwinder : ℕ) (frame : Frame) (sample : Sample)
+    (old_output new_output : StepOutput Registers) (old new : SessionState Data Rule) : Type 0 where
+  pub made : SampleStep
+  pub told : status ≡ step_status made
+  pub return_address : new_output.return_address ≡ return_address_by made old_output.return_address
+  pub word_address : new_output.word_address ≡ word_by made old_output.word_address
+  pub step : SampleSteps made old_output.registers new_output.registers
+      (judge m (modules_at old unwinder) frame old_output.registers (words_of sample))
+  pub asks : AsksAsSaid made sample
+  pub session : KeepsModules old new
+
+-- A step over a sample, through an unwinder and a cache by their numbers.
+pub record StepsByNumber {Data Rule Registers : Type 0} (m : Meanings Data Rule Registers) (status unwinder cache : ℕ) (frame : Frame) (sample : Sample)
+    (old_output new_output : StepOutput Registers) (old new : SessionState Data Rule) : Type 0 where
+  pub made : status_of_numbers old unwinder cache ≡ ok → MakesStep m status unwinder frame sample old_output new_output old new
+  pub told : status_of_numbers old unwinder cache ≢ ok → status ≡ status_of_numbers old unwinder cache
+  pub session : status_of_numbers old unwinder cache ≢ ok → new ≡ old
+  pub output : status_of_numbers old unwinder cache ≢ ok → new_output ≡ old_output
+
+-- the status of a walk
+abbrev pub walk_status : WalkEnd → ℕ
+walk_status ending.Full = full
+walk_status ending.EndOfStack = end_of_stack
+walk_status (ending.NeedsWord address) = need_word
+walk_status (ending.Failed error) = error_status error
+
+-- the address of the word that a walk stops at, else this one
+abbrev pub word_at_end : WalkEnd → ℕ → ℕ
+word_at_end ending.Full old = old
+word_at_end ending.EndOfStack old = old
+word_at_end (ending.NeedsWord address) old = address
+word_at_end (ending.Failed error) old = word_of_error error old
+
+-- What a walk changes beside the session.
+pub record WalkOutput (Registers : Type 0) : Type 0 where
+  pub walk : Walk Registers
+  pub frames : List ℕ
+  pub count : ℕ
+  pub word_address : ℕ
+
+-- A walk over a sample goes on: its frames are the judge's, one after the other, and they are written within the room.
+pub record MakesWalk {Data Rule Registers : Type 0} (m : Meanings Data Rule Registers) (status unwinder : ℕ) (sample : Sample)
+    (old_output new_output : WalkOutput Registers) (old new : SessionState Data Rule) : Type 0 where
+  pub made : Walked
+  pub told : status ≡ walk_status made.end
+  pub count : new_output.count ≡ made.count
+  pub word_address : new_output.word_address ≡ word_at_end made.end old_output.word_address
+  pub walk : WalksOver (judge m (modules_at old unwinder)) (words_of sample) old_output.walk (take made.count new_output.frames) made.end new_output.walk
+  pub written : WritesFrames made old_output.frames new_output.frames
+  pub needs : NeedsUnknown made.end sample
+  pub session : KeepsModules old new
+
+-- A walk over a sample, through an unwinder and a cache by their numbers.
+pub record WalksByNumber {Data Rule Registers : Type 0} (m : Meanings Data Rule Registers) (status unwinder cache : ℕ) (sample : Sample)
+    (old_output new_output : WalkOutput Registers) (old new : SessionState Data Rule) : Type 0 where
+  pub made : status_of_numbers old unwinder cache ≡ ok → MakesWalk m status unwinder sample old_output new_output old new
+  pub told : status_of_numbers old unwinder cache ≢ ok → status ≡ status_of_numbers old unwinder cache
+  pub session : status_of_numbers old unwinder cache ≢ ok → new ≡ old
+  pub output : status_of_numbers old unwinder cache ≢ ok → new_output ≡ old_output

@@ -1,0 +1,98 @@
+//! Steps by numbers.
+
+ghost use Rattle.std.specs.Prelude.{◌≡◌, option_map};
+ghost use Rattle.framehop_unwinder.specs.Frames.{frame_of};
+ghost use Rattle.framehop_unwinder.specs.IdViews.{cache_number, unwinder_number};
+ghost use Rattle.framehop_calls.specs.Places.{frame_numbered};
+ghost use Rattle.framehop_calls.specs.Steps.{StepsByNumber, return_address_by, status_of_numbers, step_status, word_by, word_of_error};
+
+use crate::session::CountedSession;
+use crate::status::{END_OF_STACK, NEED_WORD, NO_CACHE, NO_UNWINDER, OK, error_status};
+use framehop_rules::{Error, FrameAddress};
+use framehop_samples::{Sample, SampleStep, step_in_sample};
+use framehop_unwinder::{CacheId, ModuleUnwinding, UnwinderId};
+
+/// The address of a frame, of a kind: 0 is an instruction pointer, 1 a return address.
+pub fn frame_at(kind: u32, address: u64) -> Option<FrameAddress>
+    ensures { option_map (λ address. frame_of address) result ≡ frame_numbered kind address }
+{
+    match kind {
+        0 => Some(FrameAddress::from_instruction_pointer(address)),
+        1 => FrameAddress::from_return_address(address),
+        _ => None,
+    }
+}
+
+/// Writes the address of the word that an error is about.
+pub(crate) fn write_word(error: Error, word_address: &mut u64)
+    ensures { word_address.new ≡ word_of_error error word_address.old }
+{
+    if let Error::CouldNotReadStack(address) = error {
+        *word_address = address;
+    }
+}
+
+// Writes what a step gives, and answers its status.
+fn tell(step: SampleStep, return_address: &mut u64, word_address: &mut u64) -> u32
+    ensures told { result ≡ step_status step }
+    ensures return_address { return_address.new ≡ return_address_by step return_address.old }
+    ensures word { word_address.new ≡ word_by step word_address.old }
+{
+    match step {
+        SampleStep::Answered(Ok(Some(address))) => {
+            *return_address = address;
+            OK
+        }
+        SampleStep::Answered(Ok(None)) => END_OF_STACK,
+        SampleStep::Answered(Err(error)) => {
+            write_word(error, word_address);
+            error_status(error)
+        }
+        SampleStep::NeedsWord(address) => {
+            *word_address = address;
+            NEED_WORD
+        }
+    }
+}
+
+impl<A: ModuleUnwinding> CountedSession<A> {
+    /// The status of a call that names an unwinder and a cache.
+    pub(crate) fn status_of(&self, unwinder: UnwinderId, cache: CacheId) -> u32
+        ensures { result ≡ status_of_numbers self.now (unwinder_number unwinder) (cache_number cache) }
+    {
+        if !self.session.has_unwinder(unwinder) {
+            NO_UNWINDER
+        } else if !self.session.has_cache(cache) {
+            NO_CACHE
+        } else {
+            OK
+        }
+    }
+
+    /// Makes the step of an unwinder from a frame over a sample, through a cache. Writes the return address, or the address of the word
+    /// that is needed or can't be read, and answers the status.
+    pub fn step(
+        &mut self,
+        unwinder: u64,
+        cache: u64,
+        address: FrameAddress,
+        regs: &mut A::UnwindRegs,
+        sample: &Sample<'_>,
+        return_address: &mut u64,
+        word_address: &mut u64,
+    ) -> u32
+        ensures { StepsByNumber A.meanings result unwinder cache (frame_of address) sample.now
+            (record { registers = regs.old; return_address = return_address.old; word_address = word_address.old })
+            (record { registers = regs.new; return_address = return_address.new; word_address = word_address.new })
+            self.old self.new }
+    {
+        let unwinder = UnwinderId::numbered(unwinder as usize);
+        let cache = CacheId::numbered(cache as usize);
+        let status = self.status_of(unwinder, cache);
+        if status != OK {
+            return status;
+        }
+        let step = step_in_sample(&mut self.session, unwinder, cache, address, regs, sample);
+        tell(step, return_address, word_address)
+    }
+}

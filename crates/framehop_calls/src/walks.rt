@@ -1,0 +1,87 @@
+//! Walks by numbers.
+
+ghost use Rattle.std.specs.Prelude.{◌≡◌, Some, option_map};
+ghost use Rattle.framehop_samples.specs.Walks.{position_of, walk_of};
+ghost use Rattle.framehop_calls.specs.Places.{position_numbered};
+ghost use Rattle.framehop_calls.specs.Steps.{WalksByNumber, walk_status, word_at_end};
+
+use crate::session::CountedSession;
+use crate::status::{END_OF_STACK, FULL, NEED_WORD, OK, error_status};
+use crate::steps::write_word;
+use framehop_rules::FrameAddress;
+use framehop_samples::{Sample, SampleWalk, WalkEnd, WalkPlace, walk_in_sample};
+use framehop_unwinder::{CacheId, ModuleUnwinding, UnwinderId};
+
+/// The place of a walk by numbers: 0 is before the first frame, 1 at an instruction pointer, 2 at a return address, 3 after the last.
+pub fn place_at(place: u64, address: u64) -> Option<WalkPlace>
+    ensures { option_map position_of result ≡ position_numbered place address }
+{
+    match place {
+        0 => Some(WalkPlace::Starts(address)),
+        1 => Some(WalkPlace::At(FrameAddress::from_instruction_pointer(address))),
+        2 => Some(WalkPlace::At(FrameAddress::from_return_address(address)?)),
+        3 => Some(WalkPlace::Over),
+        _ => None,
+    }
+}
+
+/// The numbers of a place, with 0 as the address of none.
+pub fn numbers_of(place: WalkPlace) -> (u64, u64)
+    ensures { position_numbered result.0 result.1 ≡ Some (position_of place) }
+{
+    match place {
+        WalkPlace::Starts(address) => (0, address),
+        WalkPlace::At(FrameAddress::InstructionPointer(address)) => (1, address),
+        WalkPlace::At(FrameAddress::ReturnAddress(address)) => (2, address.get()),
+        WalkPlace::Over => (3, 0),
+    }
+}
+
+// Writes the address of the word that a walk stops at, and answers the walk's status.
+fn tell(end: WalkEnd, word_address: &mut u64) -> u32
+    ensures told { result ≡ walk_status end }
+    ensures word { word_address.new ≡ word_at_end end word_address.old }
+{
+    match end {
+        WalkEnd::Full => FULL,
+        WalkEnd::EndOfStack => END_OF_STACK,
+        WalkEnd::NeedsWord(address) => {
+            *word_address = address;
+            NEED_WORD
+        }
+        WalkEnd::Failed(error) => {
+            write_word(error, word_address);
+            error_status(error)
+        }
+    }
+}
+
+impl<A: ModuleUnwinding> CountedSession<A> {
+    /// Goes on with a walk over a sample. Writes the addresses of its next frames and how many they are, the address of a word that is
+    /// needed or can't be read, and answers why it stops.
+    pub fn walk(
+        &mut self,
+        unwinder: u64,
+        cache: u64,
+        walk: &mut SampleWalk<A::UnwindRegs>,
+        sample: &Sample<'_>,
+        frames: &mut [u64],
+        count: &mut u64,
+        word_address: &mut u64,
+    ) -> u32
+        ensures { WalksByNumber A.meanings result unwinder cache sample.now
+            (record { walk = walk_of walk.old; frames = frames.old; count = count.old; word_address = word_address.old })
+            (record { walk = walk_of walk.new; frames = frames.new; count = count.new; word_address = word_address.new })
+            self.old self.new }
+    {
+        let unwinder = UnwinderId::numbered(unwinder as usize);
+        let cache = CacheId::numbered(cache as usize);
+        let status = self.status_of(unwinder, cache);
+        if status != OK {
+            return status;
+        }
+        let walked = walk_in_sample(&mut self.session, unwinder, cache, walk, sample, frames);
+        *count = walked.count as u64;
+        tell(walked.end, word_address)
+    }
+}
