@@ -9,8 +9,7 @@ use crate::session::AnySession;
 use kept_boxes::KeptBox;
 use std::alloc::Global;
 use std::marker::Model;
-use std::mem;
-use std::ptr;
+use std::{mem, ptr};
 
 /// A session, or none: null. Only this module's functions make one or take one apart.
 #[repr(C)]

@@ -1,174 +1,194 @@
 //! Steps, for C.
 
-ghost use Rattle.std.specs.Prelude.{◌≡◌, None, IfSome, IsSome};
-ghost use Rattle.framehop_unwinder.specs.Frames.{frame_of};
-ghost use Rattle.framehop_calls.specs.Places.{frame_numbered};
-ghost use Rattle.framehop_calls.specs.Statuses.{bad_argument, no_value};
-ghost use Rattle.framehop_c.specs.Sessions.{InHandle};
-ghost use Rattle.framehop_c.specs.Steps.{StepsAarch64, StepsX86_64};
+ghost use Rattle.std.specs.Prelude.{◌≡◌, option_map};
+ghost use Rattle.framehop_calls.specs.CallViews.{step_call};
+ghost use Rattle.framehop_c.specs.Steps.{StepsAarch64, StepsOnAarch64, StepsOnX86_64, StepsX86_64, call_aarch64, call_x86_64, left_aarch64, left_x86_64};
 
 use crate::handle::SessionHandle;
 use crate::session::AnySession;
-use framehop::FrameAddress;
+use framehop::aarch64::UnwindRegsAarch64;
+use framehop::x86_64::UnwindRegsX86_64;
 use framehop_calls::status::{BAD_ARGUMENT, NO_VALUE, OK, OTHER_ARCHITECTURE};
-use framehop_calls::{RegistersAarch64, RegistersX86_64, frame_at};
+use framehop_calls::{RegistersAarch64, RegistersX86_64, SampleStepCall, frame_at};
 use framehop_samples::Sample;
 use std::alloc::Global;
 
-impl AnySession {
-    // Makes the step from a frame on x86_64.
-    fn step_x86_64(
-        &mut self,
-        unwinder: u64,
-        cache: u64,
-        address: FrameAddress,
-        registers: &mut RegistersX86_64,
-        sample: &Sample<'_>,
-        return_address: &mut u64,
-        word_address: &mut u64,
-    ) -> u32
-        ensures { StepsX86_64 result unwinder cache (frame_of address) sample.now
-            (record { registers = registers.old; return_address = return_address.old; word_address = word_address.old })
-            (record { registers = registers.new; return_address = return_address.new; word_address = word_address.new })
-            self.old self.new }
+/// A frame on x86_64 that a step is made from, and what the step gives.
+#[repr(C)]
+#[derive(Clone, Copy)]
+pub struct FrameX86_64 {
+    pub unwinder: u64,
+    pub cache: u64,
+    pub place: u64,
+    pub address: u64,
+    pub registers: RegistersX86_64,
+    pub return_address: u64,
+    pub word_address: u64,
+}
+
+impl FrameX86_64 {
+    // The call that it says, if its place is one of a frame.
+    fn call(&self) -> Option<SampleStepCall<UnwindRegsX86_64>>
+        ensures { option_map step_call result ≡ call_x86_64 self.now }
     {
-        let AnySession::X86_64(session) = self else {
-            return OTHER_ARCHITECTURE;
-        };
-        let mut regs = registers.to_regs();
-        let status = session.step(
-            unwinder,
-            cache,
+        let address = frame_at(self.place, self.address)?;
+        Some(SampleStepCall {
+            unwinder: self.unwinder,
+            cache: self.cache,
             address,
-            &mut regs,
-            sample,
-            return_address,
-            word_address,
-        );
-        if status == OK {
-            *registers = RegistersX86_64::of(&regs);
-        }
-        status
+            regs: self.registers.to_regs(),
+            return_address: self.return_address,
+            word_address: self.word_address,
+        })
     }
 
-    // Makes the step from a frame on aarch64.
-    fn step_aarch64(
-        &mut self,
-        unwinder: u64,
-        cache: u64,
-        address: FrameAddress,
-        registers: &mut RegistersAarch64,
-        sample: &Sample<'_>,
-        return_address: &mut u64,
-        word_address: &mut u64,
-    ) -> u32
-        ensures { StepsAarch64 result unwinder cache (frame_of address) sample.now
-            (record { registers = registers.old; return_address = return_address.old; word_address = word_address.old })
-            (record { registers = registers.new; return_address = return_address.new; word_address = word_address.new })
-            self.old self.new }
+    // What is left of it by a call.
+    fn left(&self, status: u32, call: &SampleStepCall<UnwindRegsX86_64>) -> Self
+        ensures { result ≡ left_x86_64 status self.now (step_call call.now) }
     {
-        let AnySession::Aarch64(session) = self else {
-            return OTHER_ARCHITECTURE;
-        };
-        let mut regs = registers.to_regs();
-        let status = session.step(
-            unwinder,
-            cache,
-            address,
-            &mut regs,
-            sample,
-            return_address,
-            word_address,
-        );
-        if status == OK {
-            *registers = RegistersAarch64::of(&regs);
+        FrameX86_64 {
+            unwinder: self.unwinder,
+            cache: self.cache,
+            place: self.place,
+            address: self.address,
+            registers: if status == OK {
+                RegistersX86_64::of(&call.regs)
+            } else {
+                self.registers
+            },
+            return_address: call.return_address,
+            word_address: call.word_address,
         }
-        status
+    }
+}
+
+impl AnySession {
+    // Makes a step by a call, if it is on x86_64.
+    fn step_x86_64(
+        &mut self,
+        call: &mut SampleStepCall<UnwindRegsX86_64>,
+        sample: &Sample<'_>,
+    ) -> Option<u32>
+        ensures { StepsOnX86_64 result sample.now (step_call call.old) (step_call call.new) self.old self.new }
+    {
+        match self {
+            AnySession::X86_64(session) => Some(session.step(call, sample)),
+            AnySession::Aarch64(_) => None,
+        }
     }
 }
 
 /// Makes the step from a frame on x86_64.
 #[unsafe(no_mangle)]
-pub extern "C" fn framehop_step_x86_64(
+pub extern "C" fn framehop_unwind_frame_x86_64(
     alloc: Global,
     session: &mut SessionHandle,
-    unwinder: u64,
-    cache: u64,
-    kind: u32,
-    address: u64,
-    registers: &mut RegistersX86_64,
+    frame: &mut FrameX86_64,
     sample: &Sample<'_>,
-    return_address: &mut u64,
-    word_address: &mut u64,
 ) -> u32
-    ensures steps { IfSome (frame_numbered kind address) (λ frame. InHandle (StepsX86_64 result unwinder cache frame sample.now
-        (record { registers = registers.old; return_address = return_address.old; word_address = word_address.old })
-        (record { registers = registers.new; return_address = return_address.new; word_address = word_address.new }))
-        session.old.value session.new.value) }
-    ensures none { IsSome (frame_numbered kind address) → session.old.value ≡ None → result ≡ no_value }
-    ensures number { frame_numbered kind address ≡ None → (result ≡ bad_argument) × (session.new.value ≡ session.old.value) }
-    ensures registers { (result ≡ bad_argument) ⊎ (result ≡ no_value) → registers.new ≡ registers.old }
-    ensures kept { (result ≡ bad_argument) ⊎ (result ≡ no_value)
-        → (return_address.new ≡ return_address.old) × (word_address.new ≡ word_address.old) }
+    ensures { StepsX86_64 result sample.now (call_x86_64 frame.old) frame.old frame.new session.old.value session.new.value }
 {
-    let Some(address) = frame_at(kind, address) else {
+    let Some(mut call) = frame.call() else {
         return BAD_ARGUMENT;
     };
     let Some(mut state) = session.take(alloc) else {
         return NO_VALUE;
     };
-    let status = state.step_x86_64(
-        unwinder,
-        cache,
-        address,
-        registers,
-        sample,
-        return_address,
-        word_address,
-    );
+    let step = state.step_x86_64(&mut call, sample);
     session.put(alloc, state);
+    let Some(status) = step else {
+        return OTHER_ARCHITECTURE;
+    };
+    *frame = frame.left(status, &call);
     status
+}
+
+/// A frame on aarch64 that a step is made from, and what the step gives.
+#[repr(C)]
+#[derive(Clone, Copy)]
+pub struct FrameAarch64 {
+    pub unwinder: u64,
+    pub cache: u64,
+    pub place: u64,
+    pub address: u64,
+    pub registers: RegistersAarch64,
+    pub return_address: u64,
+    pub word_address: u64,
+}
+
+impl FrameAarch64 {
+    // The call that it says, if its place is one of a frame.
+    fn call(&self) -> Option<SampleStepCall<UnwindRegsAarch64>>
+        ensures { option_map step_call result ≡ call_aarch64 self.now }
+    {
+        let address = frame_at(self.place, self.address)?;
+        Some(SampleStepCall {
+            unwinder: self.unwinder,
+            cache: self.cache,
+            address,
+            regs: self.registers.to_regs(),
+            return_address: self.return_address,
+            word_address: self.word_address,
+        })
+    }
+
+    // What is left of it by a call.
+    fn left(&self, status: u32, call: &SampleStepCall<UnwindRegsAarch64>) -> Self
+        ensures { result ≡ left_aarch64 status self.now (step_call call.now) }
+    {
+        FrameAarch64 {
+            unwinder: self.unwinder,
+            cache: self.cache,
+            place: self.place,
+            address: self.address,
+            registers: if status == OK {
+                RegistersAarch64::of(&call.regs)
+            } else {
+                self.registers
+            },
+            return_address: call.return_address,
+            word_address: call.word_address,
+        }
+    }
+}
+
+impl AnySession {
+    // Makes a step by a call, if it is on aarch64.
+    fn step_aarch64(
+        &mut self,
+        call: &mut SampleStepCall<UnwindRegsAarch64>,
+        sample: &Sample<'_>,
+    ) -> Option<u32>
+        ensures { StepsOnAarch64 result sample.now (step_call call.old) (step_call call.new) self.old self.new }
+    {
+        match self {
+            AnySession::Aarch64(session) => Some(session.step(call, sample)),
+            AnySession::X86_64(_) => None,
+        }
+    }
 }
 
 /// Makes the step from a frame on aarch64.
 #[unsafe(no_mangle)]
-pub extern "C" fn framehop_step_aarch64(
+pub extern "C" fn framehop_unwind_frame_aarch64(
     alloc: Global,
     session: &mut SessionHandle,
-    unwinder: u64,
-    cache: u64,
-    kind: u32,
-    address: u64,
-    registers: &mut RegistersAarch64,
+    frame: &mut FrameAarch64,
     sample: &Sample<'_>,
-    return_address: &mut u64,
-    word_address: &mut u64,
 ) -> u32
-    ensures steps { IfSome (frame_numbered kind address) (λ frame. InHandle (StepsAarch64 result unwinder cache frame sample.now
-        (record { registers = registers.old; return_address = return_address.old; word_address = word_address.old })
-        (record { registers = registers.new; return_address = return_address.new; word_address = word_address.new }))
-        session.old.value session.new.value) }
-    ensures none { IsSome (frame_numbered kind address) → session.old.value ≡ None → result ≡ no_value }
-    ensures number { frame_numbered kind address ≡ None → (result ≡ bad_argument) × (session.new.value ≡ session.old.value) }
-    ensures registers { (result ≡ bad_argument) ⊎ (result ≡ no_value) → registers.new ≡ registers.old }
-    ensures kept { (result ≡ bad_argument) ⊎ (result ≡ no_value)
-        → (return_address.new ≡ return_address.old) × (word_address.new ≡ word_address.old) }
+    ensures { StepsAarch64 result sample.now (call_aarch64 frame.old) frame.old frame.new session.old.value session.new.value }
 {
-    let Some(address) = frame_at(kind, address) else {
+    let Some(mut call) = frame.call() else {
         return BAD_ARGUMENT;
     };
     let Some(mut state) = session.take(alloc) else {
         return NO_VALUE;
     };
-    let status = state.step_aarch64(
-        unwinder,
-        cache,
-        address,
-        registers,
-        sample,
-        return_address,
-        word_address,
-    );
+    let step = state.step_aarch64(&mut call, sample);
     session.put(alloc, state);
+    let Some(status) = step else {
+        return OTHER_ARCHITECTURE;
+    };
+    *frame = frame.left(status, &call);
     status
 }

@@ -1,36 +1,17 @@
 //! Walks, for C.
 
-ghost use Rattle.std.specs.Prelude.{◌≡◌, None, IfSome, IsSome};
-ghost use Rattle.framehop_samples.specs.Walks.{position_of};
-ghost use Rattle.framehop_calls.specs.Places.{position_numbered};
-ghost use Rattle.framehop_calls.specs.Statuses.{bad_argument, no_value};
-ghost use Rattle.framehop_c.specs.Sessions.{InHandle};
-ghost use Rattle.framehop_c.specs.Walks.{WalksAarch64, WalksX86_64, is_missing};
+ghost use Rattle.std.specs.Prelude.{◌≡◌, option_map};
+ghost use Rattle.framehop_calls.specs.CallViews.{viewed};
+ghost use Rattle.framehop_c.specs.Walks.{LeavesAarch64, LeavesX86_64, WalksAarch64, WalksOnAarch64, WalksOnX86_64, WalksX86_64, is_missing, walk_call_aarch64, walk_call_x86_64};
 
 use crate::handle::SessionHandle;
 use crate::session::AnySession;
+use framehop::aarch64::UnwindRegsAarch64;
+use framehop::x86_64::UnwindRegsX86_64;
 use framehop_calls::status::{BAD_ARGUMENT, NO_CACHE, NO_UNWINDER, NO_VALUE, OTHER_ARCHITECTURE};
-use framehop_calls::{RegistersAarch64, RegistersX86_64, numbers_of, place_at};
-use framehop_samples::{Sample, SampleWalk, WalkPlace};
+use framehop_calls::{RegistersAarch64, RegistersX86_64, SampleWalkCall, numbers_of, place_at};
+use framehop_samples::{Sample, SampleWalk};
 use std::alloc::Global;
-
-/// Where a walk on x86_64 is, with the registers there.
-#[repr(C)]
-#[derive(Clone, Copy)]
-pub struct WalkX86_64 {
-    pub place: u64,
-    pub address: u64,
-    pub registers: RegistersX86_64,
-}
-
-/// Where a walk on aarch64 is, with the registers there.
-#[repr(C)]
-#[derive(Clone, Copy)]
-pub struct WalkAarch64 {
-    pub place: u64,
-    pub address: u64,
-    pub registers: RegistersAarch64,
-}
 
 // Whether a status says that there is no such unwinder or cache.
 fn is_missing(status: u32) -> bool
@@ -39,182 +20,196 @@ fn is_missing(status: u32) -> bool
     status == NO_UNWINDER || status == NO_CACHE
 }
 
-impl AnySession {
-    // Goes on with a walk on x86_64, from a place.
-    fn walk_x86_64(
-        &mut self,
-        unwinder: u64,
-        cache: u64,
-        place: WalkPlace,
-        walk: &mut WalkX86_64,
-        sample: &Sample<'_>,
-        frames: &mut [u64],
-        count: &mut u64,
-        word_address: &mut u64,
-    ) -> u32
-        ensures { WalksX86_64 result unwinder cache (position_of place) sample.now
-            (record { walk = walk.old; frames = frames.old; count = count.old; word_address = word_address.old })
-            (record { walk = walk.new; frames = frames.new; count = count.new; word_address = word_address.new })
-            self.old self.new }
+/// Where a walk on x86_64 is, and what it gives.
+#[repr(C)]
+#[derive(Clone, Copy)]
+pub struct WalkX86_64 {
+    pub unwinder: u64,
+    pub cache: u64,
+    pub place: u64,
+    pub address: u64,
+    pub registers: RegistersX86_64,
+    pub count: u64,
+    pub word_address: u64,
+}
+
+impl WalkX86_64 {
+    // The call that it says, if its place is one.
+    fn call(&self) -> Option<SampleWalkCall<UnwindRegsX86_64>>
+        ensures { option_map viewed result ≡ walk_call_x86_64 self.now }
     {
-        let AnySession::X86_64(session) = self else {
-            return OTHER_ARCHITECTURE;
-        };
-        let mut moved = SampleWalk {
+        let place = place_at(self.place, self.address)?;
+        let walk = SampleWalk {
             place,
-            regs: walk.registers.to_regs(),
+            regs: self.registers.to_regs(),
         };
-        let status = session.walk(
-            unwinder,
-            cache,
-            &mut moved,
-            sample,
-            frames,
-            count,
-            word_address,
-        );
-        if !is_missing(status) {
-            let (place, address) = numbers_of(moved.place);
-            *walk = WalkX86_64 {
-                place,
-                address,
-                registers: RegistersX86_64::of(&moved.regs),
-            };
-        }
-        status
+        Some(SampleWalkCall {
+            unwinder: self.unwinder,
+            cache: self.cache,
+            walk,
+            count: self.count,
+            word_address: self.word_address,
+        })
     }
 
-    // Goes on with a walk on aarch64, from a place.
-    fn walk_aarch64(
+    // What is left of it by a call.
+    fn left(&self, status: u32, call: &SampleWalkCall<UnwindRegsX86_64>) -> Self
+        ensures { LeavesX86_64 status self.now result (viewed call.now) }
+    {
+        if is_missing(status) {
+            return *self;
+        }
+        let (place, address) = numbers_of(call.walk.place);
+        WalkX86_64 {
+            unwinder: self.unwinder,
+            cache: self.cache,
+            place,
+            address,
+            registers: RegistersX86_64::of(&call.walk.regs),
+            count: call.count,
+            word_address: call.word_address,
+        }
+    }
+}
+
+impl AnySession {
+    // Goes on with a walk by a call, if it is on x86_64.
+    fn walk_x86_64(
         &mut self,
-        unwinder: u64,
-        cache: u64,
-        place: WalkPlace,
-        walk: &mut WalkAarch64,
+        call: &mut SampleWalkCall<UnwindRegsX86_64>,
         sample: &Sample<'_>,
         frames: &mut [u64],
-        count: &mut u64,
-        word_address: &mut u64,
-    ) -> u32
-        ensures { WalksAarch64 result unwinder cache (position_of place) sample.now
-            (record { walk = walk.old; frames = frames.old; count = count.old; word_address = word_address.old })
-            (record { walk = walk.new; frames = frames.new; count = count.new; word_address = word_address.new })
-            self.old self.new }
+    ) -> Option<u32>
+        ensures { WalksOnX86_64 result sample.now
+            (viewed call.old, frames.old) (viewed call.new, frames.new) self.old self.new }
     {
-        let AnySession::Aarch64(session) = self else {
-            return OTHER_ARCHITECTURE;
-        };
-        let mut moved = SampleWalk {
-            place,
-            regs: walk.registers.to_regs(),
-        };
-        let status = session.walk(
-            unwinder,
-            cache,
-            &mut moved,
-            sample,
-            frames,
-            count,
-            word_address,
-        );
-        if !is_missing(status) {
-            let (place, address) = numbers_of(moved.place);
-            *walk = WalkAarch64 {
-                place,
-                address,
-                registers: RegistersAarch64::of(&moved.regs),
-            };
+        match self {
+            AnySession::X86_64(session) => Some(session.walk(call, sample, frames)),
+            AnySession::Aarch64(_) => None,
         }
-        status
     }
 }
 
 /// Goes on with a walk on x86_64.
 #[unsafe(no_mangle)]
-pub extern "C" fn framehop_walk_x86_64(
+pub extern "C" fn framehop_next_frames_x86_64(
     alloc: Global,
     session: &mut SessionHandle,
-    unwinder: u64,
-    cache: u64,
     walk: &mut WalkX86_64,
     sample: &Sample<'_>,
     frames: &mut [u64],
-    count: &mut u64,
-    word_address: &mut u64,
 ) -> u32
-    ensures walks { IfSome (position_numbered walk.old.place walk.old.address) (λ position.
-        InHandle (WalksX86_64 result unwinder cache position sample.now
-        (record { walk = walk.old; frames = frames.old; count = count.old; word_address = word_address.old })
-        (record { walk = walk.new; frames = frames.new; count = count.new; word_address = word_address.new }))
-        session.old.value session.new.value) }
-    ensures none { IsSome (position_numbered walk.old.place walk.old.address) → session.old.value ≡ None → result ≡ no_value }
-    ensures number { position_numbered walk.old.place walk.old.address ≡ None
-        → (result ≡ bad_argument) × (session.new.value ≡ session.old.value) }
-    ensures walk { (result ≡ bad_argument) ⊎ (result ≡ no_value) → (walk.new ≡ walk.old) × (frames.new ≡ frames.old) }
-    ensures kept { (result ≡ bad_argument) ⊎ (result ≡ no_value)
-        → (count.new ≡ count.old) × (word_address.new ≡ word_address.old) }
+    ensures { WalksX86_64 result sample.now
+        (walk.old, frames.old) (walk.new, frames.new) session.old.value session.new.value }
 {
-    let Some(place) = place_at(walk.place, walk.address) else {
+    let Some(mut call) = walk.call() else {
         return BAD_ARGUMENT;
     };
     let Some(mut state) = session.take(alloc) else {
         return NO_VALUE;
     };
-    let status = state.walk_x86_64(
-        unwinder,
-        cache,
-        place,
-        walk,
-        sample,
-        frames,
-        count,
-        word_address,
-    );
+    let made = state.walk_x86_64(&mut call, sample, frames);
     session.put(alloc, state);
+    let Some(status) = made else {
+        return OTHER_ARCHITECTURE;
+    };
+    *walk = walk.left(status, &call);
     status
+}
+
+/// Where a walk on aarch64 is, and what it gives.
+#[repr(C)]
+#[derive(Clone, Copy)]
+pub struct WalkAarch64 {
+    pub unwinder: u64,
+    pub cache: u64,
+    pub place: u64,
+    pub address: u64,
+    pub registers: RegistersAarch64,
+    pub count: u64,
+    pub word_address: u64,
+}
+
+impl WalkAarch64 {
+    // The call that it says, if its place is one.
+    fn call(&self) -> Option<SampleWalkCall<UnwindRegsAarch64>>
+        ensures { option_map viewed result ≡ walk_call_aarch64 self.now }
+    {
+        let place = place_at(self.place, self.address)?;
+        let walk = SampleWalk {
+            place,
+            regs: self.registers.to_regs(),
+        };
+        Some(SampleWalkCall {
+            unwinder: self.unwinder,
+            cache: self.cache,
+            walk,
+            count: self.count,
+            word_address: self.word_address,
+        })
+    }
+
+    // What is left of it by a call.
+    fn left(&self, status: u32, call: &SampleWalkCall<UnwindRegsAarch64>) -> Self
+        ensures { LeavesAarch64 status self.now result (viewed call.now) }
+    {
+        if is_missing(status) {
+            return *self;
+        }
+        let (place, address) = numbers_of(call.walk.place);
+        WalkAarch64 {
+            unwinder: self.unwinder,
+            cache: self.cache,
+            place,
+            address,
+            registers: RegistersAarch64::of(&call.walk.regs),
+            count: call.count,
+            word_address: call.word_address,
+        }
+    }
+}
+
+impl AnySession {
+    // Goes on with a walk by a call, if it is on aarch64.
+    fn walk_aarch64(
+        &mut self,
+        call: &mut SampleWalkCall<UnwindRegsAarch64>,
+        sample: &Sample<'_>,
+        frames: &mut [u64],
+    ) -> Option<u32>
+        ensures { WalksOnAarch64 result sample.now
+            (viewed call.old, frames.old) (viewed call.new, frames.new) self.old self.new }
+    {
+        match self {
+            AnySession::Aarch64(session) => Some(session.walk(call, sample, frames)),
+            AnySession::X86_64(_) => None,
+        }
+    }
 }
 
 /// Goes on with a walk on aarch64.
 #[unsafe(no_mangle)]
-pub extern "C" fn framehop_walk_aarch64(
+pub extern "C" fn framehop_next_frames_aarch64(
     alloc: Global,
     session: &mut SessionHandle,
-    unwinder: u64,
-    cache: u64,
     walk: &mut WalkAarch64,
     sample: &Sample<'_>,
     frames: &mut [u64],
-    count: &mut u64,
-    word_address: &mut u64,
 ) -> u32
-    ensures walks { IfSome (position_numbered walk.old.place walk.old.address) (λ position.
-        InHandle (WalksAarch64 result unwinder cache position sample.now
-        (record { walk = walk.old; frames = frames.old; count = count.old; word_address = word_address.old })
-        (record { walk = walk.new; frames = frames.new; count = count.new; word_address = word_address.new }))
-        session.old.value session.new.value) }
-    ensures none { IsSome (position_numbered walk.old.place walk.old.address) → session.old.value ≡ None → result ≡ no_value }
-    ensures number { position_numbered walk.old.place walk.old.address ≡ None
-        → (result ≡ bad_argument) × (session.new.value ≡ session.old.value) }
-    ensures walk { (result ≡ bad_argument) ⊎ (result ≡ no_value) → (walk.new ≡ walk.old) × (frames.new ≡ frames.old) }
-    ensures kept { (result ≡ bad_argument) ⊎ (result ≡ no_value)
-        → (count.new ≡ count.old) × (word_address.new ≡ word_address.old) }
+    ensures { WalksAarch64 result sample.now
+        (walk.old, frames.old) (walk.new, frames.new) session.old.value session.new.value }
 {
-    let Some(place) = place_at(walk.place, walk.address) else {
+    let Some(mut call) = walk.call() else {
         return BAD_ARGUMENT;
     };
     let Some(mut state) = session.take(alloc) else {
         return NO_VALUE;
     };
-    let status = state.walk_aarch64(
-        unwinder,
-        cache,
-        place,
-        walk,
-        sample,
-        frames,
-        count,
-        word_address,
-    );
+    let made = state.walk_aarch64(&mut call, sample, frames);
     session.put(alloc, state);
+    let Some(status) = made else {
+        return OTHER_ARCHITECTURE;
+    };
+    *walk = walk.left(status, &call);
     status
 }

@@ -1,4 +1,5 @@
 pub mod Calls
+pub mod CallViews
 pub mod Places
 pub mod Registers
 pub mod Sections

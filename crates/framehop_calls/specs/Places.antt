@@ -7,10 +7,10 @@ use Rattle.framehop_unwinder.specs.Walk.{WalkPosition, Starts, At, Over}
 abbrev pub returned_frame : ℕ → Option Frame
 returned_frame address = if address == 0 then None else Some (later_frame address)
 
--- the frame of a kind at an address: 0 is an instruction pointer, 1 a return address
-abbrev pub frame_numbered : (kind address : ℕ) → Option Frame
-frame_numbered kind address =
-    if kind == 0 then Some (first_frame address) else (if kind == 1 then returned_frame address else None)
+-- the frame of a place at an address: 1 is an instruction pointer, 2 a return address
+abbrev pub frame_numbered : (place address : ℕ) → Option Frame
+frame_numbered place address =
+    if place == 1 then Some (first_frame address) else (if place == 2 then returned_frame address else None)
 
 -- the position of a walk by numbers: 0 is before the first frame, 1 at an instruction pointer, 2 at a return address, 3 after the last
 abbrev pub position_numbered : (place address : ℕ) → Option WalkPosition

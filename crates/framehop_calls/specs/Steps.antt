@@ -1,5 +1,5 @@
 -- Steps and walks by numbers, over samples.
-use Rattle.std.specs.Prelude.{ℕ, ◌≡◌, ◌≢◌, List, take,  Option, Some, None, Result, Ok, Err, if◌then◌else◌}
+use Rattle.std.specs.Prelude.{ℕ, ◌≡◌, ◌≢◌, List, take, Option, Some, None, Result, Ok, Err, if◌then◌else◌}
 use Rattle.framehop_registers.specs.declared.error.Error.{Error}
 use Rattle.framehop_registers.specs.declared.error.Error.TheVariants.{CouldNotReadStack, FramepointerUnwindingMovedBackwards, DidNotAdvance, IntegerOverflow, ReturnAddressIsNull, OutOfMemory}
 use Rattle.framehop_unwinder.specs.Attempt.{Meanings}
@@ -53,31 +53,41 @@ word_by (Answered (Ok answer)) old = old
 word_by (Answered (Err error)) old = word_of_error error old
 word_by (NeedsWord address) old = address
 
--- What a step changes beside the session.
-pub record StepOutput (Registers : Type 0) : Type 0 where
+-- A call for a step: the unwinder and the cache by their numbers, the frame and its registers, and where what the step gives is written.
+pub record StepCall (Registers : Type 0) : Type 0 where
+  pub unwinder : ℕ
+  pub cache : ℕ
+  pub frame : Frame
   pub registers : Registers
   pub return_address : ℕ
   pub word_address : ℕ
 
--- A step from a frame over a sample is made: it is the judge's, and what it gives is written and told.
-pub record MakesStep {Data Rule Registers : Type 0} (m : Meanings Data Rule Registers) (status unwinder : ℕ) (frame : Frame) (sample : Sample)
-    (old_output new_output : StepOutput Registers) (old new : SessionState Data Rule) : Type 0 where
+-- the call after a step, with the registers that it leaves
+abbrev pub after_step : {Registers : Type 0} → SampleStep → Registers → StepCall Registers → StepCall Registers
+after_step made registers call = record call {
+  registers = registers;
+  return_address = return_address_by made call.return_address;
+  word_address = word_by made call.word_address;
+}
+
+-- A step over a sample is made: it is the judge's, and what it gives is written and told.
+pub record MakesStep {Data Rule Registers : Type 0} (m : Meanings Data Rule Registers) (status : ℕ) (sample : Sample)
+    (old_call new_call : StepCall Registers) (old new : SessionState Data Rule) : Type 0 where
   pub made : SampleStep
   pub told : status ≡ step_status made
-  pub return_address : new_output.return_address ≡ return_address_by made old_output.return_address
-  pub word_address : new_output.word_address ≡ word_by made old_output.word_address
-  pub step : SampleSteps made old_output.registers new_output.registers
-      (judge m (modules_at old unwinder) frame old_output.registers (words_of sample))
+  pub written : new_call ≡ after_step made new_call.registers old_call
+  pub step : SampleSteps made old_call.registers new_call.registers
+      (judge m (modules_at old old_call.unwinder) old_call.frame old_call.registers (words_of sample))
   pub asks : AsksAsSaid made sample
   pub session : KeepsModules old new
 
--- A step over a sample, through an unwinder and a cache by their numbers.
-pub record StepsByNumber {Data Rule Registers : Type 0} (m : Meanings Data Rule Registers) (status unwinder cache : ℕ) (frame : Frame) (sample : Sample)
-    (old_output new_output : StepOutput Registers) (old new : SessionState Data Rule) : Type 0 where
-  pub made : status_of_numbers old unwinder cache ≡ ok → MakesStep m status unwinder frame sample old_output new_output old new
-  pub told : status_of_numbers old unwinder cache ≢ ok → status ≡ status_of_numbers old unwinder cache
-  pub session : status_of_numbers old unwinder cache ≢ ok → new ≡ old
-  pub output : status_of_numbers old unwinder cache ≢ ok → new_output ≡ old_output
+-- A step over a sample, if there are such an unwinder and such a cache; else nothing is changed, and it is told.
+pub record StepsByNumber {Data Rule Registers : Type 0} (m : Meanings Data Rule Registers) (status : ℕ) (sample : Sample)
+    (old_call new_call : StepCall Registers) (old new : SessionState Data Rule) : Type 0 where
+  pub made : status_of_numbers old old_call.unwinder old_call.cache ≡ ok → MakesStep m status sample old_call new_call old new
+  pub told : status_of_numbers old old_call.unwinder old_call.cache ≢ ok → status ≡ status_of_numbers old old_call.unwinder old_call.cache
+  pub session : status_of_numbers old old_call.unwinder old_call.cache ≢ ok → new ≡ old
+  pub call : status_of_numbers old old_call.unwinder old_call.cache ≢ ok → new_call ≡ old_call
 
 -- the status of a walk
 abbrev pub walk_status : WalkEnd → ℕ
@@ -93,29 +103,33 @@ word_at_end ending.EndOfStack old = old
 word_at_end (ending.NeedsWord address) old = address
 word_at_end (ending.Failed error) old = word_of_error error old
 
--- What a walk changes beside the session.
-pub record WalkOutput (Registers : Type 0) : Type 0 where
+-- A call for a walk: the unwinder and the cache by their numbers, where the walk is, and where what it gives is written.
+pub record WalkCall (Registers : Type 0) : Type 0 where
+  pub unwinder : ℕ
+  pub cache : ℕ
   pub walk : Walk Registers
-  pub frames : List ℕ
   pub count : ℕ
   pub word_address : ℕ
 
+-- the call after a walk, which is here then
+abbrev pub after_walk : {Registers : Type 0} → Walked → Walk Registers → WalkCall Registers → WalkCall Registers
+after_walk made walk call = record call { walk = walk; count = made.count; word_address = word_at_end made.end call.word_address }
+
 -- A walk over a sample goes on: its frames are the judge's, one after the other, and they are written within the room.
-pub record MakesWalk {Data Rule Registers : Type 0} (m : Meanings Data Rule Registers) (status unwinder : ℕ) (sample : Sample)
-    (old_output new_output : WalkOutput Registers) (old new : SessionState Data Rule) : Type 0 where
+pub record MakesWalk {Data Rule Registers : Type 0} (m : Meanings Data Rule Registers) (status : ℕ) (sample : Sample)
+    (before after : WalkCall Registers × List ℕ) (old new : SessionState Data Rule) : Type 0 where
   pub made : Walked
   pub told : status ≡ walk_status made.end
-  pub count : new_output.count ≡ made.count
-  pub word_address : new_output.word_address ≡ word_at_end made.end old_output.word_address
-  pub walk : WalksOver (judge m (modules_at old unwinder)) (words_of sample) old_output.walk (take made.count new_output.frames) made.end new_output.walk
-  pub written : WritesFrames made old_output.frames new_output.frames
+  pub written : after.0 ≡ after_walk made after.0.walk before.0
+  pub walk : WalksOver (judge m (modules_at old before.0.unwinder)) (words_of sample) before.0.walk (take made.count after.1) made.end after.0.walk
+  pub frames : WritesFrames made before.1 after.1
   pub needs : NeedsUnknown made.end sample
   pub session : KeepsModules old new
 
--- A walk over a sample, through an unwinder and a cache by their numbers.
-pub record WalksByNumber {Data Rule Registers : Type 0} (m : Meanings Data Rule Registers) (status unwinder cache : ℕ) (sample : Sample)
-    (old_output new_output : WalkOutput Registers) (old new : SessionState Data Rule) : Type 0 where
-  pub made : status_of_numbers old unwinder cache ≡ ok → MakesWalk m status unwinder sample old_output new_output old new
-  pub told : status_of_numbers old unwinder cache ≢ ok → status ≡ status_of_numbers old unwinder cache
-  pub session : status_of_numbers old unwinder cache ≢ ok → new ≡ old
-  pub output : status_of_numbers old unwinder cache ≢ ok → new_output ≡ old_output
+-- A walk over a sample, if there are such an unwinder and such a cache; else nothing is changed, and it is told.
+pub record WalksByNumber {Data Rule Registers : Type 0} (m : Meanings Data Rule Registers) (status : ℕ) (sample : Sample)
+    (before after : WalkCall Registers × List ℕ) (old new : SessionState Data Rule) : Type 0 where
+  pub made : status_of_numbers old before.0.unwinder before.0.cache ≡ ok → MakesWalk m status sample before after old new
+  pub told : status_of_numbers old before.0.unwinder before.0.cache ≢ ok → status ≡ status_of_numbers old before.0.unwinder before.0.cache
+  pub session : status_of_numbers old before.0.unwinder before.0.cache ≢ ok → new ≡ old
+  pub call : status_of_numbers old before.0.unwinder before.0.cache ≢ ok → after ≡ before

@@ -15,5 +15,5 @@ mod walks;
 pub use registers::{RegistersAarch64, RegistersX86_64};
 pub use sections::{FileSections, Section};
 pub use session::{CountedSession, let_go};
-pub use steps::frame_at;
-pub use walks::{numbers_of, place_at};
+pub use steps::{SampleStepCall, frame_at};
+pub use walks::{SampleWalkCall, numbers_of, place_at};

@@ -1,6 +1,6 @@
 //! Registers, as callers have them.
 
-ghost use Rattle.std.specs.Prelude.{◌≡◌};
+ghost use Rattle.std.specs.Prelude.{◌≡◌, length};
 ghost use Rattle.framehop_calls.specs.Registers.{from_aarch64, from_x86_64, to_aarch64, to_x86_64};
 
 use framehop_registers::aarch64::{PtrAuthMask, UnwindRegsAarch64};
@@ -31,10 +31,17 @@ pub struct RegistersAarch64 {
 }
 
 impl RegistersX86_64 {
+    // All sixteen general registers are there, as proofs need it.
+    #[inline(always)]
+    fn has_all(&self)
+        ensures { length self.now.general ≡ 16 }
+    {}
+
     /// The registers as steps have them.
     pub fn to_regs(&self) -> UnwindRegsX86_64
         ensures { result ≡ to_x86_64 self.now }
     {
+        self.has_all();
         let mut regs = UnwindRegsX86_64::new(self.ip, self.general[7], self.general[6]);
         regs.set(Reg::RAX, self.general[0]);
         regs.set(Reg::RDX, self.general[1]);

@@ -3,6 +3,7 @@
 ghost use Rattle.std.specs.Prelude.{◌≡◌, option_map};
 ghost use Rattle.framehop_unwinder.specs.Frames.{frame_of};
 ghost use Rattle.framehop_unwinder.specs.IdViews.{cache_number, unwinder_number};
+ghost use Rattle.framehop_calls.specs.CallViews.{step_call};
 ghost use Rattle.framehop_calls.specs.Places.{frame_numbered};
 ghost use Rattle.framehop_calls.specs.Steps.{StepsByNumber, return_address_by, status_of_numbers, step_status, word_by, word_of_error};
 
@@ -12,13 +13,31 @@ use framehop_rules::{Error, FrameAddress};
 use framehop_samples::{Sample, SampleStep, step_in_sample};
 use framehop_unwinder::{CacheId, ModuleUnwinding, UnwinderId};
 
-/// The address of a frame, of a kind: 0 is an instruction pointer, 1 a return address.
-pub fn frame_at(kind: u32, address: u64) -> Option<FrameAddress>
-    ensures { option_map (λ address. frame_of address) result ≡ frame_numbered kind address }
+/// A call for a step: the unwinder and the cache by their numbers, the frame's address and registers, and where what the step gives is
+/// written.
+#[derive(Clone, Copy)]
+pub struct SampleStepCall<R> {
+    /// The number of the unwinder.
+    pub unwinder: u64,
+    /// The number of the cache.
+    pub cache: u64,
+    /// The address of the frame.
+    pub address: FrameAddress,
+    /// Its registers, and then the caller's.
+    pub regs: R,
+    /// The return address, if there is a caller.
+    pub return_address: u64,
+    /// The address of the word that is needed or can't be read.
+    pub word_address: u64,
+}
+
+/// The address of a frame at a place: 1 is an instruction pointer, 2 a return address.
+pub fn frame_at(place: u64, address: u64) -> Option<FrameAddress>
+    ensures { option_map (λ address. frame_of address) result ≡ frame_numbered place address }
 {
-    match kind {
-        0 => Some(FrameAddress::from_instruction_pointer(address)),
-        1 => FrameAddress::from_return_address(address),
+    match place {
+        1 => Some(FrameAddress::from_instruction_pointer(address)),
+        2 => FrameAddress::from_return_address(address),
         _ => None,
     }
 }
@@ -69,30 +88,25 @@ impl<A: ModuleUnwinding> CountedSession<A> {
         }
     }
 
-    /// Makes the step of an unwinder from a frame over a sample, through a cache. Writes the return address, or the address of the word
-    /// that is needed or can't be read, and answers the status.
-    pub fn step(
-        &mut self,
-        unwinder: u64,
-        cache: u64,
-        address: FrameAddress,
-        regs: &mut A::UnwindRegs,
-        sample: &Sample<'_>,
-        return_address: &mut u64,
-        word_address: &mut u64,
-    ) -> u32
-        ensures { StepsByNumber A.meanings result unwinder cache (frame_of address) sample.now
-            (record { registers = regs.old; return_address = return_address.old; word_address = word_address.old })
-            (record { registers = regs.new; return_address = return_address.new; word_address = word_address.new })
-            self.old self.new }
+    /// Makes a step over a sample. Writes the return address, or the address of the word that is needed or can't be read, and answers the
+    /// status.
+    pub fn step(&mut self, call: &mut SampleStepCall<A::UnwindRegs>, sample: &Sample<'_>) -> u32
+        ensures { StepsByNumber A.meanings result sample.now (step_call call.old) (step_call call.new) self.old self.new }
     {
-        let unwinder = UnwinderId::numbered(unwinder as usize);
-        let cache = CacheId::numbered(cache as usize);
+        let unwinder = UnwinderId::numbered(call.unwinder as usize);
+        let cache = CacheId::numbered(call.cache as usize);
         let status = self.status_of(unwinder, cache);
         if status != OK {
             return status;
         }
-        let step = step_in_sample(&mut self.session, unwinder, cache, address, regs, sample);
-        tell(step, return_address, word_address)
+        let step = step_in_sample(
+            &mut self.session,
+            unwinder,
+            cache,
+            call.address,
+            &mut call.regs,
+            sample,
+        );
+        tell(step, &mut call.return_address, &mut call.word_address)
     }
 }

@@ -1,7 +1,8 @@
 //! Walks by numbers.
 
 ghost use Rattle.std.specs.Prelude.{◌≡◌, Some, option_map};
-ghost use Rattle.framehop_samples.specs.Walks.{position_of, walk_of};
+ghost use Rattle.framehop_samples.specs.Walks.{position_of};
+ghost use Rattle.framehop_calls.specs.CallViews.{viewed};
 ghost use Rattle.framehop_calls.specs.Places.{position_numbered};
 ghost use Rattle.framehop_calls.specs.Steps.{WalksByNumber, walk_status, word_at_end};
 
@@ -11,6 +12,21 @@ use crate::steps::write_word;
 use framehop_rules::FrameAddress;
 use framehop_samples::{Sample, SampleWalk, WalkEnd, WalkPlace, walk_in_sample};
 use framehop_unwinder::{CacheId, ModuleUnwinding, UnwinderId};
+
+/// A call for a walk: the unwinder and the cache by their numbers, where the walk is, and where what it gives is written.
+#[derive(Clone, Copy)]
+pub struct SampleWalkCall<R> {
+    /// The number of the unwinder.
+    pub unwinder: u64,
+    /// The number of the cache.
+    pub cache: u64,
+    /// Where the walk is.
+    pub walk: SampleWalk<R>,
+    /// How many frames were written.
+    pub count: u64,
+    /// The address of the word that is needed or can't be read.
+    pub word_address: u64,
+}
 
 /// The place of a walk by numbers: 0 is before the first frame, 1 at an instruction pointer, 2 at a return address, 3 after the last.
 pub fn place_at(place: u64, address: u64) -> Option<WalkPlace>
@@ -57,31 +73,32 @@ fn tell(end: WalkEnd, word_address: &mut u64) -> u32
 }
 
 impl<A: ModuleUnwinding> CountedSession<A> {
-    /// Goes on with a walk over a sample. Writes the addresses of its next frames and how many they are, the address of a word that is
-    /// needed or can't be read, and answers why it stops.
+    /// Goes on with a walk over a sample. Writes the addresses of its next frames and how many they are, and the address of a word that is
+    /// needed or can't be read; answers why it stops.
     pub fn walk(
         &mut self,
-        unwinder: u64,
-        cache: u64,
-        walk: &mut SampleWalk<A::UnwindRegs>,
+        call: &mut SampleWalkCall<A::UnwindRegs>,
         sample: &Sample<'_>,
         frames: &mut [u64],
-        count: &mut u64,
-        word_address: &mut u64,
     ) -> u32
-        ensures { WalksByNumber A.meanings result unwinder cache sample.now
-            (record { walk = walk_of walk.old; frames = frames.old; count = count.old; word_address = word_address.old })
-            (record { walk = walk_of walk.new; frames = frames.new; count = count.new; word_address = word_address.new })
-            self.old self.new }
+        ensures { WalksByNumber A.meanings result sample.now
+            (viewed call.old, frames.old) (viewed call.new, frames.new) self.old self.new }
     {
-        let unwinder = UnwinderId::numbered(unwinder as usize);
-        let cache = CacheId::numbered(cache as usize);
+        let unwinder = UnwinderId::numbered(call.unwinder as usize);
+        let cache = CacheId::numbered(call.cache as usize);
         let status = self.status_of(unwinder, cache);
         if status != OK {
             return status;
         }
-        let walked = walk_in_sample(&mut self.session, unwinder, cache, walk, sample, frames);
-        *count = walked.count as u64;
-        tell(walked.end, word_address)
+        let walked = walk_in_sample(
+            &mut self.session,
+            unwinder,
+            cache,
+            &mut call.walk,
+            sample,
+            frames,
+        );
+        call.count = walked.count as u64;
+        tell(walked.end, &mut call.word_address)
     }
 }

@@ -103,49 +103,48 @@ static void print_step(framehop_status status, uint64_t found, uint64_t address)
 }
 
 static void step(void) {
-    uint64_t unwinder = number(), cache = number(), found = 0, needed = 0;
-    uint32_t kind = (uint32_t)number();
-    uint64_t address = number(), a = number(), b = number(), c = number(), d = number();
+    uint64_t unwinder = number(), cache = number(), place = number(), address = number();
+    uint64_t a = number(), b = number(), c = number(), d = number();
     framehop_sample sample = read_stack();
+    framehop_registers_aarch64 registers = {d, a & d, b, c};
+    framehop_frame_x86_64 on_x86_64 = framehop_frame_of_x86_64(unwinder, cache, framehop_registers_of_x86_64(a, b, c));
+    framehop_frame_aarch64 on_aarch64 = framehop_frame_of_aarch64(unwinder, cache, address, registers);
     framehop_status status;
+    on_x86_64.place = on_aarch64.place = place;
+    on_x86_64.address = address;
     if (architecture == FRAMEHOP_X86_64) {
-        framehop_registers_x86_64 registers = framehop_registers_of_x86_64(a, b, c);
-        while ((status = framehop_step_x86_64(&session, unwinder, cache, kind, address, &registers, &sample, &found, &needed)) == FRAMEHOP_NEED_WORD)
-            tell(&sample, needed);
-        print_step(status, found, needed);
-        printf(" ip 0x%" PRIx64 " sp 0x%" PRIx64 " bp 0x%" PRIx64 "\n", registers.ip, registers.general[FRAMEHOP_RSP], registers.general[FRAMEHOP_RBP]);
+        while ((status = framehop_unwind_frame_x86_64(&session, &on_x86_64, &sample)) == FRAMEHOP_NEED_WORD) tell(&sample, on_x86_64.word_address);
+        print_step(status, on_x86_64.return_address, on_x86_64.word_address);
+        printf(" ip 0x%" PRIx64 " sp 0x%" PRIx64 " bp 0x%" PRIx64 "\n", on_x86_64.registers.ip, on_x86_64.registers.general[FRAMEHOP_RSP],
+               on_x86_64.registers.general[FRAMEHOP_RBP]);
     } else {
-        framehop_registers_aarch64 registers = {d, a & d, b, c};
-        while ((status = framehop_step_aarch64(&session, unwinder, cache, kind, address, &registers, &sample, &found, &needed)) == FRAMEHOP_NEED_WORD)
-            tell(&sample, needed);
-        print_step(status, found, needed);
-        printf(" lr 0x%" PRIx64 " sp 0x%" PRIx64 " fp 0x%" PRIx64 "\n", registers.lr, registers.sp, registers.fp);
+        while ((status = framehop_unwind_frame_aarch64(&session, &on_aarch64, &sample)) == FRAMEHOP_NEED_WORD) tell(&sample, on_aarch64.word_address);
+        print_step(status, on_aarch64.return_address, on_aarch64.word_address);
+        printf(" lr 0x%" PRIx64 " sp 0x%" PRIx64 " fp 0x%" PRIx64 "\n", on_aarch64.registers.lr, on_aarch64.registers.sp, on_aarch64.registers.fp);
     }
 }
 
 static void walk(void) {
     uint64_t unwinder = number(), cache = number(), pc = number(), limit = number();
-    uint64_t a = number(), b = number(), c = number(), d = number(), count = 0, needed = 0, frame = 0, written = 0;
+    uint64_t a = number(), b = number(), c = number(), d = number(), frame = 0, written = 0;
     framehop_sample sample = read_stack();
-    framehop_walk_state_x86_64 on_x86_64 = framehop_walk_from_x86_64(framehop_registers_of_x86_64(a, b, c));
     framehop_registers_aarch64 registers = {d, a, b, c};
-    framehop_walk_state_aarch64 on_aarch64 = framehop_walk_from_aarch64(pc, registers);
+    framehop_walk_x86_64 on_x86_64 = framehop_walk_from_x86_64(unwinder, cache, framehop_registers_of_x86_64(a, b, c));
+    framehop_walk_aarch64 on_aarch64 = framehop_walk_from_aarch64(unwinder, cache, pc, registers);
     framehop_status status = FRAMEHOP_FULL;
     on_x86_64.address = pc;
     /* One frame at a time: the walk goes on where the call before left it. */
     while (written < limit && (status == FRAMEHOP_FULL || status == FRAMEHOP_NEED_WORD)) {
-        if (architecture == FRAMEHOP_X86_64)
-            status = framehop_walk_x86_64(&session, unwinder, cache, &on_x86_64, &sample, &frame, 1, &count, &needed);
-        else
-            status = framehop_walk_aarch64(&session, unwinder, cache, &on_aarch64, &sample, &frame, 1, &count, &needed);
-        if (status == FRAMEHOP_NEED_WORD) tell(&sample, needed);
+        status = architecture == FRAMEHOP_X86_64 ? framehop_next_frames_x86_64(&session, &on_x86_64, &sample, &frame, 1)
+                                                 : framehop_next_frames_aarch64(&session, &on_aarch64, &sample, &frame, 1);
+        if (status == FRAMEHOP_NEED_WORD) tell(&sample, architecture == FRAMEHOP_X86_64 ? on_x86_64.word_address : on_aarch64.word_address);
         if (status == FRAMEHOP_FULL) printf("frame %s 0x%" PRIx64 "\n", written++ ? "ra" : "ip", frame);
     }
     if (status == FRAMEHOP_FULL) printf("limit\n");
     else if (status == FRAMEHOP_END_OF_STACK) printf("end\n");
     else {
         printf("stop ");
-        print_error(status, needed);
+        print_error(status, architecture == FRAMEHOP_X86_64 ? on_x86_64.word_address : on_aarch64.word_address);
         printf("\n");
     }
 }
@@ -224,32 +223,32 @@ static framehop_module module_of(framehop_section *section, const uint8_t *at, u
     return module;
 }
 
-/* Makes a walk of the example, from its first frame. */
+/* Makes a walk of the example, from its first frame. What can't be done changes nothing. */
 static framehop_status walk_with(framehop_session *in, uint64_t unwinder, uint64_t cache, uint64_t place, uint64_t *frames, size_t room, uint64_t *count) {
     framehop_sample sample = framehop_sample_of(0, words, sizeof words);
-    framehop_walk_state_x86_64 state = framehop_walk_from_x86_64(framehop_registers_of_x86_64(0x101000, 0x10, 0x20)), before;
-    uint64_t address = 0x5eed;
+    framehop_walk_x86_64 state = framehop_walk_from_x86_64(unwinder, cache, framehop_registers_of_x86_64(0x101000, 0x10, 0x20)), before;
     framehop_status status;
     state.place = place;
+    state.count = *count;
+    state.word_address = 0x5eed;
     before = state;
-    status = framehop_walk_x86_64(in, unwinder, cache, &state, &sample, frames, room, count, &address);
-    if (status >= FRAMEHOP_NO_VALUE) {
-        SHOULD(!memcmp(&state, &before, sizeof state));
-        SHOULD(address == 0x5eed);
-    }
+    status = framehop_next_frames_x86_64(in, &state, &sample, frames, room);
+    if (status >= FRAMEHOP_NO_VALUE) SHOULD(!memcmp(&state, &before, sizeof state));
+    *count = state.count;
     return status;
 }
 
-/* Makes the step of the example; a step without a caller leaves the registers. */
-static framehop_status step_with(framehop_session *in, uint64_t unwinder, uint64_t cache, uint32_t kind, uint64_t address) {
+/* Makes the step of the example. A step without a caller changes nothing. */
+static framehop_status step_with(framehop_session *in, uint64_t unwinder, uint64_t cache, uint64_t place, uint64_t address) {
     framehop_sample sample = framehop_sample_of(0, words, sizeof words);
-    framehop_registers_x86_64 registers = framehop_registers_of_x86_64(0x101000, 0x10, 0x20), before = registers;
-    uint64_t found = 0x5eed, needed = 0x5eed;
-    framehop_status status = framehop_step_x86_64(in, unwinder, cache, kind, address, &registers, &sample, &found, &needed);
-    if (status != FRAMEHOP_OK) {
-        SHOULD(!memcmp(&registers, &before, sizeof registers));
-        SHOULD(found == 0x5eed);
-    } else SHOULD(found == 0x100300 && registers.ip == 0x100300 && registers.general[FRAMEHOP_RSP] == 0x18);
+    framehop_frame_x86_64 frame = framehop_frame_of_x86_64(unwinder, cache, framehop_registers_of_x86_64(0x101000, 0x10, 0x20)), before;
+    framehop_status status;
+    frame.place = place;
+    frame.address = address;
+    before = frame;
+    status = framehop_unwind_frame_x86_64(in, &frame, &sample);
+    if (status != FRAMEHOP_OK) SHOULD(!memcmp(&frame, &before, sizeof frame));
+    else SHOULD(frame.return_address == 0x100300 && frame.registers.ip == 0x100300 && frame.registers.general[FRAMEHOP_RSP] == 0x18);
     return status;
 }
 
@@ -259,9 +258,10 @@ static void try_no_session(framehop_session *none) {
     framehop_module module = module_of(&section, eh_frame, FRAMEHOP_LOOKUP_AUTO);
     framehop_sample sample = framehop_sample_of(0, NULL, 0);
     framehop_registers_aarch64 registers = {UINT64_MAX, 1, 2, 3};
-    framehop_walk_state_aarch64 state = framehop_walk_from_aarch64(7, registers);
+    framehop_walk_aarch64 walk_on = framehop_walk_from_aarch64(0, 0, 7, registers);
+    framehop_frame_aarch64 frame_on = framehop_frame_of_aarch64(0, 0, 7, registers);
     framehop_cache_stats stats = {1, 2, 3, 4};
-    uint64_t id = 0x5eed, frame = 0x5eed, count = 0x5eed, found = 0x5eed, needed = 0x5eed;
+    uint64_t id = 0x5eed, frame = 0x5eed, count = 0x5eed;
     SHOULD(framehop_session_free(none) == FRAMEHOP_NO_VALUE);
     SHOULD(framehop_add_unwinder(none, &id) == FRAMEHOP_NO_VALUE);
     SHOULD(framehop_clone_unwinder(none, 0, &id) == FRAMEHOP_NO_VALUE);
@@ -272,11 +272,11 @@ static void try_no_session(framehop_session *none) {
     SHOULD(framehop_load(none, 0, &module) == FRAMEHOP_NO_VALUE);
     SHOULD(framehop_unload(none, 0, 0) == FRAMEHOP_NO_VALUE);
     SHOULD(framehop_max_known_code_address(none, 0, &id) == FRAMEHOP_NO_VALUE);
-    SHOULD(step_with(none, 0, 0, FRAMEHOP_INSTRUCTION_POINTER, 0x101000) == FRAMEHOP_NO_VALUE);
-    SHOULD(walk_with(none, 0, 0, FRAMEHOP_WALK_STARTS, &frame, 1, &count) == FRAMEHOP_NO_VALUE);
-    SHOULD(framehop_step_aarch64(none, 0, 0, 0, 7, &registers, &sample, &found, &needed) == FRAMEHOP_NO_VALUE);
-    SHOULD(framehop_walk_aarch64(none, 0, 0, &state, &sample, &frame, 1, &count, &needed) == FRAMEHOP_NO_VALUE);
-    SHOULD(id == 0x5eed && frame == 0x5eed && count == 0x5eed && found == 0x5eed && needed == 0x5eed && stats.hit_count == 1);
+    SHOULD(step_with(none, 0, 0, FRAMEHOP_AT_INSTRUCTION, 0x101000) == FRAMEHOP_NO_VALUE);
+    SHOULD(walk_with(none, 0, 0, FRAMEHOP_STARTS, &frame, 1, &count) == FRAMEHOP_NO_VALUE);
+    SHOULD(framehop_unwind_frame_aarch64(none, &frame_on, &sample) == FRAMEHOP_NO_VALUE);
+    SHOULD(framehop_next_frames_aarch64(none, &walk_on, &sample, &frame, 1) == FRAMEHOP_NO_VALUE);
+    SHOULD(id == 0x5eed && frame == 0x5eed && count == 0x5eed && stats.hit_count == 1);
     SHOULD(none->at == NULL);
 }
 
@@ -286,9 +286,10 @@ static void misuse(void) {
     uint8_t *own = malloc(sizeof eh_frame);
     framehop_module module = module_of(&section, memcpy(own, eh_frame, sizeof eh_frame), FRAMEHOP_LOOKUP_AUTO);
     framehop_registers_aarch64 registers = {0xff, 0x1ff, 2, 3};
-    framehop_walk_state_aarch64 state = framehop_walk_from_aarch64(7, registers);
+    framehop_walk_aarch64 walk_on = framehop_walk_from_aarch64(0, 0, 7, registers);
+    framehop_frame_aarch64 frame_on = framehop_frame_of_aarch64(0, 0, 7, registers);
     framehop_sample sample = framehop_sample_of(0, NULL, 0);
-    uint64_t unwinder, clone, cache, id = 0x5eed, frames[8], count = 0x5eed, found = 0x5eed, needed = 0x5eed;
+    uint64_t unwinder, clone, cache, id = 0x5eed, frames[8], count = 0x5eed;
     try_no_session(&in);
     SHOULD(framehop_version() == FRAMEHOP_VERSION);
     SHOULD(framehop_session_new(&in, 2) == FRAMEHOP_BAD_ARGUMENT && in.at == NULL);
@@ -307,28 +308,29 @@ static void misuse(void) {
     SHOULD(framehop_load(&in, unwinder, &module) == FRAMEHOP_OK);
     SHOULD(framehop_max_known_code_address(&in, unwinder, &id) == FRAMEHOP_OK && id == 0x102000);
     SHOULD(framehop_clone_unwinder(&in, unwinder, &clone) == FRAMEHOP_OK && clone == 1);
-    SHOULD(step_with(&in, unwinder, cache, FRAMEHOP_INSTRUCTION_POINTER, 0x101000) == FRAMEHOP_OK);
-    SHOULD(step_with(&in, 9, cache, FRAMEHOP_INSTRUCTION_POINTER, 0x101000) == FRAMEHOP_NO_UNWINDER);
-    SHOULD(step_with(&in, unwinder, 9, FRAMEHOP_INSTRUCTION_POINTER, 0x101000) == FRAMEHOP_NO_CACHE);
+    SHOULD(step_with(&in, unwinder, cache, FRAMEHOP_AT_INSTRUCTION, 0x101000) == FRAMEHOP_OK);
+    SHOULD(step_with(&in, 9, cache, FRAMEHOP_AT_INSTRUCTION, 0x101000) == FRAMEHOP_NO_UNWINDER);
+    SHOULD(step_with(&in, unwinder, 9, FRAMEHOP_AT_INSTRUCTION, 0x101000) == FRAMEHOP_NO_CACHE);
     SHOULD(step_with(&in, unwinder, cache, 2, 0x101000) == FRAMEHOP_BAD_ARGUMENT);
-    SHOULD(step_with(&in, unwinder, cache, FRAMEHOP_RETURN_ADDRESS, 0) == FRAMEHOP_BAD_ARGUMENT);
+    SHOULD(step_with(&in, unwinder, cache, FRAMEHOP_AT_RETURN, 0) == FRAMEHOP_BAD_ARGUMENT);
     SHOULD(walk_with(&in, unwinder, cache, 4, frames, 8, &count) == FRAMEHOP_BAD_ARGUMENT && count == 0x5eed);
-    SHOULD(walk_with(&in, 9, cache, FRAMEHOP_WALK_STARTS, frames, 8, &count) == FRAMEHOP_NO_UNWINDER && count == 0x5eed);
-    SHOULD(walk_with(&in, unwinder, 9, FRAMEHOP_WALK_STARTS, frames, 8, &count) == FRAMEHOP_NO_CACHE && count == 0x5eed);
-    SHOULD(walk_with(&in, unwinder, cache, FRAMEHOP_WALK_OVER, frames, 8, &count) == FRAMEHOP_END_OF_STACK && count == 0);
+    SHOULD(walk_with(&in, 9, cache, FRAMEHOP_STARTS, frames, 8, &count) == FRAMEHOP_NO_UNWINDER && count == 0x5eed);
+    SHOULD(walk_with(&in, unwinder, 9, FRAMEHOP_STARTS, frames, 8, &count) == FRAMEHOP_NO_CACHE && count == 0x5eed);
+    SHOULD(walk_with(&in, unwinder, cache, FRAMEHOP_OVER, frames, 8, &count) == FRAMEHOP_END_OF_STACK && count == 0);
     for (size_t room = 0; room < 8; room++) {
         for (size_t i = 0; i < 8; i++) frames[i] = 0x5eed;
-        SHOULD(walk_with(&in, unwinder, cache, FRAMEHOP_WALK_STARTS, frames, room, &count) == (room < 5 ? FRAMEHOP_FULL : FRAMEHOP_END_OF_STACK));
+        SHOULD(walk_with(&in, unwinder, cache, FRAMEHOP_STARTS, frames, room, &count) == (room < 5 ? FRAMEHOP_FULL : FRAMEHOP_END_OF_STACK));
         SHOULD(count == (room < 4 ? room : 4));
         for (size_t i = count; i < 8; i++) SHOULD(frames[i] == 0x5eed);
     }
-    SHOULD(framehop_step_aarch64(&in, unwinder, cache, 0, 7, &registers, &sample, &found, &needed) == FRAMEHOP_OTHER_ARCHITECTURE);
-    SHOULD(framehop_walk_aarch64(&in, unwinder, cache, &state, &sample, frames, 8, &count, &needed) == FRAMEHOP_OTHER_ARCHITECTURE);
-    SHOULD(registers.lr == 0x1ff && state.registers.lr == 0x1ff && state.place == FRAMEHOP_WALK_STARTS && found == 0x5eed);
+    SHOULD(framehop_unwind_frame_aarch64(&in, &frame_on, &sample) == FRAMEHOP_OTHER_ARCHITECTURE);
+    SHOULD(framehop_next_frames_aarch64(&in, &walk_on, &sample, frames, 8) == FRAMEHOP_OTHER_ARCHITECTURE);
+    SHOULD(frame_on.registers.lr == 0x1ff && walk_on.registers.lr == 0x1ff && walk_on.place == FRAMEHOP_STARTS);
     SHOULD(framehop_session_new(&other, FRAMEHOP_AARCH64) == FRAMEHOP_OK);
-    SHOULD(framehop_walk_aarch64(&other, 0, 0, &state, &sample, frames, 8, &count, &needed) == FRAMEHOP_NO_UNWINDER);
-    SHOULD(state.registers.lr == 0x1ff && state.place == FRAMEHOP_WALK_STARTS);
-    SHOULD(step_with(&other, 0, 0, FRAMEHOP_INSTRUCTION_POINTER, 0x101000) == FRAMEHOP_OTHER_ARCHITECTURE);
+    SHOULD(framehop_next_frames_aarch64(&other, &walk_on, &sample, frames, 8) == FRAMEHOP_NO_UNWINDER);
+    SHOULD(framehop_unwind_frame_aarch64(&other, &frame_on, &sample) == FRAMEHOP_NO_UNWINDER);
+    SHOULD(frame_on.registers.lr == 0x1ff && walk_on.registers.lr == 0x1ff && walk_on.place == FRAMEHOP_STARTS);
+    SHOULD(step_with(&other, 0, 0, FRAMEHOP_AT_INSTRUCTION, 0x101000) == FRAMEHOP_OTHER_ARCHITECTURE);
     SHOULD(framehop_session_free(&other) == FRAMEHOP_OK);
     /* What was let go is told from what lives, and its bytes are read no more: they are freed here. */
     SHOULD(framehop_remove_unwinder(&in, clone) == FRAMEHOP_OK);
@@ -338,11 +340,11 @@ static void misuse(void) {
     SHOULD(framehop_unload(&in, unwinder, 0x100000) == FRAMEHOP_OK);
     SHOULD(framehop_unload(&in, clone, 0x100000) == FRAMEHOP_NO_UNWINDER);
     SHOULD(framehop_add_unwinder(&in, &id) == FRAMEHOP_OK && id == 2);
-    SHOULD(step_with(&in, clone, cache, FRAMEHOP_INSTRUCTION_POINTER, 0x101000) == FRAMEHOP_NO_UNWINDER);
-    SHOULD(walk_with(&in, unwinder, cache, FRAMEHOP_WALK_STARTS, frames, 8, &count) == FRAMEHOP_END_OF_STACK);
+    SHOULD(step_with(&in, clone, cache, FRAMEHOP_AT_INSTRUCTION, 0x101000) == FRAMEHOP_NO_UNWINDER);
+    SHOULD(walk_with(&in, unwinder, cache, FRAMEHOP_STARTS, frames, 8, &count) == FRAMEHOP_END_OF_STACK);
     SHOULD(framehop_remove_cache(&in, cache) == FRAMEHOP_OK);
     SHOULD(framehop_remove_cache(&in, cache) == FRAMEHOP_NO_CACHE);
-    SHOULD(step_with(&in, unwinder, cache, FRAMEHOP_INSTRUCTION_POINTER, 0x101000) == FRAMEHOP_NO_CACHE);
+    SHOULD(step_with(&in, unwinder, cache, FRAMEHOP_AT_INSTRUCTION, 0x101000) == FRAMEHOP_NO_CACHE);
     SHOULD(framehop_session_free(&in) == FRAMEHOP_OK);
     SHOULD(framehop_session_free(&in) == FRAMEHOP_NO_VALUE);
     try_no_session(&in);
@@ -356,7 +358,7 @@ static void refusals(void) {
     module.tables = 1;
     for (long left = 0; left < 60; left++) {
         framehop_session in = FRAMEHOP_NO_SESSION;
-        uint64_t unwinder = 0x5eed, clone = 0x5eed, cache = 0x5eed, frames[8], count;
+        uint64_t unwinder = 0x5eed, clone = 0x5eed, cache = 0x5eed, frames[8], count = 0;
         framehop_requests_left = left;
 #define AGAIN(call, kept)                                          \
         do {                                                       \
@@ -376,7 +378,7 @@ static void refusals(void) {
         AGAIN(framehop_clone_unwinder(&in, unwinder, &clone), clone == 0x5eed);
         SHOULD(unwinder == 0 && clone == 1 && cache == 0);
         framehop_requests_left = 0;
-        SHOULD(walk_with(&in, clone, cache, FRAMEHOP_WALK_STARTS, frames, 8, &count) == FRAMEHOP_END_OF_STACK && count == 4);
+        SHOULD(walk_with(&in, clone, cache, FRAMEHOP_STARTS, frames, 8, &count) == FRAMEHOP_END_OF_STACK && count == 4);
         SHOULD(framehop_session_free(&in) == FRAMEHOP_OK);
         framehop_requests_left = -1;
     }
