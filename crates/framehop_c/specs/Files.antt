@@ -18,10 +18,8 @@ use Rattle.framehop_c.specs.declared.session.AnySession.TheVariants.{X86_64, Aar
 
 -- the lookup of a number
 abbrev pub lookup_numbered : ℕ → Option FdeLookup
-lookup_numbered 0 = Some Auto
-lookup_numbered 1 = Some Index
-lookup_numbered 2 = Some Scan
-lookup_numbered others = None
+lookup_numbered number =
+    if number == 0 then Some Auto else (if number == 1 then Some Index else (if number == 2 then Some Scan else None))
 
 -- what a load asks for on an architecture, if its lookup has a number
 abbrev pub options_of : TableArch → MappedFile → Option LoadOptions
@@ -54,7 +52,7 @@ has_unwinder (Aarch64 session) unwinder = is_held session.unwinders unwinder
 -- A file is loaded in an unwinder as these options ask, if there are some.
 abbrev pub LoadsFileBy : ℕ → ℕ → MappedFile → Option LoadOptions → AnySession → AnySession → Type 0
 LoadsFileBy status unwinder file None old new = (status ≡ bad_argument) × (new ≡ old)
-LoadsFileBy status unwinder file (Some options) old new = Does (LoadsModule status unwinder (module_of file options)) old new
+LoadsFileBy status unwinder file (Some options) old new = Does (λ R. LoadsModule status unwinder (module_of file options)) old new
 
 -- as its load asks
 abbrev pub LoadsFile : ℕ → ℕ → MappedFile → AnySession → AnySession → Type 0

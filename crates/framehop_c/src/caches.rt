@@ -1,6 +1,6 @@
 //! Caches, for C.
 
-ghost use Rattle.std.specs.Prelude.{◌≡◌, ¬◌, None};
+ghost use Rattle.std.specs.Prelude.{◌≡◌, None};
 ghost use Rattle.framehop_rules.specs.Slots.{IsSlotCount};
 ghost use Rattle.framehop_calls.specs.Calls.{AddsCache, RemovesCache, TellsCounts};
 ghost use Rattle.framehop_calls.specs.Statuses.{bad_argument, no_value};
@@ -53,7 +53,7 @@ impl Counts {
 impl AnySession {
     // Makes a cache of so many slots, and writes its number.
     fn add_cache(&mut self, alloc: Global, slots: SlotCount, cache: &mut u64) -> u32
-        ensures { Does (AddsCache result slots cache.old cache.new) self.old self.new }
+        ensures { Does (λ R. AddsCache result slots cache.old cache.new) self.old self.new }
     {
         let Ok(room) = DwarfUnwindContext::<MayAllocateDuringUnwind>::new(alloc) else {
             return OUT_OF_MEMORY;
@@ -66,7 +66,7 @@ impl AnySession {
 
     // Lets a cache go.
     fn remove_cache(&mut self, cache: u64) -> u32
-        ensures { Does (RemovesCache result cache) self.old self.new }
+        ensures { Does (λ R. RemovesCache result cache) self.old self.new }
     {
         match self {
             AnySession::X86_64(session) => session.remove_cache(cache),
@@ -76,7 +76,7 @@ impl AnySession {
 
     // Writes the counts of a cache.
     fn counts(&self, cache: u64, stats: &mut CacheStats) -> u32
-        ensures { Does (TellsCounts result cache stats.old stats.new) self.now self.now }
+        ensures { Does (λ R. TellsCounts result cache stats.old stats.new) self.now self.now }
     {
         match self {
             AnySession::X86_64(session) => session.counts(cache, stats),
@@ -93,7 +93,7 @@ pub extern "C" fn framehop_add_cache(
     slots: u64,
     cache: &mut u64,
 ) -> u32
-    ensures adds { IsSlotCount slots → DoesIn (AddsCache result slots cache.old cache.new) session.old.value session.new.value }
+    ensures adds { IsSlotCount slots → DoesIn (λ R. AddsCache result slots cache.old cache.new) session.old.value session.new.value }
     ensures none { IsSlotCount slots → session.old.value ≡ None → (result ≡ no_value) × (cache.new ≡ cache.old) }
     ensures number { ¬ IsSlotCount slots → (result ≡ bad_argument) × (cache.new ≡ cache.old) }
     ensures refused { ¬ IsSlotCount slots → session.new.value ≡ session.old.value }
@@ -116,7 +116,7 @@ pub extern "C" fn framehop_remove_cache(
     session: &mut SessionHandle,
     cache: u64,
 ) -> u32
-    ensures removes { DoesIn (RemovesCache result cache) session.old.value session.new.value }
+    ensures removes { DoesIn (λ R. RemovesCache result cache) session.old.value session.new.value }
     ensures none { session.old.value ≡ None → result ≡ no_value }
 {
     let Some(mut state) = session.take(alloc) else {
@@ -135,7 +135,7 @@ pub extern "C" fn framehop_stats(
     cache: u64,
     stats: &mut Counts,
 ) -> u32
-    ensures tells { DoesIn (TellsCounts result cache (stats_of stats.old) (stats_of stats.new)) session.old.value session.new.value }
+    ensures tells { DoesIn (λ R. TellsCounts result cache (stats_of stats.old) (stats_of stats.new)) session.old.value session.new.value }
     ensures none { session.old.value ≡ None → (result ≡ no_value) × (stats.new ≡ stats.old) }
 {
     let Some(state) = session.take(alloc) else {

@@ -54,7 +54,7 @@ impl AnySession {
 
     // Loads a module in an unwinder.
     fn load_module(&mut self, unwinder: u64, module: Module<&'static [u8]>) -> u32
-        ensures { Does (LoadsModule result unwinder «module») self.old self.new }
+        ensures { Does (λ R. LoadsModule result unwinder «module».entry) self.old self.new }
     {
         match self {
             AnySession::X86_64(session) => session.load(unwinder, module),
@@ -80,7 +80,7 @@ impl AnySession {
 
     // Unloads the last of an unwinder's modules that start at an address.
     fn unload(&mut self, unwinder: u64, start: u64) -> u32
-        ensures { Does (UnloadsModule result unwinder start) self.old self.new }
+        ensures { Does (λ R. UnloadsModule result unwinder start) self.old self.new }
     {
         match self {
             AnySession::X86_64(session) => session.unload(unwinder, start),
@@ -90,7 +90,7 @@ impl AnySession {
 
     // Writes the end of an unwinder's last module, else 0.
     fn max_known_code_address(&self, unwinder: u64, address: &mut u64) -> u32
-        ensures { Does (TellsLastEnd result unwinder address.old address.new) self.now self.now }
+        ensures { Does (λ R. TellsLastEnd result unwinder address.old address.new) self.now self.now }
     {
         match self {
             AnySession::X86_64(session) => session.max_known_code_address(unwinder, address),
@@ -126,7 +126,7 @@ pub extern "C" fn framehop_unload(
     unwinder: u64,
     start: u64,
 ) -> u32
-    ensures unloads { DoesIn (UnloadsModule result unwinder start) session.old.value session.new.value }
+    ensures unloads { DoesIn (λ R. UnloadsModule result unwinder start) session.old.value session.new.value }
     ensures none { session.old.value ≡ None → result ≡ no_value }
 {
     let Some(mut state) = session.take(alloc) else {
@@ -145,7 +145,7 @@ pub extern "C" fn framehop_max_known_code_address(
     unwinder: u64,
     address: &mut u64,
 ) -> u32
-    ensures tells { DoesIn (TellsLastEnd result unwinder address.old address.new) session.old.value session.new.value }
+    ensures tells { DoesIn (λ R. TellsLastEnd result unwinder address.old address.new) session.old.value session.new.value }
     ensures none { session.old.value ≡ None → (result ≡ no_value) × (address.new ≡ address.old) }
 {
     let Some(state) = session.take(alloc) else {

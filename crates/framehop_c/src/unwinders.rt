@@ -13,7 +13,7 @@ use std::alloc::Global;
 impl AnySession {
     // Makes an unwinder without a module, and writes its number.
     fn add_unwinder(&mut self, alloc: Global, unwinder: &mut u64) -> u32
-        ensures { Does (AddsUnwinder result unwinder.old unwinder.new) self.old self.new }
+        ensures { Does (λ R. AddsUnwinder result unwinder.old unwinder.new) self.old self.new }
     {
         match self {
             AnySession::X86_64(session) => session.add_unwinder(alloc, unwinder),
@@ -23,7 +23,7 @@ impl AnySession {
 
     // Makes an unwinder with the modules of another, and writes its number.
     fn clone_unwinder(&mut self, alloc: Global, unwinder: u64, clone: &mut u64) -> u32
-        ensures { Does (ClonesUnwinder result unwinder clone.old clone.new) self.old self.new }
+        ensures { Does (λ R. ClonesUnwinder result unwinder clone.old clone.new) self.old self.new }
     {
         match self {
             AnySession::X86_64(session) => session.clone_unwinder(alloc, unwinder, clone),
@@ -33,7 +33,7 @@ impl AnySession {
 
     // Lets an unwinder go, with its modules.
     fn remove_unwinder(&mut self, unwinder: u64) -> u32
-        ensures { Does (RemovesUnwinder result unwinder) self.old self.new }
+        ensures { Does (λ R. RemovesUnwinder result unwinder) self.old self.new }
     {
         match self {
             AnySession::X86_64(session) => session.remove_unwinder(unwinder),
@@ -49,7 +49,7 @@ pub extern "C" fn framehop_add_unwinder(
     session: &mut SessionHandle,
     unwinder: &mut u64,
 ) -> u32
-    ensures adds { DoesIn (AddsUnwinder result unwinder.old unwinder.new) session.old.value session.new.value }
+    ensures adds { DoesIn (λ R. AddsUnwinder result unwinder.old unwinder.new) session.old.value session.new.value }
     ensures none { session.old.value ≡ None → (result ≡ no_value) × (unwinder.new ≡ unwinder.old) }
 {
     let Some(mut state) = session.take(alloc) else {
@@ -68,7 +68,7 @@ pub extern "C" fn framehop_clone_unwinder(
     unwinder: u64,
     clone: &mut u64,
 ) -> u32
-    ensures clones { DoesIn (ClonesUnwinder result unwinder clone.old clone.new) session.old.value session.new.value }
+    ensures clones { DoesIn (λ R. ClonesUnwinder result unwinder clone.old clone.new) session.old.value session.new.value }
     ensures none { session.old.value ≡ None → (result ≡ no_value) × (clone.new ≡ clone.old) }
 {
     let Some(mut state) = session.take(alloc) else {
@@ -86,7 +86,7 @@ pub extern "C" fn framehop_remove_unwinder(
     session: &mut SessionHandle,
     unwinder: u64,
 ) -> u32
-    ensures removes { DoesIn (RemovesUnwinder result unwinder) session.old.value session.new.value }
+    ensures removes { DoesIn (λ R. RemovesUnwinder result unwinder) session.old.value session.new.value }
     ensures none { session.old.value ≡ None → result ≡ no_value }
 {
     let Some(mut state) = session.take(alloc) else {
