@@ -1,0 +1,194 @@
+//! The calls of the C library, and all `unsafe` of this crate. `framehop.h` says at each call what its caller owes.
+#![allow(unsafe_code)]
+
+use crate::cache::CacheStats;
+use crate::code_address::FrameAddress;
+use crate::layout::{Handle, MappedFile, Sample, Word};
+use crate::module::LentModule;
+use crate::modules::{Change, Loaded, Modules};
+use crate::status::{Step, done};
+use std::alloc::{Layout, alloc, dealloc, realloc};
+use std::marker::PhantomData;
+use std::ops::Deref;
+use std::ptr;
+use std::sync::Weak;
+
+type StepCall<R> = unsafe extern "C" fn(&mut Handle, u64, u64, u32, u64, &mut R, &Sample, &mut u64, &mut u64) -> u32;
+
+// SAFETY: these are the declarations of framehop.h. What the safe ones ask of a caller is in their types: a `Handle` is null at first and
+// then written by these calls alone. They read no bytes of modules: loads and steps do.
+unsafe extern "C" {
+    safe fn framehop_version() -> u32;
+    safe fn framehop_session_new(session: &mut Handle, architecture: u32) -> u32;
+    safe fn framehop_session_free(session: &mut Handle) -> u32;
+    safe fn framehop_add_unwinder(session: &mut Handle, unwinder: &mut u64) -> u32;
+    safe fn framehop_clone_unwinder(session: &mut Handle, unwinder: u64, clone: &mut u64) -> u32;
+    safe fn framehop_remove_unwinder(session: &mut Handle, unwinder: u64) -> u32;
+    safe fn framehop_add_cache(session: &mut Handle, slots: u64, cache: &mut u64) -> u32;
+    safe fn framehop_stats(session: &mut Handle, cache: u64, stats: &mut CacheStats) -> u32;
+    safe fn framehop_unload(session: &mut Handle, unwinder: u64, start: u64) -> u32;
+    fn framehop_load(session: &mut Handle, unwinder: u64, module: &MappedFile) -> u32;
+    #[rustfmt::skip]
+    fn framehop_step_x86_64(_: &mut Handle, _: u64, _: u64, _: u32, _: u64, _: &mut [u64; 17], _: &Sample, _: &mut u64, _: &mut u64)
+    -> u32;
+    #[rustfmt::skip]
+    fn framehop_step_aarch64(_: &mut Handle, _: u64, _: u64, _: u32, _: u64, _: &mut [u64; 4], _: &Sample, _: &mut u64, _: &mut u64)
+    -> u32;
+}
+
+/// The registers of an architecture, as C has them.
+pub(crate) trait Registers: Sized {
+    const ARCHITECTURE: u32;
+    const STEP: StepCall<Self>;
+}
+
+/// `ip`, and the general registers by their DWARF numbers.
+impl Registers for [u64; 17] {
+    const ARCHITECTURE: u32 = 0;
+    const STEP: StepCall<Self> = framehop_step_x86_64;
+}
+
+/// `lr_mask`, `lr`, `sp`, `fp`.
+impl Registers for [u64; 4] {
+    const ARCHITECTURE: u32 = 1;
+    const STEP: StepCall<Self> = framehop_step_aarch64;
+}
+
+// An unwinder of a session. It has the modules of each list of its version.
+struct Follower {
+    unwinder: u64,
+    version: Weak<()>,
+    loaded: Vec<Loaded>,
+}
+
+/// A session with one cache, and with an unwinder for each version of a list that the cache was used with.
+pub(crate) struct Session<R> {
+    handle: Handle,
+    cache: u64,
+    followers: Vec<Follower>,
+    last: usize,
+    registers: PhantomData<R>,
+}
+
+// SAFETY: what the handle has is reached by this session's calls alone, each of which has the session alone; and bytes of modules are read
+// where a list that has them is borrowed, so on a thread that may.
+unsafe impl<R> Send for Session<R> {}
+
+impl<R> Drop for Session<R> {
+    fn drop(&mut self) {
+        framehop_session_free(&mut self.handle);
+    }
+}
+
+impl<R: Registers> Session<R> {
+    pub(crate) fn new() -> Self {
+        assert_eq!(framehop_version(), 0x000100, "libframehop.a is of another version than this crate");
+        let mut session = Session { handle: Handle::NONE, cache: 0, followers: Vec::new(), last: 0, registers: PhantomData };
+        done(framehop_session_new(&mut session.handle, R::ARCHITECTURE));
+        done(framehop_add_cache(&mut session.handle, 509, &mut session.cache));
+        session
+    }
+
+    pub(crate) fn stats(&mut self) -> CacheStats {
+        let mut stats = CacheStats::new();
+        done(framehop_stats(&mut self.handle, self.cache, &mut stats));
+        stats
+    }
+
+    // The modules are a clone's of the unwinder that has most of them, with what is missing or too much. Unwinders of versions that are
+    // gone are let go.
+    #[cold]
+    fn make_follower<D: Deref<Target = [u8]>>(&mut self, modules: &Modules<D>) {
+        let nearest = self.followers.iter().max_by_key(|it| modules.count_of(&it.loaded)).filter(|it| modules.count_of(&it.loaded) > 0);
+        let mut unwinder = 0;
+        done(match nearest {
+            Some(it) => framehop_clone_unwinder(&mut self.handle, it.unwinder, &mut unwinder),
+            None => framehop_add_unwinder(&mut self.handle, &mut unwinder),
+        });
+        for change in modules.changes_from(nearest.map_or(&[], |it| &it.loaded)) {
+            match change {
+                Change::Unload(start) => done(framehop_unload(&mut self.handle, unwinder, start)),
+                Change::Load(module) => self.load(unwinder, module),
+            }
+        }
+        self.followers.retain(|it| it.version.strong_count() > 0 || framehop_remove_unwinder(&mut self.handle, it.unwinder) != 0);
+        self.followers.push(Follower { unwinder, version: modules.version(), loaded: modules.loaded() });
+    }
+
+    fn load<D: Deref<Target = [u8]>>(&mut self, unwinder: u64, module: &LentModule<D>) {
+        let sections = module.sections();
+        // SAFETY: the sections and their bytes are borrowed for the call. Later calls read the bytes in steps of the unwinder alone: see there.
+        done(unsafe { framehop_load(&mut self.handle, unwinder, &module.with_sections(&sections)) });
+    }
+
+    #[inline]
+    pub(crate) fn follow<D: Deref<Target = [u8]>>(&mut self, modules: &Modules<D>) -> u64 {
+        if !self.followers.get(self.last).is_some_and(|it| modules.has_version(&it.version)) {
+            self.last = self.followers.iter().position(|it| modules.has_version(&it.version)).unwrap_or_else(|| {
+                self.make_follower(modules);
+                self.followers.len() - 1
+            });
+        }
+        self.followers[self.last].unwinder
+    }
+
+    /// Makes a step by the modules of a list, over the words that are known.
+    #[inline]
+    pub(crate) fn step<D: Deref<Target = [u8]>>(&mut self, list: &Modules<D>, address: FrameAddress, regs: &mut R, known: &[Word]) -> Step {
+        let unwinder = self.follow(list);
+        let (kind, address) = (address.is_return_address().into(), address.address());
+        let (mut caller, mut at) = (0, 0);
+        let sample = Sample::asking(known);
+        // SAFETY: the unwinder has the modules of the list alone, which is borrowed, and with it the modules that it shares: they are
+        // behind an `Arc`, never written, so that their bytes are where they were when they were lent. All else is borrowed too.
+        let status = unsafe { R::STEP(&mut self.handle, unwinder, self.cache, kind, address, regs, &sample, &mut caller, &mut at) };
+        Step::of(status, caller, at)
+    }
+}
+
+// How many bytes a block begins with, for its size: the global allocator wants it back, and the library doesn't keep it.
+const HEAD: usize = 16;
+
+/// Whether there was memory, and where. What is no memory has a place too, which isn't null.
+#[repr(C)]
+struct Tried(bool, *mut u8);
+
+fn tried(size: usize, allocate: impl FnOnce(Layout) -> *mut u8) -> Tried {
+    let block = Layout::from_size_align(size.saturating_add(HEAD), HEAD).map_or(ptr::null_mut(), allocate);
+    if block.is_null() {
+        return Tried(false, ptr::without_provenance_mut(HEAD));
+    }
+    // SAFETY: the block begins with HEAD bytes for the size, aligned for it.
+    unsafe { block.cast::<usize>().write(size + HEAD) };
+    Tried(true, block.wrapping_add(HEAD))
+}
+
+unsafe fn block_of(at: *mut u8) -> (*mut u8, Layout) {
+    let block = at.wrapping_sub(HEAD);
+    // SAFETY: the caller has `at` of a call below, which wrote there the size of the layout that it made.
+    (block, unsafe { Layout::from_size_align_unchecked(block.cast::<usize>().read(), HEAD) })
+}
+
+#[unsafe(no_mangle)]
+extern "C" fn rattle_alloc(size: usize, _align: usize) -> Tried {
+    // SAFETY: the layout has HEAD bytes or more.
+    tried(size, |layout| unsafe { alloc(layout) })
+}
+
+#[unsafe(no_mangle)]
+unsafe extern "C" fn rattle_realloc(at: *mut u8, _kept: usize, size: usize, _align: usize) -> Tried {
+    // SAFETY: the library has `at` of these functions, and hasn't let it go.
+    tried(size, |layout| unsafe {
+        let (block, old) = block_of(at);
+        realloc(block, old, layout.size())
+    })
+}
+
+#[unsafe(no_mangle)]
+unsafe extern "C" fn rattle_dealloc(at: *mut u8) {
+    // SAFETY: as for rattle_realloc.
+    unsafe {
+        let (block, layout) = block_of(at);
+        dealloc(block, layout)
+    }
+}

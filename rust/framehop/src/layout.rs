@@ -1,0 +1,100 @@
+//! The structs of `framehop.h` that calls are given.
+
+use std::ffi::c_void;
+use std::ops::Range;
+use std::ptr;
+
+/// `framehop_session`: what it points to is the library's own.
+#[repr(C)]
+pub(crate) struct Handle(*mut c_void);
+
+impl Handle {
+    /// `FRAMEHOP_NO_SESSION`.
+    pub(crate) const NONE: Handle = Handle(ptr::null_mut());
+}
+
+/// `framehop_bytes`.
+#[repr(C)]
+pub(crate) struct Bytes(*const u8, usize);
+
+impl Bytes {
+    /// Those of a slice, as long as it is borrowed.
+    pub(crate) fn of(bytes: &[u8]) -> Bytes {
+        Bytes(bytes.as_ptr(), bytes.len())
+    }
+}
+
+/// `framehop_section`.
+#[repr(C)]
+pub(crate) struct Section {
+    name: Bytes,
+    bytes: Bytes,
+    start: u64,
+    end: u64,
+    given: u64,
+}
+
+const HAS_BYTES: u64 = 1;
+const HAS_RANGE: u64 = 2;
+const IS_SEGMENT: u64 = 4;
+
+impl Section {
+    /// What is known of a section, or of a segment.
+    pub(crate) fn new(name: &str, bytes: Option<&[u8]>, range: &Option<Range<u64>>, is_segment: bool) -> Section {
+        let has_bytes = if bytes.is_some() { HAS_BYTES } else { 0 };
+        let has_range = if range.is_some() { HAS_RANGE } else { 0 };
+        let (start, end) = range.as_ref().map_or((0, 0), |it| (it.start, it.end));
+        let given = has_bytes | has_range | if is_segment { IS_SEGMENT } else { 0 };
+        Section { name: Bytes::of(name.as_bytes()), bytes: Bytes::of(bytes.unwrap_or(&[])), start, end, given }
+    }
+}
+
+/// `framehop_module`.
+#[repr(C)]
+pub(crate) struct MappedFile {
+    pub(crate) start: u64,
+    pub(crate) end: u64,
+    pub(crate) base: u64,
+    pub(crate) base_svma: u64,
+    pub(crate) sections: *const Section,
+    pub(crate) section_count: usize,
+    /// `lookup`, `tables`, `debug_frame_beside` and `reserved`: zeros are the original's choices.
+    pub(crate) options: [u32; 4],
+}
+
+/// `framehop_word`: what `read_stack` answered for an address.
+#[repr(C)]
+pub(crate) struct Word {
+    address: u64,
+    word: u64,
+    is_readable: u64,
+}
+
+impl Word {
+    /// An answer of `read_stack`.
+    pub(crate) fn of(address: u64, answer: Result<u64, ()>) -> Word {
+        Word { address, word: answer.unwrap_or(0), is_readable: answer.is_ok().into() }
+    }
+}
+
+/// `framehop_sample`.
+#[repr(C)]
+pub(crate) struct Sample {
+    start: u64,
+    bytes: Bytes,
+    known: *const Word,
+    known_count: usize,
+    asks: u64,
+}
+
+impl Sample {
+    /// Words that are known, as long as they are borrowed. Others are asked for.
+    pub(crate) fn asking(known: &[Word]) -> Sample {
+        Sample { start: 0, bytes: Bytes::of(&[]), known: known.as_ptr(), known_count: known.len(), asks: 1 }
+    }
+}
+
+const _: () = {
+    assert!(size_of::<Handle>() == 8 && size_of::<Section>() == 56 && size_of::<MappedFile>() == 64);
+    assert!(size_of::<Word>() == 24 && size_of::<Sample>() == 48 && size_of::<crate::cache::CacheStats>() == 32);
+};
