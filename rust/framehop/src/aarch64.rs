@@ -3,6 +3,7 @@
 use crate::cache::{AllocationPolicy, CacheStats, MayAllocateDuringUnwind};
 use crate::code_address::FrameAddress;
 use crate::error::Error;
+use crate::hex::Hex;
 use crate::mirror::Mirror;
 use crate::module::Module;
 use crate::modules::Modules;
@@ -101,9 +102,8 @@ impl UnwindRegsAarch64 {
 
 impl fmt::Debug for UnwindRegsAarch64 {
     fn fmt(&self, f: &mut fmt::Formatter<'_>) -> fmt::Result {
-        let [_, lr, sp, fp] = self.0.map(|it| format!("{it:#x}"));
-        let mut shown = f.debug_struct("UnwindRegsAarch64");
-        shown.field("lr", &format_args!("{lr}")).field("sp", &format_args!("{sp}")).field("fp", &format_args!("{fp}")).finish()
+        let [_, lr, sp, fp] = self.0.map(Hex);
+        f.debug_struct("UnwindRegsAarch64").field("lr", &lr).field("sp", &sp).field("fp", &fp).finish()
     }
 }
 

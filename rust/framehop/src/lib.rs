@@ -35,6 +35,7 @@ mod c;
 mod cache;
 mod code_address;
 mod error;
+mod hex;
 mod layout;
 mod mirror;
 mod module;

@@ -3,6 +3,7 @@
 use crate::cache::{AllocationPolicy, CacheStats, MayAllocateDuringUnwind};
 use crate::code_address::FrameAddress;
 use crate::error::Error;
+use crate::hex::Hex;
 use crate::mirror::Mirror;
 use crate::module::Module;
 use crate::modules::Modules;
@@ -91,7 +92,7 @@ impl fmt::Debug for UnwindRegsX86_64 {
     fn fmt(&self, f: &mut fmt::Formatter<'_>) -> fmt::Result {
         let mut shown = f.debug_struct("UnwindRegsX86_64");
         for (name, value) in NAMES.iter().zip(self.0) {
-            shown.field(name, &format_args!("{value:#x}"));
+            shown.field(name, &Hex(value));
         }
         shown.finish()
     }
