@@ -42,13 +42,11 @@ pub(crate) trait Registers: Sized {
     const STEP: StepCall<Self>;
 }
 
-/// `ip`, and the general registers by their DWARF numbers.
 impl Registers for [u64; 17] {
     const ARCHITECTURE: u32 = 0;
     const STEP: StepCall<Self> = framehop_step_x86_64;
 }
 
-/// `lr_mask`, `lr`, `sp`, `fp`.
 impl Registers for [u64; 4] {
     const ARCHITECTURE: u32 = 1;
     const STEP: StepCall<Self> = framehop_step_aarch64;
@@ -57,7 +55,8 @@ impl Registers for [u64; 4] {
 // An unwinder of a session. It has the modules of each list of its version.
 struct Follower {
     unwinder: u64,
-    version: Weak<()>,
+    version: u64,
+    lasting: Weak<u64>,
     loaded: Vec<Loaded>,
 }
 
@@ -73,6 +72,9 @@ pub(crate) struct Session<R> {
 // SAFETY: what the handle has is reached by this session's calls alone, each of which has the session alone; and bytes of modules are read
 // where a list that has them is borrowed, so on a thread that may.
 unsafe impl<R> Send for Session<R> {}
+
+// SAFETY: no call takes a session shared.
+unsafe impl<R> Sync for Session<R> {}
 
 impl<R> Drop for Session<R> {
     fn drop(&mut self) {
@@ -111,8 +113,8 @@ impl<R: Registers> Session<R> {
                 Change::Load(module) => self.load(unwinder, module),
             }
         }
-        self.followers.retain(|it| it.version.strong_count() > 0 || framehop_remove_unwinder(&mut self.handle, it.unwinder) != 0);
-        self.followers.push(Follower { unwinder, version: modules.version(), loaded: modules.loaded() });
+        self.followers.retain(|it| it.lasting.strong_count() > 0 || framehop_remove_unwinder(&mut self.handle, it.unwinder) != 0);
+        self.followers.push(Follower { unwinder, version: modules.version(), lasting: modules.lasting(), loaded: modules.loaded() });
     }
 
     fn load<D: Deref<Target = [u8]>>(&mut self, unwinder: u64, module: &LentModule<D>) {
@@ -123,8 +125,8 @@ impl<R: Registers> Session<R> {
 
     #[inline]
     pub(crate) fn follow<D: Deref<Target = [u8]>>(&mut self, modules: &Modules<D>) -> u64 {
-        if !self.followers.get(self.last).is_some_and(|it| modules.has_version(&it.version)) {
-            self.last = self.followers.iter().position(|it| modules.has_version(&it.version)).unwrap_or_else(|| {
+        if self.followers.get(self.last).is_none_or(|it| it.version != modules.version()) {
+            self.last = self.followers.iter().position(|it| it.version == modules.version()).unwrap_or_else(|| {
                 self.make_follower(modules);
                 self.followers.len() - 1
             });

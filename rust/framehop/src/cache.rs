@@ -66,4 +66,12 @@ impl CacheStats {
     pub fn misses(&self) -> u64 {
         self.miss_empty_slot_count.saturating_add(self.miss_wrong_modules_count).saturating_add(self.miss_wrong_address_count)
     }
+
+    /// Adds what was counted between two looks at other counts.
+    pub(crate) fn add_difference(&mut self, before: &CacheStats, after: &CacheStats) {
+        self.hit_count += after.hit_count - before.hit_count;
+        self.miss_empty_slot_count += after.miss_empty_slot_count - before.miss_empty_slot_count;
+        self.miss_wrong_modules_count += after.miss_wrong_modules_count - before.miss_wrong_modules_count;
+        self.miss_wrong_address_count += after.miss_wrong_address_count - before.miss_wrong_address_count;
+    }
 }

@@ -75,6 +75,16 @@ impl Word {
     pub(crate) fn of(address: u64, answer: Result<u64, ()>) -> Word {
         Word { address, word: answer.unwrap_or(0), is_readable: answer.is_ok().into() }
     }
+
+    /// The address that `read_stack` was asked for.
+    pub(crate) fn address(&self) -> u64 {
+        self.address
+    }
+
+    /// Whether there is a word.
+    pub(crate) fn is_readable(&self) -> bool {
+        self.is_readable != 0
+    }
 }
 
 /// `framehop_sample`.

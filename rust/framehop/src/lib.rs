@@ -35,6 +35,7 @@ mod c;
 mod cache;
 mod code_address;
 mod error;
+mod habits;
 mod hex;
 mod layout;
 mod mirror;

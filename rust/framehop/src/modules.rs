@@ -2,6 +2,7 @@
 
 use crate::module::LentModule;
 use std::collections::BTreeMap;
+use std::sync::atomic::{AtomicU64, Ordering};
 use std::sync::{Arc, Weak};
 
 /// The modules of an unwinder, sorted by their starts. Of equal starts the last added comes first.
@@ -9,7 +10,14 @@ use std::sync::{Arc, Weak};
 /// Two lists of one version have the same modules: a change makes another version, and a clone has that of its original.
 pub(crate) struct Modules<D> {
     sorted: Vec<Arc<LentModule<D>>>,
-    version: Arc<()>,
+    version: Arc<u64>,
+}
+
+// A number that no other version has.
+fn new_version() -> Arc<u64> {
+    static NEXT: AtomicU64 = AtomicU64::new(1);
+
+    Arc::new(NEXT.fetch_add(1, Ordering::Relaxed))
 }
 
 impl<D> Clone for Modules<D> {
@@ -20,12 +28,12 @@ impl<D> Clone for Modules<D> {
 
 impl<D> Modules<D> {
     pub(crate) fn new() -> Self {
-        Modules { sorted: Vec::new(), version: Arc::new(()) }
+        Modules { sorted: Vec::new(), version: new_version() }
     }
 
     pub(crate) fn add(&mut self, module: Arc<LentModule<D>>) {
         let place = self.sorted.partition_point(|it| it.start() < module.start());
-        self.version = Arc::new(());
+        self.version = new_version();
         self.sorted.insert(place, module);
     }
 
@@ -33,7 +41,7 @@ impl<D> Modules<D> {
     pub(crate) fn remove(&mut self, start: u64) {
         let after = self.sorted.partition_point(|it| it.start() <= start);
         if after > 0 && self.sorted[after - 1].start() == start {
-            self.version = Arc::new(());
+            self.version = new_version();
             self.sorted.remove(after - 1);
         }
     }
@@ -42,13 +50,15 @@ impl<D> Modules<D> {
         self.sorted.last().map_or(0, |it| it.end())
     }
 
-    pub(crate) fn version(&self) -> Weak<()> {
-        Arc::downgrade(&self.version)
+    /// The number of the version.
+    #[inline(always)]
+    pub(crate) fn version(&self) -> u64 {
+        *self.version
     }
 
-    #[inline(always)]
-    pub(crate) fn has_version(&self, version: &Weak<()>) -> bool {
-        version.as_ptr() == Arc::as_ptr(&self.version)
+    /// What tells whether a list of the version is still there.
+    pub(crate) fn lasting(&self) -> Weak<u64> {
+        Arc::downgrade(&self.version)
     }
 }
 

@@ -98,9 +98,13 @@ impl Process {
         self.memory.read_exact_at(&mut bytes, address).ok().map(|()| u64::from_le_bytes(bytes))
     }
 
-    /// Ends the process.
+    /// Ends the process. The first of its threads ends when the ends of the others were waited for.
     pub fn end(mut self) -> Result<()> {
         let _ = self.child.kill();
+        for thread in self.threads.iter().filter(|it| **it != self.child.id() as c_int) {
+            // SAFETY: no status is asked for.
+            unsafe { waitpid(*thread, std::ptr::null_mut(), ALL_THREADS) };
+        }
         self.child.wait().map(drop)
     }
 }

@@ -22,7 +22,7 @@ const EH_FRAME: [u8; 56] = [
 const STACK: [u64; 16] = [0x1, 0x2, 0x100300, 0x4, 0x40, 0x100200, 0x5, 0x6, 0x70, 0x100100, 0x7, 0x8, 0x9, 0xa, 0x0, 0x0];
 
 fn word_at(address: u64) -> Result<u64, ()> {
-    if address % 8 == 0 { STACK.get(address as usize / 8).copied().ok_or(()) } else { Err(()) }
+    if address.is_multiple_of(8) { STACK.get(address as usize / 8).copied().ok_or(()) } else { Err(()) }
 }
 
 fn sections<D>(bytes: D) -> ExplicitModuleSectionInfo<D> {
@@ -82,7 +82,7 @@ fn x86_64() {
     let mut unwinder = empty.clone();
     unwinder.add_module(module(0x100000, EH_FRAME.to_vec()));
     println!("with one, up to {:#x}", unwinder.max_known_code_address());
-    for (pc, sp, bp) in [(0x101000, 0x10, 0x20), (0x101001, 0x18, 0x20), (0x101004, 0x18, 0x20), (0x101fff, 0x10, 0x20)] {
+    for (pc, sp, bp) in [(0x101000, 0x10, 0x20), (0x101002, 0x20, 0x20), (0x101004, 0x18, 0x20), (0x101fff, 0x10, 0x20)] {
         walk(&unwinder, pc, at(pc, sp, bp), &mut cache, 9);
     }
     println!("cut off");
@@ -113,6 +113,7 @@ fn x86_64() {
             println!("  {step:x?} {regs:?}");
         }
     }
+    println!("{:?}, {} in all", cache.stats(), cache.stats().total());
     println!("{:?} {:?}", FrameAddress::from_return_address(0), FrameAddress::from_return_address(7).map(FrameAddress::address));
 
     let mut regs = at(1, 2, 3);
@@ -144,6 +145,7 @@ fn aarch64() {
             walk(&unwinder, 0x801800, regs, &mut cache, 9);
         }
     }
+    println!("{:?}", cache.stats());
     let mut regs = UnwindRegsAarch64::new(1, 2, 3);
     regs.set_lr(u64::MAX);
     regs.set_sp(5);
@@ -193,7 +195,8 @@ fn types() {
     let mut info = Noted { data, asked: Rc::clone(&asked) };
     let made = Module::new("noted".to_string(), 0x100000..0x102000, 0x100000, &mut info);
     println!("{} {:x?} {:#x}, data left: {}", made.name(), made.avma_range(), made.base_avma(), info.data.len());
-    println!("asked for data of {:?}", asked.borrow());
+    let once = asked.borrow().iter().enumerate().all(|(place, name)| !asked.borrow()[..place].contains(name));
+    println!("asked for .eh_frame: {}, for no bytes twice: {once}", asked.borrow().iter().any(|it| it == ".eh_frame"));
     let mut unwinder = UnwinderNative::<_, MayAllocateDuringUnwind>::default();
     unwinder.add_module(made.clone());
     let mut cache = CacheNative::<MayAllocateDuringUnwind>::default();

@@ -74,4 +74,5 @@ pub fn print(path: &str) {
             println!("  {walk:x?}");
         }
     }
+    println!("{:?} {:?}", cache.stats(), first_cache.stats());
 }
