@@ -217,7 +217,7 @@ static void stop_all(void) {
 /* ---- stacks */
 
 static void print_frame(size_t number, uint64_t address) {
-    uint64_t place = framehop_address_for_lookup(number ? FRAMEHOP_RETURN_ADDRESS : FRAMEHOP_INSTRUCTION_POINTER, address);
+    uint64_t place = framehop_address_for_lookup(number ? FRAMEHOP_AT_RETURN : FRAMEHOP_AT_INSTRUCTION, address);
     printf("#%-3zu 0x%016" PRIx64, number, address);
     for (size_t i = 0; i < file_count; i++) {
         const mapped_file *file = &files[i];
@@ -235,15 +235,16 @@ static void print_frame(size_t number, uint64_t address) {
 static void print_stack(pid_t thread) {
     static uint8_t copy[COPIED];
     static framehop_word words[MOST_WORDS];
-    uint64_t frames[MOST_FRAMES], count, printed = 0, wanted = 0;
+    uint64_t frames[MOST_FRAMES], printed = 0;
     struct user_regs_struct regs;
     framehop_status status;
     framehop_sample sample;
-    framehop_walk_state_x86_64 walk;
+    framehop_walk_x86_64 walk;
+    framehop_word *next = words;
     ssize_t copied;
     if (ptrace(PTRACE_GETREGS, thread, NULL, &regs) != 0) return;
     copied = pread(memory, copy, sizeof copy, (off_t)regs.rsp);
-    walk = framehop_walk_from_x86_64((framehop_registers_x86_64){
+    walk = framehop_walk_from_x86_64(unwinder, cache, (framehop_registers_x86_64){
         regs.rip, {regs.rax, regs.rdx, regs.rcx, regs.rbx, regs.rsi, regs.rdi, regs.rbp, regs.rsp,
                    regs.r8, regs.r9, regs.r10, regs.r11, regs.r12, regs.r13, regs.r14, regs.r15}});
     sample = framehop_sample_of(regs.rsp, copy, copied > 0 ? (size_t)copied : 0);
@@ -251,13 +252,13 @@ static void print_stack(pid_t thread) {
     sample.asks = 1;
     printf("TID %d:\n", (int)thread);
     for (;;) {
-        status = framehop_walk_x86_64(&session, unwinder, cache, &walk, &sample, frames, (size_t)(MOST_FRAMES - printed), &count, &wanted);
-        for (uint64_t i = 0; i < count; i++) print_frame((size_t)(printed + i), frames[i]);
-        printed += count;
-        if (status != FRAMEHOP_NEED_WORD || sample.known_count == MOST_WORDS) break;
-        words[sample.known_count].address = wanted;
-        words[sample.known_count].is_readable = pread(memory, &words[sample.known_count].word, 8, (off_t)wanted) == 8;
-        sample.known_count++;
+        status = framehop_next_frames_x86_64(&session, &walk, &sample, frames, (size_t)(MOST_FRAMES - printed));
+        for (uint64_t i = 0; i < walk.count; i++) print_frame((size_t)(printed + i), frames[i]);
+        printed += walk.count;
+        if (status != FRAMEHOP_NEED_WORD || next == words + MOST_WORDS) break;
+        next->address = walk.word_address;
+        next->is_readable = pread(memory, &next->word, sizeof next->word, (off_t)next->address) == sizeof next->word;
+        sample.known_count = (size_t)(++next - words);
     }
     if (status != FRAMEHOP_END_OF_STACK) printf("     the walk stops here: %s\n", framehop_status_name(status));
 }

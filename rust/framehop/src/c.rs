@@ -3,7 +3,7 @@
 
 use crate::cache::CacheStats;
 use crate::code_address::FrameAddress;
-use crate::layout::{Handle, MappedFile, Sample, Word};
+use crate::layout::{Frame, Handle, MappedFile, Sample, Word};
 use crate::module::LentModule;
 use crate::modules::{Change, Loaded, Modules};
 use crate::status::{Step, done};
@@ -13,7 +13,7 @@ use std::ops::Deref;
 use std::ptr;
 use std::sync::Weak;
 
-type StepCall<R> = unsafe extern "C" fn(&mut Handle, u64, u64, u32, u64, &mut R, &Sample, &mut u64, &mut u64) -> u32;
+type UnwindFrame<R> = unsafe extern "C" fn(&mut Handle, &mut Frame<R>, &Sample) -> u32;
 
 // SAFETY: these are the declarations of framehop.h. What the safe ones ask of a caller is in their types: a `Handle` is null at first and
 // then written by these calls alone. They read no bytes of modules: loads and steps do.
@@ -28,28 +28,24 @@ unsafe extern "C" {
     safe fn framehop_stats(session: &mut Handle, cache: u64, stats: &mut CacheStats) -> u32;
     safe fn framehop_unload(session: &mut Handle, unwinder: u64, start: u64) -> u32;
     fn framehop_load(session: &mut Handle, unwinder: u64, module: &MappedFile) -> u32;
-    #[rustfmt::skip]
-    fn framehop_step_x86_64(_: &mut Handle, _: u64, _: u64, _: u32, _: u64, _: &mut [u64; 17], _: &Sample, _: &mut u64, _: &mut u64)
-    -> u32;
-    #[rustfmt::skip]
-    fn framehop_step_aarch64(_: &mut Handle, _: u64, _: u64, _: u32, _: u64, _: &mut [u64; 4], _: &Sample, _: &mut u64, _: &mut u64)
-    -> u32;
+    fn framehop_unwind_frame_x86_64(session: &mut Handle, frame: &mut Frame<[u64; 17]>, sample: &Sample) -> u32;
+    fn framehop_unwind_frame_aarch64(session: &mut Handle, frame: &mut Frame<[u64; 4]>, sample: &Sample) -> u32;
 }
 
 /// The registers of an architecture, as C has them.
-pub(crate) trait Registers: Sized {
+pub(crate) trait Registers: Copy {
     const ARCHITECTURE: u32;
-    const STEP: StepCall<Self>;
+    const UNWIND_FRAME: UnwindFrame<Self>;
 }
 
 impl Registers for [u64; 17] {
     const ARCHITECTURE: u32 = 0;
-    const STEP: StepCall<Self> = framehop_step_x86_64;
+    const UNWIND_FRAME: UnwindFrame<Self> = framehop_unwind_frame_x86_64;
 }
 
 impl Registers for [u64; 4] {
     const ARCHITECTURE: u32 = 1;
-    const STEP: StepCall<Self> = framehop_step_aarch64;
+    const UNWIND_FRAME: UnwindFrame<Self> = framehop_unwind_frame_aarch64;
 }
 
 // An unwinder of a session. It has the modules of each list of its version.
@@ -136,15 +132,22 @@ impl<R: Registers> Session<R> {
 
     /// Makes a step by the modules of a list, over the words that are known.
     #[inline]
-    pub(crate) fn step<D: Deref<Target = [u8]>>(&mut self, list: &Modules<D>, address: FrameAddress, regs: &mut R, known: &[Word]) -> Step {
-        let unwinder = self.follow(list);
-        let (kind, address) = (address.is_return_address().into(), address.address());
-        let (mut caller, mut at) = (0, 0);
-        let sample = Sample::asking(known);
-        // SAFETY: the unwinder has the modules of the list alone, which is borrowed, and with it the modules that it shares: they are
-        // behind an `Arc`, never written, so that their bytes are where they were when they were lent. All else is borrowed too.
-        let status = unsafe { R::STEP(&mut self.handle, unwinder, self.cache, kind, address, regs, &sample, &mut caller, &mut at) };
-        Step::of(status, caller, at)
+    pub(crate) fn step<D: Deref<Target = [u8]>>(
+        &mut self,
+        modules: &Modules<D>,
+        address: FrameAddress,
+        regs: &mut R,
+        known: &[Word],
+    ) -> Step {
+        let (unwinder, cache) = (self.follow(modules), self.cache);
+        let mut frame = Frame::at(address, *regs, unwinder, cache);
+        // SAFETY: the unwinder has the modules of the list and no others. They are borrowed with it, each behind an `Arc` and never written,
+        // so that their bytes are where they were when they were lent. All else is borrowed too.
+        let status = unsafe { R::UNWIND_FRAME(&mut self.handle, &mut frame, &Sample::asking(known)) };
+        if status == 0 {
+            *regs = frame.registers;
+        }
+        Step::of(status, frame.return_address, frame.word_address)
     }
 }
 

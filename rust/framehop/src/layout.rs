@@ -1,5 +1,6 @@
 //! The structs of `framehop.h` that calls are given.
 
+use crate::code_address::FrameAddress;
 use std::ffi::c_void;
 use std::ops::Range;
 use std::ptr;
@@ -104,7 +105,32 @@ impl Sample {
     }
 }
 
+/// `framehop_frame_x86_64` or `framehop_frame_aarch64`, by its registers.
+#[repr(C)]
+pub(crate) struct Frame<R> {
+    unwinder: u64,
+    cache: u64,
+    place: u64,
+    address: u64,
+    pub(crate) registers: R,
+    pub(crate) return_address: u64,
+    pub(crate) word_address: u64,
+}
+
+const AT_INSTRUCTION: u64 = 1;
+const AT_RETURN: u64 = 2;
+
+impl<R> Frame<R> {
+    /// A frame that a step is to be made from, by an unwinder and a cache.
+    #[inline(always)]
+    pub(crate) fn at(address: FrameAddress, registers: R, unwinder: u64, cache: u64) -> Frame<R> {
+        let place = if address.is_return_address() { AT_RETURN } else { AT_INSTRUCTION };
+        Frame { unwinder, cache, place, address: address.address(), registers, return_address: 0, word_address: 0 }
+    }
+}
+
 const _: () = {
     assert!(size_of::<Handle>() == 8 && size_of::<Section>() == 56 && size_of::<MappedFile>() == 64);
     assert!(size_of::<Word>() == 24 && size_of::<Sample>() == 48 && size_of::<crate::cache::CacheStats>() == 32);
+    assert!(size_of::<Frame<[u64; 17]>>() == 184 && size_of::<Frame<[u64; 4]>>() == 80);
 };
