@@ -1,6 +1,11 @@
 //! What steps keep, and whether they may allocate.
 
-/// Whether steps may allocate: `MayAllocateDuringUnwind` or `MustNotAllocateDuringUnwind`.
+/// Whether steps may allocate: `MayAllocateDuringUnwind` or `MustNotAllocateDuringUnwind`. There are no others:
+///
+/// ```compile_fail,E0277
+/// struct Mine;
+/// impl framehop::AllocationPolicy for Mine {}
+/// ```
 pub trait AllocationPolicy: sealed::Policy {}
 
 /// Steps may allocate: one that reads more words than there is room for makes room.

@@ -153,7 +153,12 @@ impl<D: Deref<Target = [u8]>> LentModule<D> {
 }
 
 /// A module that is loaded in the profiled process. Its sections are used where they are, and let go with the last clone of the module
-/// and the last unwinder that has it.
+/// and the last unwinder that has it. It goes to another thread if these may:
+///
+/// ```compile_fail,E0277
+/// fn goes_to_threads<T: Send>() {}
+/// goes_to_threads::<framehop::Module<std::rc::Rc<[u8]>>>();
+/// ```
 pub struct Module<D> {
     name: String,
     pub(crate) lent: Arc<LentModule<D>>,
