@@ -11,8 +11,9 @@ pub trait AllocationPolicy: sealed::Policy {}
 /// Steps may allocate: one that reads more words than there is room for makes room.
 pub struct MayAllocateDuringUnwind;
 
-/// Steps don't allocate: one that reads more than 256 words of the stack fails with `CouldNotReadStack`. The first step with a cache after
-/// the unwinder's modules were changed does allocate, unless the cache was [prepared](crate::x86_64::CacheX86_64::prepare).
+/// Steps allocate nothing here, and in the library only the values of an expression: one that reads more than 256 words of the stack fails with
+/// `CouldNotReadStack`. The first step with a cache after the unwinder's modules were changed does allocate, unless the cache was
+/// [prepared](crate::x86_64::CacheX86_64::prepare).
 pub struct MustNotAllocateDuringUnwind;
 
 impl AllocationPolicy for MayAllocateDuringUnwind {}
