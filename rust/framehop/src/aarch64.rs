@@ -4,6 +4,7 @@ use crate::cache::{AllocationPolicy, CacheStats, MayAllocateDuringUnwind};
 use crate::code_address::FrameAddress;
 use crate::error::Error;
 use crate::hex::Hex;
+use crate::layout::Frame;
 use crate::mirror::Mirror;
 use crate::module::Module;
 use crate::modules::Modules;
@@ -42,9 +43,9 @@ impl PtrAuthMask {
     }
 }
 
-/// The registers of a frame: the mask of return addresses, `lr`, `sp` and `fp`.
+/// The registers of a frame: the mask of return addresses, `lr`, `sp` and `fp`. They are where C has them, so that a step copies none.
 #[derive(Clone, Copy, PartialEq, Eq)]
-pub struct UnwindRegsAarch64([u64; 4]);
+pub struct UnwindRegsAarch64(Frame<[u64; 4]>);
 
 impl UnwindRegsAarch64 {
     /// These three, with a mask that strips nothing.
@@ -54,55 +55,55 @@ impl UnwindRegsAarch64 {
 
     /// These three, with a mask for return addresses, also for `lr`.
     pub fn new_with_ptr_auth_mask(code_ptr_auth_mask: PtrAuthMask, lr: u64, sp: u64, fp: u64) -> Self {
-        UnwindRegsAarch64([code_ptr_auth_mask.0, code_ptr_auth_mask.strip_ptr_auth(lr), sp, fp])
+        UnwindRegsAarch64(Frame::of([code_ptr_auth_mask.0, code_ptr_auth_mask.strip_ptr_auth(lr), sp, fp]))
     }
 
     /// The mask of return addresses.
     #[inline(always)]
     pub fn lr_mask(&self) -> PtrAuthMask {
-        PtrAuthMask(self.0[0])
+        PtrAuthMask(self.0.registers[0])
     }
 
     /// The stack pointer.
     #[inline(always)]
     pub fn sp(&self) -> u64 {
-        self.0[2]
+        self.0.registers[2]
     }
 
     /// Sets the stack pointer.
     #[inline(always)]
     pub fn set_sp(&mut self, sp: u64) {
-        self.0[2] = sp;
+        self.0.registers[2] = sp;
     }
 
     /// The frame pointer, `x29`.
     #[inline(always)]
     pub fn fp(&self) -> u64 {
-        self.0[3]
+        self.0.registers[3]
     }
 
     /// Sets the frame pointer.
     #[inline(always)]
     pub fn set_fp(&mut self, fp: u64) {
-        self.0[3] = fp;
+        self.0.registers[3] = fp;
     }
 
     /// The link register, `x30`.
     #[inline(always)]
     pub fn lr(&self) -> u64 {
-        self.0[1]
+        self.0.registers[1]
     }
 
     /// Sets the link register, to the address of the pointer.
     #[inline(always)]
     pub fn set_lr(&mut self, lr: u64) {
-        self.0[1] = self.lr_mask().strip_ptr_auth(lr);
+        self.0.registers[1] = self.lr_mask().strip_ptr_auth(lr);
     }
 }
 
 impl fmt::Debug for UnwindRegsAarch64 {
     fn fmt(&self, f: &mut fmt::Formatter<'_>) -> fmt::Result {
-        let [_, lr, sp, fp] = self.0.map(Hex);
+        let [_, lr, sp, fp] = self.0.registers.map(Hex);
         f.debug_struct("UnwindRegsAarch64").field("lr", &lr).field("sp", &sp).field("fp", &fp).finish()
     }
 }

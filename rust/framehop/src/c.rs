@@ -130,23 +130,20 @@ impl<R: Registers> Session<R> {
         self.followers[self.last].unwinder
     }
 
-    /// Makes a step by the modules of a list, over the words that are known.
+    /// Makes a step from a frame at an address by the modules of a list, over the words that are known.
     #[inline]
     pub(crate) fn step<D: Deref<Target = [u8]>>(
         &mut self,
         modules: &Modules<D>,
         address: FrameAddress,
-        regs: &mut R,
+        frame: &mut Frame<R>,
         known: &[Word],
     ) -> Step {
-        let (unwinder, cache) = (self.follow(modules), self.cache);
-        let mut frame = Frame::at(address, *regs, unwinder, cache);
+        (frame.unwinder, frame.cache) = (self.follow(modules), self.cache);
+        frame.set_address(address);
         // SAFETY: the unwinder has the modules of the list and no others. They are borrowed with it, each behind an `Arc` and never written,
         // so that their bytes are where they were when they were lent. All else is borrowed too.
-        let status = unsafe { R::UNWIND_FRAME(&mut self.handle, &mut frame, &Sample::asking(known)) };
-        if status == 0 {
-            *regs = frame.registers;
-        }
+        let status = unsafe { R::UNWIND_FRAME(&mut self.handle, frame, &Sample::asking(known)) };
         Step::of(status, frame.return_address, frame.word_address)
     }
 }

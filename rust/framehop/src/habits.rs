@@ -41,75 +41,87 @@ impl Pointing for [u64; 4] {
     }
 }
 
-/// Where a word is: so far from the stack pointer, or so far from the frame pointer, as far as is known.
+/// How far a word is from the registers that may lead to it.
+#[derive(Clone, Copy, Default)]
+struct Distances {
+    from_sp: i64,
+    from_fp: i64,
+}
+
+impl Distances {
+    fn of(address: u64, pointers: Pointers) -> Distances {
+        let distance = |from: u64| address.wrapping_sub(from).cast_signed();
+        Distances { from_sp: distance(pointers.sp), from_fp: distance(pointers.fp) }
+    }
+}
+
+/// Where a word is.
 #[derive(Clone, Copy)]
-struct Read {
-    from_sp: Option<i32>,
-    from_fp: Option<i32>,
+enum Place {
+    FromSp(i64),
+    FromFp(i64),
 }
 
-fn distance(from: u64, address: u64) -> Option<i32> {
-    i32::try_from(address.wrapping_sub(from).cast_signed()).ok()
-}
-
-impl Read {
-    fn of(address: u64, pointers: Pointers) -> Read {
-        Read { from_sp: distance(pointers.sp, address), from_fp: distance(pointers.fp, address) }
-    }
-
-    /// What two steps have in common.
-    fn and(self, other: Read) -> Read {
-        Read {
-            from_sp: self.from_sp.filter(|_| self.from_sp == other.from_sp),
-            from_fp: self.from_fp.filter(|_| self.from_fp == other.from_fp),
-        }
-    }
-
-    /// The address, if what is known gives one, in the part of the stack that is in use.
-    fn address(self, pointers: Pointers) -> Option<u64> {
-        let by_sp = self.from_sp.map(|it| pointers.sp.wrapping_add_signed(it.into()));
-        let by_fp = self.from_fp.map(|it| pointers.fp.wrapping_add_signed(it.into()));
-        let address = by_sp.or(by_fp)?;
-        (by_fp.unwrap_or(address) == address && address >= pointers.sp).then_some(address)
-    }
+/// Which words a rule reads.
+#[derive(Clone, Copy)]
+enum Reads {
+    /// Nothing is known of them.
+    Unknown,
+    /// One step read so many, at these distances.
+    Once(usize, [Distances; READS]),
+    /// Steps read so many, at these places.
+    Known(usize, [Place; READS]),
 }
 
 /// What the last step of a slot was, and what was learned of such steps.
 #[derive(Clone, Copy)]
 struct Habit {
     address: u64,
-    is_return_address: bool,
     version: u64,
+    is_return_address: bool,
     /// Whether the next such step finds its rule.
     finds: bool,
-    /// The words that such steps read, each in its place. None is known before the first step.
-    reads: Option<[Option<Read>; READS]>,
+    reads: Reads,
 }
 
 /// The habits of a cache.
-pub(crate) struct Habits(Box<[Habit]>);
-
-/// The habit of one step.
-pub(crate) struct HabitOf<'a>(&'a mut Habit);
+pub(crate) struct Habits(Box<[Habit; SLOTS]>);
 
 impl Habits {
     pub(crate) fn new() -> Self {
-        let none = Habit { address: 0, is_return_address: false, version: 0, finds: false, reads: None };
-        Habits(vec![none; SLOTS].into())
+        let none = Habit { address: 0, version: 0, is_return_address: false, finds: false, reads: Reads::Unknown };
+        Habits(Box::new([none; SLOTS]))
     }
 
     /// What is known of a step by these modules.
     #[inline]
     pub(crate) fn of<D>(&mut self, modules: &Modules<D>, frame: FrameAddress) -> HabitOf<'_> {
         let address = frame.address_for_lookup();
-        let (is_return_address, version) = (frame.is_return_address(), modules.version());
+        let (version, is_return_address) = (modules.version(), frame.is_return_address());
         let habit = &mut self.0[(address % SLOTS as u64) as usize];
         if habit.address != address || habit.version != version || habit.is_return_address != is_return_address {
-            *habit = Habit { address, is_return_address, version, finds: false, reads: None };
+            *habit = Habit { address, version, is_return_address, finds: false, reads: Reads::Unknown };
         }
         HabitOf(habit)
     }
 }
+
+/// The addresses of the words that a step will read.
+#[derive(Clone, Copy)]
+pub(crate) struct Foreseen {
+    count: usize,
+    addresses: [u64; READS],
+}
+
+impl Foreseen {
+    #[inline]
+    pub(crate) fn addresses(&self) -> &[u64] {
+        &self.addresses[..self.count]
+    }
+}
+
+/// The habit of one step.
+pub(crate) struct HabitOf<'a>(&'a mut Habit);
 
 impl HabitOf<'_> {
     /// Whether the step surely finds its rule.
@@ -123,35 +135,65 @@ impl HabitOf<'_> {
         self.0.finds = finds;
     }
 
-    /// The addresses that the step will read, if they are known.
+    /// The words that the step will read, if they are known, and are in the part of the stack that is in use.
     #[inline]
-    pub(crate) fn foreseen(&self, pointers: Pointers) -> Option<[Option<u64>; READS]> {
-        let mut addresses = [None; READS];
-        for (address, read) in addresses.iter_mut().zip(self.0.reads?) {
-            if let Some(read) = read {
-                *address = Some(read.address(pointers)?);
+    pub(crate) fn foreseen(&self, Pointers { sp, fp }: Pointers) -> Option<Foreseen> {
+        let mut addresses = [0; READS];
+        let count = match self.0.reads {
+            Reads::Unknown => return None,
+            Reads::Once(count, distances) => {
+                for (address, it) in addresses.iter_mut().zip(&distances[..count]) {
+                    *address = sp.wrapping_add_signed(it.from_sp);
+                    if *address != fp.wrapping_add_signed(it.from_fp) {
+                        return None;
+                    }
+                }
+                count
             }
-        }
-        Some(addresses)
+            Reads::Known(count, places) => {
+                for (address, it) in addresses.iter_mut().zip(&places[..count]) {
+                    *address = match *it {
+                        Place::FromSp(distance) => sp.wrapping_add_signed(distance),
+                        Place::FromFp(distance) => fp.wrapping_add_signed(distance),
+                    };
+                }
+                count
+            }
+        };
+        addresses[..count].iter().all(|it| *it >= sp).then_some(Foreseen { count, addresses })
     }
 
     /// Learns from a step that asked for these words.
     pub(crate) fn learn(&mut self, pointers: Pointers, asked: &[Word]) {
-        let mut now = [None; READS];
         if asked.len() > READS {
             return self.forget();
         }
-        for (read, word) in now.iter_mut().zip(asked) {
-            *read = Some(Read::of(word.address(), pointers));
+        let mut now = [Distances::default(); READS];
+        for (distances, word) in now.iter_mut().zip(asked) {
+            *distances = Distances::of(word.address(), pointers);
         }
-        self.0.reads = Some(match self.0.reads {
-            Some(before) => std::array::from_fn(|it| Some(before[it]?.and(now[it]?))),
-            None => now,
-        });
+        let known = match self.0.reads {
+            Reads::Once(count, before) if count == asked.len() => places(&before, &now, count),
+            _ => None,
+        };
+        self.0.reads = known.map_or(Reads::Once(asked.len(), now), |it| Reads::Known(asked.len(), it));
     }
 
     /// Forgets which words are read.
     pub(crate) fn forget(&mut self) {
-        self.0.reads = None;
+        self.0.reads = Reads::Unknown;
     }
+}
+
+/// The places of words that two steps read, if each was at one distance from one of the registers, and at several from the other.
+fn places(before: &[Distances; READS], now: &[Distances; READS], count: usize) -> Option<[Place; READS]> {
+    let mut places = [Place::FromSp(0); READS];
+    for ((place, before), now) in places.iter_mut().zip(before).zip(now).take(count) {
+        *place = match (before.from_sp == now.from_sp, before.from_fp == now.from_fp) {
+            (true, false) => Place::FromSp(now.from_sp),
+            (false, true) => Place::FromFp(now.from_fp),
+            _ => return None,
+        };
+    }
+    Some(places)
 }

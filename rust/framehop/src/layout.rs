@@ -106,10 +106,11 @@ impl Sample {
 }
 
 /// `framehop_frame_x86_64` or `framehop_frame_aarch64`, by its registers.
+#[derive(Clone, Copy)]
 #[repr(C)]
 pub(crate) struct Frame<R> {
-    unwinder: u64,
-    cache: u64,
+    pub(crate) unwinder: u64,
+    pub(crate) cache: u64,
     place: u64,
     address: u64,
     pub(crate) registers: R,
@@ -121,13 +122,27 @@ const AT_INSTRUCTION: u64 = 1;
 const AT_RETURN: u64 = 2;
 
 impl<R> Frame<R> {
-    /// A frame that a step is to be made from, by an unwinder and a cache.
+    /// Registers of a frame whose place isn't known.
+    pub(crate) fn of(registers: R) -> Frame<R> {
+        Frame { unwinder: 0, cache: 0, place: 0, address: 0, registers, return_address: 0, word_address: 0 }
+    }
+
+    /// Puts the frame at an address.
     #[inline(always)]
-    pub(crate) fn at(address: FrameAddress, registers: R, unwinder: u64, cache: u64) -> Frame<R> {
-        let place = if address.is_return_address() { AT_RETURN } else { AT_INSTRUCTION };
-        Frame { unwinder, cache, place, address: address.address(), registers, return_address: 0, word_address: 0 }
+    pub(crate) fn set_address(&mut self, address: FrameAddress) {
+        self.place = if address.is_return_address() { AT_RETURN } else { AT_INSTRUCTION };
+        self.address = address.address();
     }
 }
+
+/// Frames are the same if their registers are.
+impl<R: PartialEq> PartialEq for Frame<R> {
+    fn eq(&self, other: &Self) -> bool {
+        self.registers == other.registers
+    }
+}
+
+impl<R: Eq> Eq for Frame<R> {}
 
 const _: () = {
     assert!(size_of::<Handle>() == 8 && size_of::<Section>() == 56 && size_of::<MappedFile>() == 64);

@@ -4,8 +4,8 @@ use crate::c::{Registers, Session};
 use crate::cache::{AllocationPolicy, CacheStats};
 use crate::code_address::FrameAddress;
 use crate::error::Error;
-use crate::habits::{HabitOf, Habits, Pointing};
-use crate::layout::Word;
+use crate::habits::{Foreseen, HabitOf, Habits, Pointing};
+use crate::layout::{Frame, Word};
 use crate::modules::Modules;
 use crate::status::Step;
 use std::marker::PhantomData;
@@ -44,8 +44,8 @@ impl<P: AllocationPolicy> KnownWords<P> {
 
     /// Asks for the words that a step will read, in their order, up to one that can't be read.
     #[inline]
-    fn ask_for<F: FnMut(u64) -> Result<u64, ()>>(&mut self, foreseen: &[Option<u64>], read_stack: &mut F) -> Result<(), Error> {
-        for address in foreseen.iter().flatten() {
+    fn ask_for<F: FnMut(u64) -> Result<u64, ()>>(&mut self, foreseen: &Foreseen, read_stack: &mut F) -> Result<(), Error> {
+        for address in foreseen.addresses() {
             if !self.ask(*address, read_stack)? {
                 break;
             }
@@ -73,17 +73,17 @@ impl<R: Registers + Pointing, P: AllocationPolicy> Mirror<R, P> {
     pub(crate) fn step<D: Deref<Target = [u8]>, F: FnMut(u64) -> Result<u64, ()>>(
         &mut self,
         modules: &Modules<D>,
-        frame: FrameAddress,
-        regs: &mut R,
+        address: FrameAddress,
+        frame: &mut Frame<R>,
         read_stack: &mut F,
     ) -> Result<Option<u64>, Error> {
-        let pointers = regs.pointers();
+        let pointers = frame.registers.pointers();
         let Mirror { session, habits, known, stats } = self;
-        let mut habit = habits.of(modules, frame);
+        let mut habit = habits.of(modules, address);
         known.words.clear();
         if !habit.finds() {
-            let step = Looking { session, modules, frame, stats };
-            return step.answer(&mut habit, known, regs, read_stack);
+            let step = Looking { session, modules, address, stats };
+            return step.answer(&mut habit, known, frame, read_stack);
         }
         stats.hit_count += 1;
         let foreseen = habit.foreseen(pointers);
@@ -92,7 +92,7 @@ impl<R: Registers + Pointing, P: AllocationPolicy> Mirror<R, P> {
         }
         let foreseen_count = known.words.len();
         loop {
-            match session.step(modules, frame, regs, &known.words) {
+            match session.step(modules, address, frame, &known.words) {
                 Step::Answered(answer) => {
                     if foreseen.is_none() {
                         habit.learn(pointers, &known.words);
@@ -111,7 +111,7 @@ impl<R: Registers + Pointing, P: AllocationPolicy> Mirror<R, P> {
 struct Looking<'a, D, R> {
     session: &'a mut Session<R>,
     modules: &'a Modules<D>,
-    frame: FrameAddress,
+    address: FrameAddress,
     stats: &'a mut CacheStats,
 }
 
@@ -121,12 +121,12 @@ impl<D: Deref<Target = [u8]>, R: Registers + Pointing> Looking<'_, D, R> {
         self,
         habit: &mut HabitOf<'_>,
         known: &mut KnownWords<P>,
-        regs: &mut R,
+        frame: &mut Frame<R>,
         read_stack: &mut F,
     ) -> Result<Option<u64>, Error> {
-        let pointers = regs.pointers();
+        let pointers = frame.registers.pointers();
         let before = self.session.stats();
-        let mut step = self.session.step(self.modules, self.frame, regs, &known.words);
+        let mut step = self.session.step(self.modules, self.address, frame, &known.words);
         let first = self.session.stats();
         self.stats.add_difference(&before, &first);
         loop {
@@ -140,7 +140,7 @@ impl<D: Deref<Target = [u8]>, R: Registers + Pointing> Looking<'_, D, R> {
                 }
                 Step::NeedsWord(at) => known.ask(at, read_stack)?,
             };
-            step = self.session.step(self.modules, self.frame, regs, &known.words);
+            step = self.session.step(self.modules, self.address, frame, &known.words);
         }
     }
 }

@@ -4,6 +4,7 @@ use crate::cache::{AllocationPolicy, CacheStats, MayAllocateDuringUnwind};
 use crate::code_address::FrameAddress;
 use crate::error::Error;
 use crate::hex::Hex;
+use crate::layout::Frame;
 use crate::mirror::Mirror;
 use crate::module::Module;
 use crate::modules::Modules;
@@ -25,14 +26,14 @@ pub enum Reg { RAX, RDX, RCX, RBX, RSI, RDI, RBP, RSP, R8, R9, R10, R11, R12, R1
 const NAMES: [&str; 17] =
     ["ip", "rax", "rdx", "rcx", "rbx", "rsi", "rdi", "rbp", "rsp", "r8", "r9", "r10", "r11", "r12", "r13", "r14", "r15"];
 
-/// The registers of a frame: first the instruction pointer, then the general ones.
+/// The registers of a frame: first the instruction pointer, then the general ones. They are where C has them, so that a step copies none.
 #[derive(Clone, Copy, PartialEq, Eq)]
-pub struct UnwindRegsX86_64([u64; 17]);
+pub struct UnwindRegsX86_64(Frame<[u64; 17]>);
 
 impl UnwindRegsX86_64 {
     /// These three, and 0 in the others.
     pub fn new(ip: u64, sp: u64, bp: u64) -> Self {
-        let mut regs = UnwindRegsX86_64([0; 17]);
+        let mut regs = UnwindRegsX86_64(Frame::of([0; 17]));
         regs.set_ip(ip);
         regs.set_sp(sp);
         regs.set_bp(bp);
@@ -42,25 +43,25 @@ impl UnwindRegsX86_64 {
     /// The value of a general register.
     #[inline(always)]
     pub fn get(&self, reg: Reg) -> u64 {
-        self.0[1 + reg as usize]
+        self.0.registers[1 + reg as usize]
     }
 
     /// Sets a general register.
     #[inline(always)]
     pub fn set(&mut self, reg: Reg, value: u64) {
-        self.0[1 + reg as usize] = value;
+        self.0.registers[1 + reg as usize] = value;
     }
 
     /// The instruction pointer.
     #[inline(always)]
     pub fn ip(&self) -> u64 {
-        self.0[0]
+        self.0.registers[0]
     }
 
     /// Sets the instruction pointer.
     #[inline(always)]
     pub fn set_ip(&mut self, ip: u64) {
-        self.0[0] = ip;
+        self.0.registers[0] = ip;
     }
 
     /// The stack pointer.
@@ -91,7 +92,7 @@ impl UnwindRegsX86_64 {
 impl fmt::Debug for UnwindRegsX86_64 {
     fn fmt(&self, f: &mut fmt::Formatter<'_>) -> fmt::Result {
         let mut shown = f.debug_struct("UnwindRegsX86_64");
-        for (name, value) in NAMES.iter().zip(self.0) {
+        for (name, value) in NAMES.iter().zip(self.0.registers) {
             shown.field(name, &Hex(value));
         }
         shown.finish()
