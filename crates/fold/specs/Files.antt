@@ -1,5 +1,5 @@
 -- Whether a file is the one that was recorded.
-use Rattle.std.specs.Prelude.{ℕ, Bool, false, not, ◌&&◌, List, [], ◌∷◌, bytes_eq, Option, Some, None}
+use Rattle.std.specs.Prelude.{ℕ, Bool, true, false, not, ◌&&◌, List, [], ◌∷◌, bytes_eq, Option, Some, None}
 use Rattle.elf_files.specs.declared.header.Machine.{Machine}
 use Rattle.elf_files.specs.declared.header.Machine.TheVariants as machine
 use Rattle.perf_files.specs.declared.feature.Architecture.{Architecture}

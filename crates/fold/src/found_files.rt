@@ -49,6 +49,9 @@ pub(crate) struct FoundFiles<'r> {
     pub(crate) missing: u64,
 }
 
+// The name of the kernel in a recording.
+const KERNEL: &[u8] = b"[kernel.kallsyms]";
+
 // The folder where distributions have debug files.
 const DEBUG_FOLDER: &str = "/usr/lib/debug/.build-id";
 
@@ -132,8 +135,14 @@ fn build_id_of<'a>(elf: &ElfFile<'a>) -> Option<&'a [u8]> {
     }
 }
 
-// Appends a build id as the name of a file: the first byte is that of a folder.
-fn push_id_path(alloc: Global, path: &mut String, build_id: &[u8]) -> Result<(), AllocError> {
+// The path of a file below a folder by its build id, whose first byte is the name of a folder.
+fn id_path(
+    alloc: Global,
+    folder: &str,
+    build_id: &[u8],
+    ending: &str,
+) -> Result<String, AllocError> {
+    let mut path = format!(in alloc; "{folder}/")?;
     for (index, byte) in build_id.iter().enumerate() {
         let digits = format!(in alloc; "{byte:02x}")?;
         path.push_str(digits.as_str())?;
@@ -141,7 +150,8 @@ fn push_id_path(alloc: Global, path: &mut String, build_id: &[u8]) -> Result<(),
             path.push_str("/")?;
         }
     }
-    Ok(())
+    path.push_str(ending)?;
+    Ok(path)
 }
 
 // What a file has, if it is the one that was recorded.
@@ -215,16 +225,25 @@ impl<'r> FoundFiles<'r> {
     fn find_by_id(&self, found: &mut FoundFile, build_id: &[u8]) -> Result<(), AllocError> {
         let alloc = self.rt.alloc();
         for folder in &self.folders.by_build_id {
-            for ending in ["", ".debug", "/elf"] {
-                let mut path = format!(in alloc; "{folder}/")?;
-                push_id_path(alloc, &mut path, build_id)?;
-                path.push_str(ending)?;
+            for ending in ["", ".debug", "/elf", "/vdso"] {
+                let path = id_path(alloc, folder.as_str(), build_id, ending)?;
                 if let Ok(bytes) = read_regular(self.rt, path.as_str()) {
                     found.take(bytes, self.machine, build_id);
                 }
             }
         }
         Ok(())
+    }
+
+    // The list of the symbols of a kernel with a build id.
+    fn find_kernel_list(&self, build_id: &[u8]) -> Result<Option<&'static [u8]>, AllocError> {
+        for folder in &self.folders.by_build_id {
+            let path = id_path(self.rt.alloc(), folder.as_str(), build_id, "/kallsyms")?;
+            if let Ok(list) = fs::read(self.rt, path.as_str()) {
+                return Ok(Some(list.leak()));
+            }
+        }
+        Ok(None)
     }
 
     // Looks for a file by its name.
@@ -268,6 +287,7 @@ impl<'r> FoundFiles<'r> {
 
     // Says of a file that it is missing, if it is one.
     fn say_if_missing(&mut self, file: u32, found: FoundFile) {
+        let rt = self.rt;
         let name = self.name_of(file);
         if found.code.is_some() || !name.starts_with(b"/") || name.starts_with(b"//") {
             return;
@@ -278,7 +298,7 @@ impl<'r> FoundFiles<'r> {
             "not found"
         };
         let name = str::from_utf8(name).unwrap_or("?");
-        let _ = eprintln!(self.rt; "fold: {name}: {why}");
+        let _ = eprintln!(rt; "fold: {name}: {why}");
         self.missing = self.missing.saturating_add(1);
     }
 
@@ -319,5 +339,13 @@ impl SampledFiles for FoundFiles<'_> {
     fn symbols_of(&mut self, file: u32) -> Result<Option<&'static [u8]>, AllocError> {
         let found = self.found(file)?;
         Ok(found.symbols.or(found.code))
+    }
+
+    fn kernel_list(&mut self) -> Result<Option<&'static [u8]>, AllocError> {
+        let build_id = self.build_id_named(KERNEL);
+        if build_id.is_empty() {
+            return Ok(None);
+        }
+        self.find_kernel_list(build_id)
     }
 }

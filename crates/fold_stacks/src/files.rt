@@ -31,6 +31,9 @@ pub trait SampledFiles: FileBytes {
 
     /// All bytes of the file that has the symbols of the file with a number, if it is there. Fails if memory is refused.
     fn symbols_of(&mut self, file: u32) -> Result<Option<&'static [u8]>, AllocError>;
+
+    /// The list of the kernel's symbols, if it is there. Fails if memory is refused.
+    fn kernel_list(&mut self) -> Result<Option<&'static [u8]>, AllocError>;
 }
 
 // A file of this name and build id.

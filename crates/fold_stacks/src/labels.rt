@@ -4,8 +4,9 @@ use crate::files::SampledFiles;
 use crate::frames::UserFrame;
 use crate::names::{UNKNOWN, push_function, push_unknown_in};
 use elf_files::ElfFile;
-use folded_stacks::{FrameNames, push_address};
+use folded_stacks::{FrameNames, push_address, push_kernel_name};
 use function_index::FunctionIndex;
+use kernel_symbols::KernelSymbols;
 use perf_processes::Processes;
 use process_modules::CodePlace;
 use std::alloc::{AllocError, Global};
@@ -27,6 +28,10 @@ pub(crate) struct Labels {
     known: HashMap<PlaceKey, u32>,
     // The functions of files that were read, by the file's number.
     functions: HashMap<u32, FunctionIndex<'static>>,
+    // The functions of the kernel, once a frame was there.
+    kernel: Option<KernelSymbols<'static>>,
+    // The numbers of the names of the kernel's frames that were looked up, by their addresses.
+    known_kernel: HashMap<u64, u32>,
 }
 
 // The functions of a file.
@@ -44,6 +49,17 @@ fn functions_of<F: SampledFiles>(
     }
 }
 
+// The functions of the kernel.
+fn kernel_of<F: SampledFiles>(
+    alloc: Global,
+    files: &mut F,
+) -> Result<KernelSymbols<'static>, AllocError> {
+    match files.kernel_list()? {
+        Some(list) => KernelSymbols::new(alloc, list),
+        None => Ok(KernelSymbols::empty(alloc)),
+    }
+}
+
 impl Labels {
     /// No names.
     pub(crate) fn new(alloc: Global) -> Self {
@@ -51,6 +67,8 @@ impl Labels {
             names: FrameNames::new(alloc),
             known: HashMap::new(alloc),
             functions: HashMap::new(alloc),
+            kernel: None,
+            known_kernel: HashMap::new(alloc),
         }
     }
 
@@ -131,6 +149,52 @@ impl Labels {
             Some(mapping) => self.number_of_unknown(alloc, files.name_of(mapping.file)),
             None => self.number_of_unknown(alloc, UNKNOWN),
         }
+    }
+
+    // The name of the function of the kernel at an address.
+    fn kernel_symbol<F: SampledFiles>(
+        &mut self,
+        alloc: Global,
+        files: &mut F,
+        address: u64,
+    ) -> Result<Option<&'static [u8]>, AllocError> {
+        if let Some(kernel) = &self.kernel {
+            return Ok(kernel.name_at(address));
+        }
+        let kernel = kernel_of::<F>(alloc, files)?;
+        let symbol = kernel.name_at(address);
+        self.kernel = Some(kernel);
+        Ok(symbol)
+    }
+
+    // The number of the name of a frame of the kernel that wasn't looked up yet.
+    fn kernel_number<F: SampledFiles>(
+        &mut self,
+        alloc: Global,
+        files: &mut F,
+        address: u64,
+    ) -> Result<u32, AllocError> {
+        let mut text = Vec::new(alloc);
+        match self.kernel_symbol::<F>(alloc, files, address)? {
+            Some(symbol) => push_kernel_name(&mut text, symbol)?,
+            None => push_unknown_in(alloc, &mut text, UNKNOWN)?,
+        }
+        self.names.number_of(text.as_slice())
+    }
+
+    /// The number of the name of a frame of the kernel.
+    pub(crate) fn number_of_kernel<F: SampledFiles>(
+        &mut self,
+        alloc: Global,
+        files: &mut F,
+        address: u64,
+    ) -> Result<u32, AllocError> {
+        if let Some(number) = self.known_kernel.get(&address).copied() {
+            return Ok(number);
+        }
+        let number = self.kernel_number::<F>(alloc, files, address)?;
+        self.known_kernel.insert(address, number)?;
+        Ok(number)
     }
 
     /// The number of an address as a name.

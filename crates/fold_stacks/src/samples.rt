@@ -7,7 +7,7 @@ ghost use Rattle.fold_stacks.specs.Frames.{end_text};
 use crate::files::SampledFiles;
 use crate::frames::UserFrame;
 use crate::labels::Labels;
-use crate::names::{BROKEN, TRUNCATED, UNKNOWN, push_process};
+use crate::names::{BROKEN, TRUNCATED, push_process};
 use crate::order::{StackParts, folded_stack};
 use crate::processes::ModuleTable;
 use crate::totals::FoldTotals;
@@ -104,10 +104,11 @@ impl<A: SampleArch> SampleStacks<A> {
     }
 
     // The numbers of the names of the kernel's frames of a sample.
-    fn kernel_numbers(
+    fn kernel_numbers<F: SampledFiles>(
         &mut self,
         alloc: Global,
         options: &FoldOptions<'_>,
+        files: &mut F,
         sample: &Sample<'_>,
     ) -> Result<Vec<u32>, AllocError> {
         let mut numbers = Vec::new(alloc);
@@ -120,7 +121,7 @@ impl<A: SampleArch> SampleStacks<A> {
             let number = if options.addresses {
                 self.labels.number_of_address(alloc, *address)?
             } else {
-                self.labels.number_of_unknown(alloc, UNKNOWN)?
+                self.labels.number_of_kernel::<F>(alloc, files, *address)?
             };
             numbers.push(number)?;
         }
@@ -180,7 +181,7 @@ impl<A: SampleArch> SampleStacks<A> {
             pid,
             frames.as_slice(),
         )?;
-        let kernel = self.kernel_numbers(alloc, options, sample)?;
+        let kernel = self.kernel_numbers::<F>(alloc, options, files, sample)?;
         let parts = StackParts {
             process,
             end: self.end_number(end)?,
