@@ -137,10 +137,9 @@ def chart(groups, title="Time as a multiple of the original's; less is faster"):
         texts.append(text(MARGIN, at + 15, group.heading, ' class="heading"'))
         at += ROW + 2
         for label, ratio in group.bars:
-            labels.append(text(LABELS - 8, at + 14, label))
+            labels.append(text(LABELS - 8, at + 14, f"{label}: {ratio:.2f}"))
             width = round(ratio * scale)
             bars["less" if ratio <= 1 else "more"].append(f"M{LABELS} {at + 3}h{width}v{ROW - 6}h-{width}z")
-            texts.append(text(LABELS + max(ratio, 1) * scale + 6, at + 14, f"{ratio:.2f}"))
             at += ROW
         at += 6
     height = at + MARGIN

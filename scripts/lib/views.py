@@ -327,13 +327,14 @@ def heading_of(beginning):
 
 
 def charts():
-    """The charts of the ratios to the original, by the tables of the last whole run."""
+    """The charts of the ratios of walks and steps to the original, by the tables of the last whole run."""
     record, parts = records.named("bench"), []
     for table in record.tables:
         parts += ([f"## {table['heading']}", ""] if "heading" in table else []) + [figures.markdown_table(table["rows"]), ""]
     groups = figures.groups_of("\n".join(parts))
     roads = figures.groups_of_roads(groups)
-    return {CHART: figures.chart(groups)} | ({ROADS: figures.chart(roads, ROADS_TITLE)} if roads else {})
+    walks = [group for group in groups if re.match("(x86_64|aarch64), by|Compact", group.heading)]
+    return {CHART: figures.chart(walks)} | ({ROADS: figures.chart(roads, ROADS_TITLE)} if roads else {})
 
 
 # ---- writing

@@ -108,7 +108,8 @@ impl<A: SampleArch> Folding<A> {
         attributes: &Attributes,
         record: &Record<'_>,
     ) -> Result<Option<Change>, FoldError>
-        ensures change { IfOk result (λ change. change_by record.now.kind attributes.now (record_seen record.now) (number_in change) ≡ Ok change) }
+        ensures change { IfOk result (λ change.
+            change_by record.now.kind attributes.now (record_seen record.now) (number_in change) ≡ Ok change) }
         ensures processes { IfOk result (λ change. self.new ≡ after_if change self.old) }
     {
         let found = change_of::<F>(&mut self.comms.names, files, record, attributes)?;
