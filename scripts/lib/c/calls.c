@@ -311,7 +311,8 @@ static void misuse(void) {
     SHOULD(step_with(&in, unwinder, cache, FRAMEHOP_AT_INSTRUCTION, 0x101000) == FRAMEHOP_OK);
     SHOULD(step_with(&in, 9, cache, FRAMEHOP_AT_INSTRUCTION, 0x101000) == FRAMEHOP_NO_UNWINDER);
     SHOULD(step_with(&in, unwinder, 9, FRAMEHOP_AT_INSTRUCTION, 0x101000) == FRAMEHOP_NO_CACHE);
-    SHOULD(step_with(&in, unwinder, cache, 2, 0x101000) == FRAMEHOP_BAD_ARGUMENT);
+    SHOULD(step_with(&in, unwinder, cache, FRAMEHOP_STARTS, 0x101000) == FRAMEHOP_BAD_ARGUMENT);
+    SHOULD(step_with(&in, unwinder, cache, FRAMEHOP_OVER, 0x101000) == FRAMEHOP_BAD_ARGUMENT);
     SHOULD(step_with(&in, unwinder, cache, FRAMEHOP_AT_RETURN, 0) == FRAMEHOP_BAD_ARGUMENT);
     SHOULD(walk_with(&in, unwinder, cache, 4, frames, 8, &count) == FRAMEHOP_BAD_ARGUMENT && count == 0x5eed);
     SHOULD(walk_with(&in, 9, cache, FRAMEHOP_STARTS, frames, 8, &count) == FRAMEHOP_NO_UNWINDER && count == 0x5eed);
