@@ -1,5 +1,5 @@
 -- What calls do with a session: each answers a status, and changes nothing unless that is `ok`.
-use Rattle.std.specs.Prelude.{ℕ, ◌≡◌, ◌≢◌, ◌-◌, ◌^◌, List, [], ◌∷◌, length, Bool, true, false, if◌then◌else◌}
+use Rattle.std.specs.Prelude.{ℕ, ◌≡◌, ◌≢◌, ◌-◌, ◌^◌, [], ◌∷◌, length, Bool, true, false, if◌then◌else◌}
 use Rattle.framehop_rules.specs.declared.rule_cache.CacheStats.{CacheStats}
 use Rattle.framehop_unwinder.specs.ByNumber.{is_held}
 use Rattle.framehop_unwinder.specs.Modules.{Loaded, is_loaded_at, last_end, with_loaded}

@@ -1,5 +1,4 @@
 -- Registers as callers have them, and as steps have them.
-use Rattle.std.specs.Prelude.{ℕ}
 use Rattle.framehop_registers.specs.RegistersAarch64.{fp_of, lr_of, mask_of, new_registers, sp_of, stripped_address}
 use Rattle.framehop_registers.specs.declared.aarch64.unwindregs.PtrAuthMask.{PtrAuthMask}
 use Rattle.framehop_registers.specs.declared.aarch64.unwindregs.UnwindRegsAarch64.{UnwindRegsAarch64}

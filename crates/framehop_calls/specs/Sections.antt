@@ -1,5 +1,5 @@
 -- The sections of a file as a caller lists them, by their names.
-use Rattle.std.specs.Prelude.{ℕ, List, [], ◌∷◌, Bool, ◌&&◌, not, ◌==◌, Option, Some, None, bytes_eq, if◌then◌else◌, bit_and, codes}
+use Rattle.std.specs.Prelude.{ℕ, List, [], ◌∷◌, Bool, ◌&&◌, not, ◌==◌, Option, Some, None, bytes_eq, if◌then◌else◌, bit_and}
 use Rattle.std.specs.Option.{option_or}
 use Rattle.std.specs.declared.ops.Range.{Range}
 use Rattle.framehop_modules.specs.Sections.{Sections}

@@ -1,5 +1,5 @@
 -- Steps and walks by numbers, over samples.
-use Rattle.std.specs.Prelude.{ℕ, ◌≡◌, ◌≢◌, List, take, Option, Some, None, Result, Ok, Err, if◌then◌else◌}
+use Rattle.std.specs.Prelude.{ℕ, ◌≡◌, ◌≢◌, List, take, Some, None, Ok, Err, if◌then◌else◌}
 use Rattle.framehop_registers.specs.declared.error.Error.{Error}
 use Rattle.framehop_registers.specs.declared.error.Error.TheVariants.{CouldNotReadStack, FramepointerUnwindingMovedBackwards, DidNotAdvance, IntegerOverflow, ReturnAddressIsNull, OutOfMemory}
 use Rattle.framehop_unwinder.specs.Attempt.{Meanings}

@@ -1,4 +1,4 @@
-use Rattle.std.proofs.Common.{◌≡◌, ◌∙◌, ℕ, List, [], ◌∷◌, ap}
+use Rattle.std.proofs.Common.{◌∙◌, ℕ, List, [], ◌∷◌, ap}
 use Rattle.framehop_calls.proofs.RegisterLists.{all_places}
 use Rattle.framehop_calls.specs.declared.registers.RegistersX86_64.{RegistersX86_64}
 use Rattle.framehop_calls.proofs.registers.RegistersX86_64.of.Goals as goal

@@ -13,8 +13,8 @@ returns g c =
     let walked = c.walk_in_sample-walked in
     let call = c.args.call.now in
     let Goes : List (Loaded g.row.A-UnwindData.Denot) → Type 0 = λ modules.
-        WalksOver (judge g.A.ModuleUnwinding.meanings modules) (words_of c.args.sample.now) (walk_of call.walk)
-        (take walked.result.count walked.new.frames) walked.result.end (walk_of walked.new.walk) in
+    WalksOver (judge g.A.ModuleUnwinding.meanings modules) (words_of c.args.sample.now) (walk_of call.walk)
+    (take walked.result.count walked.new.frames) walked.result.end (walk_of walked.new.walk) in
     record {
       made = λ there. record {
         made = walked.result;
@@ -28,7 +28,7 @@ returns g c =
         };
         walk = subst (λ (n : ℕ). Goes (modules_at c.args.self.now n)) c.numbered-unwinder.ensures
             (subst (λ (session : SessionState g.row.A-UnwindData.Denot g.row.A-UnwindRule.Denot).
-                Goes (modules_at session (unwinder_number c.numbered-unwinder.result))) c.self.view_is walked.ensures.walked);
+            Goes (modules_at session (unwinder_number c.numbered-unwinder.result))) c.self.view_is walked.ensures.walked);
         frames = walked.ensures.written;
         needs = walked.ensures.needs;
         session = subst (λ (session : SessionState g.row.A-UnwindData.Denot g.row.A-UnwindRule.Denot).
