@@ -3,7 +3,6 @@ use Rattle.std.proofs.Common.{◌≡◌, [], ◌∷◌, refl, lit<}
 use mir.Val.{Val}
 use base.Logic.{SProp, emp}
 use base.Fml.{ftrue}
-use prog.Wp.{WpFn}
 use types.Kit.{‵, raw, ◌⊛◌, ◌$◌, ◌∵◌, !, qed, by, keep, split, use0}
 use types.Run.{lit, no_more, and_then, returns, enter}
 use types.ByLocal.{alloc_all, pass_all, free_all, look_at, sets}
@@ -17,7 +16,7 @@ use denote.Steps.{nothing}
 use denote.Triple.Walked.{Stays, walk_of}
 use Rattle.std.specs.Prelude.{None}
 use Rattle.std.proofs.raw_atomic.Walks.{proved_at, leaves}
-use Rattle.framehop_c.proofs.SessionValues.{Handle, one, handle_in}
+use Rattle.framehop_c.proofs.SessionValues.{one, handle_in}
 use Rattle.framehop_c.specs.contracts.handle.SessionHandle.empty.{ended, clauses}
 use Rattle.framehop_c.specs.contracts.handle.SessionHandle.empty.Key.{name as #self}
 use Rattle.framehop_c.proofs.handle.SessionHandle.empty.Statement.{statement}

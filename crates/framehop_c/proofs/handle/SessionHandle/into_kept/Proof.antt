@@ -13,7 +13,7 @@ use contract.Monad.{fact, fact_i}
 use contract.Running.{tables}
 use denote.Exit.{yes}
 use denote.RattleType.{RattleType, owns}
-use denote.RawPtr.{Ptr, block_ptr, null_ptr, ptr_val, tests_null}
+use denote.RawPtr.{Ptr, block_ptr, ptr_val, tests_null}
 use denote.Param.{layout}
 use denote.Signature.{types_at, type_at, plain}
 use denote.Steps.{nothing}
