@@ -1,2 +1,3 @@
+pub mod Known
 pub mod Merging
 pub mod Ranges
