@@ -1,7 +1,7 @@
 //! What the program writes: lines, a picture, and what was folded in numbers.
 
-ghost use Rattle.std.specs.Prelude.{◌≡◌};
-ghost use Rattle.fold.specs.Order.{picture_key};
+ghost use Rattle.std.specs.Prelude.{◌≡◌, map, IfOk};
+ghost use Rattle.fold.specs.Order.{replaced};
 
 use crate::recording::Recording;
 use anyhow::Result;
@@ -25,27 +25,40 @@ pub(crate) fn write_lines(rt: &HostRuntime, lines: &[FoldedLine]) -> Result<()> 
     Ok(())
 }
 
-// A byte of a stack for the order of a picture, in which names that begin others come first.
-fn picture_key(byte: u8) -> u8
-    ensures { result ≡ picture_key byte }
+// A text with one byte in place of another.
+fn replaced(alloc: Global, text: &[u8], from: u8, to: u8) -> Result<Vec<u8>, AllocError>
+    ensures { IfOk result (λ made. made.items ≡ map (replaced from to) text.now) }
 {
-    if byte == b';' { 0 } else { byte }
+    let mut made = Vec::new(alloc);
+    for byte in text {
+        made.push(if *byte == from { to } else { *byte })?;
+    }
+    Ok(made)
+}
+
+// The stacks of lines with a byte 0, which no name has, between names. So names that begin others come before these.
+fn stacks_by_zeros(alloc: Global, lines: &[FoldedLine]) -> Result<Vec<FoldedStack>, AllocError> {
+    let mut stacks = Vec::new(alloc);
+    for line in lines {
+        stacks.push(FoldedStack {
+            text: replaced(alloc, line.stack.as_slice(), b';', 0)?,
+            count: line.count,
+        })?;
+    }
+    stacks.sort_by(|one, other| one.text.cmp(&other.text))?;
+    Ok(stacks)
 }
 
 // The stacks of lines, in the order of a picture.
 fn picture_stacks(alloc: Global, lines: &[FoldedLine]) -> Result<Vec<FoldedStack>, AllocError> {
+    let sorted = stacks_by_zeros(alloc, lines)?;
     let mut stacks = Vec::new(alloc);
-    for line in lines {
+    for stack in &sorted {
         stacks.push(FoldedStack {
-            text: line.stack.as_slice().to_vec(alloc)?,
-            count: line.count,
+            text: replaced(alloc, stack.text.as_slice(), 0, b';')?,
+            count: stack.count,
         })?;
     }
-    stacks.sort_by(|one, other| {
-        let one = one.text.iter().map(|byte| picture_key(*byte));
-        let other = other.text.iter().map(|byte| picture_key(*byte));
-        one.cmp(other)
-    })?;
     Ok(stacks)
 }
 

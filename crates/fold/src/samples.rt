@@ -5,6 +5,7 @@ use crate::output::{write_lines, write_picture, write_summary};
 use crate::recording::Recording;
 use crate::source::Source;
 use anyhow::{Result, bail};
+use dwarf_endianity::{Endianity, LittleEndian};
 use fold_options::FoldOptions;
 use fold_stacks::{FoldError, Folding, RecordedEvents};
 use perf_files::record_at;
@@ -21,9 +22,10 @@ const HEADER_SIZE: u64 = 8;
 // The bytes of a record.
 fn record_bytes(source: &mut Source, offset: u64) -> Result<&[u8]> {
     let header = source.bytes(offset, HEADER_SIZE, AHEAD)?;
-    let size = match header {
-        [_, _, _, _, _, _, low, high] => u64::from(*low) + 256 * u64::from(*high),
-        _ => MOST_BYTES,
+    let size = if header.len() < HEADER_SIZE as usize {
+        MOST_BYTES
+    } else {
+        u64::from(LittleEndian.read_u16(&header[6..]))
     };
     Ok(source.bytes(offset, size, AHEAD)?)
 }
