@@ -50,6 +50,10 @@ pub record HasRoom (seen : List ℕ) (path : List Executed) (pending : List Pend
   pub for_path : length path < 128
   pub for_pending : length pending + 1 < 129
 
+-- Two more are pending, or fewer, each with as many before it or more.
+abbrev pub IsGrown : Search → Search → Type 0
+IsGrown old new = IsRising new.pending.items (length new.path.items) × (length new.pending.items ≤ length old.pending.items + 2)
+
 -- What is kept fits.
 pub record IsSound (seen : List ℕ) (path : List Executed) (pending : List Pending) : Type 0 where
   pub rising : IsRising pending (length path)

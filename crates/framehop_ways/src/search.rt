@@ -3,7 +3,7 @@ ghost use Rattle.std.specs.Prelude.{◌≡◌, ◌+◌, ◌<◌, ◌≤◌, ◌^
 ghost use Rattle.std.specs.Bool.{OnFalse};
 ghost use Rattle.std.specs.List.{list_any};
 ghost use Rattle.framehop_ways.specs.FirstWay.{with_trail, untried, turn};
-ghost use Rattle.framehop_ways.specs.SearchViews.{trails_in, trails_with, trails_after, turned, HasRoom, IsRising, IsSound, starting_trail};
+ghost use Rattle.framehop_ways.specs.SearchViews.{trails_in, trails_with, trails_after, turned, HasRoom, IsGrown, IsRising, IsSound, starting_trail};
 
 use crate::executed::{
     Bounds, Executed, instruction_at, leaves, place_after, place_branched_to, restores,
@@ -105,8 +105,7 @@ impl Search {
             × (self.new.path.items ≡ self.old.path.items ++ one ∷ []) }
         ensures trails { trails_in self.new
             ≡ trails_after bounds one restored self.old.path.items self.old.pending.items }
-        ensures rising { IsRising self.new.pending.items (length self.new.path.items)
-            × (length self.new.pending.items ≤ length self.old.pending.items + 2) }
+        ensures rising { IsGrown self.old self.new }
     {
         self.seen.push(one.place);
         self.path.push(one);
