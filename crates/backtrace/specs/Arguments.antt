@@ -3,7 +3,9 @@ use Rattle.std.specs.Prelude.{ℕ, ◌+◌, ◌-◌, ◌*◌, ◌^◌, ◌==◌,
 use Rattle.std.specs.List.{list_any}
 use Rattle.backtrace.specs.declared.arguments.Awaited.{Awaited}
 use Rattle.backtrace.specs.declared.arguments.Awaited.TheVariants.{Word, Root, Thread, Limit}
+use Rattle.backtrace_text.specs.declared.names.FunctionNames.TheVariants.{Demangled, Raw}
 use Rattle.backtrace_walks.specs.declared.backtraces.BacktraceOptions.{BacktraceOptions}
+use Rattle.backtrace_walks.specs.declared.backtraces.FrameOptions.{FrameOptions}
 
 -- The stacks that are asked for: of the core at a path, whose files are below a folder.
 pub record Stacks : Type 0 where
@@ -56,13 +58,18 @@ begins_with_dash (byte ∷ bytes) = byte == 45
 abbrev pub parsed_path : Parsed → List ℕ → Option Parsed
 parsed_path parsed word = if is_some parsed.core || begins_with_dash word then None else Some (record parsed { core = Some word })
 
+-- another of what is shown of frames
+abbrev pub with_frames : FrameOptions → Parsed → Parsed
+with_frames frames parsed = record parsed { options = record parsed.options { frames = frames } }
+
 -- an option, or the path of the core
 abbrev pub parsed_word : Parsed → List ℕ → Option Parsed
 parsed_word parsed word =
     if bytes_eq word (codes "--root") then Some (record parsed { awaited = Root })
     else if bytes_eq word (codes "--thread") then Some (record parsed { awaited = Thread })
     else if bytes_eq word (codes "--limit") then Some (record parsed { awaited = Limit })
-    else if bytes_eq word (codes "--registers") then Some (record parsed { options = record parsed.options { registers = true } })
+    else if bytes_eq word (codes "--registers") then Some (with_frames (record parsed.options.frames { registers = true }) parsed)
+    else if bytes_eq word (codes "--raw-names") then Some (with_frames (record parsed.options.frames { names = Raw }) parsed)
     else if bytes_eq word (codes "--help") || bytes_eq word (codes "-h") then Some (record parsed { is_help = true })
     else parsed_path parsed word
 
@@ -92,12 +99,12 @@ abbrev pub parsed_words : Parsed → List (List ℕ) → Option Parsed
 parsed_words parsed [] = Some parsed
 parsed_words parsed (word ∷ words) = option_and_then (λ next. parsed_words next words) (parsed_next parsed word)
 
--- nothing was said yet: all threads, and up to 2^20 frames of each
+-- nothing was said yet: all threads, up to 2^20 frames of each, and names as they are written in programs
 abbrev pub nothing_said : Parsed
 nothing_said = record {
   core = None;
   root = [];
-  options = record { thread = None; limit = 2 ^ 20; registers = false };
+  options = record { thread = None; limit = 2 ^ 20; frames = record { registers = false; names = Demangled } };
   is_help = false;
   awaited = Word;
 }

@@ -1,20 +1,22 @@
 //! The arguments of the program.
 
 ghost use Rattle.std.specs.Prelude.{◌≡◌, ◌<◌, IfSome, map, option_map, string_bytes};
-ghost use Rattle.backtrace.specs.Arguments.{begins_with_dash, digit_of, number_of, lint_request, number_with, option_among, parsed_limit, parsed_next, parsed_path, parsed_thread, parsed_word, request_by, request_of, stacks_request};
+ghost use Rattle.backtrace.specs.Arguments.{begins_with_dash, digit_of, number_of, lint_request, number_with, option_among, parsed_limit, parsed_next, parsed_path, parsed_thread, parsed_word, request_by, request_of, stacks_request, with_frames};
 ghost use Rattle.backtrace.specs.ArgumentViews.{parsed_seen, request_seen};
 
-use backtrace_walks::BacktraceOptions;
+use backtrace_text::FunctionNames;
+use backtrace_walks::{BacktraceOptions, FrameOptions};
 
 /// How the program is called.
 pub(crate) const USAGE: &str =
-    "usage: backtrace CORE [--root DIR] [--thread ID] [--limit N] [--registers]
+    "usage: backtrace CORE [--root DIR] [--thread ID] [--limit N] [--registers] [--raw-names]
        backtrace --lint FILE..
 Prints the stacks of the threads of a core file.
   --root DIR     reads the files that the core names below DIR
   --thread ID    prints the stack of this thread alone
   --limit N      prints at most N frames of a stack, 1048576 without it
   --registers    prints the registers of each frame too
+  --raw-names    prints names of functions as symbols have them, not as they are written in programs
 With --lint prints what an unwinder meets in the call frames of ELF files: the error that ends the entries of .eh_frame, or of
 .debug_frame if a file has no .eh_frame, the FDEs that an index leaves out and those that overlap, the rows that no unwind rule
 expresses or that fail, and why an .eh_frame_hdr isn't truthful. The exit status is 1 if it prints something, 2 if a file can't
@@ -132,6 +134,19 @@ fn parsed_path<'a>(parsed: Parsed<'a>, word: &'a str) -> Option<Parsed<'a>>
     })
 }
 
+// What the words say, with another of what is shown of frames.
+fn with_frames<'a>(parsed: Parsed<'a>, frames: FrameOptions) -> Parsed<'a>
+    ensures { parsed_seen result ≡ with_frames frames (parsed_seen parsed.entry) }
+{
+    Parsed {
+        options: BacktraceOptions {
+            frames,
+            ..parsed.options
+        },
+        ..parsed
+    }
+}
+
 // What the words say, with one that is no value of an option.
 fn parsed_word<'a>(parsed: Parsed<'a>, word: &'a str) -> Option<Parsed<'a>>
     ensures { option_map parsed_seen result ≡ parsed_word (parsed_seen parsed.entry) word.entry.now }
@@ -149,13 +164,20 @@ fn parsed_word<'a>(parsed: Parsed<'a>, word: &'a str) -> Option<Parsed<'a>>
             awaited: Awaited::Limit,
             ..parsed
         }),
-        "--registers" => Some(Parsed {
-            options: BacktraceOptions {
+        "--registers" => Some(with_frames(
+            parsed,
+            FrameOptions {
                 registers: true,
-                ..parsed.options
+                ..parsed.options.frames
             },
-            ..parsed
-        }),
+        )),
+        "--raw-names" => Some(with_frames(
+            parsed,
+            FrameOptions {
+                names: FunctionNames::Raw,
+                ..parsed.options.frames
+            },
+        )),
         "--help" | "-h" => Some(Parsed {
             help: true,
             ..parsed
@@ -244,7 +266,10 @@ fn stacks_request(words: &[String]) -> Option<Request<'_>>
         options: BacktraceOptions {
             thread: None,
             limit: DEFAULT_LIMIT,
-            registers: false,
+            frames: FrameOptions {
+                registers: false,
+                names: FunctionNames::Demangled,
+            },
         },
         help: false,
         awaited: Awaited::Word,

@@ -22,4 +22,8 @@ register_view register = record { name = register.name.now; value = register.val
 
 -- a frame
 abbrev pub frame_view : ShownFrame → seen.Frame
-frame_view frame = record { location = location_view frame.location; registers = map register_view frame.registers.items }
+frame_view frame = record {
+  location = location_view frame.location;
+  names = frame.names;
+  registers = map register_view frame.registers.items;
+}

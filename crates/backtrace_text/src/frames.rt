@@ -4,10 +4,10 @@ ghost use Rattle.std.specs.Prelude.{◌≡◌, map, option_map};
 ghost use Rattle.std.specs.List.{flat_map};
 ghost use Rattle.line_parts.specs.Parts.{Pushes};
 ghost use Rattle.backtrace_text.specs.FrameViews.{frame_view, location_view, offset_view, register_view};
-ghost use Rattle.backtrace_text.specs.Frames.{address_text, file_text, frame_text, function_text, location_text, number_text, offset_text, register_text, registers_text};
+ghost use Rattle.backtrace_text.specs.Frames.{address_text, distance_text, file_text, frame_text, function_text, location_text, number_text, offset_text, register_text, registers_text};
 
 use crate::cells::{push_decimal_cell, push_hexadecimal};
-use crate::names::push_name;
+use crate::names::{FunctionNames, push_function_name, push_name};
 use line_parts::{push_bytes, push_hex};
 use std::alloc::{AllocError, Global};
 
@@ -50,6 +50,8 @@ pub struct RegisterValue {
 pub struct ShownFrame<'a> {
     /// Where its code is.
     pub location: CodeLocation<'a>,
+    /// How the name of its function is shown.
+    pub names: FunctionNames,
     /// The registers that are shown with it.
     pub registers: Vec<RegisterValue>,
 }
@@ -70,26 +72,37 @@ fn push_number(alloc: Global, text: &mut Vec<u8>, number: u64) -> Result<(), All
     push_decimal_cell(alloc, text, 2, number)
 }
 
+// Appends how far something is behind a start.
+fn push_distance(alloc: Global, text: &mut Vec<u8>, offset: u64) -> Result<(), AllocError>
+    ensures { Pushes result text.old text.new (distance_text offset) }
+{
+    push_bytes(text, b"+")?;
+    push_hexadecimal(alloc, text, offset)
+}
+
 // Appends a name and an offset.
 fn push_offset(alloc: Global, text: &mut Vec<u8>, place: NamedOffset<'_>) -> Result<(), AllocError>
     ensures { Pushes result text.old text.new (offset_text (offset_view place.entry)) }
 {
     push_name(alloc, text, place.name)?;
-    push_bytes(text, b"+")?;
-    push_hexadecimal(alloc, text, place.offset)
+    push_distance(alloc, text, place.offset)
 }
 
 // Appends the function of a frame's code, or two question marks.
 fn push_function(
     alloc: Global,
     text: &mut Vec<u8>,
+    names: FunctionNames,
     function: Option<NamedOffset<'_>>,
 ) -> Result<(), AllocError>
     ensures { Pushes result text.old text.new
-        (function_text (option_map offset_view function.entry)) }
+        (function_text names (option_map offset_view function.entry)) }
 {
     match function {
-        Some(function) => push_offset(alloc, text, function),
+        Some(function) => {
+            push_function_name(alloc, text, names, function.name)?;
+            push_distance(alloc, text, function.offset)
+        }
         None => push_bytes(text, b"??"),
     }
 }
@@ -115,9 +128,11 @@ fn push_file(
 fn push_location(
     alloc: Global,
     text: &mut Vec<u8>,
+    names: FunctionNames,
     location: CodeLocation<'_>,
 ) -> Result<(), AllocError>
-    ensures { Pushes result text.old text.new (location_text (location_view location.entry)) }
+    ensures { Pushes result text.old text.new
+        (location_text names (location_view location.entry)) }
 {
     match location {
         CodeLocation::Code {
@@ -127,7 +142,7 @@ fn push_location(
         } => {
             push_address(alloc, text, address)?;
             push_bytes(text, b" in ")?;
-            push_function(alloc, text, function)?;
+            push_function(alloc, text, names, function)?;
             push_file(alloc, text, file)
         }
         CodeLocation::SignalTrampoline => push_bytes(text, b"<signal handler called>"),
@@ -190,7 +205,7 @@ pub(crate) fn push_frame(
     ensures { Pushes result text.old text.new (frame_text number (frame_view frame.now)) }
 {
     push_number(alloc, text, number)?;
-    push_location(alloc, text, frame.location)?;
+    push_location(alloc, text, frame.names, frame.location)?;
     push_bytes(text, b"\n")?;
     push_registers(alloc, text, frame.registers.as_slice())
 }

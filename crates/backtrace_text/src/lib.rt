@@ -11,5 +11,5 @@ mod writing;
 
 pub use ends::WalkEnd;
 pub use frames::{CodeLocation, NamedOffset, RegisterValue, ShownFrame};
-pub use names::push_name;
+pub use names::{FunctionNames, push_name};
 pub use writing::{write_end, write_frame, write_thread};

@@ -25,7 +25,7 @@ module _ {Rule R : Type 0} (stacks : StackMeanings Rule R) (process : CoreProces
   abbrev pub text_left : ℕ → Walk R → List ℕ
   text_left number walk =
       let seen = process_seen process in
-      lines_left (judge stacks.steps seen.modules) (stacks.interrupted seen.words) seen.words (shown_frame stacks seen options.registers) number (options.limit - number) walk
+      lines_left (judge stacks.steps seen.modules) (stacks.interrupted seen.words) seen.words (shown_frame stacks seen options.frames) number (options.limit - number) walk
 
   -- a walk that begins here is where a move left it, and the move gave this
   abbrev pub IsMoved : NextFrame R → StackWalk R → StackWalk R → Type 0
@@ -36,16 +36,16 @@ module _ {Rule R : Type 0} (stacks : StackMeanings Rule R) (process : CoreProces
       → text_left 0 (walk_of walk) ≡ walk_text stacks (process_seen process) options start
   begins_at walk start begun =
       let seen = process_seen process in
-      begins (judge stacks.steps seen.modules) (stacks.interrupted seen.words) seen.words (shown_frame stacks seen options.registers) (options.limit - 0) options.limit (walk_of walk) (walk_from start.pc start.registers) (omega arith) begun
+      begins (judge stacks.steps seen.modules) (stacks.interrupted seen.words) seen.words (shown_frame stacks seen options.frames) (options.limit - 0) options.limit (walk_of walk) (walk_from start.pc start.registers) (omega arith) begun
 
   -- a move that gives a frame
   pub frame_next : (number : ℕ) (old new : StackWalk R) (next : NextFrame R) (frame : WalkedFrame R) → number < options.limit → next ≡ Frame frame → IsMoved next old new
-      → text_left number (walk_of old) ≡ walked_text stacks process options.registers number frame ++ text_left (number + 1) (walk_of new)
+      → text_left number (walk_of old) ≡ walked_text stacks process options.frames number frame ++ text_left (number + 1) (walk_of new)
   frame_next number old new next frame within is moved =
       let seen = process_seen process in
       let one_more : options.limit - number ≡ suc (options.limit - (number + 1)) = omega arith in
-      goes_on (judge stacks.steps seen.modules) (stacks.interrupted seen.words) seen.words (shown_frame stacks seen options.registers) number _ _ (walk_of old) (walk_of new) (frame_seen frame)
-      (shown_frame stacks seen options.registers (frame_seen frame)) one_more (ap (λ (n : NextFrame R). record { next = next_seen n; walk = walk_of new }) (sym is) ∙ moved) refl
+      goes_on (judge stacks.steps seen.modules) (stacks.interrupted seen.words) seen.words (shown_frame stacks seen options.frames) number _ _ (walk_of old) (walk_of new) (frame_seen frame)
+      (shown_frame stacks seen options.frames (frame_seen frame)) one_more (ap (λ (n : NextFrame R). record { next = next_seen n; walk = walk_of new }) (sym is) ∙ moved) refl
 
   -- a move that gives the end
   pub end_next : (number : ℕ) (old new : StackWalk R) (next : NextFrame R) (end : WalkEnd) → number < options.limit → next ≡ End end → IsMoved next old new
@@ -53,7 +53,7 @@ module _ {Rule R : Type 0} (stacks : StackMeanings Rule R) (process : CoreProces
   end_next number old new next end within is moved =
       let seen = process_seen process in
       let one_more : options.limit - number ≡ suc (options.limit - (number + 1)) = omega arith in
-      ends (judge stacks.steps seen.modules) (stacks.interrupted seen.words) seen.words (shown_frame stacks seen options.registers) number _ _ (walk_of old) (walk_of new) end one_more
+      ends (judge stacks.steps seen.modules) (stacks.interrupted seen.words) seen.words (shown_frame stacks seen options.frames) number _ _ (walk_of old) (walk_of new) end one_more
       (ap (λ (n : NextFrame R). record { next = next_seen n; walk = walk_of new }) (sym is) ∙ moved)
 
   -- no move is left
@@ -61,4 +61,4 @@ module _ {Rule R : Type 0} (stacks : StackMeanings Rule R) (process : CoreProces
   limit_next number walk over =
       let seen = process_seen process in
       let none : options.limit - number ≡ zero = omega arith in
-      reaches_limit (judge stacks.steps seen.modules) (stacks.interrupted seen.words) seen.words (shown_frame stacks seen options.registers) number (options.limit - number) (walk_of walk) none
+      reaches_limit (judge stacks.steps seen.modules) (stacks.interrupted seen.words) seen.words (shown_frame stacks seen options.frames) number (options.limit - number) (walk_of walk) none

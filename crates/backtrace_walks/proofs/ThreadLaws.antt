@@ -50,4 +50,4 @@ module _ {Rule R : Type 0} (stacks : StackMeanings Rule R) (process : Process) (
   pub begins_with : (id : ℕ) (start : ThreadStart R) → text_from stacks process options id start ≡ thread_line id ++ walk_text stacks process options start
   begins_with id start =
       let stack = walk_of_thread stacks process options.limit start in
-      append_assoc (thread_line id) (frames_text 0 (map (shown_frame stacks process options.registers) stack.frames)) (end_text stack.end)
+      append_assoc (thread_line id) (frames_text 0 (map (shown_frame stacks process options.frames) stack.frames)) (end_text stack.end)

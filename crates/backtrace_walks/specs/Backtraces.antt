@@ -21,6 +21,7 @@ use Rattle.backtrace_walks.specs.Modules.{modules_of}
 use Rattle.backtrace_walks.specs.StackMeanings.{StackMeanings, advance_by, stack_by, stacks_aarch64, stacks_x86_64}
 use Rattle.backtrace_walks.specs.Walks.{Advance, FrameWith, Stack}
 use Rattle.backtrace_walks.specs.declared.backtraces.BacktraceOptions.{BacktraceOptions}
+use Rattle.backtrace_walks.specs.declared.backtraces.FrameOptions.{FrameOptions}
 use Rattle.backtrace_walks.specs.declared.registers.ThreadStart.{ThreadStart}
 
 -- What a process has: its files, the modules that these are, and the words of its memory.
@@ -52,18 +53,19 @@ abbrev pub location_of_frame : {Rule Registers : Type 0} → StackMeanings Rule 
 location_of_frame stacks process frame =
     location_or (stacks.interrupted process.words frame.frame.address frame.registers) process.files frame.frame.address (lookup_address frame.frame)
 
--- a frame as it is shown, with its registers or without
-abbrev pub shown_frame : {Rule Registers : Type 0} → StackMeanings Rule Registers → Process → Bool → FrameWith Registers → seen.Frame
-shown_frame stacks process with_registers frame = record {
+-- a frame as it is shown
+abbrev pub shown_frame : {Rule Registers : Type 0} → StackMeanings Rule Registers → Process → FrameOptions → FrameWith Registers → seen.Frame
+shown_frame stacks process options frame = record {
   location = location_of_frame stacks process frame;
-  registers = registers_if stacks with_registers frame.registers;
+  names = options.names;
+  registers = registers_if stacks options.registers frame.registers;
 }
 
 -- the frames of a walk with how it ends, as the backtrace of a thread
-abbrev pub shown_stack : {Rule Registers : Type 0} → StackMeanings Rule Registers → Process → Bool → ℕ → Stack Registers → Backtrace
-shown_stack stacks process with_registers thread stack = record {
+abbrev pub shown_stack : {Rule Registers : Type 0} → StackMeanings Rule Registers → Process → FrameOptions → ℕ → Stack Registers → Backtrace
+shown_stack stacks process options thread stack = record {
   thread = thread;
-  frames = map (shown_frame stacks process with_registers) stack.frames;
+  frames = map (shown_frame stacks process options) stack.frames;
   end = stack.end;
 }
 
@@ -79,7 +81,7 @@ advance_of_thread stacks process walk = advance_by stacks process.modules proces
 abbrev pub backtrace_from : {Rule Registers : Type 0} → StackMeanings Rule Registers → Process → BacktraceOptions → ℕ → ThreadStart Registers
     → Backtrace
 backtrace_from stacks process options thread start =
-    shown_stack stacks process options.registers thread (walk_of_thread stacks process options.limit start)
+    shown_stack stacks process options.frames thread (walk_of_thread stacks process options.limit start)
 
 -- a thread is asked for
 abbrev pub is_chosen : Option ℕ → ℕ → Bool

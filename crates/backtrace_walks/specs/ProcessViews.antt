@@ -1,5 +1,5 @@
 -- What contracts see of a process.
-use Rattle.std.specs.Prelude.{ℕ, Bool, List}
+use Rattle.std.specs.Prelude.{ℕ, List}
 use Rattle.backtrace_files.specs.FileViews.{files_seen}
 use Rattle.backtrace_text.specs.Frames.{frame_text}
 use Rattle.core_files.specs.MemoryViews.{word_of}
@@ -11,6 +11,7 @@ use Rattle.backtrace_walks.specs.SessionViews.{HasModules}
 use Rattle.backtrace_walks.specs.StackMeanings.{StackMeanings}
 use Rattle.backtrace_walks.specs.WalkedViews.{frame_seen}
 use Rattle.backtrace_walks.specs.declared.backtraces.CoreProcess.{CoreProcess}
+use Rattle.backtrace_walks.specs.declared.backtraces.FrameOptions.{FrameOptions}
 use Rattle.backtrace_walks.specs.declared.walks.WalkedFrame.{WalkedFrame}
 
 -- A process.
@@ -25,6 +26,7 @@ process_seen process = record {
 abbrev pub IsSessionOf : {Rule : Type 0} → CoreProcess → SessionState UnwindData Rule → Type 0
 IsSessionOf process session = HasModules (modules_of (files_seen process.files.now)) session
 
--- The lines of a frame of a process's stack of this number, with its registers or without.
-abbrev pub walked_text : {Rule Registers : Type 0} → StackMeanings Rule Registers → CoreProcess → Bool → ℕ → WalkedFrame Registers → List ℕ
-walked_text stacks process registers number frame = frame_text number (shown_frame stacks (process_seen process) registers (frame_seen frame))
+-- The lines of a frame of a process's stack of this number.
+abbrev pub walked_text : {Rule Registers : Type 0} → StackMeanings Rule Registers → CoreProcess → FrameOptions → ℕ → WalkedFrame Registers
+    → List ℕ
+walked_text stacks process options number frame = frame_text number (shown_frame stacks (process_seen process) options (frame_seen frame))

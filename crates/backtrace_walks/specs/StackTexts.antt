@@ -20,7 +20,7 @@ stack_text shown first stack = frames_text first (map shown stack.frames) ++ end
 -- those of the walk over a stack of a process from where a thread is
 abbrev pub walk_text : {Rule Registers : Type 0} → StackMeanings Rule Registers → Process → BacktraceOptions → ThreadStart Registers → List ℕ
 walk_text stacks process options start =
-    stack_text (shown_frame stacks process options.registers) 0 (walk_of_thread stacks process options.limit start)
+    stack_text (shown_frame stacks process options.frames) 0 (walk_of_thread stacks process options.limit start)
 
 -- the lines of a thread whose walk begins here
 abbrev pub text_from : {Rule Registers : Type 0} → StackMeanings Rule Registers → Process → BacktraceOptions → ℕ → ThreadStart Registers → List ℕ

@@ -10,9 +10,18 @@ ghost use Rattle.backtrace_walks.specs.WalkedViews.{frame_seen};
 use crate::arch::ThreadArch;
 use crate::walks::WalkedFrame;
 use backtrace_files::{LoadedFile, location_of};
-use backtrace_text::{CodeLocation, RegisterValue, ShownFrame};
+use backtrace_text::{CodeLocation, FunctionNames, RegisterValue, ShownFrame};
 use core_files::Memory;
 use std::alloc::{AllocError, Global};
+
+/// What is shown of each frame.
+#[derive(Clone, Copy, Debug, PartialEq, Eq)]
+pub struct FrameOptions {
+    /// Whether its registers are shown.
+    pub registers: bool,
+    /// How the name of its function is shown.
+    pub names: FunctionNames,
+}
 
 /// Which backtraces are asked for, and how much of each.
 #[derive(Clone, Copy, Debug, PartialEq, Eq)]
@@ -21,8 +30,8 @@ pub struct BacktraceOptions {
     pub thread: Option<u64>,
     /// The most frames of each thread.
     pub limit: u64,
-    /// Whether the registers of frames are shown.
-    pub registers: bool,
+    /// What is shown of each frame.
+    pub frames: FrameOptions,
 }
 
 /// What a process has: its files, and its memory.
@@ -65,18 +74,19 @@ fn location_of_frame<'a, A: ThreadArch>(
     }
 }
 
-/// A frame as it is shown, with its registers or without.
+/// A frame as it is shown.
 pub(crate) fn shown_frame<'a, A: ThreadArch>(
     alloc: Global,
     process: &CoreProcess<'_, '_, 'a>,
-    registers: bool,
+    options: FrameOptions,
     frame: &WalkedFrame<A::UnwindRegs>,
 ) -> Result<ShownFrame<'a>, AllocError>
     ensures { IfOkIs frame_view result
-        (shown_frame A.stacks (process_seen process.now) registers (frame_seen frame.now)) }
+        (shown_frame A.stacks (process_seen process.now) options (frame_seen frame.now)) }
 {
     Ok(ShownFrame {
         location: location_of_frame::<A>(process, frame),
-        registers: registers_if::<A>(alloc, registers, &frame.registers)?,
+        names: options.names,
+        registers: registers_if::<A>(alloc, options.registers, &frame.registers)?,
     })
 }

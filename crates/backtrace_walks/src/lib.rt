@@ -12,7 +12,7 @@ mod texts;
 mod walks;
 
 pub use arch::{FileModules, ThreadArch};
-pub use backtraces::{BacktraceOptions, CoreProcess};
+pub use backtraces::{BacktraceOptions, CoreProcess, FrameOptions};
 pub use registers::ThreadStart;
 pub use session::session_of;
 pub use stack_words::next_in_memory;

@@ -10,7 +10,7 @@ ghost use Rattle.backtrace_walks.specs.StackTexts.{text_from, thread_text, threa
 ghost use Rattle.backtrace_walks.specs.WalkedViews.{IsAdvance};
 
 use crate::arch::{FileModules, ThreadArch};
-use crate::backtraces::{BacktraceOptions, CoreProcess, shown_frame};
+use crate::backtraces::{BacktraceOptions, CoreProcess, FrameOptions, shown_frame};
 use crate::registers::ThreadStart;
 use crate::stack_words::next_in_memory;
 use crate::walks::{NextFrame, WalkedFrame};
@@ -38,17 +38,17 @@ fn next_in<'a, A: ThreadArch>(
 fn write_walked<A: ThreadArch, W: Sink>(
     alloc: Global,
     process: &CoreProcess<'_, '_, '_>,
-    registers: bool,
+    options: FrameOptions,
     number: u64,
     frame: &WalkedFrame<A::UnwindRegs>,
     sink: &mut W,
 ) -> Result<(), RunError>
     requires { W.has_failed sink.old ≡ false }
     ensures text { Writes W.contents sink.old sink.new result
-        (walked_text A.stacks process.now registers number frame.now) }
+        (walked_text A.stacks process.now options number frame.now) }
     ensures errors { ReportsFailures result false (W.has_failed sink.new) }
 {
-    let shown = shown_frame::<A>(alloc, process, registers, frame)?;
+    let shown = shown_frame::<A>(alloc, process, options, frame)?;
     write_frame(alloc, number, &shown, sink)
 }
 
@@ -72,7 +72,7 @@ fn write_walk<'a, A: ThreadArch, W: Sink>(
     for number in 0..options.limit {
         match next_in::<A>(session, process, &mut walk) {
             NextFrame::Frame(frame) => {
-                write_walked::<A, W>(alloc, process, options.registers, number, &frame, sink)?;
+                write_walked::<A, W>(alloc, process, options.frames, number, &frame, sink)?;
             }
             NextFrame::End(end) => return write_end(alloc, end, sink),
         }

@@ -1,8 +1,8 @@
 ghost use Rattle.std.specs.Prelude.{◌≡◌, false};
 
 use backtrace_text::{
-    CodeLocation, NamedOffset, RegisterValue, ShownFrame, WalkEnd, push_name, write_end,
-    write_frame, write_thread,
+    CodeLocation, FunctionNames, NamedOffset, RegisterValue, ShownFrame, WalkEnd, push_name,
+    write_end, write_frame, write_thread,
 };
 use framehop_registers::Error;
 use json_program::{RunError, Sink, Streamed};
@@ -10,12 +10,12 @@ use std::alloc::{AllocError, Global};
 use std::test::Fail;
 
 // The text of two threads, as gdb lays frames out: numbers in two columns, 16 digits of an address, `??` for a
-// function that isn't known, and its line for a signal's frame.
+// function that isn't known, and its line for a signal's frame. The name of the first function is as c++filt writes it.
 const EXPECTED: &str = "Thread 4711:
-#0  0x00007f2b6c0a9a7c in pthread_kill+0x12c from /lib/libc.so.6+0x969fc
+#0  0x00007f2b6c0a9a7c in Server::run(int) const+0x12c from /lib/libc.so.6+0x969fc
     rip 0x00007f2b6c0a9a7c rsp 0x00007ffd00000010
 #1  <signal handler called>
-#2  0x0000000000401136 in ?? from /srv/a b\\x0a+0x1136
+#2  0x0000000000401136 in _ZNK6Server3runEi+0x16 from /srv/a b\\x0a+0x1136
 #3  0x0000000000000001 in ??
 Backtrace stopped: could not read stack memory at 0x7ffd00001000
 Thread 12:
@@ -26,14 +26,20 @@ fn at(name: &'static [u8], offset: u64) -> Option<NamedOffset<'static>> {
     Some(NamedOffset { name, offset })
 }
 
-// A frame of a program without registers.
-fn code(alloc: Global, address: u64, file: Option<NamedOffset<'static>>) -> ShownFrame<'static> {
+// A frame of a program without registers, whose name is shown as it is.
+fn code(
+    alloc: Global,
+    address: u64,
+    function: Option<NamedOffset<'static>>,
+    file: Option<NamedOffset<'static>>,
+) -> ShownFrame<'static> {
     ShownFrame {
         location: CodeLocation::Code {
             address,
-            function: None,
+            function,
             file,
         },
+        names: FunctionNames::Raw,
         registers: Vec::new(alloc),
     }
 }
@@ -52,11 +58,12 @@ fn first_frame(alloc: Global) -> Result<ShownFrame<'static>, AllocError> {
     })?;
     let location = CodeLocation::Code {
         address,
-        function: at(b"pthread_kill", 0x12c),
+        function: at(b"_ZNK6Server3runEi", 0x12c),
         file: at(b"/lib/libc.so.6", 0x969fc),
     };
     Ok(ShownFrame {
         location,
+        names: FunctionNames::Demangled,
         registers,
     })
 }
@@ -67,10 +74,12 @@ fn interrupted(alloc: Global) -> Result<Vec<ShownFrame<'static>>, AllocError> {
     frames.push(first_frame(alloc)?)?;
     frames.push(ShownFrame {
         location: CodeLocation::SignalTrampoline,
+        names: FunctionNames::Demangled,
         registers: Vec::new(alloc),
     })?;
-    frames.push(code(alloc, 0x401136, at(b"/srv/a b\n", 0x1136)))?;
-    frames.push(code(alloc, 1, None))?;
+    let run = at(b"_ZNK6Server3runEi", 0x16);
+    frames.push(code(alloc, 0x401136, run, at(b"/srv/a b\n", 0x1136)))?;
+    frames.push(code(alloc, 1, None, None))?;
     Ok(frames)
 }
 

@@ -1,7 +1,8 @@
 //! Signed return addresses on aarch64.
 
 use crate::process::core_aarch64;
-use backtrace_walks::{BacktraceOptions, write_stacks};
+use backtrace_text::FunctionNames;
+use backtrace_walks::{BacktraceOptions, FrameOptions, write_stacks};
 use core_files::CoreFile;
 use json_program::Streamed;
 use std::alloc::Global;
@@ -29,7 +30,10 @@ fn expect(rt: &impl Abort, alloc: Global, masks: u32, expected: &str) -> Result<
     let options = BacktraceOptions {
         thread: None,
         limit: 16,
-        registers: true,
+        frames: FrameOptions {
+            registers: true,
+            names: FunctionNames::Demangled,
+        },
     };
     let mut sink = Streamed::new(Vec::new(alloc));
     write_stacks(alloc, &core, &[], &options, &mut sink)?;

@@ -2,7 +2,8 @@
 
 use crate::process::core_x86_64;
 use crate::program::program;
-use backtrace_walks::{BacktraceOptions, write_stacks};
+use backtrace_text::FunctionNames;
+use backtrace_walks::{BacktraceOptions, FrameOptions, write_stacks};
 use core_files::CoreFile;
 use json_program::Streamed;
 use std::alloc::Global;
@@ -13,7 +14,10 @@ use std::test::Fail;
 const ALL: BacktraceOptions = BacktraceOptions {
     thread: None,
     limit: 16,
-    registers: false,
+    frames: FrameOptions {
+        registers: false,
+        names: FunctionNames::Demangled,
+    },
 };
 
 const WHOLE: &str = "Thread 7:
@@ -80,7 +84,10 @@ fn of_one_thread_with_registers(rt: HostRuntime) -> Result<(), Fail> {
     let file = program(rt.alloc())?;
     let options = BacktraceOptions {
         thread: Some(9),
-        registers: true,
+        frames: FrameOptions {
+            registers: true,
+            names: FunctionNames::Raw,
+        },
         ..ALL
     };
     expect(

@@ -33,7 +33,7 @@ returns-in_err-write_walked-in-Frame-clause-text g c =
     let frame = c.in-Frame.frame in
     let moved = c.next_in in
     fails_in c.from_residual.result (g.W.Sink.contents c.args.sink.now) (g.W.Sink.contents l.sink) (g.W.Sink.contents c.write_walked.new.sink)
-    (text_left stacks process options l.number (walk_of l.walk)) (walked_text stacks process options.registers l.number frame)
+    (text_left stacks process options l.number (walk_of l.walk)) (walked_text stacks process options.frames l.number frame)
     (text_left stacks process options (l.number + 1) (walk_of moved.new.walk)) (walk_text stacks (process_seen process) options c.args.start.now) c.from_residual.ensures.0 l.invariant.stands
     (frame_next stacks process options l.number l.walk moved.new.walk moved.result frame c.loop-number-test.true c.in-Frame.is moved.ensures.next)
     c.in_err-write_walked-in-Frame.ensures.text.prefix
@@ -61,7 +61,7 @@ loop-number-preserved g c =
       failed = not_failed (g.W.Sink.has_failed c.write_walked.new.sink) c.in_ok-write_walked-in-Frame.ensures.errors.write;
       session = moved.ensures.session;
       stands = writes_more (g.W.Sink.contents c.args.sink.now) (g.W.Sink.contents l.sink) (g.W.Sink.contents c.write_walked.new.sink)
-          (text_left stacks process options l.number (walk_of l.walk)) (walked_text stacks process options.registers l.number frame)
+          (text_left stacks process options l.number (walk_of l.walk)) (walked_text stacks process options.frames l.number frame)
           (text_left stacks process options (l.number + 1) (walk_of moved.new.walk)) (walk_text stacks (process_seen process) options c.args.start.now) l.invariant.stands
           (frame_next stacks process options l.number l.walk moved.new.walk moved.result frame c.loop-number-test.true c.in-Frame.is moved.ensures.next)
           c.in_ok-write_walked-in-Frame.ensures.text.whole;
