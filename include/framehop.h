@@ -24,7 +24,8 @@
  *   They point to what their types say, and what a call writes overlaps nothing else that it is given.
  * - A framehop_session is FRAMEHOP_NO_SESSION at first, and then written by these calls alone. It isn't copied.
  * - Bytes of a module (framehop_section.bytes, not names) are lent by a load: they stay readable and unchanged until the session is
- *   freed, or each unwinder that has the module, clones too, has unloaded it or was let go.
+ *   freed, or each unwinder that has the module, clones too, has unloaded it or was let go. They are read by loads, and by steps and
+ *   walks of an unwinder that has the module.
  * - A session is in one call at a time. What a session counts it alone reaches, so that another thread may go on with it, after a lock,
  *   or a thread's start or join; two sessions share nothing, and work in two threads at once.
  * - No call is made from a signal handler, or in the child of a fork of a process with threads.
