@@ -110,20 +110,14 @@ def groups_of(text):
     return [group for group in groups if group.bars]
 
 
-def groups_of_roads(groups):
-    """Of these ratios the first of fresh steps by header, index and table, which `bench/tables` prints, by library."""
-    found = {}
-    for label, ratio in (bar for group in groups for bar in group.bars):
-        if match := re.fullmatch(r"(\S+), a fresh step (by (?:its header|an index|a table))", label):
-            found.setdefault(match[1], {}).setdefault(match[2], ratio)
-    return [Group(library, list(bars.items())) for library, bars in found.items()]
-
-
 # Sizes in pixels: labels end at LABELS, and the longest bar is BARS long.
 WIDTH, LABELS, BARS, ROW, MARGIN = 960, 470, 430, 20, 14
 
 
-def chart(groups, title="Time as a multiple of the original's; less is faster"):
+TITLE = "Time as a multiple of the original's; less is faster"
+
+
+def chart(groups):
     """A chart of the ratios as SVG: a bar for each, and a line at 1.0, the original's time."""
     top = max(ratio for group in groups for _, ratio in group.bars)
     scale = BARS / max(1.25, top)
@@ -148,7 +142,7 @@ def chart(groups, title="Time as a multiple of the original's; less is faster"):
         "<style>text{font:12px sans-serif;fill:#222}.title{font-weight:bold;font-size:14px}.heading{font-weight:bold}.axis{fill:#555}"
         ".less{fill:#4878a8}.more{fill:#c8843c}.one{stroke:#555;stroke-dasharray:4 3}</style>",
         '<rect width="100%" height="100%" fill="#fff"/>',
-        text(MARGIN, MARGIN + 12, title, ' class="title"'),
+        text(MARGIN, MARGIN + 12, TITLE, ' class="title"'),
         text(LABELS + scale, MARGIN + 30, "1.0", ' class="axis" text-anchor="middle"'),
         *(f'<path class="{kind}" d="{"".join(those)}"/>' for kind, those in bars.items() if those),
         *texts, '<g text-anchor="end">', *labels, "</g>",

@@ -13,8 +13,7 @@ from lib import contracts, figures, records
 from lib.tools import TOP, crates
 
 EVIDENCE, GATE, BENCHMARKS = (TOP / "docs" / f"{name}.md" for name in ("EVIDENCE", "GATE", "BENCHMARKS"))
-CHART, ROADS = TOP / "docs/speed.svg", TOP / "docs/tables.svg"
-ROADS_TITLE = "A fresh step, as a multiple of the original's time by the same or, for tables, by an index; less is faster"
+CHART = TOP / "docs/speed.svg"
 # Documents in which no figure with a comma is written by hand.
 COUNTED = ("README.md", "CONTRIBUTING.md", "docs/STATUS.md", "docs/GATE.md")
 INLINE = re.compile(r"<!-- count: (.+?) -->(.*?)<!-- end -->", re.S)
@@ -327,14 +326,13 @@ def heading_of(beginning):
 
 
 def charts():
-    """The charts of the ratios of walks and steps to the original, by the tables of the last whole run."""
+    """The chart of the ratios of walks and steps to the original, by the tables of the last whole run."""
     record, parts = records.named("bench"), []
     for table in record.tables:
         parts += ([f"## {table['heading']}", ""] if "heading" in table else []) + [figures.markdown_table(table["rows"]), ""]
     groups = figures.groups_of("\n".join(parts))
-    roads = figures.groups_of_roads(groups)
     walks = [group for group in groups if re.match("(x86_64|aarch64), by|Compact", group.heading)]
-    return {CHART: figures.chart(walks)} | ({ROADS: figures.chart(roads, ROADS_TITLE)} if roads else {})
+    return {CHART: figures.chart(walks)}
 
 
 # ---- writing
