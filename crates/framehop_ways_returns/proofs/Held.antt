@@ -1,6 +1,6 @@
 -- What the three registers hold after a way is what the machine has.
 use Rattle.std.proofs.Common.{◌≡◌, ◌∙◌, ℕ, refl, sym, ap, subst, arith, zero, suc, Bool, true, false, List, [], ◌∷◌, ◌++◌, length, Option, Some, None}
-use Rattle.std.specs.Prelude.{ℤ, pos, negsuc, ◌+ℤ◌, ◌-ℤ◌, ◌*ℤ◌, ◌==◌, ◌||◌, ◌&&◌, not, nat_lt, if◌then◌else◌, IsTrue, fold, option_and_then}
+use Rattle.std.specs.Prelude.{ℤ, pos, negsuc, ◌+ℤ◌, ◌-ℤ◌, ◌==◌, ◌||◌, not, nat_lt, if◌then◌else◌, IsTrue, option_and_then}
 use Rattle.std.proofs.lemmas.Bool.Decides.{Decides-eqb}
 use Rattle.std.proofs.lemmas.List.Sums.{fold-append}
 use Rattle.std.proofs.lemmas.Int.{ints}
@@ -8,13 +8,12 @@ use Rattle.framehop_registers.specs.RegistersAarch64.{stripped_address}
 use Rattle.framehop_registers.specs.declared.aarch64.unwindregs.PtrAuthMask.{PtrAuthMask}
 use Rattle.framehop_analysis.specs.MachineAarch64.{State, moved, put}
 use Rattle.framehop_analysis.specs.PrologueInstructionsAarch64.{register, with_word}
-use Rattle.framehop_ways_returns.specs.WayReturns.{base_in, with_base_in, gone_up, state_raised, first_address, second_address, state_after_load, stored_in, state_after_store, Keeps, Agrees, LoadsKept, IsStep, Runs}
-use Rattle.framehop_ways.specs.Values.{is_near, value_of, with_base, moved_by, raised, slot_at, is_apart, is_same_base, is_zero, value_behind, word_at, loaded_from, loaded, with_register, if_link_register, register_value, with_raised, values_after_load, is_carried, saved_in, saved_after, saved_after_store, value_if_kept, with_lost, held_after, held_after_all, values_now}
+use Rattle.framehop_ways_returns.specs.WayReturns.{base_in, with_base_in, gone_up, state_raised, first_address, second_address, state_after_load, stored_in, state_after_store, Agrees, LoadsKept, IsStep, Runs}
+use Rattle.framehop_ways.specs.Values.{is_near, value_of, with_base, moved_by, raised, slot_at, is_apart, is_same_base, is_zero, value_behind, word_at, loaded_from, loaded, with_register, if_link_register, register_value, with_raised, values_after_load, is_carried, saved_in, saved_after, saved_after_store, value_if_kept, with_lost, held_after, held_after_all}
 use Rattle.framehop_ways.specs.declared.executed.Executed.{Executed}
 use Rattle.framehop_ways.specs.declared.instruction.Access.{Access}
 use Rattle.framehop_ways.specs.declared.instruction.Base.{Base}
 use Rattle.framehop_ways.specs.declared.instruction.Base.TheVariants.{StackPointer, FramePointer}
-use Rattle.framehop_ways.specs.declared.instruction.Lost.{Lost}
 use Rattle.framehop_ways.specs.declared.instruction.Instruction.{Instruction}
 use Rattle.framehop_ways.specs.declared.instruction.Instruction.TheVariants.{Load, Store, Move, Sign, Call, Branch, BranchIf, Return, BranchAway, Plain, Unknown}
 use Rattle.framehop_ways.specs.declared.values.Value.{Value}

@@ -1,19 +1,19 @@
 -- What the rule of a way answers is where the machine is after the way.
-use Rattle.std.proofs.Common.{◌≡◌, ◌∙◌, ℕ, ◌*◌, ◌<◌, ◌^◌, refl, sym, ap, subst, arith, Bool, true, false, List, [], Option, Some, None}
+use Rattle.std.proofs.Common.{◌≡◌, ◌∙◌, ℕ, ◌*◌, ◌<◌, ◌^◌, refl, sym, ap, subst, arith, Bool, true, List, []}
 use Rattle.std.specs.Prelude.{ℤ, pos, negsuc, ◌+ℤ◌, ◌*ℤ◌, ◌==◌, ◌&&◌, ◌||◌, not, nat_le, if◌then◌else◌}
 use Rattle.framehop_registers.specs.Callback.{Words}
 use Rattle.framehop_registers.specs.RegistersAarch64.{stripped_address, mask_of, lr_of, sp_of, fp_of}
 use Rattle.framehop_registers.specs.declared.aarch64.unwindregs.UnwindRegsAarch64.{UnwindRegsAarch64}
 use Rattle.framehop_registers.specs.declared.error.Error.TheVariants.{DidNotAdvance, FramepointerUnwindingMovedBackwards}
-use Rattle.framehop_rules.specs.Outcome.{Outcome, Ends, Refuses, Answers, Caller, and_then, address, word}
-use Rattle.framehop_rules.specs.RuleMeaningAarch64.{CallerFrame, stored_word, stored_frame, if_chained, moves, return_address, caller_registers, returned_caller, rule_meaning}
+use Rattle.framehop_rules.specs.Outcome.{Outcome, Refuses, Answers, Caller, and_then, address, word}
+use Rattle.framehop_rules.specs.RuleMeaningAarch64.{CallerFrame, stored_word, stored_frame, if_chained, moves, return_address, caller_registers, returned_caller}
 use Rattle.framehop_rules.specs.declared.aarch64.unwind_rule.UnwindRuleAarch64.{UnwindRuleAarch64}
 use Rattle.framehop_rules.specs.declared.aarch64.unwind_rule.UnwindRuleAarch64.TheVariants.{NoOp, NoOpIfFirstFrameOtherwiseFp, OffsetSp, OffsetSpIfFirstFrameOtherwiseStackEndsHere, OffsetSpAndRestoreLr, OffsetSpAndRestoreFpAndLr, UseFramePointer, UseFramepointerWithOffsets}
-use Rattle.framehop_rules.proofs.Laws.{address-answers, and_then-answers, past-end, past-refusal, word-answers}
+use Rattle.framehop_rules.proofs.Laws.{and_then-answers, past-end, past-refusal, word-answers}
 use Rattle.framehop_analysis.specs.MachineAarch64.{State, moved, leave}
 use Rattle.framehop_analysis.specs.ReturnsAarch64.{IsAt, HasReturned}
-use Rattle.framehop_ways_returns.specs.WayReturns.{Runs, WayReturns}
-use Rattle.framehop_ways.specs.Values.{values_now, held_after_all, IsRuleOf, IsRuleOfWay}
+use Rattle.framehop_ways_returns.specs.WayReturns.{WayReturns}
+use Rattle.framehop_ways.specs.Values.{values_now, IsRuleOf, IsRuleOfWay}
 use Rattle.framehop_ways.specs.declared.executed.Executed.{Executed}
 use Rattle.framehop_ways.specs.declared.values.Values.{Values}
 use Rattle.framehop_ways_returns.proofs.Wrapped.{stays, not_wrapped}

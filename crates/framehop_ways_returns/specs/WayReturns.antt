@@ -13,7 +13,7 @@ use Rattle.framehop_rules.specs.declared.aarch64.unwind_rule.UnwindRuleAarch64.{
 use Rattle.framehop_analysis.specs.MachineAarch64.{State, moved, put, leave}
 use Rattle.framehop_analysis.specs.PrologueInstructionsAarch64.{register, with_word}
 use Rattle.framehop_analysis.specs.ReturnsAarch64.{IsAt, HasReturned}
-use Rattle.framehop_ways.specs.Values.{is_carried, IsRuleOfWay}
+use Rattle.framehop_ways.specs.Values.{is_carried}
 use Rattle.framehop_ways.specs.declared.executed.Executed.{Executed}
 use Rattle.framehop_ways.specs.declared.instruction.Access.{Access}
 use Rattle.framehop_ways.specs.declared.instruction.Base.{Base}
