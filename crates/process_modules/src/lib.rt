@@ -3,7 +3,6 @@
 #![tactic(auto)]
 
 mod modules;
-mod ranges;
 
 pub use modules::{CodePlace, FileBytes, ProcessModules};
-pub use ranges::{CodeRange, code_ranges};
+pub use process_ranges::{CodeRange, code_ranges};

@@ -1,11 +1,18 @@
 //! The modules of a process.
 
-use crate::ranges::{CodeRange, code_ranges};
+ghost use Rattle.std.specs.Prelude.{◌≡◌, IfOk, IfSome, OnErr, OnOk};
+ghost use Rattle.process_modules.specs.Modules.{IsPlace, IsRanges, no_modules};
+
 use backtrace_files::{FileSections, LoadedFile, loaded_code};
 use framehop::{FdeLookup, LoadOptions, Module, Session, UnwinderId, load_module};
 use perf_processes::MappedFile;
+use process_ranges::{
+    CodeRange, FoundRange, KnownRange, RangeCode, code_ranges, find_range, set_code,
+    with_known_code,
+};
 use sample_stacks::{SampleArch, SampleModules};
 use std::alloc::{AllocError, Global};
+use std::marker::Model;
 
 /// Where an address is in a file.
 #[derive(Clone, Copy, Debug, PartialEq, Eq)]
@@ -22,43 +29,21 @@ pub trait FileBytes {
     fn bytes_of(&mut self, file: u32) -> Result<Option<&'static [u8]>, AllocError>;
 }
 
-// The code of a range.
-#[derive(Clone, Copy, Debug, PartialEq, Eq)]
-enum RangeCode {
-    // No frame was there yet.
-    Untouched,
-    // The file isn't there, or has no code there.
-    Missing,
-    // Loaded as a module.
-    Loaded {
-        // Where the segment begins, as the file states it.
-        base_svma: u64,
-        // Where it begins in memory.
-        base_avma: u64,
-    },
-}
-
-// A range with its code.
-#[derive(Clone, Copy, Debug)]
-struct ModuleRange {
-    range: CodeRange,
-    code: RangeCode,
-}
-
 /// The modules of a process, and the unwinder of the session in which they are loaded.
 #[derive(Debug, Drop)]
 pub struct ProcessModules {
     unwinder: UnwinderId,
-    ranges: Vec<ModuleRange>,
+    ranges: Vec<KnownRange>,
 }
 
-// What was known of a range.
-fn code_of(ranges: &[ModuleRange], range: &CodeRange) -> RangeCode {
-    let index = ranges.partition_point(|known| known.range.start < range.start);
-    match ranges.get(index) {
-        Some(known) if known.range == *range => known.code,
-        _ => RangeCode::Untouched,
-    }
+/// They are the unwinder, and the addresses that are mapped from files.
+impl Model for ProcessModules {
+    ghost use Rattle.process_modules.specs.Modules.{ModuleRanges};
+    ghost use Rattle.process_ranges.specs.Known.{ranges_seen};
+
+    ghost Value = { ModuleRanges };
+
+    ghost view = { λ modules. record { unwinder = modules.unwinder; ranges = ranges_seen modules.ranges.items } };
 }
 
 // Whether a range is among others.
@@ -70,26 +55,30 @@ fn is_among(ranges: &[CodeRange], range: &CodeRange) -> bool {
     }
 }
 
-// Ranges with what was known of them.
-fn with_code(
-    alloc: Global,
-    ranges: &[CodeRange],
-    known: &[ModuleRange],
-) -> Result<Vec<ModuleRange>, AllocError> {
-    let mut found = Vec::with_capacity(alloc, ranges.len())?;
-    for range in ranges {
-        found.push(ModuleRange {
-            range: *range,
-            code: code_of(known, range),
-        })?;
-    }
-    Ok(found)
-}
-
 // The address as the file states it of an address in memory.
 fn stated(base_svma: u64, base_avma: u64, address: u64) -> Option<u64> {
     let relative = address.checked_sub(base_avma)?;
     base_svma.checked_add(relative)
+}
+
+// Where an address of a range is in the range's file, if it was loaded.
+fn place_in(range: &CodeRange, code: RangeCode, address: u64) -> Option<CodePlace>
+    ensures { IfSome result (λ place. place.file ≡ range.now.mapping.file) }
+{
+    let RangeCode::Loaded {
+        base_svma,
+        base_avma,
+    } = code
+    else {
+        return None;
+    };
+    match stated(base_svma, base_avma, address) {
+        Some(address) => Some(CodePlace {
+            file: range.mapping.file,
+            address,
+        }),
+        None => None,
+    }
 }
 
 // A module of a range of a file, and where its code is: none if the file has no code there.
@@ -129,7 +118,9 @@ fn module_of(
 
 impl ProcessModules {
     /// No modules, in an unwinder of the session.
-    pub fn new(alloc: Global, unwinder: UnwinderId) -> Self {
+    pub fn new(alloc: Global, unwinder: UnwinderId) -> Self
+        ensures { result ≡ no_modules unwinder }
+    {
         ProcessModules {
             unwinder,
             ranges: Vec::new(alloc),
@@ -137,7 +128,9 @@ impl ProcessModules {
     }
 
     /// The unwinder of the session in which they are loaded.
-    pub fn unwinder(&self) -> UnwinderId {
+    pub fn unwinder(&self) -> UnwinderId
+        ensures { result ≡ self.now.unwinder }
+    {
         self.unwinder
     }
 
@@ -167,22 +160,15 @@ impl ProcessModules {
         alloc: Global,
         session: &mut Session<SampleModules<'static, A>>,
         mappings: &[MappedFile],
-    ) -> Result<(), AllocError> {
+    ) -> Result<(), AllocError>
+        ensures ranges { OnOk result (IsRanges self.new.ranges mappings.now) }
+        ensures unwinder { self.new.unwinder ≡ self.old.unwinder }
+        ensures err { OnErr result (self.new ≡ self.old) }
+    {
         let ranges = code_ranges(alloc, mappings)?;
         self.unload_others::<A>(session, ranges.as_slice())?;
-        self.ranges = with_code(alloc, ranges.as_slice(), self.ranges.as_slice())?;
+        self.ranges = with_known_code(alloc, ranges.as_slice(), self.ranges.as_slice())?;
         Ok(())
-    }
-
-    // The index of the range that an address is in.
-    fn index_of(&self, address: u64) -> Option<usize> {
-        let index = self
-            .ranges
-            .partition_point(|known| known.range.end <= address);
-        match self.ranges.get(index) {
-            Some(known) if known.range.start <= address => Some(index),
-            _ => None,
-        }
     }
 
     // Loads the module of a range, if its file is there and has code.
@@ -206,6 +192,24 @@ impl ProcessModules {
         }
     }
 
+    // What the code of a range is. The module of its file is loaded, if it wasn't yet.
+    fn code_at<A: SampleArch, F: FileBytes>(
+        &mut self,
+        alloc: Global,
+        session: &mut Session<SampleModules<'static, A>>,
+        files: &mut F,
+        found: &FoundRange,
+    ) -> Result<RangeCode, AllocError>
+        ensures { self.new ≡ self.old }
+    {
+        let RangeCode::Untouched = found.known.code else {
+            return Ok(found.known.code);
+        };
+        let code = self.load::<A, F>(alloc, session, files, &found.known.range)?;
+        set_code(&mut self.ranges, found.index, code);
+        Ok(code)
+    }
+
     /// Where an address is in a file. The module of the file is loaded, if it wasn't yet: so the next step from a frame there is the one
     /// that it gives with all modules of the process.
     pub fn place_of<A: SampleArch, F: FileBytes>(
@@ -214,35 +218,14 @@ impl ProcessModules {
         session: &mut Session<SampleModules<'static, A>>,
         files: &mut F,
         address: u64,
-    ) -> Result<Option<CodePlace>, AllocError> {
-        let Some(index) = self.index_of(address) else {
+    ) -> Result<Option<CodePlace>, AllocError>
+        ensures same { self.new ≡ self.old }
+        ensures file { IfOk result (λ place. IsPlace address self.old.ranges place) }
+    {
+        let Some(found) = find_range(self.ranges.as_slice(), address) else {
             return Ok(None);
         };
-        let Some(known) = self.ranges.get(index).copied() else {
-            return Ok(None);
-        };
-        let code = match known.code {
-            RangeCode::Untouched => {
-                let code = self.load::<A, F>(alloc, session, files, &known.range)?;
-                if let Some(place) = self.ranges.get_mut(index) {
-                    place.code = code;
-                }
-                code
-            }
-            code => code,
-        };
-        match code {
-            RangeCode::Loaded {
-                base_svma,
-                base_avma,
-            } => match stated(base_svma, base_avma, address) {
-                Some(address) => Ok(Some(CodePlace {
-                    file: known.range.mapping.file,
-                    address,
-                })),
-                None => Ok(None),
-            },
-            _ => Ok(None),
-        }
+        let code = self.code_at::<A, F>(alloc, session, files, &found)?;
+        Ok(place_in(&found.known.range, code, address))
     }
 }
