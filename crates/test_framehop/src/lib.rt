@@ -8,6 +8,8 @@ mod histories;
 #[cfg(test)]
 mod in_place_vec;
 #[cfg(test)]
+mod let_go;
+#[cfg(test)]
 mod memory;
 mod pe_files;
 #[cfg(test)]
