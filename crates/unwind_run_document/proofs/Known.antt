@@ -25,7 +25,7 @@ use Rattle.unwind_run_document.specs.Sections.{sections_in, segments_in}
 use Rattle.unwind_run_document.specs.Sound.{IsSoundTask, IsSoundStep, IsSoundWalk, AreSoundRoads, AreSound}
 use Rattle.unwind_run_document.specs.Stacks.{words_in, stack_names, stack_at, stack_in}
 use Rattle.unwind_run_document.specs.Steps.{stepping_of, walking_of, limit_value, step_names, walk_names, step_in, walk_in}
-use Rattle.unwind_run_document.specs.Tasks.{Task, make_unwinder, make_cache, clone_unwinder, load_module, unload_module, take_step, take_walk, show_counts, take_roads, Stepping, Walking, Loading, Unloading, RoadSteps, StackWords}
+use Rattle.unwind_run_document.specs.Tasks.{Task, make_unwinder, make_cache, clone_unwinder, remove_unwinder, remove_cache, load_module, unload_module, take_step, take_walk, show_counts, take_roads, Stepping, Walking, Loading, Unloading, RoadSteps, StackWords}
 use Rattle.json_program.specs.Faults.{in_unit}
 use Rattle.unwind_run_document.specs.Document.{with_task, commands_from}
 
@@ -241,6 +241,12 @@ task_sound machine made d verb.Step task is =
 task_sound machine made d verb.Clone task is =
     let l = last_ok (Ok clone_unwinder) (one_number made.unwinders (codes "unwinder") d) task is in
     subst (IsSoundTask made) (sym (l.4 ∙ ap (λ g. g l.1) (sym (ok_is clone_unwinder l.0 l.2)))) (one_sound made.unwinders (codes "unwinder") d l.1 l.3)
+task_sound machine made d verb.RemoveUnwinder task is =
+    let l = last_ok (Ok remove_unwinder) (one_number made.unwinders (codes "unwinder") d) task is in
+    subst (IsSoundTask made) (sym (l.4 ∙ ap (λ g. g l.1) (sym (ok_is remove_unwinder l.0 l.2)))) (one_sound made.unwinders (codes "unwinder") d l.1 l.3)
+task_sound machine made d verb.RemoveCache task is =
+    let l = last_ok (Ok remove_cache) (one_number made.caches (codes "cache") d) task is in
+    subst (IsSoundTask made) (sym (l.4 ∙ ap (λ g. g l.1) (sym (ok_is remove_cache l.0 l.2)))) (one_sound made.caches (codes "cache") d l.1 l.3)
 task_sound machine made d verb.Unload task is =
     let l = last_ok (Ok unload_module) (unload_in made d) task is in
     subst (IsSoundTask made) (sym (l.4 ∙ ap (λ g. g l.1) (sym (ok_is unload_module l.0 l.2)))) (unload_sound made d l.1 l.3)

@@ -14,7 +14,7 @@ use Rattle.unwind_run_document.specs.declared.document.Document.{Document}
 use Rattle.unwind_run_document.specs.declared.made.Made as memory
 use Rattle.unwind_run_document.specs.Document.{Content}
 use Rattle.unwind_run_document.specs.Made.{Made}
-use Rattle.unwind_run_document.specs.Tasks.{StatedSection, Loading, Unloading, StackWords, Stepping, Walking, TableData, RoadSteps, Task, make_unwinder, make_cache, clone_unwinder, load_module, unload_module, take_step, take_walk, show_counts, take_roads}
+use Rattle.unwind_run_document.specs.Tasks.{StatedSection, Loading, Unloading, StackWords, Stepping, Walking, TableData, RoadSteps, Task, make_unwinder, make_cache, clone_unwinder, remove_unwinder, remove_cache, load_module, unload_module, take_step, take_walk, show_counts, take_roads}
 
 -- a section
 abbrev pub section_view : Section → StatedSection
@@ -93,6 +93,8 @@ abbrev pub task_of : Command → Task
 task_of commands.Unwinder = make_unwinder
 task_of (commands.Cache slots) = make_cache slots
 task_of (commands.Clone u) = clone_unwinder u
+task_of (commands.RemoveUnwinder u) = remove_unwinder u
+task_of (commands.RemoveCache c) = remove_cache c
 task_of (commands.Load l) = load_module (load_view l)
 task_of (commands.Unload u) = unload_module (unload_view u)
 task_of (commands.Step s) = take_step (step_view s)

@@ -12,7 +12,7 @@ use Rattle.unwind_run_document.specs.declared.command.Verb.{Verb}
 use Rattle.unwind_run_document.specs.declared.command.Verb.TheVariants as verb
 use Rattle.json_program.specs.Faults.{Checked, ◌⊛◌, ◌>>=◌}
 use Rattle.json_program.specs.Json.{number_value, text_value, field, has_only}
-use Rattle.unwind_run_document.specs.Tasks.{Task, make_unwinder, make_cache, clone_unwinder, load_module, unload_module, take_step, take_walk, show_counts, take_roads}
+use Rattle.unwind_run_document.specs.Tasks.{Task, make_unwinder, make_cache, clone_unwinder, remove_unwinder, remove_cache, load_module, unload_module, take_step, take_walk, show_counts, take_roads}
 use Rattle.unwind_run_document.specs.Made.{Made, one_number}
 use Rattle.unwind_run_document.specs.Steps.{step_in, walk_in}
 use Rattle.unwind_run_document.specs.Lookups.{roads_in}
@@ -24,6 +24,8 @@ verb_of text =
     if bytes_eq text (codes "unwinder") then Some verb.Unwinder
     else if bytes_eq text (codes "cache") then Some verb.Cache
     else if bytes_eq text (codes "clone") then Some verb.Clone
+    else if bytes_eq text (codes "remove_unwinder") then Some verb.RemoveUnwinder
+    else if bytes_eq text (codes "remove_cache") then Some verb.RemoveCache
     else if bytes_eq text (codes "load") then Some verb.Load
     else if bytes_eq text (codes "unload") then Some verb.Unload
     else if bytes_eq text (codes "step") then Some verb.Step
@@ -59,6 +61,8 @@ task_in machine made d verb.Unwinder = if has_only (codes "do" ∷ []) d then Ok
 task_in machine made d verb.Cache =
     if has_only (codes "do" ∷ codes "slots" ∷ []) d then Ok make_cache ⊛ slots_in (get (codes "slots") d) else Err BadCommand
 task_in machine made d verb.Clone = Ok clone_unwinder ⊛ one_number made.unwinders (codes "unwinder") d
+task_in machine made d verb.RemoveUnwinder = Ok remove_unwinder ⊛ one_number made.unwinders (codes "unwinder") d
+task_in machine made d verb.RemoveCache = Ok remove_cache ⊛ one_number made.caches (codes "cache") d
 task_in machine made d verb.Load = Ok load_module ⊛ load_in made d
 task_in machine made d verb.Unload = Ok unload_module ⊛ unload_in made d
 task_in machine made d verb.Step = Ok take_step ⊛ step_in machine made d

@@ -74,6 +74,8 @@ pub data Task : Type 0 where
   make_unwinder : Task
   make_cache : (slots : ℕ) → Task
   clone_unwinder : ℕ → Task
+  remove_unwinder : ℕ → Task
+  remove_cache : ℕ → Task
   load_module : Loading → Task
   unload_module : Unloading → Task
   take_step : Stepping → Task

@@ -33,6 +33,10 @@ pub enum Command {
     Cache(SlotCount),
     /// Makes the next unwinder, with the modules of the one of this number.
     Clone(usize),
+    /// Lets the unwinder of this number go.
+    RemoveUnwinder(usize),
+    /// Lets the cache of this number go.
+    RemoveCache(usize),
     /// Loads a module in an unwinder.
     Load(LoadCommand),
     /// Unloads a module.
@@ -188,6 +192,8 @@ pub(crate) enum Verb {
     Unwinder,
     Cache,
     Clone,
+    RemoveUnwinder,
+    RemoveCache,
     Load,
     Unload,
     Step,
@@ -204,6 +210,8 @@ fn verb_field(object: &Value) -> Checked<Verb>
         "unwinder" => Ok(Verb::Unwinder),
         "cache" => Ok(Verb::Cache),
         "clone" => Ok(Verb::Clone),
+        "remove_unwinder" => Ok(Verb::RemoveUnwinder),
+        "remove_cache" => Ok(Verb::RemoveCache),
         "load" => Ok(Verb::Load),
         "unload" => Ok(Verb::Unload),
         "step" => Ok(Verb::Step),
@@ -261,6 +269,11 @@ fn task_in(
         }
         Verb::Unwinder | Verb::Cache => Err(DecodeError::Fault(FaultName::BadCommand)),
         Verb::Clone => Ok(Command::Clone(one_number(object, "unwinder", made.unwinders)?)),
+        Verb::RemoveUnwinder => {
+            let unwinder = one_number(object, "unwinder", made.unwinders)?;
+            Ok(Command::RemoveUnwinder(unwinder))
+        }
+        Verb::RemoveCache => { Ok(Command::RemoveCache(one_number(object, "cache", made.caches)?)) }
         Verb::Load => Ok(Command::Load(load_in(alloc, object, made)?)),
         Verb::Unload => Ok(Command::Unload(unload_in(object, made)?)),
         Verb::Step => Ok(Command::Step(step_in(alloc, arch, object, made)?)),

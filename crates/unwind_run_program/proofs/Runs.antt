@@ -1,6 +1,6 @@
 -- How far a run has come, and what is left to write.
-use Rattle.std.proofs.Common.{◌≡◌, ℕ, List, [], ◌∷◌, ◌++◌, reverse, Bool, true, false, cond, Result, Option, Some, None, refl, sym, ◌∙◌, ap, subst}
-use Rattle.std.specs.Prelude.{option_map}
+use Rattle.std.proofs.Common.{◌≡◌, ℕ, List, [], ◌∷◌, ◌++◌, reverse, Bool, true, false, cond, Result, Ok, Err, Option, Some, None, refl, sym, ◌∙◌, ap, subst}
+use Rattle.std.specs.Prelude.{IfOk, option_map, string_bytes}
 use Rattle.std.specs.Io.KnownBytes.{Appends}
 use Rattle.std.proofs.lemmas.List.{reverse-append}
 use Rattle.json_program.proofs.Laws.{begun_line, written_more, written_all}
@@ -12,10 +12,11 @@ use Rattle.framehop_unwinder.specs.ByNumber.{mark, marks}
 use Rattle.framehop_unwinder.specs.History.{KeyHistory, HasHistoryIfHeld, HaveHistories}
 use Rattle.framehop_unwinder.specs.State.{SessionState}
 use Rattle.framehop_unwinder.specs.Progress.{SessionModel, IsAt}
-use Rattle.framehop_histories.specs.Commands.{Act, CommandState, Reply}
+use Rattle.framehop_histories.specs.Commands.{Act, CommandState, Reply, Unknown}
 use Rattle.framehop_histories.specs.Performs.{IsIn, IsObeyed}
 use Rattle.framehop_histories.specs.StateAfter.{state_after}
-use Rattle.unwind_run_session.specs.Outputs.{CommandOutput, IsOutput, is_refusal, output_of_act, text_for, without_walks}
+use Rattle.unwind_run_session.specs.Outputs.{CommandOutput, IsOutput, is_refusal, output_of_act, text_for, unknown_line, without_walks}
+use Rattle.unwind_run_session.specs.declared.commands.Written.{Written}
 use Rattle.framehop_registers.specs.declared.error.Error.{Error}
 use Rattle.unwind_run_document.specs.declared.command.Command.{Command}
 use Rattle.unwind_run_document.specs.Tasks.{Task}
@@ -58,6 +59,15 @@ act_output {Data} {Rule} {Registers} takes asks m act meant step_line p old new 
       model = subst (λ (r : Reply Registers). IsAt (state_after m act (without_walks p) (Some r)).model new) o.reply
           (record { unwinders = o.state.unwinders; next = o.state.next; histories = o.histories at.histories });
     })
+
+-- a command that names what was let go, and the line that says so
+pub unknown_output : {Data Rule Registers E : Type 0} (takes : Bool) (asks : Data → ℕ → Bool → Type 0) (m : Meanings Data Rule Registers) (act meant : Act Data Registers) (step_line : Result (Option ℕ) Error → Registers → List ℕ) (p : SessionModel Data) (old new : SessionState Data Rule) (result : Result Written E)
+    → act ≡ meant → IsAt p old → ((state : CommandState Data Registers) → IsIn state old [] → IsObeyed takes asks m act state old (Some Unknown) new [])
+    → IfOk result (λ written. string_bytes written.text ≡ unknown_line) → IfOk result (λ written. written.is_refused ≡ false)
+    → IfOk result (λ written. IsOutput (output_of_act m step_line meant p) (string_bytes written.text) written.is_refused new)
+unknown_output takes asks m act meant step_line p old new (Ok written) same at obeys text refused =
+    act_output takes asks m act meant step_line p old new Unknown (string_bytes written.text) written.is_refused same at obeys text refused
+unknown_output takes asks m act meant step_line p old new (Err error) same at obeys text refused = tt
 
 -- what is left to write once a command has written
 abbrev pub rest_of : {Data Rule Registers : Type 0} → Meanings Data Rule Registers → RegisterForms Registers → DataForms Data → CommandOutput Data → List Task → List ℕ

@@ -17,7 +17,7 @@ use Rattle.unwind_run_program.specs.Sections.{DataForms, data_stated, plain, sca
 use Rattle.framehop_unwinder.specs.Frames.{Frame, first_frame, later_frame}
 use Rattle.framehop_unwinder.specs.Judge.{judge}
 use Rattle.framehop_unwinder.specs.Modules.{Loaded}
-use Rattle.framehop_histories.specs.Commands.{NewUnwinder, NewCache, Clone, Load, Unload, Step}
+use Rattle.framehop_histories.specs.Commands.{NewUnwinder, NewCache, Clone, Load, RemoveCache, RemoveUnwinder, Unload, Step}
 use Rattle.unwind_run_document.specs.declared.command.FrameKind.{FrameKind}
 use Rattle.unwind_run_document.specs.declared.command.FrameKind.TheVariants.{Ip, Ra}
 use Rattle.unwind_run_document.specs.declared.document.Architecture.{Architecture}
@@ -25,7 +25,7 @@ use Rattle.unwind_run_document.specs.declared.document.Architecture.TheVariants 
 use Rattle.unwind_run_document.specs.declared.document.Policy.{Policy}
 use Rattle.unwind_run_document.specs.declared.document.Policy.TheVariants.{May, Must}
 use Rattle.unwind_run_document.specs.declared.registers.StatedRegisters.{StatedRegisters}
-use Rattle.unwind_run_document.specs.Tasks.{StackWords, Loading, RoadSteps, Task, make_unwinder, make_cache, clone_unwinder, load_module, unload_module, take_step, take_walk, show_counts, take_roads}
+use Rattle.unwind_run_document.specs.Tasks.{StackWords, Loading, RoadSteps, Task, make_unwinder, make_cache, clone_unwinder, remove_unwinder, remove_cache, load_module, unload_module, take_step, take_walk, show_counts, take_roads}
 use Rattle.unwind_run_document.specs.Document.{Content, content_of}
 use Rattle.unwind_run_program.specs.Lines.{outcome_line, step_line}
 use Rattle.unwind_run_program.specs.Registers.{RegisterForms, forms_aarch64, forms_x86_64}
@@ -86,6 +86,9 @@ abbrev pub output_of : {Data Rule Registers : Type 0} → Meanings Data Rule Reg
 output_of m forms data_of model make_unwinder = output_of_act m (step_line forms.text) NewUnwinder model
 output_of m forms data_of model (make_cache slots) = output_of_act m (step_line forms.text) (NewCache slots) model
 output_of m forms data_of model (clone_unwinder unwinder) = output_of_act m (step_line forms.text) (Clone unwinder) model
+output_of m forms data_of model (remove_unwinder unwinder) =
+    output_of_act m (step_line forms.text) (RemoveUnwinder unwinder) model
+output_of m forms data_of model (remove_cache cache) = output_of_act m (step_line forms.text) (RemoveCache cache) model
 output_of m forms data_of model (load_module l) =
     output_of_act m (step_line forms.text) (Load l.unwinder (loaded_by data_of l)) model
 output_of m forms data_of model (unload_module u) = output_of_act m (step_line forms.text) (Unload u.unwinder u.start) model

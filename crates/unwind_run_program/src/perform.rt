@@ -69,6 +69,8 @@ pub(crate) fn perform<A: DocumentModules>(
             commands::add_cache(session, alloc, slots, A::unwind_context(alloc)?)
         }
         Command::Clone(unwinder) => commands::clone_unwinder(session, alloc, unwinder),
+        Command::RemoveUnwinder(unwinder) => commands::remove_unwinder(session, alloc, unwinder),
+        Command::RemoveCache(cache) => commands::remove_cache(session, alloc, cache),
         Command::Load(load) => load_module(session, alloc, load),
         Command::Unload(unload) => commands::unload(session, alloc, unload.unwinder, unload.start),
         Command::Step(step) => take_step(session, alloc, &step),
@@ -94,7 +96,7 @@ fn load_module<A: DocumentModules>(
     commands::load(session, alloc, load.unwinder, module)
 }
 
-// Makes a step, and returns its line.
+// Makes a step, and returns its line, or that the unwinder or the cache was let go.
 fn take_step<A: DocumentModules>(
     session: &mut Session<A>,
     alloc: Global,
@@ -112,12 +114,18 @@ fn take_step<A: DocumentModules>(
         ensures same { stack.exit ≡ stack.entry }
     { word_at(stack, at) };
     let (unwinder, cache) = (step.unwinder, step.cache);
-    let answer = histories::step(session, unwinder, cache, address, regs, &mut read_stack);
-    let Answer::Stepped(answer, regs) = answer else {
-        return Err(AllocError);
-    };
-    let line = step_line::<A>(alloc, answer, regs)?;
-    Ok(Written::lines(line))
+    match histories::step(session, unwinder, cache, address, regs, &mut read_stack) {
+        Answer::Stepped(answer, regs) => {
+            let line = step_line::<A>(alloc, answer, regs)?;
+            Ok(Written::lines(line))
+        }
+        Answer::Unknown => Written::unknown(alloc),
+        Answer::Added
+        | Answer::Removed
+        | Answer::GenerationsExhausted
+        | Answer::OutOfMemory
+        | Answer::Moved(..) => Err(AllocError),
+    }
 }
 
 // Walks over frames, and returns their lines.

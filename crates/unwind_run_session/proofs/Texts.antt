@@ -1,5 +1,5 @@
 -- What is written for the answers to commands, and where the session is then.
-use Rattle.std.proofs.Common.{◌≡◌, ℕ, zero, suc, Bool, true, false, cond, List, [], ◌∷◌, Option, Some, None, Result, Ok, Err, IfOk, OnErr, refl, ap, subst, ◌∙◌}
+use Rattle.std.proofs.Common.{◌≡◌, ℕ, zero, suc, Bool, true, false, cond, List, [], ◌∷◌, Option, Some, None, Result, Ok, Err, IfOk, OnErr, refl, sym, ap, subst, ◌∙◌}
 use Rattle.std.specs.Prelude.{string_bytes, is_some, nat_lt, if◌then◌else◌, ◌^◌, ◌-◌, option_map, unwrap_or, IsErr}
 use Rattle.json_program.specs.Lines.{line}
 use Rattle.framehop_registers.specs.declared.error.Error.{Error}
@@ -11,14 +11,14 @@ use Rattle.framehop_unwinder.specs.IdViews.{FindsHeld}
 use Rattle.framehop_unwinder.specs.Modules.{Loaded, is_loaded_at}
 use Rattle.framehop_unwinder.specs.Progress.{SessionModel, IsAt}
 use Rattle.framehop_unwinder.specs.State.{SessionState}
-use Rattle.framehop_histories.specs.Commands.{Act, NewUnwinder, Load, Unload, Clone, CommandState, Reply, Added, Removed, Unknown, Exhausted, Stepped, Moved, if_known, if_left, modules_of, reply_to}
+use Rattle.framehop_histories.specs.Commands.{Act, NewUnwinder, Load, Unload, Clone, RemoveCache, RemoveUnwinder, CommandState, Reply, Added, Removed, Unknown, Exhausted, Stepped, Moved, if_known, if_left, modules_of, reply_to}
 use Rattle.framehop_histories.specs.CommandViews.{reply_of}
 use Rattle.framehop_histories.specs.Performs.{IsIn, IsObeyed, StaysUnlessDone}
 use Rattle.framehop_histories.specs.StateAfter.{state_after}
 use Rattle.framehop_histories.specs.declared.commands.Answer.{Answer}
 use Rattle.framehop_histories.specs.declared.commands.Answer.TheVariants as answers
 use Rattle.unwind_run_session.specs.Lines.{counts_text}
-use Rattle.unwind_run_session.specs.Outputs.{counts_lines, IsUndone, IsWrittenFor, OutputsAct, is_refusal, next_state, text_for, without_walks}
+use Rattle.unwind_run_session.specs.Outputs.{CommandOutput, IsOutput, counts_lines, unknown_line, IsUndone, IsWrittenFor, OutputsAct, is_refusal, next_state, text_for, without_walks}
 use Rattle.unwind_run_session.specs.declared.commands.Written.{Written}
 
 -- a history is there as its cache is
@@ -49,16 +49,25 @@ counts-there [] (cache ∷ caches) i h there = absurd h
 counts-there (history ∷ histories) (cache ∷ caches) zero h there = counts-of history cache h.0 there
 counts-there (history ∷ histories) (cache ∷ caches) (suc i) h there = counts-there histories caches i h.1 there
 
-no-counts-of : {Rule : Type 0} (history : Option KeyHistory) (cache : Option (Kept Rule)) → HasHistoryIfHeld history cache → is_some cache ≡ false → counts_lines history ≡ []
+no-counts-of : {Rule : Type 0} (history : Option KeyHistory) (cache : Option (Kept Rule)) → HasHistoryIfHeld history cache → is_some cache ≡ false → counts_lines history ≡ unknown_line
 no-counts-of None cache h gone = refl
 no-counts-of (Some history) None h gone = absurd h
 no-counts-of (Some history) (Some cache) h gone = absurd (let no : true ≡ false = gone in cc)
 
-pub counts-gone : {Rule : Type 0} (histories : List (Option KeyHistory)) (caches : List (Option (Kept Rule))) (i : ℕ) → HaveHistories histories caches → is_held caches i ≡ false → counts_lines (held histories i) ≡ []
+pub counts-gone : {Rule : Type 0} (histories : List (Option KeyHistory)) (caches : List (Option (Kept Rule))) (i : ℕ) → HaveHistories histories caches → is_held caches i ≡ false → counts_lines (held histories i) ≡ unknown_line
 counts-gone [] caches i h gone = refl
 counts-gone (history ∷ histories) [] i h gone = absurd h
 counts-gone (history ∷ histories) (cache ∷ caches) zero h gone = no-counts-of history cache h.0 gone
 counts-gone (history ∷ histories) (cache ∷ caches) (suc i) h gone = counts-gone histories caches i h.1 gone
+
+-- the line of a command that names what was let go is written, and nothing is changed
+pub unknown-output : {D R E : Type 0} (result : Result Written E) (output : CommandOutput D) (session : SessionState D R)
+    → IfOk result (λ written. string_bytes written.text ≡ unknown_line) → IfOk result (λ written. written.is_refused ≡ false)
+    → output.text ≡ unknown_line → output.is_refused ≡ false → IsAt output.model session
+    → IfOk result (λ written. IsOutput output (string_bytes written.text) written.is_refused session)
+unknown-output (Ok written) output session text refused is-text is-refused at =
+    record { text = text ∙ sym is-text; is_refused = refused ∙ sym is-refused; model = at }
+unknown-output (Err error) output session text refused is-text is-refused at = tt
 
 -- a call that found what it names
 pub was-found : {X A E : Type 0} (there : Bool) (result : Result A E) (old new : X) (answer : A) → FindsHeld there result old new → result ≡ Ok answer → there ≡ true
@@ -95,6 +104,10 @@ unloaded-plain : {Regs : Type 0} (has : Bool) (reply : Reply Regs) → is_plain 
 unloaded-plain true reply is = is
 unloaded-plain false reply is = refl
 
+removed-plain : (Regs : Type 0) (there : Bool) → is_plain {Regs = Regs} (cond there Removed Unknown) ≡ true
+removed-plain Regs true = refl
+removed-plain Regs false = refl
+
 module _ {D R Regs : Type 0} (m : Meanings D R Regs) where
   pub unwinder-plain : (state : CommandState D Regs) → is_plain (reply_to m NewUnwinder state) ≡ true
   unwinder-plain state = left-plain (nat_lt state.model.next (2 ^ 64 - 1)) Added refl
@@ -109,6 +122,12 @@ module _ {D R Regs : Type 0} (m : Meanings D R Regs) where
 
   pub clone-plain : (i : ℕ) (state : CommandState D Regs) → is_plain (reply_to m (Clone i) state) ≡ true
   clone-plain i state = known-plain (modules_of state i) (λ modules. Added) (λ modules. refl)
+
+  pub remove_unwinder-plain : (i : ℕ) (state : CommandState D Regs) → is_plain (reply_to m (RemoveUnwinder i) state) ≡ true
+  remove_unwinder-plain i state = known-plain (modules_of state i) (λ modules. Removed) (λ modules. refl)
+
+  pub remove_cache-plain : (i : ℕ) (state : CommandState D Regs) → is_plain (reply_to m (RemoveCache i) state) ≡ true
+  remove_cache-plain i state = removed-plain Regs (is_held state.model.histories i)
 
 -- a plain reply has this text
 written-for : {Regs : Type 0} (step_line : Result (Option ℕ) Error → Regs → List ℕ) (reply : Reply Regs) (text : List ℕ) (refused : Bool) → is_plain reply ≡ true → IsWrittenFor (Some reply) text refused

@@ -33,6 +33,10 @@ pub record CommandOutput (Data : Type 0) : Type 0 where
 abbrev pub writes : {Data : Type 0} → List ℕ → SessionModel Data → CommandOutput Data
 writes text model = record { text = text; is_refused = false; model = model }
 
+-- the line of a command that names what was let go
+abbrev pub unknown_line : List ℕ
+unknown_line = line (codes "unknown")
+
 -- the line of a move: its frame, the end of the stack, or why it stops
 abbrev pub move_line : Result (Option Frame) Error → List ℕ
 move_line (Ok (Some frame)) = line (frame_text frame)
@@ -43,7 +47,7 @@ move_line (Err error) = line (codes "stop " ++ error_name error)
 abbrev pub text_for : {Registers : Type 0} → (Result (Option ℕ) Error → Registers → List ℕ) → Reply Registers → List ℕ
 text_for step_line Added = []
 text_for step_line Removed = []
-text_for step_line Unknown = []
+text_for step_line Unknown = unknown_line
 text_for step_line Exhausted = line (codes "refused GenerationsExhausted")
 text_for step_line (Stepped answer registers) = step_line answer registers
 text_for step_line (Moved answer registers) = move_line answer
@@ -71,9 +75,9 @@ output_of_act m step_line act model = record {
   model = (next_state m act (without_walks model)).model;
 }
 
--- the line of the counts of a cache, if it is there
+-- the line of the counts of a cache, or that it was let go
 abbrev pub counts_lines : Option KeyHistory → List ℕ
-counts_lines None = []
+counts_lines None = unknown_line
 counts_lines (Some history) = line (counts_text history.counts)
 
 -- the counts of a cache
@@ -91,11 +95,11 @@ gives_frame (Moved (Ok (Some frame)) registers) = true
 gives_frame (Moved (Ok None) registers) = false
 gives_frame (Moved (Err error) registers) = false
 
--- the line for a move of a walk
+-- the line for a move of a walk, or that what it names was let go
 abbrev pub line_for : {Registers : Type 0} → Reply Registers → List ℕ
 line_for Added = []
 line_for Removed = []
-line_for Unknown = []
+line_for Unknown = unknown_line
 line_for Exhausted = []
 line_for (Stepped answer registers) = []
 line_for (Moved answer registers) = move_line answer
@@ -148,7 +152,7 @@ abbrev pub IsWrittenFor : {Registers : Type 0} → Option (Reply Registers) → 
 IsWrittenFor None text refused = ⊥
 IsWrittenFor (Some Added) text refused = (text ≡ []) × (refused ≡ false)
 IsWrittenFor (Some Removed) text refused = (text ≡ []) × (refused ≡ false)
-IsWrittenFor (Some Unknown) text refused = (text ≡ []) × (refused ≡ false)
+IsWrittenFor (Some Unknown) text refused = (text ≡ unknown_line) × (refused ≡ false)
 IsWrittenFor (Some Exhausted) text refused = (text ≡ line (codes "refused GenerationsExhausted")) × (refused ≡ true)
 IsWrittenFor (Some (Stepped answer registers)) text refused = Unit {0}
 IsWrittenFor (Some (Moved answer registers)) text refused = Unit {0}

@@ -4,7 +4,7 @@ ghost use Rattle.std.specs.Prelude.{◌≡◌, [], false, true, codes, IfOk, OnE
 ghost use Rattle.json_program.specs.Lines.{line};
 ghost use Rattle.framehop_registers.specs.Callback.{Words, AnswersBy};
 ghost use Rattle.framehop_histories.specs.CommandViews.{reply_of};
-ghost use Rattle.framehop_histories.specs.Commands.{NewUnwinder, NewCache, Clone, Load, Unload};
+ghost use Rattle.framehop_histories.specs.Commands.{NewUnwinder, NewCache, Clone, Load, RemoveCache, RemoveUnwinder, Unload};
 ghost use Rattle.framehop_histories.specs.Performs.{LoadsStay};
 ghost use Rattle.unwind_run_session.specs.Outputs.{IsAppendedFor, IsUndone, IsWrittenFor, Outputs, OutputsAct, output_of_stats, output_of_walk};
 
@@ -42,6 +42,15 @@ impl Written {
         }
     }
 
+    /// A command that names an unwinder or a cache that was let go.
+    pub fn unknown(alloc: Global) -> Result<Written, AllocError>
+        ensures text { IfOk result (λ written.
+            string_bytes written.text ≡ line (codes "unknown")) }
+        ensures refused { IfOk result (λ written. written.is_refused ≡ false) }
+    {
+        Ok(Written::lines(String::from_str(alloc, "unknown\n")?))
+    }
+
     // A command that needs a generation when the counter has none left.
     fn refused(alloc: Global) -> Result<Written, AllocError>
         ensures text { IfOk result (λ written.
@@ -64,7 +73,8 @@ impl Written {
         match answer {
             Answer::GenerationsExhausted => Written::refused(alloc),
             Answer::OutOfMemory => Err(AllocError),
-            Answer::Added | Answer::Removed | Answer::Unknown => Ok(Written::nothing(alloc)),
+            Answer::Unknown => Written::unknown(alloc),
+            Answer::Added | Answer::Removed => Ok(Written::nothing(alloc)),
             Answer::Stepped(..) | Answer::Moved(..) => Ok(Written::nothing(alloc)),
         }
     }
@@ -110,6 +120,33 @@ pub fn clone_unwinder<A: ModuleUnwinding>(
     Written::of_answer(alloc, answer)
 }
 
+/// Lets an unwinder go. A call that fails leaves the session.
+pub fn remove_unwinder<A: ModuleUnwinding>(
+    session: &mut Session<A>,
+    alloc: Global,
+    unwinder: usize,
+) -> Result<Written, AllocError>
+    ensures output { OutputsAct A.meanings (RemoveUnwinder unwinder)
+        session.old session.new result }
+    ensures refused { OnErr result (session.new ≡ session.old) }
+{
+    let answer = histories::remove_unwinder(session, unwinder);
+    Written::of_answer(alloc, answer)
+}
+
+/// Lets a cache go. A call that fails leaves the session.
+pub fn remove_cache<A: ModuleUnwinding>(
+    session: &mut Session<A>,
+    alloc: Global,
+    cache: usize,
+) -> Result<Written, AllocError>
+    ensures output { OutputsAct A.meanings (RemoveCache cache) session.old session.new result }
+    ensures refused { OnErr result (session.new ≡ session.old) }
+{
+    let answer = histories::remove_cache(session, cache);
+    Written::of_answer(alloc, answer)
+}
+
 /// Loads a module in an unwinder. A call that fails leaves the session.
 pub fn load<A: ModuleUnwinding>(
     session: &mut Session<A>,
@@ -139,7 +176,7 @@ pub fn unload<A: ModuleUnwinding>(
     Written::of_answer(alloc, answer)
 }
 
-/// Shows the counts of a cache, if it is there.
+/// Shows the counts of a cache, or that it was let go.
 pub fn stats<A: ModuleUnwinding>(
     session: &mut Session<A>,
     alloc: Global,
@@ -149,7 +186,7 @@ pub fn stats<A: ModuleUnwinding>(
     ensures same { session.new ≡ session.old }
 {
     let Ok(counts) = session.stats(CacheId::numbered(cache)) else {
-        return Ok(Written::nothing(alloc));
+        return Written::unknown(alloc);
     };
     let line = counts_line(alloc, counts)?;
     Ok(Written::lines(line))
@@ -179,11 +216,13 @@ fn push_move<R: Copy>(
             text.push_str(stop_line(alloc, error)?.as_str())?;
             Ok(false)
         }
-        Answer::Added
-        | Answer::Removed
-        | Answer::Unknown
-        | Answer::GenerationsExhausted
-        | Answer::Stepped(..) => Ok(false),
+        Answer::Unknown => {
+            text.push_str("unknown\n")?;
+            Ok(false)
+        }
+        Answer::Added | Answer::Removed | Answer::GenerationsExhausted | Answer::Stepped(..) => {
+            Ok(false)
+        }
     }
 }
 
@@ -198,8 +237,8 @@ pub struct LimitedWalk<R: Copy> {
     pub regs: R,
 }
 
-/// Walks over frames up to a limit, and returns a line for each frame and one for how the walk ends. A call
-/// that fails leaves the unwinders and the counter.
+/// Walks over frames up to a limit, and returns a line for each frame and one for how the walk ends, or that the
+/// unwinder or the cache was let go. A call that fails leaves the unwinders and the counter.
 pub fn walk<A: ModuleUnwinding, F: FnMut(u64) -> Result<u64, ()>>(
     session: &mut Session<A>,
     alloc: Global,

@@ -8,6 +8,7 @@ mod lines;
 
 pub use alone::step_alone;
 pub use commands::{
-    LimitedWalk, Written, add_cache, add_unwinder, clone_unwinder, load, stats, unload, walk,
+    LimitedWalk, Written, add_cache, add_unwinder, clone_unwinder, load, remove_cache,
+    remove_unwinder, stats, unload, walk,
 };
 pub use lines::ErrorName;

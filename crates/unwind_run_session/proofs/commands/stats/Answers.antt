@@ -1,22 +1,20 @@
-use Rattle.std.proofs.Common.{◌≡◌, ◌∙◌, ap, sym, subst, false, true}
+use Rattle.std.proofs.Common.{◌≡◌, ◌∙◌, ap, refl, sym, subst, false, true}
 use Rattle.std.specs.Prelude.{string_bytes}
 use Rattle.json_program.specs.Lines.{line}
 use Rattle.framehop_rules.specs.declared.rule_cache.CacheStats.{CacheStats}
 use Rattle.framehop_unwinder.specs.ByNumber.{is_held}
 use Rattle.framehop_unwinder.specs.History.{history_at}
 use Rattle.unwind_run_session.specs.Lines.{counts_text}
-use Rattle.unwind_run_session.proofs.Texts.{counts-gone, counts-there, was-found}
+use Rattle.unwind_run_session.specs.Outputs.{output_of_stats}
+use Rattle.unwind_run_session.proofs.Texts.{counts-gone, counts-there, unknown-output, was-found}
 use Rattle.unwind_run_session.proofs.commands.stats.Goals as goal
 
 pub returns-in_default-clause-output : goal.returns-in_default-clause-output
 returns-in_default-clause-output g c = λ model at.
     let caches = c.args.session.now.caches in
     let gone : is_held caches c.args.cache ≡ false = subst (λ k. is_held caches k ≡ false) c.numbered.ensures c.in_default.ensures.found.only in
-    record {
-      text = c.nothing.ensures.text ∙ sym (counts-gone model.histories caches c.args.cache at.histories gone);
-      is_refused = c.nothing.ensures.refused;
-      model = at;
-    }
+    unknown-output c.unknown.result (output_of_stats c.args.cache model) c.args.session.now c.unknown.ensures.text c.unknown.ensures.refused
+    (counts-gone model.histories caches c.args.cache at.histories gone) refl at
 
 pub returns-clause-output : goal.returns-clause-output
 returns-clause-output g c = λ model at.
