@@ -8,18 +8,28 @@ mod process;
 mod profiler;
 
 use anyhow::Result;
+use framehop::x86_64::ArchX86_64;
+use framehop::{BySections, DwarfUnwindContext, MayAllocateDuringUnwind};
 use process::{SAMPLES, library, other_library};
 use profiler::Profiler;
 
 // example: begin
+/// Modules that are unwound by their sections, on x86_64.
+type Sections = BySections<ArchX86_64, Vec<u8>, MayAllocateDuringUnwind>;
+
 fn main(rt: HostRuntime) -> Result<()> {
-    let mut profiler = Profiler::new(rt.alloc())?;
+    let unwind_context = DwarfUnwindContext::new(rt.alloc())?;
+    let mut profiler = Profiler::<Sections>::new(rt.alloc(), unwind_context)?;
     let one = profiler.start(rt.alloc(), library(rt.alloc())?)?;
     let other = profiler.start(rt.alloc(), other_library(rt.alloc())?)?;
     for process in [one, other, one] {
         for sample in &SAMPLES {
-            for address in profiler.addresses(rt.alloc(), process, sample)? {
+            let frames = profiler.frames(rt.alloc(), process, sample, sample.regs())?;
+            for address in &frames.addresses {
                 println!(rt; "{address:#x}")?;
+            }
+            if !frames.is_complete {
+                println!(rt; "..")?;
             }
         }
     }

@@ -1,20 +1,32 @@
 //! What a profiler knows of a process: a library, the stack of a thread, and the registers of two samples of it.
 
+ghost use Rattle.std.specs.Prelude.{◌≡◌};
+ghost use Rattle.framehop_registers.specs.Callback.{read_answer};
+ghost use Rattle.example_profiler.specs.Stacks.{words_of};
+
 use anyhow::Result;
+use framehop::x86_64::UnwindRegsX86_64;
 use framehop::{ExplicitModuleSectionInfo, LoadOptions, Module, load_module};
 use std::alloc::Global;
 
 /// The registers of a thread that was stopped, and its stack.
 pub struct Sample {
     pub ip: u64,
-    pub sp: u64,
-    pub bp: u64,
+    sp: u64,
+    bp: u64,
     stack: [u64; 16],
 }
 
 impl Sample {
+    /// The registers.
+    pub fn regs(&self) -> UnwindRegsX86_64 {
+        UnwindRegsX86_64::new(self.ip, self.sp, self.bp)
+    }
+
     /// The word of the stack at an address. `Err` if there is none. The stack begins at address 0.
-    pub fn word_at(&self, address: u64) -> std::result::Result<u64, ()> {
+    pub fn word_at(&self, address: u64) -> std::result::Result<u64, ()>
+        ensures { result ≡ read_answer (words_of self.now address) }
+    {
         if address % 8 != 0 {
             return Err(());
         }

@@ -1,0 +1,6 @@
+mod Calls
+mod FrameLaws
+mod Held
+mod MoveLaws
+mod ProcessLaws
+mod StillCallback
