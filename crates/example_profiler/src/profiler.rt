@@ -30,6 +30,7 @@ pub struct Frames {
     pub addresses: Vec<u64>,
     pub is_complete: bool,
 }
+// example: end
 
 impl<A: ModuleUnwinding> Profiler<A> {
     /// A profiler of no process, with this room for its cache.
@@ -66,6 +67,7 @@ impl<A: ModuleUnwinding> Profiler<A> {
         Ok(())
     }
 
+    // example: begin
     /// The frames of a sample, which was taken in a process with these registers: those of a walk by the
     /// modules of this process.
     pub fn frames(
@@ -106,8 +108,8 @@ impl<A: ModuleUnwinding> Profiler<A> {
         }
         Ok(frames)
     }
+    // example: end
 }
-// example: end
 
 impl<A: ModuleUnwinding> Profiler<A> {
     /// How many look-ups found a rule.
