@@ -11,7 +11,7 @@ def families():
     """Each heading with the names of its crates, in the order of crates.txt."""
     known, found = crates(), []
     for line in (TOP / "crates.txt").read_text().splitlines():
-        name = line.partition(":")[0].strip()
+        name = line.partition(":")[0].removesuffix(" staticlib").strip()
         if heading := HEADING.match(line):
             found.append((heading[1], []))
         elif name in known:
