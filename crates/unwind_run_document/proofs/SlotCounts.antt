@@ -1,10 +1,10 @@
 -- Whether a cache can have so many slots, as a test.
-use Rattle.std.proofs.Common.{◌≡◌, ℕ, zero, suc, ◌+◌, ◌<◌, ◌≤◌, ◌^◌, ◌⊎◌, inl, inr, Bool, true, false, sym, ap, ◌∙◌, refl, arith}
+use Rattle.std.proofs.Common.{◌≡◌, ℕ, zero, suc, ◌+◌, ◌<◌, ◌≤◌, ◌^◌, ◌⊎◌, inl, inr, Bool, true, false, ap, ◌∙◌, refl, arith}
 use Rattle.std.specs.Prelude.{◌==◌, ◌||◌}
 use Rattle.std.specs.List.{list_any, range_with_len}
 use Rattle.std.proofs.lemmas.Bool.{cases_lt, eq-eqb}
 use Rattle.std.proofs.lemmas.Bool.Decides.{Decides-eqb}
-use Rattle.framehop_rules.specs.Slots.{IsSlotCount, IsCountOfPairs}
+use Rattle.framehop_rules.specs.Slots.{IsSlotCount}
 use Rattle.unwind_run_document.specs.Commands.{is_slot_count}
 
 -- A number is a power of two, with an exponent from one on, of so many.

@@ -1,6 +1,6 @@
 -- What a run writes for a document: the lines of each step, walk and count and of the steps by each lookup, or the line of the
 -- document's first fault.
-use Rattle.std.specs.Prelude.{ℕ, Bool, ◌-◌, ◌/◌, ◌%◌, List, [], ◌∷◌, ◌++◌, ◌&&◌, codes, None, Result, Ok, Err, slice_get, ◌==◌, nat_le, if◌then◌else◌}
+use Rattle.std.specs.Prelude.{ℕ, ◌-◌, ◌/◌, ◌%◌, List, [], ◌∷◌, ◌++◌, ◌&&◌, codes, None, Result, Ok, Err, slice_get, ◌==◌, nat_le, if◌then◌else◌}
 use Rattle.json_program.specs.Faults.{fault_line}
 use Rattle.json_program.specs.Lines.{line}
 use Rattle.json_program.specs.declared.fault.Fault.{Fault}

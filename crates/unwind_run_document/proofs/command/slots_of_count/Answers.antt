@@ -1,4 +1,4 @@
-use Rattle.std.proofs.Common.{◌≡◌, ℕ, Ok, ap, refl, true, false}
+use Rattle.std.proofs.Common.{◌≡◌, Ok, ap, refl, true, false}
 use Rattle.framehop_rules.specs.Slots.{IsSlotCount}
 use Rattle.unwind_run_document.proofs.SlotCounts.{counted, uncounted}
 use Rattle.unwind_run_document.proofs.command.slots_of_count.Goals as goal

@@ -1,6 +1,5 @@
 use Rattle.std.proofs.Common.{◌≡◌, ◌∙◌, subst}
 use Rattle.framehop_histories.specs.Commands.{Load}
-use Rattle.framehop_unwinder.specs.Modules.{Loaded}
 use Rattle.unwind_run_document.specs.CommandViews.{load_view}
 use Rattle.unwind_run_session.specs.Outputs.{Outputs, output_of_act}
 use Rattle.unwind_run_program.specs.Lines.{step_line}
