@@ -29,6 +29,10 @@ walk_of walk = record { position = place_of walk.state; registers = walk.regs }
 abbrev pub walk_from : {Registers : Type 0} → ℕ → Registers → Walk Registers
 walk_from pc registers = record { position = Starts pc; registers = registers }
 
+-- a walk that is at a frame
+abbrev pub walk_at : {Registers : Type 0} → Frame → Registers → Walk Registers
+walk_at frame registers = record { position = At frame; registers = registers }
+
 -- unless it is out of memory, a move from one walk to another is the one that these judgments give
 abbrev pub MovesAs : {Registers : Type 0} → Judgment Registers → Words → Walk Registers → Result (Option FrameAddress) Error → Walk Registers → Type 0
 MovesAs judgment words old result new =

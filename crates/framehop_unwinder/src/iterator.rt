@@ -7,7 +7,7 @@ ghost use Rattle.framehop_unwinder.specs.Modules.{AreOneBook};
 ghost use Rattle.framehop_unwinder.specs.Moves.{MoveAsks, MovesCache, MovesOn};
 ghost use Rattle.framehop_unwinder.specs.Trials.{wants_memory};
 ghost use Rattle.framehop_unwinder.specs.Walk.{At, Over};
-ghost use Rattle.framehop_unwinder.specs.WalkViews.{MovesOverWords, place_of, frame_answer, walk_from, walk_of};
+ghost use Rattle.framehop_unwinder.specs.WalkViews.{MovesOverWords, place_of, frame_answer, walk_at, walk_from, walk_of};
 
 use crate::unwinders::Unwinder;
 use framehop_rules::{Error, FrameAddress};
@@ -69,6 +69,17 @@ impl<R: Copy> StackWalk<R> {
     {
         StackWalk {
             state: UnwindIteratorState::Initial(pc),
+            regs,
+        }
+    }
+
+    /// A walk that is at a frame with these registers: its first move is the step from there. This is for a caller who has found
+    /// a frame by himself, as the one that called a null pointer: its return address is in the word at SP, or in LR.
+    pub fn at(address: FrameAddress, regs: R) -> Self
+        ensures { walk_of result ≡ walk_at (frame_of address) regs }
+    {
+        StackWalk {
+            state: UnwindIteratorState::Unwinding(address),
             regs,
         }
     }
