@@ -1,23 +1,16 @@
-//! Shows what is read in the recording that the argument names: its header, events, records with their samples, and in the order of time
-//! what was mapped where each sample was taken. `scripts/perf-recordings` writes what a second reader reads there.
-#![tactic(auto)]
+//! Recordings of perf.
 
-mod events;
-mod mapped;
-mod records;
-mod samples;
-mod text;
-
-use anyhow::{Context, Result};
-use events::{file_events, pipe_events, show_events, show_features};
-use mapped::show_mapped;
+use crate::events::{file_events, pipe_events, show_events, show_features};
+use crate::mapped::show_mapped;
+use crate::records::show_records;
+use anyhow::Result;
 use perf_files::{PerfHeader, Section, read_header};
-use records::show_records;
-use std::{env, fs};
 
 const PIPE_HEADER_SIZE: u64 = 16;
 
-fn show_file(rt: &HostRuntime, bytes: &[u8]) -> Result<()> {
+/// Shows the header of a recording, its events, its records with their samples, and in the order of time what was mapped where each
+/// sample was taken.
+pub(crate) fn show_recording(rt: &HostRuntime, bytes: &[u8]) -> Result<()> {
     let header = match read_header(bytes) {
         Ok(header) => header,
         Err(refusal) => {
@@ -50,11 +43,4 @@ fn show_file(rt: &HostRuntime, bytes: &[u8]) -> Result<()> {
             show_mapped(rt, bytes, data, &events)
         }
     }
-}
-
-fn main(rt: HostRuntime) -> Result<()> {
-    let words: Vec<String> = env::args(&rt)?.collect(rt.alloc())?;
-    let path = words.get(1).context("no file is named")?;
-    let bytes = fs::read(&rt, path.as_str())?;
-    show_file(&rt, bytes.as_slice())
 }

@@ -1,11 +1,9 @@
-//! Writes each line of the input as the text of the mangled name that it is, or as it is if it isn't one that is
-//! understood, as `c++filt` does. `scripts/symbol-names` writes what `c++filt` writes.
-#![tactic(auto)]
+//! Mangled names.
 
 use anyhow::Result;
 use std::alloc::Global;
 use std::io;
-use std::io::{BufWriter, Read, Write};
+use std::io::{BufWriter, Write};
 use symbol_names::demangled;
 
 fn write_line<W: Write>(out: &mut W, line: &[u8]) -> io::Result<()> {
@@ -21,11 +19,10 @@ fn show_name<W: Write>(alloc: Global, out: &mut W, name: &str) -> Result<()> {
     Ok(())
 }
 
-fn main(rt: HostRuntime) -> Result<()> {
-    let mut input = Vec::new(rt.alloc());
-    rt.reader().read_to_end(&mut input)?;
-    let mut out = BufWriter::new(rt.alloc(), io::writer(&rt))?;
-    for line in str::from_utf8(&input)?.lines() {
+/// Writes each line as the text of the mangled name that it is, or as it is if it isn't one that is understood, as `c++filt` does.
+pub(crate) fn show_names(rt: &HostRuntime, lines: &[u8]) -> Result<()> {
+    let mut out = BufWriter::new(rt.alloc(), io::writer(rt))?;
+    for line in str::from_utf8(lines)?.lines() {
         show_name(rt.alloc(), &mut out, line)?;
     }
     out.flush()?;

@@ -1,15 +1,15 @@
-//! Writes the boxes of each line of the input, which has stacks with their counts between tabs; or with three arguments the picture of
-//! the stacks in a file that has a line for each, as `stackcollapse` scripts write them: the first names it, the second is the
-//! direction, `flame` or `icicle`, and the third the title. `scripts/flame-graphs` writes what a second reader finds.
-#![tactic(auto)]
+//! Stacks with their counts.
 
 use anyhow::{Context, Result, bail};
 use flame_graph::{
     Direction, FlameBox, FlameError, FoldedStack, Picture, flame_boxes, flame_graph,
 };
 use std::alloc::Global;
-use std::io::{BufWriter, Read, Write};
-use std::{env, fs, io};
+use std::io;
+use std::io::{BufWriter, Write};
+
+// The title of a picture.
+const TITLE: &[u8] = b"A title & <more>";
 
 // A stack and its count.
 fn stack_of(alloc: Global, line: &str) -> Result<FoldedStack> {
@@ -58,30 +58,21 @@ fn show_boxes<W: Write>(alloc: Global, out: &mut W, line: &str) -> Result<()> {
     Ok(())
 }
 
-fn show_rows(rt: &HostRuntime) -> Result<()> {
-    let mut input = Vec::new(rt.alloc());
-    rt.reader().read_to_end(&mut input)?;
+/// Writes the boxes of each line, which has stacks with their counts between tabs.
+pub(crate) fn show_stacks(rt: &HostRuntime, lines: &[u8]) -> Result<()> {
     let mut out = BufWriter::new(rt.alloc(), io::writer(rt))?;
-    for line in str::from_utf8(&input)?.lines() {
+    for line in str::from_utf8(lines)?.lines() {
         show_boxes(rt.alloc(), &mut out, line)?;
     }
     out.flush()?;
     Ok(())
 }
 
-fn direction_of(word: &str) -> Result<Direction> {
-    match word {
-        "flame" => Ok(Direction::Flame),
-        "icicle" => Ok(Direction::Icicle),
-        _ => bail!("a direction is flame or icicle"),
-    }
-}
-
-fn show_picture(rt: &HostRuntime, path: &str, direction: Direction, title: &str) -> Result<()> {
-    let bytes = fs::read(rt, path)?;
-    let stacks = stacks_between(rt.alloc(), str::from_utf8(&bytes)?, '\n')?;
+/// Writes the picture of stacks, of which each line has one, as `stackcollapse` scripts write them.
+pub(crate) fn show_picture(rt: &HostRuntime, lines: &[u8], direction: Direction) -> Result<()> {
+    let stacks = stacks_between(rt.alloc(), str::from_utf8(lines)?, '\n')?;
     let picture = Picture {
-        title: title.as_bytes(),
+        title: TITLE,
         unit: b"samples",
         direction,
     };
@@ -90,14 +81,4 @@ fn show_picture(rt: &HostRuntime, path: &str, direction: Direction, title: &str)
     out.write_all(&text)?;
     out.flush()?;
     Ok(())
-}
-
-fn main(rt: HostRuntime) -> Result<()> {
-    let words: Vec<String> = env::args(&rt)?.collect(rt.alloc())?;
-    let Some(path) = words.get(1) else {
-        return show_rows(&rt);
-    };
-    let direction = words.get(2).context("no direction is named")?;
-    let title = words.get(3).context("no title is given")?;
-    show_picture(&rt, path, direction_of(direction)?, title)
 }
