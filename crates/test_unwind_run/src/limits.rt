@@ -1,5 +1,5 @@
 //! Documents at the limits of length and of the number of commands, and one that is no text. All
-//! others are rows of `cases_unwind_run`.
+//! others are rows of `cases_unwinding`.
 
 use std::alloc::Global;
 use std::io;

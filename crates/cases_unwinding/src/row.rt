@@ -5,7 +5,7 @@ ghost use Rattle.serde_json.specs.Read.{read as read_text};
 ghost use Rattle.serde_json.specs.View.{view};
 ghost use Rattle.unwind_run_program.specs.Text.{ending_of, text_of};
 ghost use Rattle.json_program.specs.declared.status.Outcome.TheVariants.{Completed, Faulted};
-ghost use Rattle.cases_unwind_run.specs.Wanted.{document_of, is_wanted, number_field, text_field};
+ghost use Rattle.cases_unwinding.specs.Wanted.{document_of, is_wanted, number_field, text_field};
 
 use anyhow::{Context, Result};
 use serde_json::Value;

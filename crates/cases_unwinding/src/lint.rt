@@ -1,13 +1,10 @@
-//! Prints what `backtrace --lint` finds in each file of the input, whose lines have a name and the bytes of a file in hexadecimal
-//! digits. `scripts/lint-files` writes them.
-#![tactic(auto)]
+//! What `backtrace --lint` finds.
 
 use anyhow::{Context, Result};
 use backtrace_lint::lint_text;
-use std::io::Read;
 
 // The findings of the file of a line.
-fn show_findings(rt: &HostRuntime, line: &str) -> Result<()> {
+fn show_file(rt: &HostRuntime, line: &str) -> Result<()> {
     let mut words = line.split(' ');
     let name = words.next().context("name")?;
     let bytes = hex::decode(rt.alloc(), words.next().context("bytes")?.as_bytes())?;
@@ -21,11 +18,10 @@ fn show_findings(rt: &HostRuntime, line: &str) -> Result<()> {
     Ok(())
 }
 
-fn main(rt: HostRuntime) -> Result<()> {
-    let mut input = Vec::new(rt.alloc());
-    rt.reader().read_to_end(&mut input)?;
-    for line in str::from_utf8(&input)?.lines() {
-        show_findings(&rt, line)?;
+/// Prints what is found in the file of each line, which has a name and the bytes of a file in hexadecimal digits.
+pub(crate) fn show_findings(rt: &HostRuntime, lines: &str) -> Result<()> {
+    for line in lines.lines() {
+        show_file(rt, line)?;
     }
     Ok(())
 }

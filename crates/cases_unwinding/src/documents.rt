@@ -1,18 +1,14 @@
-//! Runs the documents of `data/rows.jsonl` and compares what is written, and the exit status, with those that the row states.
-//! It prints a line for each mismatch, and last how many rows there were and how many mismatches.
-#![tactic(auto)]
+//! Runs of documents.
 
-mod row;
-
+use crate::row::Row;
 use anyhow::Result;
-use row::Row;
-use std::fs;
 
-fn main(rt: HostRuntime) -> Result<()> {
-    let text = fs::read_to_string(&rt, "rows.jsonl")?;
+/// Runs the document of each line, and compares what is written, and the exit status, with those that the line states. Prints a line for
+/// each mismatch, and last how many rows there were and how many mismatches.
+pub(crate) fn show_documents(rt: &HostRuntime, lines: &str) -> Result<()> {
     let mut rows = 0usize;
     let mut mismatches = 0usize;
-    for line in text.as_str().lines() {
+    for line in lines.lines() {
         let row = Row::parse(rt.alloc(), line)?;
         let answer = row.run(rt.alloc())?;
         if !row.wants(&answer) {

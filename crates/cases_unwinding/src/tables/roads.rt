@@ -1,8 +1,8 @@
 //! The modules that steps are compared in, and the steps.
 
-use crate::arch::ComparedArch;
-use crate::case::Case;
-use crate::frames::{BASE, Frame, word_at};
+use crate::tables::arch::ComparedArch;
+use crate::tables::case::Case;
+use crate::tables::frames::{BASE, Frame, word_at};
 use anyhow::{Result, bail};
 use framehop::{
     Arch, BySections, Cache, DwarfUnwindContext, Error, ExplicitModuleSectionInfo, FdeLookup,

@@ -1,0 +1,41 @@
+//! Shows what becomes of worked cases, which are in the files that the arguments name, each after its kind:
+//!
+//! - `tables`: modules with a table of rules, a line each, whose steps are compared with those by an index, a header and a scan.
+//!   `scripts/table-roads` writes them.
+//! - `lint`: files, a line each, and what `backtrace --lint` finds in each. `scripts/lint-files` writes them.
+//! - `documents`: documents with what a run of each has to write, a line each. A line is printed for each mismatch, and last how many
+//!   rows there were and how many mismatches.
+#![tactic(auto)]
+
+mod documents;
+mod lint;
+mod row;
+mod tables;
+
+use anyhow::{Result, bail};
+use documents::show_documents;
+use lint::show_findings;
+use std::{env, fs};
+use tables::show_tables;
+
+// Shows the cases of a kind.
+fn show(rt: &HostRuntime, kind: &str, path: &str) -> Result<()> {
+    let text = fs::read_to_string(rt, path)?;
+    match kind {
+        "tables" => show_tables(rt, text.as_str()),
+        "lint" => show_findings(rt, text.as_str()),
+        "documents" => show_documents(rt, text.as_str()),
+        _ => bail!("a kind is tables, lint or documents"),
+    }
+}
+
+fn main(rt: HostRuntime) -> Result<()> {
+    let words: Vec<String> = env::args(&rt)?.skip(1).collect(rt.alloc())?;
+    for pair in words.chunks(2) {
+        match pair {
+            [kind, path] => show(&rt, kind, path)?,
+            _ => bail!("each kind has a file"),
+        }
+    }
+    Ok(())
+}

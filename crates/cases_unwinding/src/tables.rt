@@ -1,0 +1,27 @@
+//! Steps in a module with a table of rules, and those by an index, a header and a scan.
+
+mod arch;
+mod case;
+mod frames;
+mod roads;
+
+use anyhow::Result;
+use case::Case;
+use framehop::aarch64::ArchAarch64;
+use framehop::x86_64::ArchX86_64;
+use roads::show_steps;
+
+/// Compares the steps for each line, which is as [`Case::parse`] reads it. Prints how many steps were made in how many modules and how
+/// many of them gave a caller, and before it each step that isn't as by the index.
+pub(crate) fn show_tables(rt: &HostRuntime, lines: &str) -> Result<()> {
+    for line in lines.lines() {
+        let case = Case::parse(rt.alloc(), line)?;
+        let shown = if case.is_aarch64 {
+            show_steps::<ArchAarch64>(rt.alloc(), &case)?
+        } else {
+            show_steps::<ArchX86_64>(rt.alloc(), &case)?
+        };
+        print!(rt; "{shown}")?;
+    }
+    Ok(())
+}
