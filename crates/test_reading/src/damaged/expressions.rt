@@ -1,7 +1,7 @@
 //! Values of expressions.
 
-use crate::readings::{OverReaders, Reading, check_all};
-use crate::values::{COUNT, EXPRESSIONS, PLT};
+use crate::damaged::readings::{OverReaders, Reading, check_all};
+use crate::damaged::values::{COUNT, EXPRESSIONS, PLT};
 use dwarf_constants::{Encoding, Error, Format, Result as Answer};
 use dwarf_expressions::{Evaluation, EvaluationResult, Expression, StoreOnHeap, Value};
 use dwarf_readers::Reader;

@@ -1,6 +1,6 @@
 //! What expressions and compact unwind info have, of which bytes are missing or wrong. Written by scripts/damaged-sections.
 
-use crate::readings::Readings;
+use crate::damaged::readings::Readings;
 
 /// The value of an expression with registers.
 pub static PLT: Readings = Readings {

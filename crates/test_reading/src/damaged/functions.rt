@@ -1,7 +1,7 @@
 //! Functions of addresses in compact unwind info.
 
-use crate::readings::{Check, check_all};
-use crate::values::{COMPACT, TABLES, UNSORTED_INDEX, UNSORTED_PAGE};
+use crate::damaged::readings::{Check, check_all};
+use crate::damaged::values::{COMPACT, TABLES, UNSORTED_INDEX, UNSORTED_PAGE};
 use framehop_compact_tables::{CompactFormatError, Function, UnwindInfo, is_increasing};
 use std::alloc::Global;
 use std::process::Abort;
