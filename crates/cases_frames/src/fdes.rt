@@ -8,7 +8,7 @@ use dwarf_frame_entries::{
 };
 use dwarf_readers::Reader;
 use std::alloc::Global;
-use test_frame_rows::line_of;
+use test_call_frames::line_of;
 
 // How many rows of an entry are shown at most.
 const MOST_ROWS: usize = 100_000;

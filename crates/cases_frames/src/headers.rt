@@ -10,7 +10,7 @@ use dwarf_frame_entries::{
 use dwarf_frame_rows::StoreOnHeap;
 use dwarf_readers::{EndianSlice, LittleEndian};
 use std::alloc::Global;
-use test_frame_rows::answer_line;
+use test_call_frames::answer_line;
 
 /// A header, its `.eh_frame`, and addresses.
 #[derive(Drop)]

@@ -1,6 +1,7 @@
 //! The rows of entries for addresses.
 
 use super::listed::fde_at;
+use crate::answer_line;
 use dwarf_constants::Vendor;
 use dwarf_frame_entries::{BaseAddresses, EhFrame, UnwindContext, UnwindContextStorage};
 use dwarf_frame_rows::StoreOnHeap;
@@ -8,7 +9,6 @@ use dwarf_offsets::EhFrameOffset;
 use dwarf_readers::{LittleEndian, Reader, ReaderOffset};
 use std::alloc::Global;
 use std::test::Fail;
-use test_frame_rows::answer_line;
 use test_readers::WORKED;
 
 // The worked section with DW_CFA_restore in the CIE, where there is no rule to restore.

@@ -5,7 +5,7 @@ use anyhow::Result;
 use dwarf_frame_entries::{BaseAddresses, UnwindContext, UnwindContextStorage, UnwindSection};
 use dwarf_readers::{Reader, ReaderOffset};
 use std::alloc::Global;
-use test_frame_rows::answer_line;
+use test_call_frames::answer_line;
 
 // Adds an address, and the offset of the FDE for it or an error.
 fn show_fde<R: Reader, Section: UnwindSection<R>>(

@@ -8,7 +8,7 @@ use dwarf_frame_entries::{
 };
 use dwarf_readers::{Reader, ReaderOffset};
 use std::alloc::Global;
-use test_frame_rows::answer_line;
+use test_call_frames::answer_line;
 
 // Adds a line for each address: the row for it, or the error.
 fn show_addresses<R: Reader, S: UnwindContextStorage<R::Offset>, Section: UnwindSection<R>>(
