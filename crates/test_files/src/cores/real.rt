@@ -1,8 +1,8 @@
 //! Cores that gdb and qemu made, and such that are cut off or changed.
 
-use crate::expected::{expect_notes, notes_end, refusal};
-use crate::listed::Listed;
-use crate::real_cores::{AARCH64, X86_64};
+use crate::cores::expected::{expect_notes, notes_end, refusal};
+use crate::cores::listed::Listed;
+use crate::cores::real_cores::{AARCH64, X86_64};
 use core_files::{CoreError, CoreFile, DescriptorError};
 use elf_files::{ElfError, ElfFile, Machine};
 use std::alloc::Global;

@@ -1,6 +1,6 @@
 //! A small file, byte by byte by the System V gABI, and what it has.
 
-use crate::real_files::{FileSeen, SectionSeen};
+use crate::elf::real_files::{FileSeen, SectionSeen};
 use elf_files::{FileKind, Machine, SectionKind, Segment, SegmentKind, Symbol, SymbolKind};
 
 /// A shared object of x86_64 with a function `f` from 0x1000 to 0x1020, and the build id aa bb cc.

@@ -1,6 +1,6 @@
 //! Counts and an index that only the section header at index 0 has.
 
-use crate::worked::worked_with;
+use crate::elf::worked::worked_with;
 use elf_files::ElfFile;
 use std::test::Fail;
 

@@ -1,6 +1,6 @@
 //! Files that are refused, each for one reason, and parts of files that can't be read.
 
-use crate::worked::worked_with;
+use crate::elf::worked::worked_with;
 use elf_files::{ElfError, ElfFile};
 use std::process::Abort;
 use std::test::Fail;

@@ -1,7 +1,7 @@
 // Core files that gdb 13.1 and qemu 7.2 made of a program of two threads, cut to what is read, with what gdb says of the process
 // on x86_64, and what eu-readelf 0.188 reads in the whole core on aarch64. `scripts/cores` prints this file.
 
-use crate::listed::Listed;
+use crate::cores::listed::Listed;
 
 pub static X86_64: Listed = Listed {
     bytes: &[

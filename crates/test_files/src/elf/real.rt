@@ -1,7 +1,7 @@
 //! Small shared objects, as readelf reads them, and the worked file.
 
-use crate::real_files::{AARCH64, FileSeen, STRIPPED, SectionSeen, X86_64};
-use crate::worked::{WORKED, WORKED_SEEN};
+use crate::elf::real_files::{AARCH64, FileSeen, STRIPPED, SectionSeen, X86_64};
+use crate::elf::worked::{WORKED, WORKED_SEEN};
 use elf_files::{ElfFile, Section, SectionKind, Segment, SegmentKind};
 use std::process::Abort;
 use std::test::Fail;

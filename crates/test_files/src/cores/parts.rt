@@ -1,8 +1,8 @@
 //! Cores that are read in parts.
 
-use crate::expected::{expect_notes, notes_end, refusal};
-use crate::listed::Listed;
-use crate::real_cores::{AARCH64, X86_64};
+use crate::cores::expected::{expect_notes, notes_end, refusal};
+use crate::cores::listed::Listed;
+use crate::cores::real_cores::{AARCH64, X86_64};
 use core_files::{CoreError, CoreFile, SegmentBytes};
 use elf_files::{ElfError, ElfFile};
 use std::alloc::Global;

@@ -1,7 +1,7 @@
 //! What is expected of cores.
 
-use crate::listed::Listed;
-use crate::registers::in_order;
+use crate::cores::listed::Listed;
+use crate::cores::registers::in_order;
 use core_files::{CoreError, CoreFile, SegmentBytes};
 use elf_files::{ElfFile, SegmentKind};
 use std::alloc::Global;

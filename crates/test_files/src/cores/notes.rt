@@ -1,6 +1,6 @@
 //! Descriptors of notes, written by hand as the kernel's headers lay them out.
 
-use crate::registers::in_order;
+use crate::cores::registers::in_order;
 use core_files::{
     DescriptorError, MappedFile, MappedFiles, Prstatus, read_auxiliary, read_pac_mask,
     read_prstatus_aarch64, read_prstatus_x86_64,

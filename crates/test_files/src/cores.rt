@@ -1,0 +1,11 @@
+//! Core files.
+
+mod expected;
+mod listed;
+mod masks;
+mod memory;
+mod notes;
+mod parts;
+mod real;
+mod real_cores;
+mod registers;
