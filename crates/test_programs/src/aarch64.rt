@@ -1,6 +1,6 @@
 //! Signed return addresses on aarch64.
 
-use crate::process::core_aarch64;
+use crate::cores::core_aarch64;
 use backtrace_text::FunctionNames;
 use backtrace_walks::{BacktraceOptions, FrameOptions, write_stacks};
 use core_files::CoreFile;

@@ -1,6 +1,6 @@
 //! The text of a core's threads.
 
-use crate::process::core_x86_64;
+use crate::cores::core_x86_64;
 use crate::program::program;
 use backtrace_text::FunctionNames;
 use backtrace_walks::{BacktraceOptions, FrameOptions, write_stacks};

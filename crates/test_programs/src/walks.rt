@@ -3,7 +3,7 @@
 ghost use Rattle.backtrace_walks.specs.SessionViews.{IsReady};
 
 use crate::bytes::push_words;
-use crate::process::STACK;
+use crate::cores::STACK;
 use crate::program::program;
 use backtrace_files::LoadedFile;
 use backtrace_text::WalkEnd;

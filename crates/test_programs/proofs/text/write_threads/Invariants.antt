@@ -1,5 +1,5 @@
 use Rattle.std.proofs.Common.{◌≡◌, false}
-use Rattle.test_backtrace.proofs.text.write_threads.Given as goal
+use Rattle.test_programs.proofs.text.write_threads.Given as goal
 
 -- no call of the sink has failed
 abbrev pub invariant-loop-number : goal.invariant-loop-number
