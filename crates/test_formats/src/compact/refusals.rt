@@ -1,6 +1,6 @@
 //! Tables that can't be read.
 
-use crate::worked::TABLES;
+use crate::compact::worked::TABLES;
 use framehop_compact_tables::{CompactFormatError, UnwindInfo, is_increasing};
 use std::test::Fail;
 

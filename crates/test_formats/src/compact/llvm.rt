@@ -1,6 +1,6 @@
 //! Tables that lld links, beside what LLVM reads in them.
 
-use crate::tables::{
+use crate::compact::tables::{
     AARCH64_FUNCTIONS, AARCH64_TABLES, X86_64_BODIES, X86_64_FRAMES_BODIES,
     X86_64_FRAMES_FUNCTIONS, X86_64_FRAMES_TABLES, X86_64_FRAMES_TEXT, X86_64_FUNCTIONS,
     X86_64_TABLES, X86_64_TEXT,

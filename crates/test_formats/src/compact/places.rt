@@ -1,6 +1,6 @@
 //! Steps by where an address is: in stubs, at a function's start, and outside of functions.
 
-use crate::worked::{Answer, TABLES, TEXT};
+use crate::compact::worked::{Answer, TABLES, TEXT};
 use framehop_compact::aarch64::{ArchAarch64, UnwindRuleAarch64};
 use framehop_compact::x86_64::{ArchX86_64, UnwindRuleX86_64};
 use framehop_compact::{

@@ -1,7 +1,7 @@
 //! Steps in the prolog, the body and the epilog of functions, by each kind of code, and through chains of unwind infos.
 
-use crate::cases::CASES;
-use crate::worked::{Frame, ROW, caller};
+use crate::pe::cases::CASES;
+use crate::pe::worked::{Frame, ROW, caller};
 use std::alloc::Global;
 use std::process::Abort;
 use std::str::SplitWhitespace;

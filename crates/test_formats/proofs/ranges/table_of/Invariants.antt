@@ -1,5 +1,5 @@
 use Rattle.framehop_ranges.specs.Ranges.{Sound}
-use Rattle.test_tables.proofs.ranges.table_of.Given as goal
+use Rattle.test_formats.proofs.ranges.table_of.Given as goal
 
 abbrev pub invariant-ends : goal.invariant-ends
 invariant-ends l = Sound l.ranges

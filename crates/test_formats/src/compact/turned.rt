@@ -1,6 +1,6 @@
 //! A small table of which each byte is turned.
 
-use crate::tables::{SMALL, TURNED};
+use crate::compact::tables::{SMALL, TURNED};
 use framehop_compact_tables::{UnwindInfo, is_increasing};
 use std::alloc::{AllocError, Global};
 use std::process::Abort;

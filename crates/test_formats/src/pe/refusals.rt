@@ -1,6 +1,6 @@
 //! Unwind info by its sections, and what isn't there.
 
-use crate::worked::{INFO, ROW};
+use crate::pe::worked::{INFO, ROW};
 use framehop_pe::{DataAtRvaRange, PeSections, PeUnwinderError, PeUnwinding};
 use framehop_registers::aarch64::UnwindRegsAarch64;
 use framehop_rules::aarch64::ArchAarch64;

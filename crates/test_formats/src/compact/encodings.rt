@@ -1,6 +1,6 @@
 //! What encodings say.
 
-use crate::worked::Answer;
+use crate::compact::worked::Answer;
 use framehop_compact::aarch64::{ArchAarch64, UnwindRuleAarch64};
 use framehop_compact::x86_64::{ArchX86_64, UnwindRuleX86_64};
 use framehop_compact::{

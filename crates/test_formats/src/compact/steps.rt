@@ -1,6 +1,6 @@
 //! Steps in the worked function.
 
-use crate::worked::{assert_caller, assert_step};
+use crate::compact::worked::{assert_caller, assert_step};
 use framehop_compact::{CompactUnwindInfoUnwinderError, CuiUnwindResult};
 use std::test::Fail;
 
