@@ -2,9 +2,9 @@
 #![tactic(auto)]
 
 use anyhow::Result;
-use bench_compact_steps::run;
+use bench_walks::run_compact;
 use framehop::aarch64::ArchAarch64;
 
 fn main(rt: HostRuntime) -> Result<()> {
-    run::<ArchAarch64, HostRuntime>(&rt)
+    run_compact::<ArchAarch64, HostRuntime>(&rt)
 }

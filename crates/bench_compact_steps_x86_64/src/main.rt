@@ -2,9 +2,9 @@
 #![tactic(auto)]
 
 use anyhow::Result;
-use bench_compact_steps::run;
+use bench_walks::run_compact;
 use framehop::x86_64::ArchX86_64;
 
 fn main(rt: HostRuntime) -> Result<()> {
-    run::<ArchX86_64, HostRuntime>(&rt)
+    run_compact::<ArchX86_64, HostRuntime>(&rt)
 }

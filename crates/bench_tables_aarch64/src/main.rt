@@ -2,8 +2,7 @@
 #![tactic(auto)]
 
 use anyhow::Result;
-use bench_tables::Tabulated;
-use bench_walks::run;
+use bench_walks::{Tabulated, run};
 use framehop::aarch64::ArchAarch64;
 
 fn main(rt: HostRuntime) -> Result<()> {

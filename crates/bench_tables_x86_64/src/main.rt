@@ -2,8 +2,7 @@
 #![tactic(auto)]
 
 use anyhow::Result;
-use bench_tables::Tabulated;
-use bench_walks::run;
+use bench_walks::{Tabulated, run};
 use framehop::x86_64::ArchX86_64;
 
 fn main(rt: HostRuntime) -> Result<()> {

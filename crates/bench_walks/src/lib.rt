@@ -1,17 +1,20 @@
-//! Times the making of a module, with its index or by a header in its place, and walks through its code, for comparing them
-//! with another program's. Each architecture has a program of its own, as a profiler's is: with both in one, compilers share
-//! functions between them, and steps are slower; and so has each way in which modules are made.
+//! Times the making of a module, with its index, by a header in its place or with a table of rules, and walks through its code, and
+//! steps by compact unwind info, for comparing them with another program's. Each architecture has a program of its own, as a
+//! profiler's is: with both in one, compilers share functions between them, and steps are slower; and so has each way in which
+//! modules are made, and each loop of steps.
 #![tactic(auto)]
 
 mod arch;
+mod compact;
 mod modules;
 mod timing;
 mod work;
 
 use anyhow::Result;
 pub use arch::TimedArch;
+pub use compact::run_compact;
 use modules::parts_of;
-pub use modules::{Making, Parts, Plain};
+pub use modules::{Making, Parts, Plain, Tabulated};
 use std::env;
 use std::io::Read;
 use std::rt::{Clock, Env};

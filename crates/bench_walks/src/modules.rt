@@ -55,3 +55,23 @@ impl Making for Plain {
         Ok(load_module(alloc, name, work.base..work.end, work.base, info, options)?)
     }
 }
+
+/// A module is made with a table of rules. A header isn't used.
+#[derive(Debug, Clone, Copy)]
+pub struct Tabulated;
+
+impl Making for Tabulated {
+    fn module_of<A: TimedArch>(
+        alloc: Global,
+        work: &Work,
+        parts: Parts,
+    ) -> Result<Module<Vec<u8>>> {
+        let Parts { name, info } = parts;
+        let options = LoadOptions {
+            tables: Some(A::table_arch()),
+            ..Default::default()
+        };
+        let range = work.base..work.end;
+        Ok(load_module(alloc, name, range, work.base, info, options)?)
+    }
+}

@@ -12,10 +12,13 @@ use std::alloc::Global;
 use std::time::{Clock, Duration, Instant};
 
 /// An unwinder of an architecture, whose modules own their bytes.
-type TimedUnwinder<A> = UnwinderInternal<BySections<A, Vec<u8>, MayAllocateDuringUnwind>>;
+pub type TimedUnwinder<A> = UnwinderInternal<BySections<A, Vec<u8>, MayAllocateDuringUnwind>>;
 
 /// What its steps keep and reuse.
-type TimedCache<A> = Cache<<A as Arch>::UnwindRule, DwarfUnwindContext<MayAllocateDuringUnwind>>;
+pub type TimedCache<A> = Cache<
+    <A as Arch>::UnwindRule,
+    DwarfUnwindContext<MayAllocateDuringUnwind>,
+>;
 
 /// The least times of all rounds.
 #[derive(Debug, Clone, Copy)]
@@ -38,9 +41,19 @@ fn load<U: Unwinder<Module = Module<Vec<u8>>>>(
     Ok(())
 }
 
-/// An unwinder with the module.
+/// An unwinder with the module that is timed.
 fn unwinder_of<A: TimedArch, M: Making>(alloc: Global, work: &Work) -> Result<TimedUnwinder<A>> {
-    let module = M::module_of::<A>(alloc, work, parts_of(alloc, work)?)?;
+    unwinder_with(
+        alloc,
+        M::module_of::<A>(alloc, work, parts_of(alloc, work)?)?,
+    )
+}
+
+/// An unwinder with a module.
+pub fn unwinder_with<A: TimedArch>(
+    alloc: Global,
+    module: Module<Vec<u8>>,
+) -> Result<TimedUnwinder<A>> {
     let mut generations = Generations::new();
     let mut unwinder = UnwinderInternal::new(alloc, &mut generations)?;
     load(&mut unwinder, &mut generations, module)?;
@@ -48,7 +61,7 @@ fn unwinder_of<A: TimedArch, M: Making>(alloc: Global, work: &Work) -> Result<Ti
 }
 
 /// A new cache.
-fn new_cache<A: TimedArch>(alloc: Global) -> Result<TimedCache<A>> {
+pub fn new_cache<A: TimedArch>(alloc: Global) -> Result<TimedCache<A>> {
     Ok(Cache::new(alloc, DwarfUnwindContext::new(alloc)?)?)
 }
 

@@ -7,8 +7,8 @@ use std::alloc::Global;
 /// Words of a stack, eight bytes each, the first of them at the start.
 #[derive(Drop)]
 pub struct Stack {
-    start: u64,
-    words: Vec<u64>,
+    pub start: u64,
+    pub words: Vec<u64>,
 }
 
 impl Stack {

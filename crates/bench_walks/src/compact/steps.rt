@@ -1,12 +1,11 @@
 //! The module, and steps in it.
 
 use crate::arch::TimedArch;
-use crate::work::{Frames, Work};
-use anyhow::{Result, bail};
+use crate::compact::work::{CompactWork, Frames};
+use crate::work::{FirstRegisters, Stack};
+use anyhow::Result;
 use framehop::{
-    Arch, BySections, Cache, DwarfUnwindContext, ExplicitModuleSectionInfo, FrameAddress,
-    Generations, LoadOptions, MayAllocateDuringUnwind, Module, Unwinder, UnwinderInternal,
-    load_module,
+    ExplicitModuleSectionInfo, FrameAddress, LoadOptions, Module, Unwinder, load_module,
 };
 use std::alloc::{AllocError, Global};
 
@@ -19,11 +18,13 @@ const STACK: u64 = 0x7ffd_8000_0000;
 
 const WORDS: u64 = 1024;
 
-/// An unwinder of an architecture, whose modules own their bytes.
-type TimedUnwinder<A> = UnwinderInternal<BySections<A, Vec<u8>, MayAllocateDuringUnwind>>;
-
-/// What its steps keep and reuse.
-type TimedCache<A> = Cache<<A as Arch>::UnwindRule, DwarfUnwindContext<MayAllocateDuringUnwind>>;
+/// The registers of each frame. No bit of a code address on aarch64 is stripped.
+const FIRST: FirstRegisters = FirstRegisters {
+    code: BASE,
+    sp: STACK + 64,
+    fp: STACK + 512,
+    mask: u64::MAX,
+};
 
 /// What came of all steps.
 #[derive(Clone, Copy)]
@@ -35,30 +36,19 @@ pub struct Tally {
 }
 
 /// A stack, each of whose words is the address of the word eight words above it.
-#[derive(Drop)]
-pub struct Stack(Vec<u64>);
-
-impl Stack {
-    pub fn new(alloc: Global) -> Result<Self, AllocError> {
-        let mut words = Vec::new(alloc);
-        for i in 0..WORDS {
-            words.push(STACK + 8 * i + 64)?;
-        }
-        Ok(Stack(words))
+pub fn new_stack(alloc: Global) -> Result<Stack, AllocError> {
+    let mut words = Vec::new(alloc);
+    for i in 0..WORDS {
+        words.push(STACK + 8 * i + 64)?;
     }
-
-    // The word at an address. `Err` where there is none.
-    fn word(&self, address: u64) -> std::result::Result<u64, ()> {
-        let offset = address.checked_sub(STACK).ok_or(())?;
-        if offset % 8 != 0 {
-            return Err(());
-        }
-        self.0.get((offset / 8) as usize).copied().ok_or(())
-    }
+    Ok(Stack {
+        start: STACK,
+        words,
+    })
 }
 
-// The module with these sections.
-fn module_of(alloc: Global, work: Work<'_>) -> Result<Module<Vec<u8>>> {
+/// The module with these sections.
+pub fn module_of(alloc: Global, work: CompactWork<'_>) -> Result<Module<Vec<u8>>> {
     let start = u64::from(work.text_start);
     let sections = ExplicitModuleSectionInfo {
         text_svma: Some(start..start.saturating_add(work.text.len() as u64)),
@@ -75,32 +65,6 @@ fn module_of(alloc: Global, work: Work<'_>) -> Result<Module<Vec<u8>>> {
         sections,
         LoadOptions::default(),
     )?)
-}
-
-/// An unwinder with the module.
-pub fn unwinder_of<A: TimedArch>(alloc: Global, work: Work<'_>) -> Result<TimedUnwinder<A>> {
-    let module = module_of(alloc, work)?;
-    let mut generations = Generations::new();
-    let mut unwinder = UnwinderInternal::new(alloc, &mut generations)?;
-    load(&mut unwinder, &mut generations, module)?;
-    Ok(unwinder)
-}
-
-// Loads a module in an unwinder.
-fn load<U: Unwinder<Module = Module<Vec<u8>>>>(
-    unwinder: &mut U,
-    generations: &mut Generations,
-    module: Module<Vec<u8>>,
-) -> Result<()> {
-    if unwinder.add_module(generations, module).is_err() {
-        bail!("the module can't be loaded");
-    }
-    Ok(())
-}
-
-/// A new cache.
-pub fn new_cache<A: TimedArch>(alloc: Global) -> Result<TimedCache<A>> {
-    Ok(Cache::new(alloc, DwarfUnwindContext::new(alloc)?)?)
 }
 
 // The frame with a number, in an order in which neighbours are far apart.
@@ -133,7 +97,7 @@ pub fn make_steps<A: TimedArch, U: Unwinder<UnwindRegs = A::UnwindRegs>>(
         let Some(frame) = frame_at(frames, number) else {
             continue;
         };
-        let mut regs = A::registers(BASE, STACK + 64, STACK + 512);
+        let mut regs = A::registers(FIRST);
         let mut read_stack = |at: u64| -> std::result::Result<u64, ()> { stack.word(at) };
         if let Ok(Some(to)) = unwinder.unwind_frame(frame, &mut regs, cache, &mut read_stack) {
             tally.answered = tally.answered.wrapping_add(1);

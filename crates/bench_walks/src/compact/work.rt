@@ -18,7 +18,7 @@ pub struct Frames {
 
 /// What is timed.
 #[derive(Clone, Copy)]
-pub struct Work<'a> {
+pub struct CompactWork<'a> {
     pub frames: Frames,
     /// The bytes of `__unwind_info`.
     pub unwind_info: &'a [u8],
@@ -31,7 +31,7 @@ pub struct Work<'a> {
 /// Reads the number of frames, the address of the first, the distance from each to the next, and 1 for first frames or 0 for later
 /// ones; the number of bytes of `__unwind_info`, and these; and the address of `__text`, and its bytes. All numbers have four bytes,
 /// the low byte first.
-pub fn read_work(bytes: &[u8]) -> Result<Work<'_>> {
+pub fn read_compact_work(bytes: &[u8]) -> Result<CompactWork<'_>> {
     let mut reader = EndianSlice::new(bytes, LittleEndian);
     let frames = Frames {
         count: reader.read_u32()?,
@@ -40,7 +40,7 @@ pub fn read_work(bytes: &[u8]) -> Result<Work<'_>> {
         are_first: reader.read_u32()? == 1,
     };
     let length = reader.read_u32()?;
-    Ok(Work {
+    Ok(CompactWork {
         frames,
         unwind_info: reader.split(length as usize)?.slice(),
         text_start: reader.read_u32()?,
