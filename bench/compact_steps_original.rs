@@ -1,4 +1,4 @@
-//! Makes the steps of crates/bench_walks/src/compact by the original's `framehop`, and prints the same lines. `bench/compact --original`
+//! Makes the steps of crates/bench_steps/src/compact by the original's `framehop`, and prints the same lines. `bench/compact --original`
 //! builds it.
 
 use framehop::aarch64::{CacheAarch64, UnwindRegsAarch64, UnwinderAarch64};
@@ -33,7 +33,7 @@ struct Frames {
     are_first: bool,
 }
 
-/// Reads what crates/bench_walks/src/compact/work.rt says.
+/// Reads what crates/bench_steps/src/compact/work.rt says.
 fn read_work(input: &[u8]) -> (Frames, Module<Vec<u8>>) {
     let number = |at: usize| u32::from_le_bytes(input[at..at + 4].try_into().expect("four bytes"));
     let frames = Frames { count: number(0), first: number(4), apart: number(8), are_first: number(12) == 1 };

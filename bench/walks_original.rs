@@ -1,4 +1,4 @@
-//! Makes the module and the walks of crates/bench_walks by the original's `framehop`, and prints the same lines. `bench/walks
+//! Makes the module and the walks of crates/bench_steps by the original's `framehop`, and prints the same lines. `bench/walks
 //! --original` builds it.
 
 use framehop::aarch64::{CacheAarch64, PtrAuthMask, UnwindRegsAarch64, UnwinderAarch64};
@@ -77,7 +77,7 @@ fn read_walk(input: &mut Input) -> Walk {
     }
 }
 
-/// Reads what crates/bench_walks/src/work.rt says.
+/// Reads what crates/bench_steps/src/work.rt says.
 fn read_work(input: &mut Input) -> Work {
     let rounds = input.number::<4>() as u32;
     let [base, end, text, eh_frame] = [(); 4].map(|()| input.number::<8>());

@@ -12,7 +12,8 @@ import struct
 from lib import leb128, readelf
 from lib.elf import NOBITS, Elf
 from lib.timing import printed
-from lib.tools import built_program, give_up
+from lib.timed import timed_program
+from lib.tools import give_up
 
 BASE = 0x7F12_3400_0000
 STACK = 0x7FFD_8000_0000
@@ -206,7 +207,7 @@ def document_of(library, count, headed, is_walks):
 
 
 def work(document, rounds):
-    """What the programs read, as crates/bench_walks/src/work.rt says."""
+    """What the programs read, as crates/bench_steps/src/work.rt says."""
     number = lambda text: int(text, 16)
     machine = MACHINES[document["arch"]]
     commands = document["commands"]
@@ -270,7 +271,7 @@ class Turns:
 
     def ours(self, document, is_tabulated=False):
         """A run of a document by our program: that with tables of rules, or that without."""
-        program = built_program(f"bench_{'tables' if is_tabulated else 'walks'}_{document['arch']}")
+        program = timed_program(f"bench_{'tables' if is_tabulated else 'walks'}_{document['arch']}")
         path = self._file(work(document, self.rounds))
         return lambda: times_of(program, ["time"], path)
 

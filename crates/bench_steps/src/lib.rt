@@ -12,7 +12,7 @@ mod work;
 
 use anyhow::Result;
 pub use arch::TimedArch;
-pub use compact::run_compact;
+pub use compact::{print_compact, run_compact};
 use modules::parts_of;
 pub use modules::{Making, Parts, Plain, Tabulated};
 use std::env;
@@ -36,8 +36,17 @@ pub fn run<A: TimedArch, M: Making, R: AllocGlobal + Input + Print + Env + Clock
         Some(mode) => mode,
         None => String::new(rt.alloc()),
     };
-    let work = read_work(rt.alloc(), &input)?;
-    match mode.as_str() {
+    print_walks::<A, M, R>(rt, &input, mode.as_str())
+}
+
+/// Prints the same of an input, as the argument says.
+pub fn print_walks<A: TimedArch, M: Making, R: AllocGlobal + Print + Clock>(
+    rt: &R,
+    input: &[u8],
+    mode: &str,
+) -> Result<()> {
+    let work = read_work(rt.alloc(), input)?;
+    match mode {
         "made" => print_made::<A, M, R>(rt, &work),
         "time" => print_times::<A, M, R>(rt, &work),
         _ => print_frames::<A, M, R>(rt, &work),

@@ -11,7 +11,7 @@ use std::io::Read;
 use std::rt::{Clock, Env};
 use std::time::{Duration, Instant};
 use steps::{Tally, make_steps, module_of, new_stack};
-use work::{CompactWork, read_compact_work};
+use work::read_compact_work;
 
 const ROUNDS: u32 = 50;
 
@@ -23,17 +23,16 @@ pub fn run_compact<A: TimedArch, R: AllocGlobal + Input + Print + Env + Clock>(
 ) -> Result<()> {
     let mut input = Vec::new(rt.alloc());
     rt.reader().read_to_end(&mut input)?;
-    let work = read_compact_work(&input)?;
-    let is_timed = env::args(rt)?.nth(1).is_some();
-    make_all::<A, R>(rt, work, is_timed)
+    print_compact::<A, R>(rt, &input, env::args(rt)?.nth(1).is_some())
 }
 
-// Makes the steps, as often as there are rounds if they are timed.
-fn make_all<A: TimedArch, R: AllocGlobal + Print + Clock>(
+/// Prints the same of an input, with the times if they are asked for.
+pub fn print_compact<A: TimedArch, R: AllocGlobal + Print + Clock>(
     rt: &R,
-    work: CompactWork<'_>,
+    input: &[u8],
     is_timed: bool,
 ) -> Result<()> {
+    let work = read_compact_work(input)?;
     let stack = new_stack(rt.alloc())?;
     let unwinder = unwinder_with::<A>(rt.alloc(), module_of(rt.alloc(), work)?)?;
     let mut cache = new_cache::<A>(rt.alloc())?;

@@ -1,0 +1,35 @@
+//! Makes the walks and steps that benches time, on what is in the files that the arguments name, each after what is made of it: walks by
+//! an index or a header, walks by tables of rules, or steps by compact unwind info, of each architecture. It prints what the program
+//! prints that makes these alone, which `bench/programs` builds for their times.
+#![tactic(auto)]
+
+use anyhow::{Result, bail};
+use bench_steps::{Plain, Tabulated, print_compact, print_walks};
+use framehop::aarch64::ArchAarch64;
+use framehop::x86_64::ArchX86_64;
+use std::{env, fs};
+
+// Makes the walks or steps of a file.
+fn show(rt: &HostRuntime, what: &str, path: &str) -> Result<()> {
+    let input = fs::read(rt, path)?;
+    match what {
+        "walks_x86_64" => print_walks::<ArchX86_64, Plain, HostRuntime>(rt, &input, ""),
+        "tables_x86_64" => print_walks::<ArchX86_64, Tabulated, HostRuntime>(rt, &input, ""),
+        "compact_steps_x86_64" => print_compact::<ArchX86_64, HostRuntime>(rt, &input, false),
+        "walks_aarch64" => print_walks::<ArchAarch64, Plain, HostRuntime>(rt, &input, ""),
+        "tables_aarch64" => print_walks::<ArchAarch64, Tabulated, HostRuntime>(rt, &input, ""),
+        "compact_steps_aarch64" => print_compact::<ArchAarch64, HostRuntime>(rt, &input, false),
+        _ => bail!("walks, tables or compact_steps of x86_64 or aarch64 are made"),
+    }
+}
+
+fn main(rt: HostRuntime) -> Result<()> {
+    let words: Vec<String> = env::args(&rt)?.skip(1).collect(rt.alloc())?;
+    for pair in words.chunks(2) {
+        match pair {
+            [what, path] => show(&rt, what, path)?,
+            _ => bail!("each has a file"),
+        }
+    }
+    Ok(())
+}
