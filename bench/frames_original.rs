@@ -1,4 +1,4 @@
-//! Makes the passes of crates/bench_frames by the original's `gimli`, and prints the same lines. `bench/frames --original` builds it.
+//! Makes the passes of crates/bench_steps/src/frames by the original's `gimli`, and prints the same lines. `bench/frames --original` builds it.
 
 use gimli::{
     BaseAddresses, CfaRule, CieOrFde, CommonInformationEntry, EhFrame, EhFrameOffset, EndianSlice,

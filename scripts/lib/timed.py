@@ -1,4 +1,4 @@
-"""The programs over `bench_steps` whose times are taken: one for each architecture and each way, since with two in one program compilers
+"""The programs over `bench_steps` whose times are taken: one for each architecture and each kind, since with two in one program compilers
 share functions between them. No crate of the repository has them: each is made and built in a copy of the crates."""
 
 import pathlib
@@ -8,29 +8,35 @@ import tempfile
 
 from lib.tools import TOP, give_up
 
-# What each prints, by the function that it calls with its types.
-CALLS = {"walks": ("run", "Plain, "), "tables": ("run", "Tabulated, "), "compact_steps": ("run_compact", "")}
 ARCHS = {"x86_64": "ArchX86_64", "aarch64": "ArchAarch64"}
-NAMES = [f"bench_{kind}_{arch}" for kind in CALLS for arch in ARCHS]
+# Of each kind: the function that is called, the way in which modules are made, and the architectures if it is of each.
+KINDS = {"walks": ("run", "Plain", ARCHS), "tables": ("run", "Tabulated", ARCHS), "compact_steps": ("run_compact", None, ARCHS),
+         "pe": ("run_pe", None, None), "frames": ("run_frames", None, None)}
+NAMES = [f"bench_{kind}{arch}" for kind, (*_, archs) in KINDS.items() for arch in ([f"_{arch}" for arch in archs] if archs else [""])]
 BUILT = TOP / "crates/bench_walks/out"
+
+
+def parts_of(name):
+    """The kind of a program, and its architecture or an empty text."""
+    kind = next(kind for kind in KINDS if name.startswith(f"bench_{kind}"))
+    return kind, name.removeprefix(f"bench_{kind}").removeprefix("_")
 
 
 def main_of(name):
     """The text of a program's main file."""
-    kind, arch = next((kind, arch) for kind in CALLS for arch in ARCHS if name == f"bench_{kind}_{arch}")
-    call, way = CALLS[kind]
-    names = ", ".join(sorted(filter(None, [way.removesuffix(", "), call])))
-    return f"""//! Times {kind.replace("_", " ")} of {arch}.
-#![tactic(auto)]
+    kind, arch = parts_of(name)
+    call, way, _ = KINDS[kind]
+    names = f"{{{way}, {call}}}" if way else call
+    types = ", ".join(filter(None, [ARCHS.get(arch), way, "HostRuntime"]))
+    imports = [f"use bench_steps::{names};", *([f"use framehop::{arch}::{ARCHS[arch]};"] if arch else [])]
+    return "\n".join([f"//! Times {kind.replace('_', ' ')}{f' of {arch}' if arch else ''}.", "#![tactic(auto)]", "", "use anyhow::Result;", *imports, "",
+                      "fn main(rt: HostRuntime) -> Result<()> {", f"    {call}::<{types}>(&rt)", "}", ""])
 
-use anyhow::Result;
-use bench_steps::{"{" + names + "}" if way else names};
-use framehop::{arch}::{ARCHS[arch]};
 
-fn main(rt: HostRuntime) -> Result<()> {{
-    {call}::<{ARCHS[arch]}, {way}HostRuntime>(&rt)
-}}
-"""
+def stored_of(name):
+    """The file of what a program is run on once it is built, as the arguments of `bench_walks` name it."""
+    words = (TOP / "crates/bench_walks/args").read_text().splitlines()
+    return dict(zip(words[::2], words[1::2]))[name.removeprefix("bench_")]
 
 
 def build(name):
@@ -43,8 +49,7 @@ def build(name):
         folder = copy / "crates" / name
         (folder / "src").mkdir(parents=True)
         (folder / "src/main.rt").write_text(main_of(name))
-        given = TOP / "crates/bench_walks/data" / name.removeprefix("bench_").replace("tables", "walks").replace("compact_steps", "compact")
-        with open(given, "rb") as source:
+        with open(TOP / "crates/bench_walks/data" / stored_of(name), "rb") as source:
             done = subprocess.run(["rt", "run"], cwd=folder, stdin=source, stdout=subprocess.DEVNULL)
         if done.returncode:
             give_up(f"rt run {name} ended with status {done.returncode}")

@@ -1,20 +1,24 @@
-//! Times the making of a module, with its index, by a header in its place or with a table of rules, and walks through its code, and
-//! steps by compact unwind info, for comparing them with another program's. Each architecture has a program of its own, as a
-//! profiler's is: with both in one, compilers share functions between them, and steps are slower; and so has each way in which
-//! modules are made, and each loop of steps.
+//! Times the making of a module, with its index, by a header in its place or with a table of rules, and walks through its code; steps by
+//! compact unwind info and by Windows' unwind data; and the entries and rows of a section, for comparing them with another program's.
+//! `bench/programs` builds a program of its own for each architecture, as a profiler's is: with both in one, compilers share functions
+//! between them, and steps are slower; and for each way in which modules are made, and each loop of steps.
 #![tactic(auto)]
 
 mod arch;
 mod compact;
+mod frames;
 mod modules;
+mod pe;
 mod timing;
 mod work;
 
 use anyhow::Result;
 pub use arch::TimedArch;
 pub use compact::{print_compact, run_compact};
+pub use frames::{print_frames_of, run_frames};
 use modules::parts_of;
 pub use modules::{Making, Parts, Plain, Tabulated};
+pub use pe::{print_pe, run_pe};
 use std::env;
 use std::io::Read;
 use std::rt::{Clock, Env};

@@ -1,10 +1,11 @@
-//! Makes the walks and steps that benches time, on what is in the files that the arguments name, each after what is made of it: walks by
-//! an index or a header, walks by tables of rules, or steps by compact unwind info, of each architecture. It prints what the program
-//! prints that makes these alone, which `bench/programs` builds for their times.
+//! Makes the walks, steps and passes that benches time, on what is in the files that the arguments name, each after the name of a bench:
+//! walks by an index or a header, walks by tables of rules, and steps by compact unwind info, of each architecture; steps by Windows'
+//! unwind data; and passes over the entries and rows of a section. It prints what the program prints that makes these alone, which
+//! `bench/programs` builds for their times.
 #![tactic(auto)]
 
 use anyhow::{Result, bail};
-use bench_steps::{Plain, Tabulated, print_compact, print_walks};
+use bench_steps::{Plain, Tabulated, print_compact, print_frames_of, print_pe, print_walks};
 use framehop::aarch64::ArchAarch64;
 use framehop::x86_64::ArchX86_64;
 use std::{env, fs};
@@ -19,7 +20,9 @@ fn show(rt: &HostRuntime, what: &str, path: &str) -> Result<()> {
         "walks_aarch64" => print_walks::<ArchAarch64, Plain, HostRuntime>(rt, &input, ""),
         "tables_aarch64" => print_walks::<ArchAarch64, Tabulated, HostRuntime>(rt, &input, ""),
         "compact_steps_aarch64" => print_compact::<ArchAarch64, HostRuntime>(rt, &input, false),
-        _ => bail!("walks, tables or compact_steps of x86_64 or aarch64 are made"),
+        "pe" => print_pe::<HostRuntime>(rt, &input, false),
+        "frames" => print_frames_of::<HostRuntime>(rt, &input, 0),
+        _ => bail!("there is no bench of this name"),
     }
 }
 

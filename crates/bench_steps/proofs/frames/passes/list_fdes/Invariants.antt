@@ -1,5 +1,5 @@
 use Rattle.std.proofs.Common.{length}
-use Rattle.bench_frames.proofs.passes.keep_fdes.Given as goal
+use Rattle.bench_steps.proofs.frames.passes.list_fdes.Given as goal
 
 abbrev pub decreases-entries : goal.decreases-entries
 decreases-entries g l = length l.entries.entries

@@ -1,5 +1,5 @@
 use Rattle.dwarf_frame_entries.specs.UnwindTables.{table_steps}
-use Rattle.bench_frames.proofs.passes.count_rows.Given as goal
+use Rattle.bench_steps.proofs.frames.passes.count_rows.Given as goal
 
 -- each row that is given leaves fewer steps
 abbrev pub decreases-rows : goal.decreases-rows

@@ -2,8 +2,8 @@
 use Rattle.std.specs.Prelude.{ℕ, List, Option, Some, None, option_map, option_and_then, codes, bytes_eq, length, nat_eq, ◌+◌, if◌then◌else◌}
 use Rattle.std.specs.declared.ops.Range.{Range}
 use Rattle.framehop_modules.specs.Sections.{Sections}
-use Rattle.bench_pe.specs.declared.sections.ModuleSections.{ModuleSections}
-use Rattle.bench_pe.specs.declared.sections.Section.{Section}
+use Rattle.bench_steps.specs.declared.pe.sections.ModuleSections.{ModuleSections}
+use Rattle.bench_steps.specs.declared.pe.sections.Section.{Section}
 
 -- the section of a name
 abbrev pub section_named : ModuleSections → List ℕ → Option Section

@@ -1,7 +1,7 @@
 //! The sections of a module.
 
 ghost use Rattle.std.specs.Prelude.{◌≡◌, option_map};
-ghost use Rattle.bench_pe.specs.Sections.{section_named, stated_data, stated_range};
+ghost use Rattle.bench_steps.specs.Sections.{section_named, stated_data, stated_range};
 
 use framehop::ModuleSectionInfo;
 use std::ops::Range;
@@ -67,7 +67,7 @@ impl<'a> ModuleSections<'a> {
 
 /// The data of a section may be asked for again.
 impl<'a> ModuleSectionInfo<&'a [u8]> for ModuleSections<'a> {
-    ghost use Rattle.bench_pe.specs.Sections.{sections_stated};
+    ghost use Rattle.bench_steps.specs.Sections.{sections_stated};
 
     ghost sections = { sections_stated };
 

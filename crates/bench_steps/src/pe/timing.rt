@@ -1,26 +1,25 @@
 //! How long the making of the module and the steps take, by the clock of the machine.
 
-use crate::steps::{Stack, Tally, make_steps, module_of, unwinder_of};
-use crate::work::Frames;
+use crate::pe::steps::{Stack, Tally, make_steps, module_of, unwinder_of};
+use crate::pe::work::Frames;
 use anyhow::Result;
 use framehop::x86_64::{CacheX86_64, UnwindRegsX86_64};
 use framehop::{Module, ModuleSectionInfo, SectionBytes, Unwinder};
-use std::time::{Duration, Instant};
+use std::time::{Clock, Duration, Instant};
 
 const ROUNDS: u32 = 50;
 
 /// Makes the steps, and prints what came of them, with the times before it if they are asked for.
-pub fn run<D: SectionBytes + Drop, I: ModuleSectionInfo<D> + Copy>(
-    rt: &HostRuntime,
-    frames: Frames,
-    sections: I,
-    is_timed: bool,
-) -> Result<()> {
+pub fn print_steps<
+    D: SectionBytes + Drop,
+    I: ModuleSectionInfo<D> + Copy,
+    R: AllocGlobal + Print + Clock,
+>(rt: &R, frames: Frames, sections: I, is_timed: bool) -> Result<()> {
     let stack = Stack::new(rt.alloc())?;
     let unwinder = unwinder_of::<D, I>(rt.alloc(), sections)?;
     let mut cache = CacheX86_64::new(rt.alloc())?;
     if is_timed {
-        let making = least_of_making::<D, I>(rt, sections)?;
+        let making = least_of_making::<D, I, R>(rt, sections)?;
         let steps = least_of_steps(rt, &unwinder, &mut cache.0, &stack, frames)?;
         println!(rt;
             "module {} ns, steps {} ns",
@@ -33,15 +32,15 @@ pub fn run<D: SectionBytes + Drop, I: ModuleSectionInfo<D> + Copy>(
 }
 
 // Prints what came of the steps.
-fn print_tally(rt: &HostRuntime, tally: Tally, hits: u64) -> Result<()> {
+fn print_tally<R: Print>(rt: &R, tally: Tally, hits: u64) -> Result<()> {
     let Tally { answered, sum } = tally;
     println!(rt; "{answered} answered, {hits} hits, sum 0x{sum:x}")?;
     Ok(())
 }
 
 // The least time of making the module.
-fn least_of_making<D: SectionBytes + Drop, I: ModuleSectionInfo<D> + Copy>(
-    rt: &HostRuntime,
+fn least_of_making<D: SectionBytes + Drop, I: ModuleSectionInfo<D> + Copy, R: AllocGlobal + Clock>(
+    rt: &R,
     sections: I,
 ) -> Result<Duration> {
     let mut least = Duration::MAX;
@@ -55,7 +54,7 @@ fn least_of_making<D: SectionBytes + Drop, I: ModuleSectionInfo<D> + Copy>(
 
 // The least time of making all steps.
 fn least_of_steps<U: Unwinder<UnwindRegs = UnwindRegsX86_64>>(
-    rt: &HostRuntime,
+    clock: &impl Clock,
     unwinder: &U,
     cache: &mut U::Cache,
     stack: &Stack,
@@ -63,9 +62,9 @@ fn least_of_steps<U: Unwinder<UnwindRegs = UnwindRegsX86_64>>(
 ) -> Result<Duration> {
     let mut least = Duration::MAX;
     for _ in 0..ROUNDS {
-        let start = Instant::now(rt)?;
+        let start = Instant::now(clock)?;
         make_steps(unwinder, cache, stack, frames);
-        least = least.min(start.elapsed(rt)?);
+        least = least.min(start.elapsed(clock)?);
     }
     Ok(least)
 }

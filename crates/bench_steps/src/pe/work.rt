@@ -1,6 +1,6 @@
 //! What is timed: the sections of a module, and the frames that steps are made from.
 
-use crate::sections::{ModuleSections, Section};
+use crate::pe::sections::{ModuleSections, Section};
 use anyhow::Result;
 use dwarf_readers::{EndianSlice, LittleEndian, Reader};
 
@@ -19,7 +19,7 @@ pub struct Frames {
 
 /// What is timed.
 #[derive(Clone, Copy)]
-pub struct Work<'a> {
+pub struct PeWork<'a> {
     pub frames: Frames,
     pub sections: ModuleSections<'a>,
 }
@@ -27,7 +27,7 @@ pub struct Work<'a> {
 /// Reads the number of frames, the address of the first, the distance from each to the next, and 1 for first frames or 0 for later
 /// ones; and then the sections `.pdata`, `.xdata`, `.text`, `.eh_frame_hdr` and `.eh_frame`, of each its address, its number of
 /// bytes, 0 if there is no such section, and these. All numbers have four bytes, the low byte first.
-pub fn read_work(bytes: &[u8]) -> Result<Work<'_>> {
+pub fn read_pe_work(bytes: &[u8]) -> Result<PeWork<'_>> {
     let mut reader = EndianSlice::new(bytes, LittleEndian);
     let frames = Frames {
         count: reader.read_u32()?,
@@ -42,7 +42,7 @@ pub fn read_work(bytes: &[u8]) -> Result<Work<'_>> {
         eh_frame_hdr: read_section(&mut reader)?,
         eh_frame: read_section(&mut reader)?,
     };
-    Ok(Work { frames, sections })
+    Ok(PeWork { frames, sections })
 }
 
 fn read_section<'a>(reader: &mut EndianSlice<'a, LittleEndian>) -> Result<Section<'a>> {

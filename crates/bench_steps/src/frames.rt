@@ -1,9 +1,4 @@
-//! Reads all entries of the section `.eh_frame` on standard input, and all their rows, for timing.
-//!
-//! It prints how many entries there are, how many FDEs with their CIEs and how many rows, each with a sum of some of their
-//! parts. With the argument `time` and a number n it makes each of the three passes n times, in turn, and prints the least
-//! nanoseconds of each.
-#![tactic(auto)]
+//! The entries of a section `.eh_frame`, and their rows.
 
 mod passes;
 
@@ -17,21 +12,34 @@ use dwarf_readers::{LittleEndian, Reader};
 use passes::{Tally, keep_fdes, list_entries, list_fdes, list_rows};
 use std::env;
 use std::io::Read;
+use std::rt::{Clock, Env};
 use std::time::{Duration, Instant};
 
 /// The address at which the section starts. Code before it has addresses too.
 const START: u64 = 1 << 32;
 
-fn main(rt: HostRuntime) -> Result<()> {
+/// Reads all entries of the section on standard input, and all their rows, and prints how many entries there are, how many FDEs with
+/// their CIEs and how many rows, each with a sum of some of their parts. With the argument `time` and a number n it makes each of the
+/// three passes n times, in turn, and prints the least nanoseconds of each.
+pub fn run_frames<Rt: AllocGlobal + Input + Print + Env + Clock>(rt: &Rt) -> Result<()> {
     let mut input = Vec::new(rt.alloc());
     rt.reader().read_to_end(&mut input)?;
-    let rounds: u32 = match env::args(&rt)?.nth(2) {
+    let rounds: u32 = match env::args(rt)?.nth(2) {
         Some(count) => count.parse()?,
         None => 0,
     };
-    let section = EhFrame::new(input.as_slice(), LittleEndian);
+    print_frames_of(rt, &input, rounds)
+}
+
+/// Prints the same of a section, with the times of so many rounds if there are some.
+pub fn print_frames_of<Rt: AllocGlobal + Print + Clock>(
+    rt: &Rt,
+    input: &[u8],
+    rounds: u32,
+) -> Result<()> {
+    let section = EhFrame::new(input, LittleEndian);
     let mut context: UnwindContext<usize, StoreOnHeap> = UnwindContext::new(rt.alloc())?;
-    print_passes(&rt, &section, &mut context, rounds)
+    print_passes(rt, &section, &mut context, rounds)
 }
 
 /// What a pass came to, and the least time that it took.
@@ -50,14 +58,14 @@ impl Pass {
     }
 
     /// Ends a pass that began at `start`.
-    fn end(&mut self, rt: &HostRuntime, start: Instant, tally: Tally) -> Result<()> {
-        self.least = self.least.min(start.elapsed(rt)?);
+    fn end(&mut self, clock: &impl Clock, start: Instant, tally: Tally) -> Result<()> {
+        self.least = self.least.min(start.elapsed(clock)?);
         self.tally = tally;
         Ok(())
     }
 
     /// Prints what it came to, and the time if it is asked for.
-    fn print(&self, rt: &HostRuntime, name: &str, is_timed: bool) -> Result<()> {
+    fn print(&self, rt: &impl Print, name: &str, is_timed: bool) -> Result<()> {
         let Tally { count, sum } = self.tally;
         if is_timed {
             println!(rt; "{count} {name} {} ns, sum {sum:#x}", self.least.as_nanos())?;
@@ -69,8 +77,13 @@ impl Pass {
 }
 
 /// Makes the passes once, or in turn as often as asked for, and prints what they came to.
-fn print_passes<R: Reader, Section: UnwindSection<R>, S: UnwindContextStorage<R::Offset>>(
-    rt: &HostRuntime,
+fn print_passes<
+    R: Reader,
+    Section: UnwindSection<R>,
+    S: UnwindContextStorage<R::Offset>,
+    Rt: AllocGlobal + Print + Clock,
+>(
+    rt: &Rt,
     section: &Section,
     context: &mut UnwindContext<R::Offset, S>,
     rounds: u32,
@@ -87,41 +100,41 @@ fn print_passes<R: Reader, Section: UnwindSection<R>, S: UnwindContextStorage<R:
 }
 
 fn pass_entries<R: Reader, Section: UnwindSection<R>>(
-    rt: &HostRuntime,
+    clock: &impl Clock,
     section: &Section,
     bases: &BaseAddresses,
     pass: &mut Pass,
 ) -> Result<()> {
-    let start = Instant::now(rt)?;
+    let start = Instant::now(clock)?;
     let tally = list_entries(section, bases)?;
-    pass.end(rt, start, tally)
+    pass.end(clock, start, tally)
 }
 
 fn pass_fdes<R: Reader, Section: UnwindSection<R>>(
-    rt: &HostRuntime,
+    clock: &impl Clock,
     section: &Section,
     bases: &BaseAddresses,
     pass: &mut Pass,
 ) -> Result<()> {
-    let start = Instant::now(rt)?;
+    let start = Instant::now(clock)?;
     let tally = list_fdes(section, bases)?;
-    pass.end(rt, start, tally)
+    pass.end(clock, start, tally)
 }
 
 fn pass_rows<R: Reader, Section: UnwindSection<R>, S: UnwindContextStorage<R::Offset>>(
-    rt: &HostRuntime,
+    clock: &impl Clock,
     section: &Section,
     bases: &BaseAddresses,
     fdes: &[FrameDescriptionEntry<R>],
     context: &mut UnwindContext<R::Offset, S>,
     pass: &mut Pass,
 ) -> Result<()> {
-    let start = Instant::now(rt)?;
+    let start = Instant::now(clock)?;
     let tally = list_rows(section, bases, fdes, context)?;
-    pass.end(rt, start, tally)
+    pass.end(clock, start, tally)
 }
 
-fn print_all(rt: &HostRuntime, passes: [Pass; 3], is_timed: bool) -> Result<()> {
+fn print_all(rt: &impl Print, passes: [Pass; 3], is_timed: bool) -> Result<()> {
     let [entries, fdes, rows] = passes;
     entries.print(rt, "entries", is_timed)?;
     fdes.print(rt, "FDEs", is_timed)?;

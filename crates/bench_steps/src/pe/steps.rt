@@ -1,6 +1,6 @@
 //! The module, and steps in it.
 
-use crate::work::Frames;
+use crate::pe::work::Frames;
 use anyhow::{Result, bail};
 use framehop::x86_64::{Reg, UnwindRegsX86_64, UnwinderX86_64};
 use framehop::{
