@@ -1,5 +1,6 @@
 mod CacheSlots
 mod LastKept
+mod Occupancy
 pub mod Laws
 mod Parts
 mod PopReads

@@ -6,6 +6,7 @@ pub mod CodeViews
 pub mod CodeViewsAarch64
 pub mod KeptLaws
 pub mod LastKept
+pub mod Occupancy
 pub mod Outcome
 pub mod OverWords
 pub mod Pops

@@ -20,6 +20,6 @@ pub use framehop_registers::{
     one_read_over_words, wrapping_add_signed,
 };
 pub use outcome_laws::{addresses_and_words_that_answer, parts_that_answer};
-pub use rule_cache::{CacheHandle, CacheResult, CacheStats, RuleCache, SlotCount};
+pub use rule_cache::{CacheHandle, CacheOccupancy, CacheResult, CacheStats, RuleCache, SlotCount};
 pub use unwind_result::UnwindResult;
 pub use unwind_rule::UnwindRule;

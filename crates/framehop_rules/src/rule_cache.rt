@@ -93,9 +93,10 @@ enum CacheSlot<R> {
 }
 
 impl<R: Copy> CacheSlot<R> {
-    ghost use Rattle.std.specs.Prelude.{Some};
+    ghost use Rattle.std.specs.Prelude.{Some, is_some, map};
+    ghost use Rattle.framehop_rules.specs.Occupancy.{rules_in};
     ghost use Rattle.framehop_rules.specs.Slots.{finding_for, key_of};
-    ghost use Rattle.framehop_rules.specs.CacheViews.{entry_shown, finding_shown, slot_shown};
+    ghost use Rattle.framehop_rules.specs.CacheViews.{entry_shown, finding_shown, single_shown, slot_shown};
 
     // The slot of a frame of this kind with an entry.
     fn with(is_first_frame: bool, entry: CacheEntry<R>) -> Self
@@ -106,6 +107,21 @@ impl<R: Copy> CacheSlot<R> {
         } else {
             CacheSlot::LaterFrame(entry)
         }
+    }
+
+    // Whether a rule is kept here.
+    fn is_taken(&self) -> bool
+        ensures { result ≡ is_some (slot_shown self.now) }
+    {
+        !matches!(self, CacheSlot::Empty)
+    }
+
+    // In how many slots a rule is kept.
+    #[tactic(auto, using(crate::proofs::Occupancy::singles_taken))]
+    fn count_taken(slots: &[CacheSlot<R>]) -> usize
+        ensures { result ≡ rules_in (map single_shown slots.now) }
+    {
+        slots.iter().filter(|slot| slot.is_taken()).count()
     }
 
     // What a look-up finds in this slot alone.
@@ -137,7 +153,7 @@ struct SlotPair<R> {
 }
 
 impl<R: Copy> SlotPair<R> {
-    ghost use Rattle.std.specs.Prelude.{◌∷◌, take};
+    ghost use Rattle.std.specs.Prelude.{◌∷◌, ◌≤◌, count_by, is_some, length, take};
     ghost use Rattle.framehop_rules.specs.Slots.{finding_among, key_of};
     ghost use Rattle.framehop_rules.specs.CacheViews.{finding_shown, pair_shown, slot_shown};
 
@@ -151,6 +167,24 @@ impl<R: Copy> SlotPair<R> {
             Finding::Hits(rule) => Finding::Hits(rule),
             _ => self.older.find(address, is_first_frame, modules_generation),
         }
+    }
+
+    // In how many newer slots a rule is kept.
+    #[tactic(auto, using(crate::proofs::Occupancy::counts_few))]
+    fn count_newer(pairs: &[SlotPair<R>]) -> usize
+        ensures counted { result ≡ count_by (λ pair. is_some (slot_shown pair.newer)) pairs.now }
+        ensures few { result ≤ length pairs.now }
+    {
+        pairs.iter().filter(|pair| pair.newer.is_taken()).count()
+    }
+
+    // In how many older slots a rule is kept.
+    #[tactic(auto, using(crate::proofs::Occupancy::counts_few))]
+    fn count_older(pairs: &[SlotPair<R>]) -> usize
+        ensures counted { result ≡ count_by (λ pair. is_some (slot_shown pair.older)) pairs.now }
+        ensures few { result ≤ length pairs.now }
+    {
+        pairs.iter().filter(|pair| pair.older.is_taken()).count()
     }
 
     // Keeps what is in a slot as the newer. The older falls out.
@@ -194,6 +228,7 @@ impl<R: Copy> CacheSlots<R> {
     ghost use Rattle.std.specs.Prelude.{IfOk};
     ghost use Rattle.framehop_rules.specs.Slots.{IsSlotCount, empty_sets, key_of, layout_of};
     ghost use Rattle.framehop_rules.specs.CacheViews.{IsLaidOut, entry_shown, finding_shown, found_shown, layout_shown, sets_shown, with_shown};
+    ghost use Rattle.framehop_rules.specs.Occupancy.{rules_in, slots_in};
 
     // So many slots, with nothing in them, in one allocation.
     fn new(alloc: Global, slots: usize) -> Result<Self, AllocError>
@@ -210,6 +245,29 @@ impl<R: Copy> CacheSlots<R> {
             older: CacheSlot::Empty,
         };
         Ok(CacheSlots::Pairs(vec![in alloc; pair; slots / 2]?))
+    }
+
+    // How many there are.
+    #[tactic(auto, using(crate::proofs::Occupancy::pairs_slots))]
+    fn count(&self) -> usize
+        requires { IsLaidOut self.now }
+        ensures { result ≡ slots_in (layout_shown self.now) }
+    {
+        match self {
+            CacheSlots::Singles(_) => CACHE_ENTRY_COUNT,
+            CacheSlots::Pairs(pairs) => 2 * pairs.len(),
+        }
+    }
+
+    // In how many a rule is kept.
+    #[tactic(auto, using(crate::proofs::Occupancy::pairs_taken))]
+    fn count_taken(&self) -> usize
+        ensures { result ≡ rules_in (sets_shown self.now) }
+    {
+        match self {
+            CacheSlots::Singles(singles) => CacheSlot::count_taken(singles),
+            CacheSlots::Pairs(pairs) => SlotPair::count_newer(pairs) + SlotPair::count_older(pairs),
+        }
     }
 
     // What a look-up finds in the slots of its address.
@@ -297,6 +355,15 @@ impl CacheStats {
     }
 }
 
+/// How many rules a cache keeps, and how many it has room for.
+#[derive(Clone, Copy, Debug, PartialEq, Eq)]
+pub struct CacheOccupancy {
+    /// The slots.
+    pub slot_count: usize,
+    /// The slots in which a rule is kept.
+    pub rule_count: usize,
+}
+
 /// The key of a failed look-up: pass it to `insert` with the rule to keep.
 #[derive(Drop)]
 pub struct CacheHandle {
@@ -355,6 +422,7 @@ fn count(number: &mut u64)
 
 impl<R: UnwindRule> RuleCache<R> {
     ghost use Rattle.framehop_rules.specs.Slots.{key_of, with_kept, found_by, counts_after_lookup, new_kept};
+    ghost use Rattle.framehop_rules.specs.Occupancy.{occupancy_of};
     ghost use Rattle.framehop_rules.specs.CacheViews.{result_of, IfHit};
 
     /// A cache without a rule, of 509 slots, each for the addresses of one remainder. Its slots are one
@@ -438,6 +506,16 @@ impl<R: UnwindRule> RuleCache<R> {
         ensures { result ≡ self.now.counts }
     {
         self.stats
+    }
+
+    /// How many slots there are, and in how many of them a rule is kept. This goes over all slots.
+    pub fn occupancy(&self) -> CacheOccupancy
+        ensures { result ≡ occupancy_of self.now }
+    {
+        CacheOccupancy {
+            slot_count: self.slots.count(),
+            rule_count: self.slots.count_taken(),
+        }
     }
 }
 
