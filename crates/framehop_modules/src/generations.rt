@@ -2,6 +2,7 @@
 
 ghost use Rattle.std.specs.Prelude.{◌≡◌, ◌≢◌, ◌≤◌, ◌-◌, ◌+◌, ◌^◌, IfOk, IsErr, OnOk, OnErr};
 
+use std::fmt::{self, Debug, Formatter, Write};
 use std::marker::Model;
 use thiserror::Error;
 
@@ -29,12 +30,37 @@ impl Model for Generations {
 pub struct GenerationsExhausted;
 
 /// Why a module was not loaded, with the module.
-#[derive(Drop)]
+#[derive(Drop, Error)]
+#[error_bound(M: Drop)]
 pub enum LoadError<M> {
     /// The counter gave all its numbers.
+    #[error("GenerationsExhausted")]
     GenerationsExhausted(M),
     /// There is no memory for the list of modules.
+    #[error("OutOfMemory")]
     OutOfMemory(M),
+}
+
+impl<M> LoadError<M> {
+    ghost use Rattle.framehop_modules.specs.LoadErrors.{module_returned};
+
+    /// The module that was not loaded.
+    pub fn into_module(self) -> M
+        ensures { result ≡ module_returned self }
+    {
+        match self {
+            LoadError::GenerationsExhausted(module) | LoadError::OutOfMemory(module) => module,
+        }
+    }
+}
+
+impl<M> Debug for LoadError<M> {
+    fn fmt<W: Write>(&self, f: &mut Formatter<W>) -> fmt::Result {
+        f.write_str(match self {
+            LoadError::GenerationsExhausted(_) => "GenerationsExhausted(..)",
+            LoadError::OutOfMemory(_) => "OutOfMemory(..)",
+        })
+    }
 }
 
 impl Generations {
