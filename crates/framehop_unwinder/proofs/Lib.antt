@@ -1,5 +1,6 @@
 mod ByNumbers
 mod Elsewhere
+mod EndingWalks
 mod Held
 mod Histories
 mod KeyLists

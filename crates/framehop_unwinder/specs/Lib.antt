@@ -1,6 +1,7 @@
 pub mod Attempt
 pub mod ByNumber
 pub mod CacheViews
+pub mod EndingWalks
 pub mod Frames
 pub mod History
 pub mod IdViews

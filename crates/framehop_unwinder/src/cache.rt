@@ -1,10 +1,11 @@
 //! What steps keep and reuse.
 
 ghost use Rattle.std.specs.Prelude.{◌≡◌, IfOk};
+ghost use Rattle.framehop_rules.specs.Occupancy.{occupancy_of};
 ghost use Rattle.framehop_rules.specs.Slots.{new_kept};
 ghost use Rattle.framehop_unwinder.specs.CacheViews.{rules_of};
 
-use framehop_rules::{CacheStats, RuleCache, SlotCount, UnwindRule};
+use framehop_rules::{CacheOccupancy, CacheStats, RuleCache, SlotCount, UnwindRule};
 use std::alloc::{AllocError, Global};
 
 /// The unwind rules that steps kept, and the room that attempts reuse. One cache serves any number
@@ -51,5 +52,12 @@ impl<R: UnwindRule, C> Cache<R, C> {
         ensures { result ≡ (rules_of self.now).counts }
     {
         self.rule_cache.stats()
+    }
+
+    /// How many slots there are, and in how many of them a rule is kept. This goes over all slots.
+    pub fn occupancy(&self) -> CacheOccupancy
+        ensures { result ≡ occupancy_of (rules_of self.now) }
+    {
+        self.rule_cache.occupancy()
     }
 }

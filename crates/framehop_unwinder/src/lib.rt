@@ -9,6 +9,7 @@ pub mod laws;
 mod module;
 mod numbered;
 mod session;
+mod session_iterator;
 mod unwinder;
 mod unwinders;
 mod unwinding;
@@ -16,12 +17,13 @@ mod unwinding;
 pub use cache::Cache;
 pub use framehop_modules::{Generations, GenerationsExhausted, LoadError};
 pub use framehop_rules::{
-    Arch, CacheStats, Error, FrameAddress, SlotCount, UnwindResult, UnwindRule,
+    Arch, CacheOccupancy, CacheStats, Error, FrameAddress, SlotCount, UnwindResult, UnwindRule,
 };
 pub use ids::{CacheId, StaleId, UnwinderId};
 pub use iterator::{StackWalk, UnwindIterator};
 pub use module::Module;
 pub use session::{AddUnwinderError, Session};
+pub use session_iterator::SessionUnwindIterator;
 pub use unwinder::UnwinderInternal;
 pub use unwinders::Unwinder;
 pub use unwinding::{ModuleUnwinding, UnwindFailure};

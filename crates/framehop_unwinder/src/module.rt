@@ -99,7 +99,7 @@ impl<D> Module<D> {
     }
 
     /// What the module has to be unwound by.
-    pub(crate) fn unwind_data(&self) -> &D
+    pub fn unwind_data(&self) -> &D
         ensures { result.now ≡ self.now.unwind_data }
     {
         &self.inner.unwind_data

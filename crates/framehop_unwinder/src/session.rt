@@ -3,6 +3,7 @@
 ghost use Rattle.std.specs.Prelude.{◌≡◌, ◌≤◌, ◌+◌, ◌^◌, ◌-◌, ◌∷◌, ◌++◌, [], true, false, Ok, Err, None, Option, length, List, IfOk, IfErr, IsErr, OnOk, OnErr};
 ghost use Rattle.framehop_registers.specs.Callback.{OverWords};
 ghost use Rattle.framehop_modules.specs.LoadErrors.{module_returned, is_exhausted};
+ghost use Rattle.framehop_rules.specs.Occupancy.{occupancy_of};
 ghost use Rattle.framehop_unwinder.specs.Frames.{frame_of};
 ghost use Rattle.framehop_unwinder.specs.History.{GainNewHistory, KeyHistory, HaveHistories, history_at};
 ghost use Rattle.framehop_unwinder.specs.IdViews.{FindsHeld, MovesBy, StepsBy, cache_number, has_both, has_cache, has_module_at, has_unwinder, modules_by, unwinder_number, with_module_in, without_module_in};
@@ -12,18 +13,19 @@ ghost use Rattle.framehop_unwinder.specs.Modules.{last_end};
 ghost use Rattle.framehop_unwinder.specs.Moves.{MoveWants, MovesOn};
 ghost use Rattle.framehop_unwinder.specs.State.{cache_at, empty_state, with_cache, with_clone, with_unwinder, without_cache, without_unwinder};
 ghost use Rattle.framehop_unwinder.specs.Trials.{StaysUnlessStepped, StepsAs, wants_memory};
-ghost use Rattle.framehop_unwinder.specs.WalkViews.{MovesAs, walk_of};
+ghost use Rattle.framehop_unwinder.specs.WalkViews.{MovesAs, walk_from, walk_of};
 
 use crate::cache::Cache;
 use crate::ids::{CacheId, StaleId, UnwinderId};
 use crate::iterator::{StackWalk, UnwindIteratorState};
 use crate::module::Module;
 use crate::numbered::Numbered;
+use crate::session_iterator::SessionUnwindIterator;
 use crate::unwinder::UnwinderInternal;
 use crate::unwinders::Unwinder;
 use crate::unwinding::ModuleUnwinding;
 use framehop_modules::{Generations, GenerationsExhausted, LoadError};
-use framehop_rules::{CacheStats, Error, FrameAddress, SlotCount};
+use framehop_rules::{CacheOccupancy, CacheStats, Error, FrameAddress, SlotCount};
 use std::alloc::{AllocError, Global};
 use std::marker::Model;
 
@@ -292,6 +294,18 @@ impl<A: ModuleUnwinding> Session<A> {
         }
     }
 
+    /// How many slots a cache has, and in how many of them a rule is kept. This goes over all its slots.
+    pub fn occupancy(&self, cache: CacheId) -> Result<CacheOccupancy, StaleId>
+        ensures found { FindsHeld (has_cache self.now cache) result self.now self.now }
+        ensures occupancy { IfOk result (λ occupancy.
+            occupancy ≡ occupancy_of (cache_at self.now.caches (cache_number cache))) }
+    {
+        match self.caches.get(cache.place) {
+            Some(cache) => Ok(cache.occupancy()),
+            None => Err(StaleId),
+        }
+    }
+
     /// Makes the step of an unwinder from a frame with these registers, with any of the caches.
     pub fn step<F: FnMut(u64) -> Result<u64, ()>>(
         &mut self,
@@ -364,5 +378,23 @@ impl<A: ModuleUnwinding> Session<A> {
             UnwindIteratorState::Initial(pc) => Ok(Ok(Some(walk.state.begin(pc)))),
             UnwindIteratorState::Unwinding(_) | UnwindIteratorState::Done => Ok(Ok(None)),
         }
+    }
+    /// A walk over an unwinder's frames, with any of the caches, from a frame at the instruction pointer
+    /// `pc` with these registers. The session has to have both: `has` is the test.
+    pub fn iter_frames<'s, 'r, F: FnMut(u64) -> Result<u64, ()>>(
+        &'s mut self,
+        unwinder: UnwinderId,
+        cache: CacheId,
+        pc: u64,
+        regs: A::UnwindRegs,
+        read_stack: &'r mut F,
+    ) -> SessionUnwindIterator<'s, 'r, A, F>
+        requires { has_both self.old unwinder cache ≡ true }
+        ensures session { result.session ≡ self.entry }
+        ensures ids { (result.on.unwinder ≡ unwinder) × (result.on.cache ≡ cache) }
+        ensures walk { walk_of result.on.walk ≡ walk_from pc regs }
+        ensures stack { result.stack ≡ read_stack.entry }
+    {
+        SessionUnwindIterator::new(self, unwinder, cache, pc, regs, read_stack)
     }
 }
