@@ -5,6 +5,7 @@ pub mod FdeLookups
 pub mod FrameSections
 pub mod IndexSpans
 pub mod LastCie
+pub mod LeftOut
 pub mod Lookups
 pub mod Rising
 pub mod SectionFramesViews

@@ -149,6 +149,7 @@ impl<D: SectionBytes> SectionFrames<D> {
     ghost use Rattle.std.specs.Prelude.{IfSome, is_some};
     ghost use Rattle.framehop_index.specs.CfiIndexView.{IsIndexOf};
     ghost use Rattle.framehop_index.specs.FdeLookups.{ByHeader, ByScan, covering_fde, covers, fde_for, is_indexed, placed, section_of};
+    ghost use Rattle.framehop_index.specs.LeftOut.{fdes_left_out, lacks_index};
     ghost use Rattle.framehop_index.specs.SectionTypes.{frame_section_bytes};
 
     /// A section whose FDEs are found by the table of its header; a header that doesn't parse has none.
@@ -212,6 +213,23 @@ impl<D: SectionBytes> SectionFrames<D> {
     {
         match &self.entries {
             Entries::Index(index) => Some(index),
+            Entries::Header(_) | Entries::Unindexed | Entries::Scan => None,
+        }
+    }
+
+    /// Whether FDEs would be found by an index that the section doesn't have, since an error ends the list of its entries.
+    pub fn lacks_index(&self) -> bool
+        ensures { result ≡ lacks_index self.now }
+    {
+        matches!(self.entries, Entries::Unindexed)
+    }
+
+    /// How many FDEs the index leaves out, if FDEs are found by an index and the section has one.
+    pub fn left_out(&self) -> Option<usize>
+        ensures { result ≡ fdes_left_out self.now }
+    {
+        match &self.entries {
+            Entries::Index(index) => Some(index.left_out()),
             Entries::Header(_) | Entries::Unindexed | Entries::Scan => None,
         }
     }
