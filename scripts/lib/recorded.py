@@ -1,6 +1,7 @@
 """Recordings that perf makes of programs at work: small ones that are built for it, and those of the system."""
 
 import collections
+import shlex
 import shutil
 
 from lib.tools import give_up, run
@@ -188,13 +189,19 @@ CASES = {
 }
 
 
-def record(folder, name, frequency=997):
-    """Makes the recording of a case in a folder, and returns its path; None if its program isn't there."""
+def again(command, times):
+    """A command that runs another so many times, one after the other."""
+    return ["sh", "-c", "; ".join([shlex.join(map(str, command))] * times)] if times > 1 else command
+
+
+def record(folder, name, frequency=997, times=1):
+    """Makes the recording of a case in a folder, whose program is run so many times, and returns its path; None if its program isn't
+    there."""
     if not shutil.which("perf"):
         give_up("perf is needed, and is not installed")
     case, file = CASES[name](folder), folder / "perf.data"
     if not case.command:
         return None
     options = ["-q", "-e", "cpu-clock", "-F", frequency, "--call-graph", f"dwarf,{case.stack}", "-o", file]
-    run("perf", "record", *map(str, options), *map(str, case.command), folder=folder)
+    run("perf", "record", *map(str, options), *map(str, again(case.command, times)), folder=folder)
     return file
