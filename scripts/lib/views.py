@@ -315,7 +315,7 @@ def costs():
         table, row = next((it["rows"], row) for it in records.named("bench").tables if it.get("heading", "").startswith(heading)
                           for row in it["rows"] if row[0].startswith(label))
         cells = dict(zip(table[0], row))
-        elsewhere = [those[row[0]] for it in others if (those := ratios(it, heading_of(heading), {row[0]}))]
+        elsewhere = [those[row[0]] for it in others if it.name != "bench-instructions" and (those := ratios(it, heading_of(heading), {row[0]}))]
         rows.append([text, *(re.sub(" an? .*", "", cells[column]) for column in ("Proved", "Original")), cells["Ratio"], ", ".join(elsewhere) or "–"])
     return figures.markdown_table(rows) + "\n"
 

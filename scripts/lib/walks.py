@@ -8,12 +8,13 @@ import pathlib
 import random
 import re
 import struct
+import subprocess
 
 from lib import leb128, readelf
 from lib.elf import NOBITS, Elf
-from lib.timing import printed
 from lib.timed import timed_program
-from lib.tools import give_up
+from lib.timing import printed, words_of
+from lib.tools import CALLED, give_up
 
 BASE = 0x7F12_3400_0000
 STACK = 0x7FFD_8000_0000
@@ -260,6 +261,8 @@ class Turns:
     """Programs that make the same walks in turn, so many rounds each time, with what they read in a folder. The original is a program
     of bench/walks_original.rs, a peer one that reads documents."""
 
+    unit = "ns"
+
     def __init__(self, folder, turns, rounds, original=None, peer=None):
         self.folder, self.turns, self.rounds, self.original, self.peer = pathlib.Path(folder), turns, rounds, original, peer
         self.numbers = itertools.count()
@@ -295,6 +298,73 @@ class Turns:
         if is_same and len(frames) > 1:
             give_up(f"not the same number of frames: {', '.join(map(str, sorted(frames)))}")
         return [run and [min(times) for times in zip(*(results[at][1] for results in found))] for at, run in enumerate(runs)]
+
+
+def with_walks(document, walks_of):
+    """The document with other walks, which a function makes of its own."""
+    made = walks_of([command for command in document["commands"] if command["do"] == "walk"])
+    return {**document, "commands": [command for command in document["commands"] if command["do"] != "walk"] + made}
+
+
+def without_frames(walks):
+    """The same walks, which end before their first frame."""
+    return [{**walk, "limit": 0} for walk in walks]
+
+
+class Counts(Turns):
+    """The same programs, whose instructions are counted in place of time: each is run under valgrind, and what runs of nearly the same
+    work take more is that of the rest. So reading and printing don't count."""
+
+    unit = "instructions"
+
+    def __init__(self, folder, original=None):
+        super().__init__(folder, 1, 1, original)
+
+    def _counted(self, program, words, document, rounds):
+        """How many frames a run prints, and its instructions."""
+        return instructions_of(program, *words, given=work(document, rounds))
+
+    def _run(self, program, document, once, again, passes):
+        """Frames, and the instructions of making a module, of all walks through one cache that has seen them, and of all with a new
+        cache each, without and with the making of the caches. With the words `once` the program walks once, with `again` also as often
+        as there are rounds: once through the cache that has seen the walks, and so many passes with new caches."""
+        rounds = 0 if once == again else 1
+
+        def whole(walks_of):
+            (frames, first), (_, second) = (self._counted(program, again, with_walks(document, walks_of), count) for count in (1, 2))
+            return frames, second - first
+
+        def single(walks_of):
+            return self._counted(program, once, with_walks(document, walks_of), rounds)[1]
+
+        (frames, all_walks), (_, no_frames), (_, module) = whole(lambda walks: walks), whole(without_frames), whole(lambda walks: [])
+        seen = single(lambda walks: walks + walks) - single(lambda walks: walks + without_frames(walks))
+        fresh, caches = (all_walks - no_frames - seen) / passes, (no_frames - module) / passes
+        return frames, [module, *(value / frames for value in (seen, fresh, fresh + caches))]
+
+    def ours(self, document, is_tabulated=False):
+        program = timed_program(f"bench_{'tables' if is_tabulated else 'walks'}_{document['arch']}")
+        return lambda: self._run(program, document, [], ["time"], 2)
+
+    def rival(self, document):
+        if not self.original:
+            return None
+        words = [document["arch"]]
+        return lambda: self._run(self.original, document, words, words, 1)
+
+
+def instructions_of(program, *words, given=b""):
+    """The number at the start of what a program prints on some input, and how many instructions it takes, by valgrind."""
+    CALLED.add("valgrind")
+    command = ["valgrind", "--tool=callgrind", "--callgrind-out-file=/dev/null", *words_of(program), *words]
+    try:
+        done = subprocess.run(command, input=given, capture_output=True)
+    except FileNotFoundError:
+        give_up("valgrind is needed, and is not installed")
+    counted, printed_number = re.search(rb"Collected : (\d+)", done.stderr), re.match(rb"(\d+) ", done.stdout)
+    if done.returncode != 0 or not counted or not printed_number:
+        give_up(f"{program} ended with status {done.returncode} under valgrind")
+    return int(printed_number[1]), int(counted[1])
 
 
 def for_each_fde(times, document):
