@@ -1,6 +1,6 @@
 //! The section `.eh_frame_hdr`, and its header before the table.
 
-ghost use Rattle.std.specs.Prelude.{◌≡◌, ◌≤◌, OnErr};
+ghost use Rattle.std.specs.Prelude.{◌≡◌, ◌≤◌, IfSome, OnErr};
 ghost use Rattle.dwarf_constants.specs.declared.common.SectionId.TheVariants as id;
 ghost use Rattle.dwarf_endianity.specs.Answers.{Gives};
 ghost use Rattle.dwarf_readers.specs.EndianSlice.{stretch_of};
@@ -120,6 +120,10 @@ impl<R: Reader> Section<R> for EhFrameHdr<R> {
     }
 }
 
+// The encoding that linkers write for pointers of the table: `DW_EH_PE_datarel` and `DW_EH_PE_sdata4`, that is by four bytes from the
+// section's start.
+const LINKED: DwEhPe = DwEhPe(0x3b);
+
 /// The header of the section, and the bytes of its table.
 #[derive(Debug, Drop)]
 pub struct ParsedEhFrameHdr<R: Reader> {
@@ -156,6 +160,25 @@ impl<R: Reader> ParsedEhFrameHdr<R> {
         ensures { result ≡ self.now.eh_frame_ptr }
     {
         self.eh_frame_ptr
+    }
+
+    // The same header, if its pointers are encoded as linkers write them and addresses have 8 bytes: where this is called, the compiler
+    // knows both, and pointers are read without asking how.
+    #[inline(always)]
+    pub(crate) fn as_linked(&self) -> Option<Self>
+        ensures { IfSome result (λ header. header ≡ self.now) }
+    {
+        if self.table_enc != LINKED || self.address_size != 8 {
+            return None;
+        }
+        Some(ParsedEhFrameHdr {
+            section: self.section,
+            address_size: 8,
+            eh_frame_ptr: self.eh_frame_ptr,
+            table_enc: LINKED,
+            fde_count: self.fde_count,
+            table: self.table,
+        })
     }
 
     /// The table, if it has rows.

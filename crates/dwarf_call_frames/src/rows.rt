@@ -53,6 +53,7 @@ impl<R: Reader> ParsedEhFrameHdr<R> {
     }
 
     // The start in the row with this index. Pointers have this size in bytes.
+    #[inline(always)]
     pub(crate) fn start_at(&self, size: u8, index: u64, bases: &BaseAddresses) -> Result<u64>
         ensures { result ≡ start_at R.Offset.limit size
             (header_table bases.now.eh_frame_hdr self.now) index }
@@ -63,6 +64,7 @@ impl<R: Reader> ParsedEhFrameHdr<R> {
     }
 
     // The pointer to an FDE in the row with this index. Pointers have this size in bytes.
+    #[inline(always)]
     pub(crate) fn target_at(&self, size: u8, index: u64, bases: &BaseAddresses) -> Result<Pointer>
         ensures { result ≡ target_at R.Offset.limit size
             (header_table bases.now.eh_frame_hdr self.now) index }
@@ -88,6 +90,7 @@ pub(crate) fn pointer_size(encoding: DwEhPe) -> Result<u8>
 }
 
 // Skips rows whose pointers have this size in bytes.
+#[inline(always)]
 pub(crate) fn skip_rows<R: Reader>(input: &mut R, size: u8, count: u64) -> Result<()>
     ensures moved { Moves result (after_rows R.Offset.limit size count (R.stretch input.old))
         (R.stretch input.new) }
@@ -97,6 +100,7 @@ pub(crate) fn skip_rows<R: Reader>(input: &mut R, size: u8, count: u64) -> Resul
 }
 
 // The size in bytes of rows whose pointers have this size.
+#[inline(always)]
 fn offset_of_row<O: ReaderOffset>(size: u8, count: u64) -> Result<O>
     ensures { Gives O.value result (offset_below O.limit (count * (2 * size))) }
 {

@@ -83,12 +83,33 @@ impl<'a, R: Reader> EhHdrTable<'a, R> {
             (header_table bases.now.eh_frame_hdr self.now) }
         ensures few { (k : ℕ) → self.now.count ≤ 2 ^ k → steps.new ≤ steps.old + k }
     {
+        match self.hdr.as_linked() {
+            Some(hdr) => EhHdrTable::new(&hdr).look_up(address, bases, steps),
+            None => self.look_up(address, bases, steps),
+        }
+    }
+
+    // The same, by the header as it is given.
+    #[inline(always)]
+    fn look_up<L: Ledger>(
+        &self,
+        address: u64,
+        bases: &BaseAddresses,
+        steps: &mut Steps<L>,
+    ) -> Result<Pointer>
+        ensures row { result ≡ header_row R.Offset.limit address
+            (header_table bases.now.eh_frame_hdr self.now) }
+        ensures counted { steps.new ≡ steps.old + starts_read R.Offset.limit address
+            (header_table bases.now.eh_frame_hdr self.now) }
+        ensures few { (k : ℕ) → self.now.count ≤ 2 ^ k → steps.new ≤ steps.old + k }
+    {
         let hdr = self.hdr;
         let size = pointer_size(hdr.table_enc)?;
         self.halve(size, address, bases, steps)
     }
 
     // Halves the rows until one is left, or until a start is the address.
+    #[inline(always)]
     fn halve<L: Ledger>(
         &self,
         size: u8,

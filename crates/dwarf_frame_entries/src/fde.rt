@@ -1,6 +1,6 @@
 //! Frame description entries.
 
-ghost use Rattle.std.specs.Prelude.{◌≡◌, ◌≤◌};
+ghost use Rattle.std.specs.Prelude.{◌≡◌, ◌≤◌, Some};
 ghost use Rattle.dwarf_endianity.specs.Answers.{Gives};
 ghost use Rattle.dwarf_frame_rows.specs.EncodedPointer.{pointer_at};
 ghost use Rattle.dwarf_frame_entries.specs.CieReaders.{GivesByCies, ReadsCieOf};
@@ -137,7 +137,12 @@ impl<'bases, Section: UnwindSection<R>, R: Reader> PartialFrameDescriptionEntry<
     }
 }
 
-// Reads the first address of the code and the size of the code in bytes.
+// The encoding that compilers write for the first address of the code: `DW_EH_PE_pcrel` and `DW_EH_PE_sdata4`, that is by four bytes
+// from the pointer itself.
+const COMPILED: DwEhPe = DwEhPe(0x1b);
+
+// Reads the first address of the code and the size of the code in bytes. The code for the encoding that compilers write is apart, since
+// that is known there.
 #[inline(always)]
 fn read_addresses<R: Reader>(
     encoding: Option<DwEhPe>,
@@ -150,18 +155,31 @@ fn read_addresses<R: Reader>(
 {
     let size = parameters.address_size;
     match encoding {
-        Some(encoding) => {
-            // The flag for an indirect pointer is ignored: the code begins at the pointer itself.
-            let initial_address = parse_encoded_pointer(encoding, parameters, input)?.pointer();
-            let address_range = parse_encoded_value(encoding, size, input)?;
-            Ok((initial_address, address_range))
-        }
+        Some(COMPILED) => read_encoded_addresses(COMPILED, parameters, input),
+        Some(encoding) => read_encoded_addresses(encoding, parameters, input),
         None => {
             let initial_address = input.read_address(size)?;
             let address_range = input.read_address(size)?;
             Ok((initial_address, address_range))
         }
     }
+}
+
+// Reads the same as they are encoded.
+#[inline(always)]
+fn read_encoded_addresses<R: Reader>(
+    encoding: DwEhPe,
+    parameters: &PointerEncodingParameters<'_, R>,
+    input: &mut R,
+) -> Result<(u64, u64)>
+    requires { (R.stretch parameters.now.section.now).offset ≤ (R.stretch input.old).offset }
+    ensures { ReadsIn R.stretch parameters.now (λ origins. code_range_at origins (Some encoding))
+        input.old result input.new }
+{
+    // The flag for an indirect pointer is ignored: the code begins at the pointer itself.
+    let initial_address = parse_encoded_pointer(encoding, parameters, input)?.pointer();
+    let address_range = parse_encoded_value(encoding, parameters.address_size, input)?;
+    Ok((initial_address, address_range))
 }
 
 // Reads an FDE's augmentation data, if its CIE says that there is any, and in it the pointer to

@@ -121,6 +121,7 @@ impl<R: Reader> FrameDescriptionEntry<R> {
 
     /// The entry's program: the instructions of its CIE, then its own, and the addresses that they are for. `section` has to be
     /// the one in which the entry was read.
+    #[inline(always)]
     pub fn program<'a, Section: UnwindSection<R>>(
         &self,
         section: &'a Section,

@@ -1,3 +1,4 @@
+pub mod NoneLeft
 pub mod PartsLaws
 pub mod PartsOfRows
 pub mod PartsSteps

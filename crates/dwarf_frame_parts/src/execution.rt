@@ -1,10 +1,11 @@
 //! What an instruction does to the parts of a row, without a context. What may fail in a context is given up.
 
-ghost use Rattle.dwarf_frame_instructions.specs.InstructionViews.{instruction_as, instructions_by};
+ghost use Rattle.dwarf_frame_instructions.specs.InstructionViews.{GivesNextBy, instruction_as, instructions_by};
 ghost use Rattle.dwarf_frame_parts.specs.Execution.{Executes, ExecutesNext};
 
 use crate::parts_state::PartsState;
 use crate::simple_row::Columns;
+use dwarf_constants::Result;
 use dwarf_frame_instructions::{CallFrameInstruction, Coding, Factors};
 use dwarf_frame_rows::Effect;
 use dwarf_readers::{Reader, ReaderOffset};
@@ -97,6 +98,20 @@ fn execute_frequent<T: ReaderOffset>(
     }
 }
 
+// The next instruction, by a call if bytes are left: most programs end after a frequent one.
+#[inline(always)]
+pub(crate) fn next_left<R: Reader>(
+    coding: &Coding<'_, R>,
+    input: &mut R,
+) -> Result<Option<CallFrameInstruction<R::Offset>>>
+    ensures { GivesNextBy R.stretch R.Offset.limit R.Offset.value coding.now result input.old input.new }
+{
+    if input.is_empty() {
+        return Ok(None);
+    }
+    coding.next_by_call(input)
+}
+
 // Executes the next instruction without a context, if one is left. One that can't be read is given up. If it isn't a frequent one, the
 // state is passed to a call as a copy, and so it needn't be kept in memory.
 #[inline(always)]
@@ -114,7 +129,7 @@ pub(crate) fn execute_next<R: Reader>(
     if let Some(instruction) = coding.next_if_frequent(input) {
         return Some(execute_frequent(state, columns, factors, location, instruction));
     }
-    let Ok(next) = coding.next_by_call(input) else {
+    let Ok(next) = next_left(coding, input) else {
         return Some(Action::GivesUp);
     };
     let instruction = next?;

@@ -3,6 +3,7 @@
 ghost use Rattle.std.specs.Prelude.{IsTrue, IfSome};
 ghost use Rattle.dwarf_frame_parts.specs.Execution.{AreLeftBy, Sets};
 
+use crate::execution::next_left;
 use crate::simple_row::{Columns, SimpleRow, SimpleRule};
 use dwarf_frame_instructions::{CallFrameInstruction, CallFrameInstructionIter, Factors};
 use dwarf_frame_rows::Effect;
@@ -51,7 +52,7 @@ pub fn left_by_cie<R: Reader>(
         let instruction = match coding.next_if_frequent(&mut input) {
             Some(instruction) => instruction,
             None => {
-                let Ok(next) = coding.next_by_call(&mut input) else {
+                let Ok(next) = next_left(&coding, &mut input) else {
                     return None;
                 };
                 let Some(instruction) = next else {

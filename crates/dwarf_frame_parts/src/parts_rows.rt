@@ -166,6 +166,7 @@ impl<'a, R: Reader> PartsRows<'a, R> {
 ///
 /// [`MAX_RULES`]: crate::MAX_RULES
 /// [`MAX_ROWS`]: crate::MAX_ROWS
+#[inline(always)]
 pub fn parts_for_address<R: Reader>(
     columns: Columns,
     program: FrameProgram<'_, R>,

@@ -2,7 +2,7 @@ use Rattle.std.proofs.Common.{arith}
 use Rattle.dwarf_call_frames.specs.HeaderTable.{row_at_index, rows_by_index, header_table}
 use Rattle.dwarf_call_frames.proofs.Halves.{few_reads}
 use Rattle.dwarf_call_frames.proofs.RowsBetween.{length-between}
-use Rattle.dwarf_call_frames.proofs.table.EhHdrTable.lookup_counted.Goals as goal
+use Rattle.dwarf_call_frames.proofs.table.EhHdrTable.look_up.Goals as goal
 
 pub returns-clause-few : goal.returns-clause-few
 returns-clause-few g c k few =
