@@ -20,5 +20,6 @@ pub mod TableMethods
 pub mod TruthfulLookups
 pub mod UnwindData
 pub mod UnwindDataViews
+pub mod UnwindKinds
 pub mod WalkLengths
 pub mod WalksX86_64

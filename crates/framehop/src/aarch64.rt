@@ -3,6 +3,7 @@
 ghost use Rattle.std.specs.Prelude.{◌≡◌, IfOk, OnOk, OnErr, []};
 ghost use Rattle.std.specs.List.{All};
 ghost use Rattle.framehop_histories.specs.CommandViews.{OfCallback};
+ghost use Rattle.framehop_rules.specs.Occupancy.{occupancy_of};
 ghost use Rattle.framehop_rules.specs.Slots.{new_kept};
 ghost use Rattle.framehop_unwinder.specs.CacheViews.{rules_of};
 ghost use Rattle.framehop.specs.Performances.{PerformsAarch64};
@@ -17,9 +18,9 @@ pub use framehop_analysis::aarch64::{
 };
 use framehop_modules::SectionBytes;
 pub use framehop_rows::aarch64::rule_answers_as_its_row;
-use framehop_rules::CacheStats;
 pub use framehop_rules::SlotCount;
 pub use framehop_rules::aarch64::{ArchAarch64, PtrAuthMask, UnwindRegsAarch64, UnwindRuleAarch64};
+use framehop_rules::{CacheOccupancy, CacheStats};
 use framehop_unwinder::{Cache, Session, UnwinderInternal};
 use std::alloc::{AllocError, Global};
 use std::collections::VecDeque;
@@ -79,6 +80,13 @@ impl<P: AllocationPolicy> CacheAarch64<P> {
         ensures { result ≡ (rules_of self.now.0).counts }
     {
         self.0.stats()
+    }
+
+    /// How many slots there are, and in how many of them a rule is kept. This goes over all slots.
+    pub fn occupancy(&self) -> CacheOccupancy
+        ensures { result ≡ occupancy_of (rules_of self.now.0) }
+    {
+        self.0.occupancy()
     }
 }
 

@@ -146,7 +146,7 @@ impl<D: SectionBytes + Drop> CallFrames<D> {
 impl<D: SectionBytes> CallFrames<D> {
     // The section itself, with what finds its FDEs.
     #[inline(always)]
-    fn main(&self) -> &SectionFrames<D>
+    pub(crate) fn main(&self) -> &SectionFrames<D>
         ensures { result.now ≡ self.now.main }
     {
         &self.main

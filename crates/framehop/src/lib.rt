@@ -21,6 +21,7 @@ pub mod row_laws;
 pub mod rule_laws;
 mod tabulation;
 mod unwind_data;
+mod unwind_kind;
 pub mod walk_laws;
 pub mod x86_64;
 
@@ -53,15 +54,16 @@ pub use framehop_rows::{
     DwarfUnwindRegs, DwarfUnwinding, RowRules, eval_cfa_rule, eval_register_rule,
 };
 pub use framehop_rules::{
-    AddSigned, Arch, CacheHandle, CacheResult, CacheStats, Error, FrameAddress, HexNum, RuleCache,
-    UnwindResult, UnwindRule, checked_add_signed, wrapping_add_signed,
+    AddSigned, Arch, CacheHandle, CacheOccupancy, CacheResult, CacheStats, Error, FrameAddress,
+    HexNum, RuleCache, UnwindResult, UnwindRule, checked_add_signed, wrapping_add_signed,
 };
 pub use framehop_tables::{Covered, RuleLookup, RuleTable, SameRule};
 pub use framehop_unwinder::{
-    AddUnwinderError, Cache, CacheId, ModuleUnwinding, Session, StackWalk, StaleId, UnwindFailure,
-    UnwindIterator, Unwinder, UnwinderId, UnwinderInternal, laws,
+    AddUnwinderError, Cache, CacheId, ModuleUnwinding, Session, SessionUnwindIterator, StackWalk,
+    StaleId, UnwindFailure, UnwindIterator, Unwinder, UnwinderId, UnwinderInternal, laws,
 };
 pub use load_options::{FdeLookup, LoadOptions, TableArch};
 pub use module::{Module, load_module};
 pub use tabulation::{ArchRuleTable, Tabulating};
 pub use unwind_data::ModuleUnwindData;
+pub use unwind_kind::{LeftOut, UnwindDataKind};
