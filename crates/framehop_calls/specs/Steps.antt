@@ -9,8 +9,8 @@ use Rattle.framehop_unwinder.specs.Judge.{judge}
 use Rattle.framehop_unwinder.specs.State.{SessionState, modules_at}
 use Rattle.framehop_unwinder.specs.Walk.{Walk}
 use Rattle.framehop_samples.specs.Samples.{words_of}
-use Rattle.framehop_samples.specs.Steps.{AsksAsSaid, KeepsModules, SampleSteps}
-use Rattle.framehop_samples.specs.Walks.{NeedsUnknown, WalksOver, WritesFrames}
+use Rattle.framehop_samples.specs.Steps.{AsksAsSaid, CountsAsStep, KeepsModules, SampleSteps}
+use Rattle.framehop_samples.specs.Walks.{NeedsUnknown, Through, WalkIn, WalksOver, WritesFrames}
 use Rattle.framehop_samples.specs.declared.sample.Sample.{Sample}
 use Rattle.framehop_samples.specs.declared.steps.SampleStep.{SampleStep}
 use Rattle.framehop_samples.specs.declared.steps.SampleStep.TheVariants.{Answered, NeedsWord}
@@ -70,7 +70,7 @@ after_step made registers call = record call {
   word_address = word_by made call.word_address;
 }
 
--- A step over a sample is made: it is the judge's, and what it gives is written and told.
+-- A step over a sample is made: it is the judge's, what it gives is written and told, and it is counted in the cache that is named.
 pub record MakesStep {Data Rule Registers : Type 0} (m : Meanings Data Rule Registers) (status : ℕ) (sample : Sample)
     (old_call new_call : StepCall Registers) (old new : SessionState Data Rule) : Type 0 where
   pub made : SampleStep
@@ -80,6 +80,7 @@ pub record MakesStep {Data Rule Registers : Type 0} (m : Meanings Data Rule Regi
       (judge m (modules_at old old_call.unwinder) old_call.frame old_call.registers (words_of sample))
   pub asks : AsksAsSaid made sample
   pub session : KeepsModules old new
+  pub caches : CountsAsStep m made old_call.frame old_call.unwinder old_call.cache old new
 
 -- A step over a sample, if there are such an unwinder and such a cache; else nothing is changed, and it is told.
 pub record StepsByNumber {Data Rule Registers : Type 0} (m : Meanings Data Rule Registers) (status : ℕ) (sample : Sample)
@@ -115,13 +116,22 @@ pub record WalkCall (Registers : Type 0) : Type 0 where
 abbrev pub after_walk : {Registers : Type 0} → Walked → Walk Registers → WalkCall Registers → WalkCall Registers
 after_walk made walk call = record call { walk = walk; count = made.count; word_address = word_at_end made.end call.word_address }
 
--- A walk over a sample goes on: its frames are the judge's, one after the other, and they are written within the room.
+-- what a walk by a call goes through
+abbrev pub through_call : {Data Rule Registers : Type 0} → Meanings Data Rule Registers → Sample → WalkCall Registers → Through Data Rule Registers
+through_call m sample call = record { meanings = m; words = words_of sample; unwinder = call.unwinder; cache = call.cache }
+
+-- where the walk of a call is, in a session
+abbrev pub call_in : {Data Rule Registers : Type 0} → WalkCall Registers → SessionState Data Rule → WalkIn Data Rule Registers
+call_in call session = record { walk = call.walk; session = session }
+
+-- A walk over a sample goes on: its frames are the judge's, one after the other, each a move through the cache that is named, and they are
+-- written within the room.
 pub record MakesWalk {Data Rule Registers : Type 0} (m : Meanings Data Rule Registers) (status : ℕ) (sample : Sample)
     (before after : WalkCall Registers × List ℕ) (old new : SessionState Data Rule) : Type 0 where
   pub made : Walked
   pub told : status ≡ walk_status made.end
   pub written : after.0 ≡ after_walk made after.0.walk before.0
-  pub walk : WalksOver (judge m (modules_at old before.0.unwinder)) (words_of sample) before.0.walk (take made.count after.1) made.end after.0.walk
+  pub walk : WalksOver (through_call m sample before.0) (call_in before.0 old) (take made.count after.1) made.end (call_in after.0 new)
   pub frames : WritesFrames made before.1 after.1
   pub needs : NeedsUnknown made.end sample
   pub session : KeepsModules old new

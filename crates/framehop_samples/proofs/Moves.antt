@@ -8,14 +8,17 @@ use Rattle.framehop_registers.specs.declared.error.Error.{Error}
 use Rattle.framehop_registers.specs.declared.error.Error.TheVariants.{CouldNotReadStack, FramepointerUnwindingMovedBackwards, DidNotAdvance, IntegerOverflow, ReturnAddressIsNull, OutOfMemory}
 use Rattle.framehop_rules.specs.Outcome.{Outcome, Caller, Ends, Refuses, Answers, IsStep, answer_of_outcome}
 use Rattle.framehop_unwinder.specs.Frames.{Frame, first_frame, frame_of, later_frame}
+use Rattle.framehop_unwinder.specs.State.{SessionState, StepsThrough}
+use Rattle.framehop_unwinder.specs.Trials.{wants_memory}
 use Rattle.framehop_unwinder.specs.Walk.{Judgment, At, Over, Walk, Move, move, move_by, move_to}
-use Rattle.framehop_samples.specs.Steps.{IsAnswered, TakesNoMemory}
-use Rattle.framehop_samples.specs.Walks.{Gives, GoesBy, GoesOn, MoveNeeds, MovesBy, MovesWithoutMemory, StopsBy, walk_of}
+use Rattle.framehop_samples.specs.Steps.{CountsAsStep, IsAnswered, TakesNoMemory}
+use Rattle.framehop_samples.specs.Walks.{CountsAsMove, Gives, GoesBy, GoesOn, MoveNeeds, MovesBy, MovesCaches, MovesWithoutMemory, StopsBy, Through, WalkIn, walk_in, walk_of}
 use Rattle.framehop_samples.specs.declared.sample.Sample.{Sample}
-use Rattle.framehop_samples.specs.declared.steps.SampleStep.TheVariants.{Answered}
+use Rattle.framehop_samples.specs.declared.steps.SampleStep.TheVariants.{Answered, NeedsWord}
 use Rattle.framehop_samples.specs.declared.walks.SampleMove.{SampleMove}
 use Rattle.framehop_samples.specs.declared.walks.SampleMove.TheVariants.{Stops}
 use Rattle.framehop_samples.specs.declared.walks.WalkEnd.TheVariants.{EndOfStack, Failed}
+use Rattle.framehop_samples.specs.declared.walks.WalkEnd.TheVariants as ending
 use Rattle.framehop_samples.specs.declared.walks.WalkPlace.{WalkPlace}
 use Rattle.framehop_samples.specs.declared.walks.WalkPlace.TheVariants as place
 
@@ -123,3 +126,44 @@ wants-none (Ok (Some (suc n))) made old new none goes = subst MovesWithoutMemory
 wants-none (Ok None) made old new none goes = subst MovesWithoutMemory (sym goes.0) (λ e. absurd cc)
 wants-none (Err error) made old new none goes =
     subst MovesWithoutMemory (sym goes.0) (λ e. let same : error ≡ OutOfMemory = cc in none (ap (λ x. Answered (Err x)) same))
+
+module _ {Data Rule Registers : Type 0} (t : Through Data Rule Registers) (at : WalkPlace) (registers : Registers) (old new : SessionState Data Rule) (walk : Walk Registers) where
+  -- the walk before a move, and after it
+  abbrev before : WalkIn Data Rule Registers
+  before = walk_in (record { place = at; regs = registers }) old
+
+  abbrev after : WalkIn Data Rule Registers
+  after = record { walk = walk; session = new }
+
+  -- from a frame a move makes of the caches what its step does
+  from-frame : (address : FrameAddress) (wanted : Bool) → at ≡ place.At address
+      → StepsThrough t.meanings wanted (frame_of address) t.unwinder t.cache old new → MovesCaches t wanted before after
+  from-frame address wanted is stepped =
+      subst (λ p. MovesCaches t wanted (walk_in (record { place = p; regs = registers }) old) after) (sym is) stepped
+
+  -- so it does where the step is answered
+  pub counts-answered : (address : FrameAddress) (answer : Result (Option ℕ) Error) (made : SampleMove) (here : Walk Registers) → at ≡ place.At address
+      → GoesBy answer made here walk → CountsAsStep t.meanings (Answered answer) (frame_of address) t.unwinder t.cache old new
+      → CountsAsMove t made before after
+  counts-answered address (Ok (Some zero)) made here is goes stepped =
+      subst (λ m. CountsAsMove t m before after) (sym (goes.null refl).0) (from-frame address false is stepped)
+  counts-answered address (Ok (Some (suc n))) made here is goes stepped =
+      subst (λ m. CountsAsMove t m before after) (sym (goes.later (λ e. absurd cc)).0) (from-frame address false is stepped)
+  counts-answered address (Ok None) made here is goes stepped =
+      subst (λ m. CountsAsMove t m before after) (sym goes.0) (from-frame address false is stepped)
+  counts-answered address (Err error) made here is goes stepped =
+      subst (λ m. CountsAsMove t m before after) (sym goes.0) (from-frame address (wants_memory {A = Option ℕ} (Err error)) is stepped)
+
+  -- and where it needs a word
+  pub counts-needed : (address : FrameAddress) (word : ℕ) → at ≡ place.At address
+      → CountsAsStep t.meanings (NeedsWord word) (frame_of address) t.unwinder t.cache old new
+      → CountsAsMove t (Stops (ending.NeedsWord word)) before after
+  counts-needed address word is stepped = (stepped.0, from-frame address stepped.0 is stepped.1)
+
+module _ {Data Rule Registers : Type 0} (t : Through Data Rule Registers) (at : WalkPlace) (registers : Registers) (session : SessionState Data Rule) (walk : Walk Registers) where
+  -- the caches stay before the first frame
+  pub counts-start : (pc : ℕ) → at ≡ place.Starts pc
+      → MovesCaches t false (walk_in (record { place = at; regs = registers }) session) (record { walk = walk; session = session })
+  counts-start pc is =
+      subst (λ p. MovesCaches t false (walk_in (record { place = p; regs = registers }) session) (record { walk = walk; session = session })) (sym is)
+      (record { unwinders = refl; next = refl; held = refl; histories = λ histories have. have })

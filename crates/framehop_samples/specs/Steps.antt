@@ -7,10 +7,10 @@ use Rattle.framehop_rules.specs.Outcome.{Outcome, Caller}
 use Rattle.framehop_unwinder.specs.Attempt.{Meanings}
 use Rattle.framehop_unwinder.specs.ByNumber.{marks}
 use Rattle.framehop_unwinder.specs.Frames.{Frame, frame_of}
-use Rattle.framehop_unwinder.specs.IdViews.{StepsBy, modules_by}
+use Rattle.framehop_unwinder.specs.IdViews.{cache_number, modules_by, unwinder_number}
 use Rattle.framehop_unwinder.specs.Judge.{judge}
-use Rattle.framehop_unwinder.specs.State.{SessionState}
-use Rattle.framehop_unwinder.specs.Trials.{StaysUnlessStepped, StepsAs}
+use Rattle.framehop_unwinder.specs.State.{SessionState, StepsThrough}
+use Rattle.framehop_unwinder.specs.Trials.{StaysUnlessStepped, StepsAs, wants_memory}
 use Rattle.framehop_unwinder.specs.declared.ids.CacheId.{CacheId}
 use Rattle.framehop_unwinder.specs.declared.ids.UnwinderId.{UnwinderId}
 use Rattle.framehop_samples.specs.Samples.{is_known, words_of}
@@ -49,11 +49,17 @@ pub record KeepsModules {Data Rule : Type 0} (old new : SessionState Data Rule) 
   pub next : new.next ≡ old.next
   pub held : marks new.caches ≡ marks old.caches
 
--- an answered step leaves in the caches what a step does
-abbrev pub CountsAsStep : {Data Rule Registers : Type 0} → Meanings Data Rule Registers → SampleStep → Frame → UnwinderId → CacheId
+-- a step leaves in the caches what a step of the unwinder through the cache does, each by its number; so does one that needs a word
+abbrev pub CountsAsStep : {Data Rule Registers : Type 0} → Meanings Data Rule Registers → SampleStep → Frame → (unwinder cache : ℕ)
     → SessionState Data Rule → SessionState Data Rule → Type 0
-CountsAsStep m (Answered answer) frame unwinder cache old new = StepsBy m answer frame unwinder cache old new
-CountsAsStep m (NeedsWord address) frame unwinder cache old new = Unit {0}
+CountsAsStep m (Answered answer) frame unwinder cache old new = StepsThrough m (wants_memory answer) frame unwinder cache old new
+CountsAsStep m (NeedsWord address) frame unwinder cache old new = (wanted : Bool) × StepsThrough m wanted frame unwinder cache old new
+
+-- the same by an address, and by the ids of an unwinder and a cache
+abbrev pub CountsBy : {Data Rule Registers : Type 0} → Meanings Data Rule Registers → SampleStep → FrameAddress → UnwinderId → CacheId
+    → SessionState Data Rule → SessionState Data Rule → Type 0
+CountsBy m made address unwinder cache old new =
+    CountsAsStep m made (frame_of address) (unwinder_number unwinder) (cache_number cache) old new
 
 -- the step isn't out of memory
 abbrev pub TakesNoMemory : SampleStep → Type 0

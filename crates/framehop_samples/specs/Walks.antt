@@ -1,14 +1,16 @@
 -- Walks over a sample: moves of a walk, one after the other, up to where it stops.
-use Rattle.std.specs.Prelude.{ℕ, ◌≡◌, ◌≢◌, ◌≤◌, List, [], ◌∷◌, length, take, drop, Bool, Option, Some, None, Result, Ok, Err}
+use Rattle.std.specs.Prelude.{ℕ, ◌≡◌, ◌≢◌, ◌≤◌, List, [], ◌∷◌, length, take, drop, Bool, false, Option, Some, None, Result, Ok, Err}
 use Rattle.framehop_registers.specs.Callback.{Words}
 use Rattle.framehop_registers.specs.declared.error.Error.{Error}
 use Rattle.framehop_registers.specs.declared.error.Error.TheVariants.{CouldNotReadStack, FramepointerUnwindingMovedBackwards, DidNotAdvance, IntegerOverflow, ReturnAddressIsNull, OutOfMemory}
 use Rattle.framehop_unwinder.specs.Attempt.{Meanings}
 use Rattle.framehop_unwinder.specs.Frames.{Frame, frame_of, later_frame}
-use Rattle.framehop_unwinder.specs.IdViews.{modules_by}
+use Rattle.framehop_unwinder.specs.IdViews.{cache_number, unwinder_number}
 use Rattle.framehop_unwinder.specs.Judge.{judge}
-use Rattle.framehop_unwinder.specs.State.{SessionState}
-use Rattle.framehop_unwinder.specs.Walk.{Judgment, WalkPosition, Starts, At, Over, Walk, Move, move, move_to}
+use Rattle.framehop_unwinder.specs.State.{SessionState, MovesThrough, modules_at}
+use Rattle.framehop_unwinder.specs.Trials.{wants_memory}
+use Rattle.framehop_unwinder.specs.Walk.{WalkPosition, Starts, At, Over, Walk, Move, move, move_to}
+use Rattle.framehop_unwinder.specs.declared.ids.CacheId.{CacheId}
 use Rattle.framehop_unwinder.specs.declared.ids.UnwinderId.{UnwinderId}
 use Rattle.framehop_samples.specs.Samples.{words_of}
 use Rattle.framehop_samples.specs.Steps.{IsAskedFor}
@@ -36,12 +38,6 @@ walk_of walk = record { position = position_of walk.place; registers = walk.regs
 abbrev pub Gives : {Registers : Type 0} → ℕ → Move Registers → Walk Registers → Type 0
 Gives address made new = (frame : Frame) × (frame.address ≡ address) × (made ≡ record { answer = Ok (Some frame); walk = new })
 
--- Moves from a walk to another give frames at these addresses, one after the other.
-abbrev pub Passes : {Registers : Type 0} → Judgment Registers → Words → Walk Registers → List ℕ → Walk Registers → Type 0
-Passes judgment words old [] new = new ≡ old
-Passes {Registers} judgment words old (address ∷ addresses) new =
-    (mid : Walk Registers) × Gives address (move judgment words old) mid × Passes judgment words mid addresses new
-
 -- where a walk is after an error: where the move left it, but after a return address of 0 it is over
 abbrev after_error : {Registers : Type 0} → Error → Walk Registers → Walk Registers
 after_error (CouldNotReadStack address) walk = walk
@@ -68,23 +64,71 @@ StopsBy (ending.Failed IntegerOverflow) old made new = FailsBy IntegerOverflow m
 StopsBy (ending.Failed ReturnAddressIsNull) old made new = FailsBy ReturnAddressIsNull made new
 StopsBy (ending.Failed OutOfMemory) old made new = new ≡ old
 
--- A walk over words: it passes frames at these addresses, and stops after them.
-abbrev pub WalksOver : {Registers : Type 0} → Judgment Registers → Words → Walk Registers → List ℕ → WalkEnd → Walk Registers → Type 0
-WalksOver {Registers} judgment words old addresses end new =
-    (last : Walk Registers) × Passes judgment words old addresses last × StopsBy end last (move judgment words last) new
-
--- the same of a walk over a sample
-abbrev pub WalksInSample : {Registers : Type 0} → Judgment Registers → Words → SampleWalk Registers → List ℕ → WalkEnd → SampleWalk Registers → Type 0
-WalksInSample judgment words old addresses end new = WalksOver judgment words (walk_of old) addresses end (walk_of new)
-
 -- what one move gives
 abbrev pub MovesBy : {Registers : Type 0} → SampleMove → Walk Registers → Move Registers → Walk Registers → Type 0
 MovesBy (moved.Frame address) old made new = Gives address made new
 MovesBy (moved.Stops end) old made new = StopsBy end old made new
 
--- what one move of a walk over a sample gives
-abbrev pub MovesInSample : {Registers : Type 0} → Judgment Registers → Words → SampleWalk Registers → SampleMove → SampleWalk Registers → Type 0
-MovesInSample judgment words old made new = MovesBy made (walk_of old) (move judgment words (walk_of old)) (walk_of new)
+-- What a walk goes through: the meanings of its steps, the words of the stack, and an unwinder and a cache by their numbers.
+pub record Through (Data Rule Registers : Type 0) : Type 0 where
+  pub meanings : Meanings Data Rule Registers
+  pub words : Words
+  pub unwinder : ℕ
+  pub cache : ℕ
+
+-- A walk, and the session that it is in.
+pub record WalkIn (Data Rule Registers : Type 0) : Type 0 where
+  pub walk : Walk Registers
+  pub session : SessionState Data Rule
+
+-- the move that is next, by the judge
+abbrev pub next_move : {Data Rule Registers : Type 0} → Through Data Rule Registers → WalkIn Data Rule Registers → Move Registers
+next_move t old = move (judge t.meanings (modules_at old.session t.unwinder)) t.words old.walk
+
+-- the caches become what a move of the unwinder through the cache makes of them, if it is out of memory or not
+abbrev pub MovesCaches : {Data Rule Registers : Type 0} → Through Data Rule Registers → (wanted : Bool)
+    → WalkIn Data Rule Registers → WalkIn Data Rule Registers → Type 0
+MovesCaches t wanted old new = MovesThrough t.meanings wanted old.walk.position t.unwinder t.cache old.session new.session
+
+-- the caches become what a move makes of them; without room for a frame none is made
+abbrev pub CountsAsMove : {Data Rule Registers : Type 0} → Through Data Rule Registers → SampleMove
+    → WalkIn Data Rule Registers → WalkIn Data Rule Registers → Type 0
+CountsAsMove t (moved.Frame address) old new = MovesCaches t false old new
+CountsAsMove t (moved.Stops ending.Full) old new = new.session ≡ old.session
+CountsAsMove t (moved.Stops ending.EndOfStack) old new = MovesCaches t false old new
+CountsAsMove t (moved.Stops (ending.NeedsWord address)) old new = (wanted : Bool) × MovesCaches t wanted old new
+CountsAsMove t (moved.Stops (ending.Failed error)) old new = MovesCaches t (wants_memory {A = Option ℕ} (Err error)) old new
+
+-- A move gives what the judge's gives, and leaves in the caches what a move does.
+abbrev pub MovesIn : {Data Rule Registers : Type 0} → Through Data Rule Registers → SampleMove
+    → WalkIn Data Rule Registers → WalkIn Data Rule Registers → Type 0
+MovesIn t made old new = MovesBy made old.walk (next_move t old) new.walk × CountsAsMove t made old new
+
+-- Moves give frames at these addresses, one after the other.
+abbrev pub Passes : {Data Rule Registers : Type 0} → Through Data Rule Registers → WalkIn Data Rule Registers → List ℕ
+    → WalkIn Data Rule Registers → Type 0
+Passes t old [] new = new ≡ old
+Passes {Data} {Rule} {Registers} t old (address ∷ addresses) new =
+    (mid : WalkIn Data Rule Registers) × MovesIn t (moved.Frame address) old mid × Passes t mid addresses new
+
+-- A walk passes frames at these addresses, and stops after them.
+abbrev pub WalksOver : {Data Rule Registers : Type 0} → Through Data Rule Registers → WalkIn Data Rule Registers → List ℕ → WalkEnd
+    → WalkIn Data Rule Registers → Type 0
+WalksOver {Data} {Rule} {Registers} t old addresses end new =
+    (last : WalkIn Data Rule Registers) × Passes t old addresses last × MovesIn t (moved.Stops end) last new
+
+-- a walk over the frames of an unwinder, through a cache, over a sample
+abbrev pub through : {Data Rule Registers : Type 0} → Meanings Data Rule Registers → UnwinderId → CacheId → Sample → Through Data Rule Registers
+through m unwinder cache sample = record {
+  meanings = m;
+  words = words_of sample;
+  unwinder = unwinder_number unwinder;
+  cache = cache_number cache;
+}
+
+-- a walk over a sample, and the session that it is in
+abbrev pub walk_in : {Data Rule Registers : Type 0} → SampleWalk Registers → SessionState Data Rule → WalkIn Data Rule Registers
+walk_in walk session = record { walk = walk_of walk; session = session }
 
 -- From a frame a walk goes to its caller at a return address, with the registers that it has; if that is 0, it fails and is over.
 pub record GoesOn {Registers : Type 0} (return_address : ℕ) (made : SampleMove) (old new : Walk Registers) : Type 0 where
@@ -118,11 +162,16 @@ WithoutMemory end = end ≢ ending.Failed OutOfMemory
 abbrev pub MovesWithoutMemory : SampleMove → Type 0
 MovesWithoutMemory made = made ≢ moved.Stops (ending.Failed OutOfMemory)
 
--- the same of a walk over the frames of an unwinder, which wrote so many of these
-abbrev pub WalksInSession : {Data Rule Registers : Type 0} → Meanings Data Rule Registers → SessionState Data Rule → UnwinderId → Sample
-    → SampleWalk Registers → Walked → (frames : List ℕ) → SampleWalk Registers → Type 0
-WalksInSession m session unwinder sample old walked frames new =
-    WalksInSample (judge m (modules_by session unwinder)) (words_of sample) old (take walked.count frames) walked.end new
+-- what one move of a walk over a sample gives
+abbrev pub MovesInSample : {Data Rule Registers : Type 0} → Through Data Rule Registers → SampleMove
+    → SampleWalk Registers → SessionState Data Rule → SampleWalk Registers → SessionState Data Rule → Type 0
+MovesInSample t made old session new new_session = MovesIn t made (walk_in old session) (walk_in new new_session)
+
+-- a walk over a sample passes the frames that it wrote, so many of these, and stops after them
+abbrev pub WalksAs : {Data Rule Registers : Type 0} → Through Data Rule Registers → SampleWalk Registers → SessionState Data Rule
+    → Walked → (frames : List ℕ) → SampleWalk Registers → SessionState Data Rule → Type 0
+WalksAs t old session walked frames new new_session =
+    WalksOver t (walk_in old session) (take walked.count frames) walked.end (walk_in new new_session)
 
 -- A walk writes within the room, and nothing behind its frames. It is full only if all the room is taken.
 pub record WritesFrames (walked : Walked) (old new : List ℕ) : Type 0 where

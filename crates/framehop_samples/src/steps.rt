@@ -7,7 +7,7 @@ ghost use Rattle.framehop_unwinder.specs.IdViews.{StepsBy, has_both, modules_by}
 ghost use Rattle.framehop_unwinder.specs.Memory.{WantsFrom};
 ghost use Rattle.framehop_unwinder.specs.Trials.{StaysUnlessStepped, StepsAs, wants_memory};
 ghost use Rattle.framehop_samples.specs.Samples.{is_known, words_of};
-ghost use Rattle.framehop_samples.specs.Steps.{AsksAsSaid, CountsAsStep, KeepsModules, SampleSteps, TakesNoMemory, outcome_in};
+ghost use Rattle.framehop_samples.specs.Steps.{AsksAsSaid, CountsBy, KeepsModules, SampleSteps, TakesNoMemory, outcome_in};
 
 use crate::sample::{AskedSample, Sample};
 use framehop_rules::{Error, FrameAddress};
@@ -101,7 +101,7 @@ pub fn step_in_sample<A: ModuleUnwinding>(
         (outcome_in A.meanings session.old unwinder address regs.old sample.now) }
     ensures asks { AsksAsSaid result sample.now }
     ensures session { KeepsModules session.old session.new }
-    ensures caches { CountsAsStep A.meanings result (frame_of address) unwinder cache session.old session.new }
+    ensures caches { CountsBy A.meanings result address unwinder cache session.old session.new }
     ensures memory { A.takes_memory ≡ false → TakesNoMemory result }
 {
     if sample.asks == 0 {

@@ -1,11 +1,9 @@
 //! Walks over a sample.
 
 ghost use Rattle.std.specs.Prelude.{◌≡◌, false, true};
-ghost use Rattle.framehop_unwinder.specs.IdViews.{has_both, modules_by};
-ghost use Rattle.framehop_unwinder.specs.Judge.{judge};
-ghost use Rattle.framehop_samples.specs.Samples.{words_of};
+ghost use Rattle.framehop_unwinder.specs.IdViews.{has_both};
 ghost use Rattle.framehop_samples.specs.Steps.{KeepsModules};
-ghost use Rattle.framehop_samples.specs.Walks.{GoesBy, GoesOn, MoveNeeds, MovesInSample, MovesWithoutMemory, NeedsUnknown, WalksInSession, WithoutMemory, WritesFrames, walk_of};
+ghost use Rattle.framehop_samples.specs.Walks.{GoesBy, GoesOn, MoveNeeds, MovesInSample, MovesWithoutMemory, NeedsUnknown, WalksAs, WithoutMemory, WritesFrames, through, walk_of};
 
 use crate::sample::Sample;
 use crate::steps::{SampleStep, step_in_sample};
@@ -102,8 +100,8 @@ fn move_on<A: ModuleUnwinding>(
     sample: &Sample<'_>,
 ) -> SampleMove
     requires { has_both session.old unwinder cache ≡ true }
-    ensures moved { MovesInSample (judge A.meanings (modules_by session.old unwinder))
-        (words_of sample.now) walk.old result walk.new }
+    ensures moved { MovesInSample (through A.meanings unwinder cache sample.now)
+        result walk.old session.old walk.new session.new }
     ensures needs { MoveNeeds result sample.now }
     ensures session { KeepsModules session.old session.new }
     ensures memory { A.takes_memory ≡ false → MovesWithoutMemory result }
@@ -134,8 +132,8 @@ pub fn walk_in_sample<A: ModuleUnwinding>(
     frames: &mut [u64],
 ) -> Walked
     requires { has_both session.old unwinder cache ≡ true }
-    ensures walked { WalksInSession A.meanings session.old unwinder sample.now
-        walk.old result frames.new walk.new }
+    ensures walked { WalksAs (through A.meanings unwinder cache sample.now)
+        walk.old session.old result frames.new walk.new session.new }
     ensures written { WritesFrames result frames.old frames.new }
     ensures needs { NeedsUnknown result.end sample.now }
     ensures session { KeepsModules session.old session.new }

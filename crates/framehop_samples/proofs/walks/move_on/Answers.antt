@@ -1,19 +1,33 @@
 use Rattle.framehop_unwinder.specs.IdViews.{modules_by}
 use Rattle.framehop_unwinder.specs.Judge.{judge}
 use Rattle.framehop_samples.specs.Samples.{words_of}
-use Rattle.framehop_samples.specs.Walks.{walk_of}
-use Rattle.framehop_samples.proofs.Moves.{begins, goes-on, needs-none, wants-none}
+use Rattle.framehop_samples.specs.Walks.{through, walk_of}
+use Rattle.framehop_samples.specs.declared.walks.WalkPlace.TheVariants as place
+use Rattle.framehop_samples.proofs.Moves.{begins, counts-answered, counts-needed, counts-start, goes-on, needs-none, wants-none}
 use Rattle.framehop_samples.proofs.walks.move_on.Goals as goal
 
 pub returns-in-Starts-clause-moved : goal.returns-in-Starts-clause-moved
 returns-in-Starts-clause-moved g c =
-    begins (judge g.A.ModuleUnwinding.meanings (modules_by c.args.session.now c.args.unwinder)) (words_of c.args.sample.now) c.args.walk.now.place c.args.walk.now.regs
-    c.in-Starts.pc c.from_instruction_pointer.result c.in-Starts.is c.from_instruction_pointer.ensures
+    let walk = c.args.walk.now in
+    let m = g.A.ModuleUnwinding.meanings in
+    let new = walk_of (record { place = place.At c.from_instruction_pointer.result; regs = walk.regs }) in (
+      begins (judge m (modules_by c.args.session.now c.args.unwinder)) (words_of c.args.sample.now) walk.place walk.regs
+          c.in-Starts.pc c.from_instruction_pointer.result c.in-Starts.is c.from_instruction_pointer.ensures,
+      counts-start (through m c.args.unwinder c.args.cache c.args.sample.now) walk.place walk.regs c.args.session.now new c.in-Starts.pc c.in-Starts.is,
+    )
 
 pub returns-in-Answered-clause-moved : goal.returns-in-Answered-clause-moved
 returns-in-Answered-clause-moved g c =
-    goes-on (judge g.A.ModuleUnwinding.meanings (modules_by c.args.session.now c.args.unwinder)) (words_of c.args.sample.now) c.args.walk.now.place c.args.walk.now.regs
-    c.in-At.address c.in-Answered.answer c.step_in_sample.new.regs c.go_by.result (walk_of c.go_by.new.self) c.in-At.is c.in-Answered.ensures.step c.go_by.ensures
+    let walk = c.args.walk.now in
+    let m = g.A.ModuleUnwinding.meanings in
+    let new = walk_of c.go_by.new.self in
+    let address = c.in-At.address in
+    let answer = c.in-Answered.answer in (
+      goes-on (judge m (modules_by c.args.session.now c.args.unwinder)) (words_of c.args.sample.now) walk.place walk.regs
+          address answer c.step_in_sample.new.regs c.go_by.result new c.in-At.is c.in-Answered.ensures.step c.go_by.ensures,
+      counts-answered (through m c.args.unwinder c.args.cache c.args.sample.now) walk.place walk.regs c.args.session.now c.step_in_sample.new.session new
+          address answer c.go_by.result _ c.in-At.is c.go_by.ensures c.in-Answered.ensures.caches,
+    )
 
 pub returns-in-Answered-clause-needs : goal.returns-in-Answered-clause-needs
 returns-in-Answered-clause-needs g c = needs-none c.args.sample.now c.in-Answered.answer c.go_by.result _ _ c.go_by.ensures

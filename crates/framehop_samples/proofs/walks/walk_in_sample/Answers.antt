@@ -1,11 +1,6 @@
 use Rattle.std.proofs.Common.{◌≡◌, ◌∙◌, ◌<◌, ◌+◌, [], ◌∷◌, length, take, drop, ap, sym, subst, refl, arith}
 use Rattle.std.proofs.lemmas.List.{drop-drop, drop-set-lt, length-set, take_more_set}
-use Rattle.framehop_unwinder.specs.IdViews.{unwinder_number}
-use Rattle.framehop_unwinder.specs.Judge.{judge}
-use Rattle.framehop_unwinder.specs.State.{unwinder_at}
-use Rattle.framehop_unwinder.specs.Walk.{move}
-use Rattle.framehop_samples.specs.Samples.{words_of}
-use Rattle.framehop_samples.specs.Walks.{Gives, Passes, StopsBy, walk_of}
+use Rattle.framehop_samples.specs.Walks.{Passes, through, walk_in}
 use Rattle.framehop_samples.proofs.Calls.{both_stay}
 use Rattle.framehop_samples.proofs.Passing.{passes_both}
 use Rattle.framehop_samples.proofs.walks.walk_in_sample.Goals as goal
@@ -16,15 +11,16 @@ loop-count-preserved g c =
     let address = c.in-Frame.address in
     let same = l.invariant.session in
     let within : l.count < length l.frames = omega (arith, c.loop-count-test.true) in
-    let judgment = judge g.A.ModuleUnwinding.meanings (unwinder_at c.args.session.now.unwinders (unwinder_number c.args.unwinder)).modules in
-    let words = words_of c.args.sample.now in
+    let t = through g.A.ModuleUnwinding.meanings c.args.unwinder c.args.cache c.args.sample.now in
+    let old = walk_in c.args.walk.now c.args.session.now in
+    let new = walk_in c.move_on.new.walk c.move_on.new.session in
     record {
       room = let sized = length-set l.frames l.count address in omega (arith, sized, within);
       passed =
-          subst (λ frames. Passes judgment words (walk_of c.args.walk.now) frames (walk_of c.move_on.new.walk)) (sym (take_more_set l.frames l.count address within))
-          (passes_both judgment words (walk_of c.args.walk.now) (walk_of l.walk) (walk_of c.move_on.new.walk) (take l.count l.frames) (address ∷ []) l.invariant.passed (
-            walk_of c.move_on.new.walk,
-            subst (λ us. Gives address (move (judge g.A.ModuleUnwinding.meanings (unwinder_at us (unwinder_number c.args.unwinder)).modules) words (walk_of l.walk)) (walk_of c.move_on.new.walk)) same.unwinders c.in-Frame.ensures.moved,
+          subst (λ frames. Passes t old frames new) (sym (take_more_set l.frames l.count address within))
+          (passes_both t old (walk_in l.walk l.session) new (take l.count l.frames) (address ∷ []) l.invariant.passed (
+            new,
+            c.in-Frame.ensures.moved,
             refl,
           ));
       kept =
@@ -40,9 +36,4 @@ loop-count-preserved g c =
 
 pub returns-in-Stops-clause-walked : goal.returns-in-Stops-clause-walked
 returns-in-Stops-clause-walked g c =
-    let l = c.loop-count in (
-      walk_of l.walk,
-      l.invariant.passed,
-      subst (λ us. StopsBy c.in-Stops.end (walk_of l.walk) (move (judge g.A.ModuleUnwinding.meanings (unwinder_at us (unwinder_number c.args.unwinder)).modules) (words_of c.args.sample.now) (walk_of l.walk)) (walk_of c.move_on.new.walk))
-          l.invariant.session.unwinders c.in-Stops.ensures.moved,
-    )
+    let l = c.loop-count in (walk_in l.walk l.session, l.invariant.passed, c.in-Stops.ensures.moved)

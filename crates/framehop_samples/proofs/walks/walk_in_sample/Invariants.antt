@@ -1,17 +1,15 @@
 use Rattle.std.proofs.Common.{◌≡◌, ◌≤◌, length, take, drop, ◌-◌, true}
-use Rattle.framehop_unwinder.specs.IdViews.{has_both, modules_by}
-use Rattle.framehop_unwinder.specs.Judge.{judge}
-use Rattle.framehop_samples.specs.Samples.{words_of}
+use Rattle.framehop_unwinder.specs.IdViews.{has_both}
 use Rattle.framehop_samples.specs.Steps.{KeepsModules}
-use Rattle.framehop_samples.specs.Walks.{Passes, walk_of}
+use Rattle.framehop_samples.specs.Walks.{Passes, through, walk_in}
 use Rattle.framehop_samples.proofs.walks.walk_in_sample.Given as goal
 
 -- the walk passed the frames that are written, and what is behind them is as it was
 abbrev pub invariant-loop-count : goal.invariant-loop-count
 invariant-loop-count g l = record {
   room : l.count ≤ length l.frames;
-  passed : Passes (judge g.A.ModuleUnwinding.meanings (modules_by l.fn.session l.fn.unwinder)) (words_of l.fn.sample)
-      (walk_of l.fn.walk) (take l.count l.frames) (walk_of l.walk);
+  passed : Passes (through g.A.ModuleUnwinding.meanings l.fn.unwinder l.fn.cache l.fn.sample)
+      (walk_in l.fn.walk l.fn.session) (take l.count l.frames) (walk_in l.walk l.session);
   kept : drop l.count l.frames ≡ drop l.count l.fn.frames;
   session : KeepsModules l.fn.session l.session;
   there : has_both l.session l.fn.unwinder l.fn.cache ≡ true;
