@@ -1,5 +1,5 @@
 //! Makes the module and the walks of crates/bench_steps by the original's `framehop`, and prints the same lines. `bench/walks
-//! --original` builds it.
+//! --original` builds it. With a second word, `warm`, it only makes the walks through one cache, for callgrind.
 
 use framehop::aarch64::{CacheAarch64, PtrAuthMask, UnwindRegsAarch64, UnwinderAarch64};
 use framehop::x86_64::{CacheX86_64, UnwindRegsX86_64, UnwinderX86_64};
@@ -211,13 +211,27 @@ fn time<A: TimedArch>(work: &Work) {
     );
 }
 
+/// Makes the walks through one cache, once and then as often as there are rounds.
+fn warm<A: TimedArch>(work: &Work) {
+    let mut unwinder = A::Unwinder::default();
+    unwinder.add_module(module_of(work, work.section.clone(), work.header.clone()));
+    let mut cache = A::cache();
+    println!("{} frames", frames_of_each::<A>(&unwinder, &mut cache, &work.walks));
+    for _ in 0..work.rounds {
+        black_box(frames_of_each::<A>(&unwinder, &mut cache, &work.walks));
+    }
+}
+
 fn main() {
     let mut bytes = Vec::new();
     std::io::stdin().read_to_end(&mut bytes).expect("the input is read");
     let work = read_work(&mut Input(bytes.into_iter()));
-    match std::env::args().nth(1).as_deref() {
-        Some("x86_64") => time::<X86_64>(&work),
-        Some("aarch64") => time::<Aarch64>(&work),
-        _ => panic!("use: walks_original x86_64|aarch64"),
+    let words: Vec<String> = std::env::args().skip(1).collect();
+    match words.iter().map(String::as_str).collect::<Vec<_>>()[..] {
+        ["x86_64"] => time::<X86_64>(&work),
+        ["aarch64"] => time::<Aarch64>(&work),
+        ["x86_64", "warm"] => warm::<X86_64>(&work),
+        ["aarch64", "warm"] => warm::<Aarch64>(&work),
+        _ => panic!("use: walks_original x86_64|aarch64 [warm]"),
     }
 }

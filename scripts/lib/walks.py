@@ -21,6 +21,8 @@ STACK = 0x7FFD_8000_0000
 WORDS = [BASE + 0x1000 + 16 * i for i in range(128)]
 MOST_STEPS = 2048
 WALKS, DEPTH, FRAMES, MOST_FRAME = 32, 128, 400, 512
+# As many as a cache has.
+SLOTS = 509
 # The most bytes of a document, as ./unwind takes it.
 LONGEST = 1 << 24
 
@@ -162,10 +164,22 @@ def stack_of(chain, machine, chance):
     return pc, (code, sp, fp), sp, [stored.get(at, 0x1000 + at % 0x1000) for at in range(sp, STACK, 8)]
 
 
-def walks_of(library, machine, start, end):
+def apart(frames, machine):
+    """Those of some frames that no other of them shares a slot of a cache with, as first and as later frames."""
+    found, taken = [], set()
+    for frame in frames:
+        slots = {(BASE + frame.address) % SLOTS, (BASE + frame.address + machine.width - 1) % SLOTS}
+        if taken.isdisjoint(slots):
+            found.append(frame)
+            taken |= slots
+    return found
+
+
+def walks_of(library, machine, start, end, is_apart):
     """Walks over stacks of which the outer halves are the same."""
     chance = random.Random(1)
     frames = frames_of(library, machine, start, end, chance)
+    frames = apart(frames, machine) if is_apart else frames
     shared = chance.choices(frames, k=DEPTH // 2)
     return [(*stack_of(shared + chance.choices(frames, k=DEPTH - len(shared)), machine, chance), 2 * DEPTH) for _ in range(WALKS)]
 
@@ -177,8 +191,8 @@ def steps_of(fdes, machine):
     return [(address, (first(address), STACK, STACK + 64), STACK, WORDS, 2) for address in addresses]
 
 
-def document_of(library, count, headed, is_walks):
-    """A document of walks or steps through the code of a library."""
+def document_of(library, count, headed, is_walks, is_apart=False):
+    """A document of walks or steps through the code of a library: if they are apart, a cache has room for all rules of the walks."""
     elf = Elf(library)
     machine = MACHINES[elf.machine_name()]
     at, section = elf.section(".eh_frame")
@@ -199,7 +213,7 @@ def document_of(library, count, headed, is_walks):
         sections.append({"name": ".eh_frame_hdr", "start": hex(at), "end": hex(at + len(table)), "data": table.hex()})
     load = {"do": "load", "unwinder": 0, "name": "lib", "start": hex(BASE), "end": hex(end),
             "base": hex(BASE), "base_svma": "0x0", "sections": sections}
-    made = walks_of(library, machine, text, text + len(code)) if is_walks else steps_of(fdes, machine)
+    made = walks_of(library, machine, text, text + len(code), is_apart) if is_walks else steps_of(fdes, machine)
     walks = [{"do": "walk", "unwinder": 0, "cache": 0, "pc": hex(pc), "limit": limit,
               "stack": {"start": hex(start), "words": list(map(hex, words))},
               "regs": dict(zip(machine.registers, map(hex, registers)))} for pc, registers, start, words, limit in made]
