@@ -13,7 +13,7 @@ use std::rc::Rc;
 use std::sync::Arc;
 
 /// The call frame information of a function of 16 bytes at 0x1000, which pushes rbp and makes it the frame pointer.
-const EH_FRAME: [u8; 56] = [
+pub const EH_FRAME: [u8; 56] = [
     0x10, 0, 0, 0, 0, 0, 0, 0, 1, 0, 1, 0x78, 0x10, 0xc, 7, 8, 0x90, 1, 0, 0, 0x1c, 0, 0, 0, 0x18, 0, 0, 0, 0, 0x10, 0, 0, 0, 0, 0, 0,
     0x10, 0, 0, 0, 0, 0, 0, 0, 0x41, 0xe, 0x10, 0x86, 2, 0x43, 0xd, 6, 0, 0, 0, 0,
 ];
@@ -21,11 +21,12 @@ const EH_FRAME: [u8; 56] = [
 /// The words of a stack from address 0 on.
 const STACK: [u64; 16] = [0x1, 0x2, 0x100300, 0x4, 0x40, 0x100200, 0x5, 0x6, 0x70, 0x100100, 0x7, 0x8, 0x9, 0xa, 0x0, 0x0];
 
-fn word_at(address: u64) -> Result<u64, ()> {
+/// The word at an address of the stack.
+pub fn word_at(address: u64) -> Result<u64, ()> {
     if address.is_multiple_of(8) { STACK.get(address as usize / 8).copied().ok_or(()) } else { Err(()) }
 }
 
-fn sections<D>(bytes: D) -> ExplicitModuleSectionInfo<D> {
+fn sections<D: Deref<Target = [u8]>>(bytes: D) -> ExplicitModuleSectionInfo<D> {
     ExplicitModuleSectionInfo {
         base_svma: 0,
         text_svma: Some(0x1000..0x2000),
@@ -34,7 +35,7 @@ fn sections<D>(bytes: D) -> ExplicitModuleSectionInfo<D> {
         stub_helper_svma: None,
         got_svma: None,
         unwind_info: None,
-        eh_frame_svma: Some(0..56),
+        eh_frame_svma: Some(0..bytes.len() as u64),
         eh_frame: Some(bytes),
         eh_frame_hdr_svma: None,
         eh_frame_hdr: None,
@@ -44,7 +45,8 @@ fn sections<D>(bytes: D) -> ExplicitModuleSectionInfo<D> {
     }
 }
 
-fn module<D: Deref<Target = [u8]>>(start: u64, bytes: D) -> Module<D> {
+/// A module at an address, whose function is 0x1000 bytes behind its start.
+pub fn module<D: Deref<Target = [u8]>>(start: u64, bytes: D) -> Module<D> {
     Module::new(format!("module at {start:#x}"), start..start + 0x2000, start, sections(bytes))
 }
 

@@ -7,10 +7,12 @@
 
 mod by_calls;
 mod by_files;
+mod by_histories;
 mod elf;
 
 fn main() {
     by_calls::print();
+    by_histories::print();
     for path in std::env::args().skip(1) {
         by_files::print(&path);
     }
