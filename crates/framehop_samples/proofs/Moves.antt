@@ -14,11 +14,10 @@ use Rattle.framehop_unwinder.specs.Walk.{Judgment, At, Over, Walk, Move, move, m
 use Rattle.framehop_samples.specs.Steps.{CountsAsStep, IsAnswered, TakesNoMemory}
 use Rattle.framehop_samples.specs.Walks.{CountsAsMove, Gives, GoesBy, GoesOn, MoveNeeds, MovesBy, MovesCaches, MovesWithoutMemory, StopsBy, Through, WalkIn, walk_in, walk_of}
 use Rattle.framehop_samples.specs.declared.sample.Sample.{Sample}
-use Rattle.framehop_samples.specs.declared.steps.SampleStep.TheVariants.{Answered, NeedsWord}
+use Rattle.framehop_samples.specs.declared.steps.SampleStep.TheVariants.{Answered}
 use Rattle.framehop_samples.specs.declared.walks.SampleMove.{SampleMove}
 use Rattle.framehop_samples.specs.declared.walks.SampleMove.TheVariants.{Stops}
 use Rattle.framehop_samples.specs.declared.walks.WalkEnd.TheVariants.{EndOfStack, Failed}
-use Rattle.framehop_samples.specs.declared.walks.WalkEnd.TheVariants as ending
 use Rattle.framehop_samples.specs.declared.walks.WalkPlace.{WalkPlace}
 use Rattle.framehop_samples.specs.declared.walks.WalkPlace.TheVariants as place
 
@@ -153,12 +152,6 @@ module _ {Data Rule Registers : Type 0} (t : Through Data Rule Registers) (at : 
       subst (λ m. CountsAsMove t m before after) (sym goes.0) (from-frame address false is stepped)
   counts-answered address (Err error) made here is goes stepped =
       subst (λ m. CountsAsMove t m before after) (sym goes.0) (from-frame address (wants_memory {A = Option ℕ} (Err error)) is stepped)
-
-  -- and where it needs a word
-  pub counts-needed : (address : FrameAddress) (word : ℕ) → at ≡ place.At address
-      → CountsAsStep t.meanings (NeedsWord word) (frame_of address) t.unwinder t.cache old new
-      → CountsAsMove t (Stops (ending.NeedsWord word)) before after
-  counts-needed address word is stepped = (stepped.0, from-frame address stepped.0 is stepped.1)
 
 module _ {Data Rule Registers : Type 0} (t : Through Data Rule Registers) (at : WalkPlace) (registers : Registers) (session : SessionState Data Rule) (walk : Walk Registers) where
   -- the caches stay before the first frame

@@ -1,5 +1,5 @@
 -- Frames that a walk passes, one after the other.
-use Rattle.std.proofs.Common.{◌≡◌, ℕ, List, [], ◌∷◌, ◌++◌, subst}
+use Rattle.std.proofs.Common.{ℕ, List, [], ◌∷◌, ◌++◌, subst}
 use Rattle.framehop_samples.specs.Walks.{Passes, Through, WalkIn}
 
 -- a walk that passes some frames, and from there others, passes all of them

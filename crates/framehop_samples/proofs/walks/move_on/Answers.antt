@@ -3,7 +3,7 @@ use Rattle.framehop_unwinder.specs.Judge.{judge}
 use Rattle.framehop_samples.specs.Samples.{words_of}
 use Rattle.framehop_samples.specs.Walks.{through, walk_of}
 use Rattle.framehop_samples.specs.declared.walks.WalkPlace.TheVariants as place
-use Rattle.framehop_samples.proofs.Moves.{begins, counts-answered, counts-needed, counts-start, goes-on, needs-none, wants-none}
+use Rattle.framehop_samples.proofs.Moves.{begins, counts-answered, counts-start, goes-on, needs-none, wants-none}
 use Rattle.framehop_samples.proofs.walks.move_on.Goals as goal
 
 pub returns-in-Starts-clause-moved : goal.returns-in-Starts-clause-moved

@@ -1,4 +1,4 @@
-use Rattle.std.proofs.Common.{◌≡◌, ◌∙◌, ◌<◌, ◌+◌, [], ◌∷◌, length, take, drop, ap, sym, subst, refl, arith}
+use Rattle.std.proofs.Common.{◌∙◌, ◌<◌, ◌+◌, [], ◌∷◌, length, take, drop, ap, sym, subst, refl, arith}
 use Rattle.std.proofs.lemmas.List.{drop-drop, drop-set-lt, length-set, take_more_set}
 use Rattle.framehop_samples.specs.Walks.{Passes, through, walk_in}
 use Rattle.framehop_samples.proofs.Calls.{both_stay}
