@@ -16,7 +16,6 @@ use std::alloc::Global;
 /// A profiler gives up on a stack that is deeper.
 const MOST_FRAMES: usize = 128;
 
-// example: begin
 /// A profiler of processes, with one cache for all of them.
 #[derive(Drop)]
 pub struct Profiler<A: ModuleUnwinding> {
@@ -30,7 +29,6 @@ pub struct Frames {
     pub addresses: Vec<u64>,
     pub is_complete: bool,
 }
-// example: end
 
 impl<A: ModuleUnwinding> Profiler<A> {
     /// A profiler of no process, with this room for its cache.
