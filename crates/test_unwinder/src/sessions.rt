@@ -5,8 +5,8 @@ use framehop_registers::x86_64::UnwindRegsX86_64;
 use framehop_rules::SlotCount;
 use framehop_rules::x86_64::ArchX86_64;
 use framehop_unwinder::{
-    CacheId, Error, FrameAddress, Generations, GenerationsExhausted, LoadError, Session, StaleId,
-    Unwinder, UnwinderId, UnwinderInternal,
+    CacheId, Error, FrameAddress, Generations, GenerationsExhausted, Session, StaleId, Unwinder,
+    UnwinderId, UnwinderInternal,
 };
 use std::alloc::Global;
 use std::process::Abort;
@@ -339,12 +339,11 @@ fn generations_come_to_an_end(rt: HostRuntime) -> Result<(), Fail> {
     assert!(rt; UnwinderInternal::<Toy>::new(rt.alloc(), &mut generations).is_err());
     assert!(rt; generations.try_take() == Err(GenerationsExhausted));
     let refused = module(rt.alloc(), 0x100000, 0x102000, 0x1000, Said::StubRule)?;
-    let Err(LoadError::GenerationsExhausted(module)) = unwinder.add_module(
-        &mut generations,
-        refused,
-    ) else {
+    let Err(error) = unwinder.add_module(&mut generations, refused) else {
         return Err(Fail::new("not refused"));
     };
+    assert!(rt; format!(in rt.alloc(); "{error}")?.as_str() == "GenerationsExhausted");
+    let module = error.into_module();
     assert!(rt; module.base_avma() == 0x100000 && module.name() == "m");
     assert!(rt; module.avma_range().end == 0x102000);
     assert!(rt; unwinder.max_known_code_address() == 0);

@@ -80,6 +80,102 @@ fn walks_by_moves_of_a_session(rt: HostRuntime) -> Result<(), Fail> {
     Ok(())
 }
 
+/// A walk that is at a frame when it begins goes on with the step from there.
+#[test]
+fn walks_from_a_frame_that_was_found(rt: HostRuntime) -> Result<(), Fail> {
+    let alloc = rt.alloc();
+    let mut session: Session<Tables<ArchX86_64>> = Session::new(alloc, Generations::new());
+    let unwinder = added(session.add_unwinder(alloc))?;
+    let cache = session.add_cache(alloc, ())?;
+    let mut read_stack = |at: u64| word_at(at);
+    for found in [Some(first(0x100300)), later(0x100300)] {
+        let Some(found) = found else {
+            return Err(Fail::new("no frame"));
+        };
+        let mut walk = StackWalk::at(found, UnwindRegsX86_64::new(0x100300, 0x18, 0x20));
+        for frame in [later(0x100200), later(0x100100), None, None] {
+            let answer = session.next_frame(unwinder, cache, &mut walk, &mut read_stack)?;
+            assert!(rt; answer == Ok(frame));
+        }
+    }
+    Ok(())
+}
+
+/// The frames of a session's iterator are those of its walk, to the end, which stays. The session can be used again
+/// afterwards.
+#[test]
+fn frames_of_a_session(rt: HostRuntime) -> Result<(), Fail> {
+    let alloc = rt.alloc();
+    let mut session: Session<Tables<ArchX86_64>> = Session::new(alloc, Generations::new());
+    let unwinder = added(session.add_unwinder(alloc))?;
+    let there = module(alloc, 0x100000, 0x102000, 0x1000, Said::StubRule)?;
+    loaded(session.load(unwinder, there)?)?;
+    let cache = session.add_cache(alloc, ())?;
+    let mut read_stack = |at: u64| word_at(at);
+    for _ in 0..2 {
+        assert!(rt; session.has(unwinder, cache));
+        let regs = UnwindRegsX86_64::new(0x101000, 0x10, 0x20);
+        let mut frames = session.iter_frames(unwinder, cache, 0x101000, regs, &mut read_stack);
+        assert!(rt; frames.next() == Ok(Some(first(0x101000))));
+        for address in [0x100300, 0x100200, 0x100100, 0, 0] {
+            assert!(rt; frames.next() == Ok(later(address)), "{address}");
+        }
+    }
+    assert!(rt; session.stats(cache)?.hits() == 4 && session.stats(cache)?.misses() == 4);
+    let kept = session.occupancy(cache)?;
+    assert!(rt; kept.slot_count == 509 && kept.rule_count == 4);
+    Ok(())
+}
+
+/// A return address of 0 is the last that a session's iterator returns, but a step that fails is made again.
+#[test]
+fn frames_of_a_session_end_at_0(rt: HostRuntime) -> Result<(), Fail> {
+    let alloc = rt.alloc();
+    let mut session: Session<Tables<ArchX86_64>> = Session::new(alloc, Generations::new());
+    let unwinder = added(session.add_unwinder(alloc))?;
+    let there = module(alloc, 0x100000, 0x102000, 0x1000, Said::NullCaller)?;
+    loaded(session.load(unwinder, there)?)?;
+    let cache = session.add_cache(alloc, ())?;
+    let mut read_stack = |at: u64| word_at(at);
+    let null = Err(Error::ReturnAddressIsNull);
+    let unread = Err(Error::CouldNotReadStack(0x1000));
+    for (pc, answers) in [
+        (0x101000, [null, Ok(None), Ok(None)]),
+        (0x101500, [unread, unread, unread]),
+    ] {
+        assert!(rt; session.has(unwinder, cache));
+        let regs = UnwindRegsX86_64::new(pc, 0x10, 0x1000);
+        let mut frames = session.iter_frames(unwinder, cache, pc, regs, &mut read_stack);
+        assert!(rt; frames.next() == Ok(Some(first(pc))));
+        for answer in answers {
+            assert!(rt; frames.next() == answer);
+        }
+    }
+    Ok(())
+}
+
+/// A walk stays at the frame whose caller has the return address 0. If that caller isn't null at the next move, as the module was
+/// unloaded meanwhile, the walk goes on from there.
+#[test]
+fn walks_stay_at_return_addresses_of_0(rt: HostRuntime) -> Result<(), Fail> {
+    let alloc = rt.alloc();
+    let mut session: Session<Tables<ArchX86_64>> = Session::new(alloc, Generations::new());
+    let unwinder = added(session.add_unwinder(alloc))?;
+    let there = module(alloc, 0x100000, 0x102000, 0x1000, Said::NullCaller)?;
+    loaded(session.load(unwinder, there)?)?;
+    let cache = session.add_cache(alloc, ())?;
+    let mut read_stack = |at: u64| word_at(at);
+    let mut walk = StackWalk::at(first(0x101000), UnwindRegsX86_64::new(0x101000, 0x10, 0x20));
+    for _ in 0..2 {
+        let answer = session.next_frame(unwinder, cache, &mut walk, &mut read_stack)?;
+        assert!(rt; answer == Err(Error::ReturnAddressIsNull));
+    }
+    assert!(rt; session.unload(unwinder, 0x100000)?.is_ok());
+    let answer = session.next_frame(unwinder, cache, &mut walk, &mut read_stack)?;
+    assert!(rt; answer == Ok(later(0x100200)));
+    Ok(())
+}
+
 /// A return address of 0 is refused, again at each further move: the walk stays at its frame.
 #[test]
 fn return_addresses_of_0_are_refused(rt: HostRuntime) -> Result<(), Fail> {
