@@ -1,2 +1,3 @@
 mod CompactSections
 mod ExplicitTable
+mod PeTable

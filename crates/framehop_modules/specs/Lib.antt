@@ -3,3 +3,4 @@ pub mod ExplicitTable
 pub mod Chosen
 pub mod ChosenViews
 pub mod LoadErrors
+pub mod PeTable

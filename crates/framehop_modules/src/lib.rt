@@ -5,9 +5,11 @@
 mod generations;
 mod module_section_info;
 mod module_sections;
+mod pe_section_info;
 mod section_bytes;
 
 pub use generations::{Generations, GenerationsExhausted, LoadError};
 pub use module_section_info::{ExplicitModuleSectionInfo, ModuleSectionInfo};
 pub use module_sections::{BaseSvmas, ModuleSections, SectionData};
+pub use pe_section_info::PeModuleSectionInfo;
 pub use section_bytes::SectionBytes;

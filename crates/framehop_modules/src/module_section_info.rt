@@ -162,7 +162,7 @@ impl SectionKind {
 // Whether a name is this text. Names are mostly literals, of which the compiler answers this, as it doesn't `==` of
 // slices.
 #[inline(always)]
-fn is_name(name: &[u8], text: &[u8]) -> bool
+pub(crate) fn is_name(name: &[u8], text: &[u8]) -> bool
     ensures { result ≡ bytes_eq name.now text.now }
 {
     let mut left = name;
@@ -188,7 +188,7 @@ fn is_one_of(name: &[u8], one: &[u8], other: &[u8]) -> bool
 }
 
 // The same range.
-fn copy_of(range: &Option<Range<u64>>) -> Option<Range<u64>>
+pub(crate) fn copy_of(range: &Option<Range<u64>>) -> Option<Range<u64>>
     ensures { result ≡ range.now }
 {
     match range {
