@@ -1,11 +1,13 @@
 -- Caches keep to their histories: a new cache, one more cache, and a step through one of them.
 use Rattle.std.proofs.Common.{◌≡◌, ◌∙◌, ℕ, zero, suc, ap, sym, subst, refl, Bool, List, [], ◌∷◌, ◌++◌, Option, Some, None}
 use Rattle.std.specs.Prelude.{option_map, unwrap_or}
+use Rattle.framehop_rules.specs.Occupancy.{occupancy_of}
 use Rattle.framehop_rules.specs.Slots.{Key, Kept, counts_after, found_in, layout_of, new_kept}
 use Rattle.framehop_unwinder.specs.ByNumber.{held, with_changed}
-use Rattle.framehop_unwinder.specs.History.{KeyHistory, no_history, history_at, history_after, histories_after, finding_after, keys_after, HasHistory, HasHistoryIfHeld, HasLastKeys, HaveHistories}
+use Rattle.framehop_unwinder.specs.History.{KeyHistory, no_history, history_at, history_after, histories_after, finding_after, keys_after, occupancy_after, HasHistory, HasHistoryIfHeld, HasLastKeys, HaveHistories}
 use Rattle.framehop_unwinder.specs.RulesKept.{sets_after}
 use Rattle.framehop_unwinder.proofs.KeyLists.{no-keys, keys-kept, keys-count}
+use Rattle.framehop_unwinder.proofs.Occupancies.{occupancy-has}
 
 -- what stands in a cache after a step
 abbrev pub stands_after : {Rule : Type 0} → Bool → (Key → Option Rule) → Key → Kept Rule → Kept Rule
@@ -61,3 +63,18 @@ module _ {Rule : Type 0} where
   counts-have (h ∷ histories) [] i read is have = absurd have
   counts-have (h ∷ histories) (c ∷ caches) zero read is have = counts-if-held h c read have.0 is
   counts-have (h ∷ histories) (c ∷ caches) (suc i) read is have = counts-have histories caches i read is have.1
+
+  occupancy-if-held : (history : Option KeyHistory) (cache : Option (Kept Rule)) (read : Kept Rule) → HasHistoryIfHeld history cache → cache ≡ Some read
+      → occupancy_of read ≡ occupancy_after (unwrap_or history (no_history 509))
+  occupancy-if-held None None read has is = absurd (let no : None ≡ Some read = is in cc)
+  occupancy-if-held None (Some cache) read has is = absurd has
+  occupancy-if-held (Some history) None read has is = absurd has
+  occupancy-if-held (Some history) (Some cache) read has is = ap (λ (o : Option (Kept Rule)). occupancy_of (unwrap_or o read)) (sym is) ∙ occupancy-has history cache has
+
+  pub occupancy-have : (histories : List (Option KeyHistory)) (caches : List (Option (Kept Rule))) (i : ℕ) (read : Kept Rule) → held caches i ≡ Some read → HaveHistories histories caches
+      → occupancy_of read ≡ occupancy_after (history_at histories i)
+  occupancy-have [] [] i read is have = absurd (let no : None ≡ Some read = is in cc)
+  occupancy-have [] (c ∷ caches) i read is have = absurd have
+  occupancy-have (h ∷ histories) [] i read is have = absurd have
+  occupancy-have (h ∷ histories) (c ∷ caches) zero read is have = occupancy-if-held h c read have.0 is
+  occupancy-have (h ∷ histories) (c ∷ caches) (suc i) read is have = occupancy-have histories caches i read is have.1

@@ -3,9 +3,11 @@ mod Elsewhere
 mod EndingWalks
 mod Held
 mod Histories
+mod HitReads
 mod KeyLists
 mod Loads
 mod ModulesInOrder
+mod Occupancies
 mod Sessions
 mod Slots
 mod Sound

@@ -1,10 +1,11 @@
 -- Walks through a session that end at a return address of 0.
 use Rattle.std.specs.Prelude.{ℕ, ◌≡◌, false, Bool, Option, Result, Ok, Err}
-use Rattle.framehop_registers.specs.Callback.{OverWords, Words}
+use Rattle.framehop_registers.specs.Callback.{Words}
 use Rattle.framehop_registers.specs.declared.code_address.FrameAddress.{FrameAddress}
 use Rattle.framehop_registers.specs.declared.error.Error.{Error}
 use Rattle.framehop_registers.specs.declared.error.Error.TheVariants.{CouldNotReadStack, FramepointerUnwindingMovedBackwards, DidNotAdvance, IntegerOverflow, ReturnAddressIsNull, OutOfMemory}
 use Rattle.framehop_unwinder.specs.Attempt.{Meanings}
+use Rattle.framehop_unwinder.specs.HitReads.{RuleReads, StepsReading, reads_by, reads_from}
 use Rattle.framehop_unwinder.specs.IdViews.{MovesBy, modules_by}
 use Rattle.framehop_unwinder.specs.Judge.{judge}
 use Rattle.framehop_unwinder.specs.Moves.{MoveWants, MovesOn}
@@ -33,11 +34,14 @@ abbrev pub EndsAs : {Registers : Type 0} → Judgment Registers → Words → Wa
 EndsAs judgment words old result new =
     wants_memory result ≡ false → record { answer = frame_answer result; walk = new } ≡ ending (move judgment words old)
 
--- a call that took the callback from one state to another moves a walk by the judge of the session's modules, and ends it at 0
-abbrev pub EndsOver : {Stack Data Rule Registers : Type 0} → (Stack → ℕ → Result ℕ (Unit {0}) → Stack → Type 0) → Stack → Stack → Meanings Data Rule Registers
-    → SessionState Data Rule → SessionWalk Registers → Result (Option FrameAddress) Error → SessionWalk Registers → Type 0
-EndsOver step first last m session old result new =
-    OverWords step first last (λ words. EndsAs (judge m (modules_by session old.unwinder)) words (walk_of old.walk) result (walk_of new.walk))
+-- a call that took the callback from one state to another moves a walk by the judge of the session's modules, and ends it at 0; and reads
+-- the words of the rule alone that the cache has for its frame, if it has one
+abbrev pub EndsOver : {Stack Data Rule Registers : Type 0} → (Stack → ℕ → Result ℕ (Unit {0}) → Stack → Type 0) → Stack → Stack
+    → RuleReads Rule Registers → Meanings Data Rule Registers → SessionState Data Rule → SessionWalk Registers → Result (Option FrameAddress) Error
+    → SessionWalk Registers → Type 0
+EndsOver step first last reads m session old result new =
+    StepsReading step first last (λ words. EndsAs (judge m (modules_by session old.unwinder)) words (walk_of old.walk) result (walk_of new.walk))
+    (reads_from (reads_by reads session old.unwinder old.cache) (walk_of old.walk).position (walk_of old.walk).registers)
 
 -- A move, for every callback, of a walk that ends at 0: it moves on, with its unwinder and cache, and is over then if the return
 -- address was 0.

@@ -1,7 +1,10 @@
 -- A cache by the list of all keys that were kept in it.
 use Rattle.std.specs.Prelude.{ℕ, ◌≡◌, List, [], ◌∷◌, ◌++◌, length, map, Bool, Option, Some, None, option_map, unwrap_or, if◌then◌else◌}
+use Rattle.std.specs.List.{range_with_len}
 use Rattle.framehop_rules.specs.LastKept.{last_keys}
+use Rattle.framehop_rules.specs.Occupancy.{rules_in, slots_in}
 use Rattle.framehop_rules.specs.Slots.{Key, KeptRule, Kept, Layout, Finding, Hits, EmptySlot, OtherModules, OtherAddress, finding_among, found_by, key_in, layout_of, sets_in, set_of, slots_of, no_counts, counts_after}
+use Rattle.framehop_rules.specs.declared.rule_cache.CacheOccupancy.{CacheOccupancy}
 use Rattle.framehop_rules.specs.declared.rule_cache.CacheStats.{CacheStats}
 use Rattle.framehop_unwinder.specs.ByNumber.{held, with_changed}
 use Rattle.framehop_unwinder.specs.RulesKept.{sets_after}
@@ -67,6 +70,13 @@ no_history slots = record { layout = layout_of slots; keys = []; counts = no_cou
 abbrev pub history_at : List (Option KeyHistory) → ℕ → KeyHistory
 history_at histories i = unwrap_or (held histories i) (no_history 509)
 
+-- how many slots a cache with this history has, and in how many of them a rule is kept: each set has the last of its keys
+abbrev pub occupancy_after : KeyHistory → CacheOccupancy
+occupancy_after history = record {
+  slot_count = slots_in history.layout;
+  rule_count = rules_in (map (last_keys history.layout history.keys) (range_with_len 0 (sets_in history.layout)));
+}
+
 -- the history of a cache after a step under a key
 abbrev pub history_after : {Rule : Type 0} → Bool → (Key → Option Rule) → Key → KeyHistory → KeyHistory
 history_after wanted kept key history = record {
@@ -103,3 +113,13 @@ HaveHistories (history ∷ histories) (cache ∷ caches) = HasHistoryIfHeld hist
 abbrev pub GainNewHistory : {Rule : Type 0} → ℕ → (old new : List (Option (Kept Rule))) → Type 0
 GainNewHistory slots old new =
     (histories : List (Option KeyHistory)) → HaveHistories histories old → HaveHistories (histories ++ Some (no_history slots) ∷ []) new
+
+-- what the histories of caches say of the counts of one
+abbrev pub CountsByHistory : {Rule : Type 0} → CacheStats → List (Option (Kept Rule)) → ℕ → Type 0
+CountsByHistory counts caches cache =
+    (histories : List (Option KeyHistory)) → HaveHistories histories caches → counts ≡ (history_at histories cache).counts
+
+-- what the histories of caches say of how many slots one has, and in how many of them a rule is kept
+abbrev pub OccupiedByHistory : {Rule : Type 0} → CacheOccupancy → List (Option (Kept Rule)) → ℕ → Type 0
+OccupiedByHistory occupancy caches cache =
+    (histories : List (Option KeyHistory)) → HaveHistories histories caches → occupancy ≡ occupancy_after (history_at histories cache)

@@ -4,8 +4,10 @@ pub mod CacheViews
 pub mod EndingWalks
 pub mod Frames
 pub mod History
+pub mod HitReads
 pub mod IdViews
 pub mod Judge
+pub mod LoadLaws
 pub mod Memory
 pub mod ModuleViews
 pub mod Modules

@@ -8,7 +8,8 @@ use Rattle.framehop_unwinder.specs.Memory.{AsksMemory, WantsMemoryOnlyIf}
 use Rattle.framehop_unwinder.specs.Modules.{Loaded}
 use Rattle.framehop_unwinder.specs.Trials.{IsOfStep, wants_memory}
 use Rattle.framehop_unwinder.specs.Walk.{WalkPosition, Starts, At, Over, Walk}
-use Rattle.framehop_unwinder.specs.WalkViews.{frame_answer}
+use Rattle.framehop_unwinder.specs.WalkViews.{frame_answer, walk_of}
+use Rattle.framehop_unwinder.specs.declared.iterator.StackWalk.{StackWalk}
 
 -- the walk is at a frame: only from there a step is made
 abbrev pub IsAtFrame : WalkPosition → Type 0
@@ -17,10 +18,14 @@ IsAtFrame (At frame) = Unit {0}
 IsAtFrame Over = ⊥
 
 -- from a frame, a move leaves in the cache what a step from there does, else what was in it
-abbrev pub MovesCache : {Cache : Type 0} → (Frame → Cache → Cache → Type 0) → WalkPosition → Cache → Cache → Type 0
-MovesCache steps (Starts pc) old new = new ≡ old
-MovesCache steps (At frame) old new = steps frame old new
-MovesCache steps Over old new = new ≡ old
+abbrev pub CachesFrom : {Cache : Type 0} → (Frame → Cache → Cache → Type 0) → WalkPosition → Cache → Cache → Type 0
+CachesFrom steps (Starts pc) old new = new ≡ old
+CachesFrom steps (At frame) old new = steps frame old new
+CachesFrom steps Over old new = new ≡ old
+
+-- the same of a walk
+abbrev pub MoveDoes : {Cache Registers : Type 0} → (Frame → Cache → Cache → Type 0) → StackWalk Registers → Cache → Cache → Type 0
+MoveDoes steps walk old new = CachesFrom steps (walk_of walk).position old new
 
 -- from a frame, a move may allocate if a step from there may, else it doesn't
 abbrev pub MoveAsks : (Frame → Type 0) → WalkPosition → Type 0

@@ -2,9 +2,10 @@
 
 ghost use Rattle.std.specs.Prelude.{◌≡◌, ◌≢◌, false, true, Ok, Err, Some, None, IfErr, IfSome};
 ghost use Rattle.framehop_unwinder.specs.Frames.{first_frame, frame_of, later_frame};
+ghost use Rattle.framehop_unwinder.specs.HitReads.{MoveReads};
 ghost use Rattle.framehop_unwinder.specs.Memory.{WantsMemoryOnlyIf};
 ghost use Rattle.framehop_unwinder.specs.Modules.{AreOneBook};
-ghost use Rattle.framehop_unwinder.specs.Moves.{MoveAsks, MovesCache, MovesOn};
+ghost use Rattle.framehop_unwinder.specs.Moves.{MoveAsks, MoveDoes, MovesOn};
 ghost use Rattle.framehop_unwinder.specs.Trials.{wants_memory};
 ghost use Rattle.framehop_unwinder.specs.Walk.{At, Over};
 ghost use Rattle.framehop_unwinder.specs.WalkViews.{MovesOverWords, place_of, frame_answer, walk_at, walk_from, walk_of};
@@ -98,7 +99,7 @@ pub struct UnwindIterator<'u, 'c, 'r, U: Unwinder, F> {
     unwinder: &'u U,
     walk: StackWalk<U::UnwindRegs>,
     cache: &'c mut U::Cache,
-    read_stack: &'r mut F,
+    stack: &'r mut F,
 }
 
 impl<'u, 'c, 'r, U: Unwinder, F: FnMut(u64) -> Result<u64, ()>> UnwindIterator<'u, 'c, 'r, U, F> {
@@ -113,13 +114,13 @@ impl<'u, 'c, 'r, U: Unwinder, F: FnMut(u64) -> Result<u64, ()>> UnwindIterator<'
         ensures unwinder { result.unwinder.now ≡ unwinder.now }
         ensures walk { walk_of result.walk ≡ walk_from pc regs }
         ensures cache { result.cache ≡ cache.entry }
-        ensures read_stack { result.read_stack ≡ read_stack.entry }
+        ensures stack { result.stack ≡ read_stack.entry }
     {
         UnwindIterator {
             unwinder,
             walk: StackWalk::new(pc, regs),
             cache,
-            read_stack,
+            stack: read_stack,
         }
     }
 
@@ -130,21 +131,23 @@ impl<'u, 'c, 'r, U: Unwinder, F: FnMut(u64) -> Result<u64, ()>> UnwindIterator<'
     /// Through a cache that fits the unwinder the frames are those without a cache. The cache goes on
     /// fitting all unwinders that it fitted, if those of the generation of this one have its modules.
     pub fn next(&mut self) -> Result<Option<FrameAddress>, Error>
-        requires { F.IsAlwaysCallable self.old.read_stack.now }
-        ensures callable { F.IsAlwaysCallable self.new.read_stack.now }
-        ensures moved { MovesOverWords F.step self.old.read_stack.now self.new.read_stack.now
+        requires { F.IsAlwaysCallable self.old.stack.now }
+        ensures callable { F.IsAlwaysCallable self.new.stack.now }
+        ensures moved { MovesOverWords F.step self.old.stack.now self.new.stack.now
             (U.fits self.old.unwinder.now self.old.cache.now)
             (U.judgment self.old.unwinder.now) self.old.walk result self.new.walk }
+        ensures order { MoveReads F.step self.old.stack.now self.new.stack.now
+            (U.reads self.old.unwinder.now self.old.cache.now) self.old.walk }
         ensures walk { MovesOn (walk_of self.old.walk) result (walk_of self.new.walk) }
-        ensures cache { MovesCache (U.steps_cache self.old.unwinder.now (wants_memory result))
-            (walk_of self.old.walk).position self.old.cache.now self.new.cache.now }
+        ensures cache { MoveDoes (U.steps_cache self.old.unwinder.now (wants_memory result))
+            self.old.walk self.old.cache.now self.new.cache.now }
         ensures fits { (other : U) → AreOneBook (U.loads self.old.unwinder.now) (U.loads other)
             → U.fits other self.old.cache.now → U.fits other self.new.cache.now }
         ensures memory { WantsMemoryOnlyIf U.takes_memory (wants_memory result)
             (MoveAsks (U.asks_memory self.old.unwinder.now) (walk_of self.old.walk).position) }
         ensures unwinder { self.new.unwinder ≡ self.old.unwinder }
         ensures loans { (self.new.cache.ghost_name ≡ self.old.cache.ghost_name)
-            × (self.new.read_stack.ghost_name ≡ self.old.read_stack.ghost_name) }
+            × (self.new.stack.ghost_name ≡ self.old.stack.ghost_name) }
     {
         let address = match self.walk.state {
             UnwindIteratorState::Initial(pc) => return Ok(Some(self.walk.state.begin(pc))),
@@ -153,7 +156,7 @@ impl<'u, 'c, 'r, U: Unwinder, F: FnMut(u64) -> Result<u64, ()>> UnwindIterator<'
         };
         let step = self
             .unwinder
-            .unwind_frame(address, &mut self.walk.regs, self.cache, self.read_stack)?;
+            .unwind_frame(address, &mut self.walk.regs, self.cache, self.stack)?;
         self.walk.state.go_on(step)
     }
 }

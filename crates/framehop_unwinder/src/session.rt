@@ -1,11 +1,12 @@
 //! Many unwinders, which share caches under one counter of generations.
 
-ghost use Rattle.std.specs.Prelude.{◌≡◌, ◌≤◌, ◌+◌, ◌^◌, ◌-◌, ◌∷◌, ◌++◌, [], true, false, Ok, Err, None, Option, length, List, IfOk, IfErr, IsErr, OnOk, OnErr};
+ghost use Rattle.std.specs.Prelude.{◌≡◌, ◌≤◌, ◌+◌, ◌^◌, ◌-◌, ◌∷◌, ◌++◌, [], true, false, Ok, Err, None, length, IfOk, IfErr, IsErr, OnOk, OnErr};
 ghost use Rattle.framehop_registers.specs.Callback.{OverWords};
 ghost use Rattle.framehop_modules.specs.LoadErrors.{module_returned, is_exhausted};
 ghost use Rattle.framehop_rules.specs.Occupancy.{occupancy_of};
 ghost use Rattle.framehop_unwinder.specs.Frames.{frame_of};
-ghost use Rattle.framehop_unwinder.specs.History.{GainNewHistory, KeyHistory, HaveHistories, history_at};
+ghost use Rattle.framehop_unwinder.specs.History.{CountsByHistory, GainNewHistory, OccupiedByHistory};
+ghost use Rattle.framehop_unwinder.specs.HitReads.{MoveReads, ReadsIfKnown, reads_by};
 ghost use Rattle.framehop_unwinder.specs.IdViews.{FindsHeld, MovesBy, StepsBy, cache_number, has_both, has_cache, has_module_at, has_unwinder, modules_by, unwinder_number, with_module_in, without_module_in};
 ghost use Rattle.framehop_unwinder.specs.Judge.{judge};
 ghost use Rattle.framehop_unwinder.specs.Memory.{WantsFrom};
@@ -284,9 +285,8 @@ impl<A: ModuleUnwinding> Session<A> {
         ensures found { FindsHeld (has_cache self.now cache) result self.now self.now }
         ensures counts { IfOk result (λ stats.
             stats ≡ (cache_at self.now.caches (cache_number cache)).counts) }
-        ensures histories { IfOk result (λ stats. (histories : List (Option KeyHistory))
-            → HaveHistories histories self.now.caches
-            → stats ≡ (history_at histories (cache_number cache)).counts) }
+        ensures histories { IfOk result (λ stats.
+            CountsByHistory stats self.now.caches (cache_number cache)) }
     {
         match self.caches.get(cache.place) {
             Some(cache) => Ok(cache.stats()),
@@ -299,6 +299,8 @@ impl<A: ModuleUnwinding> Session<A> {
         ensures found { FindsHeld (has_cache self.now cache) result self.now self.now }
         ensures occupancy { IfOk result (λ occupancy.
             occupancy ≡ occupancy_of (cache_at self.now.caches (cache_number cache))) }
+        ensures histories { IfOk result (λ occupancy.
+            OccupiedByHistory occupancy self.now.caches (cache_number cache)) }
     {
         match self.caches.get(cache.place) {
             Some(cache) => Ok(cache.occupancy()),
@@ -322,6 +324,8 @@ impl<A: ModuleUnwinding> Session<A> {
         ensures step { OverWords F.step read_stack.old read_stack.new (λ words. IfOk result (λ answer.
             StepsAs answer regs.old regs.new (judge A.meanings (modules_by self.old unwinder)
             (frame_of address) regs.old words))) }
+        ensures order { OnOk result (ReadsIfKnown F.step read_stack.old read_stack.new
+            (reads_by A.UnwindRule.reads self.old unwinder cache (frame_of address) regs.old)) }
         ensures caches { IfOk result (λ answer. StepsBy A.meanings answer
             (frame_of address) unwinder cache self.old self.new) }
         ensures stays { IfOk result (λ answer. StaysUnlessStepped answer regs.old regs.new) }
@@ -358,6 +362,8 @@ impl<A: ModuleUnwinding> Session<A> {
         ensures moved { OverWords F.step read_stack.old read_stack.new (λ words. IfOk result (λ answer.
             MovesAs (judge A.meanings (modules_by self.old unwinder)) words
             (walk_of walk.old) answer (walk_of walk.new))) }
+        ensures order { OnOk result (MoveReads F.step read_stack.old read_stack.new
+            (reads_by A.UnwindRule.reads self.old unwinder cache) walk.old) }
         ensures walk { IfOk result (λ answer. MovesOn (walk_of walk.old) answer (walk_of walk.new)) }
         ensures caches { IfOk result (λ answer. MovesBy A.meanings answer
             (walk_of walk.old).position unwinder cache self.old self.new) }
@@ -379,6 +385,7 @@ impl<A: ModuleUnwinding> Session<A> {
             UnwindIteratorState::Unwinding(_) | UnwindIteratorState::Done => Ok(Ok(None)),
         }
     }
+
     /// A walk over an unwinder's frames, with any of the caches, from a frame at the instruction pointer
     /// `pc` with these registers. The session has to have both: `has` is the test.
     pub fn iter_frames<'s, 'r, F: FnMut(u64) -> Result<u64, ()>>(

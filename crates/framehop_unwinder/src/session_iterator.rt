@@ -76,8 +76,8 @@ impl<'s, 'r, A: ModuleUnwinding, F: FnMut(u64) -> Result<u64, ()>> SessionUnwind
     pub fn next(&mut self) -> Result<Option<FrameAddress>, Error>
         requires { F.IsAlwaysCallable self.old.stack.now }
         ensures callable { F.IsAlwaysCallable self.new.stack.now }
-        ensures moved { EndsOver F.step self.old.stack.now self.new.stack.now A.meanings
-            self.old.session.now self.old.on result self.new.on }
+        ensures moved { EndsOver F.step self.old.stack.now self.new.stack.now A.UnwindRule.reads
+            A.meanings self.old.session.now self.old.on result self.new.on }
         ensures walk { EndsOn self.old.on result self.new.on }
         ensures session { MovesSession A.meanings A.takes_memory A.asks_memory
             self.old.session.now self.old.on result self.new.session.now }

@@ -1,13 +1,15 @@
 //! The modules of a process, and the step of a stack walk.
 
-ghost use Rattle.std.specs.Prelude.{◌≡◌, ◌+◌, ◌-◌, ◌^◌, ◌<◌, ◌≤◌, [], true, false, Some, None, Ok, Err, List, length, insert, remove, IfOk, IfErr, IsErr, OnOk, OnErr, IfNone, IfSome};
+ghost use Rattle.std.specs.Prelude.{◌≡◌, ◌+◌, ◌-◌, ◌^◌, ◌<◌, ◌≤◌, refl, [], true, false, Some, None, Ok, Err, List, length, insert, remove, IfOk, IfErr, IsErr, OnOk, OnErr, IfNone, IfSome};
 ghost use Rattle.std.specs.List.Sorted.{IsNonDecreasingBy};
 ghost use Rattle.framehop_registers.specs.Callback.{OverWords};
 ghost use Rattle.framehop_rules.specs.Outcome.{IsStep, StaysUnlessAnswered};
-ghost use Rattle.framehop_rules.specs.Slots.{key_of};
+ghost use Rattle.framehop_rules.specs.Slots.{found_by, key_of};
 ghost use Rattle.framehop_unwinder.specs.Attempt.{Attempt, attempt_at};
 ghost use Rattle.framehop_unwinder.specs.CacheViews.{rules_of};
 ghost use Rattle.framehop_unwinder.specs.Frames.{frame_of};
+ghost use Rattle.framehop_unwinder.specs.HitReads.{StepsReading, reads_of_finding, reads_on_hit};
+ghost use Rattle.framehop_unwinder.specs.LoadLaws.{asks_alike, fits_alike};
 ghost use Rattle.framehop_unwinder.specs.Judge.{by_attempt, judge, judge_at};
 ghost use Rattle.framehop_unwinder.specs.Memory.{AsksMemory, WantsAt};
 ghost use Rattle.framehop_unwinder.specs.Modules.{Loaded, nearest_module, module_found, is_loaded_at, with_loaded, without_loaded};
@@ -243,9 +245,11 @@ impl<A: ModuleUnwinding> UnwinderInternal<A> {
     ) -> Result<Option<u64>, Error>
         requires { F.IsAlwaysCallable read_stack.old }
         ensures callable { F.IsAlwaysCallable read_stack.new }
-        ensures step { OverWords F.step read_stack.old read_stack.new (λ words.
+        ensures step { StepsReading F.step read_stack.old read_stack.new (λ words.
             FitsLoads A.meanings self.now (rules_of cache.old) → StepsAs result regs.old regs.new
-            (judge_at A.meanings self.now.modules is_first_frame address regs.old words)) }
+            (judge_at A.meanings self.now.modules is_first_frame address regs.old words))
+            (reads_of_finding A.UnwindRule.reads is_first_frame regs.old (found_by (rules_of cache.old)
+            (key_of address is_first_frame self.now.generation))) }
         ensures cache { StepsCache (rule_kept A.meanings self.now.modules)
             (key_of address is_first_frame self.now.generation) (wants_memory result)
             (rules_of cache.old) (rules_of cache.new) }
@@ -283,8 +287,13 @@ impl<A: ModuleUnwinding> Unwinder for UnwinderInternal<A> {
     ghost judgment = { λ unwinder.
         judge A.meanings unwinder.modules };
 
+    ghost judge = { judge A.meanings };
+
     ghost fits = { λ unwinder cache.
         FitsLoads A.meanings unwinder (rules_of cache) };
+
+    ghost reads = { λ unwinder cache.
+        reads_on_hit A.UnwindRule.reads unwinder.generation (rules_of cache) };
 
     ghost takes_memory = { A.takes_memory };
 
@@ -293,6 +302,12 @@ impl<A: ModuleUnwinding> Unwinder for UnwinderInternal<A> {
     ghost steps_cache = { λ unwinder wanted frame old new.
         StepsCache (rule_kept A.meanings unwinder.modules) (key_for frame unwinder.generation)
         wanted (rules_of old) (rules_of new) };
+
+    ghost judges_loads = { λ unwinder. refl };
+
+    ghost fits_by_loads = { λ one other cache. fits_alike A.meanings one other (rules_of cache) };
+
+    ghost asks_by_loads = { λ one other. asks_alike A.asks_memory one.modules other.modules };
 
     fn try_clone(&self, alloc: Global) -> Result<Self, AllocError> {
         Ok(UnwinderInternal {

@@ -1,10 +1,11 @@
 //! What the unwinders of all architectures have.
 
-ghost use Rattle.std.specs.Prelude.{◌≡◌, ◌≤◌, ◌+◌, ◌-◌, ◌^◌, ℕ, Bool, true, false, Ok, Err, None, IfOk, IfErr, IsErr, OnOk, OnErr};
+ghost use Rattle.std.specs.Prelude.{◌≡◌, ◌≤◌, ◌+◌, ◌-◌, ◌^◌, ℕ, Bool, true, false, List, Option, Ok, Err, None, IfOk, IfErr, IsErr, OnOk, OnErr};
 ghost use Rattle.framehop_registers.specs.Callback.{Words, OverWords};
 ghost use Rattle.framehop_rules.specs.Outcome.{Outcome, Caller};
 ghost use Rattle.framehop_modules.specs.LoadErrors.{module_returned, is_exhausted};
 ghost use Rattle.framehop_unwinder.specs.Frames.{Frame, frame_of};
+ghost use Rattle.framehop_unwinder.specs.HitReads.{ReadsIfKnown};
 ghost use Rattle.framehop_unwinder.specs.Memory.{WantsMemoryOnlyIf};
 ghost use Rattle.framehop_unwinder.specs.Modules.{AreOneBook, ChangesNothing, Loads, TakesNumber, with_module, without_module, has_start, last_end};
 ghost use Rattle.framehop_unwinder.specs.Trials.{StaysUnlessStepped, StepsAs, wants_memory};
@@ -36,8 +37,15 @@ pub trait Unwinder {
     /// What is judged of a step, from the frame, its registers and the words of the stack.
     ghost judgment: { Self → Frame → Self.UnwindRegs → Words → Outcome (Caller Self.UnwindRegs) };
 
+    /// What is judged of a step by modules alone.
+    ghost judge: { List Self.Module → Frame → Self.UnwindRegs → Words → Outcome (Caller Self.UnwindRegs) };
+
     /// The cache holds what the unwinder would keep.
     ghost fits: { Self → Self.Cache → Type 0 };
+
+    /// What a step from a frame with these registers reads, by the words of the stack, if the cache has
+    /// its rule.
+    ghost reads: { Self → Self.Cache → Frame → Self.UnwindRegs → Option (Words → List ℕ) };
 
     /// Whether a step may take memory.
     ghost takes_memory: { Bool };
@@ -101,6 +109,7 @@ pub trait Unwinder {
     ///
     /// Through a cache that fits the unwinder the step is the one without a cache. The cache goes on
     /// fitting all unwinders that it fitted, if those of the generation of this one have its modules.
+    /// Where the cache has the rule of the step, no word is read but those that the rule names, each once.
     fn unwind_frame<F: FnMut(u64) -> Result<u64, ()>>(
         &self,
         address: FrameAddress,
@@ -113,6 +122,8 @@ pub trait Unwinder {
         ensures step { OverWords F.step read_stack.old read_stack.new (λ words.
             fits self.now cache.old → StepsAs result regs.old regs.new
             (judgment self.now (frame_of address) regs.old words)) }
+        ensures order { ReadsIfKnown F.step read_stack.old read_stack.new
+            (reads self.now cache.old (frame_of address) regs.old) }
         ensures cache { steps_cache self.now (wants_memory result) (frame_of address)
             cache.old cache.new }
         ensures fits { (other : Self) → AreOneBook (loads self.now) (loads other)
@@ -120,6 +131,17 @@ pub trait Unwinder {
         ensures stays { StaysUnlessStepped result regs.old regs.new }
         ensures memory { WantsMemoryOnlyIf takes_memory (wants_memory result)
             (asks_memory self.now (frame_of address)) };
+
+    /// What is judged of a step depends on the modules that are loaded alone.
+    ghost judges_loads: { (unwinder : Self) → judgment unwinder ≡ judge (loads unwinder).modules };
+
+    /// Which caches fit depends on the modules and their generation alone.
+    ghost fits_by_loads: { (one other : Self) (cache : Self.Cache) → loads one ≡ loads other
+        → fits one cache → fits other cache };
+
+    /// The frames from which a step may take memory depend on the modules alone.
+    ghost asks_by_loads: { (one other : Self) (frame : Frame) → (loads one).modules ≡ (loads other).modules
+        → asks_memory one frame → asks_memory other frame };
 
     /// A walk from a frame at the instruction pointer `pc` with these registers.
     final fn iter_frames<'u, 'c, 'r, F: FnMut(u64) -> Result<u64, ()>>(
@@ -134,7 +156,7 @@ pub trait Unwinder {
         ensures unwinder { result.unwinder.now ≡ self.now }
         ensures walk { walk_of result.walk ≡ walk_from pc regs }
         ensures cache { result.cache ≡ cache.entry }
-        ensures read_stack { result.read_stack ≡ read_stack.entry }
+        ensures stack { result.stack ≡ read_stack.entry }
     {
         UnwindIterator::new(self, pc, regs, cache, read_stack)
     }

@@ -18,6 +18,7 @@ use Rattle.framehop_unwinder.specs.State.{SessionState, unwinder_at, histories_a
 use Rattle.framehop_unwinder.specs.Trials.{wants_memory}
 use Rattle.framehop_unwinder.specs.declared.cache.Cache.{Cache}
 use Rattle.framehop_unwinder.specs.declared.numbered.Numbered.{Numbered}
+use Rattle.framehop_unwinder.proofs.HitReads.{session-reads}
 use Rattle.framehop_unwinder.proofs.Held.{changed-is, held-map, marks-changed}
 use Rattle.framehop_unwinder.proofs.Histories.{stands_after, step-have}
 use Rattle.framehop_unwinder.proofs.Loads.{holding, read-is}
@@ -145,6 +146,34 @@ returns-clause-step g c =
           (e.step.said words answers fits wanted);
       still = e.step.still;
     }
+
+pub returns-clause-order : goal.returns-clause-order
+returns-clause-order g c =
+    let D = g.row.A-UnwindData.Denot in
+    let R = g.row.A-UnwindRule.Denot in
+    let m = g.A.ModuleUnwinding.meanings in
+    let s = c.self.inside in
+    let n = unwinder_number c.args.unwinder in
+    let k = cache_number c.args.cache in
+    let loads = by_number s.unwinders in
+    let rules = caches_by_number s.caches in
+    let sets = sets_of_all rules in
+    let now = c.args.self.now in
+    let u = c.in-Some.unwinder.now in
+    let mine : held loads n ≡ Some u = sym c.get.ensures ∙ ap option_copied c.in-Some.is in
+    let slot = c.in-Some-slot_of.slot in
+    let slot_is = c.in-Some-slot_of.ensures in
+    let read = held-in-slot s.caches slot k c.index_mut.result.now c.self.invariant.caches_numbered slot_is.inside slot_is.here c.index_mut.ensures.value in
+    let cache = c.in-Some-index_mut.cache in
+    let old = rules_of cache in
+    let kept : held (by_number s.caches) k ≡ Some cache = read ∙ c.in-Some-index_mut.is in
+    let kept_rules : held rules k ≡ Some old = held-map rules_of (by_number s.caches) k ∙ ap (option_map rules_of) kept in
+    let kept_sets : held sets k ≡ Some old.sets = held-map (λ (x : Kept R). x.sets) rules k ∙ ap (option_map (λ (x : Kept R). x.sets)) kept_rules in
+    let e = c.unwind_frame.ensures in
+    let new = c.unwind_frame.new.cache in
+    let is = read-is loads s.generations rules now c.self.view_is n u mine in
+    let theirs : held now.caches k ≡ Some old = cache-read now s.caches k (Some cache) (ap (λ (x : SessionState D R). x.caches) c.self.view_is) kept in
+    session-reads _ _ _ g.A.UnwindRule.UnwindRule.reads now c.args.unwinder c.args.cache (frame_of c.args.address) c.args.regs.now u old is theirs e.order
 
 pub returns-clause-caches : goal.returns-clause-caches
 returns-clause-caches g c =

@@ -9,6 +9,7 @@ use Rattle.framehop_unwinder.specs.Trials.{wants_memory}
 use Rattle.framehop_unwinder.specs.WalkViews.{MovesAs, walk_of}
 use Rattle.framehop_unwinder.specs.declared.ids.StaleId.{StaleId}
 use Rattle.framehop_unwinder.proofs.EndingWalks.{both-stay, ends-as}
+use Rattle.framehop_unwinder.proofs.HitReads.{on-ok}
 use Rattle.framehop_unwinder.proofs.session_iterator.SessionUnwindIterator.next.Goals as goal
 
 pub invariant_of-self : goal.invariant_of-self
@@ -24,10 +25,13 @@ returns-clause-moved g c =
     let moved = c.next_frame.ensures.moved in
     let judgment = judge g.A.ModuleUnwinding.meanings (modules_by it.session.now it.on.unwinder) in
     record {
-      said = λ words answers. ends-as judgment words (walk_of it.on.walk) c.unwrap-answer.result (walk_of c.next_frame.new.walk) (walk_of c.end_at_null.new.walk)
-          (subst (λ (r : Result (Result (Option FrameAddress) Error) StaleId). IfOk r (λ answer. MovesAs judgment words (walk_of it.on.walk) answer (walk_of c.next_frame.new.walk)))
-          c.unwrap-answer.ensures (moved.said words answers)) c.end_at_null.ensures;
-      still = moved.still;
+      over = record {
+        said = λ words answers. ends-as judgment words (walk_of it.on.walk) c.unwrap-answer.result (walk_of c.next_frame.new.walk) (walk_of c.end_at_null.new.walk)
+            (subst (λ (r : Result (Result (Option FrameAddress) Error) StaleId). IfOk r (λ answer. MovesAs judgment words (walk_of it.on.walk) answer (walk_of c.next_frame.new.walk)))
+            c.unwrap-answer.ensures (moved.said words answers)) c.end_at_null.ensures;
+        still = moved.still;
+      };
+      order = on-ok c.next_frame.result c.unwrap-answer.result c.unwrap-answer.ensures c.next_frame.ensures.order;
     }
 
 pub returns-clause-walk : goal.returns-clause-walk

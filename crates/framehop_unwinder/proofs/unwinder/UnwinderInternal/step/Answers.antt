@@ -5,6 +5,7 @@ use Rattle.framehop_unwinder.specs.Attempt.{attempt_at}
 use Rattle.framehop_unwinder.specs.CacheViews.{rules_of}
 use Rattle.framehop_unwinder.specs.RulesKept.{rule_kept, rule_of_attempt, with_any}
 use Rattle.framehop_unwinder.specs.Trials.{wants_memory, rule_of_result}
+use Rattle.framehop_unwinder.proofs.HitReads.{hit-reads, miss-reads}
 use Rattle.framehop_unwinder.proofs.Slots.{hit_fits}
 use Rattle.framehop_unwinder.proofs.Steps.{kept-judged, hit-found, miss-keeps, rules_want_none, wanted-keeps-none}
 use Rattle.framehop_unwinder.proofs.unwinder.UnwinderInternal.step.Goals as goal
@@ -19,13 +20,17 @@ returns-in-Hit-clause-step g c =
     let sets = (rules_of c.args.cache.now).sets in
     let found = hit-found (rule_kept m modules) key layout sets c.in-Hit.rule (rw c.generation.ensures at c.in-Hit.ensures.found) in
     record {
-      said = λ words answers fits wanted.
-          subst (IsStep c.exec.result c.args.regs.now c.exec.new.regs)
-          (sym (kept-judged m c.args.is_first_frame c.args.regs.now words modules c.args.address c.args.self.now.generation c.in-Hit.rule
-          (hit_fits (rule_kept m modules) key layout sets c.in-Hit.rule found fits)))
-          (subst (λ meaning. IsStep c.exec.result c.args.regs.now c.exec.new.regs (meaning c.in-Hit.rule c.args.is_first_frame c.args.regs.now words))
-          (sym g.met.A.ModuleUnwinding.meaning_is) (c.exec.ensures.step.said words answers));
-      still = c.exec.ensures.step.still;
+      over = record {
+        said = λ words answers fits wanted.
+            subst (IsStep c.exec.result c.args.regs.now c.exec.new.regs)
+            (sym (kept-judged m c.args.is_first_frame c.args.regs.now words modules c.args.address c.args.self.now.generation c.in-Hit.rule
+            (hit_fits (rule_kept m modules) key layout sets c.in-Hit.rule found fits)))
+            (subst (λ meaning. IsStep c.exec.result c.args.regs.now c.exec.new.regs (meaning c.in-Hit.rule c.args.is_first_frame c.args.regs.now words))
+            (sym g.met.A.ModuleUnwinding.meaning_is) (c.exec.ensures.step.said words answers));
+        still = c.exec.ensures.step.still;
+      };
+      -- and no word is read but its own
+      order = hit-reads _ _ _ g.A.UnwindRule.UnwindRule.reads c.args.is_first_frame c.args.regs.now _ c.in-Hit.rule found c.exec.ensures.order;
     }
 
 -- what the modules say is judged
@@ -34,11 +39,15 @@ returns-clause-step g c =
     let m = g.A.ModuleUnwinding.meanings in
     let tried = c.attempt-answer.ensures.answers.answer in
     let done = c.execute.ensures in
+    let key : Key = key_of c.args.address c.args.is_first_frame c.args.self.now.generation in
     record {
-      said = λ words answers fits wanted.
-          let got = sym done.wanted ∙ wanted in
-          done.step.said words (tried.still words answers) c.args.regs.now (attempt_at m c.args.self.now.modules c.args.is_first_frame c.args.address) got (tried.said words answers got);
-      still = λ words answers. done.step.still words (tried.still words answers);
+      over = record {
+        said = λ words answers fits wanted.
+            let got = sym done.wanted ∙ wanted in
+            done.step.said words (tried.still words answers) c.args.regs.now (attempt_at m c.args.self.now.modules c.args.is_first_frame c.args.address) got (tried.said words answers got);
+        still = λ words answers. done.step.still words (tried.still words answers);
+      };
+      order = miss-reads _ _ _ g.A.UnwindRule.UnwindRule.reads c.args.is_first_frame c.args.regs.now key _ c.in-Miss.handle (rw c.generation.ensures at c.in-Miss.ensures.found);
     }
 
 -- and what they have kept is

@@ -4,9 +4,24 @@ use Rattle.framehop_unwinder.specs.CacheViews.{rules_of}
 use Rattle.framehop_unwinder.specs.Frames.{frame_of}
 use Rattle.framehop_unwinder.specs.RulesKept.{StepsCache, key_for, rule_kept}
 use Rattle.framehop_unwinder.specs.Trials.{wants_memory}
+use Rattle.framehop_unwinder.proofs.HitReads.{frame-judged, frame-reads}
 use Rattle.framehop_unwinder.proofs.Slots.{loads_fit}
 use Rattle.framehop_unwinder.proofs.Steps.{asked-from, key-is}
 use Rattle.framehop_unwinder.proofs.unwinder.UnwinderInternalUnwinder.unwind_frame.Goals as goal
+
+-- the words of the rule that was found for the frame
+pub returns-clause-order : goal.returns-clause-order
+returns-clause-order g c =
+    frame-reads _ _ _ g.A.UnwindRule.UnwindRule.reads c.args.regs.now (rules_of c.args.cache.now) c.args.address c.address_for_lookup-lookup_address.result
+    c.is_return_address-is_first_frame.result c.args.self.now.generation c.address_for_lookup-lookup_address.ensures c.is_return_address-is_first_frame.ensures
+    c.step.ensures.step.order
+
+-- by the modules
+pub returns-clause-step : goal.returns-clause-step
+returns-clause-step g c =
+    frame-judged _ _ _ g.A.ModuleUnwinding.meanings c.args.self.now.modules _ c.step.result c.args.regs.now c.step.new.regs c.args.address
+    c.address_for_lookup-lookup_address.result c.is_return_address-is_first_frame.result c.address_for_lookup-lookup_address.ensures
+    c.is_return_address-is_first_frame.ensures c.step.ensures.step.over
 
 -- the key of the frame
 pub returns-clause-cache : goal.returns-clause-cache
