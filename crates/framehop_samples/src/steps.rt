@@ -23,6 +23,7 @@ pub enum SampleStep {
 }
 
 // What was asked for, if nothing is known of it.
+#[inline(always)]
 fn needed(sample: &Sample<'_>, wanted: Option<u64>) -> Option<u64>
     ensures unknown { IfSome result (λ address. is_known sample.now address ≡ false) }
 {
@@ -34,33 +35,8 @@ fn needed(sample: &Sample<'_>, wanted: Option<u64>) -> Option<u64>
     }
 }
 
-// Makes a step over the words that are known, of which no other is asked for.
-fn step_by_known<A: ModuleUnwinding>(
-    session: &mut Session<A>,
-    unwinder: UnwinderId,
-    cache: CacheId,
-    address: FrameAddress,
-    regs: &mut A::UnwindRegs,
-    sample: &Sample<'_>,
-) -> Result<Option<u64>, Error>
-    requires { has_both session.old unwinder cache ≡ true }
-    ensures step { StepsAs result regs.old regs.new
-        (outcome_in A.meanings session.old unwinder address regs.old sample.now) }
-    ensures caches { StepsBy A.meanings result (frame_of address)
-        unwinder cache session.old session.new }
-    ensures stays { StaysUnlessStepped result regs.old regs.new }
-    ensures memory { WantsFrom A.takes_memory A.asks_memory (modules_by session.old unwinder)
-        (frame_of address) (wants_memory result) }
-{
-    let mut read_stack = |at: u64| -> Result<u64, ()>
-        ensures answer { result ≡ read_answer (words_of sample.entry.now at) }
-        ensures same { sample.exit ≡ sample.entry }
-    { sample.word(at) };
-    let step = session.step(unwinder, cache, address, regs, &mut read_stack);
-    step.unwrap()
-}
-
 // Makes a step over the words that are known, and notes the first other that is asked for.
+#[inline(always)]
 fn step_by_asked<A: ModuleUnwinding>(
     session: &mut Session<A>,
     unwinder: UnwinderId,
@@ -88,6 +64,7 @@ fn step_by_asked<A: ModuleUnwinding>(
 
 /// Makes a step over a sample: that of the judge over the words that are known, and over no others. If another is asked for, nothing is
 /// done but in the cache, and the step is to be made again once it is known.
+#[inline(always)]
 pub fn step_in_sample<A: ModuleUnwinding>(
     session: &mut Session<A>,
     unwinder: UnwinderId,
@@ -104,14 +81,15 @@ pub fn step_in_sample<A: ModuleUnwinding>(
     ensures caches { CountsBy A.meanings result address unwinder cache session.old session.new }
     ensures memory { A.takes_memory ≡ false → TakesNoMemory result }
 {
-    if sample.asks == 0 {
-        return SampleStep::Answered(step_by_known(session, unwinder, cache, address, regs, sample));
-    }
-    let before = *regs;
     let mut asked = AskedSample {
         sample,
         wanted: None,
     };
+    if sample.asks == 0 {
+        let step = step_by_asked(session, unwinder, cache, address, regs, &mut asked);
+        return SampleStep::Answered(step);
+    }
+    let before = *regs;
     let step = step_by_asked(session, unwinder, cache, address, regs, &mut asked);
     match needed(sample, asked.wanted) {
         Some(address) => {

@@ -92,6 +92,7 @@ impl<R: Copy> SampleWalk<R> {
 }
 
 // Makes the next move of a walk.
+#[inline(always)]
 fn move_on<A: ModuleUnwinding>(
     session: &mut Session<A>,
     unwinder: UnwinderId,
