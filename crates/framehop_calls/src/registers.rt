@@ -38,6 +38,7 @@ impl RegistersX86_64 {
     {}
 
     /// The registers as steps have them.
+    #[inline(always)]
     pub fn to_regs(&self) -> UnwindRegsX86_64
         ensures { result ≡ to_x86_64 self.now }
     {
@@ -61,6 +62,7 @@ impl RegistersX86_64 {
     }
 
     /// The registers as callers have them.
+    #[inline(always)]
     pub fn of(regs: &UnwindRegsX86_64) -> Self
         ensures { result ≡ from_x86_64 regs.now }
     {
@@ -91,6 +93,7 @@ impl RegistersX86_64 {
 
 impl RegistersAarch64 {
     /// The registers as steps have them: the link register is stripped.
+    #[inline(always)]
     pub fn to_regs(&self) -> UnwindRegsAarch64
         ensures { result ≡ to_aarch64 self.now }
     {
@@ -99,6 +102,7 @@ impl RegistersAarch64 {
     }
 
     /// The registers as callers have them.
+    #[inline(always)]
     pub fn of(regs: &UnwindRegsAarch64) -> Self
         ensures { result ≡ from_aarch64 regs.now }
     {
