@@ -1,3 +1,5 @@
+pub mod CountLaws
 pub mod FrameNames
+pub mod LineViews
 pub mod Lines
 pub mod Names

@@ -1,40 +1,118 @@
 //! How many samples have each stack.
 
+ghost use Rattle.std.specs.Prelude.{◌≡◌, [], IfOk, OnErr, OnOk, map};
+ghost use Rattle.folded_stacks.specs.LineViews.{entry_seen, line_seen};
+ghost use Rattle.folded_stacks.specs.Lines.{all_counted, more_than, named, with_samples};
+
+use crate::frame_names::FrameNames;
+use crate::lines::{FoldedLine, push_stack};
 use std::alloc::{AllocError, Global};
-use std::collections::HashMap;
+use std::collections::BTreeMap;
+use std::marker::Model;
 
 /// How many samples have each stack: the numbers of its names, the process's first and the innermost frame's last.
 #[derive(Drop)]
 pub struct StackCounts {
-    pub(crate) counts: HashMap<Vec<u32>, u64>,
+    counts: BTreeMap<Vec<u32>, u64>,
+}
+
+/// They are lines, in the order of the numbers.
+impl Model for StackCounts {
+    ghost use Rattle.std.specs.Prelude.{List, map};
+    ghost use Rattle.folded_stacks.specs.LineViews.{entry_seen};
+    ghost use Rattle.folded_stacks.specs.Lines.{Line};
+
+    ghost Value = { List Line };
+
+    ghost view = { λ counts. map entry_seen counts.counts.entries };
+}
+
+// A count with so many samples more.
+fn more_than(count: Option<u64>, samples: u64) -> u64
+    ensures { result ≡ more_than count samples }
+{
+    match count {
+        Some(count) => count.saturating_add(samples),
+        None => samples,
+    }
 }
 
 impl StackCounts {
     /// No samples.
-    pub fn new(alloc: Global) -> Self {
+    pub fn new(alloc: Global) -> Self
+        ensures { result ≡ [] }
+    {
         StackCounts {
-            counts: HashMap::new(alloc),
+            counts: BTreeMap::new(alloc),
         }
     }
 
-    /// How many different stacks there are.
-    pub fn len(&self) -> usize {
-        self.counts.len()
-    }
-
-    /// Whether there are no stacks.
-    pub fn is_empty(&self) -> bool {
-        self.counts.is_empty()
-    }
-
-    /// Counts a sample, or several.
-    pub fn add(&mut self, alloc: Global, stack: &[u32], samples: u64) -> Result<(), AllocError> {
-        if let Some(count) = self.counts.get_mut(stack) {
-            *count = count.saturating_add(samples);
-            return Ok(());
-        }
+    /// Counts a sample, or several. Fails if memory is refused.
+    pub fn add(&mut self, alloc: Global, stack: &[u32], samples: u64) -> Result<(), AllocError>
+        ensures counted { OnOk result (self.new ≡ with_samples stack.now samples self.old) }
+        ensures err { OnErr result (self.new ≡ self.old) }
+    {
+        let count = more_than(self.counts.get(stack).copied(), samples);
         let key = stack.to_vec(alloc)?;
-        self.counts.insert(key, samples)?;
+        self.counts.insert(key, count)?;
         Ok(())
     }
+}
+
+// Counts samples of a stack by its text.
+fn add_text(
+    lines: &mut BTreeMap<Vec<u8>, u64>,
+    stack: Vec<u8>,
+    samples: u64,
+) -> Result<(), AllocError>
+    ensures { OnOk result (map entry_seen lines.new.entries
+        ≡ with_samples stack.items samples (map entry_seen lines.old.entries)) }
+{
+    let count = more_than(lines.get(stack.as_slice()).copied(), samples);
+    lines.insert(stack, count)?;
+    Ok(())
+}
+
+// The counts of stacks by their texts.
+fn counts_by_text(
+    alloc: Global,
+    names: &FrameNames,
+    counts: &StackCounts,
+) -> Result<BTreeMap<Vec<u8>, u64>, AllocError>
+    ensures { IfOk result (λ lines.
+        map entry_seen lines.entries ≡ all_counted (map (named names.now) counts.now) []) }
+{
+    let mut lines = BTreeMap::new(alloc);
+    for (stack, count) in &counts.counts {
+        let mut text = Vec::new(alloc);
+        push_stack(&mut text, names, stack.as_slice())?;
+        add_text(&mut lines, text, *count)?;
+    }
+    Ok(lines)
+}
+
+// Lines, in their order.
+fn lines_in(alloc: Global, counts: &BTreeMap<Vec<u8>, u64>) -> Result<Vec<FoldedLine>, AllocError>
+    ensures { IfOk result (λ lines. map line_seen lines.items ≡ map entry_seen counts.now.entries) }
+{
+    let mut lines = Vec::new(alloc);
+    for (stack, count) in counts {
+        lines.push(FoldedLine {
+            stack: stack.as_slice().to_vec(alloc)?,
+            count: *count,
+        })?;
+    }
+    Ok(lines)
+}
+
+/// The lines of all stacks, in the order of their bytes. Fails if memory is refused.
+pub fn lines_of(
+    alloc: Global,
+    names: &FrameNames,
+    counts: &StackCounts,
+) -> Result<Vec<FoldedLine>, AllocError>
+    ensures { IfOk result (λ lines. map line_seen lines.items ≡ all_counted (map (named names.now) counts.now) []) }
+{
+    let counted = counts_by_text(alloc, names, counts)?;
+    lines_in(alloc, &counted)
 }

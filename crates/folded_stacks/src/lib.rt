@@ -4,10 +4,12 @@
 
 mod counts;
 mod frame_names;
+mod laws;
 mod lines;
 mod names;
 
-pub use counts::StackCounts;
+pub use counts::{StackCounts, lines_of};
 pub use frame_names::FrameNames;
-pub use lines::{FoldedLine, lines_of, push_line};
+pub use laws::{counts_are_sums, lines_are_in_order};
+pub use lines::{FoldedLine, push_line};
 pub use names::{push_address, push_frame_name, push_kernel_name, push_process_name};

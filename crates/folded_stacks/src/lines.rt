@@ -1,9 +1,9 @@
 //! The lines of folded stacks.
 
 ghost use Rattle.line_parts.specs.Parts.{Pushes};
-ghost use Rattle.folded_stacks.specs.Lines.{line_text};
+ghost use Rattle.folded_stacks.specs.Lines.{line_text, stack_text};
+ghost use Rattle.folded_stacks.specs.LineViews.{line_seen};
 
-use crate::counts::StackCounts;
 use crate::frame_names::FrameNames;
 use line_parts::{push_bytes, push_decimal};
 use std::alloc::{AllocError, Global};
@@ -17,49 +17,28 @@ pub struct FoldedLine {
     pub count: u64,
 }
 
-// Appends the names of a stack, with semicolons between them.
-fn push_stack(text: &mut Vec<u8>, names: &FrameNames, stack: &[u32]) -> Result<(), AllocError> {
-    for (index, number) in stack.iter().enumerate() {
-        if index > 0 {
-            text.push(b';')?;
+/// Appends the names of a stack by their numbers, with semicolons between them.
+pub(crate) fn push_stack(
+    text: &mut Vec<u8>,
+    names: &FrameNames,
+    stack: &[u32],
+) -> Result<(), AllocError>
+    ensures { Pushes result text.old text.new (stack_text names.now stack.now) }
+{
+    let mut is_first = true;
+    for number in stack {
+        if !is_first {
+            push_bytes(text, b";")?;
         }
         push_bytes(text, names.text_of(*number))?;
+        is_first = false;
     }
     Ok(())
 }
 
-// The line of each stack.
-fn unsorted_lines(
-    alloc: Global,
-    names: &FrameNames,
-    counts: &StackCounts,
-) -> Result<Vec<FoldedLine>, AllocError> {
-    let mut lines = Vec::new(alloc);
-    for (stack, count) in &counts.counts {
-        let mut text = Vec::new(alloc);
-        push_stack(&mut text, names, stack.as_slice())?;
-        lines.push(FoldedLine {
-            stack: text,
-            count: *count,
-        })?;
-    }
-    Ok(lines)
-}
-
-/// The lines of all stacks, sorted by their bytes.
-pub fn lines_of(
-    alloc: Global,
-    names: &FrameNames,
-    counts: &StackCounts,
-) -> Result<Vec<FoldedLine>, AllocError> {
-    let mut lines = unsorted_lines(alloc, names, counts)?;
-    lines.sort_by(|one, other| one.stack.cmp(&other.stack))?;
-    Ok(lines)
-}
-
 /// Appends a line.
 pub fn push_line(alloc: Global, text: &mut Vec<u8>, line: &FoldedLine) -> Result<(), AllocError>
-    ensures { Pushes result text.old text.new (line_text line.now) }
+    ensures { Pushes result text.old text.new (line_text (line_seen line.now)) }
 {
     push_bytes(text, line.stack.as_slice())?;
     push_bytes(text, b" ")?;
