@@ -1,3 +1,4 @@
 pub mod BlockLaws
+pub mod ChangeLaws
 pub mod PartLaws
 pub mod RangeLaws

@@ -1,5 +1,5 @@
 -- What a range at the end makes of ranges.
-use Rattle.std.proofs.Common.{◌≡◌, ℕ, zero, suc, ◌<◌, ◌≤◌, ◌-◌, true, false, if◌then◌else◌, List, [], ◌∷◌, ◌++◌, length, get_or, refl, ap, ◌∙◌, arith, length-append}
+use Rattle.std.proofs.Common.{◌≡◌, ◌≢◌, ℕ, zero, suc, ◌<◌, ◌≤◌, ◌-◌, ◌^◌, true, false, if◌then◌else◌, List, [], ◌∷◌, ◌++◌, length, get_or, refl, ap, ◌∙◌, arith, length-append}
 use Rattle.std.specs.Prelude.{nat_le, nat_lt, Some, slice_get}
 use Rattle.std.specs.List.{All, AllWithin}
 use Rattle.std.proofs.lemmas.Bool.Decides.{nat_tests}
@@ -8,7 +8,7 @@ use Rattle.std.proofs.lemmas.List.Elements.{All-append, All-cons, All-head, All-
 use Rattle.list_laws.proofs.Laws.{by_case}
 use Rattle.framehop_ranges.specs.declared.entry.RangeEntry.{RangeEntry}
 use Rattle.framehop_ranges.specs.declared.ranges.Ranges.{Ranges}
-use Rattle.framehop_ranges.specs.RangeValues.{value_from, value_in, last_or}
+use Rattle.framehop_ranges.specs.RangeValues.{Differ, value_from, value_in, last_or}
 use Rattle.framehop_ranges.specs.Ranges.{Sound, Extends}
 use Rattle.framehop_ranges.specs.Rises.{Rises}
 
@@ -74,17 +74,27 @@ rises-push xs y up below i j d less within =
     let here : length xs ≡ j = omega (arith, within, length-append xs (y ∷ [])) in
     rw (get_or_append_left xs (y ∷ []) d i (omega arith), get_or_push xs y d j here) (below i d (omega arith)))
 
+-- each value is another than the one before it, if one more is another than the last
+differ-push : {V : Type 0} (before : V) (entries : List (RangeEntry V)) (new : RangeEntry V) → Differ before entries → new.value ≢ last_or before entries → Differ before (entries ++ new ∷ [])
+differ-push before [] new differ other zero d within = other
+differ-push before [] new differ other (suc place) d within = absurd (omega arith)
+differ-push before (e ∷ entries) new differ other zero d within = differ 0 d (omega arith)
+differ-push before (e ∷ entries) new differ other (suc place) d within =
+    differ-push e.value entries new (λ k x h. differ (suc k) x (omega (arith, h))) other place d (omega (arith, within))
+
 module _ {V : Type 0} (old new : Ranges V) (end : ℕ) (value : V) (sound : Sound old) where
   module _ (more : old.done < end) (same : new.before ≡ old.before) (done : new.done ≡ end) where
     -- another value than the last has a start of its own
-    pub pushed : new.entries.items ≡ old.entries.items ++ record { start = old.done; value = value } ∷ [] → Extends old end value new
+    pub pushed : end ≤ 2 ^ 32 → value ≢ last_or old.before old.entries.items → new.entries.items ≡ old.entries.items ++ record { start = old.done; value = value } ∷ [] → Extends old end value new
     unfolding value_in
-    pushed entries =
+    pushed fits other entries =
         let entry : RangeEntry V = record { start = old.done; value = value } in
         record {
           sound = record {
             rises = rw entries (rises-push old.entries.items entry sound.rises sound.below);
             below = rw entries (All-append (λ e. e.start < new.done) old.entries.items (entry ∷ []) (λ k d h. let low = sound.below k d h in omega arith) (All-cons (λ e. e.start < new.done) entry [] (omega arith) (All-nil (λ (e : RangeEntry V). e.start < new.done))));
+            fit = rw entries (All-append (λ e. e.start < 2 ^ 32) old.entries.items (entry ∷ []) sound.fit (All-cons (λ e. e.start < 2 ^ 32) entry [] (omega arith) (All-nil (λ (e : RangeEntry V). e.start < 2 ^ 32))));
+            differ = rw (entries, same) (differ-push old.before old.entries.items entry sound.differ other);
           };
           same = same;
           done = omega arith;
@@ -104,6 +114,8 @@ module _ {V : Type 0} (old new : Ranges V) (end : ℕ) (value : V) (sound : Soun
       sound = record {
         rises = rw entries sound.rises;
         below = rw entries (λ k d h. let low = sound.below k d h in omega arith);
+        fit = rw entries sound.fit;
+        differ = rw (entries, same) sound.differ;
       };
       same = same;
       done = omega arith;

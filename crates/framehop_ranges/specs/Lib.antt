@@ -1,4 +1,5 @@
 pub mod Blocks
+pub mod Changes
 pub mod Ranges
 pub mod RangeTables
 pub mod RangeValues

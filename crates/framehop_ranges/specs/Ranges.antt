@@ -1,8 +1,8 @@
 -- Ranges of addresses and their values, while a table is built.
-use Rattle.std.specs.Prelude.{◌≡◌, ◌<◌, ◌≤◌, ◌+◌, ℕ, length, max}
+use Rattle.std.specs.Prelude.{◌≡◌, ◌<◌, ◌≤◌, ◌+◌, ◌^◌, ℕ, length, max}
 use Rattle.std.specs.List.{All}
 use Rattle.framehop_ranges.specs.declared.ranges.Ranges.{Ranges}
-use Rattle.framehop_ranges.specs.RangeValues.{last_or, value_in}
+use Rattle.framehop_ranges.specs.RangeValues.{Differ, last_or, value_in}
 use Rattle.framehop_ranges.specs.Rises.{Rises}
 
 -- the value at an address
@@ -13,10 +13,12 @@ range_at ranges address = value_in ranges.before ranges.entries.items address
 abbrev pub end_value : {V : Type 0} → Ranges V → V
 end_value ranges = last_or ranges.before ranges.entries.items
 
--- the ranges rise, and start below the end of the last
+-- the ranges rise, start below the end of the last and at addresses of 32 bits, and each has another value than the one before it
 pub record Sound {V : Type 0} (ranges : Ranges V) : Type 0 where
   pub rises : Rises ranges.entries.items
   pub below : All (λ entry. entry.start < ranges.done) ranges.entries.items
+  pub fit : All (λ entry. entry.start < 2 ^ 32) ranges.entries.items
+  pub differ : Differ ranges.before ranges.entries.items
 
 -- no range has been added
 abbrev pub AddsNone : {V : Type 0} → (old ranges : Ranges V) → Type 0

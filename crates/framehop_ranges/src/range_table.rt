@@ -1,8 +1,10 @@
 //! A table of values, and its look-up.
 
 ghost use Rattle.std.specs.Prelude.{◌≡◌, ◌≤◌, ◌<◌, ◌+◌, ◌*◌, ◌^◌, ◌-◌, ℕ, suc, IfOk, length};
+ghost use Rattle.std.specs.List.{All};
 ghost use Rattle.std.specs.List.Sorted.{IsPartitionPoint};
 ghost use Rattle.framehop_ranges.specs.Blocks.{AreBlocksOf, IsPart, Passes};
+ghost use Rattle.framehop_ranges.specs.RangeValues.{Differ};
 ghost use Rattle.framehop_ranges.specs.Rises.{Rises};
 
 use crate::blocks::{block_of, blocks_of};
@@ -30,6 +32,8 @@ pub struct RangeTable<V> {
     blocks: Vec<u32>,
     shift: u32,
     ghost rises: { Rises entries.items },
+    ghost fit: { All (λ entry. entry.start < 2 ^ 32) entries.items },
+    ghost differ: { Differ before entries.items },
     ghost shifts: { shift < 32 },
     ghost counted: { AreBlocksOf (2 ^ shift) entries.items blocks.items },
 }
@@ -58,7 +62,7 @@ fn shift_for<V: Copy>(entries: &[RangeEntry<V>]) -> u32
 }
 
 impl<V: SameValue> RangeTable<V> {
-    ghost use Rattle.framehop_ranges.specs.RangeTables.{near_count, range_count, value_at};
+    ghost use Rattle.framehop_ranges.specs.RangeTables.{CountsChanges, near_count, range_count, value_at};
     ghost use Rattle.framehop_ranges.specs.Ranges.{Sound, range_at};
 
     /// The table of some ranges; from their end on their last value goes on. Fails if memory is refused.
@@ -83,6 +87,18 @@ impl<V: SameValue> RangeTable<V> {
             blocks,
             shift,
         })
+    }
+
+    /// At how many addresses the value is another than at the address before.
+    pub fn change_count(&self) -> usize
+        ensures { CountsChanges self.now result }
+    {
+        let count = self.entries.len();
+        let Some(first) = self.entries.first() else {
+            return 0;
+        };
+        // Before address 0 there is none.
+        if first.start == 0 { count - 1 } else { count }
     }
 
     // How many entries start below a block of addresses.
