@@ -1,45 +1,86 @@
--- What the own instructions of a CIE leave, kept for the FDEs that have it.
-use Rattle.std.proofs.Common.{◌≡◌, ℕ, Option, Some, None, Ok, ap, ◌∙◌, subst}
-use Rattle.std.specs.Prelude.{IfSome}
+-- What is known of the own instructions of CIEs, kept by their offsets.
+use Rattle.std.proofs.Common.{◌≡◌, ℕ, [], Option, Some, None, Result, Ok, Err, cond, refl, ap, sym, subst, ◌∙◌, arith}
+use Rattle.std.specs.Prelude.{IfSome, IsTrue, OnErr, OnOk}
+use Rattle.std.specs.BTreeMap.{BTreeMap, IsEmpty, IsUnchanged, Updates, get, is_at}
+use Rattle.std.specs.Map.{lookup}
+use Rattle.std.specs.Ordering.{nat_cmp}
+use Rattle.std.proofs.lemmas.Bool.Decides.{nat_tests}
+use Rattle.list_laws.proofs.Laws.{by_case}
 use Rattle.dwarf_constants.specs.declared.common.Vendor.{Vendor}
+use Rattle.dwarf_constants.specs.declared.error.Error.{Error}
 use Rattle.dwarf_frame_rows.specs.Effects.{Limits}
 use Rattle.dwarf_frame_rows.specs.FrameSection.{FrameSection}
+use Rattle.dwarf_frame_instructions.specs.Programs.{EntryProgram, effects_of_cie, rows_of_program}
 use Rattle.dwarf_frame_entries.specs.Entries.{Cie, Fde, cie_from_offset}
-use Rattle.dwarf_frame_entries.specs.EntryPrograms.{cie_instructions, factors_of, fde_program}
+use Rattle.dwarf_frame_entries.specs.EntryPrograms.{fde_program, fde_rows}
+use Rattle.dwarf_frame_entries.specs.Kept.{EachKept}
 use Rattle.dwarf_frame_parts.specs.declared.left.LeftByCie.{LeftByCie}
 use Rattle.dwarf_frame_parts.specs.declared.simple_row.Columns.{Columns}
-use Rattle.dwarf_frame_parts.specs.Execution.{AreLeftBy}
 use Rattle.dwarf_frame_parts.specs.PartsStates.{HasRoomForParts}
-use Rattle.framehop_tables.specs.ByParts.{AreLeftIn, HasRoomFor, IsLeftByCie}
-use Rattle.framehop_tables.specs.declared.by_parts.LeftByLast.{LeftByLast}
+use Rattle.framehop_tables.specs.ByParts.{AreLeftIn, HasRoomFor, HoldsBy, IsOwn, IsOwnAt, IsOwnOf, left_in}
+use Rattle.framehop_tables.specs.declared.by_parts.KnownRows.{KnownRows}
+use Rattle.framehop_tables.specs.declared.by_parts.OwnRow.{OwnRow}
+use Rattle.framehop_tables.specs.declared.by_parts.OwnRow.TheVariants.{Left, Fails, InContext}
+use Rattle.framehop_tables.specs.declared.by_parts.OwnRowAt.{OwnRowAt}
 
-module _ (columns : Columns) (section : FrameSection) (vendor : Vendor) where
-  -- what is left by a CIE is left in the program of each FDE that has it
-  left-by-all : (fde other : Fde) (kept : LeftByCie) → fde.cie ≡ other.cie → AreLeftIn columns (fde_program section vendor fde) kept
-      → AreLeftIn columns (fde_program section vendor other) kept
-  left-by-all fde other kept same left = subst (λ (cie : Cie). AreLeftBy columns (factors_of cie) (cie_instructions section vendor cie) kept) same left
+-- a program has no rows if its CIE's own instructions fail
+pub no-rows : (limits : Limits) (program : EntryProgram ℕ) (e : Error) → effects_of_cie limits program ≡ Err e → (rows_of_program limits program).rows ≡ []
+no-rows limits program e fails = rw fails refl
 
-  -- what was executed for an FDE's CIE is kept for the others that have it
-  pub left-kept : (fde : Fde) (offset : ℕ) (last : LeftByLast) → last.offset ≡ offset → cie_from_offset section offset ≡ Ok fde.cie
-      → IfSome last.left (AreLeftIn columns (fde_program section vendor fde)) → IsLeftByCie columns section vendor last
-  left-kept fde offset last at there left = of last.left left
-    where
-      of : (left : Option LeftByCie) → IfSome left (AreLeftIn columns (fde_program section vendor fde))
-          → IfSome left (λ kept. (other : Fde) → cie_from_offset section last.offset ≡ Ok other.cie → AreLeftIn columns (fde_program section vendor other) kept)
-      of None left = tt
-      of (Some kept) left = λ other is. left-by-all fde other kept (cc) left
+module _ (columns : Columns) (limits : Limits) (section : FrameSection) (vendor : Vendor) where
+  -- what is known of an FDE's CIE is known of the one at its offset
+  pub own-at : (fde : Fde) (offset : ℕ) (own : OwnRow) → offset ≡ fde.cie.head.offset → cie_from_offset section fde.cie.head.offset ≡ Ok fde.cie → IsOwnOf columns limits section vendor fde own
+      → IsOwnAt columns limits section vendor offset own
+  own-at fde offset own here there is cie at =
+      let same : fde.cie ≡ cie = let it = ap (cie_from_offset section) (sym here) ∙ at in cc in
+      subst (λ (c : Cie). IsOwn columns limits section vendor c own) same is
 
-  -- .. and they have room in a context
-  pub room-for : (limits : Limits) (fde : Fde) (left : Option LeftByCie) → HasRoomForParts limits → IfSome left (AreLeftIn columns (fde_program section vendor fde))
-      → IfSome left (HasRoomFor columns limits (fde_program section vendor fde))
-  room-for limits fde None room left = tt
-  room-for limits fde (Some kept) room left = (room, left)
+  -- and the other way round
+  pub own-there : (fde : Fde) (offset : ℕ) (own : OwnRow) → offset ≡ fde.cie.head.offset → cie_from_offset section fde.cie.head.offset ≡ Ok fde.cie → IsOwnAt columns limits section vendor offset own
+      → IsOwnOf columns limits section vendor fde own
+  own-there fde offset own here there is = is fde.cie (ap (cie_from_offset section) here ∙ there)
 
-  pub room-for-kept : (limits : Limits) (fde : Fde) (offset : ℕ) (last : LeftByLast) → last.offset ≡ offset → HasRoomForParts limits → cie_from_offset section offset ≡ Ok fde.cie
-      → IsLeftByCie columns section vendor last → IfSome last.left (HasRoomFor columns limits (fde_program section vendor fde))
-  room-for-kept limits fde offset last at room there known = of last.left known
-    where
-      of : (left : Option LeftByCie) → IfSome left (λ kept. (other : Fde) → cie_from_offset section last.offset ≡ Ok other.cie → AreLeftIn columns (fde_program section vendor other) kept)
-          → IfSome left (HasRoomFor columns limits (fde_program section vendor fde))
-      of None known = tt
-      of (Some kept) known = (room, known fde (ap (cie_from_offset section) at ∙ there))
+  -- what was executed of an FDE's program
+  pub own-left : (program : EntryProgram ℕ) (fde : Fde) (left : LeftByCie) → program ≡ fde_program section vendor fde → HasRoomForParts limits → AreLeftIn columns program left
+      → IsOwnOf columns limits section vendor fde (Left left)
+  own-left program fde left is room are = (room, subst (λ (p : EntryProgram ℕ). AreLeftIn columns p left) is are)
+
+  pub own-fails : (program : EntryProgram ℕ) (fde : Fde) (e : Error) → program ≡ fde_program section vendor fde → effects_of_cie limits program ≡ Err e
+      → IsOwnOf columns limits section vendor fde Fails
+  own-fails program fde e is fails = (e, ap (effects_of_cie limits) (sym is) ∙ fails)
+
+  -- an FDE has no rows if the own instructions of its CIE fail
+  pub fails-rows : (fde : Fde) (own : OwnRow) → own ≡ Fails → IsOwnOf columns limits section vendor fde own → (fde_rows limits section vendor fde).rows ≡ []
+  fails-rows fde own it is = let fails = subst (IsOwnOf columns limits section vendor fde) it is in no-rows limits (fde_program section vendor fde) fails.0 fails.1
+
+  -- what is left is left in an FDE's program
+  pub left-known : (fde : Fde) (own : OwnRow) → IsOwnOf columns limits section vendor fde own → IfSome (left_in own) (HasRoomFor columns limits (fde_program section vendor fde))
+  left-known fde (Left left) is = is
+  left-known fde Fails is = tt
+  left-known fde InContext is = tt
+
+  -- nothing is known yet
+  pub none-known : (known : KnownRows) → (IsTrue known.has_room → HasRoomForParts limits) → known.last ≡ None → IsEmpty known.all → HoldsBy columns limits section vendor known
+  none-known known room last empty = record {
+    room = room;
+    last = rw last tt;
+    all = λ offset value is. let none : get nat_cmp known.all offset ≡ None = ap (lookup (is_at (nat_cmp offset))) empty in cc;
+  }
+
+  module _ (kept after : BTreeMap ℕ OwnRow) (each : EachKept (IsOwnAt columns limits section vendor) kept) where
+    -- one more is kept
+    one-more : (offset : ℕ) (own : OwnRow) → IsOwnAt columns limits section vendor offset own → Updates nat_cmp kept after offset (Some own) → EachKept (IsOwnAt columns limits section vendor) after
+    one-more offset own has updates other found is =
+        by_case (is_at (nat_cmp offset) other)
+        (λ here.
+        let same : offset ≡ other = grind (arith, nat_tests) in
+        let whole : get nat_cmp after other ≡ Some own = updates.0 other ∙ ap (λ b. cond b (Some own) (get nat_cmp kept other)) here in
+        let it : own ≡ found = cc in
+        subst (λ (n : ℕ). IsOwnAt columns limits section vendor n found) same (subst (IsOwnAt columns limits section vendor offset) it has))
+        (λ apart. each other found (sym (updates.0 other ∙ ap (λ b. cond b (Some own) (get nat_cmp kept other)) apart) ∙ is))
+
+    -- .. or isn't, by what an insertion said
+    pub after-insert : {X F : Type 0} (result : Result X F) (offset : ℕ) (own : OwnRow) → IsOwnAt columns limits section vendor offset own
+        → OnOk result (Updates nat_cmp kept after offset (Some own)) → OnErr result (IsUnchanged kept after) → EachKept (IsOwnAt columns limits section vendor) after
+    after-insert (Ok old) offset own has updates unchanged = one-more offset own has updates
+    after-insert (Err e) offset own has updates unchanged = λ other found is. each other found (sym (ap (lookup (is_at (nat_cmp other))) unchanged) ∙ is)

@@ -17,7 +17,7 @@ use Rattle.framehop_tables.specs.declared.covered.Covered.{Covered}
 use Rattle.framehop_tables.specs.declared.covered.Covered.TheVariants.{Says}
 use Rattle.framehop_tables.specs.declared.spans.Span.{Span}
 use Rattle.framehop_tables.specs.Covered.{RowRules, by_row, by_rows, by_rule}
-use Rattle.framehop_tables.specs.Tabulations.{AddsRow, AddsRows, Begins, GoOn, rows_past}
+use Rattle.framehop_tables.specs.Tabulations.{AddsOthers, AddsRow, AddsRows, Begins, GoOn, rows_past}
 
 -- rows that go on from an address go on from a later one
 pub go-on-later : (early late : ℕ) (rows : List (Row ℕ)) → early ≤ late → GoOn early rows → GoOn late rows
@@ -203,6 +203,17 @@ module _ {Rule : Type 0} (rules : RowRules Rule) (span : Span) (old : Ranges (Co
     below = reached.below;
     from = reached.from;
   }
+
+-- nothing but that code is uncovered is added for no rows
+pub adds-none : {Rule : Type 0} (rules : RowRules Rule) (span : Span) (old new : Ranges (Covered Rule)) (all : RowList ℕ) → all.rows ≡ [] → Extends old span.limit (Says rules.uncovered) new
+    → AddsRows rules span all old new
+adds-none rules span old new all none extends = reached-last rules span old all old new all.rows all.refusal none extends (reached-none rules span old all)
+
+-- .. whatever was added before
+pub others-none : {Rule : Type 0} (rules : RowRules Rule) (span : Span) (begun new : Ranges (Covered Rule)) (all : RowList ℕ) → all.rows ≡ [] → Extends begun span.limit (Says rules.uncovered) new
+    → AddsOthers rules span all begun new
+others-none rules span begun new all none extends old begins =
+    reached-last rules span old all begun new all.rows all.refusal none extends (reached-begun rules span old all begun begins)
 
 -- what is reached, whatever the ranges were before some rows were added
 abbrev pub ReachesFrom : {Rule : Type 0} → RowRules Rule → Span → (all : RowList ℕ) → (begun ranges : Ranges (Covered Rule)) → (left : RowList ℕ) → Type 0

@@ -1,44 +1,72 @@
-//! Which programs are executed without a context. What a CIE's own instructions leave is kept for the FDEs after it: most have the CIE of
-//! the FDE before.
+//! What the own instructions of a CIE leave, which is found once and kept for all FDEs that name the CIE.
 
-ghost use Rattle.std.specs.Prelude.{◌≡◌, None, Ok, IfSome};
+ghost use Rattle.std.specs.Prelude.{◌≡◌, None, IfSome, IsTrue};
+ghost use Rattle.std.specs.BTreeMap.{IsEmpty};
 ghost use Rattle.dwarf_frame_instructions.specs.ProgramRows.{program_of};
-ghost use Rattle.dwarf_frame_entries.specs.Entries.{cie_from_offset};
-ghost use Rattle.framehop_tables.specs.ByParts.{AreLeftIn, HoldsBy, IsLeftBy};
+ghost use Rattle.dwarf_frame_parts.specs.PartsStates.{HasRoomForParts};
+ghost use Rattle.framehop_tables.specs.ByParts.{AreLeftIn, HasCieThere, HoldsBy, IsOwnOf, left_in};
 
 use dwarf_frame_entries::{
-    BaseAddresses, FrameDescriptionEntry, UnwindContextStorage, UnwindSection,
+    BaseAddresses, FrameDescriptionEntry, UnwindContext, UnwindContextStorage, UnwindSection,
 };
-use dwarf_frame_instructions::FrameProgram;
+use dwarf_frame_instructions::{FrameProgram, ProgramRows};
 use dwarf_frame_parts::{Columns, LeftByCie};
 use dwarf_readers::{Reader, ReaderOffset};
+use std::alloc::Global;
+use std::collections::BTreeMap;
 
-// What the own instructions of a CIE leave, if that is known without a context.
+// What is known of the own instructions of a CIE.
 #[derive(Clone, Copy)]
-pub(crate) struct LeftByLast {
-    // The CIE's offset in its section, in bytes.
-    pub(crate) offset: u64,
-    pub(crate) left: Option<LeftByCie>,
+pub(crate) enum OwnRow {
+    // They leave this, and a context has room for all rows that are made after it without one.
+    Left(LeftByCie),
+    // They fail, and so the FDEs have no rows.
+    Fails,
+    // What they leave isn't known without a context.
+    InContext,
 }
 
-// What is known for executing programs without a context.
-#[derive(Clone, Copy)]
-pub(crate) struct ByParts {
-    // A context has room for all of their rows.
-    pub(crate) has_room: bool,
-    // What is left by the CIE whose own instructions were executed last.
-    pub(crate) last: Option<LeftByLast>,
-}
-
-impl ByParts {
-    // Before any CIE.
-    pub(crate) fn new(has_room: bool) -> Self
-        ensures room { result.has_room ≡ has_room }
-        ensures none { result.last ≡ None }
+impl OwnRow {
+    // What they leave, if it is known without a context.
+    #[inline(always)]
+    pub(crate) fn left(self) -> Option<LeftByCie>
+        ensures { result ≡ left_in self }
     {
-        ByParts {
+        match self {
+            OwnRow::Left(left) => Some(left),
+            OwnRow::Fails | OwnRow::InContext => None,
+        }
+    }
+}
+
+// What is known of the CIE at an offset in its section, in bytes.
+#[derive(Clone, Copy)]
+pub(crate) struct OwnRowAt {
+    pub(crate) offset: u64,
+    pub(crate) own: OwnRow,
+}
+
+// What is known of each CIE that an FDE named. Without memory to keep it, its instructions are executed again.
+#[derive(Drop)]
+pub(crate) struct KnownRows {
+    // A context has room for all rows that are made without one.
+    pub(crate) has_room: bool,
+    // What was asked for last: most FDEs name the CIE of the one before.
+    pub(crate) last: Option<OwnRowAt>,
+    pub(crate) all: BTreeMap<u64, OwnRow>,
+}
+
+impl KnownRows {
+    // Before any CIE.
+    pub(crate) fn new(alloc: Global, has_room: bool) -> Self
+        ensures room { result.has_room ≡ has_room }
+        ensures last { result.last ≡ None }
+        ensures all { IsEmpty result.all }
+    {
+        KnownRows {
             has_room,
             last: None,
+            all: BTreeMap::new(alloc),
         }
     }
 }
@@ -52,34 +80,108 @@ fn left_by_program<R: Reader>(columns: Columns, program: FrameProgram<'_, R>) ->
     dwarf_frame_parts::left_by_cie(columns, &factors, program.initial_instructions)
 }
 
-// What the own instructions of an FDE's CIE leave, if that is known without a context and there is room. They are executed only if that
-// CIE's weren't the last that were.
-#[inline(always)]
-pub(crate) fn left_by_cie<R: Reader, Section: UnwindSection<R>, S: UnwindContextStorage<R::Offset>>(
+// What is known of the own instructions of an FDE's CIE, by executing them.
+fn own_row_of<R: Reader, Section: UnwindSection<R>, S: UnwindContextStorage<R::Offset>>(
+    columns: Columns,
+    has_room: bool,
+    section: &Section,
+    bases: &BaseAddresses,
+    context: &mut UnwindContext<R::Offset, S>,
+    fde: &FrameDescriptionEntry<R>,
+) -> OwnRow
+    requires fixed { S.never_allocates }
+    requires room { IsTrue has_room → HasRoomForParts S.limits }
+    ensures { IsOwnOf columns S.limits (Section.frame section.now bases.now)
+        (Section.extensions section.now) fde.now result }
+{
+    if has_room {
+        if let Some(left) = left_by_program(columns, fde.program(section, bases)) {
+            return OwnRow::Left(left);
+        }
+    }
+    match ProgramRows::new(context, fde.program(section, bases)) {
+        Ok(_) => OwnRow::InContext,
+        Err(_) => OwnRow::Fails,
+    }
+}
+
+// What is known of the own instructions of an FDE's CIE, which are executed if no FDE before it named that CIE.
+fn kept_own_row<R: Reader, Section: UnwindSection<R>, S: UnwindContextStorage<R::Offset>>(
     columns: Columns,
     section: &Section,
     bases: &BaseAddresses,
+    context: &mut UnwindContext<R::Offset, S>,
     fde: &FrameDescriptionEntry<R>,
-    known: &mut ByParts,
-) -> Option<LeftByCie>
-    requires there { cie_from_offset (Section.frame section.now bases.now) fde.now.cie.head.offset ≡ Ok fde.now.cie }
-    requires known { HoldsBy columns (Section.frame section.now bases.now)
-        (Section.extensions section.now) S.limits known.old }
-    ensures known { HoldsBy columns (Section.frame section.now bases.now)
-        (Section.extensions section.now) S.limits known.new }
-    ensures left { IfSome result (IsLeftBy columns S.limits (Section.frame section.now bases.now)
-        (Section.extensions section.now) fde.now) }
+    known: &mut KnownRows,
+) -> OwnRow
+    requires fixed { S.never_allocates }
+    requires there { HasCieThere (Section.frame section.now bases.now) fde.now }
+    requires known { HoldsBy columns S.limits (Section.frame section.now bases.now)
+        (Section.extensions section.now) known.old }
+    ensures known { HoldsBy columns S.limits (Section.frame section.now bases.now)
+        (Section.extensions section.now) known.new }
+    ensures own { IsOwnOf columns S.limits (Section.frame section.now bases.now)
+        (Section.extensions section.now) fde.now result }
 {
-    if !known.has_room {
-        return None;
-    }
     let offset = fde.cie().offset().into_u64();
-    if let Some(last) = known.last
-        && last.offset == offset
-    {
-        return last.left;
+    if let Some(own) = known.all.get(&offset) {
+        return *own;
     }
-    let left = left_by_program(columns, fde.program(section, bases));
-    known.last = Some(LeftByLast { offset, left });
-    left
+    let has_room = known.has_room;
+    let own = own_row_of::<R, Section, S>(columns, has_room, section, bases, context, fde);
+    // Without memory it is found again.
+    let _ = known.all.insert(offset, own);
+    own
+}
+
+// The same of a CIE that is asked for last from then on. It isn't inlined, since few FDEs need it.
+#[inline(never)]
+fn other_own_row<R: Reader, Section: UnwindSection<R>, S: UnwindContextStorage<R::Offset>>(
+    columns: Columns,
+    section: &Section,
+    bases: &BaseAddresses,
+    context: &mut UnwindContext<R::Offset, S>,
+    fde: &FrameDescriptionEntry<R>,
+    known: &mut KnownRows,
+) -> OwnRow
+    requires fixed { S.never_allocates }
+    requires there { HasCieThere (Section.frame section.now bases.now) fde.now }
+    requires known { HoldsBy columns S.limits (Section.frame section.now bases.now)
+        (Section.extensions section.now) known.old }
+    ensures known { HoldsBy columns S.limits (Section.frame section.now bases.now)
+        (Section.extensions section.now) known.new }
+    ensures own { IsOwnOf columns S.limits (Section.frame section.now bases.now)
+        (Section.extensions section.now) fde.now result }
+{
+    let own = kept_own_row::<R, Section, S>(columns, section, bases, context, fde, known);
+    let offset = fde.cie().offset().into_u64();
+    known.last = Some(OwnRowAt { offset, own });
+    own
+}
+
+// What is known of the own instructions of an FDE's CIE. They are executed only if no FDE before it named that CIE.
+#[inline(always)]
+pub(crate) fn own_row<R: Reader, Section: UnwindSection<R>, S: UnwindContextStorage<R::Offset>>(
+    columns: Columns,
+    section: &Section,
+    bases: &BaseAddresses,
+    context: &mut UnwindContext<R::Offset, S>,
+    fde: &FrameDescriptionEntry<R>,
+    known: &mut KnownRows,
+) -> OwnRow
+    requires fixed { S.never_allocates }
+    requires there { HasCieThere (Section.frame section.now bases.now) fde.now }
+    requires known { HoldsBy columns S.limits (Section.frame section.now bases.now)
+        (Section.extensions section.now) known.old }
+    ensures known { HoldsBy columns S.limits (Section.frame section.now bases.now)
+        (Section.extensions section.now) known.new }
+    ensures own { IsOwnOf columns S.limits (Section.frame section.now bases.now)
+        (Section.extensions section.now) fde.now result }
+{
+    if let Some(last) = known.last
+        && last.offset == fde.cie().offset().into_u64()
+    {
+        return last.own;
+    }
+    other_own_row::<R, Section, S>(columns, section, bases, context, fde, known)
 }

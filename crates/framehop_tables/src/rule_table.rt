@@ -41,7 +41,7 @@ where
     ghost use Rattle.framehop_index.specs.CfiIndex.{IsMadeOf};
     ghost use Rattle.framehop_index.specs.CfiIndexView.{IsIndexOf};
     ghost use Rattle.framehop_tables.specs.Covered.{SaysValid, tabulated};
-    ghost use Rattle.framehop_tables.specs.RuleTables.{IsTableOf, SaysAsIndex, entry_count, rule_at};
+    ghost use Rattle.framehop_tables.specs.RuleTables.{CountsChanges, IsTableOf, SaysAsIndex, entry_count, near_count, rule_at};
 
     /// The table of a section whose vendor is the architecture's. Its relative addresses are relative to `base_svma`; the
     /// section's pointers are relative to `bases`. Rows are made in `context`, whose rows before don't matter. Fails as
@@ -82,13 +82,22 @@ where
         Ok(RuleTable { table })
     }
 
-    /// What the section's index says of a relative address: a rule can be executed. Reads at most ceil(log2(n)) + 1 of the n starts.
+    /// At how many relative addresses the table says something else than at the address before.
+    pub fn change_count(&self) -> usize
+        ensures { CountsChanges self.now result }
+    {
+        self.table.change_count()
+    }
+
+    /// What the section's index says of a relative address: a rule can be executed. Reads at most ceil(log2(n)) + 1 of the n starts, and
+    /// at least floor(log2(m + 1)) of the m in the address's block.
     #[inline(always)]
     pub fn look_up(&self, relative: u32) -> RuleLookup<A::UnwindRule>
         ensures covered { result.covered ≡ rule_at self.now relative }
         ensures index { SaysAsIndex self.now relative result.covered }
         ensures valid { SaysValid A.UnwindRule.is_valid result.covered }
         ensures few { (k : ℕ) → entry_count self.now ≤ 2 ^ k → result.starts_read ≤ suc k }
+        ensures enough { (k : ℕ) → 2 ^ k ≤ suc (near_count self.now relative) → k ≤ result.starts_read }
     {
         let found = self.table.look_up(relative);
         RuleLookup {

@@ -4,6 +4,7 @@ use Rattle.framehop_index.specs.declared.cfi_index.IndexedFde.{IndexedFde}
 use Rattle.framehop_tables.specs.declared.spans.Span.{Span}
 use Rattle.framehop_tables.specs.Covered.{tabulated}
 use Rattle.framehop_tables.specs.Tabulations.{AreOf}
+use Rattle.framehop_tables.proofs.ByPartsLaws.{none-known}
 use Rattle.framehop_tables.proofs.IndexLaws.{all-said, next-done, next-few, next-says, says-none}
 use Rattle.framehop_tables.proofs.fdes.ranges_of.Goals as goal
 
@@ -15,8 +16,9 @@ loop-place-init g c =
     let start = rw c.end_of-end.ensures at c.start_at.ensures.start in
     record {
       sound = c.nothing_up_to-ranges.ensures.sound;
-      last = tt;
-      known = record { room = λ has. c.in_ok-has_room.ensures (rw c.new-known.ensures.room at has); last = rw c.new-known.ensures.none tt };
+      cies = c.new-cies.ensures;
+      known = none-known (record { fp = g.A.DwarfUnwinding.fp; ra = g.A.DwarfUnwinding.ra }) g.S.UnwindContextStorage.limits frame (g.Section._UnwindSectionPrivate.extensions c.args.section.now) c.new-known.result
+          (λ has. c.in_ok-has_room.ensures (rw c.new-known.ensures.room at has)) c.new-known.ensures.last c.new-known.ensures.all;
       done = c.nothing_up_to-ranges.ensures.done ∙ c.start_at.ensures.start;
       few = omega (arith, c.nothing_up_to-ranges.ensures.none);
       says = λ relative below.
@@ -39,7 +41,7 @@ loop-place-preserved g c =
     let adds = c.in_ok-add_entry.ensures.adds in
     record {
       sound = adds.sound;
-      last = c.fde_at_by_last.ensures.last;
+      cies = c.fde_at.ensures.same ∙ so_far.cies;
       known = c.add_entry.ensures.known;
       done = rw c.end_of-end.ensures (next-done t kept spans up c.loop-place.place d within span c.loop-place.ranges c.add_entry.new.ranges refl refl limit done adds);
       few = next-few t kept spans up c.loop-place.place d within span c.loop-place.ranges c.add_entry.new.ranges refl refl limit done adds so_far.few;

@@ -1,5 +1,4 @@
 use Rattle.std.proofs.Common.{◌≡◌, ℕ, ◌<◌, ◌≤◌, ◌+◌, length, drop}
-use Rattle.framehop_index.specs.LastCie.{IsLastCie}
 use Rattle.framehop_ranges.specs.Ranges.{Sound, range_at}
 use Rattle.framehop_tables.specs.ByParts.{Holds}
 use Rattle.framehop_tables.specs.Covered.{covered_at, tabulated}
@@ -12,9 +11,9 @@ invariant-loop-place g l =
     (g.Section._UnwindSectionPrivate.frame l.section l.bases) in
     record {
       sound : Sound l.ranges;
-      last : IsLastCie g.R.Reader.stretch g.R.Offset.ReaderOffset.value (g.Section._UnwindSectionPrivate.frame l.section l.bases) l.last;
-      known : Holds g.A.DwarfUnwinding.fp g.A.DwarfUnwinding.ra (g.Section._UnwindSectionPrivate.frame l.section l.bases)
-          (g.Section._UnwindSectionPrivate.extensions l.section) g.S.UnwindContextStorage.limits l.known;
+      cies : l.cies ≡ (g.Section._UnwindSectionPrivate.frame l.section l.bases).within;
+      known : Holds g.A.DwarfUnwinding.fp g.A.DwarfUnwinding.ra g.S.UnwindContextStorage.limits (g.Section._UnwindSectionPrivate.frame l.section l.bases)
+          (g.Section._UnwindSectionPrivate.extensions l.section) l.known;
       done : l.ranges.done ≡ start_at l.end l.fdes l.place;
       few : length l.ranges.entries.items + room_within t (drop l.place l.fdes) ≤ room_within t l.fdes;
       says : (relative : ℕ) → relative < l.ranges.done → range_at l.ranges relative ≡ covered_at t relative;
