@@ -1,10 +1,11 @@
-"""Programs of scripts/lib/c over the C library, and what documents of `cases_unwinding` have for them."""
+"""Programs of scripts/lib/c over the C library, and what documents have for them, as those of `cases_unwinding`."""
 
 import json
+import os
 import pathlib
 import subprocess
 
-from lib.tools import CALLED, TOP, give_up, run
+from lib.tools import CALLED, TOP, give_up, output, run
 
 ROWS = TOP / "crates/cases_unwinding/data/rows.jsonl"
 ARCHITECTURES = {"x86_64": 0, "aarch64": 1}
@@ -15,22 +16,40 @@ SANITIZERS = ["-fsanitize=address,undefined", "-fno-sanitize-recover=all"]
 VALGRIND = ["valgrind", "-q", "--error-exitcode=9", "--leak-check=full", "--exit-on-first-error=yes"]
 
 
+# For the C library on another machine: its compiler, and what runs its programs here. The sanitizers don't run there.
+MACHINES = {"aarch64": (["aarch64-linux-gnu-gcc", "-static"], ["qemu-aarch64"])}
+
+
 def add_valgrind(parser):
     parser.add_argument("--valgrind", action="store_true", help="runs under valgrind in place of the sanitizers, some fifty times slower")
 
 
-def build(folder, name, by_valgrind):
+def add_target(parser):
+    parser.add_argument("--target", choices=MACHINES, help="takes the library for this machine, and runs the program under qemu-user, without sanitizers")
+
+
+def build(folder, name, by_valgrind, target=None):
     """Links a program of scripts/lib/c with the library and with examples/c/heap.c. Returns its command."""
     out = pathlib.Path(folder)
-    run("scripts/c-library", "--out", folder, folder=TOP)
-    run("cc", *FLAGS, *([] if by_valgrind else SANITIZERS), f"-I{out}/include", str(TOP / f"scripts/lib/c/{name}.c"), str(TOP / "examples/c/heap.c"),
+    run("scripts/c-library", "--out", folder, *(["--target", target] if target else []), folder=TOP)
+    compiler, runner = MACHINES[target] if target else (["cc"], VALGRIND if by_valgrind else [])
+    sanitizers = [] if by_valgrind or target else SANITIZERS
+    run(*compiler, *FLAGS, *sanitizers, f"-I{out}/include", str(TOP / f"scripts/lib/c/{name}.c"), str(TOP / "examples/c/heap.c"),
         "-o", f"{folder}/{name}", f"-L{out}/lib", "-lframehop")
-    return [*(VALGRIND if by_valgrind else []), f"{folder}/{name}"]
+    return [*runner, f"{folder}/{name}"]
+
+
+def example_of_crate(folder):
+    """Builds the example of the cargo crate that makes the calls, over the library. Returns its command."""
+    run("scripts/c-library", "--out", folder, folder=TOP)
+    words = ["cargo", "build", "--quiet", "--offline", "--release", "--example", "documents", "--target-dir", f"{folder}/target"]
+    output(*words, folder=TOP / "rust/framehop", env={**os.environ, "FRAMEHOP_LIB_DIR": f"{folder}/lib"})
+    return [f"{folder}/target/release/examples/documents"]
 
 
 def done(command, *words, text="", seconds=None):
     """The end of a program that was linked, with what it printed."""
-    CALLED.add(command[0] if command[0] == "valgrind" else "cc")
+    CALLED.add(command[0] if len(command) > 1 else "cc")
     try:
         return subprocess.run([*command, *words], input=text, capture_output=True, text=True, timeout=seconds)
     except FileNotFoundError:
@@ -66,3 +85,31 @@ def stack_of(command):
     """The words of a stack."""
     words = command["stack"]["words"]
     return " ".join([command["stack"]["start"], str(len(words)), *words])
+
+
+def line_of(command, arch):
+    """The line that asks for a command, or None if the C library has no such call."""
+    do = command["do"]
+    if do == "cache":
+        return f"cache {command.get('slots', 509)}"
+    if do in ("unwinder", "clone", "unload", "stats"):
+        return " ".join([do, *(str(command[name]) for name in ("unwinder", "cache", "start") if name in command)])
+    if do == "load":
+        sections = section_lines(command)
+        places = " ".join(command[name] for name in ("start", "end", "base", "base_svma"))
+        return "\n".join([f"load {command['unwinder']} {places} {len(sections)}", *sections])
+    if do == "step":
+        place = 1 if command["kind"] == "ip" else 2
+        return f"step {command['unwinder']} {command['cache']} {place} {command['address']} {registers_of(command, arch)} {stack_of(command)}"
+    if do == "walk":
+        return f"walk {command['unwinder']} {command['cache']} {command['pc']} {command['limit']} {registers_of(command, arch)} {stack_of(command)}"
+    return None
+
+
+def answers(program, cases, asks):
+    """The text that the calls of each document print, which are given by its architecture and lines."""
+    lines = [line for arch, commands in cases for line in (f"session {arch} {asks}", *commands, "end")]
+    ended = done(program, "commands", text="\n".join(lines) + "\n", seconds=3600)
+    if ended.returncode:
+        give_up(f"the calls ended with status {ended.returncode}: {ended.stdout[-300:]}{ended.stderr[:2000]}")
+    return ended.stdout.split("----\n")[:-1]
