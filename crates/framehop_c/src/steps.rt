@@ -28,6 +28,7 @@ pub struct FrameX86_64 {
 
 impl FrameX86_64 {
     // The call that it says, if its place is one of a frame.
+    #[inline(always)]
     fn call(&self) -> Option<SampleStepCall<UnwindRegsX86_64>>
         ensures { option_map step_call result ≡ call_x86_64 self.now }
     {
@@ -42,28 +43,22 @@ impl FrameX86_64 {
         })
     }
 
-    // What is left of it by a call.
-    fn left(&self, status: u32, call: &SampleStepCall<UnwindRegsX86_64>) -> Self
-        ensures { result ≡ left_x86_64 status self.now (step_call call.now) }
+    // Writes what a call gave: the registers only if there is a caller.
+    #[inline(always)]
+    fn write(&mut self, status: u32, call: &SampleStepCall<UnwindRegsX86_64>)
+        ensures { self.new ≡ left_x86_64 status self.old (step_call call.now) }
     {
-        FrameX86_64 {
-            unwinder: self.unwinder,
-            cache: self.cache,
-            place: self.place,
-            address: self.address,
-            registers: if status == OK {
-                RegistersX86_64::of(&call.regs)
-            } else {
-                self.registers
-            },
-            return_address: call.return_address,
-            word_address: call.word_address,
+        if status == OK {
+            self.registers = RegistersX86_64::of(&call.regs);
         }
+        self.return_address = call.return_address;
+        self.word_address = call.word_address;
     }
 }
 
 impl AnySession {
     // Makes a step by a call, if it is on x86_64.
+    #[inline(always)]
     fn step_x86_64(
         &mut self,
         call: &mut SampleStepCall<UnwindRegsX86_64>,
@@ -99,7 +94,7 @@ pub extern "C" fn framehop_unwind_frame_x86_64(
     let Some(status) = step else {
         return OTHER_ARCHITECTURE;
     };
-    *frame = frame.left(status, &call);
+    frame.write(status, &call);
     status
 }
 
@@ -118,6 +113,7 @@ pub struct FrameAarch64 {
 
 impl FrameAarch64 {
     // The call that it says, if its place is one of a frame.
+    #[inline(always)]
     fn call(&self) -> Option<SampleStepCall<UnwindRegsAarch64>>
         ensures { option_map step_call result ≡ call_aarch64 self.now }
     {
@@ -132,28 +128,22 @@ impl FrameAarch64 {
         })
     }
 
-    // What is left of it by a call.
-    fn left(&self, status: u32, call: &SampleStepCall<UnwindRegsAarch64>) -> Self
-        ensures { result ≡ left_aarch64 status self.now (step_call call.now) }
+    // Writes what a call gave: the registers only if there is a caller.
+    #[inline(always)]
+    fn write(&mut self, status: u32, call: &SampleStepCall<UnwindRegsAarch64>)
+        ensures { self.new ≡ left_aarch64 status self.old (step_call call.now) }
     {
-        FrameAarch64 {
-            unwinder: self.unwinder,
-            cache: self.cache,
-            place: self.place,
-            address: self.address,
-            registers: if status == OK {
-                RegistersAarch64::of(&call.regs)
-            } else {
-                self.registers
-            },
-            return_address: call.return_address,
-            word_address: call.word_address,
+        if status == OK {
+            self.registers = RegistersAarch64::of(&call.regs);
         }
+        self.return_address = call.return_address;
+        self.word_address = call.word_address;
     }
 }
 
 impl AnySession {
     // Makes a step by a call, if it is on aarch64.
+    #[inline(always)]
     fn step_aarch64(
         &mut self,
         call: &mut SampleStepCall<UnwindRegsAarch64>,
@@ -189,6 +179,6 @@ pub extern "C" fn framehop_unwind_frame_aarch64(
     let Some(status) = step else {
         return OTHER_ARCHITECTURE;
     };
-    *frame = frame.left(status, &call);
+    frame.write(status, &call);
     status
 }

@@ -35,6 +35,7 @@ pub struct WalkX86_64 {
 
 impl WalkX86_64 {
     // The call that it says, if its place is one.
+    #[inline(always)]
     fn call(&self) -> Option<SampleWalkCall<UnwindRegsX86_64>>
         ensures { option_map viewed result ≡ walk_call_x86_64 self.now }
     {
@@ -52,28 +53,26 @@ impl WalkX86_64 {
         })
     }
 
-    // What is left of it by a call.
-    fn left(&self, status: u32, call: &SampleWalkCall<UnwindRegsX86_64>) -> Self
-        ensures { LeavesX86_64 status self.now result (viewed call.now) }
+    // Writes where a call's walk is then, unless there was no such unwinder or cache.
+    #[inline(always)]
+    fn write(&mut self, status: u32, call: &SampleWalkCall<UnwindRegsX86_64>)
+        ensures { LeavesX86_64 status self.old self.new (viewed call.now) }
     {
         if is_missing(status) {
-            return *self;
+            return;
         }
         let (place, address) = numbers_of(call.walk.place);
-        WalkX86_64 {
-            unwinder: self.unwinder,
-            cache: self.cache,
-            place,
-            address,
-            registers: RegistersX86_64::of(&call.walk.regs),
-            count: call.count,
-            word_address: call.word_address,
-        }
+        self.place = place;
+        self.address = address;
+        self.registers = RegistersX86_64::of(&call.walk.regs);
+        self.count = call.count;
+        self.word_address = call.word_address;
     }
 }
 
 impl AnySession {
     // Goes on with a walk by a call, if it is on x86_64.
+    #[inline(always)]
     fn walk_x86_64(
         &mut self,
         call: &mut SampleWalkCall<UnwindRegsX86_64>,
@@ -113,7 +112,7 @@ pub extern "C" fn framehop_next_frames_x86_64(
     let Some(status) = made else {
         return OTHER_ARCHITECTURE;
     };
-    *walk = walk.left(status, &call);
+    walk.write(status, &call);
     status
 }
 
@@ -132,6 +131,7 @@ pub struct WalkAarch64 {
 
 impl WalkAarch64 {
     // The call that it says, if its place is one.
+    #[inline(always)]
     fn call(&self) -> Option<SampleWalkCall<UnwindRegsAarch64>>
         ensures { option_map viewed result ≡ walk_call_aarch64 self.now }
     {
@@ -149,28 +149,26 @@ impl WalkAarch64 {
         })
     }
 
-    // What is left of it by a call.
-    fn left(&self, status: u32, call: &SampleWalkCall<UnwindRegsAarch64>) -> Self
-        ensures { LeavesAarch64 status self.now result (viewed call.now) }
+    // Writes where a call's walk is then, unless there was no such unwinder or cache.
+    #[inline(always)]
+    fn write(&mut self, status: u32, call: &SampleWalkCall<UnwindRegsAarch64>)
+        ensures { LeavesAarch64 status self.old self.new (viewed call.now) }
     {
         if is_missing(status) {
-            return *self;
+            return;
         }
         let (place, address) = numbers_of(call.walk.place);
-        WalkAarch64 {
-            unwinder: self.unwinder,
-            cache: self.cache,
-            place,
-            address,
-            registers: RegistersAarch64::of(&call.walk.regs),
-            count: call.count,
-            word_address: call.word_address,
-        }
+        self.place = place;
+        self.address = address;
+        self.registers = RegistersAarch64::of(&call.walk.regs);
+        self.count = call.count;
+        self.word_address = call.word_address;
     }
 }
 
 impl AnySession {
     // Goes on with a walk by a call, if it is on aarch64.
+    #[inline(always)]
     fn walk_aarch64(
         &mut self,
         call: &mut SampleWalkCall<UnwindRegsAarch64>,
@@ -210,6 +208,6 @@ pub extern "C" fn framehop_next_frames_aarch64(
     let Some(status) = made else {
         return OTHER_ARCHITECTURE;
     };
-    *walk = walk.left(status, &call);
+    walk.write(status, &call);
     status
 }
