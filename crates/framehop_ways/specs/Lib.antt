@@ -12,3 +12,4 @@ pub mod FirstWay
 pub mod SearchViews
 pub mod Values
 pub mod HeldViews
+pub mod WayRules

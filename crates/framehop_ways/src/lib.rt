@@ -21,5 +21,5 @@ pub use decoding::decode;
 pub use executed::{Bounds, Executed};
 pub use finding::first_way;
 pub use instruction::{Access, Base, Instruction, Lost};
-pub use rules::way_rule;
+pub use rules::{first_way_rule, way_rule};
 pub use values::{Saved, Value, Values};

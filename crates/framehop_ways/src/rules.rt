@@ -1,17 +1,20 @@
 //! The unwind rule of a way.
-ghost use Rattle.std.specs.Prelude.{◌≡◌, ◌*◌, ◌*ℤ◌, pos, IfSome, IsTrue};
+ghost use Rattle.std.specs.Prelude.{◌≡◌, ◌*◌, ◌*ℤ◌, pos, IfSome, IsTrue, option_and_then};
 ghost use Rattle.framehop_ways.specs.declared.instruction.Base.TheVariants.{StackPointer, FramePointer};
 ghost use Rattle.framehop_ways.specs.declared.values.Value.TheVariants.{Address, Word};
 ghost use Rattle.framehop_ways.specs.Values.{IsRuleOf, IsRuleOfWay};
+ghost use Rattle.framehop_ways.specs.WayRules.{as_i16, as_u16, eighth_of, first_way_rule, is_kept, rule_by, rule_by_fp, rule_by_sp, rule_of_way, rule_with_kept_fp, rule_with_loads, sixteenth_of, stored_at, stored_words};
 
-use crate::executed::Executed;
+use crate::executed::{Bounds, Executed};
+use crate::finding::first_way;
 use crate::instruction::Base;
 use crate::values::{Value, Values, values_after};
 use framehop_rules::aarch64::UnwindRuleAarch64;
 
 // A number of bytes in units of 16, if it is a multiple and fits.
 fn units_of_16(bytes: i32) -> Option<u16>
-    ensures { IfSome result (λ units. bytes ≡ pos (16 * units)) }
+    ensures units { result ≡ option_and_then as_u16 (sixteenth_of bytes) }
+    ensures is { IfSome result (λ units. bytes ≡ pos (16 * units)) }
 {
     if bytes % 16 != 0 {
         return None;
@@ -21,7 +24,8 @@ fn units_of_16(bytes: i32) -> Option<u16>
 
 // A number of bytes in units of 8, if it is a multiple and fits.
 fn units_of_8(bytes: i32) -> Option<i16>
-    ensures { IfSome result (λ units. bytes ≡ pos 8 *ℤ units) }
+    ensures units { result ≡ option_and_then as_i16 (eighth_of bytes) }
+    ensures is { IfSome result (λ units. bytes ≡ pos 8 *ℤ units) }
 {
     if bytes % 8 != 0 {
         return None;
@@ -31,7 +35,8 @@ fn units_of_8(bytes: i32) -> Option<i16>
 
 // The same, if it isn't negative.
 fn units_of_8_above(bytes: i32) -> Option<u16>
-    ensures { IfSome result (λ units. bytes ≡ pos (8 * units)) }
+    ensures units { result ≡ option_and_then as_u16 (eighth_of bytes) }
+    ensures is { IfSome result (λ units. bytes ≡ pos (8 * units)) }
 {
     if bytes % 8 != 0 {
         return None;
@@ -41,7 +46,8 @@ fn units_of_8_above(bytes: i32) -> Option<u16>
 
 // How many bytes from a base now a word is, if a register holds it.
 fn stored_at(value: Value, from: Base) -> Option<i32>
-    ensures { IfSome result (λ bytes. value ≡ Word from bytes) }
+    ensures bytes { result ≡ stored_at value from }
+    ensures is { IfSome result (λ bytes. value ≡ Word from bytes) }
 {
     match (value, from) {
         (
@@ -62,26 +68,18 @@ fn stored_at(value: Value, from: Base) -> Option<i32>
     }
 }
 
-// The rule for a stack pointer that is so many bytes above x29.
-fn rule_by_fp(values: Values, bytes: i32) -> Option<UnwindRuleAarch64>
-    requires { values.sp ≡ Address FramePointer bytes }
-    ensures { IfSome result (λ rule. IsRuleOf values rule) }
+// The same in words.
+fn stored_words(value: Value, from: Base) -> Option<i16>
+    ensures words { result ≡ stored_words value from }
+    ensures is { IfSome result (λ words. value ≡ Word from (pos 8 *ℤ words)) }
 {
-    let sp_offset_from_fp_by_8 = units_of_8_above(bytes)?;
-    let fp = stored_at(values.fp, Base::FramePointer)?;
-    let lr = stored_at(values.lr, Base::FramePointer)?;
-    let fp_storage_offset_from_fp_by_8 = units_of_8(fp)?;
-    let lr_storage_offset_from_fp_by_8 = units_of_8(lr)?;
-    Some(UnwindRuleAarch64::UseFramepointerWithOffsets {
-        sp_offset_from_fp_by_8,
-        fp_storage_offset_from_fp_by_8,
-        lr_storage_offset_from_fp_by_8,
-    })
+    units_of_8(stored_at(value, from)?)
 }
 
 // Whether a register holds what a base does now.
 fn is_kept(value: Value, base: Base) -> bool
-    ensures { IsTrue result → value ≡ Address base (pos 0) }
+    ensures kept { result ≡ is_kept value base }
+    ensures is { IsTrue result → value ≡ Address base (pos 0) }
 {
     match (value, base) {
         (
@@ -102,13 +100,29 @@ fn is_kept(value: Value, base: Base) -> bool
     }
 }
 
-// The rule for a stack pointer that goes up by so many bytes, where x29 is kept.
-fn rule_with_kept_fp(values: Values, bytes: i32) -> Option<UnwindRuleAarch64>
-    requires sp { values.sp ≡ Address StackPointer bytes }
-    requires fp { values.fp ≡ Address FramePointer (pos 0) }
-    ensures { IfSome result (λ rule. IsRuleOf values rule) }
+// The rule for a stack pointer that is so many bytes above x29.
+fn rule_by_fp(values: Values, bytes: i32) -> Option<UnwindRuleAarch64>
+    requires { values.sp ≡ Address FramePointer bytes }
+    ensures rule { result ≡ rule_by_fp values bytes }
+    ensures is { IfSome result (λ rule. IsRuleOf values rule) }
 {
-    let sp_offset_by_16 = units_of_16(bytes)?;
+    let sp_offset_from_fp_by_8 = units_of_8_above(bytes)?;
+    let fp_storage_offset_from_fp_by_8 = stored_words(values.fp, Base::FramePointer)?;
+    let lr_storage_offset_from_fp_by_8 = stored_words(values.lr, Base::FramePointer)?;
+    Some(UnwindRuleAarch64::UseFramepointerWithOffsets {
+        sp_offset_from_fp_by_8,
+        fp_storage_offset_from_fp_by_8,
+        lr_storage_offset_from_fp_by_8,
+    })
+}
+
+// The rule for a stack pointer that goes up by so many pairs of words, where x29 is kept.
+fn rule_with_kept_fp(values: Values, sp_offset_by_16: u16) -> Option<UnwindRuleAarch64>
+    requires sp { values.sp ≡ Address StackPointer (pos (16 * sp_offset_by_16)) }
+    requires fp { values.fp ≡ Address FramePointer (pos 0) }
+    ensures rule { result ≡ rule_with_kept_fp sp_offset_by_16 values.lr }
+    ensures is { IfSome result (λ rule. IsRuleOf values rule) }
+{
     match values.lr {
         Value::LinkRegister => {
             if sp_offset_by_16 == 0 {
@@ -118,8 +132,7 @@ fn rule_with_kept_fp(values: Values, bytes: i32) -> Option<UnwindRuleAarch64>
             }
         }
         lr => {
-            let lr = stored_at(lr, Base::StackPointer)?;
-            let lr_storage_offset_from_sp_by_8 = units_of_8(lr)?;
+            let lr_storage_offset_from_sp_by_8 = stored_words(lr, Base::StackPointer)?;
             Some(UnwindRuleAarch64::OffsetSpAndRestoreLr {
                 sp_offset_by_16,
                 lr_storage_offset_from_sp_by_8,
@@ -128,19 +141,14 @@ fn rule_with_kept_fp(values: Values, bytes: i32) -> Option<UnwindRuleAarch64>
     }
 }
 
-// The rule for a stack pointer that goes up by so many bytes.
-fn rule_by_sp(values: Values, bytes: i32) -> Option<UnwindRuleAarch64>
-    requires { values.sp ≡ Address StackPointer bytes }
-    ensures { IfSome result (λ rule. IsRuleOf values rule) }
+// The rule where x29 and x30 are loaded.
+fn rule_with_loads(values: Values, sp_offset_by_16: u16) -> Option<UnwindRuleAarch64>
+    requires { values.sp ≡ Address StackPointer (pos (16 * sp_offset_by_16)) }
+    ensures rule { result ≡ rule_with_loads sp_offset_by_16 values }
+    ensures is { IfSome result (λ rule. IsRuleOf values rule) }
 {
-    if is_kept(values.fp, Base::FramePointer) {
-        return rule_with_kept_fp(values, bytes);
-    }
-    let sp_offset_by_16 = units_of_16(bytes)?;
-    let fp = stored_at(values.fp, Base::StackPointer)?;
-    let lr = stored_at(values.lr, Base::StackPointer)?;
-    let fp_storage_offset_from_sp_by_8 = units_of_8(fp)?;
-    let lr_storage_offset_from_sp_by_8 = units_of_8(lr)?;
+    let fp_storage_offset_from_sp_by_8 = stored_words(values.fp, Base::StackPointer)?;
+    let lr_storage_offset_from_sp_by_8 = stored_words(values.lr, Base::StackPointer)?;
     Some(UnwindRuleAarch64::OffsetSpAndRestoreFpAndLr {
         sp_offset_by_16,
         fp_storage_offset_from_sp_by_8,
@@ -148,9 +156,24 @@ fn rule_by_sp(values: Values, bytes: i32) -> Option<UnwindRuleAarch64>
     })
 }
 
+// The rule for a stack pointer that goes up by so many bytes.
+fn rule_by_sp(values: Values, bytes: i32) -> Option<UnwindRuleAarch64>
+    requires { values.sp ≡ Address StackPointer bytes }
+    ensures rule { result ≡ rule_by_sp values bytes }
+    ensures is { IfSome result (λ rule. IsRuleOf values rule) }
+{
+    let sp_offset_by_16 = units_of_16(bytes)?;
+    if is_kept(values.fp, Base::FramePointer) {
+        rule_with_kept_fp(values, sp_offset_by_16)
+    } else {
+        rule_with_loads(values, sp_offset_by_16)
+    }
+}
+
 // The rule for what the three registers hold.
 fn rule_of(values: Values) -> Option<UnwindRuleAarch64>
-    ensures { IfSome result (λ rule. IsRuleOf values rule) }
+    ensures rule { result ≡ rule_by values values.sp }
+    ensures is { IfSome result (λ rule. IsRuleOf values rule) }
 {
     match values.sp {
         Value::Address {
@@ -167,8 +190,17 @@ fn rule_of(values: Values) -> Option<UnwindRuleAarch64>
 
 /// The unwind rule of a way: what the stack pointer, the frame pointer and the link register hold after it.
 pub fn way_rule(way: &[Executed]) -> Option<UnwindRuleAarch64>
-    ensures { IfSome result (λ rule. IsRuleOfWay way.now rule) }
+    ensures rule { result ≡ rule_of_way way.now }
+    ensures is { IfSome result (λ rule. IsRuleOfWay way.now rule) }
 {
     let values = values_after(way)?;
     rule_of(values)
+}
+
+/// The unwind rule of the first way out of a function from a place of a text.
+pub fn first_way_rule(text: &[u8], bounds: Bounds, at: usize) -> Option<UnwindRuleAarch64>
+    ensures { result ≡ first_way_rule text.now bounds at }
+{
+    let way = first_way(text, bounds, at)?;
+    way_rule(way.as_slice())
 }
