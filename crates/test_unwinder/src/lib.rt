@@ -2,6 +2,7 @@
 //! in a session, over modules that are tables, by public calls alone.
 #![tactic(auto)]
 
+mod callers;
 #[cfg(test)]
 mod commands;
 #[cfg(test)]
@@ -16,4 +17,5 @@ mod walks;
 #[cfg(test)]
 mod worked;
 
+pub use callers::answers_to;
 pub use tables::{Row, Said, Tables};
