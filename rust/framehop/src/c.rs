@@ -61,7 +61,8 @@ pub(crate) struct Session<R> {
     handle: Handle,
     cache: u64,
     followers: Vec<Follower>,
-    last: usize,
+    // The version that was asked for last, and its unwinder. No list has the version 0.
+    last: (u64, u64),
     registers: PhantomData<R>,
 }
 
@@ -81,7 +82,7 @@ impl<R> Drop for Session<R> {
 impl<R: Registers> Session<R> {
     pub(crate) fn new() -> Self {
         assert_eq!(framehop_version(), 0x000100, "libframehop.a is of another version than this crate");
-        let mut session = Session { handle: Handle::NONE, cache: 0, followers: Vec::new(), last: 0, registers: PhantomData };
+        let mut session = Session { handle: Handle::NONE, cache: 0, followers: Vec::new(), last: (0, 0), registers: PhantomData };
         done(framehop_session_new(&mut session.handle, R::ARCHITECTURE));
         done(framehop_add_cache(&mut session.handle, 509, &mut session.cache));
         session
@@ -96,7 +97,7 @@ impl<R: Registers> Session<R> {
     // The modules are a clone's of the unwinder that has most of them, with what is missing or too much. Unwinders of versions that are
     // gone are let go.
     #[cold]
-    fn make_follower<D: Deref<Target = [u8]>>(&mut self, modules: &Modules<D>) {
+    fn make_follower<D: Deref<Target = [u8]>>(&mut self, modules: &Modules<D>) -> u64 {
         let nearest = self.followers.iter().max_by_key(|it| modules.count_of(&it.loaded)).filter(|it| modules.count_of(&it.loaded) > 0);
         let mut unwinder = 0;
         done(match nearest {
@@ -111,6 +112,7 @@ impl<R: Registers> Session<R> {
         }
         self.followers.retain(|it| it.lasting.strong_count() > 0 || framehop_remove_unwinder(&mut self.handle, it.unwinder) != 0);
         self.followers.push(Follower { unwinder, version: modules.version(), lasting: modules.lasting(), loaded: modules.loaded() });
+        unwinder
     }
 
     fn load<D: Deref<Target = [u8]>>(&mut self, unwinder: u64, module: &LentModule<D>) {
@@ -119,15 +121,13 @@ impl<R: Registers> Session<R> {
         done(unsafe { framehop_load(&mut self.handle, unwinder, &module.with_sections(&sections)) });
     }
 
-    #[inline]
+    #[inline(always)]
     pub(crate) fn follow<D: Deref<Target = [u8]>>(&mut self, modules: &Modules<D>) -> u64 {
-        if self.followers.get(self.last).is_none_or(|it| it.version != modules.version()) {
-            self.last = self.followers.iter().position(|it| it.version == modules.version()).unwrap_or_else(|| {
-                self.make_follower(modules);
-                self.followers.len() - 1
-            });
+        if self.last.0 != modules.version() {
+            let there = self.followers.iter().find(|it| it.version == modules.version()).map(|it| it.unwinder);
+            self.last = (modules.version(), there.unwrap_or_else(|| self.make_follower(modules)));
         }
-        self.followers[self.last].unwinder
+        self.last.1
     }
 
     /// Makes a step from a frame at an address by the modules of a list, over the words that are known.

@@ -73,11 +73,14 @@ impl CacheStats {
         self.miss_empty_slot_count.saturating_add(self.miss_wrong_modules_count).saturating_add(self.miss_wrong_address_count)
     }
 
-    /// Adds what was counted between two looks at other counts.
-    pub(crate) fn add_difference(&mut self, before: &CacheStats, after: &CacheStats) {
-        self.hit_count += after.hit_count - before.hit_count;
-        self.miss_empty_slot_count += after.miss_empty_slot_count - before.miss_empty_slot_count;
-        self.miss_wrong_modules_count += after.miss_wrong_modules_count - before.miss_wrong_modules_count;
-        self.miss_wrong_address_count += after.miss_wrong_address_count - before.miss_wrong_address_count;
+    /// Adds one look-up, of which it is known what was counted, maybe several times, between two looks at other counts.
+    pub(crate) fn add_look_up(&mut self, before: &CacheStats, after: &CacheStats, is_hit: bool) {
+        if is_hit {
+            self.hit_count += 1;
+            return;
+        }
+        self.miss_empty_slot_count += u64::from(after.miss_empty_slot_count != before.miss_empty_slot_count);
+        self.miss_wrong_modules_count += u64::from(after.miss_wrong_modules_count != before.miss_wrong_modules_count);
+        self.miss_wrong_address_count += u64::from(after.miss_wrong_address_count != before.miss_wrong_address_count);
     }
 }

@@ -11,7 +11,7 @@ use crate::modules::Modules;
 const SLOTS: usize = 509;
 
 /// As many words as a rule reads.
-const READS: usize = 2;
+pub(crate) const READS: usize = 2;
 
 /// The registers that lead to words of the stack.
 #[derive(Clone, Copy)]
@@ -41,47 +41,69 @@ impl Pointing for [u64; 4] {
     }
 }
 
-/// How far a word is from the registers that may lead to it.
-#[derive(Clone, Copy, Default)]
-struct Distances {
+/// Which registers lead to a word.
+#[derive(Clone, Copy, PartialEq, Eq)]
+enum Way {
+    /// Both have so far: nothing tells which of them the rule goes by.
+    Both,
+    /// The stack pointer.
+    Sp,
+    /// The frame pointer.
+    Fp,
+}
+
+/// How far a word is from the registers, and which of them lead to it.
+#[derive(Clone, Copy)]
+struct Place {
     from_sp: i64,
     from_fp: i64,
+    way: Way,
 }
 
-impl Distances {
-    fn of(address: u64, pointers: Pointers) -> Distances {
+impl Place {
+    const NONE: Place = Place { from_sp: 0, from_fp: 0, way: Way::Both };
+
+    /// The place of a word that one step read.
+    fn of(address: u64, pointers: Pointers) -> Place {
         let distance = |from: u64| address.wrapping_sub(from).cast_signed();
-        Distances { from_sp: distance(pointers.sp), from_fp: distance(pointers.fp) }
+        Place { from_sp: distance(pointers.sp), from_fp: distance(pointers.fp), way: Way::Both }
     }
-}
 
-/// Where a word is.
-#[derive(Clone, Copy)]
-enum Place {
-    FromSp(i64),
-    FromFp(i64),
-}
+    /// The place of a word that two steps read, if it was at one distance from one of the registers, and at several from the other.
+    fn joined(before: &Place, now: &Place) -> Option<Place> {
+        let way = match (before.from_sp == now.from_sp, before.from_fp == now.from_fp) {
+            (true, false) => Way::Sp,
+            (false, true) => Way::Fp,
+            _ => return None,
+        };
+        Some(Place { way, ..*now })
+    }
 
-/// Which words a rule reads.
-#[derive(Clone, Copy)]
-enum Reads {
-    /// Nothing is known of them.
-    Unknown,
-    /// One step read so many, at these distances.
-    Once(usize, [Distances; READS]),
-    /// Steps read so many, at these places.
-    Known(usize, [Place; READS]),
+    /// The address of the word, if it is known, and in the part of the stack that is in use.
+    #[inline(always)]
+    fn address(&self, pointers: Pointers) -> Option<u64> {
+        let by_sp = pointers.sp.wrapping_add_signed(self.from_sp);
+        let by_fp = pointers.fp.wrapping_add_signed(self.from_fp);
+        let address = if self.way == Way::Fp { by_fp } else { by_sp };
+        let is_known = address >= pointers.sp && (self.way != Way::Both || by_sp == by_fp);
+        is_known.then_some(address)
+    }
 }
 
 /// What the last step of a slot was, and what was learned of such steps.
 #[derive(Clone, Copy)]
-struct Habit {
+pub(crate) struct Habit {
     address: u64,
-    version: u64,
-    is_return_address: bool,
+    /// Twice the version, and one more for a return address.
+    kind: u64,
     /// Whether the next such step finds its rule.
     finds: bool,
-    reads: Reads,
+    /// Whether one such step told where it reads, and several did.
+    is_learned: bool,
+    is_joined: bool,
+    /// How many words such steps read.
+    count: usize,
+    places: [Place; READS],
 }
 
 /// The habits of a cache.
@@ -89,20 +111,19 @@ pub(crate) struct Habits(Box<[Habit; SLOTS]>);
 
 impl Habits {
     pub(crate) fn new() -> Self {
-        let none = Habit { address: 0, version: 0, is_return_address: false, finds: false, reads: Reads::Unknown };
-        Habits(Box::new([none; SLOTS]))
+        Habits(Box::new([Habit::new(0, 0); SLOTS]))
     }
 
     /// What is known of a step by these modules.
-    #[inline]
-    pub(crate) fn of<D>(&mut self, modules: &Modules<D>, frame: FrameAddress) -> HabitOf<'_> {
+    #[inline(always)]
+    pub(crate) fn of<D>(&mut self, modules: &Modules<D>, frame: FrameAddress) -> &mut Habit {
         let address = frame.address_for_lookup();
-        let (version, is_return_address) = (modules.version(), frame.is_return_address());
+        let kind = modules.version() << 1 | u64::from(frame.is_return_address());
         let habit = &mut self.0[(address % SLOTS as u64) as usize];
-        if habit.address != address || habit.version != version || habit.is_return_address != is_return_address {
-            *habit = Habit { address, version, is_return_address, finds: false, reads: Reads::Unknown };
+        if habit.address != address || habit.kind != kind {
+            *habit = Habit::new(address, kind);
         }
-        HabitOf(habit)
+        habit
     }
 }
 
@@ -114,53 +135,41 @@ pub(crate) struct Foreseen {
 }
 
 impl Foreseen {
-    #[inline]
+    #[inline(always)]
     pub(crate) fn addresses(&self) -> &[u64] {
         &self.addresses[..self.count]
     }
 }
 
-/// The habit of one step.
-pub(crate) struct HabitOf<'a>(&'a mut Habit);
+impl Habit {
+    fn new(address: u64, kind: u64) -> Habit {
+        Habit { address, kind, finds: false, is_learned: false, is_joined: false, count: 0, places: [Place::NONE; READS] }
+    }
 
-impl HabitOf<'_> {
     /// Whether the step surely finds its rule.
-    #[inline]
+    #[inline(always)]
     pub(crate) fn finds(&self) -> bool {
-        self.0.finds
+        self.finds
     }
 
     /// Says whether the next such step does.
     pub(crate) fn set_finds(&mut self, finds: bool) {
-        self.0.finds = finds;
+        self.finds = finds;
     }
 
-    /// The words that the step will read, if they are known, and are in the part of the stack that is in use.
-    #[inline]
-    pub(crate) fn foreseen(&self, Pointers { sp, fp }: Pointers) -> Option<Foreseen> {
+    /// The words that the step will read, if they are known.
+    #[inline(always)]
+    pub(crate) fn foreseen(&self, pointers: Pointers) -> Option<Foreseen> {
+        if !self.is_learned {
+            return None;
+        }
         let mut addresses = [0; READS];
-        let count = match self.0.reads {
-            Reads::Unknown => return None,
-            Reads::Once(count, distances) => {
-                for (address, it) in addresses.iter_mut().zip(&distances[..count]) {
-                    *address = sp.wrapping_add_signed(it.from_sp);
-                    if *address != fp.wrapping_add_signed(it.from_fp) {
-                        return None;
-                    }
-                }
-                count
+        for number in 0..READS {
+            if number < self.count {
+                addresses[number] = self.places[number].address(pointers)?;
             }
-            Reads::Known(count, places) => {
-                for (address, it) in addresses.iter_mut().zip(&places[..count]) {
-                    *address = match *it {
-                        Place::FromSp(distance) => sp.wrapping_add_signed(distance),
-                        Place::FromFp(distance) => fp.wrapping_add_signed(distance),
-                    };
-                }
-                count
-            }
-        };
-        addresses[..count].iter().all(|it| *it >= sp).then_some(Foreseen { count, addresses })
+        }
+        Some(Foreseen { count: self.count.min(READS), addresses })
     }
 
     /// Learns from a step that asked for these words.
@@ -168,32 +177,24 @@ impl HabitOf<'_> {
         if asked.len() > READS {
             return self.forget();
         }
-        let mut now = [Distances::default(); READS];
-        for (distances, word) in now.iter_mut().zip(asked) {
-            *distances = Distances::of(word.address(), pointers);
+        let mut now = [Place::NONE; READS];
+        for (place, word) in now.iter_mut().zip(asked) {
+            *place = Place::of(word.address(), pointers);
         }
-        let known = match self.0.reads {
-            Reads::Once(count, before) if count == asked.len() => places(&before, &now, count),
-            _ => None,
-        };
-        self.0.reads = known.map_or(Reads::Once(asked.len(), now), |it| Reads::Known(asked.len(), it));
+        let mut joined = now;
+        let has_two = self.is_learned && !self.is_joined && self.count == asked.len();
+        self.is_joined = has_two
+            && joined.iter_mut().zip(&self.places).take(self.count).all(|(it, before)| {
+                let place = Place::joined(before, it);
+                *it = place.unwrap_or(*it);
+                place.is_some()
+            });
+        self.places = if self.is_joined { joined } else { now };
+        (self.count, self.is_learned) = (asked.len(), true);
     }
 
     /// Forgets which words are read.
     pub(crate) fn forget(&mut self) {
-        self.0.reads = Reads::Unknown;
+        (self.is_learned, self.is_joined) = (false, false);
     }
-}
-
-/// The places of words that two steps read, if each was at one distance from one of the registers, and at several from the other.
-fn places(before: &[Distances; READS], now: &[Distances; READS], count: usize) -> Option<[Place; READS]> {
-    let mut places = [Place::FromSp(0); READS];
-    for ((place, before), now) in places.iter_mut().zip(before).zip(now).take(count) {
-        *place = match (before.from_sp == now.from_sp, before.from_fp == now.from_fp) {
-            (true, false) => Place::FromSp(now.from_sp),
-            (false, true) => Place::FromFp(now.from_fp),
-            _ => return None,
-        };
-    }
-    Some(places)
 }

@@ -64,6 +64,7 @@ pub(crate) struct MappedFile {
 }
 
 /// `framehop_word`: what `read_stack` answered for an address.
+#[derive(Clone, Copy)]
 #[repr(C)]
 pub(crate) struct Word {
     address: u64,
@@ -72,12 +73,17 @@ pub(crate) struct Word {
 }
 
 impl Word {
+    /// A place for an answer.
+    pub(crate) const NONE: Word = Word { address: 0, word: 0, is_readable: 0 };
+
     /// An answer of `read_stack`.
+    #[inline(always)]
     pub(crate) fn of(address: u64, answer: Result<u64, ()>) -> Word {
         Word { address, word: answer.unwrap_or(0), is_readable: answer.is_ok().into() }
     }
 
     /// The address that `read_stack` was asked for.
+    #[inline(always)]
     pub(crate) fn address(&self) -> u64 {
         self.address
     }

@@ -4,7 +4,7 @@ use crate::c::{Registers, Session};
 use crate::cache::{AllocationPolicy, CacheStats};
 use crate::code_address::FrameAddress;
 use crate::error::Error;
-use crate::habits::{Foreseen, HabitOf, Habits, Pointing};
+use crate::habits::{Habit, Habits, Pointing, READS};
 use crate::layout::{Frame, Word};
 use crate::modules::Modules;
 use crate::status::Step;
@@ -31,25 +31,11 @@ struct KnownWords<P> {
 
 impl<P: AllocationPolicy> KnownWords<P> {
     /// Asks for a word, unless there is no room for it.
-    #[inline]
-    fn ask<F: FnMut(u64) -> Result<u64, ()>>(&mut self, address: u64, read_stack: &mut F) -> Result<bool, Error> {
+    fn ask<F: FnMut(u64) -> Result<u64, ()>>(&mut self, address: u64, read_stack: &mut F) -> Result<(), Error> {
         if self.words.len() >= ROOM && !P::MAY_ALLOCATE {
             return Err(Error::CouldNotReadStack(address));
         }
-        let word = Word::of(address, read_stack(address));
-        let is_readable = word.is_readable();
-        self.words.push(word);
-        Ok(is_readable)
-    }
-
-    /// Asks for the words that a step will read, in their order, up to one that can't be read.
-    #[inline]
-    fn ask_for<F: FnMut(u64) -> Result<u64, ()>>(&mut self, foreseen: &Foreseen, read_stack: &mut F) -> Result<(), Error> {
-        for address in foreseen.addresses() {
-            if !self.ask(*address, read_stack)? {
-                break;
-            }
-        }
+        self.words.push(Word::of(address, read_stack(address)));
         Ok(())
     }
 }
@@ -77,70 +63,98 @@ impl<R: Registers + Pointing, P: AllocationPolicy> Mirror<R, P> {
         frame: &mut Frame<R>,
         read_stack: &mut F,
     ) -> Result<Option<u64>, Error> {
-        let pointers = frame.registers.pointers();
         let Mirror { session, habits, known, stats } = self;
-        let mut habit = habits.of(modules, address);
-        known.words.clear();
-        if !habit.finds() {
-            let step = Looking { session, modules, address, stats };
-            return step.answer(&mut habit, known, frame, read_stack);
-        }
+        let habit = habits.of(modules, address);
+        let foreseen = if habit.finds() { habit.foreseen(frame.registers.pointers()) } else { None };
+        let Some(foreseen) = foreseen else {
+            return Asking { session, modules, address, known }.from_none(habit, stats, frame, read_stack);
+        };
         stats.hit_count += 1;
-        let foreseen = habit.foreseen(pointers);
-        if let Some(foreseen) = &foreseen {
-            known.ask_for(foreseen, read_stack)?;
+        let mut words = [Word::NONE; READS];
+        let mut count = 0;
+        for (word, address) in words.iter_mut().zip(foreseen.addresses()) {
+            *word = Word::of(*address, read_stack(*address));
+            count += 1;
+            if !word.is_readable() {
+                break;
+            }
         }
-        let foreseen_count = known.words.len();
-        loop {
-            match session.step(modules, address, frame, &known.words) {
-                Step::Answered(answer) => {
-                    if foreseen.is_none() {
-                        habit.learn(pointers, &known.words);
-                    } else if known.words.len() != foreseen_count {
-                        habit.forget();
-                    }
-                    return answer;
-                }
-                Step::NeedsWord(at) => known.ask(at, read_stack)?,
-            };
+        match session.step(modules, address, frame, &words[..count]) {
+            Step::Answered(answer) => answer,
+            Step::NeedsWord(at) => Asking { session, modules, address, known }.from_some(&words[..count], at, habit, frame, read_stack),
         }
     }
 }
 
-/// A step of which it isn't known that it finds its rule.
-struct Looking<'a, D, R> {
+/// A step that asks for words, and is made again with each.
+struct Asking<'a, D, R, P> {
     session: &'a mut Session<R>,
     modules: &'a Modules<D>,
     address: FrameAddress,
-    stats: &'a mut CacheStats,
+    known: &'a mut KnownWords<P>,
 }
 
-impl<D: Deref<Target = [u8]>, R: Registers + Pointing> Looking<'_, D, R> {
+impl<D: Deref<Target = [u8]>, R: Registers + Pointing, P: AllocationPolicy> Asking<'_, D, R, P> {
+    fn step(&mut self, frame: &mut Frame<R>) -> Step {
+        self.session.step(self.modules, self.address, frame, &self.known.words)
+    }
+
+    /// What the step gives in the end, after this.
+    fn end<F: FnMut(u64) -> Result<u64, ()>>(
+        &mut self,
+        mut step: Step,
+        frame: &mut Frame<R>,
+        read_stack: &mut F,
+    ) -> Result<Option<u64>, Error> {
+        while let Step::NeedsWord(at) = step {
+            self.known.ask(at, read_stack)?;
+            step = self.step(frame);
+        }
+        let Step::Answered(answer) = step else { unreachable!() };
+        answer
+    }
+
+    /// Makes the step from the start. How often it found its rule is what the library counted.
     #[cold]
-    fn answer<P: AllocationPolicy, F: FnMut(u64) -> Result<u64, ()>>(
-        self,
-        habit: &mut HabitOf<'_>,
-        known: &mut KnownWords<P>,
+    fn from_none<F: FnMut(u64) -> Result<u64, ()>>(
+        mut self,
+        habit: &mut Habit,
+        stats: &mut CacheStats,
         frame: &mut Frame<R>,
         read_stack: &mut F,
     ) -> Result<Option<u64>, Error> {
         let pointers = frame.registers.pointers();
-        let before = self.session.stats();
-        let mut step = self.session.step(self.modules, self.address, frame, &known.words);
-        let first = self.session.stats();
-        self.stats.add_difference(&before, &first);
-        loop {
-            match step {
-                Step::Answered(answer) => {
-                    let again = known.words.len() as u64;
-                    let hits = self.session.stats().hit_count - first.hit_count;
-                    habit.set_finds(if again == 0 { first.hit_count > before.hit_count } else { hits == again });
-                    habit.learn(pointers, &known.words);
-                    return answer;
-                }
-                Step::NeedsWord(at) => known.ask(at, read_stack)?,
-            };
-            step = self.session.step(self.modules, self.address, frame, &known.words);
+        let before = if habit.finds() { None } else { Some(self.session.stats()) };
+        self.known.words.clear();
+        let first = self.step(frame);
+        let answer = self.end(first, frame, read_stack);
+        if let Some(before) = before {
+            let after = self.session.stats();
+            let hits = after.hit_count - before.hit_count;
+            let again = self.known.words.len() as u64;
+            // A step that found no rule, and kept none, finds none again: for the same reason.
+            stats.add_look_up(&before, &after, hits > again);
+            habit.set_finds(hits > again || again > 0 && hits == again);
+        } else {
+            stats.hit_count += 1;
         }
+        habit.learn(pointers, &self.known.words);
+        answer
+    }
+
+    /// Goes on with a step that needs one more word than these.
+    #[cold]
+    fn from_some<F: FnMut(u64) -> Result<u64, ()>>(
+        mut self,
+        words: &[Word],
+        at: u64,
+        habit: &mut Habit,
+        frame: &mut Frame<R>,
+        read_stack: &mut F,
+    ) -> Result<Option<u64>, Error> {
+        habit.forget();
+        self.known.words.clear();
+        self.known.words.extend_from_slice(words);
+        self.end(Step::NeedsWord(at), frame, read_stack)
     }
 }

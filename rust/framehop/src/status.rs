@@ -14,8 +14,14 @@ impl Step {
     /// What a status says, with the return address or the address of a word that came with it.
     #[inline(always)]
     pub(crate) fn of(status: u32, caller: u64, word_address: u64) -> Step {
+        if status == 0 {
+            return Step::Answered(Ok(Some(caller)));
+        }
+        Step::without_caller(status, word_address)
+    }
+
+    fn without_caller(status: u32, word_address: u64) -> Step {
         Step::Answered(match status {
-            0 => Ok(Some(caller)),
             1 => Ok(None),
             2 => return Step::NeedsWord(word_address),
             16 => Err(Error::CouldNotReadStack(word_address)),
