@@ -19,6 +19,9 @@ pub record Shown : Type 0 where
 abbrev pub box_view : FlameBox → Shown
 box_view flame = record { depth = flame.depth; start = flame.start; width = flame.width; name = flame.name.now }
 
+abbrev pub boxes_seen : Vec FlameBox Global → List Shown
+boxes_seen boxes = map box_view boxes.items
+
 -- The samples of the stacks at the front that share more names with a stack than the depth says.
 abbrev pub run_of : ℕ → List (List ℕ) → List FoldedStack → ℕ
 run_of depth first [] = 0

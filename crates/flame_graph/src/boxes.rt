@@ -1,8 +1,8 @@
 //! The boxes of a flame graph.
 
-ghost use Rattle.std.specs.Prelude.{◌≡◌, ◌-◌, ◌<◌, ◌≤◌, ◌++◌, length, map, take, replicate, OnOk, IfOk};
+ghost use Rattle.std.specs.Prelude.{◌≡◌, ◌-◌, ◌<◌, ◌≤◌, ◌++◌, length, take, replicate, OnOk, IfOk};
 ghost use Rattle.flame_graph.specs.Stacks.{shared, texts};
-ghost use Rattle.flame_graph.specs.Boxes.{BoxesAre, box_view};
+ghost use Rattle.flame_graph.specs.Boxes.{BoxesAre, boxes_seen};
 ghost use Rattle.flame_graph.specs.Opened.{names_before, opened};
 
 use crate::error::FlameError;
@@ -44,7 +44,7 @@ fn open<'a>(
 ) -> Result<(), AllocError>
     requires ends { length ends.now ≡ length names.now }
     requires kept { kept ≤ length names.now }
-    ensures { OnOk result (map box_view boxes.new.items ≡ map box_view boxes.old.items ++ opened (texts names.now) ends.now start kept) }
+    ensures { OnOk result (boxes_seen boxes.new ≡ boxes_seen boxes.old ++ opened (texts names.now) ends.now start kept) }
 {
     for depth in (kept..names.len()).rev() {
         boxes.push(FlameBox {

@@ -8,7 +8,7 @@ use Rattle.dwarf_frame_rows.specs.FrameSection.{FrameSection}
 use Rattle.dwarf_frame_instructions.specs.declared.effects.Factors.{Factors}
 use Rattle.dwarf_frame_instructions.specs.Programs.{EntryProgram, Instructions, executed_by_cie}
 use Rattle.dwarf_frame_entries.specs.Entries.{Cie, Fde, cie_from_offset}
-use Rattle.dwarf_frame_entries.specs.EntryPrograms.{cie_instructions, factors_of}
+use Rattle.dwarf_frame_entries.specs.EntryPrograms.{cie_instructions, factors_of, fde_program}
 use Rattle.dwarf_frame_entries.specs.Kept.{EachKept}
 use Rattle.dwarf_frame_parts.specs.declared.left.LeftByCie.{LeftByCie}
 use Rattle.dwarf_frame_parts.specs.declared.simple_row.Columns.{Columns}
@@ -66,3 +66,7 @@ module _ (columns : Columns) where
 -- .. where these registers are kept
 abbrev pub Holds : (fp ra : Register) → Limits → FrameSection → Vendor → KnownRows → Type 0
 Holds fp ra limits section vendor known = HoldsBy (record { fp = fp; ra = ra }) limits section vendor known
+
+-- The same of the program of an FDE, by the columns of an architecture: of its frame pointer and its return address.
+abbrev pub FitsFde : (fp ra : Register) → Limits → FrameSection → Vendor → Fde → LeftByCie → Type 0
+FitsFde fp ra limits section vendor fde = HasRoomFor (record { fp = fp; ra = ra }) limits (fde_program section vendor fde)

@@ -63,6 +63,10 @@ AddsProgram rules span limits program = AddsOrBegins rules span (rows_of_program
 abbrev pub AddsOthers : {Rule : Type 0} → RowRules Rule → Span → RowList ℕ → Ranges (Covered Rule) → Ranges (Covered Rule) → Type 0
 AddsOthers {Rule} rules span all begun new = (old : Ranges (Covered Rule)) → Begins rules span all old begun → AddsRows rules span all old new
 
+-- .. those of a program
+abbrev pub AddsRest : {Rule : Type 0} → RowRules Rule → Span → Limits → EntryProgram ℕ → Ranges (Covered Rule) → Ranges (Covered Rule) → Type 0
+AddsRest rules span limits program = AddsOthers rules span (rows_of_program limits program)
+
 -- A row was added: what is said up to its end. If it ends before the old end, nothing is added for it.
 pub record AddsRow {Rule : Type 0} (old : Ranges (Covered Rule)) (end : ℕ) (covered : Covered Rule) (new : Ranges (Covered Rule)) : Type 0 where
   pub extends : Extends old end covered new

@@ -3,15 +3,14 @@
 ghost use Rattle.std.specs.Prelude.{◌≡◌, ◌≤◌, ◌^◌, IfOk, IfSome};
 ghost use Rattle.dwarf_endianity.specs.Answers.{Gives};
 ghost use Rattle.dwarf_frame_instructions.specs.ProgramRows.{program_of};
-ghost use Rattle.dwarf_frame_instructions.specs.Programs.{rows_of_program};
 ghost use Rattle.dwarf_frame_entries.specs.Entries.{fde_from_offset};
-ghost use Rattle.dwarf_frame_entries.specs.EntryPrograms.{fde_program, fde_rows};
+ghost use Rattle.dwarf_frame_entries.specs.EntryPrograms.{fde_rows};
 ghost use Rattle.dwarf_frame_entries.specs.SectionWithin.{fde_there};
 ghost use Rattle.framehop_index.specs.CfiIndexView.{IsIndexOf};
 ghost use Rattle.framehop_ranges.specs.Ranges.{Sound};
-ghost use Rattle.framehop_tables.specs.ByParts.{HasCieThere, HasRoomFor, Holds};
+ghost use Rattle.framehop_tables.specs.ByParts.{FitsFde, HasCieThere, HasRoomFor, Holds};
 ghost use Rattle.framehop_tables.specs.Covered.{row_rules, tabulated};
-ghost use Rattle.framehop_tables.specs.Tabulations.{AddsEntry, AddsOthers, AddsProgram, AddsRows, AreOf, CanAdd, end_of, start_at};
+ghost use Rattle.framehop_tables.specs.Tabulations.{AddsEntry, AddsProgram, AddsRest, AddsRows, AreOf, CanAdd, end_of, start_at};
 
 use crate::by_parts::{KnownRows, OwnRow, own_row};
 use crate::covered::Covered;
@@ -66,8 +65,8 @@ where
     A::UnwindRule: SameRule,
     requires fixed { S.never_allocates }
     requires span { CanAdd ranges.old span }
-    ensures { IfOk result (λ _. AddsOthers (row_rules A.rows A.rule_of) span
-        (rows_of_program S.limits (program_of program.entry)) ranges.old ranges.new) }
+    ensures { IfOk result (λ _. AddsRest (row_rules A.rows A.rule_of) span S.limits
+        (program_of program.entry) ranges.old ranges.new) }
 {
     match ProgramRows::new(context, program) {
         Ok(mut rows) => add_rows::<A, R, S>(ranges, &mut rows, span),
@@ -98,8 +97,8 @@ where
     A::UnwindRule: SameRule,
     requires fixed { S.never_allocates }
     requires span { CanAdd ranges.old span }
-    requires left { IfSome left (HasRoomFor (record { fp = A.fp; ra = A.ra }) S.limits
-        (fde_program (Section.frame section.now bases.now) (Section.extensions section.now) fde.now)) }
+    requires left { IfSome left (FitsFde A.fp A.ra S.limits
+        (Section.frame section.now bases.now) (Section.extensions section.now) fde.now) }
     ensures { let frame = Section.frame section.now bases.now in
         let rows = fde_rows S.limits frame (Section.extensions section.now) fde.now in
         IfOk result (λ _. AddsRows (row_rules A.rows A.rule_of) span rows ranges.old ranges.new) }
