@@ -1,3 +1,4 @@
 pub mod Calls
+pub mod FrameLaws
 pub mod MoveLaws
 pub mod StillCallback

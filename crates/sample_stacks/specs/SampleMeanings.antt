@@ -1,7 +1,8 @@
 -- What samples mean on each architecture: where their walks begin, and what steps go by.
-use Rattle.std.specs.Prelude.{ℕ, List, [], ◌∷◌, Option, None, option_map, unwrap_or}
+use Rattle.std.specs.Prelude.{ℕ, Bool, List, [], ◌∷◌, Option, None, option_map, unwrap_or}
 use Rattle.framehop.specs.StepMeanings.{limits_must_not_allocate, meanings_aarch64, meanings_x86_64}
 use Rattle.framehop.specs.UnwindData.{UnwindData}
+use Rattle.framehop_registers.specs.Callback.{Words}
 use Rattle.framehop_registers.specs.Registers.{new_registers, with_values}
 use Rattle.framehop_registers.specs.RegistersAarch64 as aarch64
 use Rattle.framehop_registers.specs.declared.aarch64.unwindregs.PtrAuthMask.{PtrAuthMask}
@@ -16,13 +17,17 @@ use Rattle.perf_files.specs.declared.registers.RegisterAbi.{RegisterAbi}
 use Rattle.perf_files.specs.declared.registers.RegisterAbi.TheVariants.{Bits32}
 use Rattle.perf_files.specs.declared.registers.SavedRegisters.{SavedRegisters}
 use Rattle.perf_files.specs.declared.registers.WalkStart.{WalkStart}
+use Rattle.sample_stacks.specs.Signals.{Interruption, has_context_aarch64, has_context_x86_64, interrupted_aarch64, interrupted_x86_64}
 use Rattle.sample_stacks.specs.declared.arch.SampleStart.{SampleStart}
 
--- What samples mean: what steps go by; where the walk of a sample begins by its registers; and the instruction pointer of code of 32 bits.
+-- What samples mean: what steps go by; where the walk of a sample begins by its registers; the instruction pointer of code of 32 bits;
+-- whether there may be what the kernel pushes for a signal, and where the signal interrupted the thread.
 pub record SampleMeanings (Rule Registers : Type 0) : Type 0 where
   pub steps : Meanings UnwindData Rule Registers
   pub start : SavedRegisters → Option (SampleStart Registers)
   pub pointer_of_32_bits : SavedRegisters → Option ℕ
+  pub has_context : Words → Registers → Bool
+  pub interrupted : Interruption Registers
 
 -- what is made of registers of code of 32 bits
 abbrev pub of_32_bits : RegisterAbi → Option ℕ → Option ℕ
@@ -70,6 +75,8 @@ samples_x86_64 = record {
   steps = meanings_x86_64 limits_must_not_allocate;
   start = λ saved. option_map (start_of_x86_64 saved) (start_x86_64 saved);
   pointer_of_32_bits = pointer_by 8;
+  has_context = has_context_x86_64;
+  interrupted = interrupted_x86_64;
 }
 
 -- ---- aarch64 (Linux, arch/arm64/include/uapi/asm/perf_regs.h)
@@ -97,4 +104,6 @@ samples_aarch64 = record {
   steps = meanings_aarch64 limits_must_not_allocate;
   start = λ saved. option_map (start_of_aarch64 saved) (start_aarch64 saved);
   pointer_of_32_bits = pointer_by 32;
+  has_context = has_context_aarch64;
+  interrupted = interrupted_aarch64;
 }

@@ -1,14 +1,17 @@
 -- What contracts see of walks.
-use Rattle.std.specs.Prelude.{◌≡◌, ℕ}
+use Rattle.std.specs.Prelude.{◌≡◌, ℕ, List, map}
+use Rattle.framehop_registers.specs.declared.code_address.FrameAddress.{FrameAddress}
 use Rattle.framehop_unwinder.specs.ByNumber.{marks}
 use Rattle.framehop_unwinder.specs.Frames.{frame_of}
 use Rattle.framehop_unwinder.specs.State.{SessionState}
 use Rattle.framehop_unwinder.specs.Walk.{Move, Walk}
 use Rattle.framehop_unwinder.specs.WalkViews.{walk_of}
 use Rattle.framehop_unwinder.specs.declared.iterator.StackWalk.{StackWalk}
+use Rattle.sample_stacks.specs.SampleFrames.{SampleFrames, behind}
 use Rattle.sample_stacks.specs.SampleWalks.{Ends, Next, Reaches, next_of}
 use Rattle.sample_stacks.specs.declared.walks.NextMove.{NextMove}
 use Rattle.sample_stacks.specs.declared.walks.NextMove.TheVariants as next
+use Rattle.sample_stacks.specs.declared.walks.WalkEnd.{WalkEnd}
 
 -- What a walk has next.
 abbrev pub next_seen : NextMove → Next
@@ -24,3 +27,11 @@ pub record IsMove {Registers : Type 0} (start : ℕ) (next : NextMove) (walk : S
 pub record KeepsModules {Data Rule : Type 0} (old new : SessionState Data Rule) : Type 0 where
   pub unwinders : new.unwinders ≡ old.unwinders
   pub caches : marks new.caches ≡ marks old.caches
+
+-- The frames at addresses, and how their walk ends.
+abbrev pub frames_seen : List FrameAddress → WalkEnd → SampleFrames
+frames_seen addresses end = record { frames = map frame_of addresses; end = end }
+
+-- A call adds these frames behind others, and returns how their walk ends.
+abbrev pub AddsFrames : List FrameAddress → List FrameAddress → SampleFrames → WalkEnd → Type 0
+AddsFrames old new found end = frames_seen new end ≡ behind (map frame_of old) found

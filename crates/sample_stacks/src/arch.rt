@@ -1,8 +1,13 @@
 //! Architectures, by the registers that samples have.
 
 ghost use Rattle.std.specs.Prelude.{◌≡◌, ◌<◌};
+ghost use Rattle.sample_stacks.specs.StackCopies.{copied_words};
 ghost use Rattle.sample_stacks.specs.SampleMeanings.{SampleMeanings, pointer_by, register_or_0, registers_aarch64, registers_x86_64, start_of_aarch64, start_of_x86_64, with_lettered, with_numbered};
 
+use crate::signals::{
+    has_context_aarch64, has_context_x86_64, interrupted_aarch64, interrupted_x86_64,
+};
+use crate::stack_copy::StackCopy;
 use framehop::{BySections, ModuleUnwinding, MustNotAllocateDuringUnwind, Unwinding};
 use framehop_registers::aarch64::{PtrAuthMask, UnwindRegsAarch64};
 use framehop_registers::x86_64::{Reg, UnwindRegsX86_64};
@@ -37,6 +42,19 @@ pub trait SampleArch: Unwinding {
     /// The instruction pointer of code of 32 bits: none if the registers are of other code, or have none.
     fn pointer_of_32_bits(registers: &SavedRegisters<'_>) -> Option<u64>
         ensures { result ≡ samples.pointer_of_32_bits registers.now };
+
+    /// Whether there may be, at the stack pointer, what the kernel pushes for a signal.
+    fn has_context(copy: &StackCopy<'_>, registers: &Self::UnwindRegs) -> bool
+        ensures { result ≡ samples.has_context (copied_words copy.now) registers.now };
+
+    /// Where a thread was that a signal interrupted, by the code of a frame from its address on, and by its registers: none if handlers
+    /// don't return to such code.
+    fn interrupted(
+        copy: &StackCopy<'_>,
+        code: &[u8],
+        registers: &Self::UnwindRegs,
+    ) -> Option<SampleStart<Self::UnwindRegs>>
+        ensures { result ≡ samples.interrupted (copied_words copy.now) code.now registers.now };
 
     /// Steps go by what the sections of files mean, and don't allocate.
     ghost steps_are: { samples.steps ≡ ⟦<SampleModules<'static, Self> as ModuleUnwinding>⟧.meanings };
@@ -140,6 +158,18 @@ impl SampleArch for ArchX86_64 {
         pointer_by(registers, 8)
     }
 
+    fn has_context(copy: &StackCopy<'_>, registers: &UnwindRegsX86_64) -> bool {
+        has_context_x86_64(copy, registers)
+    }
+
+    fn interrupted(
+        copy: &StackCopy<'_>,
+        code: &[u8],
+        registers: &UnwindRegsX86_64,
+    ) -> Option<SampleStart<UnwindRegsX86_64>> {
+        interrupted_x86_64(copy, code, registers)
+    }
+
     ghost steps_are = { refl };
 }
 
@@ -162,6 +192,18 @@ impl SampleArch for ArchAarch64 {
 
     fn pointer_of_32_bits(registers: &SavedRegisters<'_>) -> Option<u64> {
         pointer_by(registers, 32)
+    }
+
+    fn has_context(copy: &StackCopy<'_>, registers: &UnwindRegsAarch64) -> bool {
+        has_context_aarch64(copy, registers)
+    }
+
+    fn interrupted(
+        copy: &StackCopy<'_>,
+        code: &[u8],
+        registers: &UnwindRegsAarch64,
+    ) -> Option<SampleStart<UnwindRegsAarch64>> {
+        interrupted_aarch64(copy, code, registers)
     }
 
     ghost steps_are = { refl };

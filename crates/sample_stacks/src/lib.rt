@@ -2,11 +2,14 @@
 #![tactic(auto)]
 
 mod arch;
+mod frames;
 mod kernel;
+mod signals;
 mod stack_copy;
 mod walks;
 
 pub use arch::{SampleArch, SampleModules, SampleStart};
+pub use frames::{MOST_FRAMES, push_frames};
 pub use kernel::push_kernel_frames;
 pub use stack_copy::StackCopy;
 pub use walks::{NextMove, WalkEnd, next_move};
