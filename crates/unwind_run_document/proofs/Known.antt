@@ -25,7 +25,7 @@ use Rattle.unwind_run_document.specs.Sections.{sections_in, segments_in}
 use Rattle.unwind_run_document.specs.Sound.{IsSoundTask, IsSoundStep, IsSoundWalk, AreSoundRoads, AreSound}
 use Rattle.unwind_run_document.specs.Stacks.{words_in, stack_names, stack_at, stack_in}
 use Rattle.unwind_run_document.specs.Steps.{stepping_of, walking_of, limit_value, step_names, walk_names, step_in, walk_in}
-use Rattle.unwind_run_document.specs.Tasks.{Task, make_unwinder, make_cache, clone_unwinder, remove_unwinder, remove_cache, load_module, unload_module, take_step, take_walk, show_counts, take_roads, Stepping, Walking, Loading, Unloading, RoadSteps, StackWords}
+use Rattle.unwind_run_document.specs.Tasks.{Task, make_unwinder, make_cache, clone_unwinder, remove_unwinder, remove_cache, load_module, unload_module, take_step, take_walk, show_counts, show_occupancy, take_roads, Stepping, Walking, Loading, Unloading, RoadSteps, StackWords}
 use Rattle.json_program.specs.Faults.{in_unit}
 use Rattle.unwind_run_document.specs.Document.{with_task, commands_from}
 
@@ -256,6 +256,9 @@ task_sound machine made d verb.Walk task is =
 task_sound machine made d verb.Stats task is =
     let l = last_ok (Ok show_counts) (one_number made.caches (codes "cache") d) task is in
     subst (IsSoundTask made) (sym (l.4 ∙ ap (λ g. g l.1) (sym (ok_is show_counts l.0 l.2)))) (one_sound made.caches (codes "cache") d l.1 l.3)
+task_sound machine made d verb.Occupancy task is =
+    let l = last_ok (Ok show_occupancy) (one_number made.caches (codes "cache") d) task is in
+    subst (IsSoundTask made) (sym (l.4 ∙ ap (λ g. g l.1) (sym (ok_is show_occupancy l.0 l.2)))) (one_sound made.caches (codes "cache") d l.1 l.3)
 task_sound machine made d verb.Roads task is =
     let l = last_ok (Ok take_roads) (roads_in machine d) task is in
     subst (IsSoundTask made) (sym (l.4 ∙ ap (λ g. g l.1) (sym (ok_is take_roads l.0 l.2)))) (roads_sound machine d l.1 l.3)

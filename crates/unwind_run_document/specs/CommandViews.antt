@@ -14,7 +14,7 @@ use Rattle.unwind_run_document.specs.declared.document.Document.{Document}
 use Rattle.unwind_run_document.specs.declared.made.Made as memory
 use Rattle.unwind_run_document.specs.Document.{Content}
 use Rattle.unwind_run_document.specs.Made.{Made}
-use Rattle.unwind_run_document.specs.Tasks.{StatedSection, Loading, Unloading, StackWords, Stepping, Walking, TableData, RoadSteps, Task, make_unwinder, make_cache, clone_unwinder, remove_unwinder, remove_cache, load_module, unload_module, take_step, take_walk, show_counts, take_roads}
+use Rattle.unwind_run_document.specs.Tasks.{StatedSection, Loading, Unloading, StackWords, Stepping, Walking, TableData, RoadSteps, Task, make_unwinder, make_cache, clone_unwinder, remove_unwinder, remove_cache, load_module, unload_module, take_step, take_walk, show_counts, show_occupancy, take_roads}
 
 -- a section
 abbrev pub section_view : Section → StatedSection
@@ -100,6 +100,7 @@ task_of (commands.Unload u) = unload_module (unload_view u)
 task_of (commands.Step s) = take_step (step_view s)
 task_of (commands.Walk w) = take_walk (walk_view w)
 task_of (commands.Stats c) = show_counts c
+task_of (commands.Occupancy c) = show_occupancy c
 task_of (commands.Roads r) = take_roads (roads_view r)
 
 -- commands

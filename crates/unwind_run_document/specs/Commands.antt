@@ -12,7 +12,7 @@ use Rattle.unwind_run_document.specs.declared.command.Verb.{Verb}
 use Rattle.unwind_run_document.specs.declared.command.Verb.TheVariants as verb
 use Rattle.json_program.specs.Faults.{Checked, ◌⊛◌, ◌>>=◌}
 use Rattle.json_program.specs.Json.{number_value, text_value, field, has_only}
-use Rattle.unwind_run_document.specs.Tasks.{Task, make_unwinder, make_cache, clone_unwinder, remove_unwinder, remove_cache, load_module, unload_module, take_step, take_walk, show_counts, take_roads}
+use Rattle.unwind_run_document.specs.Tasks.{Task, make_unwinder, make_cache, clone_unwinder, remove_unwinder, remove_cache, load_module, unload_module, take_step, take_walk, show_counts, show_occupancy, take_roads}
 use Rattle.unwind_run_document.specs.Made.{Made, one_number}
 use Rattle.unwind_run_document.specs.Steps.{step_in, walk_in}
 use Rattle.unwind_run_document.specs.Lookups.{roads_in}
@@ -31,6 +31,7 @@ verb_of text =
     else if bytes_eq text (codes "step") then Some verb.Step
     else if bytes_eq text (codes "walk") then Some verb.Walk
     else if bytes_eq text (codes "stats") then Some verb.Stats
+    else if bytes_eq text (codes "occupancy") then Some verb.Occupancy
     else if bytes_eq text (codes "roads") then Some verb.Roads
     else None
 
@@ -68,6 +69,7 @@ task_in machine made d verb.Unload = Ok unload_module ⊛ unload_in made d
 task_in machine made d verb.Step = Ok take_step ⊛ step_in machine made d
 task_in machine made d verb.Walk = Ok take_walk ⊛ walk_in machine made d
 task_in machine made d verb.Stats = Ok show_counts ⊛ one_number made.caches (codes "cache") d
+task_in machine made d verb.Occupancy = Ok show_occupancy ⊛ one_number made.caches (codes "cache") d
 task_in machine made d verb.Roads = Ok take_roads ⊛ roads_in machine d
 
 -- a command without floats

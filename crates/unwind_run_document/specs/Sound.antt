@@ -1,7 +1,7 @@
 -- What holds of the commands of a decoded document: each names what was made before it.
 use Rattle.std.specs.Prelude.{◌≡◌, ◌≢◌, ◌<◌, ◌+◌, ◌-◌, ◌*◌, ◌^◌, List, [], ◌∷◌, length}
 use Rattle.unwind_run_document.specs.declared.command.FrameKind.TheVariants.{Ra}
-use Rattle.unwind_run_document.specs.Tasks.{Stepping, Walking, RoadSteps, Task, make_unwinder, make_cache, clone_unwinder, remove_unwinder, remove_cache, load_module, unload_module, take_step, take_walk, show_counts, take_roads}
+use Rattle.unwind_run_document.specs.Tasks.{Stepping, Walking, RoadSteps, Task, make_unwinder, make_cache, clone_unwinder, remove_unwinder, remove_cache, load_module, unload_module, take_step, take_walk, show_counts, show_occupancy, take_roads}
 use Rattle.unwind_run_document.specs.Made.{Made, made_after}
 
 -- what a step names was made before it, no return address is 0, and the last word of the stack has an address
@@ -34,6 +34,7 @@ IsSoundTask made (unload_module unload) = unload.unwinder < made.unwinders
 IsSoundTask made (take_step step) = IsSoundStep made step
 IsSoundTask made (take_walk walk) = IsSoundWalk made walk
 IsSoundTask made (show_counts cache) = cache < made.caches
+IsSoundTask made (show_occupancy cache) = cache < made.caches
 IsSoundTask made (take_roads roads) = AreSoundRoads roads
 
 -- each of the commands, one after the other

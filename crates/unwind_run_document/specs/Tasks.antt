@@ -81,4 +81,5 @@ pub data Task : Type 0 where
   take_step : Stepping → Task
   take_walk : Walking → Task
   show_counts : ℕ → Task
+  show_occupancy : ℕ → Task
   take_roads : RoadSteps → Task

@@ -47,6 +47,8 @@ pub enum Command {
     Walk(WalkCommand),
     /// Shows the counts of the cache of this number.
     Stats(usize),
+    /// Shows how many slots the cache of this number has, and how many rules it keeps.
+    Occupancy(usize),
     /// Makes one step by each lookup, over a module of its own.
     Roads(RoadsCommand),
 }
@@ -199,6 +201,7 @@ pub(crate) enum Verb {
     Step,
     Walk,
     Stats,
+    Occupancy,
     Roads,
 }
 
@@ -217,6 +220,7 @@ fn verb_field(object: &Value) -> Checked<Verb>
         "step" => Ok(Verb::Step),
         "walk" => Ok(Verb::Walk),
         "stats" => Ok(Verb::Stats),
+        "occupancy" => Ok(Verb::Occupancy),
         "roads" => Ok(Verb::Roads),
         _ => Err(FaultName::BadCommand),
     }
@@ -279,6 +283,7 @@ fn task_in(
         Verb::Step => Ok(Command::Step(step_in(alloc, arch, object, made)?)),
         Verb::Walk => Ok(Command::Walk(walk_in(alloc, arch, object, made)?)),
         Verb::Stats => Ok(Command::Stats(one_number(object, "cache", made.caches)?)),
+        Verb::Occupancy => Ok(Command::Occupancy(one_number(object, "cache", made.caches)?)),
         Verb::Roads => Ok(Command::Roads(roads_in(alloc, arch, object)?)),
     }
 }

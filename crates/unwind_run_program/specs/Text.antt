@@ -25,13 +25,13 @@ use Rattle.unwind_run_document.specs.declared.document.Architecture.TheVariants 
 use Rattle.unwind_run_document.specs.declared.document.Policy.{Policy}
 use Rattle.unwind_run_document.specs.declared.document.Policy.TheVariants.{May, Must}
 use Rattle.unwind_run_document.specs.declared.registers.StatedRegisters.{StatedRegisters}
-use Rattle.unwind_run_document.specs.Tasks.{StackWords, Loading, RoadSteps, Task, make_unwinder, make_cache, clone_unwinder, remove_unwinder, remove_cache, load_module, unload_module, take_step, take_walk, show_counts, take_roads}
+use Rattle.unwind_run_document.specs.Tasks.{StackWords, Loading, RoadSteps, Task, make_unwinder, make_cache, clone_unwinder, remove_unwinder, remove_cache, load_module, unload_module, take_step, take_walk, show_counts, show_occupancy, take_roads}
 use Rattle.unwind_run_document.specs.Document.{Content, content_of}
 use Rattle.unwind_run_program.specs.Lines.{outcome_line, step_line}
 use Rattle.unwind_run_program.specs.Registers.{RegisterForms, forms_aarch64, forms_x86_64}
 use Rattle.unwind_run_program.specs.Roads.{stated_section, stated_header, module_at}
 use Rattle.framehop_unwinder.specs.Progress.{SessionModel}
-use Rattle.unwind_run_session.specs.Outputs.{CommandOutput, beginning, writes, output_of_act, output_of_stats, output_of_walk}
+use Rattle.unwind_run_session.specs.Outputs.{CommandOutput, beginning, writes, output_of_act, output_of_occupancy, output_of_stats, output_of_walk}
 
 -- the words of a stack: one at each eighth byte from its start, as far as they go
 abbrev pub words_of : StackWords → Words
@@ -98,6 +98,7 @@ output_of m forms data_of model (take_step s) =
 output_of m forms data_of model (take_walk w) =
     output_of_walk m (words_of w.stack) w.limit w.unwinder w.cache w.pc (forms.stated w.registers) model
 output_of m forms data_of model (show_counts cache) = output_of_stats cache model
+output_of m forms data_of model (show_occupancy cache) = output_of_occupancy cache model
 output_of m forms data_of model (take_roads r) = writes (road_lines m forms data_of r) model
 
 -- what commands write, one after another, up to one that is refused

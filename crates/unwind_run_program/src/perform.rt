@@ -76,6 +76,7 @@ pub(crate) fn perform<A: DocumentModules>(
         Command::Step(step) => take_step(session, alloc, &step),
         Command::Walk(walk) => take_walk(session, alloc, &walk),
         Command::Stats(cache) => commands::stats(session, alloc, cache),
+        Command::Occupancy(cache) => commands::occupancy(session, alloc, cache),
         Command::Roads(roads) => take_roads(session, alloc, &roads),
     }
 }

@@ -17,8 +17,7 @@ use Rattle.framehop_histories.specs.Performs.{IsIn, IsObeyed, StaysUnlessDone}
 use Rattle.framehop_histories.specs.StateAfter.{state_after}
 use Rattle.framehop_histories.specs.declared.commands.Answer.{Answer}
 use Rattle.framehop_histories.specs.declared.commands.Answer.TheVariants as answers
-use Rattle.unwind_run_session.specs.Lines.{counts_text}
-use Rattle.unwind_run_session.specs.Outputs.{CommandOutput, IsOutput, counts_lines, unknown_line, IsUndone, IsWrittenFor, OutputsAct, is_refusal, next_state, text_for, without_walks}
+use Rattle.unwind_run_session.specs.Outputs.{CommandOutput, IsOutput, cache_line, unknown_line, IsUndone, IsWrittenFor, OutputsAct, is_refusal, next_state, text_for, without_walks}
 use Rattle.unwind_run_session.specs.declared.commands.Written.{Written}
 
 -- a history is there as its cache is
@@ -36,29 +35,29 @@ histories_marks {Rule} (history ∷ histories) (cache ∷ caches) h =
     ap (λ (m : Option (Unit {0})). m ∷ marks caches) (mark-of history cache h.0)
     ∙ ap (λ (ms : List (Option (Unit {0}))). option_map mark history ∷ ms) (histories_marks histories caches h.1)
 
--- the counts of a cache that is there, and of one that isn't
-counts-of : {Rule : Type 0} (history : Option KeyHistory) (cache : Option (Kept Rule)) → HasHistoryIfHeld history cache → is_some cache ≡ true → counts_lines history ≡ line (counts_text (unwrap_or history (no_history 509)).counts)
-counts-of history None h there = absurd (let no : false ≡ true = there in cc)
-counts-of None (Some cache) h there = absurd h
-counts-of (Some history) (Some cache) h there = refl
+-- a line about a cache that is there, and about one that isn't
+line-of : {Rule : Type 0} (text : KeyHistory → List ℕ) (history : Option KeyHistory) (cache : Option (Kept Rule)) → HasHistoryIfHeld history cache → is_some cache ≡ true → cache_line text history ≡ line (text (unwrap_or history (no_history 509)))
+line-of text history None h there = absurd (let no : false ≡ true = there in cc)
+line-of text None (Some cache) h there = absurd h
+line-of text (Some history) (Some cache) h there = refl
 
-pub counts-there : {Rule : Type 0} (histories : List (Option KeyHistory)) (caches : List (Option (Kept Rule))) (i : ℕ) → HaveHistories histories caches → is_held caches i ≡ true
-    → counts_lines (held histories i) ≡ line (counts_text (history_at histories i).counts)
-counts-there histories [] i h there = absurd (let no : false ≡ true = there in cc)
-counts-there [] (cache ∷ caches) i h there = absurd h
-counts-there (history ∷ histories) (cache ∷ caches) zero h there = counts-of history cache h.0 there
-counts-there (history ∷ histories) (cache ∷ caches) (suc i) h there = counts-there histories caches i h.1 there
+pub line-there : {Rule : Type 0} (text : KeyHistory → List ℕ) (histories : List (Option KeyHistory)) (caches : List (Option (Kept Rule))) (i : ℕ) → HaveHistories histories caches → is_held caches i ≡ true
+    → cache_line text (held histories i) ≡ line (text (history_at histories i))
+line-there text histories [] i h there = absurd (let no : false ≡ true = there in cc)
+line-there text [] (cache ∷ caches) i h there = absurd h
+line-there text (history ∷ histories) (cache ∷ caches) zero h there = line-of text history cache h.0 there
+line-there text (history ∷ histories) (cache ∷ caches) (suc i) h there = line-there text histories caches i h.1 there
 
-no-counts-of : {Rule : Type 0} (history : Option KeyHistory) (cache : Option (Kept Rule)) → HasHistoryIfHeld history cache → is_some cache ≡ false → counts_lines history ≡ unknown_line
-no-counts-of None cache h gone = refl
-no-counts-of (Some history) None h gone = absurd h
-no-counts-of (Some history) (Some cache) h gone = absurd (let no : true ≡ false = gone in cc)
+no-line-of : {Rule : Type 0} (text : KeyHistory → List ℕ) (history : Option KeyHistory) (cache : Option (Kept Rule)) → HasHistoryIfHeld history cache → is_some cache ≡ false → cache_line text history ≡ unknown_line
+no-line-of text None cache h gone = refl
+no-line-of text (Some history) None h gone = absurd h
+no-line-of text (Some history) (Some cache) h gone = absurd (let no : true ≡ false = gone in cc)
 
-pub counts-gone : {Rule : Type 0} (histories : List (Option KeyHistory)) (caches : List (Option (Kept Rule))) (i : ℕ) → HaveHistories histories caches → is_held caches i ≡ false → counts_lines (held histories i) ≡ unknown_line
-counts-gone [] caches i h gone = refl
-counts-gone (history ∷ histories) [] i h gone = absurd h
-counts-gone (history ∷ histories) (cache ∷ caches) zero h gone = no-counts-of history cache h.0 gone
-counts-gone (history ∷ histories) (cache ∷ caches) (suc i) h gone = counts-gone histories caches i h.1 gone
+pub line-gone : {Rule : Type 0} (text : KeyHistory → List ℕ) (histories : List (Option KeyHistory)) (caches : List (Option (Kept Rule))) (i : ℕ) → HaveHistories histories caches → is_held caches i ≡ false → cache_line text (held histories i) ≡ unknown_line
+line-gone text [] caches i h gone = refl
+line-gone text (history ∷ histories) [] i h gone = absurd h
+line-gone text (history ∷ histories) (cache ∷ caches) zero h gone = no-line-of text history cache h.0 gone
+line-gone text (history ∷ histories) (cache ∷ caches) (suc i) h gone = line-gone text histories caches i h.1 gone
 
 -- the line of a command that names what was let go is written, and nothing is changed
 pub unknown-output : {D R E : Type 0} (result : Result Written E) (output : CommandOutput D) (session : SessionState D R)

@@ -3,6 +3,7 @@ use Rattle.std.specs.Prelude.{ℕ, List, ◌++◌, codes, decimal, if◌then◌e
 use Rattle.json_program.specs.Lines.{hexadecimal}
 use Rattle.framehop_registers.specs.declared.error.Error.{Error}
 use Rattle.framehop_registers.specs.declared.error.Error.TheVariants.{CouldNotReadStack, FramepointerUnwindingMovedBackwards, DidNotAdvance, IntegerOverflow, ReturnAddressIsNull, OutOfMemory}
+use Rattle.framehop_rules.specs.declared.rule_cache.CacheOccupancy.{CacheOccupancy}
 use Rattle.framehop_rules.specs.declared.rule_cache.CacheStats.{CacheStats}
 use Rattle.framehop_unwinder.specs.Frames.{Frame}
 
@@ -25,3 +26,7 @@ counts_text counts =
     codes "stats hits " ++ decimal counts.hit_count ++ codes " empty " ++ decimal counts.miss_empty_slot_count
     ++ codes " modules " ++ decimal counts.miss_wrong_modules_count
     ++ codes " addresses " ++ decimal counts.miss_wrong_address_count
+
+-- how many slots a cache has, and in how many of them a rule is kept
+abbrev pub occupancy_text : CacheOccupancy → List ℕ
+occupancy_text occupancy = codes "occupancy slots " ++ decimal occupancy.slot_count ++ codes " rules " ++ decimal occupancy.rule_count

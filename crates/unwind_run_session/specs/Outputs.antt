@@ -7,13 +7,13 @@ use Rattle.framehop_registers.specs.declared.error.Error.{Error}
 use Rattle.framehop_unwinder.specs.Attempt.{Meanings}
 use Rattle.framehop_unwinder.specs.ByNumber.{held}
 use Rattle.framehop_unwinder.specs.Frames.{Frame}
-use Rattle.framehop_unwinder.specs.History.{KeyHistory}
+use Rattle.framehop_unwinder.specs.History.{KeyHistory, occupancy_after}
 use Rattle.framehop_unwinder.specs.Progress.{IsAt, SessionModel}
 use Rattle.framehop_unwinder.specs.State.{SessionState}
 use Rattle.framehop_histories.specs.Commands.{Act, NewWalk, NextFrame, CommandState, Reply, Added, Removed, Unknown, Exhausted, Stepped, Moved, reply_to}
 use Rattle.framehop_histories.specs.StateAfter.{state_after}
 use Rattle.unwind_run_session.specs.declared.commands.Written.{Written}
-use Rattle.unwind_run_session.specs.Lines.{counts_text, error_name, frame_text}
+use Rattle.unwind_run_session.specs.Lines.{counts_text, error_name, frame_text, occupancy_text}
 
 -- the model of a new session, whose counter gives this number first
 abbrev pub beginning : {Data : Type 0} → ℕ → SessionModel Data
@@ -75,14 +75,22 @@ output_of_act m step_line act model = record {
   model = (next_state m act (without_walks model)).model;
 }
 
--- the line of the counts of a cache, or that it was let go
-abbrev pub counts_lines : Option KeyHistory → List ℕ
-counts_lines None = unknown_line
-counts_lines (Some history) = line (counts_text history.counts)
+-- a line about a cache, by its history, or that it was let go
+abbrev pub cache_line : (KeyHistory → List ℕ) → Option KeyHistory → List ℕ
+cache_line text None = unknown_line
+cache_line text (Some history) = line (text history)
+
+-- a line about a cache
+abbrev pub output_about : {Data : Type 0} → (KeyHistory → List ℕ) → ℕ → SessionModel Data → CommandOutput Data
+output_about text cache model = writes (cache_line text (held model.histories cache)) model
 
 -- the counts of a cache
 abbrev pub output_of_stats : {Data : Type 0} → ℕ → SessionModel Data → CommandOutput Data
-output_of_stats cache model = writes (counts_lines (held model.histories cache)) model
+output_of_stats cache model = output_about (λ history. counts_text history.counts) cache model
+
+-- how many slots a cache has, and how many rules it keeps
+abbrev pub output_of_occupancy : {Data : Type 0} → ℕ → SessionModel Data → CommandOutput Data
+output_of_occupancy cache model = output_about (λ history. occupancy_text (occupancy_after history)) cache model
 
 -- whether a reply is a frame of a walk
 abbrev pub gives_frame : {Registers : Type 0} → Reply Registers → Bool

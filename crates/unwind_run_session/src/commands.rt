@@ -6,9 +6,9 @@ ghost use Rattle.framehop_registers.specs.Callback.{Words, AnswersBy};
 ghost use Rattle.framehop_histories.specs.CommandViews.{reply_of};
 ghost use Rattle.framehop_histories.specs.Commands.{NewUnwinder, NewCache, Clone, Load, RemoveCache, RemoveUnwinder, Unload};
 ghost use Rattle.framehop_histories.specs.Performs.{LoadsStay};
-ghost use Rattle.unwind_run_session.specs.Outputs.{IsAppendedFor, IsUndone, IsWrittenFor, Outputs, OutputsAct, output_of_stats, output_of_walk};
+ghost use Rattle.unwind_run_session.specs.Outputs.{IsAppendedFor, IsUndone, IsWrittenFor, Outputs, OutputsAct, output_of_occupancy, output_of_stats, output_of_walk};
 
-use crate::lines::{counts_line, frame_line, stop_line};
+use crate::lines::{counts_line, frame_line, occupancy_line, stop_line};
 use framehop_histories as histories;
 use framehop_histories::Answer;
 use framehop_rules::SlotCount;
@@ -189,6 +189,22 @@ pub fn stats<A: ModuleUnwinding>(
         return Written::unknown(alloc);
     };
     let line = counts_line(alloc, counts)?;
+    Ok(Written::lines(line))
+}
+
+/// Shows how many slots a cache has, and how many rules it keeps, or that it was let go.
+pub fn occupancy<A: ModuleUnwinding>(
+    session: &mut Session<A>,
+    alloc: Global,
+    cache: usize,
+) -> Result<Written, AllocError>
+    ensures output { Outputs (output_of_occupancy cache) session.old session.new result }
+    ensures same { session.new ≡ session.old }
+{
+    let Ok(occupancy) = session.occupancy(CacheId::numbered(cache)) else {
+        return Written::unknown(alloc);
+    };
+    let line = occupancy_line(alloc, occupancy)?;
     Ok(Written::lines(line))
 }
 

@@ -8,7 +8,7 @@ mod lines;
 
 pub use alone::step_alone;
 pub use commands::{
-    LimitedWalk, Written, add_cache, add_unwinder, clone_unwinder, load, remove_cache,
+    LimitedWalk, Written, add_cache, add_unwinder, clone_unwinder, load, occupancy, remove_cache,
     remove_unwinder, stats, unload, walk,
 };
 pub use lines::ErrorName;

@@ -4,9 +4,9 @@ ghost use Rattle.std.specs.Prelude.{◌≡◌, ◌≢◌, ◌++◌, Some, IfOk, 
 ghost use Rattle.json_program.specs.Lines.{line};
 ghost use Rattle.framehop_registers.specs.declared.error.Error.TheVariants.{OutOfMemory};
 ghost use Rattle.framehop_unwinder.specs.Frames.{frame_of};
-ghost use Rattle.unwind_run_session.specs.Lines.{counts_text, error_name, frame_text};
+ghost use Rattle.unwind_run_session.specs.Lines.{counts_text, error_name, frame_text, occupancy_text};
 
-use framehop_rules::{CacheStats, Error, FrameAddress};
+use framehop_rules::{CacheOccupancy, CacheStats, Error, FrameAddress};
 use std::alloc::{AllocError, Global};
 use std::fmt;
 
@@ -89,4 +89,28 @@ pub(crate) fn counts_line(alloc: Global, counts: CacheStats) -> Result<String, A
     ensures { IfOk result (λ text. string_bytes text ≡ line (counts_text counts)) }
 {
     format!(in alloc; "{}\n", CountsText(counts))
+}
+
+/// Shows how many slots a cache has, and how many rules it keeps.
+#[derive(Clone, Copy)]
+struct OccupancyText(CacheOccupancy);
+
+impl fmt::Display for OccupancyText {
+    ghost output = { λ occupancy. Some (occupancy_text occupancy.0) };
+
+    fn fmt<W: fmt::Write>(&self, f: &mut fmt::Formatter<W>) -> fmt::Result {
+        let occupancy = self.0;
+        write!(f, "occupancy slots {} ", occupancy.slot_count)?;
+        write!(f, "rules {}", occupancy.rule_count)
+    }
+}
+
+/// The line of the slots and the rules of a cache.
+pub(crate) fn occupancy_line(
+    alloc: Global,
+    occupancy: CacheOccupancy,
+) -> Result<String, AllocError>
+    ensures { IfOk result (λ text. string_bytes text ≡ line (occupancy_text occupancy)) }
+{
+    format!(in alloc; "{}\n", OccupancyText(occupancy))
 }
