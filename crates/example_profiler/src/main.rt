@@ -1,7 +1,8 @@
 //! A sampling profiler of two processes: the modules of each are loaded once, and each sample's stack is walked through one
 //! cache, with the registers and the stack of a thread that was stopped.
 //!
-//! It prints the code addresses of samples of both processes, a frame a line, and how many look-ups of the cache found a rule.
+//! It prints the code addresses of samples of both processes, a frame a line, with `..` after those of a stack that is cut off, and how
+//! many look-ups of the cache found a rule.
 #![tactic(auto)]
 
 mod process;

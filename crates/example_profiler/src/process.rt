@@ -1,4 +1,4 @@
-//! What a profiler knows of a process: a library, the stack of a thread, and the registers of two samples of it.
+//! What a profiler knows of a process: a library, stacks of a thread, and the registers of three samples of it.
 
 ghost use Rattle.std.specs.Prelude.{◌≡◌};
 ghost use Rattle.framehop_registers.specs.Callback.{read_answer};
@@ -40,8 +40,15 @@ const STACK: [u64; 16] = [
     0x0,
 ];
 
-/// A function of sixteen bytes at 0x101000: before it stores the caller's frame pointer, and after.
-pub static SAMPLES: [Sample; 2] = [
+/// The same, but that the second frame's caller has its frame pointer beyond what was copied of the stack.
+const CUT_OFF: [u64; 16] = [
+    0x1, 0x2, 0x100300, 0x20, 0x40, 0x100200, 0x5, 0x6, 0x100, 0x100100, 0x7, 0x8, 0x9, 0xa, 0x0,
+    0x0,
+];
+
+/// A function of sixteen bytes at 0x101000: before it stores the caller's frame pointer, and after, over a whole stack and over
+/// one that is cut off.
+pub static SAMPLES: [Sample; 3] = [
     Sample {
         ip: 0x101000,
         sp: 0x10,
@@ -53,6 +60,12 @@ pub static SAMPLES: [Sample; 2] = [
         sp: 0x18,
         bp: 0x20,
         stack: STACK,
+    },
+    Sample {
+        ip: 0x101004,
+        sp: 0x18,
+        bp: 0x20,
+        stack: CUT_OFF,
     },
 ];
 
