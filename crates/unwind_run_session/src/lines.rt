@@ -106,10 +106,7 @@ impl fmt::Display for OccupancyText {
 }
 
 /// The line of the slots and the rules of a cache.
-pub(crate) fn occupancy_line(
-    alloc: Global,
-    occupancy: CacheOccupancy,
-) -> Result<String, AllocError>
+pub(crate) fn occupancy_line(alloc: Global, occupancy: CacheOccupancy) -> Result<String, AllocError>
     ensures { IfOk result (λ text. string_bytes text ≡ line (occupancy_text occupancy)) }
 {
     format!(in alloc; "{}\n", OccupancyText(occupancy))
