@@ -19,6 +19,7 @@ pub record Shown : Type 0 where
 abbrev pub box_view : FlameBox → Shown
 box_view flame = record { depth = flame.depth; start = flame.start; width = flame.width; name = flame.name.now }
 
+-- the boxes of a list
 abbrev pub boxes_seen : Vec FlameBox Global → List Shown
 boxes_seen boxes = map box_view boxes.items
 
