@@ -11,7 +11,8 @@ from lib.tools import TOP, give_up
 ARCHS = {"x86_64": "ArchX86_64", "aarch64": "ArchAarch64"}
 # Of each kind: the function that is called, the way in which modules are made, and the architectures if it is of each.
 KINDS = {"walks": ("run", "Plain", ARCHS), "tables": ("run", "Tabulated", ARCHS), "compact_steps": ("run_compact", None, ARCHS),
-         "pe": ("run_pe", None, None), "frames": ("run_frames", None, None)}
+         "caches": ("run_caches", None, {"x86_64": ARCHS["x86_64"]}), "pe": ("run_pe", None, None),
+         "frames": ("run_frames", None, None)}
 NAMES = [f"bench_{kind}{arch}" for kind, (*_, archs) in KINDS.items() for arch in ([f"_{arch}" for arch in archs] if archs else [""])]
 BUILT = TOP / "crates/bench_walks/out"
 

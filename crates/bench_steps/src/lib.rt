@@ -1,10 +1,12 @@
-//! Times the making of a module, with its index, by a header in its place or with a table of rules, and walks through its code; steps by
-//! compact unwind info and by Windows' unwind data; and the entries and rows of a section, for comparing them with another program's.
+//! Times the making of a module, with its index, by a header in its place or with a table of rules, and walks through its code, also
+//! through caches of other sizes; steps by compact unwind info and by Windows' unwind data; and the entries and rows of a section, for
+//! comparing them with another program's.
 //! `bench/programs` builds a program of its own for each architecture, as a profiler's is: with both in one, compilers share functions
 //! between them, and steps are slower; and for each way in which modules are made, and each loop of steps.
 #![tactic(auto)]
 
 mod arch;
+mod caches;
 mod compact;
 mod frames;
 mod modules;
@@ -14,6 +16,7 @@ mod work;
 
 use anyhow::Result;
 pub use arch::TimedArch;
+pub use caches::{print_caches, run_caches};
 pub use compact::{print_compact, run_compact};
 pub use frames::{print_frames_of, run_frames};
 use modules::parts_of;

@@ -42,7 +42,7 @@ fn load<U: Unwinder<Module = Module<Vec<u8>>>>(
 }
 
 /// An unwinder with the module that is timed.
-fn unwinder_of<A: TimedArch, M: Making>(alloc: Global, work: &Work) -> Result<TimedUnwinder<A>> {
+pub fn unwinder_of<A: TimedArch, M: Making>(alloc: Global, work: &Work) -> Result<TimedUnwinder<A>> {
     unwinder_with(
         alloc,
         M::module_of::<A>(alloc, work, parts_of(alloc, work)?)?,
@@ -85,7 +85,7 @@ fn frames_of<U: Unwinder>(
 }
 
 /// How many frames all walks give through one cache.
-fn frames_of_each<A: TimedArch, U: Unwinder<UnwindRegs = A::UnwindRegs>>(
+pub fn frames_of_each<A: TimedArch, U: Unwinder<UnwindRegs = A::UnwindRegs>>(
     unwinder: &U,
     cache: &mut U::Cache,
     walks: &[Walk],
