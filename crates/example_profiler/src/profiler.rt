@@ -1,11 +1,11 @@
 //! A profiler of processes, with one cache for all.
 
-ghost use Rattle.std.specs.Prelude.{◌≡◌, Some, IfOk, OnErr, OnOk};
+ghost use Rattle.std.specs.Prelude.{◌≡◌, false, Some, IfOk, OnErr, OnOk};
 ghost use Rattle.framehop_registers.specs.Callback.{read_answer};
 ghost use Rattle.framehop_unwinder.specs.IdViews.{cache_number};
 ghost use Rattle.framehop_unwinder.specs.State.{cache_at};
 ghost use Rattle.example_profiler.specs.Processes.{Ends, FollowsNone, KeepsAll, Starts};
-ghost use Rattle.example_profiler.specs.Stacks.{frames_of, frames_seen, words_of};
+ghost use Rattle.example_profiler.specs.Stacks.{frames_of, frames_seen, no_frames, words_of};
 
 use crate::process::Sample;
 use anyhow::{Result, bail};
@@ -28,6 +28,18 @@ pub struct Profiler<A: ModuleUnwinding> {
 pub struct Frames {
     pub addresses: Vec<u64>,
     pub is_complete: bool,
+}
+
+impl Frames {
+    // No frame yet.
+    fn new(alloc: Global) -> Self
+        ensures { frames_seen result ≡ no_frames false }
+    {
+        Frames {
+            addresses: Vec::new(alloc),
+            is_complete: false,
+        }
+    }
 }
 
 impl<A: ModuleUnwinding> Profiler<A> {
@@ -65,9 +77,9 @@ impl<A: ModuleUnwinding> Profiler<A> {
         Ok(())
     }
 
-    // example: begin
     /// The frames of a sample, which was taken in a process with these registers: those of a walk by the
     /// modules of this process.
+    // example: begin
     pub fn frames(
         &mut self,
         alloc: Global,
@@ -79,10 +91,7 @@ impl<A: ModuleUnwinding> Profiler<A> {
             ≡ frames_of A.meanings self.old.session process sample.now regs) }
         ensures kept { KeepsAll self.old.session self.new.session }
     {
-        let mut frames = Frames {
-            addresses: Vec::new(alloc),
-            is_complete: false,
-        };
+        let mut frames = Frames::new(alloc);
         let mut walk = StackWalk::new(sample.ip, regs);
         for _ in 0..MOST_FRAMES {
             let mut read_stack = |at: u64| -> std::result::Result<u64, ()>
