@@ -63,8 +63,9 @@ impl<R: Reader> ParsedEhFrameHdr<R> {
         self.parse_pointer(bases, &mut input)?.direct()
     }
 
-    // The pointer to an FDE in the row with this index. Pointers have this size in bytes.
-    #[inline(always)]
+    // The pointer to an FDE in the row with this index. Pointers have this size in bytes. It is read once, and not in line: a function that
+    // grew large by it wouldn't be put in line itself.
+    #[inline(never)]
     pub(crate) fn target_at(&self, size: u8, index: u64, bases: &BaseAddresses) -> Result<Pointer>
         ensures { result ≡ target_at R.Offset.limit size
             (header_table bases.now.eh_frame_hdr self.now) index }

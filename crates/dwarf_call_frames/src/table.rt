@@ -85,8 +85,26 @@ impl<'a, R: Reader> EhHdrTable<'a, R> {
     {
         match self.hdr.as_linked() {
             Some(hdr) => EhHdrTable::new(&hdr).look_up(address, bases, steps),
-            None => self.look_up(address, bases, steps),
+            None => self.look_up_apart(address, bases, steps),
         }
+    }
+
+    // The same, in code of its own, so that each of the two halves in few instructions.
+    #[cold]
+    #[inline(never)]
+    fn look_up_apart<L: Ledger>(
+        &self,
+        address: u64,
+        bases: &BaseAddresses,
+        steps: &mut Steps<L>,
+    ) -> Result<Pointer>
+        ensures row { result ≡ header_row R.Offset.limit address
+            (header_table bases.now.eh_frame_hdr self.now) }
+        ensures counted { steps.new ≡ steps.old + starts_read R.Offset.limit address
+            (header_table bases.now.eh_frame_hdr self.now) }
+        ensures few { (k : ℕ) → self.now.count ≤ 2 ^ k → steps.new ≤ steps.old + k }
+    {
+        self.look_up(address, bases, steps)
     }
 
     // The same, by the header as it is given.
