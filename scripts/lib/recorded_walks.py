@@ -56,3 +56,8 @@ def work_of(data, rounds):
         parts.append(struct.pack("<Q4QIQI", it.ip, it.ip, it.sp, it.bp, ALL_BITS, MOST_FRAMES, it.sp, count))
         parts.append(it.stack[: 8 * count])
     return b"".join(parts + [struct.pack("<QI", header_at, len(header)), header, section]), len(samples)
+
+
+def with_rounds(work, rounds):
+    """The same bytes, with so many rounds."""
+    return struct.pack("<I", rounds) + work[4:]
