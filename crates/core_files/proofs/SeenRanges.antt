@@ -38,7 +38,7 @@ module _ (ranges : List MemoryRange) where
 
   pub seen-loses-none : (high : ℕ) → length ranges ≤ high → AllWithin (λ range. nat_lt 0 range.lost ≡ false) ranges 0 high → false ≡ any_loses (ranges_seen ranges)
   seen-loses-none high le none =
-      let nothing : KnownRange = record { address = 0; size = 0; bytes = []; lost = 0 } in
+      let nothing : KnownRange = record { address = 0; size = 0; bytes = []; lost = 0; executable = false } in
       let all = mapped-all range_seen (λ (range : KnownRange). nat_lt 0 range.lost ≡ false) ranges 0 (length ranges) (omega arith) (λ k e a b. none k e a (omega arith)) in
       sym (list_any_none (λ (range : KnownRange). nat_lt 0 range.lost) (ranges_seen ranges)
       (All-from_get_or (λ (range : KnownRange). nat_lt 0 range.lost ≡ false) (ranges_seen ranges) nothing (λ i h. all i nothing (omega arith) (omega (arith, count)))))

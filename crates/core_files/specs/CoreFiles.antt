@@ -1,5 +1,5 @@
 -- Core files (System V gABI, "ELF Header", ET_CORE; "Program Header"): loaded segments, and notes.
-use Rattle.std.specs.Prelude.{◌≡◌, ℕ, zero, suc, ◌+◌, ◌-◌, ◌^◌, ◌<◌, ◌≤◌, ◌==◌, nat_le, nat_lt, Bool, true, false, if◌then◌else◌, List, [], ◌∷◌, ◌++◌, length, drop, take, slice_get, Some, None, Result, Ok, Err}
+use Rattle.std.specs.Prelude.{◌≡◌, ℕ, zero, suc, ◌+◌, ◌-◌, ◌%◌, ◌^◌, ◌<◌, ◌≤◌, ◌==◌, nat_le, nat_lt, Bool, true, false, if◌then◌else◌, List, [], ◌∷◌, ◌++◌, length, drop, take, slice_get, Some, None, Result, Ok, Err}
 use Rattle.elf_files.specs.Bytes.{ElfResult, unless}
 use Rattle.elf_files.specs.Header.{header_of}
 use Rattle.elf_files.specs.Notes.{NoteParts, notes_with}
@@ -36,10 +36,19 @@ SegmentReader = ℕ → Segment → ElfResult (List ℕ)
 abbrev pub bytes_left : List ℕ → Segment → List ℕ
 bytes_left bytes segment = take segment.file_size (drop segment.offset bytes)
 
+-- What is in a segment may be executed (PF_X, the lowest bit of p_flags).
+abbrev pub may_be_executed : ℕ → Bool
+may_be_executed flags = (flags % 2) == 1
+
 -- What a loaded segment with these bytes has in memory.
 abbrev pub loaded_range : Segment → List ℕ → KnownRange
-loaded_range segment found =
-    record { address = segment.address; size = segment.memory_size; bytes = found; lost = segment.file_size - length found }
+loaded_range segment found = record {
+  address = segment.address;
+  size = segment.memory_size;
+  bytes = found;
+  lost = segment.file_size - length found;
+  executable = may_be_executed segment.flags;
+}
 
 -- A segment is loaded (PT_LOAD).
 abbrev pub is_loaded : SegmentKind → Bool

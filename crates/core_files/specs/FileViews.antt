@@ -1,5 +1,5 @@
 -- What contracts see of mapped files.
-use Rattle.std.specs.Prelude.{ℕ, ◌-◌, List, [], ◌∷◌, drop, Option, Some, None, Ok}
+use Rattle.std.specs.Prelude.{ℕ, ◌-◌, false, List, [], ◌∷◌, drop, Option, Some, None, Ok}
 use Rattle.core_files.specs.declared.mapped_files.MappedFile.{MappedFile}
 use Rattle.core_files.specs.declared.mapped_files.MappedFiles.{MappedFiles}
 use Rattle.core_files.specs.MappedFiles.{FileMapping, files_from}
@@ -12,7 +12,7 @@ mapping_of file = record { start = file.start; end = file.end; offset = file.off
 
 -- The addresses of a mapping, with the bytes of the file that are mapped there.
 abbrev pub mapped_range : FileMapping → List ℕ → KnownRange
-mapped_range file bytes = record { address = file.start; size = file.end - file.start; bytes = drop file.offset bytes; lost = 0 }
+mapped_range file bytes = record { address = file.start; size = file.end - file.start; bytes = drop file.offset bytes; lost = 0; executable = false }
 
 -- How many files are left.
 abbrev pub count_left : MappedFiles → ℕ

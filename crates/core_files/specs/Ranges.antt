@@ -7,12 +7,14 @@ use Rattle.std.specs.List.Sorted.{IsPartitionPoint}
 abbrev pub after_zeros : ℕ → List ℕ → List ℕ
 after_zeros zeros bytes = replicate zeros 0 ++ bytes
 
--- A range: its first address, how many addresses it has, the bytes of the first ones, and how many after these were lost.
+-- A range: its first address, how many addresses it has, the bytes of the first ones, how many after these were lost, and whether what
+-- is there may be executed.
 pub record KnownRange : Type 0 where
   pub address : ℕ
   pub size : ℕ
   pub bytes : List ℕ
   pub lost : ℕ
+  pub executable : Bool
 
 -- An address is in a range.
 abbrev pub contains : ℕ → KnownRange → Bool

@@ -36,6 +36,7 @@ impl MappedFile<'_> {
             zeros: 0,
             bytes: bytes_after(file, offset),
             lost: 0,
+            executable: false,
         }
     }
 }

@@ -21,7 +21,7 @@ pub struct Memory<'m, 'a> {
 const WORD_SIZE: u64 = 8;
 
 impl<'m, 'a> Memory<'m, 'a> {
-    ghost use Rattle.core_files.specs.MemoryViews.{segments_of, files_of, byte_of, word_of};
+    ghost use Rattle.core_files.specs.MemoryViews.{segments_of, files_of, byte_of, executable_of, word_of};
 
     /// The memory with these segments and mapped files. Each list is searched by halving if each of its ranges ends before the
     /// next begins, and else by a pass over all.
@@ -33,6 +33,13 @@ impl<'m, 'a> Memory<'m, 'a> {
             segments: Ranges::new(segments),
             files: Ranges::new(files),
         }
+    }
+
+    /// Whether what is at an address may be executed, as the program header of the first segment that contains it says.
+    pub fn is_executable(&self, address: u64) -> bool
+        ensures { result ≡ executable_of self.now address }
+    {
+        self.segments.is_executable(address)
     }
 
     // The byte that a mapped file has at an address, if the core didn't lose it.

@@ -21,6 +21,8 @@ pub struct MemoryRange<'a> {
     pub bytes: &'a [u8],
     /// How many bytes after these the core lost.
     pub lost: u64,
+    /// Whether what is there may be executed, by the program header (`PF_X`). Of a mapped file it isn't said.
+    pub executable: bool,
 }
 
 // What an ELF file begins with (EI_MAG0).

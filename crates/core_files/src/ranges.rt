@@ -2,7 +2,7 @@
 
 ghost use Rattle.std.specs.Prelude.{◌≡◌, ◌↔◌, ◌≤◌, length, nat_le, IsTrue, IfSome};
 ghost use Rattle.std.specs.Option.{option_map};
-ghost use Rattle.core_files.specs.Memory.{byte_among, is_lost};
+ghost use Rattle.core_files.specs.Memory.{byte_among, is_executable, is_lost};
 ghost use Rattle.core_files.specs.Ranges.{any_loses, range_at, BeginAtOrBelow, IsIncreasing};
 ghost use Rattle.core_files.specs.RangeViews.{range_seen, ranges_seen};
 
@@ -123,6 +123,16 @@ impl<'m, 'a> Ranges<'m, 'a> {
             return None;
         };
         range.byte(address)
+    }
+
+    // Whether what is at an address may be executed, by the first range that contains it.
+    pub(crate) fn is_executable(&self, address: u64) -> bool
+        ensures { result ≡ is_executable (ranges_seen self.now.ranges.now) address }
+    {
+        match self.range_at(address) {
+            Some(range) => range.executable,
+            None => false,
+        }
     }
 
     // Whether the byte at an address was lost, of the first range that contains it.

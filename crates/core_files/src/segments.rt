@@ -3,7 +3,7 @@
 ghost use Rattle.std.specs.Prelude.{◌≡◌, ◌<◌, ◌+◌, ◌-◌, ◌^◌, length, Ok, Err, IfOk, IfErr};
 ghost use Rattle.std.specs.Option.{option_copied};
 ghost use Rattle.elf_files.specs.Segments.{is_note_segment};
-ghost use Rattle.core_files.specs.CoreFiles.{all_ok, bytes_left, is_loaded, loaded_apart, noted_apart};
+ghost use Rattle.core_files.specs.CoreFiles.{all_ok, bytes_left, is_loaded, loaded_apart, may_be_executed, noted_apart};
 ghost use Rattle.core_files.specs.NoteViews.{notes_seen};
 ghost use Rattle.core_files.specs.RangeViews.{ranges_seen};
 ghost use Rattle.core_files.specs.Ranges.{after_zeros};
@@ -115,6 +115,13 @@ fn is_loaded(segment: &Segment) -> bool
     matches!(segment.kind, SegmentKind::Load)
 }
 
+// Whether what is in a segment may be executed.
+fn may_be_executed(segment: &Segment) -> bool
+    ensures { result ≡ may_be_executed segment.now.flags }
+{
+    segment.flags % 2 == 1
+}
+
 // Adds what a loaded segment has in memory.
 fn push_loaded<'a>(
     all: &mut Vec<MemoryRange<'a>>,
@@ -139,6 +146,7 @@ fn push_loaded<'a>(
             zeros,
             bytes,
             lost: lost_bytes(&segment, zeros, bytes),
+            executable: may_be_executed(&segment),
         },
     )?;
     Ok(())

@@ -162,6 +162,7 @@ fn over_the_memory_of_a_process(rt: HostRuntime) -> Result<(), Fail> {
         zeros: 0,
         bytes: &bytes,
         lost: 0,
+        executable: false,
     }];
     let memory = Memory::new(&segments, &[]);
     let walked = walked_in_memory::<ArchX86_64>(rt.alloc(), &files, &memory, &start())?;

@@ -22,6 +22,21 @@ macro_rules! range {
             zeros: $zeros,
             bytes: $bytes,
             lost: $lost,
+            executable: false,
+        }
+    };
+}
+
+// A segment of code, or of data, of which the core has no byte.
+macro_rules! left_out {
+    ($address:expr, $size:expr, $executable:expr) => {
+        MemoryRange {
+            address: $address,
+            size: $size,
+            zeros: 0,
+            bytes: b"",
+            lost: 0,
+            executable: $executable,
         }
     };
 }
@@ -212,4 +227,42 @@ fn ranges(rt: HostRuntime) {
     let range = mapped!(13).range(LOW);
     assert!(rt; range.bytes.is_empty());
     assert!(rt; range.size == 16);
+}
+
+// Segments, and whether what is at an address may be executed.
+static EXECUTABLE: [(&[MemoryRange<'static>], &[(u64, bool)]); 2] = [
+    (
+        &[left_out!(0x1000, 16, true), left_out!(0x1010, 8, false)],
+        &[
+            (0, false),
+            (0xfff, false),
+            (0x1000, true),
+            (0x100f, true),
+            (0x1010, false),
+            (0x1018, false),
+            (u64::MAX, false),
+        ],
+    ),
+    // the first of those that overlap
+    (
+        &[left_out!(0x1004, 4, false), left_out!(0x1000, 16, true)],
+        &[
+            (0x1003, true),
+            (0x1004, false),
+            (0x1007, false),
+            (0x1008, true),
+        ],
+    ),
+];
+
+#[test]
+fn executable(rt: HostRuntime) {
+    // a file has no say in it
+    let files = [left_out!(0, 0x2000, true)];
+    for (segments, addresses) in &EXECUTABLE {
+        let memory = Memory::new(segments, &files);
+        for (address, expected) in *addresses {
+            assert!(rt; memory.is_executable(*address) == *expected, "{address:#x}");
+        }
+    }
 }

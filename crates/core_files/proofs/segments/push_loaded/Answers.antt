@@ -24,5 +24,5 @@ returns c =
       _,
       ap by_elf (segment-gives (loaded_in read) elf.bytes.now elf.header c.args.index c.in_ok-segment.segment c.in_ok-segment.ensures
           ∙ loaded-here read c.in_ok-segment.segment _ (sym c.is_loaded.ensures ∙ c.if-not-is_loaded.false) c.in_ok-zeros.ensures.ok),
-      rw (← c.lost_bytes.ensures) (ap ranges_seen c.in_ok-push.ensures.ok ∙ map-append range_seen c.args.all.now.items _),
+      rw (← c.lost_bytes.ensures, ← c.may_be_executed.ensures) (ap ranges_seen c.in_ok-push.ensures.ok ∙ map-append range_seen c.args.all.now.items _),
     )
