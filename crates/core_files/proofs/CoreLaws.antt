@@ -6,9 +6,9 @@ use Rattle.elf_files.specs.declared.header.Header.{Header}
 use Rattle.core_files.specs.declared.error.CoreError.{CoreError}
 use Rattle.core_files.specs.declared.error.CoreError.TheVariants.{OutOfMemory}
 use Rattle.core_files.specs.declared.thread.Thread.{Thread}
-use Rattle.core_files.specs.CoreFiles.{SegmentReader, core_header, loaded_ranges, core_notes, core_by}
+use Rattle.core_files.specs.CoreFiles.{SegmentReader, contents_with, core_header, loaded_ranges, core_notes, core_by}
 use Rattle.core_files.specs.MappedFiles.{FileMapping}
-use Rattle.core_files.specs.Notes.{threads_of, files_of, auxv_of}
+use Rattle.core_files.specs.Notes.{threads_of, files_of}
 use Rattle.core_files.specs.Ranges.{KnownRange}
 use Rattle.core_files.specs.Refusals.{by_elf}
 
@@ -58,6 +58,6 @@ module _ (read noted : SegmentReader) (bytes : List ℕ) where
           files-fail e = later _ _ _ (no-files e)
 
           pub core-is : (files : List FileMapping) → files_of 0 notes ≡ Ok files
-              → core_by read noted bytes ≡ Ok (record { machine = header.machine; segments = segments; threads = threads; files = files; auxv = auxv_of notes })
+              → core_by read noted bytes ≡ Ok (contents_with header.machine segments notes threads files)
           unfolding core_by
           core-is files is = rw (at, loaded, named, threaded, is) refl

@@ -1,6 +1,6 @@
 -- The notes of a core one by one.
 use Rattle.std.proofs.Common.{◌≡◌, ℕ, suc, ◌+◌, ◌<◌, ◌≤◌, true, false, List, [], ◌∷◌, length, get_or, drop, refl, ap, sym, ◌∙◌, arith, drop-cons, add-one}
-use Rattle.std.specs.Prelude.{Some, None, Ok, Err}
+use Rattle.std.specs.Prelude.{Some, None, Ok, Err, codes}
 use Rattle.std.proofs.lemmas.List.{get_or-map, length-map, drop_all}
 use Rattle.elf_files.specs.declared.header.Machine.{Machine}
 use Rattle.elf_files.specs.declared.note.Note.{Note}
@@ -10,7 +10,7 @@ use Rattle.core_files.specs.declared.error.CoreError.{CoreError}
 use Rattle.core_files.specs.declared.thread.Thread.{Thread}
 use Rattle.core_files.specs.MappedFiles.{mapped_files}
 use Rattle.core_files.specs.NoteViews.{notes_seen}
-use Rattle.core_files.specs.Notes.{is_prstatus, is_pac_mask, is_file_table, is_auxv, masks_of, thread_of, thread_at, threads_of, files_of, auxv_of}
+use Rattle.core_files.specs.Notes.{is_prstatus, is_pac_mask, is_file_table, is_note, masks_of, thread_of, thread_at, threads_of, files_of, descriptor_of}
 use Rattle.core_files.specs.PacMask.{pac_masks}
 use Rattle.core_files.specs.Refusals.{result_and_then, then_more, by_note}
 
@@ -34,9 +34,9 @@ module _ (number : ℕ) (left : List NoteParts) where
   unfolding files_of
   files-end is = rw is refl
 
-  pub auxv-end : left ≡ [] → auxv_of left ≡ []
-  unfolding auxv_of
-  auxv-end is = rw is refl
+  pub kind-end : (kind : ℕ) → left ≡ [] → descriptor_of kind left ≡ []
+  unfolding descriptor_of
+  kind-end kind is = rw is refl
 
   pub threads-end : (machine : Machine) → left ≡ [] → threads_of machine number left ≡ Ok []
   unfolding threads_of
@@ -64,13 +64,14 @@ module _ (notes : List Note) (i : ℕ) (d : Note) (within : i < length notes) wh
   unfolding files_of
   files-later not = rw (notes-at notes i d within, ← not) refl
 
-  pub auxv-here : true ≡ is_auxv (note_seen (get_or notes i d)) → auxv_of (drop i (notes_seen notes)) ≡ (get_or notes i d).descriptor.now
-  unfolding auxv_of
-  auxv-here is = rw (notes-at notes i d within, ← is) refl
+  pub kind-here : (kind : ℕ) → true ≡ is_note (codes "CORE") kind (note_seen (get_or notes i d)) → descriptor_of kind (drop i (notes_seen notes)) ≡ (get_or notes i d).descriptor.now
+  unfolding descriptor_of
+  kind-here kind is = rw (notes-at notes i d within, ← is) refl
 
-  pub auxv-later : false ≡ is_auxv (note_seen (get_or notes i d)) → auxv_of (drop i (notes_seen notes)) ≡ auxv_of (drop (i + 1) (notes_seen notes))
-  unfolding auxv_of
-  auxv-later not = rw (notes-at notes i d within, ← not) refl
+  pub kind-later : (kind : ℕ) → false ≡ is_note (codes "CORE") kind (note_seen (get_or notes i d))
+      → descriptor_of kind (drop i (notes_seen notes)) ≡ descriptor_of kind (drop (i + 1) (notes_seen notes))
+  unfolding descriptor_of
+  kind-later kind not = rw (notes-at notes i d within, ← not) refl
 
   pub threads-step : (machine : Machine)
       → threads_of machine i (drop i (notes_seen notes)) ≡ then_more (thread_at machine i (note_seen (get_or notes i d)) (drop (i + 1) (notes_seen notes))) (threads_of machine (i + 1) (drop (i + 1) (notes_seen notes)))

@@ -9,7 +9,7 @@ use Rattle.std.proofs.lemmas.Option.{slice_get-get_or}
 use Rattle.dwarf_endianity.specs.ByteOrder.{little_endian}
 use Rattle.elf_files.specs.Bytes.{number_at}
 use Rattle.core_files.specs.Bytes.{u64_at}
-use Rattle.core_files.specs.Memory.{byte_among, byte_at, byte_left_out, bytes_from, is_executable, is_lost, word_at}
+use Rattle.core_files.specs.Memory.{byte_among, byte_at, byte_left_out, bytes_from, executable_at, is_lost, word_at}
 use Rattle.core_files.specs.Ranges.{KnownRange, after_zeros, byte_in, contains, file_in, loses, range_at, IsIncreasing}
 use Rattle.core_files.proofs.RangeLaws.{found-again}
 
@@ -64,11 +64,11 @@ lost-none ranges address none = rw (← none, is_lost) refl
 pub lost-here : (ranges : List KnownRange) (address : ℕ) (range : KnownRange) → Some range ≡ range_at ranges address → loses address range ≡ is_lost ranges address
 lost-here ranges address range at = rw (← at, is_lost) refl
 
-pub executable-none : (ranges : List KnownRange) (address : ℕ) → None ≡ range_at ranges address → false ≡ is_executable ranges address
-executable-none ranges address none = rw (← none, is_executable) refl
+pub executable-none : (ranges : List KnownRange) (address : ℕ) → None ≡ range_at ranges address → None ≡ executable_at ranges address
+executable-none ranges address none = rw (← none) refl
 
-pub executable-here : (ranges : List KnownRange) (address : ℕ) (range : KnownRange) → Some range ≡ range_at ranges address → range.executable ≡ is_executable ranges address
-executable-here ranges address range at = rw (← at, is_executable) refl
+pub executable-here : (ranges : List KnownRange) (address : ℕ) (range : KnownRange) → Some range ≡ range_at ranges address → Some range.executable ≡ executable_at ranges address
+executable-here ranges address range at = rw (← at) refl
 
 pub byte-left-out : (segments files : List KnownRange) (address : ℕ) → None ≡ byte_among segments address → byte_left_out segments files address ≡ byte_at segments files address
 unfolding byte_at

@@ -2,6 +2,10 @@
 use Rattle.std.specs.Prelude.{ℕ, zero, suc, ◌+◌, List, [], ◌∷◌}
 use Rattle.elf_files.specs.Bytes.{number_at}
 
+-- A number of 16 bits.
+abbrev pub u16_at : List ℕ → ℕ → ℕ
+u16_at bytes at = number_at 2 bytes at
+
 -- A number of 32 bits.
 abbrev pub u32_at : List ℕ → ℕ → ℕ
 u32_at bytes at = number_at 4 bytes at

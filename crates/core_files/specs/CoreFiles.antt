@@ -14,7 +14,7 @@ use Rattle.elf_files.specs.declared.segment.SegmentKind.TheVariants.{Load}
 use Rattle.core_files.specs.declared.error.CoreError.TheVariants.{NotCore}
 use Rattle.core_files.specs.declared.thread.Thread.{Thread}
 use Rattle.core_files.specs.MappedFiles.{FileMapping}
-use Rattle.core_files.specs.Notes.{threads_of, files_of, auxv_of}
+use Rattle.core_files.specs.Notes.{auxv_of, files_of, prpsinfo_of, siginfo_of, threads_of}
 use Rattle.core_files.specs.Ranges.{KnownRange, after_zeros, any_loses}
 use Rattle.core_files.specs.Refusals.{CoreResult, result_and_then, then_more, one, by_elf}
 
@@ -84,6 +84,20 @@ pub record CoreContents : Type 0 where
   pub threads : List Thread
   pub files : List FileMapping
   pub auxv : List ℕ
+  pub siginfo : List ℕ
+  pub prpsinfo : List ℕ
+
+-- What a core says of its process, by these parts and its notes.
+abbrev pub contents_with : Machine → List KnownRange → List NoteParts → List Thread → List FileMapping → CoreContents
+contents_with machine segments notes threads files = record {
+  machine = machine;
+  segments = segments;
+  threads = threads;
+  files = files;
+  auxv = auxv_of notes;
+  siginfo = siginfo_of notes;
+  prpsinfo = prpsinfo_of notes;
+}
 
 -- The header of a core.
 abbrev pub core_header : List ℕ → CoreResult Header
@@ -98,7 +112,7 @@ core_by loaded noted bytes =
     result_and_then (by_elf (core_notes noted bytes header)) (λ notes.
     result_and_then (threads_of header.machine 0 notes) (λ threads.
     result_and_then (files_of 0 notes) (λ files.
-    Ok (record { machine = header.machine; segments = segments; threads = threads; files = files; auxv = auxv_of notes }))))))
+    Ok (contents_with header.machine segments notes threads files))))))
 
 -- The same of a file, of which the end of the loaded segments may be missing.
 abbrev pub core_of : List ℕ → CoreResult CoreContents

@@ -13,6 +13,8 @@ contents_of core = record {
   threads = core.threads.items;
   files = mappings_of core.mapped_files.items;
   auxv = core.auxv.now;
+  siginfo = core.siginfo.now;
+  prpsinfo = core.prpsinfo.now;
 }
 
 -- A core is what each file with these parts says.

@@ -10,8 +10,11 @@ pub mod MemoryViews
 pub mod NoteViews
 pub mod Notes
 pub mod PacMask
+pub mod ProcessInfo
+pub mod ProcessViews
 pub mod Prstatus
 pub mod RangeViews
 pub mod Ranges
 pub mod Refusals
 pub mod SegmentViews
+pub mod SignalInfo

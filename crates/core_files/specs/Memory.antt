@@ -20,9 +20,9 @@ is_lost segments address = elim (range_at segments address) [ Some range ↦ los
 abbrev pub byte_left_out : List KnownRange → List KnownRange → ℕ → Option ℕ
 byte_left_out segments files address = if is_lost segments address then None else byte_among files address
 
--- What is at an address may be executed, as the first segment that contains it says.
-abbrev pub is_executable : List KnownRange → ℕ → Bool
-is_executable segments address = elim (range_at segments address) [ Some range ↦ range.executable | None ↦ false ]
+-- Whether what is at an address may be executed, as the first segment that contains it says.
+abbrev pub executable_at : List KnownRange → ℕ → Option Bool
+executable_at segments address = option_map (λ range. range.executable) (range_at segments address)
 
 -- The byte at an address: that of a segment, or if the core left it out, that of a mapped file.
 unfoldable pub byte_at : List KnownRange → List KnownRange → ℕ → Option ℕ

@@ -21,10 +21,6 @@ is_note name kind note = bytes_eq note.name name && (note.kind == kind)
 abbrev pub is_prstatus : NoteParts → Bool
 is_prstatus = is_note (codes "CORE") 1
 
--- NT_AUXV: the auxiliary vector.
-abbrev pub is_auxv : NoteParts → Bool
-is_auxv = is_note (codes "CORE") 6
-
 -- NT_FILE: the mapped files.
 abbrev pub is_file_table : NoteParts → Bool
 is_file_table = is_note (codes "CORE") 0x46494c45
@@ -51,7 +47,7 @@ abbrev pub thread_of : Machine → ℕ → NoteParts → List NoteParts → Core
 thread_of machine number note notes =
     result_and_then (by_note number (prstatus_on machine note.descriptor)) (λ status.
     result_and_then (masks_of (number + 1) notes) (λ masks.
-    Ok (record { id = status.pid; registers = status.registers; pointer_authentication_masks = masks })))
+    Ok (record { id = status.pid; signal = status.signal; registers = status.registers; pointer_authentication_masks = masks })))
 
 -- The thread of a note, if it is an NT_PRSTATUS.
 abbrev pub thread_at : Machine → ℕ → NoteParts → List NoteParts → CoreResult (List Thread)
@@ -67,7 +63,19 @@ unfoldable pub files_of : ℕ → List NoteParts → CoreResult (List FileMappin
 files_of number [] = Ok []
 files_of number (note ∷ notes) = if is_file_table note then by_note number (mapped_files note.descriptor) else files_of (number + 1) notes
 
--- The descriptor of the first NT_AUXV, without which there is no entry.
-unfoldable pub auxv_of : List NoteParts → List ℕ
-auxv_of [] = []
-auxv_of (note ∷ notes) = if is_auxv note then note.descriptor else auxv_of notes
+-- The descriptor of the first of the kernel's notes of a type, without which there is no byte.
+unfoldable pub descriptor_of : ℕ → List NoteParts → List ℕ
+descriptor_of kind [] = []
+descriptor_of kind (note ∷ notes) = if is_note (codes "CORE") kind note then note.descriptor else descriptor_of kind notes
+
+-- NT_AUXV: the auxiliary vector.
+abbrev pub auxv_of : List NoteParts → List ℕ
+auxv_of notes = descriptor_of 6 notes
+
+-- NT_PRPSINFO: what the process runs.
+abbrev pub prpsinfo_of : List NoteParts → List ℕ
+prpsinfo_of notes = descriptor_of 3 notes
+
+-- NT_SIGINFO: the signal that ended the process.
+abbrev pub siginfo_of : List NoteParts → List ℕ
+siginfo_of notes = descriptor_of 0x53494749 notes

@@ -10,7 +10,7 @@ use Rattle.core_files.specs.declared.registers.UserRegsAarch64.{UserRegsAarch64}
 use Rattle.core_files.specs.declared.registers.ThreadRegisters.{ThreadRegisters}
 use Rattle.core_files.specs.declared.registers.ThreadRegisters.TheVariants.{X86_64, Aarch64}
 use Rattle.core_files.specs.declared.prstatus.Prstatus.{Prstatus}
-use Rattle.core_files.specs.Bytes.{u32_at, u64_at, each_from}
+use Rattle.core_files.specs.Bytes.{u16_at, u32_at, u64_at, each_from}
 
 -- The size of the structure with so many registers.
 abbrev pub prstatus_size : ℕ → ℕ
@@ -19,6 +19,10 @@ prstatus_size count = 120 + 8 * count
 -- pr_pid.
 abbrev pub pr_pid : List ℕ → ℕ
 pr_pid descriptor = u32_at descriptor 32
+
+-- pr_cursig, a short.
+abbrev pub pr_cursig : List ℕ → ℕ
+pr_cursig descriptor = u16_at descriptor 12
 
 -- A register of pr_reg, by its number.
 abbrev pub pr_reg : List ℕ → ℕ → ℕ
@@ -67,7 +71,7 @@ user_regs_aarch64 descriptor = record {
 
 -- The status of a thread with these registers.
 abbrev pub status : List ℕ → ThreadRegisters → Prstatus
-status descriptor registers = record { pid = pr_pid descriptor; registers = registers }
+status descriptor registers = record { pid = pr_pid descriptor; signal = pr_cursig descriptor; registers = registers }
 
 -- What a descriptor is on x86_64: its size is that of the structure there.
 abbrev pub prstatus_x86_64 : List ℕ → Result Prstatus DescriptorError

@@ -1,9 +1,18 @@
 //! Numbers in bytes, lowest byte first.
 
 ghost use Rattle.std.specs.Prelude.{◌≡◌, ◌≤◌, ◌+◌, length, take, drop};
-ghost use Rattle.core_files.specs.Bytes.{u32_at, u64_at};
+ghost use Rattle.core_files.specs.Bytes.{u16_at, u32_at, u64_at};
 
 use dwarf_endianity::{Endianity, LittleEndian};
+
+// The number of 16 bits at an offset.
+#[tactic(auto, unfolding(elf_files::specs::Bytes::number_at))]
+pub(crate) fn u16_at(bytes: &[u8], at: usize) -> u16
+    requires { at + 2 ≤ length bytes.now }
+    ensures { result ≡ u16_at bytes.now at }
+{
+    LittleEndian.read_u16(&bytes[at..])
+}
 
 // The number of 32 bits at an offset.
 #[tactic(auto, unfolding(elf_files::specs::Bytes::number_at))]

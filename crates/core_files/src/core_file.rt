@@ -2,23 +2,28 @@
 
 ghost use Rattle.std.specs.Prelude.{◌≡◌, IfOk};
 ghost use Rattle.core_files.specs.Auxv.{auxiliary_value};
-ghost use Rattle.std.specs.Option.{option_copied};
+ghost use Rattle.std.specs.Option.{option_copied, option_map};
 ghost use Rattle.core_files.specs.CoreFiles.{core_in_parts, core_of, is_cut_off};
 ghost use Rattle.core_files.specs.HeaderViews.{IsCore};
 ghost use Rattle.core_files.specs.NoteViews.{mappings_of};
+ghost use Rattle.core_files.specs.ProcessInfo.{process_info};
+ghost use Rattle.core_files.specs.ProcessViews.{process_seen};
 ghost use Rattle.core_files.specs.RangeViews.{ranges_seen};
 ghost use Rattle.core_files.specs.Refusals.{Gives};
 ghost use Rattle.core_files.specs.SegmentViews.{core_read, parts_seen};
+ghost use Rattle.core_files.specs.SignalInfo.{signal_info};
 
 use crate::auxv::read_auxiliary;
 use crate::error::CoreError;
 use crate::mapped_files::MappedFile;
 use crate::memory::Memory;
 use crate::memory_range::MemoryRange;
-use crate::notes::{auxv_of, files_of, threads_of};
+use crate::notes::{NT_AUXV, NT_PRPSINFO, NT_SIGINFO, descriptor_of, files_of, threads_of};
+use crate::process_info::{ProcessInfo, read_process_info};
 use crate::ranges::any_loses;
 use crate::segment_bytes::SegmentBytes;
 use crate::segments::{core_notes, loaded_ranges};
+use crate::signal_info::{SignalInfo, read_signal_info};
 use crate::thread::Thread;
 use elf_files::{ElfFile, FileKind, Machine};
 use std::alloc::Global;
@@ -31,6 +36,8 @@ pub struct CoreFile<'a> {
     pub(crate) threads: Vec<Thread>,
     pub(crate) mapped_files: Vec<MappedFile<'a>>,
     pub(crate) auxv: &'a [u8],
+    pub(crate) siginfo: &'a [u8],
+    pub(crate) prpsinfo: &'a [u8],
 }
 
 // The file, if it is a core.
@@ -66,7 +73,9 @@ impl<'a> CoreFile<'a> {
             segments,
             threads,
             mapped_files,
-            auxv: auxv_of(&notes),
+            auxv: descriptor_of(&notes, NT_AUXV),
+            siginfo: descriptor_of(&notes, NT_SIGINFO),
+            prpsinfo: descriptor_of(&notes, NT_PRPSINFO),
         })
     }
 
@@ -134,6 +143,21 @@ impl<'a> CoreFile<'a> {
         ensures { result ≡ auxiliary_value (contents_of self.now).auxv kind }
     {
         read_auxiliary(self.auxv, kind)
+    }
+
+    /// The signal that ended the process, as the first `NT_SIGINFO` says: Linux writes one, and gdb one for each thread, of which the
+    /// first is that of the thread that got the signal.
+    pub fn signal_info(&self) -> Option<SignalInfo>
+        ensures { result ≡ signal_info (contents_of self.now).siginfo }
+    {
+        read_signal_info(self.siginfo)
+    }
+
+    /// What the process runs, as the first `NT_PRPSINFO` says.
+    pub fn process_info(&self) -> Option<ProcessInfo<'a>>
+        ensures { option_map process_seen result ≡ process_info (contents_of self.now).prpsinfo }
+    {
+        read_process_info(self.prpsinfo)
     }
 
     /// The memory, with what the mapped files have of it, as `MappedFile::range` gives it.

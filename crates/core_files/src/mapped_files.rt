@@ -59,7 +59,7 @@ pub struct MappedFiles<'a> {
 }
 
 // The length of the first of some names, without the 0 that ends it.
-fn name_length(names: &[u8]) -> Option<usize>
+pub(crate) fn name_length(names: &[u8]) -> Option<usize>
     ensures { result ≡ name_length names.now }
 {
     names.iter().position(|byte| *byte == 0)

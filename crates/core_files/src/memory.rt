@@ -35,11 +35,12 @@ impl<'m, 'a> Memory<'m, 'a> {
         }
     }
 
-    /// Whether what is at an address may be executed, as the program header of the first segment that contains it says.
-    pub fn is_executable(&self, address: u64) -> bool
+    /// Whether what is at an address may be executed, as the program header of the first segment that contains it says: `None` if
+    /// there is no such segment. A core that gdb made has none for code that a file has.
+    pub fn executable_at(&self, address: u64) -> Option<bool>
         ensures { result ≡ executable_of self.now address }
     {
-        self.segments.is_executable(address)
+        self.segments.executable_at(address)
     }
 
     // The byte that a mapped file has at an address, if the core didn't lose it.

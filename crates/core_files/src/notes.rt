@@ -1,10 +1,10 @@
 //! What the notes of a core say.
 
-ghost use Rattle.std.specs.Prelude.{◌≡◌, ◌≤◌, ◌<◌, ◌+◌, length, drop, Ok, Err, IfOk, IfErr, OnSome, Some};
+ghost use Rattle.std.specs.Prelude.{◌≡◌, ◌≤◌, ◌<◌, ◌+◌, codes, length, drop, Ok, Err, IfOk, IfErr, OnSome, Some};
 ghost use Rattle.elf_files.specs.NoteViews.{note_seen};
 ghost use Rattle.core_files.specs.FileViews.{count_left, files_left, next_and_left};
 ghost use Rattle.core_files.specs.MappedFiles.{mapped_files};
-ghost use Rattle.core_files.specs.Notes.{is_prstatus, is_auxv, is_file_table, is_pac_mask, prstatus_on, masks_of, thread_of, thread_at, threads_of, files_of, auxv_of};
+ghost use Rattle.core_files.specs.Notes.{is_prstatus, is_file_table, is_pac_mask, prstatus_on, masks_of, thread_of, thread_at, threads_of, files_of, descriptor_of, is_note};
 ghost use Rattle.core_files.specs.NoteViews.{notes_seen, mappings_of};
 ghost use Rattle.core_files.specs.PacMask.{pac_masks};
 ghost use Rattle.core_files.specs.Refusals.{Appends, Gives, by_note, result_and_then};
@@ -26,7 +26,11 @@ const LINUX: &[u8] = b"LINUX";
 // Their types (`include/uapi/linux/elf.h`).
 const NT_PRSTATUS: u32 = 1;
 
-const NT_AUXV: u32 = 6;
+pub(crate) const NT_PRPSINFO: u32 = 3;
+
+pub(crate) const NT_AUXV: u32 = 6;
+
+pub(crate) const NT_SIGINFO: u32 = 0x5349_4749;
 
 const NT_FILE: u32 = 0x4649_4c45;
 
@@ -39,11 +43,11 @@ fn is_prstatus(note: &Note<'_>) -> bool
     note.name == CORE && note.kind == NT_PRSTATUS
 }
 
-// Whether it is the auxiliary vector.
-fn is_auxv(note: &Note<'_>) -> bool
-    ensures { result ≡ is_auxv (note_seen note.now) }
+// Whether it is the kernel's own, of a type.
+fn is_kind(note: &Note<'_>, kind: u32) -> bool
+    ensures { result ≡ is_note (codes "CORE") kind (note_seen note.now) }
 {
-    note.name == CORE && note.kind == NT_AUXV
+    note.name == CORE && note.kind == kind
 }
 
 // Whether it has the mapped files.
@@ -117,6 +121,7 @@ fn thread_of(
     let masks = masks_of(notes, number + 1)?;
     Ok(Thread {
         id: status.pid,
+        signal: status.signal,
         registers: status.registers,
         pointer_authentication_masks: masks,
     })
@@ -208,13 +213,13 @@ pub(crate) fn files_of<'a>(
     Ok(Vec::new(alloc))
 }
 
-// The descriptor of the auxiliary vector, without entries if there is none.
-pub(crate) fn auxv_of<'a>(notes: &[Note<'a>]) -> &'a [u8]
-    ensures { result.now ≡ auxv_of (notes_seen notes.now) }
+// The descriptor of the first of the kernel's own notes of a type, without a byte if there is none.
+pub(crate) fn descriptor_of<'a>(notes: &[Note<'a>], kind: u32) -> &'a [u8]
+    ensures { result.now ≡ descriptor_of kind (notes_seen notes.now) }
 {
     for number in 0..notes.len() {
         let note = notes[number];
-        if is_auxv(&note) {
+        if is_kind(&note, kind) {
             return note.descriptor;
         }
     }

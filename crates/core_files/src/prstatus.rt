@@ -4,7 +4,7 @@ ghost use Rattle.std.specs.Prelude.{◌≡◌, ◌≤◌, ◌<◌, ◌+◌, ◌*
 ghost use Rattle.core_files.specs.Bytes.{each_from};
 ghost use Rattle.core_files.specs.Prstatus.{pr_reg, prstatus_size, user_regs_x86_64, user_regs_aarch64, prstatus_x86_64, prstatus_aarch64};
 
-use crate::bytes::{u32_at, u64_at};
+use crate::bytes::{u16_at, u32_at, u64_at};
 use crate::error::DescriptorError;
 use crate::registers::{ThreadRegisters, UserRegsAarch64, UserRegsX86_64};
 
@@ -13,9 +13,13 @@ use crate::registers::{ThreadRegisters, UserRegsAarch64, UserRegsX86_64};
 pub struct Prstatus {
     /// The thread's id (`pr_pid`).
     pub pid: u32,
+    /// The signal that it got, or 0 (`pr_cursig`).
+    pub signal: u16,
     /// Its registers (`pr_reg`).
     pub registers: ThreadRegisters,
 }
+
+const PR_CURSIG: usize = 12;
 
 const PR_PID: usize = 32;
 
@@ -104,6 +108,7 @@ pub fn read_prstatus_x86_64(descriptor: &[u8]) -> Result<Prstatus, DescriptorErr
     }
     Ok(Prstatus {
         pid: u32_at(descriptor, PR_PID),
+        signal: u16_at(descriptor, PR_CURSIG),
         registers: ThreadRegisters::X86_64(user_regs_x86_64(descriptor)),
     })
 }
@@ -117,6 +122,7 @@ pub fn read_prstatus_aarch64(descriptor: &[u8]) -> Result<Prstatus, DescriptorEr
     }
     Ok(Prstatus {
         pid: u32_at(descriptor, PR_PID),
+        signal: u16_at(descriptor, PR_CURSIG),
         registers: ThreadRegisters::Aarch64(user_regs_aarch64(descriptor)),
     })
 }

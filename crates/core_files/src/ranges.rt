@@ -2,7 +2,7 @@
 
 ghost use Rattle.std.specs.Prelude.{◌≡◌, ◌↔◌, ◌≤◌, length, nat_le, IsTrue, IfSome};
 ghost use Rattle.std.specs.Option.{option_map};
-ghost use Rattle.core_files.specs.Memory.{byte_among, is_executable, is_lost};
+ghost use Rattle.core_files.specs.Memory.{byte_among, executable_at, is_lost};
 ghost use Rattle.core_files.specs.Ranges.{any_loses, range_at, BeginAtOrBelow, IsIncreasing};
 ghost use Rattle.core_files.specs.RangeViews.{range_seen, ranges_seen};
 
@@ -126,12 +126,12 @@ impl<'m, 'a> Ranges<'m, 'a> {
     }
 
     // Whether what is at an address may be executed, by the first range that contains it.
-    pub(crate) fn is_executable(&self, address: u64) -> bool
-        ensures { result ≡ is_executable (ranges_seen self.now.ranges.now) address }
+    pub(crate) fn executable_at(&self, address: u64) -> Option<bool>
+        ensures { result ≡ executable_at (ranges_seen self.now.ranges.now) address }
     {
         match self.range_at(address) {
-            Some(range) => range.executable,
-            None => false,
+            Some(range) => Some(range.executable),
+            None => None,
         }
     }
 

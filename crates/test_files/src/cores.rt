@@ -1,5 +1,6 @@
 //! Core files.
 
+mod ends;
 mod expected;
 mod listed;
 mod masks;

@@ -230,27 +230,27 @@ fn ranges(rt: HostRuntime) {
 }
 
 // Segments, and whether what is at an address may be executed.
-static EXECUTABLE: [(&[MemoryRange<'static>], &[(u64, bool)]); 2] = [
+static EXECUTABLE: [(&[MemoryRange<'static>], &[(u64, Option<bool>)]); 2] = [
     (
         &[left_out!(0x1000, 16, true), left_out!(0x1010, 8, false)],
         &[
-            (0, false),
-            (0xfff, false),
-            (0x1000, true),
-            (0x100f, true),
-            (0x1010, false),
-            (0x1018, false),
-            (u64::MAX, false),
+            (0, None),
+            (0xfff, None),
+            (0x1000, Some(true)),
+            (0x100f, Some(true)),
+            (0x1010, Some(false)),
+            (0x1018, None),
+            (u64::MAX, None),
         ],
     ),
     // the first of those that overlap
     (
         &[left_out!(0x1004, 4, false), left_out!(0x1000, 16, true)],
         &[
-            (0x1003, true),
-            (0x1004, false),
-            (0x1007, false),
-            (0x1008, true),
+            (0x1003, Some(true)),
+            (0x1004, Some(false)),
+            (0x1007, Some(false)),
+            (0x1008, Some(true)),
         ],
     ),
 ];
@@ -262,7 +262,7 @@ fn executable(rt: HostRuntime) {
     for (segments, addresses) in &EXECUTABLE {
         let memory = Memory::new(segments, &files);
         for (address, expected) in *addresses {
-            assert!(rt; memory.is_executable(*address) == *expected, "{address:#x}");
+            assert!(rt; memory.executable_at(*address) == *expected, "{address:#x}");
         }
     }
 }

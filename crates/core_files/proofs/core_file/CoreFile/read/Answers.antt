@@ -50,5 +50,5 @@ returns c =
     let noted = rw c.in_ok-elf.ensures.0 at c.in_ok-notes.ensures in
     let threaded = rw (c.machine.ensures, c.deref.ensures.value) at c.in_ok-threads.ensures in
     let filed = rw c.deref-2.ensures.value at c.in_ok-mapped_files.ensures in
-    rw (c.machine-2.ensures, c.auxv_of.ensures, c.deref-3.ensures.value)
+    rw (c.machine-2.ensures, c.descriptor_of.ensures, c.deref-3.ensures.value, c.descriptor_of-2.ensures, c.deref-4.ensures.value, c.descriptor_of-3.ensures, c.deref-5.ensures.value)
     (core-is (loaded_by (option_copied c.args.parts) c.args.bytes.now) (noted_by (option_copied c.args.parts) c.args.bytes.now) c.args.bytes.now header c.in_ok-elf.ensures.1 (ranges_seen c.in_ok-segments.segments.items) loaded (notes_seen c.in_ok-notes.notes.items) noted c.in_ok-threads.threads.items threaded _ filed)
