@@ -1,6 +1,7 @@
 pub mod Effects
 pub mod Execution
 pub mod ExpressionBytes
+pub mod Frequent
 pub mod InstructionViews
 pub mod Instructions
 pub mod OpcodeTables

@@ -1,10 +1,11 @@
 //! Call frame instructions (DWARF 5, 6.4.2 and 7.24).
 
-ghost use Rattle.std.specs.Prelude.{◌≡◌, ◌≢◌, IfErr, IfSome, None, Ok, Some};
+ghost use Rattle.std.specs.Prelude.{◌≡◌, ◌≢◌, IfErr, IfSome, None, Ok, Some, is_some};
 ghost use Rattle.list_laws.specs.Items.{GivesNext};
 ghost use Rattle.dwarf_constants.specs.declared.error.Error.TheVariants.{OutOfMemory};
 ghost use Rattle.dwarf_readers.specs.Leb128.{unsigned_16_at, unsigned_at};
 ghost use Rattle.dwarf_readers.specs.Stretch.{Reads};
+ghost use Rattle.dwarf_frame_instructions.specs.Frequent.{is_frequent_at, is_frequent_extended, one_short};
 ghost use Rattle.dwarf_frame_instructions.specs.Instructions.{expression_at, extended_opcodes, instruction_at, instructions_of, location_at, register_at};
 ghost use Rattle.dwarf_frame_instructions.specs.OpcodeTables.{from_cfa_definition, from_offset_rules, from_other_rules, from_row_state};
 ghost use Rattle.dwarf_frame_instructions.specs.InstructionViews.{GivesNextBy, MayRead, MayReadOperands, ReadsBy, ReadsOperands, conventions_of, expression_as, instruction_as, instructions_by};
@@ -189,20 +190,6 @@ impl<'a, R: Reader> CallFrameInstructionIter<'a, R> {
         self.coding.next(&mut self.input)
     }
 
-    /// The next instruction, if it is one of those that most programs have most of: `DW_CFA_advance_loc`,
-    /// `DW_CFA_advance_loc1`, `DW_CFA_restore`, `DW_CFA_remember_state`, `DW_CFA_restore_state`, `DW_CFA_nop`, or
-    /// with operands of one byte `DW_CFA_offset`, `DW_CFA_def_cfa`, `DW_CFA_def_cfa_register` or
-    /// `DW_CFA_def_cfa_offset`. Otherwise, and if it can't be read or none is left, `None`; then nothing is read, and
-    /// [`CallFrameInstructionIter::next`] says which it is.
-    #[inline(always)]
-    pub fn next_if_frequent(&mut self) -> Option<CallFrameInstruction<R::Offset>>
-        ensures some { IfSome result (λ instruction. GivesNext (instruction_as R.Offset.value)
-            (Ok (Some instruction)) self.old self.new) }
-        ensures none { result ≡ None → self.new ≡ self.old }
-    {
-        self.coding.next_if_frequent(&mut self.input)
-    }
-
     /// How the instructions that are left are read, and their bytes.
     #[inline(always)]
     pub fn into_parts(self) -> (Coding<'a, R>, R)
@@ -277,10 +264,14 @@ impl<'a, R: Reader> Coding<'a, R> {
         self.next(input)
     }
 
-    /// The next instruction of `input`, if it is a frequent one, as [`CallFrameInstructionIter::next_if_frequent`]
-    /// gives it. Otherwise nothing is read.
+    /// The next instruction of `input`, if it is one of those that most programs have most of: `DW_CFA_advance_loc`,
+    /// `DW_CFA_advance_loc1`, `DW_CFA_restore`, `DW_CFA_remember_state`, `DW_CFA_restore_state`, `DW_CFA_nop`, or
+    /// with operands of one byte `DW_CFA_offset`, `DW_CFA_def_cfa`, `DW_CFA_def_cfa_register` or
+    /// `DW_CFA_def_cfa_offset`. Otherwise, and if it can't be read or none is left, `None`; then nothing is read, and
+    /// [`CallFrameInstructionIter::next`] says which it is.
     #[inline(always)]
     pub fn next_if_frequent(&self, input: &mut R) -> Option<CallFrameInstruction<R::Offset>>
+        ensures frequent { is_some result ≡ is_frequent_at (R.stretch input.old) }
         ensures some { IfSome result (λ instruction. GivesNextBy R.stretch R.Offset.limit R.Offset.value
             self.now (Ok (Some instruction)) input.old input.new) }
         ensures none { result ≡ None → input.new ≡ input.old }
@@ -320,7 +311,8 @@ impl<'a, R: Reader> Coding<'a, R> {
     // Reads an instruction, if it is a frequent one.
     #[inline(always)]
     fn parse_frequent(&self, input: &mut R) -> Option<CallFrameInstruction<R::Offset>>
-        ensures { MayRead R.stretch R.Offset.limit R.Offset.value self.now instruction_at input.old result
+        ensures frequent { is_some result ≡ is_frequent_at (R.stretch input.old) }
+        ensures read { MayRead R.stretch R.Offset.limit R.Offset.value self.now instruction_at input.old result
             input.new }
     {
         let Ok(opcode) = input.read_u8() else {
@@ -349,7 +341,8 @@ impl<'a, R: Reader> Coding<'a, R> {
         opcode: DwCfa,
         input: &mut R,
     ) -> Option<CallFrameInstruction<R::Offset>>
-        ensures { MayReadOperands R.stretch R.Offset.limit R.Offset.value self.now extended_opcodes opcode
+        ensures frequent { is_some result ≡ is_frequent_extended opcode.0 (R.stretch input.old) }
+        ensures read { MayReadOperands R.stretch R.Offset.limit R.Offset.value self.now extended_opcodes opcode
             input.old result input.new }
     {
         match opcode {
@@ -566,6 +559,7 @@ fn parse_register<R: Reader>(input: &mut R) -> Result<Register>
 // Reads an unsigned number of variable length (DWARF 5, 7.6), if it has one byte.
 #[inline(always)]
 fn read_short<R: Reader>(input: &mut R) -> Option<u8>
+    ensures short { is_some result ≡ one_short (R.stretch input.old) }
     ensures number { IfSome result (λ n. Reads (Ok n) (unsigned_at (R.stretch input.old)) (R.stretch input.new)) }
     ensures of_16_bits { IfSome result (λ n. Reads (Ok n) (unsigned_16_at (R.stretch input.old)) (R.stretch input.new)) }
 {

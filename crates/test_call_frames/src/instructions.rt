@@ -55,16 +55,17 @@ fn list<R: Reader>(
 // The same, with a mark before each instruction that `next_if_frequent` gives.
 fn list_marked<R: Reader>(
     alloc: Global,
-    mut instructions: CallFrameInstructionIter<'_, R>,
+    instructions: CallFrameInstructionIter<'_, R>,
     mark: &str,
 ) -> Result<String, AllocError> {
     let mut text = String::new(alloc);
+    let (coding, mut input) = instructions.into_parts();
     for _ in 0..MOST {
-        if let Some(instruction) = instructions.next_if_frequent() {
+        if let Some(instruction) = coding.next_if_frequent(&mut input) {
             write!(text, "{mark}{instruction:?}; ")?;
             continue;
         }
-        match instructions.next() {
+        match coding.next_by_call(&mut input) {
             Ok(Some(instruction)) => write!(text, "{instruction:?}; ")?,
             Err(error) => write!(text, "{error:?}; ")?,
             Ok(None) => break,

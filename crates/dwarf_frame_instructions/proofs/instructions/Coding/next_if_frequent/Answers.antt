@@ -10,7 +10,7 @@ returns-clause-some g c =
     let view = instruction_as g.R.Offset.ReaderOffset.value in
     let s = g.R.Reader.stretch c.args.input.now in
     let rest = g.R.Reader.stretch c.parse_frequent.new.input in
-    let there = item_there conventions s (Ok (view c.in_ok-instruction.instruction, rest)) (sym c.is_empty.ensures ∙ c.if-is_empty.false) c.in_ok-instruction.ensures in
+    let there = item_there conventions s (Ok (view c.in_ok-instruction.instruction, rest)) (sym c.is_empty.ensures ∙ c.if-is_empty.false) c.in_ok-instruction.ensures.read in
     let first : instructions_of conventions s ≡ Ok (view c.in_ok-instruction.instruction) ∷ instructions_of conventions rest =
     next_taken conventions view (Ok (Some c.in_ok-instruction.instruction)) s rest there tt in
     first
