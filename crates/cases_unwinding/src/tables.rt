@@ -11,8 +11,8 @@ use framehop::aarch64::ArchAarch64;
 use framehop::x86_64::ArchX86_64;
 use roads::show_steps;
 
-/// Compares the steps for each line, which is as [`Case::parse`] reads it. Prints how many steps were made in how many modules and how
-/// many of them gave a caller, and before it each step that isn't as by the index.
+/// Compares the steps for each line, which is as [`Case::parse`] reads it. Prints how many steps were made, how many of them gave a caller,
+/// and at how many addresses the table says something else than at the address before, and before it each step that isn't as by the index.
 pub(crate) fn show_tables(rt: &HostRuntime, lines: &str) -> Result<()> {
     for line in lines.lines() {
         let case = Case::parse(rt.alloc(), line)?;

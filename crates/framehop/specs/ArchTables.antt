@@ -8,7 +8,10 @@ use Rattle.framehop_rows.specs.RowMeanings.{RowMeanings}
 use Rattle.dwarf_frame_parts.specs.RowParts.{parts_of}
 use Rattle.framehop_rows.specs.ScaledRow as x86_64
 use Rattle.framehop_rows.specs.ScaledRowAarch64 as aarch64
-use Rattle.framehop_tables.specs.Covered.{covered_at, tabulated}
+use Rattle.framehop_ranges.specs.Changes.{ChangesSo}
+use Rattle.framehop_rules.specs.declared.aarch64.unwind_rule.UnwindRuleAarch64.{UnwindRuleAarch64}
+use Rattle.framehop_rules.specs.declared.x86_64.unwind_rule.UnwindRuleX86_64.{UnwindRuleX86_64}
+use Rattle.framehop_tables.specs.Covered.{Tabulated, covered_at, tabulated}
 use Rattle.framehop_tables.specs.RuleTables.{IsTableOf}
 use Rattle.framehop_tables.specs.declared.covered.Covered.{Covered}
 use Rattle.framehop.specs.StepMeanings.{row_limits}
@@ -23,13 +26,28 @@ abbrev pub arch_of : ArchRuleTable → TableArch
 arch_of (X86_64 table) = arch.X86_64
 arch_of (Aarch64 table) = arch.Aarch64
 
--- The table says of each relative address what the index of this section says on the table's architecture, with the room for rows that
--- policies set.
+-- a section with its base on x86_64, with the room for rows that policies set
+abbrev pub on_x86_64 : (base : ℕ) → FrameSection → Tabulated UnwindRuleX86_64
+on_x86_64 = tabulated x86_64_rows.rows (λ row. x86_64.scaled_rule (parts_of x86_64.RBP x86_64.RA row)) row_limits x86_64_rows.rows.vendor
+
+-- .. on aarch64
+abbrev pub on_aarch64 : (base : ℕ) → FrameSection → Tabulated UnwindRuleAarch64
+on_aarch64 = tabulated aarch64_rows.rows (λ row. aarch64.scaled_rule (parts_of aarch64.X29 aarch64.X30 row)) row_limits aarch64_rows.rows.vendor
+
+-- The table says of each relative address what the index of this section says on the table's architecture.
 abbrev pub IsArchTableOf : ArchRuleTable → (base : ℕ) → FrameSection → Type 0
-IsArchTableOf (X86_64 table) base section =
-    IsTableOf (tabulated x86_64_rows.rows (λ row. x86_64.scaled_rule (parts_of x86_64.RBP x86_64.RA row)) row_limits x86_64_rows.rows.vendor) table base section
-IsArchTableOf (Aarch64 table) base section =
-    IsTableOf (tabulated aarch64_rows.rows (λ row. aarch64.scaled_rule (parts_of aarch64.X29 aarch64.X30 row)) row_limits aarch64_rows.rows.vendor) table base section
+IsArchTableOf (X86_64 table) base section = IsTableOf on_x86_64 table base section
+IsArchTableOf (Aarch64 table) base section = IsTableOf on_aarch64 table base section
+
+-- At so many relative addresses the index of a section says something else than at the address before, on an architecture.
+abbrev pub ChangesOn : TableArch → (base : ℕ) → FrameSection → (count : ℕ) → Type 0
+ChangesOn arch.X86_64 base section count = ChangesSo (covered_at (on_x86_64 base section)) count
+ChangesOn arch.Aarch64 base section count = ChangesSo (covered_at (on_aarch64 base section)) count
+
+-- .. as the index of a table's section does on the table's architecture
+abbrev pub CountsChangesOn : ArchRuleTable → (count : ℕ) → Type 0
+CountsChangesOn table count =
+    (base : ℕ) (section : FrameSection) → IsArchTableOf table base section → ChangesOn (arch_of table) base section count
 
 -- What a look-up of a relative address gave is what the index of the table's section says on an architecture.
 abbrev pub SaysAsIndexOn : {Rule Registers : Type 0} → RowMeanings Rule Registers → (Row ℕ → Option Rule) → ArchRuleTable → (relative : ℕ)

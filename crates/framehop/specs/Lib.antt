@@ -17,6 +17,7 @@ pub mod SameSteps
 pub mod StepMeanings
 pub mod TableAttempts
 pub mod TableMethods
+pub mod TableSizes
 pub mod TruthfulLookups
 pub mod UnwindData
 pub mod UnwindDataViews

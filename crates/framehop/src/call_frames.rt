@@ -12,6 +12,7 @@ ghost use Rattle.framehop.specs.LoadOptions.{table_on};
 ghost use Rattle.framehop.specs.MethodViews.{AnswersMethod};
 ghost use Rattle.framehop.specs.Methods.{UsesFde, method_at_offset, method_by_frames};
 ghost use Rattle.framehop.specs.RowAttempts.{dwarf_failure, failure_of};
+ghost use Rattle.framehop.specs.TableSizes.{IsSizeOf};
 ghost use Rattle.framehop.specs.UnwindData.{method_in};
 
 use crate::cache::AllocationPolicy;
@@ -159,6 +160,16 @@ impl<D: SectionBytes> CallFrames<D> {
     {
         match &self.beside {
             Some(beside) => Some(beside),
+            None => None,
+        }
+    }
+
+    // At how many relative addresses the table says something else than at the address before, if there is one.
+    pub(crate) fn table_size(&self) -> Option<usize>
+        ensures { IsSizeOf self.now.main self.now.table result }
+    {
+        match &self.table {
+            Some(table) => Some(table.change_count()),
             None => None,
         }
     }

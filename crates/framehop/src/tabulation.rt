@@ -4,7 +4,7 @@ ghost use Rattle.std.specs.Prelude.{◌≡◌, ◌↔◌, IfOk, IfSome, IsSome};
 ghost use Rattle.framehop_index.specs.CfiIndexView.{IsIndexOf};
 ghost use Rattle.framehop_tables.specs.Covered.{SaysValid, tabulated};
 ghost use Rattle.framehop_tables.specs.RuleTables.{IsTableOf};
-ghost use Rattle.framehop.specs.ArchTables.{IsArchTableOf, SaysAsIndexOn, arch_of};
+ghost use Rattle.framehop.specs.ArchTables.{CountsChangesOn, IsArchTableOf, SaysAsIndexOn, arch_of};
 ghost use Rattle.framehop_index.specs.SectionTypes.{frame_section_lent};
 ghost use Rattle.framehop.specs.StepMeanings.{row_limits};
 
@@ -28,6 +28,18 @@ pub enum ArchRuleTable {
     X86_64(RuleTable<ArchX86_64>),
     /// On aarch64.
     Aarch64(RuleTable<ArchAarch64>),
+}
+
+impl ArchRuleTable {
+    /// At how many relative addresses the table says something else than at the address before.
+    pub fn change_count(&self) -> usize
+        ensures { CountsChangesOn self.now result }
+    {
+        match self {
+            ArchRuleTable::X86_64(table) => table.change_count(),
+            ArchRuleTable::Aarch64(table) => table.change_count(),
+        }
+    }
 }
 
 // The table of a section of call frames, in which rows have the room that steps under every policy have.

@@ -1,6 +1,7 @@
 //! What a module is unwound by, for a profiler's log.
 
 ghost use Rattle.std.specs.Prelude.{◌≡◌};
+ghost use Rattle.framehop.specs.TableSizes.{IsTableSize};
 ghost use Rattle.framehop.specs.UnwindDataViews.{format_view};
 ghost use Rattle.framehop.specs.UnwindKinds.{kind_of, kind_of_section, left_out_of, left_out_of_section};
 
@@ -88,5 +89,16 @@ impl<D: SectionBytes> ModuleUnwindData<D> {
         ensures { result ≡ left_out_of self.now.format }
     {
         left_out_of(self.format())
+    }
+
+    /// How large the table of rules is that the load made: at how many relative addresses it says something else than at the address
+    /// before. `None` if the load made none.
+    pub fn table_size(&self) -> Option<usize>
+        ensures { IsTableSize self.now.format result }
+    {
+        match self.format() {
+            ModuleFormat::CallFrames(frames) => frames.table_size(),
+            ModuleFormat::Pe(_) | ModuleFormat::Compact(_) | ModuleFormat::NoFormat => None,
+        }
     }
 }

@@ -24,6 +24,8 @@ type Stepped = (std::result::Result<Option<u64>, Error>, (u64, u64, u64));
 #[derive(Drop)]
 struct Roads<A: ComparedArch> {
     table: Compared<A>,
+    /// At how many addresses the table says something else than at the address before, if there is one.
+    table_size: Option<usize>,
     index: Compared<A>,
     header: Compared<A>,
     scan: Compared<A>,
@@ -89,6 +91,7 @@ impl<A: ComparedArch> Roads<A> {
         let header = module_of(alloc, case, FdeLookup::Auto, None)?;
         let scan = module_of(alloc, case, FdeLookup::Scan, None)?;
         Ok(Roads {
+            table_size: table.unwind_data().table_size(),
             table: unwinder_of::<A>(alloc, &mut generations, table)?,
             index: unwinder_of::<A>(alloc, &mut generations, index)?,
             header: unwinder_of::<A>(alloc, &mut generations, header)?,
@@ -180,7 +183,7 @@ fn compare_all<A: ComparedArch>(
     Ok(())
 }
 
-/// Compares the steps of a case, through one cache, and shows what was counted and each difference.
+/// Compares the steps of a case, through one cache, and shows what was counted, each difference, and how large the table is.
 pub fn show_steps<A: ComparedArch>(alloc: Global, case: &Case) -> Result<String> {
     let roads: Roads<A> = Roads::new(alloc, case)?;
     let mut cache: ComparedCache<A> = Cache::new(alloc, DwarfUnwindContext::new(alloc)?)?;
@@ -214,7 +217,11 @@ pub fn show_steps<A: ComparedArch>(alloc: Global, case: &Case) -> Result<String>
     } = tally;
     write!(
         shown,
-        "{steps} steps, {callers} callers, {differences} differences\n"
+        "{steps} steps, {callers} callers, {differences} differences; "
     )?;
+    match roads.table_size {
+        Some(size) => write!(shown, "{size} changes\n")?,
+        None => write!(shown, "no table\n")?,
+    }
     Ok(shown)
 }
