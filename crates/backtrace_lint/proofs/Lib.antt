@@ -4,6 +4,7 @@ pub mod Gathers
 pub mod HeaderLines
 pub mod HeaderTables
 pub mod IndexLaws
+pub mod Keeping
 pub mod Members
 pub mod NamedFdes
 pub mod ReadRows

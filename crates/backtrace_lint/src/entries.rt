@@ -1,14 +1,16 @@
 //! Entries of a section of call frames, as findings see them.
 
-ghost use Rattle.std.specs.Prelude.{◌≡◌};
+ghost use Rattle.std.specs.Prelude.{◌≡◌, Ok};
 ghost use Rattle.dwarf_endianity.specs.Answers.{Gives};
 ghost use Rattle.dwarf_frame_entries.specs.EntryViews.{entry_view};
+ghost use Rattle.dwarf_frame_entries.specs.SectionFdes.{IsOfSection};
+ghost use Rattle.dwarf_frame_entries.specs.SectionWithin.{section_within};
 ghost use Rattle.backtrace_lint.specs.ListedFdes.{code_of, listed_entry, listed_fde};
 ghost use Rattle.backtrace_lint.specs.Faults.{end_of_entry, offset_after, offset_of};
 
 use backtrace_findings::{Code, ListedFde};
 use dwarf_frame_entries::{
-    BaseAddresses, CieOrFde, Entry, FrameDescriptionEntry, PartialFrameDescriptionEntry,
+    BaseAddresses, CieOrFde, Entry, FrameDescriptionEntry, KnownCies, PartialFrameDescriptionEntry,
     UnwindSection,
 };
 use dwarf_readers::{Reader, ReaderOffset};
@@ -23,13 +25,16 @@ fn code_of<R: Reader>(fde: &FrameDescriptionEntry<R>) -> Code
     }
 }
 
-// An FDE of a section's list.
+// An FDE of a section's list. Its CIE is read only if no FDE before it names that.
 fn listed_fde<R: Reader, Section: UnwindSection<R>>(
+    cies: &mut KnownCies<'_, Section, R>,
     partial: &PartialFrameDescriptionEntry<'_, Section, R>,
 ) -> ListedFde
-    ensures { result ≡ listed_fde R.Offset.limit Section.kind partial.now }
+    requires { partial.now.within ≡ cies.old }
+    ensures listed { result ≡ listed_fde R.Offset.limit Section.kind partial.now }
+    ensures same { cies.new ≡ cies.old }
 {
-    let read = match partial.parse_by_offset() {
+    let read = match cies.fde(partial) {
         Ok(fde) => Ok(code_of(&fde)),
         Err(error) => Err(error),
     };
@@ -41,14 +46,18 @@ fn listed_fde<R: Reader, Section: UnwindSection<R>>(
 
 /// The FDE that an entry is, if it isn't a CIE.
 pub(crate) fn listed_entry<R: Reader, Section: UnwindSection<R>>(
+    cies: &mut KnownCies<'_, Section, R>,
     entry: &CieOrFde<'_, Section, R>,
 ) -> Option<ListedFde>
-    ensures { result ≡ listed_entry R.Offset.limit Section.kind
+    requires { IsOfSection (section_within R.Offset.limit Section.kind cies.old)
+        (Ok (entry_view R.stretch R.Offset.value entry.now)) }
+    ensures listed { result ≡ listed_entry R.Offset.limit Section.kind
         (entry_view R.stretch R.Offset.value entry.now) }
+    ensures same { cies.new ≡ cies.old }
 {
     match entry {
         Entry::Cie(_) => None,
-        Entry::Fde(partial) => Some(listed_fde(partial)),
+        Entry::Fde(partial) => Some(listed_fde(cies, partial)),
     }
 }
 

@@ -1,13 +1,15 @@
 //! A pass over the entries of a section.
 
-ghost use Rattle.std.specs.Prelude.{◌≡◌, IfOk, OnOk};
+ghost use Rattle.std.specs.Prelude.{◌≡◌, IfOk, Ok, OnOk};
 ghost use Rattle.dwarf_frame_entries.specs.EntryViews.{entry_view};
+ghost use Rattle.dwarf_frame_entries.specs.SectionFdes.{IsOfSection};
+ghost use Rattle.dwarf_frame_entries.specs.SectionWithin.{section_within};
 ghost use Rattle.backtrace_lint.specs.GatheredViews.{Gathers};
 ghost use Rattle.backtrace_lint.specs.ListedFdes.{listed_entry, with_listed};
 
 use crate::entries::{listed_entry, offset_after};
 use backtrace_findings::{Fault, ListedFde};
-use dwarf_frame_entries::{BaseAddresses, CieOrFde, UnwindSection};
+use dwarf_frame_entries::{BaseAddresses, CieOrFde, KnownCies, UnwindSection};
 use dwarf_readers::Reader;
 use std::alloc::{AllocError, Global};
 
@@ -21,12 +23,16 @@ pub(crate) struct Gathered {
 // Adds the FDE that an entry is, if it isn't a CIE.
 fn push_entry<R: Reader, Section: UnwindSection<R>>(
     fdes: &mut Vec<ListedFde>,
+    cies: &mut KnownCies<'_, Section, R>,
     entry: &CieOrFde<'_, Section, R>,
 ) -> Result<(), AllocError>
-    ensures { OnOk result (fdes.new.items ≡ with_listed fdes.old.items
+    requires { IsOfSection (section_within R.Offset.limit Section.kind cies.old)
+        (Ok (entry_view R.stretch R.Offset.value entry.now)) }
+    ensures listed { OnOk result (fdes.new.items ≡ with_listed fdes.old.items
         (listed_entry R.Offset.limit Section.kind (entry_view R.stretch R.Offset.value entry.now))) }
+    ensures same { cies.new ≡ cies.old }
 {
-    let Some(fde) = listed_entry(entry) else {
+    let Some(fde) = listed_entry(cies, entry) else {
         return Ok(());
     };
     fdes.push(fde)?;
@@ -43,11 +49,12 @@ pub(crate) fn gather<R: Reader, Section: UnwindSection<R>>(
 {
     let mut fdes = Vec::new(alloc);
     let mut offset = 0;
+    let mut cies = KnownCies::new(alloc, section, bases);
     let mut entries = section.entries(bases);
     'entries: loop {
         match entries.next() {
             Ok(Some(entry)) => {
-                push_entry(&mut fdes, &entry)?;
+                push_entry(&mut fdes, &mut cies, &entry)?;
                 offset = offset_after(section, bases, &entry);
             }
             Ok(None) => return Ok(Gathered { fdes, fault: None }),

@@ -8,8 +8,8 @@ ghost use Rattle.backtrace_lint.specs.RowViews.{Adds, AddsFde, AddsOf, AddsPart,
 use backtrace_findings::FailedFde;
 use dwarf_constants::Error;
 use dwarf_frame_entries::{
-    BaseAddresses, Entry, FrameDescriptionEntry, PartialFrameDescriptionEntry, UnwindContext,
-    UnwindContextStorage, UnwindSection,
+    BaseAddresses, Entry, FrameDescriptionEntry, KnownCies, PartialFrameDescriptionEntry,
+    UnwindContext, UnwindContextStorage, UnwindSection,
 };
 use dwarf_frame_instructions::ProgramRows;
 use dwarf_frame_rows::{RegisterRule, RuledRegister, UnwindTableRow};
@@ -127,20 +127,23 @@ fn add_fde<A: RowRules, R: Reader, Section: UnwindSection<R>, S: UnwindContextSt
     )
 }
 
-// Adds what is found of an entry that is an FDE, if it can be read.
+// Adds what is found of an entry that is an FDE, if it can be read. Its CIE is read only if no FDE before it names that.
 fn add_part<A: RowRules, R: Reader, Section: UnwindSection<R>, S: UnwindContextStorage<R::Offset>>(
     found: &mut RowFindings,
     section: &Section,
     bases: &BaseAddresses,
     context: &mut UnwindContext<R::Offset, S>,
+    cies: &mut KnownCies<'_, Section, R>,
     part: &PartialFrameDescriptionEntry<'_, Section, R>,
 ) -> Result<(), AllocError>
     requires fixed { S.never_allocates }
     requires vendor { Section.extensions section.now ≡ A.rows.vendor }
-    ensures { OnOk result (AddsPart S.limits A.rows A.rule_of
+    requires there { part.now.within ≡ cies.old }
+    ensures same { cies.new ≡ cies.old }
+    ensures adds { OnOk result (AddsPart S.limits A.rows A.rule_of
         (Section.frame section.now bases.now) part.now found.old found.new) }
 {
-    match part.parse_by_offset() {
+    match cies.fde(part) {
         Ok(fde) => add_fde::<A, R, Section, S>(found, section, bases, context, &fde),
         Err(_) => Ok(()),
     }
@@ -167,12 +170,20 @@ pub(crate) fn row_findings<
         unsaid: Vec::new(alloc),
         failed: Vec::new(alloc),
     };
+    let mut cies = KnownCies::new(alloc, section, bases);
     let mut entries = section.entries(bases);
     'entries: loop {
         match entries.next() {
             Ok(Some(Entry::Cie(_))) => {}
             Ok(Some(Entry::Fde(part))) => {
-                add_part::<A, R, Section, S>(&mut found, section, bases, &mut *context, &part)?;
+                add_part::<A, R, Section, S>(
+                    &mut found,
+                    section,
+                    bases,
+                    &mut *context,
+                    &mut cies,
+                    &part,
+                )?;
             }
             Ok(None) => return Ok(found),
             Err(_) => return Ok(found),

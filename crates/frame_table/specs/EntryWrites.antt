@@ -27,9 +27,13 @@ use Rattle.frame_table_text.specs.declared.tables.Table.{Table as Made}
 abbrev pub setting : Limits → FrameSection → Vendor → Option Machine → Setting
 setting limits section vendor machine = record { section = section; vendor = vendor; machine = machine; limits = limits }
 
--- how a section of the code is listed, by what its type says of it
+-- a section of the code that is listed, by what its type says of it
+abbrev pub section_by : {S : Type 0} → (S → BaseAddresses → FrameSection) → Listed S → FrameSection
+section_by frame listed = frame listed.section.now listed.bases.now
+
+-- .. and how
 abbrev pub setting_by : {S : Type 0} → (S → BaseAddresses → FrameSection) → (S → Vendor) → Limits → Listed S → Setting
-setting_by frame extensions limits listed = setting limits (frame listed.section.now listed.bases.now) (extensions listed.section.now) listed.machine
+setting_by frame extensions limits listed = setting limits (section_by frame listed) (extensions listed.section.now) listed.machine
 
 -- the program of a CIE of a section of the code, by what its type says of it
 abbrev pub own_program : {S R E O : Type 0} → (S → BaseAddresses → FrameSection) → (S → Vendor) → S → BaseAddresses → (R → Stretch) → (O → ℕ)

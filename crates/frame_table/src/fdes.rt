@@ -11,8 +11,8 @@ use crate::entry_prefix::{EntryPrefix, entry_prefix_at};
 use crate::listed::Listed;
 use crate::parts::{PartEnd, end_part, push_fault, push_prefix, table_of};
 use dwarf_frame_entries::{
-    FrameDescriptionEntry, PartialFrameDescriptionEntry, UnwindContext, UnwindContextStorage,
-    UnwindOffset, UnwindSection,
+    FrameDescriptionEntry, KnownCies, PartialFrameDescriptionEntry, UnwindContext,
+    UnwindContextStorage, UnwindOffset, UnwindSection,
 };
 use dwarf_readers::{Reader, ReaderOffset};
 use frame_table_text::{Table, add_columns, push_bytes, push_hex};
@@ -108,21 +108,25 @@ fn cie_offset_of<R: Reader, Section: UnwindSection<R>>(
     UnwindOffset::into(partial.cie_offset()).into_u64()
 }
 
-// Appends the text of an FDE whose prefix is read, or the line of the error if the FDE can't be read.
+// Appends the text of an FDE whose prefix is read, or the line of the error if the FDE can't be read. Its CIE is read only if no FDE
+// before it names that.
 fn push_fde_or_fault<R: Reader, Section: UnwindSection<R>, S: UnwindContextStorage<R::Offset>>(
     alloc: Global,
     listed: &Listed<'_, Section>,
     context: &mut UnwindContext<R::Offset, S>,
+    cies: &mut KnownCies<'_, Section, R>,
     partial: &PartialFrameDescriptionEntry<'_, Section, R>,
     prefix: &EntryPrefix<R>,
     text: &mut Vec<u8>,
 ) -> Result<PartEnd, AllocError>
-    ensures { let s = setting_by Section.frame Section.extensions S.limits listed.now in
+    requires { partial.now.within ≡ cies.old }
+    ensures lists { let s = setting_by Section.frame Section.extensions S.limits listed.now in
         WritesPart (fde_or_fault s partial.now (prefix_view R.stretch prefix.now)
         (fde_of R.Offset.limit Section.kind partial.now))
         text.old.items text.new.items result }
+    ensures same { cies.new ≡ cies.old }
 {
-    match partial.parse_by_offset() {
+    match cies.fde(partial) {
         Ok(fde) => {
             let cie_offset = cie_offset_of(partial);
             push_whole_fde(alloc, listed, context, cie_offset, &fde, prefix, text)
@@ -139,14 +143,17 @@ pub(crate) fn push_fde<R: Reader, Section: UnwindSection<R>, S: UnwindContextSto
     alloc: Global,
     listed: &Listed<'_, Section>,
     context: &mut UnwindContext<R::Offset, S>,
+    cies: &mut KnownCies<'_, Section, R>,
     partial: &PartialFrameDescriptionEntry<'_, Section, R>,
     text: &mut Vec<u8>,
 ) -> Result<PartEnd, AllocError>
-    ensures { ListsFde Section.frame Section.extensions S.limits listed.now
+    requires { partial.now.within ≡ cies.old }
+    ensures lists { ListsFde Section.frame Section.extensions S.limits listed.now
         partial.now text.old text.new result }
+    ensures same { cies.new ≡ cies.old }
 {
     match entry_prefix_at(listed.section, listed.bases, partial.offset()) {
-        Ok(prefix) => push_fde_or_fault(alloc, listed, context, partial, &prefix, text),
+        Ok(prefix) => push_fde_or_fault(alloc, listed, context, cies, partial, &prefix, text),
         Err(error) => {
             let offset = partial.offset().into_u64();
             push_fault(alloc, error, offset, offset, text)

@@ -1,17 +1,21 @@
 //! The listing of a section, entry by entry.
 
-ghost use Rattle.std.specs.Prelude.{◌≡◌, false};
+ghost use Rattle.std.specs.Prelude.{◌≡◌, Ok, false};
 ghost use Rattle.json_program.specs.Errors.{ReportsFailures};
 ghost use Rattle.json_program.specs.Stream.{WritesText};
 ghost use Rattle.frame_table.specs.Entries.{fault_text};
-ghost use Rattle.frame_table.specs.EntryWrites.{Lists, ListsSection};
+ghost use Rattle.dwarf_frame_entries.specs.EntryViews.{entry_view};
+ghost use Rattle.dwarf_frame_entries.specs.SectionFdes.{IsOfSection};
+ghost use Rattle.frame_table.specs.EntryWrites.{Lists, ListsSection, section_by};
 
 use crate::cies::push_cie;
 use crate::fdes::push_fde;
 use crate::listed::Listed;
 use crate::parts::{PartEnd, fault_text};
 use dwarf_constants::Error;
-use dwarf_frame_entries::{CieOrFde, Entry, UnwindContext, UnwindContextStorage, UnwindSection};
+use dwarf_frame_entries::{
+    CieOrFde, Entry, KnownCies, UnwindContext, UnwindContextStorage, UnwindSection,
+};
 use dwarf_frame_rows::_UnwindSectionPrivate;
 use dwarf_readers::Reader;
 use json_program::{RunError, Sink, write_all};
@@ -22,15 +26,20 @@ fn push_entry<R: Reader, Section: UnwindSection<R>, S: UnwindContextStorage<R::O
     alloc: Global,
     listed: &Listed<'_, Section>,
     context: &mut UnwindContext<R::Offset, S>,
+    cies: &mut KnownCies<'_, Section, R>,
     entry: &CieOrFde<'_, Section, R>,
     text: &mut Vec<u8>,
 ) -> Result<PartEnd, AllocError>
-    ensures { Lists Section.frame Section.extensions S.limits listed.now
+    requires entry { IsOfSection (section_by Section.frame listed.now)
+        (Ok (entry_view R.stretch R.Offset.value entry.now)) }
+    requires cies { cies.old ≡ (section_by Section.frame listed.now).within }
+    ensures lists { Lists Section.frame Section.extensions S.limits listed.now
         R.stretch R.Offset.value entry.now text.old text.new result }
+    ensures same { cies.new ≡ cies.old }
 {
     match entry {
         Entry::Cie(cie) => push_cie(alloc, listed, context, cie, text),
-        Entry::Fde(partial) => push_fde(alloc, listed, context, partial, text),
+        Entry::Fde(partial) => push_fde(alloc, listed, context, cies, partial, text),
     }
 }
 
@@ -77,12 +86,13 @@ pub(crate) fn write_listing<
 {
     let mut offset = start_of(listed.section);
     let mut is_whole = true;
+    let mut cies = KnownCies::new(alloc, listed.section, listed.bases);
     let mut entries = listed.section.entries(listed.bases);
     'entries: loop {
         match entries.next() {
             Ok(Some(entry)) => {
                 let mut text = Vec::new(alloc);
-                let end = push_entry(alloc, listed, context, &entry, &mut text)?;
+                let end = push_entry(alloc, listed, context, &mut cies, &entry, &mut text)?;
                 write_all(writer, text.as_slice())?;
                 offset = end.offset;
                 is_whole &= end.is_whole;
