@@ -1,3 +1,4 @@
+pub mod Addresses
 pub mod Calls
 pub mod FrameLaws
 pub mod MoveLaws

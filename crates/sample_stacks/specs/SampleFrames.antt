@@ -9,8 +9,7 @@ use Rattle.framehop_unwinder.specs.Walk.{Move, Walk}
 use Rattle.framehop_unwinder.specs.WalkViews.{walk_from}
 use Rattle.framehop_unwinder.specs.declared.ids.UnwinderId.{UnwinderId}
 use Rattle.sample_stacks.specs.SampleMeanings.{SampleMeanings}
-use Rattle.sample_stacks.specs.SampleWalks.{Ends, Next, Reaches, moved_by, next_of}
-use Rattle.sample_stacks.specs.StackCopies.{copied_words}
+use Rattle.sample_stacks.specs.SampleWalks.{Ends, Next, Reaches, advanced_by, next_of}
 use Rattle.sample_stacks.specs.declared.arch.SampleStart.{SampleStart}
 use Rattle.sample_stacks.specs.declared.frames.TheConstants.{MOST_FRAMES}
 use Rattle.sample_stacks.specs.declared.stack_copy.StackCopy.{StackCopy}
@@ -33,16 +32,17 @@ frames_from start moved zero walk = record { frames = []; end = Broken }
 frames_from start moved (suc left) walk =
     frames_by (next_of start (moved walk).answer) (frames_from start moved left (moved walk).walk)
 
--- the frames of a sample, whose walk begins here: each move is the judge's over these modules and the words of the copy
-abbrev pub frames_of : {Rule Registers : Type 0} → SampleMeanings Rule Registers → List (Loaded UnwindData) → StackCopy → SampleStart Registers
-    → SampleFrames
-frames_of samples modules copy start =
-    frames_from copy.start (moved_by samples modules (copied_words copy)) MOST_FRAMES (walk_from start.instruction_pointer start.registers)
+-- the frames of a sample, whose walk begins here: each move is the judge's over these modules, the words of the copy and the code of the
+-- process
+abbrev pub frames_of : {Rule Registers : Type 0} → SampleMeanings Rule Registers → List (Loaded UnwindData) → StackCopy → (ℕ → List ℕ)
+    → SampleStart Registers → SampleFrames
+frames_of samples modules copy code start =
+    frames_from copy.start (advanced_by samples modules copy code) MOST_FRAMES (walk_from start.instruction_pointer start.registers)
 
 -- those by the modules of an unwinder of a session
 abbrev pub frames_in : {Rule Registers : Type 0} → SampleMeanings Rule Registers → SessionState UnwindData Rule → UnwinderId → StackCopy
-    → SampleStart Registers → SampleFrames
-frames_in samples session unwinder copy start = frames_of samples (modules_by session unwinder) copy start
+    → (ℕ → List ℕ) → SampleStart Registers → SampleFrames
+frames_in samples session unwinder copy code start = frames_of samples (modules_by session unwinder) copy code start
 
 -- frames behind others
 abbrev pub behind : List Frame → SampleFrames → SampleFrames

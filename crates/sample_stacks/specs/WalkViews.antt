@@ -1,5 +1,7 @@
 -- What contracts see of walks.
-use Rattle.std.specs.Prelude.{◌≡◌, ℕ, List, map}
+use Rattle.std.specs.Prelude.{◌≡◌, ℕ, List, map, Result, IfOk, Vec}
+use Rattle.std.specs.Global.{Global}
+use Rattle.std.specs.declared.alloc.AllocError.{AllocError}
 use Rattle.framehop_registers.specs.declared.code_address.FrameAddress.{FrameAddress}
 use Rattle.framehop_unwinder.specs.ByNumber.{marks}
 use Rattle.framehop_unwinder.specs.Frames.{frame_of}
@@ -32,6 +34,6 @@ pub record KeepsModules {Data Rule : Type 0} (old new : SessionState Data Rule) 
 abbrev pub frames_seen : List FrameAddress → WalkEnd → SampleFrames
 frames_seen addresses end = record { frames = map frame_of addresses; end = end }
 
--- A call adds these frames behind others, and returns how their walk ends.
-abbrev pub AddsFrames : List FrameAddress → List FrameAddress → SampleFrames → WalkEnd → Type 0
-AddsFrames old new found end = frames_seen new end ≡ behind (map frame_of old) found
+-- A call, if it doesn't fail, adds these frames behind others, and returns how their walk ends.
+abbrev pub AddsFrames : Result WalkEnd AllocError → Vec FrameAddress Global → Vec FrameAddress Global → SampleFrames → Type 0
+AddsFrames result old new found = IfOk result (λ end. frames_seen new.items end ≡ behind (map frame_of old.items) found)

@@ -2,6 +2,7 @@
 #![tactic(auto)]
 
 mod arch;
+mod code;
 mod frames;
 mod kernel;
 mod signals;
@@ -9,7 +10,8 @@ mod stack_copy;
 mod walks;
 
 pub use arch::{SampleArch, SampleModules, SampleStart};
+pub use code::ProcessCode;
 pub use frames::{MOST_FRAMES, push_frames};
 pub use kernel::push_kernel_frames;
 pub use stack_copy::StackCopy;
-pub use walks::{NextMove, WalkEnd, next_move};
+pub use walks::{NextMove, WalkEnd, next_frame, next_move};
