@@ -1,3 +1,4 @@
 pub mod Counting
 pub mod Order
 pub mod Sums
+pub mod Texts

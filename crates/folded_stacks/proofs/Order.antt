@@ -10,7 +10,7 @@ use Rattle.std.specs.declared.cmp.Ordering.TheVariants.{Less, Equal, Greater}
 use Rattle.folded_stacks.specs.CountLaws.{LinesAreInOrder}
 use Rattle.folded_stacks.specs.Lines.{Line, all_counted, count_of, counted, more_than, with_line}
 
-abbrev stacks : List Line → List (List ℕ)
+abbrev pub stacks : List Line → List (List ℕ)
 stacks lines = map (λ line. line.stack) lines
 
 abbrev ends : Ordering → Line → Line → List Line → List Line
@@ -31,7 +31,7 @@ all-with P line (other ∷ others) one all =
     all-by P line other others (slice_cmp nat_cmp line.stack other.stack) one all (all-with P line others one all.1)
 
 -- what is behind a stack is behind one before it
-behind : (x y : List ℕ) (zs : List (List ℕ)) → slice_cmp nat_cmp x y ≡ Less → AllByRecursion (λ z. slice_cmp nat_cmp y z ≡ Less) zs
+pub behind : (x y : List ℕ) (zs : List (List ℕ)) → slice_cmp nat_cmp x y ≡ Less → AllByRecursion (λ z. slice_cmp nat_cmp y z ≡ Less) zs
     → AllByRecursion (λ z. slice_cmp nat_cmp x z ≡ Less) zs
 behind x y [] less all = tt
 behind x y (z ∷ zs) less all = (nat_list_cmp_total.trans x y z less all.0, behind x y zs less all.1)
@@ -47,17 +47,17 @@ kept-by line other others Greater is up further =
     (all-with (λ y. slice_cmp nat_cmp other.stack y ≡ Less) line others less up.0, further)
 
 -- lines in order stay so with another
-kept : (line : Line) (lines : List Line) → IsStrictlySortedBy (slice_cmp nat_cmp) (stacks lines) → IsStrictlySortedBy (slice_cmp nat_cmp) (stacks (with_line line lines))
+pub kept : (line : Line) (lines : List Line) → IsStrictlySortedBy (slice_cmp nat_cmp) (stacks lines) → IsStrictlySortedBy (slice_cmp nat_cmp) (stacks (with_line line lines))
 unfolding IsStrictlySortedBy
 kept line [] up = (tt, tt)
 kept line (other ∷ others) up = kept-by line other others (slice_cmp nat_cmp line.stack other.stack) refl up (kept line others up.1)
 
-all-kept : (samples lines : List Line) → IsStrictlySortedBy (slice_cmp nat_cmp) (stacks lines) → IsStrictlySortedBy (slice_cmp nat_cmp) (stacks (all_counted samples lines))
+pub all-kept : (samples lines : List Line) → IsStrictlySortedBy (slice_cmp nat_cmp) (stacks lines) → IsStrictlySortedBy (slice_cmp nat_cmp) (stacks (all_counted samples lines))
 all-kept [] lines up = up
 all-kept (sample ∷ samples) lines up =
     all-kept samples (counted sample lines) (kept (record { stack = sample.stack; count = more_than (count_of sample.stack lines) sample.count }) lines up)
 
-none : IsStrictlySortedBy (slice_cmp nat_cmp) (stacks [])
+pub none : IsStrictlySortedBy (slice_cmp nat_cmp) (stacks [])
 unfolding IsStrictlySortedBy
 none = tt
 

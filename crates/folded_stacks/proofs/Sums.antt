@@ -51,7 +51,7 @@ module _ (stack : List ℕ) where
           sym ((bytes_eq-Decides line.stack other.stack).1 equal) ∙ sym (is_eq-slice_cmp line.stack other.stack) ∙ ap is_eq is
 
   -- what is counted of a stack, once a line is in its place
-  put : (line : Line) (lines : List Line) → count_of stack (with_line line lines) ≡ cond (bytes_eq stack line.stack) (Some line.count) (count_of stack lines)
+  pub put : (line : Line) (lines : List Line) → count_of stack (with_line line lines) ≡ cond (bytes_eq stack line.stack) (Some line.count) (count_of stack lines)
   put line [] = refl
   put line (other ∷ others) = put-by line other others (slice_cmp nat_cmp line.stack other.stack) refl (put line others)
 

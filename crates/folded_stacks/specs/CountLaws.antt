@@ -19,3 +19,12 @@ CountsAreSums = (samples : List Line) (stack : List ℕ) → AllByRecursion (λ 
 -- Each line's stack comes before those of the lines behind it, and so none is there twice.
 abbrev pub LinesAreInOrder : Type 0
 LinesAreInOrder = (samples : List Line) → IsStrictlySortedBy (slice_cmp nat_cmp) (map (λ line. line.stack) (all_counted samples []))
+
+-- a line by another name of its stack
+abbrev pub as_text : (List ℕ → List ℕ) → Line → Line
+as_text text line = record { stack = text line.stack; count = line.count }
+
+-- Samples that are counted by one name of their stacks, and then by another, are counted by the other one at once.
+abbrev pub TextsAreCounted : Type 0
+TextsAreCounted = (text : List ℕ → List ℕ) (samples : List Line)
+    → all_counted (map (as_text text) (all_counted samples [])) [] ≡ all_counted (map (as_text text) samples) []

@@ -10,6 +10,6 @@ mod names;
 
 pub use counts::{StackCounts, lines_of};
 pub use frame_names::FrameNames;
-pub use laws::{counts_are_sums, lines_are_in_order};
+pub use laws::{counts_are_sums, lines_are_in_order, texts_are_counted};
 pub use lines::{FoldedLine, push_line};
 pub use names::{push_address, push_frame_name, push_kernel_name, push_process_name};
