@@ -11,6 +11,14 @@ use Rattle.fold_stacks.specs.declared.frames.UserFrame.{UserFrame}
 abbrev pub frame_of : FrameAddress → Option CodePlace → UserFrame
 frame_of address place = record { address = address_of address; lookup = lookup_address_of address; place = place }
 
+-- a frame without its place
+abbrev pub without_place : UserFrame → UserFrame
+without_place frame = record { address = frame.address; lookup = frame.lookup; place = None }
+
+-- the frame at an address, without a place
+abbrev pub unplaced : FrameAddress → UserFrame
+unplaced address = frame_of address None
+
 -- what a walk has in place of its outermost frame, by how it ends
 abbrev pub end_text : WalkEnd → Option (List ℕ)
 end_text Complete = None

@@ -5,3 +5,4 @@ pub mod Frames
 pub mod RecordChanges
 pub mod Selections
 pub mod Stacks
+pub mod Walks

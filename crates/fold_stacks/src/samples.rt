@@ -11,7 +11,7 @@ use crate::names::{BROKEN, TRUNCATED, push_process};
 use crate::order::{StackParts, folded_stack};
 use crate::processes::ModuleTable;
 use crate::totals::FoldTotals;
-use crate::walks::{Walker, push_user_frames};
+use crate::walks::{Walker, placed, take_user_frames};
 use fold_options::FoldOptions;
 use folded_stacks::{FoldedLine, StackCounts, lines_of};
 use perf_files::{Sample, ThreadId};
@@ -137,18 +137,19 @@ impl<A: SampleArch> SampleStacks<A> {
         pid: u32,
         sample: &Sample<'_>,
     ) -> Result<(Vec<UserFrame>, WalkEnd), AllocError> {
-        let mut frames = Vec::new(alloc);
+        let mut addresses = Vec::new(alloc);
         let modules = self
             .modules
             .modules_of::<A>(alloc, &mut self.walker, processes, pid)?;
-        let end = push_user_frames::<A, F>(
+        let end = take_user_frames::<A, F>(
             alloc,
             &mut self.walker,
             modules,
             files,
             sample,
-            &mut frames,
+            &mut addresses,
         )?;
+        let frames = placed(alloc, modules, addresses.as_slice())?;
         Ok((frames, end))
     }
 

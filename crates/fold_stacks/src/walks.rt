@@ -1,25 +1,23 @@
 //! The walk over the stack of a sample.
 
-ghost use Rattle.std.specs.Prelude.{◌≡◌};
-ghost use Rattle.fold_stacks.specs.Frames.{frame_of};
+ghost use Rattle.std.specs.Prelude.{◌≡◌, ◌<◌, IfOk, map};
+ghost use Rattle.std.specs.Bool.{OnFalse, OnTrue};
+ghost use Rattle.process_modules.specs.Modules.{ranges_left};
+ghost use Rattle.fold_stacks.specs.Frames.{frame_of, unplaced, without_place};
+ghost use Rattle.fold_stacks.specs.Walks.{AreFrames};
 
 use crate::files::SampledFiles;
 use crate::frames::UserFrame;
 use framehop::x86_64::SlotCount;
-use framehop::{CacheId, DwarfUnwindContext, Generations, Session, StackWalk};
+use framehop::{CacheId, DwarfUnwindContext, Generations, Session};
 use framehop_registers::FrameAddress;
 use perf_files::Sample;
 use process_modules::{CodePlace, ProcessModules};
-use sample_stacks::{
-    NextMove, SampleArch, SampleModules, SampleStart, StackCopy, WalkEnd, next_move,
-};
+use sample_stacks::{SampleArch, SampleModules, SampleStart, StackCopy, WalkEnd, push_frames};
 use std::alloc::{AllocError, Global};
 
 // How many rules the cache keeps.
 const SLOTS: usize = 1 << 14;
-
-// The most frames of a walk. A sample's stack has at most 2^13 words.
-const MOST_FRAMES: u32 = 1 << 16;
 
 /// A session with one of its caches.
 #[derive(Drop)]
@@ -51,81 +49,105 @@ fn frame_at(address: FrameAddress, place: Option<CodePlace>) -> UserFrame
     }
 }
 
-// The next move of a walk: broken if the session hasn't the unwinder or the cache any more.
-fn move_on<A: SampleArch>(
-    walker: &mut Walker<A>,
-    modules: &ProcessModules,
-    copy: &StackCopy<'_>,
-    walk: &mut StackWalk<A::UnwindRegs>,
-) -> NextMove {
-    let unwinder = modules.unwinder();
-    if !walker.session.has(unwinder, walker.cache) {
-        return NextMove::End(WalkEnd::Broken);
+// Loads the modules of the files that frames are in, as far as they weren't loaded yet, and returns whether there was one.
+fn load_all<A: SampleArch, F: SampledFiles>(
+    alloc: Global,
+    session: &mut Session<SampleModules<'static, A>>,
+    modules: &mut ProcessModules,
+    files: &mut F,
+    frames: &[FrameAddress],
+) -> Result<bool, AllocError>
+    ensures unwinder { modules.new.unwinder ≡ modules.old.unwinder }
+    ensures fewer { IfOk result (λ is_new. OnTrue is_new (ranges_left modules.new < ranges_left modules.old)) }
+    ensures same { IfOk result (λ is_new. OnFalse is_new (modules.new ≡ modules.old)) }
+    ensures session { IfOk result (λ is_new. OnFalse is_new (session.new ≡ session.old)) }
+{
+    let mut is_new = false;
+    for frame in frames {
+        let lookup = frame.address_for_lookup();
+        if modules.load_at::<A, F>(alloc, session, files, lookup)? {
+            is_new = true;
+        }
     }
-    next_move::<A>(&mut walker.session, unwinder, walker.cache, copy, walk)
+    Ok(is_new)
 }
 
-// Adds the frames of a sample's walk from the innermost on, each with its place in a file, whose module is loaded before the next
-// step. Returns how the walk ends.
-fn push_walk<A: SampleArch, F: SampledFiles>(
+// Takes the frames of a sample's walk, from the innermost on, in place of others, and returns how it ends. If a frame is in a file that
+// wasn't loaded yet, the walk is made again with it: so all steps go by the same modules.
+fn take_walk<A: SampleArch, F: SampledFiles>(
     alloc: Global,
     walker: &mut Walker<A>,
     modules: &mut ProcessModules,
     files: &mut F,
+    copy: &StackCopy<'_>,
     start: &SampleStart<A::UnwindRegs>,
-    stack: &[u8],
-    frames: &mut Vec<UserFrame>,
-) -> Result<WalkEnd, AllocError> {
-    let copy = StackCopy {
-        start: start.stack_pointer,
-        bytes: stack,
-    };
-    let mut walk = StackWalk::new(start.instruction_pointer, start.registers);
-    for _ in 0..MOST_FRAMES {
-        match move_on::<A>(walker, modules, &copy, &mut walk) {
-            NextMove::End(end) => return Ok(end),
-            NextMove::Frame(address) => {
-                let lookup = address.address_for_lookup();
-                let place = modules.place_of::<A, F>(alloc, &mut walker.session, files, lookup)?;
-                frames.push(frame_at(address, place))?;
-            }
+    frames: &mut Vec<FrameAddress>,
+) -> Result<WalkEnd, AllocError>
+    ensures { AreFrames A.samples walker.new.session walker.new.cache modules.new copy.now start.now frames.new result }
+{
+    let unwinder = modules.unwinder();
+    'walks: loop {
+        frames.clear();
+        if !walker.session.has(unwinder, walker.cache) {
+            return Ok(WalkEnd::Broken);
+        }
+        let end = push_frames::<A, ProcessModules>(
+            &mut walker.session,
+            unwinder,
+            walker.cache,
+            copy,
+            modules,
+            start,
+            frames,
+        )?;
+        if !load_all::<A, F>(
+            alloc,
+            &mut walker.session,
+            modules,
+            files,
+            frames.as_slice(),
+        )? {
+            return Ok(end);
         }
     }
-    Ok(WalkEnd::Broken)
 }
 
-// The one frame of code of 32 bits, which isn't walked.
-fn only_frame(address: u64) -> UserFrame {
-    UserFrame {
-        address,
-        lookup: address,
-        place: None,
-    }
-}
-
-/// Adds the frames of user code of a sample, from the innermost on, and returns how its walk ends. Code of 32 bits has its instruction
-/// pointer alone, and a sample without registers has none.
-pub(crate) fn push_user_frames<A: SampleArch, F: SampledFiles>(
+/// Takes the frames of user code of a sample, from the innermost on, in place of others, and returns how its walk ends. Code of 32 bits has
+/// its instruction pointer alone, and a sample without registers has none.
+pub(crate) fn take_user_frames<A: SampleArch, F: SampledFiles>(
     alloc: Global,
     walker: &mut Walker<A>,
     modules: &mut ProcessModules,
     files: &mut F,
     sample: &Sample<'_>,
-    frames: &mut Vec<UserFrame>,
+    frames: &mut Vec<FrameAddress>,
 ) -> Result<WalkEnd, AllocError> {
+    frames.clear();
     if let Some(start) = A::start_of(&sample.user_registers) {
-        return push_walk::<A, F>(
-            alloc,
-            walker,
-            modules,
-            files,
-            &start,
-            sample.user_stack,
-            frames,
-        );
+        let copy = StackCopy {
+            start: start.stack_pointer,
+            bytes: sample.user_stack,
+        };
+        return take_walk::<A, F>(alloc, walker, modules, files, &copy, &start, frames);
     }
     if let Some(address) = A::pointer_of_32_bits(&sample.user_registers) {
-        frames.push(only_frame(address))?;
+        frames.push(FrameAddress::from_instruction_pointer(address))?;
     }
     Ok(WalkEnd::Complete)
+}
+
+/// Frames, each with its place in a file, if that is loaded.
+pub(crate) fn placed(
+    alloc: Global,
+    modules: &ProcessModules,
+    addresses: &[FrameAddress],
+) -> Result<Vec<UserFrame>, AllocError>
+    ensures { IfOk result (λ frames. map without_place frames.items ≡ map unplaced addresses.now) }
+{
+    let mut frames = Vec::with_capacity(alloc, addresses.len())?;
+    for address in addresses {
+        let place = modules.place_of(address.address_for_lookup());
+        frames.push(frame_at(*address, place))?;
+    }
+    Ok(frames)
 }

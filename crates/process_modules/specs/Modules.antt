@@ -2,18 +2,32 @@
 use Rattle.std.specs.Prelude.{◌≡◌, ℕ, List, [], Option, Some, IfSome, option_map}
 use Rattle.framehop_unwinder.specs.declared.ids.UnwinderId.{UnwinderId}
 use Rattle.perf_processes.specs.declared.change.MappedFile.{MappedFile}
+use Rattle.process_ranges.specs.Known.{code_at, ranges_seen, untouched}
 use Rattle.process_ranges.specs.Ranges.{AreApart, AreOfLastMappings, mapping_in}
+use Rattle.process_ranges.specs.declared.known.KnownRange.{KnownRange}
 use Rattle.process_ranges.specs.declared.ranges.CodeRange.{CodeRange}
 use Rattle.process_modules.specs.declared.modules.CodePlace.{CodePlace}
 
--- The unwinder that has the modules, and the ranges of addresses that they are for.
+-- The unwinder that has the modules, and the ranges of addresses that they are for, with what is known of their code.
 pub record ModuleRanges : Type 0 where
   pub unwinder : UnwinderId
-  pub ranges : List CodeRange
+  pub known : List KnownRange
 
 -- No modules.
 abbrev pub no_modules : UnwinderId → ModuleRanges
-no_modules unwinder = record { unwinder = unwinder; ranges = [] }
+no_modules unwinder = record { unwinder = unwinder; known = [] }
+
+-- The ranges.
+abbrev pub module_ranges : ModuleRanges → List CodeRange
+module_ranges modules = ranges_seen modules.known
+
+-- The code at an address, as far as it is known.
+abbrev pub module_code : ModuleRanges → ℕ → List ℕ
+module_code modules = code_at modules.known
+
+-- How many ranges are left, in which no frame was yet.
+abbrev pub ranges_left : ModuleRanges → ℕ
+ranges_left modules = untouched modules.known
 
 -- The ranges of mappings: apart, and each address of the last mapping that has it.
 pub record IsRanges (ranges : List CodeRange) (mappings : List MappedFile) : Type 0 where

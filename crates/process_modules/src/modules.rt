@@ -1,16 +1,18 @@
 //! The modules of a process.
 
-ghost use Rattle.std.specs.Prelude.{◌≡◌, IfOk, IfSome, OnErr, OnOk};
-ghost use Rattle.process_modules.specs.Modules.{IsPlace, IsRanges, no_modules};
+ghost use Rattle.std.specs.Prelude.{◌≡◌, ◌<◌, false, IfOk, IfSome, OnErr, OnOk};
+ghost use Rattle.std.specs.Bool.{OnFalse, OnTrue};
+ghost use Rattle.process_ranges.specs.Known.{is_untouched};
+ghost use Rattle.process_modules.specs.Modules.{IsPlace, IsRanges, module_ranges, no_modules, ranges_left};
 
 use backtrace_files::{FileSections, LoadedFile, loaded_code};
 use framehop::{FdeLookup, LoadOptions, Module, Session, UnwinderId, load_module};
 use perf_processes::MappedFile;
 use process_ranges::{
-    CodeRange, FoundRange, KnownRange, RangeCode, code_ranges, find_range, set_code,
+    CodeRange, FoundRange, KnownRange, RangeCode, code_at, code_ranges, find_range, set_code,
     with_known_code,
 };
-use sample_stacks::{SampleArch, SampleModules};
+use sample_stacks::{ProcessCode, SampleArch, SampleModules};
 use std::alloc::{AllocError, Global};
 use std::marker::Model;
 
@@ -36,14 +38,23 @@ pub struct ProcessModules {
     ranges: Vec<KnownRange>,
 }
 
-/// They are the unwinder, and the addresses that are mapped from files.
+/// They are the unwinder, the addresses that are mapped from files, and the code that is known of these.
 impl Model for ProcessModules {
     ghost use Rattle.process_modules.specs.Modules.{ModuleRanges};
-    ghost use Rattle.process_ranges.specs.Known.{ranges_seen};
 
     ghost Value = { ModuleRanges };
 
-    ghost view = { λ modules. record { unwinder = modules.unwinder; ranges = ranges_seen modules.ranges.items } };
+    ghost view = { λ modules. record { unwinder = modules.unwinder; known = modules.ranges.items } };
+}
+
+impl ProcessCode for ProcessModules {
+    ghost use Rattle.process_modules.specs.Modules.{module_code};
+
+    ghost code = { module_code };
+
+    fn code_at(&self, address: u64) -> &[u8] {
+        code_at(self.ranges.as_slice(), address)
+    }
 }
 
 // Whether a range is among others.
@@ -68,6 +79,7 @@ fn place_in(range: &CodeRange, code: RangeCode, address: u64) -> Option<CodePlac
     let RangeCode::Loaded {
         base_svma,
         base_avma,
+        ..
     } = code
     else {
         return None;
@@ -86,7 +98,9 @@ fn module_of(
     alloc: Global,
     range: &CodeRange,
     bytes: &'static [u8],
-) -> Result<Option<(Module<&'static [u8]>, RangeCode)>, AllocError> {
+) -> Result<Option<(Module<&'static [u8]>, RangeCode)>, AllocError>
+    ensures { IfOk result (λ made. IfSome made (λ pair. is_untouched pair.1 ≡ false)) }
+{
     let mapping = core_files::MappedFile {
         start: range.mapping.address,
         end: range.mapping.address.saturating_add(range.mapping.size),
@@ -112,6 +126,7 @@ fn module_of(
     let code = RangeCode::Loaded {
         base_svma: code.base_svma,
         base_avma: code.base_avma,
+        bytes,
     };
     Ok(Some((module, code)))
 }
@@ -161,7 +176,7 @@ impl ProcessModules {
         session: &mut Session<SampleModules<'static, A>>,
         mappings: &[MappedFile],
     ) -> Result<(), AllocError>
-        ensures ranges { OnOk result (IsRanges self.new.ranges mappings.now) }
+        ensures ranges { OnOk result (IsRanges (module_ranges self.new) mappings.now) }
         ensures unwinder { self.new.unwinder ≡ self.old.unwinder }
         ensures err { OnErr result (self.new ≡ self.old) }
     {
@@ -178,7 +193,9 @@ impl ProcessModules {
         session: &mut Session<SampleModules<'static, A>>,
         files: &mut F,
         range: &CodeRange,
-    ) -> Result<RangeCode, AllocError> {
+    ) -> Result<RangeCode, AllocError>
+        ensures { IfOk result (λ code. is_untouched code ≡ false) }
+    {
         let Some(bytes) = files.bytes_of(range.mapping.file)? else {
             return Ok(RangeCode::Missing);
         };
@@ -192,40 +209,38 @@ impl ProcessModules {
         }
     }
 
-    // What the code of a range is. The module of its file is loaded, if it wasn't yet.
-    fn code_at<A: SampleArch, F: FileBytes>(
-        &mut self,
-        alloc: Global,
-        session: &mut Session<SampleModules<'static, A>>,
-        files: &mut F,
-        found: &FoundRange,
-    ) -> Result<RangeCode, AllocError>
-        ensures { self.new ≡ self.old }
-    {
-        let RangeCode::Untouched = found.known.code else {
-            return Ok(found.known.code);
-        };
-        let code = self.load::<A, F>(alloc, session, files, &found.known.range)?;
-        set_code(&mut self.ranges, found.index, code);
-        Ok(code)
-    }
-
-    /// Where an address is in a file. The module of the file is loaded, if it wasn't yet: so the next step from a frame there is the one
-    /// that it gives with all modules of the process.
-    pub fn place_of<A: SampleArch, F: FileBytes>(
+    /// Loads the module of the file at an address, if no frame was in its range yet, and returns whether that is so. Then fewer ranges are
+    /// left, and else nothing is changed.
+    pub fn load_at<A: SampleArch, F: FileBytes>(
         &mut self,
         alloc: Global,
         session: &mut Session<SampleModules<'static, A>>,
         files: &mut F,
         address: u64,
-    ) -> Result<Option<CodePlace>, AllocError>
-        ensures same { self.new ≡ self.old }
-        ensures file { IfOk result (λ place. IsPlace address self.old.ranges place) }
+    ) -> Result<bool, AllocError>
+        ensures unwinder { self.new.unwinder ≡ self.old.unwinder }
+        ensures ranges { module_ranges self.new ≡ module_ranges self.old }
+        ensures fewer { IfOk result (λ is_new. OnTrue is_new (ranges_left self.new < ranges_left self.old)) }
+        ensures same { IfOk result (λ is_new. OnFalse is_new ((self.new ≡ self.old) × (session.new ≡ session.old))) }
     {
         let Some(found) = find_range(self.ranges.as_slice(), address) else {
-            return Ok(None);
+            return Ok(false);
         };
-        let code = self.code_at::<A, F>(alloc, session, files, &found)?;
-        Ok(place_in(&found.known.range, code, address))
+        let RangeCode::Untouched = found.known.code else {
+            return Ok(false);
+        };
+        let code = self.load::<A, F>(alloc, session, files, &found.known.range)?;
+        set_code(&mut self.ranges, found.index, code);
+        Ok(true)
+    }
+
+    /// Where an address is in a file, if the module of the file is loaded.
+    pub fn place_of(&self, address: u64) -> Option<CodePlace>
+        ensures { IsPlace address (module_ranges self.now) result }
+    {
+        let Some(found) = find_range(self.ranges.as_slice(), address) else {
+            return None;
+        };
+        place_in(&found.known.range, found.known.code, address)
     }
 }

@@ -1,7 +1,7 @@
 -- A range that has an address, of ranges that are apart, is the one that has it.
-use Rattle.std.proofs.Common.{◌≡◌, ℕ, zero, suc, ◌<◌, ◌≤◌, true, false, List, [], ◌∷◌, length, get_or, Some, set, ap, sym, arith}
+use Rattle.std.proofs.Common.{◌≡◌, ℕ, zero, suc, ◌<◌, ◌≤◌, true, false, List, [], ◌∷◌, length, get_or, Some, set, ap, sym, ◌∙◌, arith}
 use Rattle.std.proofs.lemmas.Bool.Decides.{nat_tests}
-use Rattle.process_ranges.specs.Known.{ranges_seen}
+use Rattle.process_ranges.specs.Known.{is_untouched, ranges_seen, untouched}
 use Rattle.process_ranges.specs.Ranges.{AreApart, has_address, mapping_in}
 use Rattle.process_ranges.specs.declared.known.KnownRange.{KnownRange}
 use Rattle.process_ranges.specs.declared.known.RangeCode.{RangeCode}
@@ -32,3 +32,14 @@ pub seen-set : (known : List KnownRange) (i : ℕ) (d found : KnownRange) (code 
 seen-set [] i d found code within is = absurd (omega arith)
 seen-set (x ∷ xs) zero d found code within is = ap (λ (known : KnownRange). known.range ∷ ranges_seen xs) (sym is)
 seen-set (x ∷ xs) (suc i) d found code within is = ap (λ ranges. x.range ∷ ranges) (seen-set xs i d found code (omega arith) is)
+
+-- code in place of what was untouched leaves fewer ranges that are
+pub fewer-set : (known : List KnownRange) (i : ℕ) (d found : KnownRange) (code : RangeCode) → i < length known → get_or known i d ≡ found
+    → is_untouched code ≡ false → is_untouched found.code ≡ true
+    → untouched (set known i (record { range = found.range; code = code })) < untouched known
+fewer-set [] i d found code within is new old = absurd (omega arith)
+fewer-set (x ∷ xs) zero d found code within is new old =
+    let was : is_untouched x.code ≡ true = ap (λ (known : KnownRange). is_untouched known.code) is ∙ old in
+    rw (new, was) (omega arith)
+fewer-set (x ∷ xs) (suc i) d found code within is new old =
+    let less = fewer-set xs i d found code (omega arith) is new old in omega arith
