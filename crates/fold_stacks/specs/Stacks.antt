@@ -11,6 +11,7 @@ numbers_if None = []
 abbrev pub innermost_first : StackParts → List ℕ
 innermost_first parts = parts.kernel.now ++ parts.user.now ++ numbers_if parts.end
 
--- the names of a stack: the process's, and the others from the outermost on, or inverted from the innermost on
+-- the names of a stack: all but the process's from the innermost on, or inverted from the outermost on, and then the process's
 abbrev pub stack_numbers : StackParts → Bool → List ℕ
-stack_numbers parts inverted = parts.process ∷ (if inverted then innermost_first parts else reverse (innermost_first parts))
+stack_numbers parts inverted =
+    (if inverted then reverse (innermost_first parts) else innermost_first parts) ++ parts.process ∷ []

@@ -26,6 +26,8 @@ pub(crate) struct Labels {
     pub(crate) names: FrameNames,
     // The numbers of names that were looked up.
     known: HashMap<PlaceKey, u32>,
+    // The numbers of the names of functions, by their symbols: a function is at many places.
+    symbols: HashMap<Vec<u8>, u32>,
     // The functions of files that were read, by the file's number.
     functions: HashMap<u32, FunctionIndex<'static>>,
     // The functions of the kernel, once a frame was there.
@@ -66,6 +68,7 @@ impl Labels {
         Labels {
             names: FrameNames::new(alloc),
             known: HashMap::new(alloc),
+            symbols: HashMap::new(alloc),
             functions: HashMap::new(alloc),
             kernel: None,
             known_kernel: HashMap::new(alloc),
@@ -88,6 +91,18 @@ impl Labels {
         Ok(symbol)
     }
 
+    // The number of the name of a function by its symbol.
+    fn number_of_symbol(&mut self, alloc: Global, symbol: &[u8]) -> Result<u32, AllocError> {
+        if let Some(number) = self.symbols.get(symbol).copied() {
+            return Ok(number);
+        }
+        let mut text = Vec::new(alloc);
+        push_function(alloc, &mut text, symbol)?;
+        let number = self.names.number_of(text.as_slice())?;
+        self.symbols.insert(symbol.to_vec(alloc)?, number)?;
+        Ok(number)
+    }
+
     // The number of the name at a place that wasn't looked up yet.
     fn number_at<F: SampledFiles>(
         &mut self,
@@ -95,12 +110,10 @@ impl Labels {
         files: &mut F,
         place: CodePlace,
     ) -> Result<u32, AllocError> {
-        let mut text = Vec::new(alloc);
         match self.symbol_at::<F>(alloc, files, place)? {
-            Some(symbol) => push_function(alloc, &mut text, symbol)?,
-            None => push_unknown_in(alloc, &mut text, files.name_of(place.file))?,
+            Some(symbol) => self.number_of_symbol(alloc, symbol),
+            None => self.number_of_unknown(alloc, files.name_of(place.file)),
         }
-        self.names.number_of(text.as_slice())
     }
 
     // The number of the name of the function at a place.

@@ -37,7 +37,7 @@ fn push_innermost_first(stack: &mut Vec<u32>, parts: &StackParts<'_>) -> Result<
     push_if(stack, parts.end)
 }
 
-/// The names of a stack: the process's, and then the frames from the outermost on, or inverted from the innermost on. What says why a
+/// The names of a stack: the frames' from the innermost on, or inverted from the outermost on, and then the process's. What says why a
 /// walk ended stands in place of the outermost frame, and frames of the kernel are inside of those of user code.
 pub fn folded_stack(
     alloc: Global,
@@ -47,13 +47,10 @@ pub fn folded_stack(
     ensures { IfOk result (λ stack. stack.items ≡ stack_numbers parts.now inverted) }
 {
     let mut stack = Vec::new(alloc);
+    push_innermost_first(&mut stack, parts)?;
     if inverted {
-        stack.push(parts.process)?;
-        push_innermost_first(&mut stack, parts)?;
-    } else {
-        push_innermost_first(&mut stack, parts)?;
-        stack.push(parts.process)?;
         stack.reverse();
     }
+    stack.push(parts.process)?;
     Ok(stack)
 }

@@ -1,5 +1,5 @@
 -- Folded stacks: a line for each different stack, with how many samples have it.
-use Rattle.std.specs.Prelude.{ℕ, ◌+◌, ◌-◌, ◌^◌, min, if◌then◌else◌, bytes_eq, Bool, true, false, List, [], ◌∷◌, ◌++◌, codes, decimal, Option, Some, None}
+use Rattle.std.specs.Prelude.{ℕ, ◌+◌, ◌-◌, ◌^◌, min, if◌then◌else◌, bytes_eq, Bool, true, false, List, [], ◌∷◌, ◌++◌, codes, decimal, reverse, Option, Some, None}
 use Rattle.std.specs.Cmp.Lexicographic.{slice_cmp}
 use Rattle.std.specs.Ordering.{match_ordering, nat_cmp}
 use Rattle.folded_stacks.specs.FrameNames.{name_at}
@@ -49,9 +49,9 @@ names_text is_first names [] = []
 names_text is_first names (number ∷ numbers) =
     (if is_first then [] else codes ";") ++ name_at names number ++ names_text false names numbers
 
--- a stack by its names' numbers, as text
+-- a stack by its names' numbers, of which the innermost frame's is the first, as text from the outermost on
 abbrev pub stack_text : List (List ℕ) → List ℕ → List ℕ
-stack_text names numbers = names_text true names numbers
+stack_text names numbers = names_text true names (reverse numbers)
 
 -- its line
 abbrev pub named : List (List ℕ) → Line → Line

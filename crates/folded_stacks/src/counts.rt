@@ -10,7 +10,8 @@ use std::alloc::{AllocError, Global};
 use std::collections::BTreeMap;
 use std::marker::Model;
 
-/// How many samples have each stack: the numbers of its names, the process's first and the innermost frame's last.
+/// How many samples have each stack: the numbers of its names, the innermost frame's first and the process's last. So two stacks mostly
+/// differ in their first numbers.
 #[derive(Drop)]
 pub struct StackCounts {
     counts: BTreeMap<Vec<u32>, u64>,

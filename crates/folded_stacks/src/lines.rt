@@ -1,7 +1,8 @@
 //! The lines of folded stacks.
 
+ghost use Rattle.std.specs.Prelude.{true};
 ghost use Rattle.line_parts.specs.Parts.{Pushes};
-ghost use Rattle.folded_stacks.specs.Lines.{line_text, stack_text};
+ghost use Rattle.folded_stacks.specs.Lines.{line_text, names_text, stack_text};
 ghost use Rattle.folded_stacks.specs.LineViews.{line_seen};
 
 use crate::frame_names::FrameNames;
@@ -17,16 +18,12 @@ pub struct FoldedLine {
     pub count: u64,
 }
 
-/// Appends the names of a stack by their numbers, with semicolons between them.
-pub(crate) fn push_stack(
-    text: &mut Vec<u8>,
-    names: &FrameNames,
-    stack: &[u32],
-) -> Result<(), AllocError>
-    ensures { Pushes result text.old text.new (stack_text names.now stack.now) }
+// Appends names by their numbers, with semicolons between them.
+fn push_names(text: &mut Vec<u8>, names: &FrameNames, numbers: &[u32]) -> Result<(), AllocError>
+    ensures { Pushes result text.old text.new (names_text true names.now numbers.now) }
 {
     let mut is_first = true;
-    for number in stack {
+    for number in numbers {
         if !is_first {
             push_bytes(text, b";")?;
         }
@@ -34,6 +31,19 @@ pub(crate) fn push_stack(
         is_first = false;
     }
     Ok(())
+}
+
+/// Appends the names of a stack by their numbers, of which the innermost frame's is the first, with semicolons between them.
+pub(crate) fn push_stack(
+    text: &mut Vec<u8>,
+    names: &FrameNames,
+    stack: &[u32],
+) -> Result<(), AllocError>
+    ensures { Pushes result text.old text.new (stack_text names.now stack.now) }
+{
+    let mut numbers = stack.to_vec(*text.allocator())?;
+    numbers.reverse();
+    push_names(text, names, numbers.as_slice())
 }
 
 /// Appends a line.
